@@ -1,0 +1,91 @@
+ghost use Rattle.std.specs.Prelude.{◌≡◌, ◌≤◌, length};
+ghost use Rattle.std.specs.Option.{SomeIff};
+ghost use Rattle.std.specs.List.{list_all};
+ghost use Rattle.otp_reason.specs.Names.{name_bytes, name_of, is_name_byte, is_lawful_name};
+
+/// The most bytes that a name holds.
+const NAME_SIZE: usize = 32;
+
+/// A child's id, or the name of its start function's module: at most 32 bytes, kept in place.
+///
+/// Erlang takes any term as an id; here it is a name, so that a specification takes no memory.
+/// Two names are equal where they show the same bytes.
+#[derive(Clone, Copy, Debug)]
+pub struct Name {
+    // The bytes, and zeros from `len` on.
+    bytes: [u8; 32],
+    len: usize,
+}
+
+impl Name {
+    /// The name that shows these bytes, whatever they are; `None` where they are more than 32.
+    ///
+    /// Whether the name is one that a specification may have is what [`Name::is_lawful`] answers.
+    pub fn new(bytes: &[u8]) -> Option<Self>
+        ensures { SomeIff result (length bytes.now ≤ 32) (name_of bytes.now) }
+    {
+        if bytes.len() > NAME_SIZE {
+            return None;
+        }
+        let mut kept = [0; 32];
+        kept[..bytes.len()].copy_from_slice(bytes);
+        Some(Name {
+            bytes: kept,
+            len: bytes.len(),
+        })
+    }
+
+    /// The bytes that the name shows.
+    pub fn as_bytes(&self) -> &[u8]
+        ensures { result.now ≡ name_bytes self.now }
+    {
+        &self.bytes[..self.len.min(NAME_SIZE)]
+    }
+
+    /// Whether the name has 1 to 32 bytes, each of them one of `a-z A-Z 0-9 _ - .`.
+    pub fn is_lawful(&self) -> bool
+        ensures { result ≡ is_lawful_name (name_bytes self.now) }
+    {
+        let bytes = self.as_bytes();
+        match bytes.len() {
+            1..=NAME_SIZE => all_may_stand_in_name(bytes),
+            _ => false,
+        }
+    }
+}
+
+/// Whether each byte is one of `a-z A-Z 0-9 _ - .`.
+fn all_may_stand_in_name(bytes: &[u8]) -> bool
+    ensures { result ≡ list_all is_name_byte bytes.now }
+{
+    bytes.iter().all(|byte| may_stand_in_name(*byte))
+}
+
+/// Whether the byte is one of `a-z A-Z 0-9 _ - .`.
+fn may_stand_in_name(byte: u8) -> bool
+    ensures { result ≡ is_name_byte byte }
+{
+    matches!(byte, b'a'..=b'z' | b'A'..=b'Z' | b'0'..=b'9' | b'_' | b'-' | b'.')
+}
+
+impl PartialEq for Name {
+    ghost use Rattle.std.specs.Str.{bytes_eq};
+    ghost use Rattle.std.proofs.Common.{rules};
+    ghost use Rattle.std.specs.Cmp.Rules.{comparing};
+    ghost use Rattle.std.specs.Ordering.{on};
+
+    ghost eq = { on name_bytes bytes_eq };
+
+    ghost laws = { Prim.search (comparing, rules) };
+
+    fn eq(&self, other: &Name) -> bool {
+        self.as_bytes() == other.as_bytes()
+    }
+}
+
+impl Eq for Name {
+    ghost use Rattle.std.proofs.Common.{rules};
+    ghost use Rattle.std.specs.Cmp.Rules.{comparing};
+
+    ghost laws = { Prim.search (comparing, rules) };
+}

@@ -1,0 +1,4 @@
+pub mod Flags
+pub mod Children
+pub mod Faults
+pub mod Lawful

@@ -1,0 +1,91 @@
+ghost use Rattle.std.specs.Prelude.{◌≡◌, take};
+ghost use Rattle.std.specs.List.{list_any};
+ghost use Rattle.otp_spec.specs.Faults.{answer_of};
+ghost use Rattle.otp_spec.specs.Lawful.{is_permanent, is_never, has_id_of, faults_at, first_of, first_fault};
+
+use crate::child::{ChildSpec, Restart};
+use crate::fault::{SpecFault, SpecKey};
+use crate::flags::AutoShutdown;
+
+/// Tests a list of specifications, for a supervisor with this automatic shutdown where one is given
+/// (`supervisor:check_childspecs/2`).
+///
+/// # Errors
+///
+/// The first fault at the least place where there is one. At a place they come in this order:
+/// [`SpecFault::BadSpec`] for `id`, `start` and `modules`; [`SpecFault::SignificantPermanent`];
+/// [`SpecFault::SignificantNever`], never without an `auto_shutdown`; [`SpecFault::DuplicateId`], at the later
+/// of the two.
+pub fn check_childspecs(
+    specs: &[ChildSpec],
+    auto_shutdown: Option<AutoShutdown>,
+) -> Result<(), SpecFault>
+    ensures { result ≡ answer_of (first_fault specs.now auto_shutdown) }
+{
+    for (index, spec) in specs.iter().enumerate() {
+        if let Some(fault) = fault_at(auto_shutdown, index, &specs[..index], spec) {
+            return Err(fault);
+        }
+    }
+    Ok(())
+}
+
+/// The first fault of the specification that stands at `index`, after these earlier ones.
+fn fault_at(
+    auto_shutdown: Option<AutoShutdown>,
+    index: usize,
+    earlier: &[ChildSpec],
+    spec: &ChildSpec,
+) -> Option<SpecFault>
+    ensures { result ≡ first_of (faults_at auto_shutdown index earlier.now spec.now) }
+{
+    if !spec.id.is_lawful() {
+        return Some(SpecFault::BadSpec {
+            index,
+            key: SpecKey::Id,
+        });
+    }
+    if !spec.start.is_lawful() {
+        return Some(SpecFault::BadSpec {
+            index,
+            key: SpecKey::Start,
+        });
+    }
+    if !spec.modules.are_lawful() {
+        return Some(SpecFault::BadSpec {
+            index,
+            key: SpecKey::Modules,
+        });
+    }
+    if spec.significant && is_permanent(spec.restart) {
+        return Some(SpecFault::SignificantPermanent { index });
+    }
+    if spec.significant && is_never(auto_shutdown) {
+        return Some(SpecFault::SignificantNever { index });
+    }
+    if is_duplicate(spec, earlier) {
+        return Some(SpecFault::DuplicateId { index });
+    }
+    None
+}
+
+/// Whether a child with this key is always restarted.
+fn is_permanent(restart: Restart) -> bool
+    ensures { result ≡ is_permanent restart }
+{
+    matches!(restart, Restart::Permanent)
+}
+
+/// Whether a value is given, and it is `never`.
+fn is_never(auto_shutdown: Option<AutoShutdown>) -> bool
+    ensures { result ≡ is_never auto_shutdown }
+{
+    matches!(auto_shutdown, Some(AutoShutdown::Never))
+}
+
+/// Whether one of the earlier specifications has the id of this one.
+fn is_duplicate(spec: &ChildSpec, earlier: &[ChildSpec]) -> bool
+    ensures { result ≡ list_any (has_id_of spec.now) earlier.now }
+{
+    earlier.iter().any(|other| other.id == spec.id)
+}

@@ -1,0 +1,15 @@
+//! The flags of a supervisor, the specifications of its children, and the checks of both.
+#![tactic(auto)]
+
+pub mod check;
+pub mod child;
+pub mod fault;
+pub mod flags;
+
+pub use check::check_childspecs;
+pub use child::{ChildSpec, ChildType, Modules, Restart, Shutdown};
+pub use fault::{SpecFault, SpecKey};
+pub use flags::{AutoShutdown, Strategy, SupFlags, check_flags};
+
+#[cfg(test)]
+mod tests;

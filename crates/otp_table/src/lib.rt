@@ -1,0 +1,9 @@
+//! The rows of one supervisor: its children in start order.
+#![tactic(auto)]
+
+pub mod row;
+pub mod rows;
+mod search;
+
+pub use row::{Row, RowState};
+pub use rows::{MAX_CHILDREN, Rows};

@@ -1,0 +1,145 @@
+//! A child's row: who it is, how it was specified, and what its process does.
+
+use otp_reason::Name;
+use otp_spec::ChildSpec;
+
+/// What the process of a child does. Each state has its own process number, so that no state is read as another.
+#[derive(Clone, Copy, Debug, PartialEq, Eq)]
+pub enum RowState {
+    /// No process.
+    Undefined,
+    /// The start of this process was ordered. The second number is kept if the start fails in a restart.
+    Starting(u64, u64),
+    /// This process runs.
+    Up(u64),
+    /// This process was told to shut down, until the deadline in milliseconds, if there is one.
+    Asked(u64, Option<u64>),
+    /// This process was sent a kill.
+    Killed(u64),
+    /// The start in the last restart failed: a retry under this number waits.
+    Restarting(u64),
+}
+
+/// A child of a supervisor. A dynamic one, under simple_one_for_one, has no id.
+#[derive(Clone, Copy, Debug, PartialEq, Eq)]
+pub struct Row {
+    pub id: Option<Name>,
+    pub spec: ChildSpec,
+    pub state: RowState,
+}
+
+impl RowState {
+    ghost use Rattle.std.specs.Prelude.{◌≡◌};
+    ghost use Rattle.otp_table.specs.Rows.{number_of, up_number, has_number, has_process, awaits_retry, is_awaited, is_undefined, is_up, is_restarting, calmed};
+
+    /// The number of the process, or the one that the waiting retry has.
+    pub fn number(&self) -> Option<u64>
+        ensures { result ≡ number_of self.now }
+    {
+        match *self {
+            RowState::Starting(p, _)
+            | RowState::Up(p)
+            | RowState::Asked(p, _)
+            | RowState::Killed(p)
+            | RowState::Restarting(p) => Some(p),
+            RowState::Undefined => None,
+        }
+    }
+
+    /// Whether the process, or the waiting retry, has this number.
+    pub fn has_number(&self, number: u64) -> bool
+        ensures { result ≡ has_number number self.now }
+    {
+        match *self {
+            RowState::Starting(p, _)
+            | RowState::Up(p)
+            | RowState::Asked(p, _)
+            | RowState::Killed(p)
+            | RowState::Restarting(p) => p == number,
+            RowState::Undefined => false,
+        }
+    }
+
+    /// Whether the process has this number.
+    pub fn has_process(&self, number: u64) -> bool
+        ensures { result ≡ has_process number self.now }
+    {
+        match *self {
+            RowState::Starting(p, _)
+            | RowState::Up(p)
+            | RowState::Asked(p, _)
+            | RowState::Killed(p) => p == number,
+            RowState::Undefined | RowState::Restarting(_) => false,
+        }
+    }
+
+    /// Whether a retry under this number waits.
+    pub fn awaits_retry(&self, number: u64) -> bool
+        ensures { result ≡ awaits_retry number self.now }
+    {
+        matches!(*self, RowState::Restarting(kept) if kept == number)
+    }
+
+    /// The number of the process, if it runs.
+    pub fn up_number(&self) -> Option<u64>
+        ensures { result ≡ up_number self.now }
+    {
+        match *self {
+            RowState::Up(number) => Some(number),
+            _ => None,
+        }
+    }
+
+    /// Whether an answer of the process is awaited: to its start, its shutdown or its kill.
+    pub fn is_awaited(&self) -> bool
+        ensures { result ≡ is_awaited self.now }
+    {
+        match self {
+            RowState::Starting(..) | RowState::Asked(..) | RowState::Killed(_) => true,
+            RowState::Undefined | RowState::Up(_) | RowState::Restarting(_) => false,
+        }
+    }
+
+    /// Whether there is no process, and no retry waits.
+    pub fn is_undefined(&self) -> bool
+        ensures { result ≡ is_undefined self.now }
+    {
+        matches!(self, RowState::Undefined)
+    }
+
+    /// Whether the process runs.
+    pub fn is_up(&self) -> bool
+        ensures { result ≡ is_up self.now }
+    {
+        matches!(self, RowState::Up(_))
+    }
+
+    /// Whether a retry waits.
+    pub fn is_restarting(&self) -> bool
+        ensures { result ≡ is_restarting self.now }
+    {
+        matches!(self, RowState::Restarting(_))
+    }
+
+    /// The state once the waiting retry, if there is one, is given up.
+    pub fn calmed(self) -> RowState
+        ensures { result ≡ calmed self }
+    {
+        match self {
+            RowState::Restarting(_) => RowState::Undefined,
+            state => state,
+        }
+    }
+}
+
+impl Row {
+    ghost use Rattle.std.specs.Prelude.{◌≡◌};
+    ghost use Rattle.otp_table.specs.Rows.{has_id};
+
+    /// Whether the child has this id.
+    pub fn has_id(&self, id: &Name) -> bool
+        ensures { result ≡ has_id id.now self.now }
+    {
+        self.id == Some(*id)
+    }
+}

@@ -1,0 +1,300 @@
+ghost use Rattle.std.specs.Prelude.{◌≡◌, ◌+◌, ◌<◌, ◌≤◌, ◌==◌, ◌++◌, ◌∷◌, [], length, max, nat_le, position, remove, slice_get, slice_range, slice_set, take, drop, OnOk, OnErr, Some, if◌then◌else◌};
+ghost use Rattle.otp_table.specs.Rows.{awaits_retry, calm_rows, has_id, has_number, has_process, row_has, with_state};
+ghost use Rattle.otp_table.specs.declared.row.Row.{Row};
+
+use crate::row::{Row, RowState};
+use crate::search;
+use otp_reason::Name;
+use otp_spec::SpecFault;
+use std::alloc::{AllocError, Global};
+use std::marker::Model;
+
+/// The most children that one supervisor has.
+pub const MAX_CHILDREN: usize = 256;
+
+/// A supervisor's children in start order, at most [`MAX_CHILDREN`].
+#[derive(Drop)]
+pub struct Rows {
+    items: Vec<Row>,
+    /// How many more rows the memory of `items` is known to hold.
+    room: usize,
+}
+
+impl Model for Rows {
+    ghost use Rattle.otp_table.specs.Table.{Table};
+
+    ghost Value = { Table };
+
+    ghost use Rattle.otp_table.specs.TableInside.{table_of, IsTable};
+
+    ghost view = { table_of };
+
+    ghost invariant = { IsTable };
+}
+
+impl Rows {
+    /// No rows, and no room: takes no memory.
+    pub fn new(alloc: Global) -> Self
+        ensures rows { result.rows ≡ [] }
+        ensures room { result.room ≡ 0 }
+    {
+        Rows {
+            items: Vec::new(alloc),
+            room: 0,
+        }
+    }
+
+    /// The rows in start order.
+    pub fn as_slice(&self) -> &[Row]
+        ensures rows { result.now ≡ self.now.rows }
+        ensures limit { length self.now.rows ≤ 256 }
+    {
+        self.items.as_slice()
+    }
+
+    /// How many rows there are.
+    pub fn len(&self) -> usize
+        ensures len { result ≡ length self.now.rows }
+        ensures limit { result ≤ 256 }
+    {
+        self.items.len()
+    }
+
+    /// Whether there are no rows.
+    pub fn is_empty(&self) -> bool
+        ensures { result ≡ (length self.now.rows == 0) }
+    {
+        self.items.is_empty()
+    }
+
+    /// Whether `insert` is refused.
+    pub fn is_full(&self) -> bool
+        ensures { result ≡ nat_le 256 (length self.now.rows) }
+    {
+        self.items.len() >= MAX_CHILDREN
+    }
+
+    /// How many rows can be inserted without taking memory.
+    pub fn room(&self) -> usize
+        ensures { result ≡ self.now.room }
+    {
+        self.room
+    }
+
+    /// The row at this place.
+    pub fn get(&self, place: usize) -> &Row
+        requires { place < length self.now.rows }
+        ensures { slice_get self.now.rows place ≡ Some result.now }
+    {
+        &self.items[place]
+    }
+
+    /// The rows that were started after the one at `place`.
+    pub fn after(&self, place: usize) -> &[Row]
+        requires { place < length self.now.rows }
+        ensures { result.now ≡ drop (place + 1) self.now.rows }
+    {
+        &self.items[place + 1..]
+    }
+
+    /// The place of the row with this id.
+    pub fn find_id(&self, id: &Name) -> Option<usize>
+        ensures { result ≡ position (has_id id.now) self.now.rows }
+    {
+        search::find_id(&self.items, id)
+    }
+
+    /// The place of the row whose process, or waiting retry, has this number.
+    pub fn find_number(&self, number: u64) -> Option<usize>
+        ensures { result ≡ position (row_has (has_number number)) self.now.rows }
+    {
+        search::find_number(&self.items, number)
+    }
+
+    /// The place of the row whose process has this number.
+    pub fn find_process(&self, number: u64) -> Option<usize>
+        ensures { result ≡ position (row_has (has_process number)) self.now.rows }
+    {
+        search::find_process(&self.items, number)
+    }
+
+    /// The place of the row that waits for the retry of this number.
+    pub fn find_retry(&self, number: u64) -> Option<usize>
+        ensures { result ≡ position (row_has (awaits_retry number)) self.now.rows }
+    {
+        search::find_retry(&self.items, number)
+    }
+
+    /// Takes the memory of the next `n` inserts.
+    pub fn reserve(&mut self, n: usize) -> Result<(), AllocError>
+        ensures rows { self.new.rows ≡ self.old.rows }
+        ensures ok { OnOk result (self.new.room ≡ max self.old.room n) }
+        ensures err { OnErr result (self.new ≡ self.old) }
+    {
+        self.items.reserve(n)?;
+        self.room = self.room.max(n);
+        Ok(())
+    }
+
+    /// Adds a row last. Takes no memory.
+    ///
+    /// `SpecFault::TooManyChildren` (E7) where there are [`MAX_CHILDREN`] rows; nothing changes then.
+    pub fn insert(&mut self, row: Row) -> Result<(), SpecFault>
+        requires { length self.old.rows < 256 → 0 < self.old.room }
+        ensures limit { result ≡ (if nat_le 256 (length self.old.rows) then Err SpecFault.TooManyChildren else Ok tt) }
+        ensures rows { OnOk result (self.new.rows ≡ self.old.rows ++ row ∷ []) }
+        ensures room { OnOk result (self.new.room + 1 ≡ self.old.room) }
+        ensures err { OnErr result (self.new ≡ self.old) }
+    {
+        if self.is_full() {
+            return Err(SpecFault::TooManyChildren);
+        }
+        if self.items.push(row).is_err() {
+            unreachable!();
+        }
+        self.room -= 1;
+        Ok(())
+    }
+
+    /// Changes the state of the row at this place, and no other.
+    pub fn set_state(&mut self, place: usize, state: RowState)
+        requires { place < length self.old.rows }
+        ensures rows { (row : Row) → slice_get self.old.rows place ≡ Some row →
+            self.new.rows ≡ slice_set self.old.rows place (with_state state row) }
+        ensures len { length self.new.rows ≡ length self.old.rows }
+        ensures room { self.new.room ≡ self.old.room }
+    {
+        self.items[place].state = state;
+    }
+
+    /// Gives up the waiting retries of the rows from one place to before another.
+    pub fn calm(&mut self, from: usize, to: usize)
+        requires from { from ≤ to }
+        requires to { to ≤ length self.old.rows }
+        ensures rows { self.new.rows ≡ take from self.old.rows ++ calm_rows (slice_range self.old.rows from to) ++ drop to self.old.rows }
+        ensures len { length self.new.rows ≡ length self.old.rows }
+        ensures room { self.new.room ≡ self.old.room }
+    {
+        search::calm(&mut self.items[from..to]);
+    }
+
+    /// Takes the row out; those after it move up.
+    pub fn remove(&mut self, place: usize) -> Row
+        requires { place < length self.old.rows }
+        ensures row { slice_get self.old.rows place ≡ Some result }
+        ensures rows { self.new.rows ≡ remove self.old.rows place }
+        ensures len { length self.new.rows + 1 ≡ length self.old.rows }
+        ensures room { self.new.room ≡ self.old.room }
+    {
+        self.items.remove(place)
+    }
+
+    /// Removes all rows. Takes no memory and keeps the room.
+    pub fn clear(&mut self)
+        ensures rows { self.new.rows ≡ [] }
+        ensures room { self.new.room ≡ self.old.room }
+    {
+        self.items.clear();
+    }
+}
+
+#[cfg(test)]
+mod tests {
+    use super::*;
+    use otp_spec::ChildSpec;
+    use std::test::Fail;
+
+    fn row(id: &[u8], state: RowState) -> Result<Row, Fail> {
+        let name = Name::new(id).ok_or("a name")?;
+        Ok(Row {
+            id: Some(name),
+            spec: ChildSpec::new(name, name),
+            state,
+        })
+    }
+
+    /// Three children, one in each of three states: searched, changed and removed.
+    #[test]
+    fn three_children(rt: HostRuntime) -> Result<(), Fail> {
+        let (a, b, c) = (
+            row(b"a", RowState::Up(1))?,
+            row(b"b", RowState::Restarting(2))?,
+            row(b"c", RowState::Starting(5, 3))?,
+        );
+        let mut rows = Rows::new(rt.alloc());
+        assert!(rt; rows.is_empty() && !rows.is_full());
+        rows.reserve(3)?;
+        for row in [a, b, c] {
+            assert!(rt; rows.room() > 0);
+            rows.insert(row)?;
+        }
+        assert_eq!(rt; (rows.len(), rows.room()), (3, 0));
+        assert_eq!(rt; rows.as_slice(), [a, b, c].as_slice());
+        assert_eq!(rt; *rows.get(1), b);
+        assert_eq!(rt; rows.after(0), [b, c].as_slice());
+        assert_eq!(rt; rows.find_id(&c.spec.id), Some(2));
+        assert_eq!(rt;
+            rows.find_id(&row(b"d", RowState::Undefined)?.spec.id),
+            None
+        );
+        assert_eq!(rt; (rows.find_number(2), rows.find_number(3)), (Some(1), None));
+        assert_eq!(rt;
+            (rows.find_process(2), rows.find_process(5)),
+            (None, Some(2))
+        );
+        assert_eq!(rt; (rows.find_retry(2), rows.find_retry(1)), (Some(1), None));
+        rows.calm(0, 3);
+        rows.set_state(0, RowState::Killed(1));
+        let states: [RowState; 3] = [rows.get(0).state, rows.get(1).state, rows.get(2).state];
+        assert_eq!(rt;
+            states,
+            [
+                RowState::Killed(1),
+                RowState::Undefined,
+                RowState::Starting(5, 3)
+            ]
+        );
+        assert_eq!(rt; rows.remove(1).id, b.id);
+        assert_eq!(rt; rows.find_id(&c.spec.id), Some(1));
+        rows.clear();
+        assert!(rt; rows.is_empty());
+        Ok(())
+    }
+
+    /// What a reader of a row's state sees.
+    #[test]
+    fn states(rt: HostRuntime) -> Result<(), Fail> {
+        let asked = RowState::Asked(7, Some(100));
+        assert_eq!(rt; (asked.number(), asked.up_number()), (Some(7), None));
+        assert!(rt;
+            asked.is_awaited()
+                && asked.has_number(7)
+                && asked.has_process(7)
+                && !asked.awaits_retry(7)
+        );
+        let restarting = RowState::Restarting(7);
+        assert!(rt;
+            restarting.is_restarting() && restarting.awaits_retry(7) && !restarting.has_process(7)
+        );
+        assert!(rt; restarting.calmed().is_undefined());
+        let up = RowState::Up(7);
+        assert!(rt; up.is_up() && up.calmed() == up && up.up_number() == Some(7));
+        Ok(())
+    }
+
+    /// The 257th child is refused, and nothing is lost.
+    #[test]
+    fn too_many_children(rt: HostRuntime) -> Result<(), Fail> {
+        let child = row(b"a", RowState::Undefined)?;
+        let mut rows = Rows::new(rt.alloc());
+        rows.reserve(MAX_CHILDREN)?;
+        for _ in 0..MAX_CHILDREN {
+            assert!(rt; !rows.is_full() && rows.room() > 0);
+            rows.insert(child)?;
+        }
+        assert!(rt; rows.is_full());
+        assert_eq!(rt; rows.insert(child), Err(SpecFault::TooManyChildren));
+        assert_eq!(rt; rows.len(), MAX_CHILDREN);
+        Ok(())
+    }
+}

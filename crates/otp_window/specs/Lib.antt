@@ -1,0 +1,4 @@
+pub mod Period
+pub mod Answer
+pub mod View
+pub mod Inside
