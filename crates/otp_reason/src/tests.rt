@@ -81,3 +81,13 @@ fn texts(rt: HostRuntime) -> Result<(), Fail> {
     }
     Ok(())
 }
+
+#[test]
+fn joined_texts(rt: HostRuntime) {
+    assert_eq!(rt;
+        Some(Text::joined(b"front/", b"back")),
+        Text::new(b"front/back")
+    );
+    let longest = [b'~'; 64];
+    assert_eq!(rt; Some(Text::joined(&longest, b"")), Text::new(&longest));
+}

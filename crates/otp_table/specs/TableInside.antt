@@ -5,7 +5,7 @@ use Rattle.otp_table.specs.declared.rows.Rows.TheInside.{Inside}
 abbrev pub table_of : Inside → Table
 table_of t = record { rows = t.items.items; room = t.room }
 
--- the room is there, and there are at most 256 rows
+-- the room is there, and there are at most 256 rows (own)
 pub record IsTable (t : Inside) : Type 0 where
   pub room : vec_len t.items + t.room ≤ vec_capacity t.items
   pub limit : vec_len t.items ≤ 256

@@ -7,7 +7,7 @@ use Rattle.otp_window.specs.declared.Window.TheInside.{Inside}
 abbrev pub view_of : Inside → View
 view_of w = record { intensity = w.intensity; period = w.period; stamps = w.stamps.items; reserved = w.reserved }
 
--- stamps never fall, a period of milliseconds fits, and what is reserved is there
+-- stamps never fall, a period of milliseconds fits, and what is reserved is there (own)
 pub record IsWindow (w : Inside) : Type 0 where
   pub ordered : IsNonDecreasing w.stamps.items
   pub period : w.period ≤ 1000000

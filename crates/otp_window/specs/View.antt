@@ -1,6 +1,6 @@
 use Rattle.std.specs.Prelude.{ℕ, Bool, List}
 
--- the restarts of one supervisor
+-- the restarts of one supervisor (Supervisor Behaviour, Maximum Restart Intensity)
 pub record View : Type 0 where
   -- how many restarts a period may have
   pub intensity : ℕ

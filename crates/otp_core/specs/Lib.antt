@@ -1,0 +1,4 @@
+pub mod Seen
+pub mod View
+pub mod CoreInside
+pub mod Opened

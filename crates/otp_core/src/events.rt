@@ -1,0 +1,222 @@
+//! What one event does (`specs/Step` of the rules).
+
+ghost use Rattle.std.specs.Prelude.{◌≡◌, ◌+◌, ◌≤◌, ◌<◌, ◌^◌, ◌++◌, Some, length, map, slice_get, slice_set, vec_len, vec_capacity};
+ghost use Rattle.std.specs.List.{filter_map};
+ghost use Rattle.otp_rules.specs.Step.{kill_order, killed, late_number};
+ghost use Rattle.otp_table.specs.declared.row.Row.{Row};
+
+use crate::lists::list_children;
+use crate::machine::Machine;
+use crate::rows::{is_over, is_simple};
+use otp_reason::Note;
+use otp_rules::{After, Call, Effect, Ending, Event, Item, Kind, Phase, Reply, Waiting};
+use otp_table::{Row, RowState, Rows};
+
+impl Machine {
+    ghost use Rattle.otp_core.specs.Seen.{outcome_of, CanAdvance, CanDecide, HasMemory, IsSound};
+    ghost use Rattle.std.specs.Prelude.{not, ◌&&◌, is_some};
+    ghost use Rattle.otp_rules.specs.State.{is_over};
+    ghost use Rattle.otp_rules.specs.Step.{ask, decide, open_rows, resume, step_on, take_item, take_note, take_waiting, tick};
+
+    #[tactic(auto, unfolding(otp_rules::specs::Step::take_note))]
+    fn take_note(&mut self, note: Note)
+        requires { CanDecide self.old }
+        ensures outcome { outcome_of self.new ≡ take_note note (outcome_of self.old) }
+        ensures room { CanAdvance self.new }
+    {
+        match note {
+            Note::Up(p) => self.take_up(p),
+            Note::Ignored(p) => self.take_ignored(p),
+            Note::Failed(p, reason) => self.take_failed(p, reason),
+            Note::Exit(p, reason) => self.take_exit(p, reason),
+        }
+    }
+
+    #[tactic(auto, unfolding(otp_rules::specs::Step::ask))]
+    fn ask(&mut self, number: u64, call: Call)
+        requires { CanDecide self.old }
+        ensures outcome { outcome_of self.new ≡ ask number call (outcome_of self.old) }
+        ensures room { CanAdvance self.new }
+    {
+        if is_over(self.phase) {
+            self.answer(number, Reply::NoProc);
+        } else if self.follows.is_some() {
+            self.put_last(Waiting::Item(Item::Call(number, call)));
+        } else {
+            self.take_call(number, call);
+        }
+    }
+
+    #[tactic(auto, unfolding(otp_rules::specs::Step::take_item))]
+    fn take_item(&mut self, item: Item)
+        requires { CanDecide self.old }
+        ensures outcome { outcome_of self.new ≡ take_item item (outcome_of self.old) }
+        ensures room { CanAdvance self.new }
+    {
+        match item {
+            Item::Note(note) => {
+                if !is_over(self.phase) {
+                    self.take_note(note);
+                }
+            }
+            Item::Call(number, call) => self.ask(number, call),
+        }
+    }
+
+    #[tactic(auto, unfolding(otp_rules::specs::Step::take_waiting))]
+    fn take_waiting(&mut self, item: Waiting)
+        requires { CanDecide self.old }
+        ensures outcome { outcome_of self.new ≡ take_waiting item (outcome_of self.old) }
+        ensures room { CanAdvance self.new }
+    {
+        match item {
+            Waiting::Item(item) => self.take_item(item),
+            Waiting::Retry(kept) => self.retry(kept),
+        }
+    }
+
+    /// The first waiting item is taken.
+    #[tactic(auto, unfolding(otp_rules::specs::Step::resume))]
+    fn resume(&mut self)
+        requires { CanDecide self.old }
+        ensures outcome { outcome_of self.new ≡ resume self.old.waiting.items (outcome_of self.old) }
+        ensures room { CanAdvance self.new }
+    {
+        if let Some(item) = self.waiting.pop_front() {
+            self.take_waiting(item);
+        }
+    }
+
+    /// The supervisor opens under its own number.
+    #[tactic(auto, unfolding(otp_rules::specs::Step::open_rows, otp_rules::specs::Step::open_with))]
+    fn open_rows(&mut self, own: u64)
+        requires { CanDecide self.old }
+        ensures outcome { outcome_of self.new ≡ open_rows own (outcome_of self.old) }
+        ensures room { CanAdvance self.new }
+    {
+        self.phase = Phase::Open(own);
+        self.window.clear();
+        self.rows.clear();
+        self.to_stop.clear();
+        self.to_start.clear();
+        if !is_simple(self.strategy) {
+            list_children(&self.specs, &mut self.rows, &mut self.to_start);
+        }
+        self.follows = Some(After::Ready);
+    }
+
+    /// Each child whose deadline has come is killed.
+    #[tactic(auto, unfolding(otp_rules::specs::Step::tick))]
+    fn tick(&mut self)
+        requires { CanDecide self.old }
+        ensures outcome { outcome_of self.new ≡ tick (outcome_of self.old) }
+        ensures room { CanAdvance self.new }
+    {
+        order_kills(self.last, self.rows.as_slice(), &mut self.orders);
+        kill_late(self.last, &mut self.rows);
+    }
+
+    /// Whether no work is open and the supervisor runs.
+    fn is_idle(&self) -> bool
+        ensures { result ≡ not (is_some self.now.follows) && not (is_over self.now.phase) }
+    {
+        self.follows.is_none() && !is_over(self.phase)
+    }
+
+    /// What the event itself changes.
+    #[tactic(auto, unfolding(otp_rules::specs::Step::decide))]
+    fn decide(&mut self, kind: Kind)
+        requires { CanDecide self.old }
+        ensures outcome { outcome_of self.new ≡ decide kind (outcome_of self.old) }
+        ensures room { CanAdvance self.new }
+    {
+        match kind {
+            Kind::Opened(own) => {
+                if is_over(self.phase) {
+                    self.open_rows(own);
+                }
+            }
+            Kind::Took(item) => self.take_item(item),
+            Kind::Resumed => {
+                if self.is_idle() {
+                    self.resume();
+                }
+            }
+            Kind::Ticked => self.tick(),
+            Kind::Stopped => {
+                if self.is_idle() {
+                    self.terminate(Ending::Asked);
+                }
+            }
+        }
+    }
+
+    /// One event. Takes no memory; its orders are put behind those that are there.
+    #[tactic(auto, unfolding(otp_rules::specs::Step::step_on))]
+    pub fn step(&mut self, event: Event)
+        requires memory { HasMemory self.old }
+        requires sound { IsSound self.old }
+        requires reading { event.reading ≤ 2 ^ 62 }
+        ensures { outcome_of self.new ≡ step_on event (outcome_of self.old) }
+    {
+        self.last = self.last.max(event.reading);
+        self.decide(event.kind);
+        self.advance(event.number.unwrap_or(0));
+    }
+}
+
+/// The process that is to be killed now, if the deadline of a child in this state has come.
+pub fn late_number(now: u64, state: RowState) -> Option<u64>
+    ensures { result ≡ late_number now state }
+{
+    match state {
+        RowState::Asked(number, Some(deadline)) => {
+            if deadline <= now {
+                Some(number)
+            } else {
+                None
+            }
+        }
+        _ => None,
+    }
+}
+
+/// Orders a kill of each child whose deadline has come.
+fn order_kills(now: u64, rows: &[Row], orders: &mut Vec<Effect>)
+    requires { vec_len orders.old + length rows.now ≤ vec_capacity orders.old }
+    ensures items { orders.new.items ≡ orders.old.items ++ filter_map (λ row. kill_order row (late_number now row.state)) rows.now }
+    ensures len { vec_len orders.new ≤ vec_len orders.old + length rows.now }
+    ensures capacity { vec_capacity orders.new ≡ vec_capacity orders.old }
+{
+    for row in rows {
+        if let Some(number) = late_number(now, row.state) {
+            orders.push_reserved(Effect::Kill(row.id, number));
+        }
+    }
+}
+
+/// The child at the place is killed from now on, if its deadline has come.
+fn kill_if_late(now: u64, rows: &mut Rows, place: usize)
+    requires { place < length rows.old.rows }
+    ensures rows { (row : Row) → slice_get rows.old.rows place ≡ Some row →
+        rows.new.rows ≡ slice_set rows.old.rows place (killed row (late_number now row.state)) }
+    ensures len { length rows.new.rows ≡ length rows.old.rows }
+    ensures room { rows.new.room ≡ rows.old.room }
+    ensures found { (row : Row) × (slice_get rows.old.rows place ≡ Some row) }
+{
+    let state = rows.get(place).state;
+    match late_number(now, state) {
+        Some(number) => rows.set_state(place, RowState::Killed(number)),
+        None => rows.set_state(place, state),
+    }
+}
+
+/// Each child whose deadline has come is killed from now on.
+fn kill_late(now: u64, rows: &mut Rows)
+    ensures rows { rows.new.rows ≡ map (λ row. killed row (late_number now row.state)) rows.old.rows }
+    ensures room { rows.new.room ≡ rows.old.room }
+{
+    for place in 0..rows.len() {
+        kill_if_late(now, rows, place);
+    }
+}

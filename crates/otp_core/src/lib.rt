@@ -1,0 +1,19 @@
+//! The core of a supervisor: what one event does, decided as the rules of `otp_rules` say.
+//!
+//! [`Core`] stores the history of its events; its state is what the rules give for that history.
+#![tactic(auto)]
+
+mod calls;
+mod deaths;
+mod events;
+mod lists;
+mod machine;
+pub mod opening;
+mod rows;
+mod starts;
+mod stops;
+pub mod supervisor;
+
+pub use otp_rules::laws;
+pub use opening::OpenFault;
+pub use supervisor::{Core, MAX_EVENTS};

@@ -1,0 +1,210 @@
+//! Searches over lists, and what is done to each of their items.
+
+ghost use Rattle.std.specs.Prelude.{MatchOption, None, Some, ◌≡◌, ◌+◌, ◌≤◌, ◌<◌, ◌++◌, ◌∷◌, [], length, map, position, vec_len, vec_capacity, count_by};
+ghost use Rattle.std.specs.List.{filter_map, list_any};
+ghost use Rattle.std.specs.VecDeque.{deque_len, deque_capacity};
+ghost use Rattle.otp_table.specs.Rows.{is_awaited, row_has};
+ghost use Rattle.otp_rules.specs.Counts.{process_of, is_active, is_supervisor, is_worker, line_of};
+ghost use Rattle.otp_rules.specs.Restarts.{dues, is_left, running};
+ghost use Rattle.otp_rules.specs.Run.{reply_of};
+ghost use Rattle.otp_rules.specs.Step.{due_of, is_late, row_of};
+ghost use Rattle.otp_rules.specs.Stops.{is_due, is_exit, refusal, refused};
+
+use crate::events::late_number;
+use crate::rows::{is_due, is_exit, is_left, is_temporary};
+use otp_rules::{Answered, ChildLine, ChildProcess, Due, Effect, Item, Reply, Waiting};
+use otp_spec::{ChildSpec, ChildType};
+use otp_table::{Row, RowState, Rows};
+use std::collections::VecDeque;
+
+/// Whether the open work waits for an answer of a child.
+pub fn has_awaited(rows: &[Row]) -> bool
+    ensures { result ≡ list_any (row_has is_awaited) rows.now }
+{
+    rows.iter().any(|row| row.state.is_awaited())
+}
+
+/// Whether a significant child is left.
+pub fn has_left(rows: &[Row]) -> bool
+    ensures { result ≡ list_any is_left rows.now }
+{
+    rows.iter().any(|row| is_left(row))
+}
+
+/// The place of the first waiting end of this process.
+pub fn find_exit(waiting: &VecDeque<Waiting>, number: u64) -> Option<usize>
+    ensures { result ≡ position (is_exit number) waiting.now.items }
+{
+    waiting.iter().position(|item| is_exit(item, number))
+}
+
+/// The place of the row to start.
+pub fn find_due(rows: &[Row], due: &Due) -> Option<usize>
+    ensures { result ≡ position (is_due due.now) rows.now }
+{
+    rows.iter().position(|row| is_due(due, row))
+}
+
+/// Adds the numbers of the processes that run.
+pub fn list_running(rows: &[Row], list: &mut Vec<u64>)
+    requires { vec_len list.old + length rows.now ≤ vec_capacity list.old }
+    ensures items { list.new.items ≡ list.old.items ++ running rows.now }
+    ensures len { vec_len list.new ≤ vec_len list.old + length rows.now }
+{
+    for row in rows {
+        if let RowState::Up(number) = row.state {
+            list.push_reserved(number);
+        }
+    }
+}
+
+/// Adds the children that are started again.
+pub fn list_dues(rows: &[Row], kept: Option<u64>, list: &mut Vec<Due>)
+    requires { vec_len list.old + length rows.now ≤ vec_capacity list.old }
+    ensures items { list.new.items ≡ list.old.items ++ dues kept rows.now }
+    ensures len { vec_len list.new ≤ vec_len list.old + length rows.now }
+    ensures capacity { vec_capacity list.old ≤ vec_capacity list.new }
+{
+    for row in rows {
+        if !is_temporary(row.spec.restart) {
+            list.push_reserved(Due { id: row.id, kept });
+        }
+    }
+}
+
+/// Adds a row and a start for each specification.
+pub fn list_children(specs: &[ChildSpec], rows: &mut Rows, starts: &mut Vec<Due>)
+    requires limit { length specs.now + length rows.old.rows ≤ 256 }
+    requires rows { length specs.now ≤ rows.old.room }
+    requires starts { vec_len starts.old + length specs.now ≤ vec_capacity starts.old }
+    ensures rows { rows.new.rows ≡ rows.old.rows ++ map row_of specs.now }
+    ensures starts { starts.new.items ≡ starts.old.items ++ map due_of specs.now }
+{
+    for spec in specs {
+        let _ = rows.insert(Row { id: Some(spec.id), spec: *spec, state: RowState::Undefined });
+        starts.push_reserved(Due { id: Some(spec.id), kept: None });
+    }
+}
+
+/// What which_children says of a process.
+fn process_of(state: RowState) -> ChildProcess
+    ensures { result ≡ process_of state }
+{
+    match state {
+        RowState::Undefined => ChildProcess::Undefined,
+        RowState::Starting(number, _) => ChildProcess::Number(number),
+        RowState::Up(number) => ChildProcess::Number(number),
+        RowState::Asked(number, _) => ChildProcess::Number(number),
+        RowState::Killed(number) => ChildProcess::Number(number),
+        RowState::Restarting(_) => ChildProcess::Restarting,
+    }
+}
+
+/// Adds a line of which_children for each row.
+pub fn list_lines(rows: &[Row], list: &mut Vec<ChildLine>)
+    requires { vec_len list.old + length rows.now ≤ vec_capacity list.old }
+    ensures { list.new.items ≡ list.old.items ++ map line_of rows.now }
+{
+    for row in rows {
+        list.push_reserved(ChildLine { id: row.id, process: process_of(row.state), kind: row.spec.kind, modules: row.spec.modules });
+    }
+}
+
+/// How many children have a process that was started and has not ended.
+pub fn count_active(rows: &[Row]) -> usize
+    ensures { result ≡ count_by (row_has is_active) rows.now }
+{
+    rows.iter().filter(|row| is_active(row.state)).count()
+}
+
+fn is_active(state: RowState) -> bool
+    ensures { result ≡ is_active state }
+{
+    match state {
+        RowState::Up(_) | RowState::Asked(..) | RowState::Killed(_) => true,
+        RowState::Undefined | RowState::Starting(..) | RowState::Restarting(_) => false,
+    }
+}
+
+pub fn count_supervisors(rows: &[Row]) -> usize
+    ensures { result ≡ count_by (λ row. is_supervisor row.spec.kind) rows.now }
+{
+    rows.iter().filter(|row| is_supervisor(row.spec.kind)).count()
+}
+
+fn is_supervisor(kind: ChildType) -> bool
+    ensures { result ≡ is_supervisor kind }
+{
+    match kind {
+        ChildType::Supervisor => true,
+        ChildType::Worker => false,
+    }
+}
+
+pub fn count_workers(rows: &[Row]) -> usize
+    ensures { result ≡ count_by (λ row. is_worker row.spec.kind) rows.now }
+{
+    rows.iter().filter(|row| is_worker(row.spec.kind)).count()
+}
+
+fn is_worker(kind: ChildType) -> bool
+    ensures { result ≡ is_worker kind }
+{
+    match kind {
+        ChildType::Worker => true,
+        ChildType::Supervisor => false,
+    }
+}
+
+/// Answers noproc to the calls that wait, in order.
+pub fn refuse_calls(waiting: &VecDeque<Waiting>, replies: &mut Vec<Answered>, orders: &mut Vec<Effect>)
+    requires replies { vec_len replies.old + deque_len waiting.now ≤ vec_capacity replies.old }
+    requires orders { vec_len orders.old + deque_len waiting.now ≤ vec_capacity orders.old }
+    ensures replies { replies.new.items ≡ replies.old.items ++ filter_map refused waiting.now.items }
+    ensures orders { orders.new.items ≡ orders.old.items ++ filter_map refusal waiting.now.items }
+    ensures len { vec_len orders.new ≤ vec_len orders.old + deque_len waiting.now }
+    ensures capacity { vec_capacity orders.old ≤ vec_capacity orders.new }
+{
+    let (front, back) = waiting.as_slices();
+    refuse_items(front, replies, orders);
+    refuse_items(back, replies, orders);
+}
+
+fn refuse_items(items: &[Waiting], replies: &mut Vec<Answered>, orders: &mut Vec<Effect>)
+    requires replies { vec_len replies.old + length items.now ≤ vec_capacity replies.old }
+    requires orders { vec_len orders.old + length items.now ≤ vec_capacity orders.old }
+    ensures replies { replies.new.items ≡ replies.old.items ++ filter_map refused items.now }
+    ensures orders { orders.new.items ≡ orders.old.items ++ filter_map refusal items.now }
+    ensures len_replies { vec_len replies.new ≤ vec_len replies.old + length items.now }
+    ensures len { vec_len orders.new ≤ vec_len orders.old + length items.now }
+    ensures capacity_replies { vec_capacity replies.old ≤ vec_capacity replies.new }
+    ensures capacity { vec_capacity orders.old ≤ vec_capacity orders.new }
+{
+    for item in items {
+        if let Waiting::Item(Item::Call(call, _)) = item {
+            replies.push_reserved(Answered { call: *call, reply: Reply::NoProc });
+            orders.push_reserved(Effect::Reply(*call));
+        }
+    }
+}
+
+/// Whether a child was told to shut down and its deadline has come.
+pub fn has_late(now: u64, rows: &[Row]) -> bool
+    ensures { result ≡ list_any (λ row. is_late now row.state) rows.now }
+{
+    rows.iter().any(|row| late_number(now, row.state).is_some())
+}
+
+/// The last answer to the call with this number. The search begins at the end, where a fresh answer is.
+pub fn find_reply(replies: &[Answered], call: u64) -> Option<&Reply>
+    ensures { MatchOption result (reply_of call replies.now ≡ None) (λ r. reply_of call replies.now ≡ Some r.now) }
+{
+    let mut place = replies.len();
+    while place > 0 {
+        place -= 1;
+        if replies[place].call == call {
+            return Some(&replies[place].reply);
+        }
+    }
+    None
+}

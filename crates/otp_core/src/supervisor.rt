@@ -1,0 +1,198 @@
+//! A supervisor's core: its history, and the state that the rules give for it.
+
+ghost use Rattle.std.specs.Prelude.{ℕ, All, ◌≡◌, ◌<◌, ◌≤◌, ◌^◌, ◌↔◌, ◌++◌, ◌∷◌, [], true, false, length, not, is_some, is_none, nat_lt, max, IsTrue, None, Some, IfOk, IfErr, OnOk, OnErr, MatchOption, vec_len, vec_capacity};
+ghost use Rattle.std.specs.List.{list_any};
+ghost use Rattle.otp_core.specs.View.{state_of};
+ghost use Rattle.otp_core.specs.Opened.{IsOpenFault};
+ghost use Rattle.otp_rules.specs.Counts.{counts_of};
+ghost use Rattle.otp_rules.specs.Needs.{needs_number, numbers_of};
+ghost use Rattle.otp_rules.specs.Opening.{open_fault};
+ghost use Rattle.otp_rules.specs.Run.{empty_state, reply_of};
+ghost use Rattle.otp_rules.specs.State.{is_over};
+ghost use Rattle.otp_rules.specs.Step.{is_late, step};
+
+use crate::lists::{find_reply, has_late};
+use crate::machine::Machine;
+use crate::opening::{OpenFault, check_open, copy_specs};
+use crate::rows::is_over;
+use otp_rules::{CountsNow, Effect, Event, Phase, Reply, laws};
+use otp_spec::{ChildSpec, SupFlags};
+use otp_table::Rows;
+use otp_window::Window;
+use std::alloc::{AllocError, Global};
+use std::collections::VecDeque;
+use std::marker::Model;
+
+/// The most events that a history holds.
+pub const MAX_EVENTS: usize = 65536;
+
+/// The core of one supervisor. Contracts see its history; its state is what the rules give for that history.
+#[derive(Drop)]
+pub struct Core {
+    machine: Machine,
+    history: Vec<Event>,
+    prepared: bool,
+}
+
+impl Model for Core {
+    ghost use Rattle.otp_core.specs.View.{View};
+
+    ghost Value = { View };
+
+    ghost use Rattle.otp_core.specs.CoreInside.{view_of, IsCore};
+
+    ghost view = { view_of };
+
+    ghost invariant = { IsCore };
+}
+
+impl Core {
+    /// A core that was never opened, for children of these specifications.
+    ///
+    /// # Errors
+    ///
+    /// The first fault: E1 of the flags, E6, E7, and then those of [`otp_spec::check_childspecs`].
+    pub fn open(alloc: Global, flags: SupFlags, specs: &[ChildSpec]) -> Result<Core, OpenFault>
+        ensures ok { OnOk result (open_fault flags specs.now ≡ None) }
+        ensures core { IfOk result (λ core. core ≡ record { base = empty_state flags specs.now; history = []; effects = []; prepared = false }) }
+        ensures fault { IfErr result (λ why. IsOpenFault why (open_fault flags specs.now)) }
+    {
+        if let Err(fault) = check_open(&flags, specs) {
+            return Err(OpenFault::Spec(fault));
+        }
+        let Ok(specs) = copy_specs(alloc, specs) else {
+            return Err(OpenFault::OutOfMemory);
+        };
+        let window = Window::new(alloc, flags.intensity, flags.period);
+        let machine = Machine {
+            strategy: flags.strategy,
+            auto_shutdown: flags.auto_shutdown,
+            window,
+            specs,
+            rows: Rows::new(alloc),
+            to_stop: Vec::new(alloc),
+            to_start: Vec::new(alloc),
+            follows: None,
+            waiting: VecDeque::new(alloc),
+            replies: Vec::new(alloc),
+            last: 0,
+            phase: Phase::Unopened,
+            orders: Vec::new(alloc),
+            spare_lines: Vec::new(alloc),
+            spare_stamps: Vec::new(alloc),
+        };
+        Ok(Core { machine, history: Vec::new(alloc), prepared: false })
+    }
+
+    /// Whether the memory of the next event is there.
+    pub fn is_prepared(&self) -> bool
+        ensures { result ≡ self.now.prepared }
+    {
+        self.prepared
+    }
+
+    /// Whether the history holds [`MAX_EVENTS`] events.
+    pub fn is_full(&self) -> bool
+        ensures { IsTrue result ↔ (65536 ≤ length self.now.history) }
+    {
+        self.history.len() >= MAX_EVENTS
+    }
+
+    /// The orders of all events since they were last cleared, in order.
+    pub fn effects(&self) -> &[Effect]
+        ensures { result.now ≡ self.now.effects }
+    {
+        &self.machine.orders
+    }
+
+    /// The events since the opening, in order.
+    pub fn history(&self) -> &[Event]
+        ensures { result.now ≡ self.now.history }
+    {
+        &self.history
+    }
+
+    pub fn clear_effects(&mut self)
+        ensures { self.new ≡ record self.old { effects = [] } }
+    {
+        self.machine.orders.clear();
+    }
+
+    /// Whether children are being stopped or started.
+    pub fn has_open_work(&self) -> bool
+        ensures { result ≡ is_some (state_of self.now).follows }
+    {
+        self.machine.follows.is_some()
+    }
+
+    /// Whether the supervisor was never opened, or has ended.
+    pub fn has_ended(&self) -> bool
+        ensures { result ≡ is_over (state_of self.now).phase }
+    {
+        is_over(self.machine.phase)
+    }
+
+    /// Whether an item waits until no work is open.
+    pub fn has_waiting(&self) -> bool
+        ensures { result ≡ nat_lt 0 (length (state_of self.now).waiting) }
+    {
+        !self.machine.waiting.is_empty()
+    }
+
+    /// Whether a child is to be killed at this reading of the clock: it was told to shut down, and its deadline has come.
+    pub fn is_due(&self, reading: u64) -> bool
+        ensures { result ≡ list_any (λ row. is_late (max reading (state_of self.now).last) row.state) (state_of self.now).rows }
+    {
+        has_late(self.machine.last.max(reading), self.machine.rows.as_slice())
+    }
+
+    /// The answer to the call with this number, if it was given.
+    pub fn reply(&self, call: u64) -> Option<&Reply>
+        ensures { MatchOption result (reply_of call (state_of self.now).replies ≡ None) (λ r. reply_of call (state_of self.now).replies ≡ Some r.now) }
+    {
+        find_reply(&self.machine.replies, call)
+    }
+
+    /// What count_children would answer now.
+    pub fn counts(&self) -> CountsNow
+        ensures { result ≡ counts_of (state_of self.now) }
+    {
+        self.machine.counts()
+    }
+
+    /// Takes the memory of the next event. An `Err` leaves the core as it was.
+    pub fn prepare(&mut self) -> Result<(), AllocError>
+        ensures ok { OnOk result (self.new ≡ record self.old { prepared = true }) }
+        ensures err { OnErr result (self.new ≡ self.old) }
+    {
+        if self.prepared {
+            return Ok(());
+        }
+        self.machine.prepare()?;
+        self.history.reserve(1)?;
+        self.prepared = true;
+        Ok(())
+    }
+
+    /// One event, with a number exactly where it starts a child (`needs_number`), greater than each earlier one.
+    /// It takes no memory; its orders are put behind the effects that are there.
+    pub fn step(&mut self, event: Event)
+        requires prepared { IsTrue self.old.prepared }
+        requires room { length self.old.history < 65536 }
+        requires reading { event.reading ≤ 2 ^ 62 }
+        requires number { is_some event.number ≡ needs_number (state_of self.old) event.reading event.kind }
+        requires rises { (n : ℕ) → event.number ≡ Some n → All (λ m. m < n) (numbers_of self.old.history) }
+        ensures base { self.new.base ≡ self.old.base }
+        ensures history { self.new.history ≡ self.old.history ++ event ∷ [] }
+        ensures effects { self.new.effects ≡ self.old.effects ++ (step (state_of self.old) event).orders }
+        ensures prepared { self.new.prepared ≡ false }
+    {
+        laws::step_keeps_plan();
+        laws::step_stamps();
+        laws::step_keeps_stamped();
+        laws::orders_are_appended();
+        self.machine.step(event);
+        self.history.push_reserved(event);
+        self.prepared = false;
+    }
+}

@@ -1,0 +1,17 @@
+pub mod State
+pub mod Places
+pub mod Ends
+pub mod Counts
+pub mod Evidence
+pub mod Restarts
+pub mod Stops
+pub mod Deaths
+pub mod Starts
+pub mod Calls
+pub mod Step
+pub mod Run
+pub mod Needs
+pub mod Frames
+pub mod Rate
+pub mod Opening
+pub mod Order

@@ -1,0 +1,30 @@
+//! Laws over all states, events and histories. A law is a function that does nothing: what it ensures is the law.
+
+ghost use Rattle.otp_rules.specs.Frames.{OrdersAppended, StepKeepsPlan, StepKeepsStamped, StepStamps};
+ghost use Rattle.otp_rules.specs.Rate.{RestartRate};
+
+/// No event changes the flags or the specifications.
+pub fn step_keeps_plan()
+    ensures { StepKeepsPlan }
+{}
+
+/// An event's stamp is its reading, or the last stamp if that is later.
+pub fn step_stamps()
+    ensures { StepStamps }
+{}
+
+/// No restart is stamped later than the last event.
+pub fn step_keeps_stamped()
+    ensures { StepKeepsStamped }
+{}
+
+/// An event's orders come after those given before, and nothing that it does depends on those.
+pub fn orders_are_appended()
+    ensures { OrdersAppended }
+{}
+
+/// No period, wherever it ends, holds more restarts than the intensity, but for the last restart of a supervisor
+/// that is ending, or has ended, by it (Supervisor Behaviour, Maximum Restart Intensity).
+pub fn restart_rate()
+    ensures { RestartRate }
+{}

@@ -1,0 +1,5 @@
+pub mod Values
+pub mod Replies
+pub mod Effects
+pub mod Words
+pub mod Lines

@@ -1,0 +1,17 @@
+//! The texts of the supervisor's events and orders: what `sim` reads, and what it prints.
+//!
+//! `specs/` has both formats: `Effects` the printed line of each order, `Lines` the lines that are read.
+#![tactic(auto)]
+
+pub mod effect;
+pub mod line;
+mod reply;
+mod value;
+mod verb;
+mod word;
+
+pub use effect::Printer;
+pub use line::{LONGEST_LINE, Line, read_line};
+
+#[cfg(test)]
+mod tests;

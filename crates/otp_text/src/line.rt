@@ -1,0 +1,215 @@
+//! Lines as they are read.
+
+ghost use Rattle.std.specs.Prelude.{◌≡◌, option_copied};
+ghost use Rattle.std.specs.Option.{option_map};
+ghost use Rattle.otp_text.specs.Words.{words_of, words_left};
+ghost use Rattle.otp_text.specs.Lines.{number_in, one_number, one_name, number_and_reason, two_names, spec_named, spec_in, start_in, terminate_in, one_terminate, call_of, line_with, line_of_words, line_of};
+
+use crate::verb::Verb;
+use crate::word::{
+    cut, first_word, is_end, last_word, read_bool, read_name, read_number, read_reason,
+    read_restart, read_shutdown, read_type,
+};
+use otp_reason::{Name, Note, Reason};
+use otp_rules::Call;
+use otp_spec::{ChildSpec, Modules};
+
+/// The most bytes of a line, without its end.
+pub const LONGEST_LINE: usize = 512;
+
+/// The greatest reading of a clock, in milliseconds, and the greatest process number: 2^62.
+const GREATEST_NUMBER: u64 = 4_611_686_018_427_387_904;
+
+/// What a line says.
+#[derive(Clone, Copy, Debug, PartialEq, Eq)]
+pub enum Line {
+    /// Nothing.
+    Empty,
+    /// The clock's reading from now on, in milliseconds.
+    At(u64),
+    /// What a process tells its supervisor.
+    Note(Note),
+    /// The parent asks the supervisor to shut down.
+    Stop,
+    Call(Call),
+}
+
+/// The line that these bytes are, without their end of line; `None` for any other form and for more than 512 bytes.
+#[tactic(auto, unfolding(crate::specs::Lines::line_of))]
+pub fn read_line(line: &[u8]) -> Option<Line>
+    ensures { result ≡ line_of line.now }
+{
+    if line.is_empty() {
+        return Some(Line::Empty);
+    }
+    if line.len() > LONGEST_LINE {
+        return None;
+    }
+    read_words(line)
+}
+
+/// The line of these words.
+#[tactic(auto, unfolding(crate::specs::Lines::line_of_words))]
+fn read_words(line: &[u8]) -> Option<Line>
+    ensures { result ≡ line_of_words (words_of line.now) }
+{
+    let (word, rest) = cut(line);
+    let verb = Verb::of_word(word)?;
+    read_verb(verb, rest)
+}
+
+/// The line of a verb and the words after it.
+#[tactic(auto, unfolding(crate::specs::Lines::line_with))]
+fn read_verb(verb: Verb, rest: Option<&[u8]>) -> Option<Line>
+    ensures { result ≡ line_with verb (words_left (option_copied rest.entry)) }
+{
+    match verb {
+        Verb::At => Some(Line::At(read_one_number(rest)?)),
+        Verb::Up => Some(Line::Note(Note::Up(read_one_number(rest)?))),
+        Verb::Ignore => Some(Line::Note(Note::Ignored(read_one_number(rest)?))),
+        Verb::Fail => {
+            let (number, reason) = read_number_and_reason(rest)?;
+            Some(Line::Note(Note::Failed(number, reason)))
+        }
+        Verb::Exit => {
+            let (number, reason) = read_number_and_reason(rest)?;
+            Some(Line::Note(Note::Exit(number, reason)))
+        }
+        Verb::Stop if is_end(rest) => Some(Line::Stop),
+        Verb::Stop => None,
+        Verb::Start
+        | Verb::Restart
+        | Verb::Delete
+        | Verb::Terminate
+        | Verb::Get
+        | Verb::Which
+        | Verb::Count => Some(Line::Call(read_call(verb, rest)?)),
+    }
+}
+
+/// The call of a verb and the words after it.
+#[tactic(auto, unfolding(crate::specs::Lines::call_of))]
+fn read_call(verb: Verb, rest: Option<&[u8]>) -> Option<Call>
+    ensures { result ≡ call_of verb (words_left (option_copied rest.entry)) }
+{
+    match verb {
+        Verb::Start => read_start(rest),
+        Verb::Restart => Some(Call::RestartChild(read_one_name(rest)?)),
+        Verb::Delete => Some(Call::DeleteChild(read_one_name(rest)?)),
+        Verb::Terminate => read_terminate(rest),
+        Verb::Get => Some(Call::GetChildspec(read_one_name(rest)?)),
+        Verb::Which if is_end(rest) => Some(Call::WhichChildren),
+        Verb::Count if is_end(rest) => Some(Call::CountChildren),
+        Verb::Which | Verb::Count => None,
+        Verb::At | Verb::Up | Verb::Ignore | Verb::Fail | Verb::Exit | Verb::Stop => None,
+    }
+}
+
+/// start_child: with the specification of six words, or with none.
+#[tactic(auto, unfolding(crate::specs::Lines::start_in))]
+fn read_start(rest: Option<&[u8]>) -> Option<Call>
+    ensures { result ≡ start_in (words_left (option_copied rest.entry)) }
+{
+    if is_end(rest) {
+        return Some(Call::StartDynamic);
+    }
+    Some(Call::StartChild(read_spec(rest)?))
+}
+
+/// A specification of six words, with the default for its modules.
+#[tactic(auto, unfolding(crate::specs::Lines::spec_in))]
+fn read_spec(rest: Option<&[u8]>) -> Option<ChildSpec>
+    ensures { result ≡ spec_in (words_left (option_copied rest.entry)) }
+{
+    let ((id, start), rest) = read_two_names(rest)?;
+    read_keys(id, start, rest)
+}
+
+/// An id and a start function's module, and what is left after them.
+#[tactic(auto, unfolding(crate::specs::Lines::two_names))]
+fn read_two_names(rest: Option<&[u8]>) -> Option<((Name, Name), Option<&[u8]>)>
+    ensures { option_map (λ found. (found.0, words_left (option_copied found.1))) result ≡ two_names (words_left (option_copied rest.entry)) }
+{
+    let (word, rest) = first_word(rest)?;
+    let id = read_name(word)?;
+    let (word, rest) = first_word(rest)?;
+    let start = read_name(word)?;
+    Some(((id, start), rest))
+}
+
+/// The specification with these names and the four words of its other keys.
+#[tactic(auto, unfolding(crate::specs::Lines::spec_named))]
+fn read_keys(id: Name, start: Name, rest: Option<&[u8]>) -> Option<ChildSpec>
+    ensures { result ≡ spec_named id start (words_left (option_copied rest.entry)) }
+{
+    let (word, rest) = first_word(rest)?;
+    let restart = read_restart(word)?;
+    let (word, rest) = first_word(rest)?;
+    let significant = read_bool(word)?;
+    let (word, rest) = first_word(rest)?;
+    let shutdown = read_shutdown(word)?;
+    let kind = read_type(last_word(rest)?)?;
+    Some(ChildSpec {
+        id,
+        start,
+        restart,
+        significant,
+        shutdown,
+        kind,
+        modules: Modules::One(start),
+    })
+}
+
+/// terminate_child, by id or by process number.
+#[tactic(auto, unfolding(crate::specs::Lines::one_terminate))]
+fn read_terminate(rest: Option<&[u8]>) -> Option<Call>
+    ensures { result ≡ one_terminate (words_left (option_copied rest.entry)) }
+{
+    read_child(last_word(rest)?)
+}
+
+/// Who is terminated: a process number after `#`, or an id.
+#[tactic(auto, unfolding(crate::specs::Lines::terminate_in))]
+fn read_child(word: &[u8]) -> Option<Call>
+    ensures { result ≡ terminate_in word.now }
+{
+    match word.strip_prefix(b"#") {
+        Some(number) => Some(Call::TerminateProcess(read_any_number(number)?)),
+        None => Some(Call::TerminateChild(read_name(word)?)),
+    }
+}
+
+/// A clock's reading or a process number.
+#[tactic(auto, unfolding(crate::specs::Lines::number_in))]
+fn read_any_number(word: &[u8]) -> Option<u64>
+    ensures { result ≡ number_in word.now }
+{
+    read_number(GREATEST_NUMBER, word)
+}
+
+/// One word, a number.
+#[tactic(auto, unfolding(crate::specs::Lines::one_number))]
+fn read_one_number(rest: Option<&[u8]>) -> Option<u64>
+    ensures { result ≡ one_number (words_left (option_copied rest.entry)) }
+{
+    read_any_number(last_word(rest)?)
+}
+
+/// One word, a name.
+#[tactic(auto, unfolding(crate::specs::Lines::one_name))]
+fn read_one_name(rest: Option<&[u8]>) -> Option<Name>
+    ensures { result ≡ one_name (words_left (option_copied rest.entry)) }
+{
+    read_name(last_word(rest)?)
+}
+
+/// Two words, a process number and a reason.
+#[tactic(auto, unfolding(crate::specs::Lines::number_and_reason))]
+fn read_number_and_reason(rest: Option<&[u8]>) -> Option<(u64, Reason)>
+    ensures { result ≡ number_and_reason (words_left (option_copied rest.entry)) }
+{
+    let (word, rest) = first_word(rest)?;
+    let number = read_any_number(word)?;
+    let reason = read_reason(last_word(rest)?)?;
+    Some((number, reason))
+}
