@@ -2,3 +2,4 @@ pub mod Halves
 pub mod Steps
 pub mod Runs
 pub mod Replies
+pub mod Lawful

@@ -1,6 +1,7 @@
 -- What a core keeps.
 use Rattle.std.specs.Prelude.{◌≡◌, ◌<◌, vec_len, vec_capacity}
 use Rattle.std.specs.Bool.{OnTrue}
+use Rattle.otp_rules.specs.Needs.{IsLawfulHistory}
 use Rattle.otp_rules.specs.Run.{empty_state, state_after}
 use Rattle.otp_core.specs.declared.supervisor.Core.TheInside.{Inside}
 use Rattle.otp_core.specs.Seen.{HasMemory, IsSound, outcome_of}
@@ -20,5 +21,6 @@ pub record HasRoom (a : Inside) : Type 0 where
 pub record IsCore (a : Inside) : Type 0 where
   -- the state is the run of the history
   pub runs : (outcome_of a.machine).state ≡ state_after (empty_state (outcome_of a.machine).state.flags a.machine.specs.items) a.history.items
+  pub lawful : IsLawfulHistory (empty_state (outcome_of a.machine).state.flags a.machine.specs.items) a.history.items
   pub sound : IsSound a.machine
   pub room : OnTrue a.prepared (HasRoom a)

@@ -1,7 +1,8 @@
 //! Searches over lists, and what is done to each of their items.
 
-ghost use Rattle.std.specs.Prelude.{MatchOption, None, Some, ◌≡◌, ◌+◌, ◌≤◌, ◌<◌, ◌++◌, ◌∷◌, [], length, map, position, vec_len, vec_capacity, count_by};
-ghost use Rattle.std.specs.List.{filter_map, list_any};
+ghost use Rattle.std.specs.Prelude.{not, MatchOption, None, Some, ◌≡◌, ◌+◌, ◌≤◌, ◌<◌, ◌++◌, ◌∷◌, [], length, map, position, vec_len, vec_capacity, count_by};
+ghost use Rattle.std.specs.List.{filter, filter_map, list_any};
+ghost use Rattle.otp_rules.specs.Effects.{is_reply};
 ghost use Rattle.std.specs.VecDeque.{deque_len, deque_capacity};
 ghost use Rattle.otp_table.specs.Rows.{is_awaited, row_has};
 ghost use Rattle.otp_rules.specs.Counts.{process_of, is_active, is_supervisor, is_worker, line_of};
@@ -207,4 +208,25 @@ pub fn find_reply(replies: &[Answered], call: u64) -> Option<&Reply>
         }
     }
     None
+}
+
+fn is_reply(effect: &Effect) -> bool
+    ensures { result ≡ is_reply effect.now }
+{
+    matches!(effect, Effect::Reply(_))
+}
+
+/// Moves the orders but for replies into a list that has room.
+pub fn move_orders(orders: &mut Vec<Effect>, list: &mut Vec<Effect>)
+    requires { vec_len list.old + length orders.old.items ≤ vec_capacity list.old }
+    ensures list { list.new.items ≡ list.old.items ++ filter (λ effect. not (is_reply effect)) orders.old.items }
+    ensures orders { orders.new.items ≡ [] }
+    ensures len { vec_len orders.new ≤ vec_len orders.old }
+    ensures capacity { vec_capacity orders.new ≡ vec_capacity orders.old }
+{
+    for effect in orders.drain(..) {
+        if !is_reply(&effect) {
+            list.push_reserved(effect);
+        }
+    }
 }

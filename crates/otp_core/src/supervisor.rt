@@ -1,17 +1,19 @@
 //! A supervisor's core: its history, and the state that the rules give for it.
 
-ghost use Rattle.std.specs.Prelude.{ℕ, All, ◌≡◌, ◌<◌, ◌≤◌, ◌^◌, ◌↔◌, ◌++◌, ◌∷◌, [], true, false, length, not, is_some, is_none, nat_lt, max, IsTrue, None, Some, IfOk, IfErr, OnOk, OnErr, MatchOption, vec_len, vec_capacity};
-ghost use Rattle.std.specs.List.{list_any};
+ghost use Rattle.std.specs.Prelude.{ℕ, All, ◌≡◌, ◌+◌, ◌<◌, ◌≤◌, ◌^◌, ◌↔◌, ◌++◌, ◌∷◌, [], true, false, length, not, is_some, is_none, nat_lt, max, IsTrue, None, Some, IfOk, IfErr, OnOk, OnErr, MatchOption, vec_len, vec_capacity};
+ghost use Rattle.std.specs.List.{filter, list_any};
 ghost use Rattle.otp_core.specs.View.{state_of};
 ghost use Rattle.otp_core.specs.Opened.{IsOpenFault};
 ghost use Rattle.otp_rules.specs.Counts.{counts_of};
-ghost use Rattle.otp_rules.specs.Needs.{needs_number, numbers_of};
+ghost use Rattle.otp_rules.specs.Effects.{is_reply};
+ghost use Rattle.otp_rules.specs.Needs.{IsLawfulHistory, needs_number, numbers_of};
 ghost use Rattle.otp_rules.specs.Opening.{open_fault};
+ghost use Rattle.otp_rules.specs.Rate.{IsRated};
 ghost use Rattle.otp_rules.specs.Run.{empty_state, reply_of};
 ghost use Rattle.otp_rules.specs.State.{is_over};
 ghost use Rattle.otp_rules.specs.Step.{is_late, step};
 
-use crate::lists::{find_reply, has_late};
+use crate::lists::{find_reply, has_late, move_orders};
 use crate::machine::Machine;
 use crate::opening::{OpenFault, check_open, copy_specs};
 use crate::rows::is_over;
@@ -105,11 +107,32 @@ impl Core {
         &self.machine.orders
     }
 
-    /// The events since the opening, in order.
+    /// All events, in order. They have numbers exactly where they started a child, and these rise.
     pub fn history(&self) -> &[Event]
-        ensures { result.now ≡ self.now.history }
+        ensures value { result.now ≡ self.now.history }
+        ensures lawful { IsLawfulHistory self.now.base self.now.history }
     {
         &self.history
+    }
+
+    /// The times in milliseconds of all restarts since the last opening, in order: no period has more of them than
+    /// the intensity, but for the last one of a supervisor that ends by it
+    /// (Supervisor Behaviour, Maximum Restart Intensity).
+    pub fn restarts(&self) -> &[u64]
+        ensures value { result.now ≡ (state_of self.now).stamps }
+        ensures rate { IsRated (state_of self.now) }
+    {
+        laws::restart_rate();
+        self.machine.window.stamps()
+    }
+
+    /// Moves the orders but for replies, in order, into a list that has room, and clears the effects. Takes no memory.
+    pub fn move_orders(&mut self, list: &mut Vec<Effect>)
+        requires { vec_len list.old + length self.old.effects ≤ vec_capacity list.old }
+        ensures orders { list.new.items ≡ list.old.items ++ filter (λ effect. not (is_reply effect)) self.old.effects }
+        ensures core { self.new ≡ record self.old { effects = [] } }
+    {
+        move_orders(&mut self.machine.orders, list);
     }
 
     pub fn clear_effects(&mut self)

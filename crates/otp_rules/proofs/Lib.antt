@@ -6,3 +6,4 @@ pub mod Rated
 pub mod Appended
 pub mod Counting
 pub mod Sound
+pub mod NeedsWork

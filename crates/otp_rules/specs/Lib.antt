@@ -15,3 +15,4 @@ pub mod Frames
 pub mod Rate
 pub mod Opening
 pub mod Order
+pub mod Effects

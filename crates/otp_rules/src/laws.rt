@@ -1,6 +1,7 @@
 //! Laws over all states, events and histories. A law is a function that does nothing: what it ensures is the law.
 
 ghost use Rattle.otp_rules.specs.Frames.{OrdersAppended, StepKeepsPlan, StepKeepsStamped, StepStamps};
+ghost use Rattle.otp_rules.specs.Needs.{NumberStartsWork};
 ghost use Rattle.otp_rules.specs.Rate.{RestartRate};
 
 /// No event changes the flags or the specifications.
@@ -21,6 +22,11 @@ pub fn step_keeps_stamped()
 /// An event's orders come after those given before, and nothing that it does depends on those.
 pub fn orders_are_appended()
     ensures { OrdersAppended }
+{}
+
+/// An event needs a number exactly where the work that it opens, or that goes on, starts a child.
+pub fn number_starts_work()
+    ensures { NumberStartsWork }
 {}
 
 /// No period, wherever it ends, holds more restarts than the intensity, but for the last restart of a supervisor

@@ -6,8 +6,11 @@ use Rattle.otp_rules.specs.declared.event.Effect.{Effect}
 use Rattle.otp_rules.specs.State.{Outcome, State}
 use Rattle.otp_rules.specs.Step.{step}
 use Rattle.otp_rules.specs.Run.{empty_state, state_after}
+use Rattle.otp_rules.specs.Needs.{IsLawfulHistory, needs_number, numbers_of}
+use Rattle.std.specs.Prelude.{Some, is_some, ◌<◌}
 use Rattle.otp_core.specs.Seen.{outcome_of}
 use Rattle.otp_core.specs.View.{View, state_of}
+use Rattle.otp_core.proofs.Lawful.{lawful_on}
 use Rattle.otp_core.proofs.Runs.{runs_on}
 use Rattle.otp_core.proofs.supervisor.Core.step.Goals as goal
 
@@ -23,9 +26,20 @@ invariant_of-self c =
     let last : after.state.last ≡ max event.reading before.state.last = ap (λ (s : State). s.last) moved ∙ c.step_stamps.ensures before.state event in
     let count : length after.state.specs ≡ length before.state.specs = ap (λ (xs : List ChildSpec). length xs) specs in
     let intensity : after.state.flags.intensity ≡ before.state.flags.intensity = ap (λ (f : SupFlags). f.intensity) flags in
+    let base : State = empty_state before.state.flags before.state.specs in
+    let same_base : base ≡ empty_state after.state.flags after.state.specs =
+      ap (λ (f : SupFlags). empty_state f before.state.specs) (sym flags) ∙ ap (λ (xs : List ChildSpec). empty_state after.state.flags xs) (sym specs) in
+    let Lawful : State → Type 0 = λ s. IsLawfulHistory s c.push_reserved.new.self.items in
+    let Needs : State → Type 0 = λ s. is_some event.number ≡ needs_number s event.reading event.kind in
+    let same_state : state_of c.args.self.now ≡ state_after base c.self.inside.history.items = ap state_of (sym c.self.view_is) in
+    let Rises : View → Type 0 = λ v. (n : ℕ) → event.number ≡ Some n → All (λ m. m < n) (numbers_of v.history) in
+    let lawful_after : IsLawfulHistory (empty_state after.state.flags after.state.specs) c.push_reserved.new.self.items =
+      subst Lawful same_base (lawful_on base c.self.inside.history.items c.push_reserved.new.self.items event c.push_reserved.ensures.items
+        c.self.invariant.lawful (subst Needs same_state c.requires.number) (subst Rises (sym c.self.view_is) c.requires.rises)) in
     let IsStamped : State → Type 0 = λ s. All (λ t. t ≤ s.last) s.stamps in
     record {
       runs = runs_on before.state after.state c.self.inside.history.items c.push_reserved.new.self.items event moved c.push_reserved.ensures.items flags specs c.self.invariant.runs;
+      lawful = lawful_after;
       sound = record {
         limit = omega (arith, count, c.self.invariant.sound.limit);
         ordered = subst IsStamped (sym moved) (c.step_keeps_stamped.ensures before.state event c.self.invariant.sound.ordered);
