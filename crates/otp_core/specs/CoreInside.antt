@@ -11,7 +11,9 @@ abbrev pub view_of : Inside → View
 view_of a =
     record {
       base = empty_state (outcome_of a.machine).state.flags a.machine.specs.items;
-      history = a.history.items; effects = a.machine.orders.items; prepared = a.prepared;
+      history = a.history.items;
+      effects = a.machine.orders.items;
+      prepared = a.prepared;
     }
 
 pub record HasRoom (a : Inside) : Type 0 where

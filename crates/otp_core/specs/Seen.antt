@@ -9,9 +9,16 @@ outcome_of m =
     record {
       state = record {
         flags = record { strategy = m.strategy; intensity = m.window.intensity; period = m.window.period; auto_shutdown = m.auto_shutdown };
-        specs = m.specs.items; rows = m.rows.rows; stamps = m.window.stamps;
-        to_stop = reverse m.to_stop.items; to_start = m.to_start.items; follows = m.follows;
-        waiting = m.waiting.items; replies = m.replies.items; last = m.last; phase = m.phase;
+        specs = m.specs.items;
+        rows = m.rows.rows;
+        stamps = m.window.stamps;
+        to_stop = reverse m.to_stop.items;
+        to_start = m.to_start.items;
+        follows = m.follows;
+        waiting = m.waiting.items;
+        replies = m.replies.items;
+        last = m.last;
+        phase = m.phase;
       };
       orders = m.orders.items;
     }

@@ -34,7 +34,11 @@ impl Machine {
         ensures outcome { outcome_of self.new ≡ add_child call id spec (outcome_of self.old) }
         ensures room { CanAdvance self.new }
     {
-        match self.rows.insert(Row { id, spec, state: RowState::Undefined }) {
+        match self.rows.insert(Row {
+            id,
+            spec,
+            state: RowState::Undefined,
+        }) {
             Err(_) => self.refuse(call, CallFault::TooManyChildren),
             Ok(()) => {
                 self.to_stop.clear();
@@ -107,7 +111,10 @@ impl Machine {
             RowState::Undefined => {
                 self.to_stop.clear();
                 self.to_start.clear();
-                self.to_start.push_reserved(Due { id: Some(id), kept: None });
+                self.to_start.push_reserved(Due {
+                    id: Some(id),
+                    kept: None,
+                });
                 self.follows = Some(After::Restarted(call));
             }
             RowState::Restarting(_) => self.refuse(call, CallFault::Restarting),
@@ -279,7 +286,11 @@ impl Machine {
     {
         let rows = self.rows.as_slice();
         CountsNow {
-            specs: if is_simple(self.strategy) { 1 } else { self.rows.len() as u64 },
+            specs: if is_simple(self.strategy) {
+                1
+            } else {
+                self.rows.len() as u64
+            },
             active: count_active(rows) as u64,
             supervisors: count_supervisors(rows) as u64,
             workers: count_workers(rows) as u64,

@@ -39,8 +39,16 @@ impl Machine {
         list_running(&self.rows.as_slice()[from..to], &mut self.to_stop);
         self.to_start.clear();
         list_dues(&self.rows.as_slice()[from..place], None, &mut self.to_start);
-        list_dues(&self.rows.as_slice()[place..place + 1], Some(kept), &mut self.to_start);
-        list_dues(&self.rows.as_slice()[place + 1..to], None, &mut self.to_start);
+        list_dues(
+            &self.rows.as_slice()[place..place + 1],
+            Some(kept),
+            &mut self.to_start,
+        );
+        list_dues(
+            &self.rows.as_slice()[place + 1..to],
+            None,
+            &mut self.to_start,
+        );
         self.rows.calm(from, to);
         self.follows = Some(After::Nothing);
     }
@@ -106,7 +114,9 @@ impl Machine {
         };
         match self.rows.get(place).state {
             RowState::Undefined | RowState::Restarting(_) => {}
-            RowState::Starting(..) => self.put_last(Waiting::Item(Item::Note(Note::Exit(number, reason)))),
+            RowState::Starting(..) => self.put_last(Waiting::Item(Item::Note(Note::Exit(
+                number, reason,
+            )))),
             RowState::Up(_) => {
                 if self.follows.is_some() {
                     self.put_last(Waiting::Item(Item::Note(Note::Exit(number, reason))));

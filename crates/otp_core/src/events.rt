@@ -117,7 +117,7 @@ impl Machine {
     }
 
     /// Whether no work is open and the supervisor runs.
-    fn is_idle(&self) -> bool
+    pub fn is_idle(&self) -> bool
         ensures { result ≡ not (is_some self.now.follows) && not (is_over self.now.phase) }
     {
         self.follows.is_none() && !is_over(self.phase)
@@ -171,11 +171,7 @@ pub fn late_number(now: u64, state: RowState) -> Option<u64>
 {
     match state {
         RowState::Asked(number, Some(deadline)) => {
-            if deadline <= now {
-                Some(number)
-            } else {
-                None
-            }
+            if deadline <= now { Some(number) } else { None }
         }
         _ => None,
     }

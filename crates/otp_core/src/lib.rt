@@ -5,15 +5,17 @@
 
 mod calls;
 mod deaths;
+mod ends;
 mod events;
 mod lists;
 mod machine;
+mod needs;
 pub mod opening;
 mod rows;
 mod starts;
 mod stops;
 pub mod supervisor;
 
-pub use otp_rules::laws;
 pub use opening::OpenFault;
+pub use otp_rules::laws;
 pub use supervisor::{Core, MAX_EVENTS};

@@ -82,8 +82,15 @@ pub fn list_children(specs: &[ChildSpec], rows: &mut Rows, starts: &mut Vec<Due>
     ensures starts { starts.new.items ≡ starts.old.items ++ map due_of specs.now }
 {
     for spec in specs {
-        let _ = rows.insert(Row { id: Some(spec.id), spec: *spec, state: RowState::Undefined });
-        starts.push_reserved(Due { id: Some(spec.id), kept: None });
+        let _ = rows.insert(Row {
+            id: Some(spec.id),
+            spec: *spec,
+            state: RowState::Undefined,
+        });
+        starts.push_reserved(Due {
+            id: Some(spec.id),
+            kept: None,
+        });
     }
 }
 
@@ -107,7 +114,12 @@ pub fn list_lines(rows: &[Row], list: &mut Vec<ChildLine>)
     ensures { list.new.items ≡ list.old.items ++ map line_of rows.now }
 {
     for row in rows {
-        list.push_reserved(ChildLine { id: row.id, process: process_of(row.state), kind: row.spec.kind, modules: row.spec.modules });
+        list.push_reserved(ChildLine {
+            id: row.id,
+            process: process_of(row.state),
+            kind: row.spec.kind,
+            modules: row.spec.modules,
+        });
     }
 }
 
@@ -130,7 +142,9 @@ fn is_active(state: RowState) -> bool
 pub fn count_supervisors(rows: &[Row]) -> usize
     ensures { result ≡ count_by (λ row. is_supervisor row.spec.kind) rows.now }
 {
-    rows.iter().filter(|row| is_supervisor(row.spec.kind)).count()
+    rows.iter()
+        .filter(|row| is_supervisor(row.spec.kind))
+        .count()
 }
 
 fn is_supervisor(kind: ChildType) -> bool
@@ -158,7 +172,11 @@ fn is_worker(kind: ChildType) -> bool
 }
 
 /// Answers noproc to the calls that wait, in order.
-pub fn refuse_calls(waiting: &VecDeque<Waiting>, replies: &mut Vec<Answered>, orders: &mut Vec<Effect>)
+pub fn refuse_calls(
+    waiting: &VecDeque<Waiting>,
+    replies: &mut Vec<Answered>,
+    orders: &mut Vec<Effect>,
+)
     requires replies { vec_len replies.old + deque_len waiting.now ≤ vec_capacity replies.old }
     requires orders { vec_len orders.old + deque_len waiting.now ≤ vec_capacity orders.old }
     ensures replies { replies.new.items ≡ replies.old.items ++ filter_map refused waiting.now.items }
@@ -183,7 +201,10 @@ fn refuse_items(items: &[Waiting], replies: &mut Vec<Answered>, orders: &mut Vec
 {
     for item in items {
         if let Waiting::Item(Item::Call(call, _)) = item {
-            replies.push_reserved(Answered { call: *call, reply: Reply::NoProc });
+            replies.push_reserved(Answered {
+                call: *call,
+                reply: Reply::NoProc,
+            });
             orders.push_reserved(Effect::Reply(*call));
         }
     }

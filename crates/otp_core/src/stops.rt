@@ -62,7 +62,8 @@ impl Machine {
         };
         let id = self.rows.get(place).id;
         let shutdown = self.rows.get(place).spec.shutdown;
-        self.rows.set_state(place, told(self.last, number, shutdown));
+        self.rows
+            .set_state(place, told(self.last, number, shutdown));
         self.orders.push_reserved(stop_order(id, number, shutdown));
     }
 
@@ -84,7 +85,10 @@ impl Machine {
         ensures { outcome_of self.new ≡ start due number (outcome_of self.old) }
     {
         if let Some(place) = find_due(self.rows.as_slice(), &due) {
-            self.rows.set_state(place, RowState::Starting(number, due.kept.unwrap_or(number)));
+            self.rows.set_state(
+                place,
+                RowState::Starting(number, due.kept.unwrap_or(number)),
+            );
         }
         self.orders.push_reserved(Effect::Start(due.id, number));
     }
@@ -125,11 +129,26 @@ impl Machine {
                 let alloc = *self.spare_stamps.allocator();
                 let list = mem::replace(&mut self.spare_stamps, Vec::new(alloc));
                 let stamps = last_stamps(self.window.intensity(), self.window.stamps(), list);
-                SupEnd { reason: Reason::Shutdown, cause: Cause::Intensity { flags: self.flags(), stamps } }
+                SupEnd {
+                    reason: Reason::Shutdown,
+                    cause: Cause::Intensity {
+                        flags: self.flags(),
+                        stamps,
+                    },
+                }
             }
-            Ending::Significant(number) => SupEnd { reason: Reason::Shutdown, cause: Cause::Significant(number) },
-            Ending::Asked => SupEnd { reason: Reason::Shutdown, cause: Cause::Asked },
-            Ending::InitFailed(id) => SupEnd { reason: init_failed(id), cause: Cause::InitFailed(id) },
+            Ending::Significant(number) => SupEnd {
+                reason: Reason::Shutdown,
+                cause: Cause::Significant(number),
+            },
+            Ending::Asked => SupEnd {
+                reason: Reason::Shutdown,
+                cause: Cause::Asked,
+            },
+            Ending::InitFailed(id) => SupEnd {
+                reason: init_failed(id),
+                cause: Cause::InitFailed(id),
+            },
         }
     }
 

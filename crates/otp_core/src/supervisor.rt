@@ -17,7 +17,7 @@ use crate::lists::{find_reply, has_late, move_orders};
 use crate::machine::Machine;
 use crate::opening::{OpenFault, check_open, copy_specs};
 use crate::rows::is_over;
-use otp_rules::{CountsNow, Effect, Event, Phase, Reply, laws};
+use otp_rules::{CountsNow, Effect, Event, Kind, Phase, Reply, laws};
 use otp_spec::{ChildSpec, SupFlags};
 use otp_table::Rows;
 use otp_window::Window;
@@ -83,7 +83,11 @@ impl Core {
             spare_lines: Vec::new(alloc),
             spare_stamps: Vec::new(alloc),
         };
-        Ok(Core { machine, history: Vec::new(alloc), prepared: false })
+        Ok(Core {
+            machine,
+            history: Vec::new(alloc),
+            prepared: false,
+        })
     }
 
     /// Whether the memory of the next event is there.
@@ -195,6 +199,13 @@ impl Core {
         self.history.reserve(1)?;
         self.prepared = true;
         Ok(())
+    }
+
+    /// Whether such an event needs a number: it starts a child. Takes no memory and changes nothing.
+    pub fn needs_number(&self, reading: u64, kind: &Kind) -> bool
+        ensures { result ≡ needs_number (state_of self.now) reading kind.now }
+    {
+        self.machine.needs_number(reading, kind)
     }
 
     /// One event, with a number exactly where it starts a child (`needs_number`), greater than each earlier one.

@@ -1,7 +1,7 @@
 -- Counting rows and numbers.
-use Rattle.std.specs.Prelude.{◌≡◌, ℕ, ◌==◌, ◌+◌, ◌-◌, ◌≤◌, ◌<◌, ◌++◌, ◌||◌, Bool, true, false, List, [], ◌∷◌, Option, None, Some, refl, if◌then◌else◌, not, position, is_some, slice_get, slice_set, nat_le, nat_lt, length, remove, map, reverse, take, drop, count_by}
+use Rattle.std.specs.Prelude.{◌≡◌, ℕ, ◌==◌, ◌+◌, ◌≤◌, ◌<◌, ◌++◌, ◌||◌, Bool, true, false, List, [], ◌∷◌, Option, None, Some, refl, if◌then◌else◌, not, position, is_some, slice_get, slice_set, nat_le, nat_lt, length, remove, map, reverse, take, drop, count_by}
 use Rattle.std.specs.List.{list_any, cons_option, position_or_len}
-use Rattle.std.proofs.Common.{◌∙◌, ap, sym, subst, arith, cond, get_or, suc}
+use Rattle.std.proofs.Common.{◌∙◌, ap, sym, subst, arith, cond, get_or}
 use Rattle.std.proofs.lemmas.Bool.{cond_both, false≢true, ltb-false, eq-eqb, eqb-true}
 use Rattle.std.proofs.lemmas.List.Quantifiers.{position-Some}
 use Rattle.std.proofs.lemmas.List.Sums.{sum_by-append, sum_by-cons, sum_by-set, sum_by-remove, sum_by-take-drop, sum_by-take-le}
@@ -18,8 +18,9 @@ use Rattle.otp_rules.specs.Places.{at_place, at_found, at_row, end_row, end_proc
 use Rattle.otp_rules.specs.Restarts.{running}
 use Rattle.otp_rules.specs.Stops.{is_exit, without, told, tell_row, tell, use_exit, stop_each}
 use Rattle.otp_rules.specs.Step.{killed, late_by, late_number, tick}
-use Rattle.otp_rules.proofs.Decisions.{at_number-survives, by_test, is_told, AtPassing}
+use Rattle.otp_rules.proofs.Decisions.{StandsAt, at_number-survives, by_test, is_told, AtPassing}
 use Rattle.std.proofs.lemmas.List.Sorted.{sum_by-IsPermutation, IsPermutation-reverse}
+use Prim.Native.Nat.{suc}
 use Rattle.otp_rules.specs.declared.event.Waiting.TheVariants as waiting
 
 -- the process runs under this number, and nothing is asked of it
@@ -78,11 +79,11 @@ pub rows_in-end : (t : RowState → Bool) → t Undefined ≡ false → (place :
 unfolding end_row
 rows_in-end t none place row o h =
     elim (is_removed row) as (λ b. rows_in t (if b then with_rows (remove o.state.rows place) o else set_row place row Undefined o).state.rows + cond (t row.state) 1 0 ≡ rows_in t o.state.rows) [
-      true ↦ remove_count (row_has t) o.state.rows place row h
-    | false ↦
-        let e : rows_in t (slice_set o.state.rows place (with_state Undefined row)) + cond (t row.state) 1 0 ≡ rows_in t o.state.rows + cond (t Undefined) 1 0 = rows_in-set t place row Undefined o.state.rows h in
-        let z : ◌≡◌ {A = ℕ} (cond (t Undefined) 1 0) 0 = ap (λ (b : Bool). cond b 1 0) none in
-        omega (arith, e, z)
+      | true ↦ remove_count (row_has t) o.state.rows place row h
+      | false ↦
+          let e : rows_in t (slice_set o.state.rows place (with_state Undefined row)) + cond (t row.state) 1 0 ≡ rows_in t o.state.rows + cond (t Undefined) 1 0 = rows_in-set t place row Undefined o.state.rows h in
+          let z : ◌≡◌ {A = ℕ} (cond (t Undefined) 1 0) 0 = ap (λ (b : Bool). cond b 1 0) none in
+          omega (arith, e, z)
     ]
 
 -- the work, the phase and the flags are the same
@@ -211,9 +212,9 @@ none_in t [] h = refl
 none_in t (row ∷ rows) h =
     rows_in-cons t row rows
     ∙ (elim (t row.state) as (λ b. (b || list_any (row_has t) rows) ≡ false → cond b 1 0 + rows_in t rows ≡ 0) [
-        true ↦ λ k. absurd (false≢true (sym k))
+      | true ↦ λ k. absurd (false≢true (sym k))
       | false ↦ λ k. let rest : rows_in t rows ≡ 0 = none_in t rows k in omega (arith, rest)
-      ]) h
+    ]) h
 
 -- nothing passes where no first place is found
 none_there : {X : Type 0} (t : X → Bool) (xs : List X) → length xs ≤ position_or_len t xs → count_by t xs ≡ 0
@@ -221,9 +222,9 @@ none_there t [] h = refl
 none_there t (x ∷ xs) h =
     sum_by-cons (λ y. cond (t y) 1 0) x xs
     ∙ (elim (t x) as (λ b. suc (length xs) ≤ cond (not b) (1 + position_or_len t xs) 0 → cond b 1 0 + count_by t xs ≡ 0) [
-        true ↦ λ k. absurd (omega (arith, k))
+      | true ↦ λ k. absurd (omega (arith, k))
       | false ↦ λ k. let rest : count_by t xs ≡ 0 = none_there t xs (omega (arith, k)) in omega (arith, rest)
-      ]) h
+    ]) h
 
 -- what is there is found
 pub found : {X : Type 0} (t : X → Bool) (xs : List X) → 0 < count_by t xs → is_some (position t xs) ≡ true
@@ -236,13 +237,13 @@ found t xs h =
 pub there : {X : Type 0} (t : X → Bool) (xs : List X) (d : X) → is_some (position t xs) ≡ true → 0 < count_by t xs
 there t xs d h =
     (elim (position t xs) as (λ (x : Option ℕ). position t xs ≡ x → is_some x ≡ true → 0 < count_by t xs) [
-        None ↦ λ e k. absurd (false≢true k)
+      | None ↦ λ e k. absurd (false≢true k)
       | Some i ↦ λ e k.
           let at : (i < length xs) × (t (get_or xs i d) ≡ true) × ((j : ℕ) → j < i → t (get_or xs j d) ≡ false) = position-Some t xs i d e in
           let one : ◌≡◌ {A = ℕ} (cond (t (get_or xs i d)) 1 0) 1 = ap (λ (b : Bool). cond b 1 0) at.1 in
           let less : count_by t (remove xs i) + cond (t (get_or xs i d)) 1 0 ≡ count_by t xs = sum_by-remove (λ x. cond (t x) 1 0) xs i d at.0 in
           omega (arith, one, less)
-      ]) refl h
+    ]) refl h
 
 no_row : (test : Row → Bool) (rows : List Row) (i : ℕ) → position test rows ≡ Some i → slice_get rows i ≡ None → ⊥
 no_row test [] i e n = let no : ◌≡◌ {A = Option ℕ} None (Some i) = e in cc
@@ -256,13 +257,13 @@ pub at_row-found : (P : Outcome → Type 0) (test : Row → Bool) (missing : Out
 unfolding at_row at_found at_place
 at_row-found P test missing f o some h =
     (elim (position test o.state.rows) as (λ (x : Option ℕ). position test o.state.rows ≡ x → is_some x ≡ true → P (at_found missing f x o)) [
-        None ↦ λ e k. absurd (false≢true k)
+      | None ↦ λ e k. absurd (false≢true k)
       | Some i ↦ λ e k.
           (elim (slice_get o.state.rows i) as (λ (r : Option Row). slice_get o.state.rows i ≡ r → P (at_place f i r o)) [
-              None ↦ λ n. absurd (no_row test o.state.rows i e n)
+            | None ↦ λ n. absurd (no_row test o.state.rows i e n)
             | Some row ↦ λ at. h i row at (ap (λ (r : Row). test r) (sym (get_or_from_slice_get o.state.rows i row row at)) ∙ (position-Some test o.state.rows i row e).1)
-            ]) refl
-      ]) refl (found test o.state.rows some)
+          ]) refl
+    ]) refl (found test o.state.rows some)
 
 -- a row's end changes neither what waits nor the orders
 pub end_row-quiet : (place : ℕ) (row : Row) (o : Outcome) → ((end_row place row o).state.waiting ≡ o.state.waiting) × ((end_row place row o).orders ≡ o.orders)
@@ -280,13 +281,27 @@ use_exit-quiet p place o =
 pub without_count : (q : ℕ) (t : Waiting → Bool) (ws : List Waiting) → count_by (is_exit q) (without ws (position t ws)) ≤ count_by (is_exit q) ws
 without_count q t ws =
     (elim (position t ws) as (λ (x : Option ℕ). position t ws ≡ x → count_by (is_exit q) (without ws x) ≤ count_by (is_exit q) ws) [
-        None ↦ λ e. omega arith
+      | None ↦ λ e. omega arith
       | Some i ↦ λ e.
           let d : Waiting = waiting.Retry 0 in
           let at : (i < length ws) × (t (get_or ws i d) ≡ true) × ((j : ℕ) → j < i → t (get_or ws j d) ≡ false) = position-Some t ws i d e in
           let less : count_by (is_exit q) (remove ws i) + cond (is_exit q (get_or ws i d)) 1 0 ≡ count_by (is_exit q) ws = sum_by-remove (λ x. cond (is_exit q x) 1 0) ws i d at.0 in
           omega (arith, less)
-      ]) refl
+    ]) refl
 
 pub put_count : (q : ℕ) (ws : List Waiting) (w : Waiting) → count_by (is_exit q) (ws ++ w ∷ []) ≡ count_by (is_exit q) ws + cond (is_exit q w) 1 0
 put_count q ws w = let a : count_by (is_exit q) (ws ++ w ∷ []) ≡ count_by (is_exit q) ws + count_by (is_exit q) (w ∷ []) = sum_by-append (λ x. cond (is_exit q x) 1 0) ws (w ∷ []) in omega (arith, a, sum_by-cons (λ x. cond (is_exit q x) 1 0) w [])
+
+-- the same, and it is the first
+pub at_row-first : (P : Outcome → Type 0) (test : Row → Bool) (missing : Outcome) (f : ℕ → Row → Outcome → Outcome) (o : Outcome) → 0 < count_by test o.state.rows
+    → ((place : ℕ) (row : Row) → position test o.state.rows ≡ Some place → StandsAt place row o → P (f place row o)) → P (at_row test missing f o)
+unfolding at_row at_found at_place
+at_row-first P test missing f o some h =
+    (elim (position test o.state.rows) as (λ (x : Option ℕ). position test o.state.rows ≡ x → is_some x ≡ true → P (at_found missing f x o)) [
+      | None ↦ λ e k. absurd (false≢true k)
+      | Some i ↦ λ e k.
+          (elim (slice_get o.state.rows i) as (λ (r : Option Row). slice_get o.state.rows i ≡ r → P (at_place f i r o)) [
+            | None ↦ λ n. absurd (no_row test o.state.rows i e n)
+            | Some row ↦ λ at. h i row e at
+          ]) refl
+    ]) refl (found test o.state.rows some)

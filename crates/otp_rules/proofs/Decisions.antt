@@ -347,7 +347,7 @@ unfolding terminate_process terminate_process_at
 terminate_process-survives k b P s c p o idle runs x =
     by_test P (is_simple o.state.flags.strategy) _ _
     (λ _. at_row-survives P (row_has (has_number p)) _ (terminate_process_at c) o (s.answered c (reply.Refused fault.NotFound) o x) x
-        (λ place row at h. terminate_process_in-survives k b P s c place row row.state o refl idle runs at x))
+    (λ place row at h. terminate_process_in-survives k b P s c place row row.state o refl idle runs at x))
     (λ _. s.answered c (reply.Refused fault.NotFound) o x)
 
 get_shared-survives : (k : Kind) (b : Bool) (P : Outcome → Type 0) → Survives k b P → (c : ℕ) (id : Name) (spec : Option ChildSpec) (o : Outcome) → P o → P (get_shared c id spec o)

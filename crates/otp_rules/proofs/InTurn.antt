@@ -1,12 +1,11 @@
 -- The law of the stop order, along every history.
-use Rattle.std.specs.Prelude.{◌≡◌, ◌⊎◌, ℕ, ◌==◌, ◌+◌, ◌-◌, ◌≤◌, ◌<◌, ◌++◌, ◌&&◌, Bool, true, false, List, [], ◌∷◌, Option, None, Some, All, refl, if◌then◌else◌, not, position, is_some, slice_set, nat_lt, unwrap_or, count_by}
+use Rattle.std.specs.Prelude.{◌≡◌, ◌⊎◌, ℕ, ◌==◌, ◌+◌, ◌≤◌, ◌<◌, ◌++◌, ◌&&◌, Bool, true, false, List, [], ◌∷◌, Option, None, Some, All, refl, if◌then◌else◌, not, position, is_some, slice_set, nat_lt, unwrap_or, count_by}
 use Rattle.std.specs.List.{list_any, filter_map}
 use Rattle.std.proofs.Common.{◌∙◌, ap, sym, subst, inl, inr, arith, ⊎_elim, cond}
 use Rattle.std.proofs.lemmas.Bool.{cond_both, false≢true, cases_Bool, eq-eqb, eqb-true}
 use Rattle.std.proofs.lemmas.List.Elements.{All-nil, All-push, All-cons, All-append}
 use Rattle.std.proofs.lemmas.List.{append_assoc}
 use Rattle.otp_reason.specs.declared.name.Name.{Name}
-use Rattle.otp_reason.specs.declared.note.Note.{Note}
 use Rattle.otp_spec.specs.declared.child.Shutdown.{Shutdown}
 use Rattle.otp_spec.specs.declared.child.Shutdown.TheVariants.{BrutalKill, Milliseconds, Infinity}
 use Rattle.otp_table.specs.declared.row.Row.{Row}
@@ -14,12 +13,10 @@ use Rattle.otp_table.specs.declared.row.RowState.{RowState}
 use Rattle.otp_table.specs.declared.row.RowState.TheVariants.{Undefined, Starting, Up, Asked, Killed, Restarting}
 use Rattle.otp_table.specs.Rows.{has_process, is_awaited, row_has, with_state}
 use Rattle.otp_window.specs.Period.{in_period}
-use Rattle.otp_rules.specs.declared.call.Call.{Call}
 use Rattle.otp_rules.specs.declared.call.Reply.{Reply}
 use Rattle.otp_rules.specs.declared.ending.Ending.{Ending}
 use Rattle.otp_rules.specs.declared.event.Effect.{Effect}
 use Rattle.otp_rules.specs.declared.event.Event.{Event}
-use Rattle.otp_rules.specs.declared.event.Item.{Item}
 use Rattle.otp_rules.specs.declared.event.Kind.{Kind}
 use Rattle.otp_rules.specs.declared.event.Waiting.{Waiting}
 use Rattle.otp_rules.specs.declared.work.Due.{Due}
@@ -32,7 +29,7 @@ use Rattle.otp_rules.specs.Deaths.{restart_rows, restart_or_end, restart}
 use Rattle.otp_rules.specs.Step.{open_with, open_rows, decide, stamped, step, step_on}
 use Rattle.otp_rules.specs.Run.{empty_state, state_after}
 use Rattle.otp_rules.proofs.Decisions.{IsIdle, Survives, at_row-survives, by_test, decide-survives, is_told}
-use Rattle.otp_rules.proofs.Counting.{rows_in, times, times-cons, times-append, rows_in-set, rows_in-at, end_row-alike, use_exit-alike, stop_each-alike, told-told, runs_as, none_in, found, there, at_row-found, end_row-quiet, use_exit-quiet, without_count}
+use Rattle.otp_rules.proofs.Counting.{rows_in, times, times-cons, times-append, rows_in-set, rows_in-at, end_row-alike, use_exit-alike, stop_each-alike, told-told, runs_as, none_in, there, at_row-found, end_row-quiet, use_exit-quiet, without_count}
 use Rattle.otp_rules.specs.Order.{Progress, no_progress, is_end, ends_together, decided, seen, gave, progress, IsIn, StopsInTurn, IsStopInTurn, StopOrder}
 use Rattle.otp_rules.proofs.Sound.{IsSound, IsReady, advance-sound, empty-sound, sound-survives, used-ready}
 use Rattle.otp_rules.proofs.Stopping.{HasWaiting, HasStops, Keeps, apart-alike, decided-keeps, no_after, not_busy}
@@ -86,22 +83,31 @@ abbrev InTurn : Progress → Type 0 → Outcome → Type 0
 InTurn g A o = Keeps o.state g × (A → All (IsStopInTurn g) o.orders)
 
 -- what has been popped from the stop list has ended
-abbrev HasDone : Progress → List ℕ → Outcome → Type 0
+abbrev pub HasDone : Progress → List ℕ → Outcome → Type 0
 HasDone g ps o = ends_together o.state ≡ false → (done : List ℕ) × (g.stops ≡ done ++ ps) × ((q : ℕ) → IsIn q done → IsIn q g.ended)
 
 ordered-in-turn : (g : Progress) (A : Type 0) (due : Due) (dues : List Due) (n : ℕ) (o : Outcome) → IsReady [] o → HasWaiting o.state g → HasDone g [] o → (A → All (IsStopInTurn g) o.orders) → InTurn g A (start due n (with_work o.state.to_stop dues o.state.follows o))
 unfolding start start_row
 ordered-in-turn g A due dues n o r w d all =
     let left : Outcome = with_work o.state.to_stop dues o.state.follows o in
-    let kept : Keeps left.state g = λ busy. (w, λ apart.
+    let kept : Keeps left.state g = λ busy. (
+      w,
+      λ apart.
           let part : (done : List ℕ) × (g.stops ≡ done ++ []) × ((q : ℕ) → IsIn q done → IsIn q g.ended) = d apart in
-          (part.0, part.1 ∙ ap (λ (xs : List ℕ). part.0 ++ xs) (sym r.2), λ q i. inl (part.2 q i))) in
+          (part.0, part.1 ∙ ap (λ (xs : List ℕ). part.0 ++ xs) (sym r.2), λ q i. inl (part.2 q i)),
+    ) in
     let emitted : (x : Outcome) → InTurn g A x → InTurn g A (emit (effect.Start due.id n) x) = λ x h. (h.0, λ a. All-push (IsStopInTurn g) x.orders (effect.Start due.id n) (h.1 a) tt) in
     emitted (at_row (is_due due) left (start_row due n) left)
     (at_row-survives (InTurn g A) (is_due due) left (start_row due n) left (kept, all) (kept, all)
-        (λ i row at h. ((λ busy. (w, λ apart.
+    (λ i row at h. (
+      (λ busy. (
+        w,
+        λ apart.
             let part : (done : List ℕ) × (g.stops ≡ done ++ []) × ((q : ℕ) → IsIn q done → IsIn q g.ended) = d apart in
-            (part.0, part.1 ∙ ap (λ (xs : List ℕ). part.0 ++ xs) (sym r.2), λ q i. inl (part.2 q i)))), all)))
+            (part.0, part.1 ∙ ap (λ (xs : List ℕ). part.0 ++ xs) (sym r.2), λ q i. inl (part.2 q i)),
+      )),
+      all,
+    )))
 
 start_first-in-turn : (g : Progress) (A : Type 0) (dues : List Due) (n : ℕ) (o : Outcome) → IsReady [] o → HasWaiting o.state g → HasDone g [] o → (A → All (IsStopInTurn g) o.orders) → InTurn g A (start_first dues n o)
 unfolding start_first
@@ -132,7 +138,7 @@ stands p ps o r =
     let t : times p o.state.to_stop ≡ times p (p ∷ ps) = ap (λ (xs : List ℕ). times p xs) r.2 in
     let one : ◌≡◌ {A = ℕ} (cond (p == p) 1 0) 1 = ap (λ (x : Bool). cond x 1 0) (eq-eqb p p refl) in
     let more : rows_in (runs_as p) o.state.rows ≤ rows_in (has_process p) o.state.rows =
-        sum_by-le-sum_by (λ (row : Row). cond (runs_as p row.state) 1 0) (λ (row : Row). cond (has_process p row.state) 1 0) o.state.rows (λ row. runs_has row.state) in
+    sum_by-le-sum_by (λ (row : Row). cond (runs_as p row.state) 1 0) (λ (row : Row). cond (has_process p row.state) 1 0) o.state.rows (λ row. runs_has row.state) in
     omega (arith, times-cons p p ps, t, one, r.0.1 p, more)
   where
     runs_has : (state : RowState) → cond (runs_as p state) 1 0 ≤ cond (has_process p state) 1 0
@@ -148,19 +154,40 @@ unfolding tell tell_row at_number
 told-in-turn g A p ps o r w d all =
     let left : Outcome = with_work ps o.state.to_start o.state.follows o in
     let apart : ends_together o.state ≡ false =
-        ⊎_elim (λ yes. absurd (let k : p ∷ ps ≡ [] = sym r.2 ∙ r.0.5 yes in cc)) (λ no. no) (cases_Bool (ends_together o.state)) in
+    ⊎_elim (λ yes. absurd (let k : p ∷ ps ≡ [] = sym r.2 ∙ r.0.5 yes in cc)) (λ no. no) (cases_Bool (ends_together o.state)) in
     let part : (done : List ℕ) × (g.stops ≡ done ++ p ∷ ps) × ((q : ℕ) → IsIn q done → IsIn q g.ended) = d apart in
     at_row-found (InTurn g A) (row_has (has_process p)) left (tell_row p) left (stands p ps o r)
     (λ i row at h.
-        let now : RowState = told o.state.last p row.spec.shutdown in
-        let e : rows_in (is_told p) (slice_set o.state.rows i (with_state now row)) + cond (is_told p row.state) 1 0 ≡ rows_in (is_told p) o.state.rows + cond (is_told p now) 1 0 = rows_in-set (is_told p) i row now o.state.rows at in
-        let one : ◌≡◌ {A = ℕ} (cond (is_told p now) 1 0) 1 = ap (λ (x : Bool). cond x 1 0) (told-told o.state.last p row.spec.shutdown) in
-        let here : 0 < rows_in (is_told p) (slice_set o.state.rows i (with_state now row)) = omega (arith, e, one, rows_in-at (is_told p) i row o.state.rows at) in
-        (
-          λ busy. (w, λ _. (part.0 ++ p ∷ [], longer g p ps part.0 part.1, λ q j.
-              ⊎_elim (λ x. inl (part.2 q x)) (λ same. inr (subst (λ (n : ℕ). 0 < rows_in (is_told n) (slice_set o.state.rows i (with_state now row))) same here)) (in_longer q p part.0 j))),
-          λ a. All-push (IsStopInTurn g) o.orders (stop_order row.id p row.spec.shutdown) (all a) (turn g p row.id row.spec.shutdown (part.0, ps, part.1, part.2))
-        ))
+    let now : RowState = told o.state.last p row.spec.shutdown in
+    let e : rows_in (is_told p) (slice_set o.state.rows i (with_state now row)) + cond (is_told p row.state) 1 0 ≡ rows_in (is_told p) o.state.rows + cond (is_told p now) 1 0 = rows_in-set (is_told p) i row now o.state.rows at in
+    let one : ◌≡◌ {A = ℕ} (cond (is_told p now) 1 0) 1 = ap (λ (x : Bool). cond x 1 0) (told-told o.state.last p row.spec.shutdown) in
+    let here : 0 < rows_in (is_told p) (slice_set o.state.rows i (with_state now row)) = omega (arith, e, one, rows_in-at (is_told p) i row o.state.rows at) in (
+      λ busy. (
+        w,
+        λ _. (
+          part.0 ++ p ∷ [],
+          longer g p ps part.0 part.1,
+          λ q j.
+              ⊎_elim (λ x. inl (part.2 q x)) (λ same. inr (subst (λ (n : ℕ). 0 < rows_in (is_told n) (slice_set o.state.rows i (with_state now row))) same here)) (in_longer q p part.0 j),
+        ),
+      ),
+      λ a. All-push (IsStopInTurn g) o.orders (stop_order row.id p row.spec.shutdown) (all a) (turn g p row.id row.spec.shutdown (part.0, ps, part.1, part.2)),
+    ))
+
+-- an Exit that waited is used
+pub used-waits : (g : Progress) (p : ℕ) (ps : List ℕ) (o : Outcome) → HasWaiting o.state g → HasWaiting (use_exit p (position (is_exit p) o.state.waiting) (with_work ps o.state.to_start o.state.follows o)).state g
+used-waits g p ps o w q h =
+    let left : Outcome = with_work ps o.state.to_start o.state.follows o in
+    let place : Option ℕ = position (is_exit p) o.state.waiting in
+    let less : count_by (is_exit q) (without o.state.waiting place) ≤ count_by (is_exit q) o.state.waiting = without_count q (is_exit p) o.state.waiting in
+    let here : count_by (is_exit q) (use_exit p place left).state.waiting ≡ count_by (is_exit q) (without o.state.waiting place) = ap (λ (ws : List Waiting). count_by (is_exit q) ws) (use_exit-quiet p place left).0 in
+    w q (omega (arith, h, less, here))
+
+pub used-done : (g : Progress) (p : ℕ) (ps : List ℕ) (place : Option ℕ) (o : Outcome) → IsIn p g.ended → HasDone g (p ∷ ps) o → HasDone g ps (use_exit p place (with_work ps o.state.to_start o.state.follows o))
+used-done g p ps place o ended d apart =
+    let left : Outcome = with_work ps o.state.to_start o.state.follows o in
+    let part : (done : List ℕ) × (g.stops ≡ done ++ p ∷ ps) × ((q : ℕ) → IsIn q done → IsIn q g.ended) = d (sym (apart-alike (use_exit p place left) left (use_exit-alike p place left)) ∙ apart) in
+    (part.0 ++ p ∷ [], longer g p ps part.0 part.1, λ q i. ⊎_elim (λ x. part.2 q x) (λ same. subst (λ (m : ℕ). IsIn m g.ended) same ended) (in_longer q p part.0 i))
 
 stop_first-in-turn : (g : Progress) (A : Type 0) (ps : List ℕ) (n : ℕ) (o : Outcome) → IsReady ps o → HasWaiting o.state g → HasDone g ps o → (A → All (IsStopInTurn g) o.orders) → InTurn g A (stop_first ps n o)
 unfolding stop_first
@@ -171,25 +198,28 @@ stop_first-in-turn g A (p ∷ ps) n o r w d all =
     let used : Outcome = use_exit p place left in
     by_test (InTurn g A) (is_some place) (stop_first ps n used) (tell p left)
     (λ waits.
-        let quiet : (used.state.waiting ≡ without o.state.waiting place) × (used.orders ≡ o.orders) = use_exit-quiet p place left in
-        let ended : IsIn p g.ended = w p (there (is_exit p) o.state.waiting (waiting.Retry 0) waits) in
-        stop_first-in-turn g A ps n used (used-ready p ps place o r)
-        (λ q h. w q (
-            let less : count_by (is_exit q) (without o.state.waiting place) ≤ count_by (is_exit q) o.state.waiting = without_count q (is_exit p) o.state.waiting in
-            let here : count_by (is_exit q) used.state.waiting ≡ count_by (is_exit q) (without o.state.waiting place) = ap (λ (ws : List Waiting). count_by (is_exit q) ws) quiet.0 in
-            omega (arith, h, less, here)))
-        (λ apart.
-            let part : (done : List ℕ) × (g.stops ≡ done ++ p ∷ ps) × ((q : ℕ) → IsIn q done → IsIn q g.ended) = d (sym (apart-alike used left (use_exit-alike p place left)) ∙ apart) in
-            (part.0 ++ p ∷ [], longer g p ps part.0 part.1, λ q i.
-                ⊎_elim (λ x. part.2 q x) (λ same. subst (λ (m : ℕ). IsIn m g.ended) same ended) (in_longer q p part.0 i)))
-        (λ a. subst (λ (xs : List Effect). All (IsStopInTurn g) xs) (sym quiet.1) (all a)))
+    let quiet : (used.state.waiting ≡ without o.state.waiting place) × (used.orders ≡ o.orders) = use_exit-quiet p place left in
+    let ended : IsIn p g.ended = w p (there (is_exit p) o.state.waiting (waiting.Retry 0) waits) in
+    stop_first-in-turn g A ps n used (used-ready p ps place o r)
+    (λ q h. w q (
+    let less : count_by (is_exit q) (without o.state.waiting place) ≤ count_by (is_exit q) o.state.waiting = without_count q (is_exit p) o.state.waiting in
+    let here : count_by (is_exit q) used.state.waiting ≡ count_by (is_exit q) (without o.state.waiting place) = ap (λ (ws : List Waiting). count_by (is_exit q) ws) quiet.0 in
+    omega (arith, h, less, here)))
+    (λ apart.
+    let part : (done : List ℕ) × (g.stops ≡ done ++ p ∷ ps) × ((q : ℕ) → IsIn q done → IsIn q g.ended) = d (sym (apart-alike used left (use_exit-alike p place left)) ∙ apart) in (
+      part.0 ++ p ∷ [],
+      longer g p ps part.0 part.1,
+      λ q i.
+          ⊎_elim (λ x. part.2 q x) (λ same. subst (λ (m : ℕ). IsIn m g.ended) same ended) (in_longer q p part.0 i),
+    ))
+    (λ a. subst (λ (xs : List Effect). All (IsStopInTurn g) xs) (sym quiet.1) (all a)))
     (λ _. told-in-turn g A p ps o r w d all)
 
 -- where nothing is awaited, those that were told have ended
-none_told : (q : ℕ) (rows : List Row) → rows_in is_awaited rows ≡ 0 → 0 < rows_in (is_told q) rows → ⊥
+pub none_told : (q : ℕ) (rows : List Row) → rows_in is_awaited rows ≡ 0 → 0 < rows_in (is_told q) rows → ⊥
 none_told q rows none some =
     let more : rows_in (is_told q) rows ≤ rows_in is_awaited rows =
-        sum_by-le-sum_by (λ (row : Row). cond (is_told q row.state) 1 0) (λ (row : Row). cond (is_awaited row.state) 1 0) rows (λ row. told_awaits row.state) in
+    sum_by-le-sum_by (λ (row : Row). cond (is_told q row.state) 1 0) (λ (row : Row). cond (is_awaited row.state) 1 0) rows (λ row. told_awaits row.state) in
     omega (arith, none, some, more)
   where
     told_awaits : (state : RowState) → cond (is_told q state) 1 0 ≤ cond (is_awaited state) 1 0
@@ -206,14 +236,14 @@ advance-in-turn g A n o sound keeps all =
     let go : Outcome = stop_first o.state.to_stop n o in
     by_test (InTurn g A) (is_busy o) (if list_any (row_has is_awaited) o.state.rows then o else go) o
     (λ busy. by_test (InTurn g A) (list_any (row_has is_awaited) o.state.rows) o go (λ _. (keeps, all))
-        (λ none.
-            let zero : rows_in is_awaited o.state.rows ≡ 0 = none_in is_awaited o.state.rows none in
-            let had : HasWaiting o.state g × HasStops o.state g = keeps busy in
-            stop_first-in-turn g A o.state.to_stop n o (sound, zero, refl, busy) had.0
-            (λ apart.
-                let part : (done : List ℕ) × (g.stops ≡ done ++ o.state.to_stop) × ((q : ℕ) → IsIn q done → IsIn q g.ended ⊎ (0 < rows_in (is_told q) o.state.rows)) = had.1 apart in
-                (part.0, part.1, λ q i. ⊎_elim (λ x. x) (λ x. absurd (none_told q o.state.rows zero x)) (part.2 q i)))
-            all))
+    (λ none.
+    let zero : rows_in is_awaited o.state.rows ≡ 0 = none_in is_awaited o.state.rows none in
+    let had : HasWaiting o.state g × HasStops o.state g = keeps busy in
+    stop_first-in-turn g A o.state.to_stop n o (sound, zero, refl, busy) had.0
+    (λ apart.
+    let part : (done : List ℕ) × (g.stops ≡ done ++ o.state.to_stop) × ((q : ℕ) → IsIn q done → IsIn q g.ended ⊎ (0 < rows_in (is_told q) o.state.rows)) = had.1 apart in
+    (part.0, part.1, λ q i. ⊎_elim (λ x. x) (λ x. absurd (none_told q o.state.rows zero x)) (part.2 q i)))
+    all))
     (λ _. (keeps, all))
 
 -- the decision itself stops nobody, but at a deadline and where dynamic children end together
@@ -272,10 +302,10 @@ quiet-survives k b =
       exit_waits = λ p r o noted x. (s.exit_waits p r o noted x.0, x.1);
       up = λ p place row q kept o at is same noted x. (s.up p place row q kept o at is same noted x.0, x.1);
       up_closed = λ p place row q kept c o at is same follows x.
-        (s.up_closed p place row q kept c o at is same follows x.0, λ not _ g. x.1 not (⊎_elim (λ y. follows_apart (Some (after.Added c)) o refl y) (λ y. follows_apart (Some (after.Restarted c)) o refl y) follows) g);
+          (s.up_closed p place row q kept c o at is same follows x.0, λ not _ g. x.1 not (⊎_elim (λ y. follows_apart (Some (after.Added c)) o refl y) (λ y. follows_apart (Some (after.Restarted c)) o refl y) follows) g);
       ignored = λ p place row q kept o at is same noted x. (s.ignored p place row q kept o at is same noted x.0, end_row-quiet-in k place row o x.1);
       opening_failed = λ place row q kept o runs at is follows x.
-        (s.opening_failed place row q kept o runs at is follows x.0, terminate-quiet k (ending.InitFailed row.spec.id) (set_row place row Undefined o) (λ not g. x.1 not (follows_apart (Some after.Ready) o refl follows) g));
+          (s.opening_failed place row q kept o runs at is follows x.0, terminate-quiet k (ending.InitFailed row.spec.id) (set_row place row Undefined o) (λ not g. x.1 not (follows_apart (Some after.Ready) o refl follows) g));
       restart_failed = λ place row q kept o at is follows x. (s.restart_failed place row q kept o at is follows x.0, λ not _ g. x.1 not (follows_apart (Some after.Nothing) o refl follows) g);
       added_failed = λ place row q kept c o at is follows x. (s.added_failed place row q kept c o at is follows x.0, λ not _ g. x.1 not (follows_apart (Some (after.Added c)) o refl follows) g);
       restarted_failed = λ place row q kept c o at is follows x. (s.restarted_failed place row q kept c o at is follows x.0, λ not _ g. x.1 not (follows_apart (Some (after.Restarted c)) o refl follows) g);
@@ -307,7 +337,7 @@ step-in-turn s e g sound keeps not apart =
     let start : Outcome = record { state = stamped e.reading s; orders = [] } in
     let after_it : IsSound (decided s e) × Keeps (decided s e) (seen s e g) = decided-keeps s e g sound keeps in
     let quiet : IsSound (decided s e) × QuietIn e.kind (decide e.kind start) =
-        decide-survives e.kind (λ o. IsSound o.state × QuietIn e.kind o) start (quiet-survives e.kind (is_some s.follows)) (sound, λ _ _ x. All-nil (IsStopInTurn x)) in
+    decide-survives e.kind (λ o. IsSound o.state × QuietIn e.kind o) start (quiet-survives e.kind (is_some s.follows)) (sound, λ _ _ x. All-nil (IsStopInTurn x)) in
     (advance-in-turn (seen s e g) (Unit {0}) (unwrap_or e.number 0) (decide e.kind start) after_it.0 after_it.1 (λ _. quiet.1 not apart (seen s e g))).1 tt
 
 run-keeps : (s : State) (g : Progress) (es : List Event) → IsSound s → Keeps s g → IsSound (state_after s es) × Keeps (state_after s es) (progress s g es)
@@ -319,5 +349,5 @@ run-keeps s g (e ∷ es) sound keeps =
 pub stop_order_law : StopOrder
 stop_order_law flags specs events e not apart =
     let now : IsSound (state_after (empty_state flags specs) events) × Keeps (state_after (empty_state flags specs) events) (progress (empty_state flags specs) no_progress events) =
-        run-keeps (empty_state flags specs) no_progress events (empty-sound flags specs) (not_busy (empty_state flags specs) no_progress refl) in
+    run-keeps (empty_state flags specs) no_progress events (empty-sound flags specs) (not_busy (empty_state flags specs) no_progress refl) in
     step-in-turn (state_after (empty_state flags specs) events) e (progress (empty_state flags specs) no_progress events) now.0 now.1 not apart

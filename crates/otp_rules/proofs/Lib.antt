@@ -7,3 +7,11 @@ pub mod Appended
 pub mod Counting
 pub mod Sound
 pub mod NeedsWork
+pub mod Stopping
+pub mod InTurn
+pub mod Numbers
+pub mod Fits
+pub mod Fitted
+pub mod Starting
+pub mod StartTurn
+mod WorkedLaws

@@ -306,7 +306,7 @@ quiet_kills now (row ∷ rows) =
     elim (late_number now row.state) as (λ late. list_any is_start (cons_option (kill_order row late) kills) ≡ false) [ None ↦ rest | Some p ↦ rest ]
 
 -- what an event decides on orders no start
-decide-quiet : (k : Kind) (b : Bool) → Survives k b (λ o. Starts false o)
+pub decide-quiet : (k : Kind) (b : Bool) → Survives k b (λ o. Starts false o)
 unfolding open_rows open_with tick
 decide-quiet k b =
     record {

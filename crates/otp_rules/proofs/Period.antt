@@ -16,10 +16,10 @@ counts-later : (period t u s : ℕ) → s ≤ t → t ≤ u → cond (counts per
 counts-later period t u s h k =
     cond_both (counts period u s) 1 0 (λ x. x ≤ cond (counts period t s) 1 0)
     (λ e.
-        let near : u - s ≤ 1000 * period = leb-true _ _ (and_parts _ _ e).1 in
-        let here : nat_le s t ≡ true = le-leb s t h in
-        let still : nat_le (t - s) (1000 * period) ≡ true = le-leb _ _ (omega arith) in
-        rw (here, still) (omega arith))
+    let near : u - s ≤ 1000 * period = leb-true _ _ (and_parts _ _ e).1 in
+    let here : nat_le s t ≡ true = le-leb s t h in
+    let still : nat_le (t - s) (1000 * period) ≡ true = le-leb _ _ (omega arith) in
+    rw (here, still) (omega arith))
     (λ e. omega arith)
 
 later : (period t u : ℕ) (stamps : List ℕ) → All (λ s. s ≤ t) stamps → t ≤ u → in_period period stamps u ≤ in_period period stamps t

@@ -1,7 +1,6 @@
 -- The law of the restart rate, along every history.
-use Rattle.std.specs.Prelude.{◌≡◌, ℕ, ◌+◌, ◌≤◌, ◌++◌, Bool, true, false, List, [], ◌∷◌, Option, None, Some, All, refl, if◌then◌else◌, position, is_some, slice_get, nat_lt, remove, unwrap_or}
+use Rattle.std.specs.Prelude.{◌≡◌, ℕ, ◌≤◌, ◌++◌, Bool, true, false, List, [], ◌∷◌, Option, None, Some, All, refl, if◌then◌else◌, position, is_some, slice_get, nat_lt, remove, unwrap_or}
 use Rattle.std.specs.List.{list_any}
-use Rattle.std.specs.Ordering.{on}
 use Rattle.std.proofs.Common.{◌∙◌, ap, sym, subst, inl, inr, arith}
 use Rattle.std.proofs.lemmas.Bool.{cond_both, false≢true, ltb-false}
 use Rattle.std.proofs.lemmas.List.Elements.{All-nil, All-push}
@@ -20,7 +19,7 @@ use Rattle.otp_rules.specs.declared.work.Phase.TheVariants.{Ended}
 use Rattle.otp_rules.specs.State.{Outcome, State, answer, closed, is_busy, is_over, is_simple, own_number, put_last, with_rows, with_stamps, with_waiting, with_work}
 use Rattle.otp_rules.specs.Places.{at_place, at_found, at_row, at_number, end_row, end_process, is_removed, set_row}
 use Rattle.otp_rules.specs.Restarts.{dues, running}
-use Rattle.otp_rules.specs.Stops.{is_exit, without, told, tell_row, tell, use_exit, is_due, start_row, start, refuse_all, end_all, follow, start_first, stop_first, advance, stop_each, terminate_ordered, terminate_together, terminate}
+use Rattle.otp_rules.specs.Stops.{is_exit, without, tell_row, tell, use_exit, is_due, start_row, start, refuse_all, end_all, follow, start_first, stop_first, advance, stop_each, terminate_ordered, terminate_together, terminate}
 use Rattle.otp_rules.specs.Deaths.{restart_rows, restart_or_end, restart}
 use Rattle.otp_rules.specs.Calls.{new_row}
 use Rattle.otp_rules.specs.Step.{open_with, open_rows, tick, decide, stamped, step_on, step}
@@ -213,13 +212,13 @@ survives k b =
       exit_waits = λ p r o noted g. g;
       up = λ p place row q kept o at is same noted g. g;
       up_closed = λ p place row q kept c o at is same f g.
-        elim f as (λ _. Good (closed (set_row place row (Up p) o))) [
-          inl e ↦ closes o (closed (set_row place row (Up p) o)) (after.Added c) e (λ k. cc) (refl, refl, refl) g
-        | inr e ↦ closes o (closed (set_row place row (Up p) o)) (after.Restarted c) e (λ k. cc) (refl, refl, refl) g
-        ];
+          elim f as (λ _. Good (closed (set_row place row (Up p) o))) [
+            | inl e ↦ closes o (closed (set_row place row (Up p) o)) (after.Added c) e (λ k. cc) (refl, refl, refl) g
+            | inr e ↦ closes o (closed (set_row place row (Up p) o)) (after.Restarted c) e (λ k. cc) (refl, refl, refl) g
+          ];
       ignored = λ p place row q kept o at is same noted g. good-calm (end_row place row o) o (end_row-calm place row o) g;
       opening_failed = λ place row q kept o runs at is e g.
-        ends-good (ending.InitFailed row.spec.id) (set_row place row Undefined o) (bounded o (not_ending o.state after.Ready e (λ k. cc)) g.1) g;
+          ends-good (ending.InitFailed row.spec.id) (set_row place row Undefined o) (bounded o (not_ending o.state after.Ready e (λ k. cc)) g.1) g;
       restart_failed = λ place row q kept o at is e g. closes o (closed (put_last (waiting.Retry kept) (set_row place row (Restarting kept) o))) after.Nothing e (λ k. cc) (refl, refl, refl) g;
       added_failed = λ place row q kept c o at is e g. closes o (closed (with_rows (remove o.state.rows place) o)) (after.Added c) e (λ k. cc) (refl, refl, refl) g;
       restarted_failed = λ place row q kept c o at is e g. closes o (closed (set_row place row Undefined o)) (after.Restarted c) e (λ k. cc) (refl, refl, refl) g;

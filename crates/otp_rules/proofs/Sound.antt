@@ -1,7 +1,6 @@
 -- What the open work awaits, and that what it is to stop is there.
 use Rattle.std.specs.Prelude.{◌≡◌, ◌⊎◌, ℕ, ◌==◌, ◌+◌, ◌-◌, ◌≤◌, ◌++◌, ◌&&◌, Bool, true, false, List, [], ◌∷◌, Option, None, Some, refl, if◌then◌else◌, position, is_some, slice_set, slice_range, nat_lt, length, remove, unwrap_or, map, reverse, take, drop}
 use Rattle.std.specs.List.{list_any}
-use Rattle.std.specs.Ordering.{on}
 use Rattle.std.proofs.Common.{◌∙◌, ap, sym, subst, inl, inr, arith, cond}
 use Rattle.std.proofs.lemmas.Bool.{cond_both, false≢true, and_parts}
 use Rattle.otp_spec.specs.declared.child.ChildSpec.{ChildSpec}
@@ -20,7 +19,7 @@ use Rattle.otp_rules.specs.State.{Outcome, State, answer, closed, is_busy, is_ov
 use Rattle.otp_rules.specs.Places.{end_row, end_process, set_row}
 use Rattle.otp_rules.specs.Restarts.{affected_from, affected_to, dues, running}
 use Rattle.otp_rules.specs.Stops.{calm_all, is_exit, without, told, tell_row, tell, use_exit, is_due, start_row, start, refuse_all, end_all, follow, start_first, stop_first, advance, stop_each, terminate_ordered, terminate_together, terminate}
-use Rattle.otp_rules.specs.Deaths.{restart_rows, restart_or_end, restart, retry}
+use Rattle.otp_rules.specs.Deaths.{restart_rows, restart_or_end, restart}
 use Rattle.otp_rules.specs.Calls.{new_row}
 use Rattle.otp_rules.specs.Step.{row_of, open_with, open_rows, opening_specs, tick}
 use Rattle.otp_rules.specs.Run.{empty_state}
@@ -89,19 +88,18 @@ ended-sound : (place : ℕ) (row : Row) (o : Outcome) → StandsAt place row o �
 ended-sound place row o at loose g =
     let same : Alike (end_row place row o) o = end_row-alike place row o in
     let fewer : rows_in is_awaited (end_row place row o).state.rows ≤ rows_in is_awaited o.state.rows =
-        (let e : rows_in is_awaited (end_row place row o).state.rows + cond (is_awaited row.state) 1 0 ≡ rows_in is_awaited o.state.rows = rows_in-end is_awaited refl place row o at in omega (arith, e)) in
-    (
+    (let e : rows_in is_awaited (end_row place row o).state.rows + cond (is_awaited row.state) 1 0 ≡ rows_in is_awaited o.state.rows = rows_in-end is_awaited refl place row o at in omega (arith, e)) in (
       subst (λ (f : Option After). IsLimited f (rows_in is_awaited (end_row place row o).state.rows)) (sym same.4)
-        (limited-less o.state.follows _ _ fewer g.0),
+          (limited-less o.state.follows _ _ fewer g.0),
       λ q.
-        let e : rows_in (runs_as q) (end_row place row o).state.rows + cond (runs_as q row.state) 1 0 ≡ rows_in (runs_as q) o.state.rows = rows_in-end (runs_as q) refl place row o at in
-        let z : ◌≡◌ {A = ℕ} (cond (runs_as q row.state) 1 0) 0 = ap (λ (b : Bool). cond b 1 0) (loose q) in
-        let t : times q (end_row place row o).state.to_stop ≡ times q o.state.to_stop = ap (λ (ps : List ℕ). times q ps) same.2 in
-        omega (arith, e, z, t, g.1 q),
+          let e : rows_in (runs_as q) (end_row place row o).state.rows + cond (runs_as q row.state) 1 0 ≡ rows_in (runs_as q) o.state.rows = rows_in-end (runs_as q) refl place row o at in
+          let z : ◌≡◌ {A = ℕ} (cond (runs_as q row.state) 1 0) 0 = ap (λ (b : Bool). cond b 1 0) (loose q) in
+          let t : times q (end_row place row o).state.to_stop ≡ times q o.state.to_stop = ap (λ (ps : List ℕ). times q ps) same.2 in
+          omega (arith, e, z, t, g.1 q),
       λ idle. let k : (o.state.to_stop ≡ []) × (o.state.to_start ≡ []) = g.2 (sym (ap (λ (f : Option After). is_some f) same.4) ∙ idle) in (same.2 ∙ k.0, same.3 ∙ k.1),
       λ over. ap (λ (f : Option After). is_some f) same.4 ∙ g.3 (sym (ap is_over same.1) ∙ over),
       λ e. same.3 ∙ g.4 (sym (ap is_end same.4) ∙ e),
-      λ e. same.2 ∙ g.5 (sym (ap (λ (f : Option After). is_end f && is_simple (end_row place row o).state.flags.strategy) same.4 ∙ ap (λ (x : SupFlags). is_end o.state.follows && is_simple x.strategy) same.0) ∙ e)
+      λ e. same.2 ∙ g.5 (sym (ap (λ (f : Option After). is_end f && is_simple (end_row place row o).state.flags.strategy) same.4 ∙ ap (λ (x : SupFlags). is_end o.state.follows && is_simple x.strategy) same.0) ∙ e),
     )
 
 -- what the open work may await is there: a change of rows that awaits less and has what is to stop
@@ -121,24 +119,23 @@ unfolding terminate terminate_together terminate_ordered
 terminate-sound e o runs =
     by_test (λ x. IsSound x.state) (is_simple o.state.flags.strategy) (terminate_together e o) (terminate_ordered e o)
     (λ _.
-        let opened : Outcome = calm_all (with_work [] [] (Some (after.End e)) o) in
-        let same : Alike (stop_each (running o.state.rows) opened) opened = stop_each-alike (running o.state.rows) opened in
-        (
-          subst (λ (f : Option After). IsLimited f (rows_in is_awaited (stop_each (running o.state.rows) opened).state.rows)) (sym same.4) tt,
-          covered-none (stop_each (running o.state.rows) opened).state.to_stop (stop_each (running o.state.rows) opened).state.rows same.2,
-          λ idle. absurd (false≢true (sym idle ∙ ap (λ (f : Option After). is_some f) same.4)),
-          λ over. absurd (false≢true (sym runs ∙ sym (ap is_over same.1) ∙ over)),
-          λ _. same.3,
-          λ _. same.2
-        ))
+    let opened : Outcome = calm_all (with_work [] [] (Some (after.End e)) o) in
+    let same : Alike (stop_each (running o.state.rows) opened) opened = stop_each-alike (running o.state.rows) opened in (
+      subst (λ (f : Option After). IsLimited f (rows_in is_awaited (stop_each (running o.state.rows) opened).state.rows)) (sym same.4) tt,
+      covered-none (stop_each (running o.state.rows) opened).state.to_stop (stop_each (running o.state.rows) opened).state.rows same.2,
+      λ idle. absurd (false≢true (sym idle ∙ ap (λ (f : Option After). is_some f) same.4)),
+      λ over. absurd (false≢true (sym runs ∙ sym (ap is_over same.1) ∙ over)),
+      λ _. same.3,
+      λ _. same.2,
+    ))
     (λ plain. (
-          tt,
-          λ q. omega (arith, times-reverse q (running o.state.rows), running_counted q o.state.rows),
-          λ idle. absurd (false≢true (sym idle)),
-          λ over. absurd (false≢true (sym runs ∙ over)),
-          λ _. refl,
-          λ simple. absurd (false≢true (sym plain ∙ simple))
-        ))
+      tt,
+      λ q. omega (arith, times-reverse q (running o.state.rows), running_counted q o.state.rows),
+      λ idle. absurd (false≢true (sym idle)),
+      λ over. absurd (false≢true (sym runs ∙ over)),
+      λ _. refl,
+      λ simple. absurd (false≢true (sym plain ∙ simple)),
+    ))
 
 restart_rows-sound : (from to place k : ℕ) (o : Outcome) → IsRunning o → rows_in is_awaited o.state.rows ≡ 0 → IsSound (restart_rows from to place k o).state
 unfolding restart_rows
@@ -146,15 +143,14 @@ restart_rows-sound from to place k o runs none =
     let rows : List Row = o.state.rows in
     let part : List Row = slice_range o.state.rows from to in
     let split : (t : RowState → Bool) → rows_in t (take from rows ++ calm_rows part ++ drop to rows) ≡ rows_in t (take from rows) + rows_in t (calm_rows part) + rows_in t (drop to rows) =
-        λ t. omega (arith, rows_in-append t (take from rows ++ calm_rows part) (drop to rows), rows_in-append t (take from rows) (calm_rows part)) in
-    let inside : rows_in is_awaited part ≤ rows_in is_awaited rows = (let a : rows_in is_awaited part ≤ rows_in is_awaited (drop from rows) = take_rows is_awaited (to - from) (drop from rows) in omega (arith, a, drop_rows is_awaited from rows)) in
-    (
+    λ t. omega (arith, rows_in-append t (take from rows ++ calm_rows part) (drop to rows), rows_in-append t (take from rows) (calm_rows part)) in
+    let inside : rows_in is_awaited part ≤ rows_in is_awaited rows = (let a : rows_in is_awaited part ≤ rows_in is_awaited (drop from rows) = take_rows is_awaited (to - from) (drop from rows) in omega (arith, a, drop_rows is_awaited from rows)) in (
       (let calmer : rows_in is_awaited (calm_rows part) ≡ rows_in is_awaited part = calm_awaited part in omega (arith, split is_awaited, take_rows is_awaited from rows, drop_rows is_awaited to rows, inside, calmer, none)),
       (λ q. let e : times q (reverse (running part)) ≡ times q (running part) = times-reverse q (running part) in omega (arith, split (runs_as q), e, running_counted q part)),
       λ idle. absurd (false≢true (sym idle)),
       λ over. absurd (false≢true (sym runs ∙ over)),
       λ e. absurd (false≢true e),
-      λ e. absurd (false≢true e)
+      λ e. absurd (false≢true e),
     )
 
 -- a row whose child runs or waits for a retry has no process from now on
@@ -170,7 +166,7 @@ restart-sound b p place row o idle runs at g =
     (restart_rows (affected_from o.state.flags.strategy place) (affected_to o.state.flags.strategy place (length counted.state.rows)) place p counted)
     (λ _. terminate-sound ending.Intensity counted runs)
     (λ _. restart_rows-sound (affected_from o.state.flags.strategy place) (affected_to o.state.flags.strategy place (length counted.state.rows)) place p counted runs
-        (omega (arith, awaits_nothing b o idle g, down-awaited p place row o at)))
+    (omega (arith, awaits_nothing b o idle g, down-awaited p place row o at)))
 
 -- work that doesn't end the supervisor awaits one answer at most
 at_most : (f : After) (n : ℕ) → is_end (Some f) ≡ false → IsLimited (Some f) n → n ≤ 1
@@ -188,15 +184,14 @@ answered-closes f place row q kept rows o is stays at starts e g =
     let limit : rows_in is_awaited o.state.rows ≤ 1 = at_most f (rows_in is_awaited o.state.rows) stays (subst (λ (x : Option After). IsLimited x (rows_in is_awaited o.state.rows)) is g.0) in
     closed-sound (with_rows rows o) (omega (arith, e, one, limit))
 
-
 up-sound : (p place : ℕ) (row : Row) (q kept : ℕ) (o : Outcome) → StandsAt place row o → row.state ≡ Starting q kept → IsSound o.state → IsSound (set_row place row (Up p) o).state
 up-sound p place row q kept o at is g =
     let e : (t : RowState → Bool) → rows_in t (slice_set o.state.rows place (with_state (Up p) row)) + cond (t row.state) 1 0 ≡ rows_in t o.state.rows + cond (t (Up p)) 1 0 = λ t. rows_in-set t place row (Up p) o.state.rows at in
     changed-sound (slice_set o.state.rows place (with_state (Up p) row)) o
     (omega (arith, e is_awaited))
     (λ x.
-        let z : ◌≡◌ {A = ℕ} (cond (runs_as x row.state) 1 0) 0 = ap (λ (s : RowState). cond (runs_as x s) 1 0) is in
-        omega (arith, e (runs_as x), z, g.1 x))
+    let z : ◌≡◌ {A = ℕ} (cond (runs_as x row.state) 1 0) 0 = ap (λ (s : RowState). cond (runs_as x s) 1 0) is in
+    omega (arith, e (runs_as x), z, g.1 x))
     g
 
 ticked : (o : Outcome) (rows : List Row) → (tick o).state ≡ (with_rows rows o).state → rows_in is_awaited rows ≡ rows_in is_awaited o.state.rows → ((q : ℕ) → rows_in (runs_as q) rows ≡ rows_in (runs_as q) o.state.rows) → IsSound o.state → IsSound (tick o).state
@@ -233,8 +228,8 @@ stops_child-sound b c p place row o idle runs at (inl awaits) g =
 stops_child-sound b c p place row o idle runs at (inr up) g =
     opened-sound b (p ∷ []) [] (after.Stopped c) o.state.rows o idle runs refl (omega arith)
     (λ q.
-        let e : ◌≡◌ {A = ℕ} (cond (runs_as q row.state) 1 0) (cond (p == q) 1 0) = ap (λ (s : RowState). cond (runs_as q s) 1 0) up in
-        omega (arith, times-cons q p [], e, rows_in-at (runs_as q) place row o.state.rows at))
+    let e : ◌≡◌ {A = ℕ} (cond (runs_as q row.state) 1 0) (cond (p == q) 1 0) = ap (λ (s : RowState). cond (runs_as q s) 1 0) up in
+    omega (arith, times-cons q p [], e, rows_in-at (runs_as q) place row o.state.rows at))
     g
 
 answer-sound : (c : ℕ) (r : Reply) (o : Outcome) → IsSound o.state → IsSound (answer c r o).state
@@ -261,40 +256,39 @@ sound-survives k b =
       exit_waits = λ p r o noted g. g;
       up = λ p place row q kept o at is same noted g. up-sound p place row q kept o at is g;
       up_closed = λ p place row q kept c o at is same f g.
-        let e : rows_in is_awaited (slice_set o.state.rows place (with_state (Up p) row)) + cond (is_awaited row.state) 1 0 ≡ rows_in is_awaited o.state.rows + 0 = rows_in-set is_awaited place row (Up p) o.state.rows at in
-        elim f as (λ _. IsSound (closed (set_row place row (Up p) o)).state) [
-          inl h ↦ answered-closes (after.Added c) place row q kept (slice_set o.state.rows place (with_state (Up p) row)) o h refl at is e g
-        | inr h ↦ answered-closes (after.Restarted c) place row q kept (slice_set o.state.rows place (with_state (Up p) row)) o h refl at is e g
-        ];
+          let e : rows_in is_awaited (slice_set o.state.rows place (with_state (Up p) row)) + cond (is_awaited row.state) 1 0 ≡ rows_in is_awaited o.state.rows + 0 = rows_in-set is_awaited place row (Up p) o.state.rows at in
+          elim f as (λ _. IsSound (closed (set_row place row (Up p) o)).state) [
+            | inl h ↦ answered-closes (after.Added c) place row q kept (slice_set o.state.rows place (with_state (Up p) row)) o h refl at is e g
+            | inr h ↦ answered-closes (after.Restarted c) place row q kept (slice_set o.state.rows place (with_state (Up p) row)) o h refl at is e g
+          ];
       ignored = λ p place row q kept o at is same noted g. ended-sound place row o at (λ x. ap (λ (s : RowState). runs_as x s) is) g;
       opening_failed = λ place row q kept o runs at is f g. terminate-sound (ending.InitFailed row.spec.id) (set_row place row Undefined o) runs;
       restart_failed = λ place row q kept o at is f g.
-        answered-closes after.Nothing place row q kept (slice_set o.state.rows place (with_state (Restarting kept) row)) o f refl at is (rows_in-set is_awaited place row (Restarting kept) o.state.rows at) g;
+          answered-closes after.Nothing place row q kept (slice_set o.state.rows place (with_state (Restarting kept) row)) o f refl at is (rows_in-set is_awaited place row (Restarting kept) o.state.rows at) g;
       added_failed = λ place row q kept c o at is f g.
-        answered-closes (after.Added c) place row q kept (remove o.state.rows place) o f refl at is (let e : rows_in is_awaited (remove o.state.rows place) + cond (is_awaited row.state) 1 0 ≡ rows_in is_awaited o.state.rows = remove_count (row_has is_awaited) o.state.rows place row at in omega (arith, e)) g;
+          answered-closes (after.Added c) place row q kept (remove o.state.rows place) o f refl at is (let e : rows_in is_awaited (remove o.state.rows place) + cond (is_awaited row.state) 1 0 ≡ rows_in is_awaited o.state.rows = remove_count (row_has is_awaited) o.state.rows place row at in omega (arith, e)) g;
       restarted_failed = λ place row q kept c o at is f g.
-        answered-closes (after.Restarted c) place row q kept (slice_set o.state.rows place (with_state Undefined row)) o f refl at is (rows_in-set is_awaited place row Undefined o.state.rows at) g;
+          answered-closes (after.Restarted c) place row q kept (slice_set o.state.rows place (with_state Undefined row)) o f refl at is (rows_in-set is_awaited place row Undefined o.state.rows at) g;
       stopped = λ p r place row o at h noted g. ended-sound place row o at (λ q. told-loose p q row.state h) g;
       died = λ p place row o idle runs at is g.
-        let same : Alike (end_row place row o) o = end_row-alike place row o in
-        let e : rows_in is_awaited (end_row place row o).state.rows + cond (is_awaited row.state) 1 0 ≡ rows_in is_awaited o.state.rows = rows_in-end is_awaited refl place row o at in
-        let none : rows_in is_awaited (end_row place row o).state.rows ≡ 0 = omega (arith, e, awaits_nothing b o idle g) in
-        (
-          subst (λ (f : Option After). IsLimited f (rows_in is_awaited (end_row place row o).state.rows)) (sym same.4) (limited-less o.state.follows _ _ (omega (arith, e)) g.0),
-          covered-none (end_row place row o).state.to_stop (end_row place row o).state.rows (same.2 ∙ (g.2 idle.1).0),
-          λ _. (same.2 ∙ (g.2 idle.1).0, same.3 ∙ (g.2 idle.1).1),
-          λ _. ap (λ (f : Option After). is_some f) same.4 ∙ idle.1,
-          λ _. same.3 ∙ (g.2 idle.1).1,
-          λ _. same.2 ∙ (g.2 idle.1).0
-        );
+          let same : Alike (end_row place row o) o = end_row-alike place row o in
+          let e : rows_in is_awaited (end_row place row o).state.rows + cond (is_awaited row.state) 1 0 ≡ rows_in is_awaited o.state.rows = rows_in-end is_awaited refl place row o at in
+          let none : rows_in is_awaited (end_row place row o).state.rows ≡ 0 = omega (arith, e, awaits_nothing b o idle g) in (
+            subst (λ (f : Option After). IsLimited f (rows_in is_awaited (end_row place row o).state.rows)) (sym same.4) (limited-less o.state.follows _ _ (omega (arith, e)) g.0),
+            covered-none (end_row place row o).state.to_stop (end_row place row o).state.rows (same.2 ∙ (g.2 idle.1).0),
+            λ _. (same.2 ∙ (g.2 idle.1).0, same.3 ∙ (g.2 idle.1).1),
+            λ _. ap (λ (f : Option After). is_some f) same.4 ∙ idle.1,
+            λ _. same.3 ∙ (g.2 idle.1).1,
+            λ _. same.2 ∙ (g.2 idle.1).0,
+          );
       restarts = λ p place row o idle runs at h g. restart-sound b p place row o idle runs at g;
       ends = λ e o idle runs g. terminate-sound e o runs;
       ticks = λ o is g. tick-sound o g;
       opens = λ own o link over g. open-sound own o;
       adds = λ c id spec o idle runs named g.
-        opened-sound b [] (record { id = id; kept = None } ∷ []) (after.Added c) (o.state.rows ++ new_row id spec ∷ []) o idle runs refl
-        (omega (arith, rows_in-append is_awaited o.state.rows (new_row id spec ∷ []), rows_in-cons is_awaited (new_row id spec) []))
-        (λ q. omega arith) g;
+          opened-sound b [] (record { id = id; kept = None } ∷ []) (after.Added c) (o.state.rows ++ new_row id spec ∷ []) o idle runs refl
+          (omega (arith, rows_in-append is_awaited o.state.rows (new_row id spec ∷ []), rows_in-cons is_awaited (new_row id spec) []))
+          (λ q. omega arith) g;
       starts_again = λ c id place row o idle runs at h is g. opened-sound b [] (record { id = Some id; kept = None } ∷ []) (after.Restarted c) o.state.rows o idle runs refl (omega arith) (λ q. omega arith) g;
       removed = λ place row o idle runs at h g. idle-sound b (remove o.state.rows place) o idle (less_removed place row o at) g;
       given_up = λ place row o idle runs at h g. idle-sound b (slice_set o.state.rows place (with_state Undefined row)) o idle (down-awaited 0 place row o at) g;
@@ -308,14 +302,13 @@ IsReady ps o = IsSound o.state × (rows_in is_awaited o.state.rows ≡ 0) × (o.
 -- one process less is to be stopped
 popped-sound : (p : ℕ) (ps : List ℕ) (o : Outcome) → IsReady (p ∷ ps) o → IsSound (with_work ps o.state.to_start o.state.follows o).state
 popped-sound p ps o r =
-    let g : IsSound o.state = r.0 in
-    (
+    let g : IsSound o.state = r.0 in (
       g.0,
       (λ q. let e : times q o.state.to_stop ≡ times q (p ∷ ps) = ap (λ (xs : List ℕ). times q xs) r.2 in omega (arith, times-cons q p ps, e, g.1 q)),
       (λ idle. absurd (false≢true (sym idle ∙ r.3))),
       g.3,
       g.4,
-      λ e. let k : p ∷ ps ≡ [] = sym r.2 ∙ g.5 e in cc
+      λ e. let k : p ∷ ps ≡ [] = sym r.2 ∙ g.5 e in cc,
     )
 
 -- what is still to be stopped is there when a row of this process changes
@@ -333,23 +326,24 @@ used-ready p ps place o r =
     let start : IsReady ps left = (popped-sound p ps o r, r.1, refl, r.3) in
     at_number-survives (IsReady ps) p end_row left start
     (λ i row at h.
-        let same : Alike (end_row i row left) left = end_row-alike i row left in
-        let e : (q : ℕ) → rows_in (runs_as q) (end_row i row left).state.rows + cond (runs_as q row.state) 1 0 ≡ rows_in (runs_as q) left.state.rows = λ q. rows_in-end (runs_as q) refl i row left at in
-        let a : rows_in is_awaited (end_row i row left).state.rows + cond (is_awaited row.state) 1 0 ≡ rows_in is_awaited left.state.rows = rows_in-end is_awaited refl i row left at in
-        let none : rows_in is_awaited (end_row i row left).state.rows ≡ 0 = omega (arith, a, r.1) in
-        let busy : is_some (end_row i row left).state.follows ≡ true = ap (λ (f : Option After). is_some f) same.4 ∙ r.3 in
-        let there : IsCovered ps (end_row i row left).state.rows = popped-covered p ps i row o (end_row i row left).state.rows r h e in
-        (
-          (
-            limited-one (end_row i row left).state.follows (rows_in is_awaited (end_row i row left).state.rows) busy (omega (arith, none)),
-            (λ q. let t : times q (end_row i row left).state.to_stop ≡ times q ps = ap (λ (xs : List ℕ). times q xs) same.2 in omega (arith, t, there q)),
-            (λ idle. absurd (false≢true (sym idle ∙ busy))),
-            (λ over. absurd (false≢true (sym (start.0.3 (sym (ap is_over same.1) ∙ over)) ∙ r.3))),
-            (λ x. same.3 ∙ start.0.4 (sym (ap is_end same.4) ∙ x)),
-            λ x. same.2 ∙ start.0.5 (sym (ap (λ (f : Option After). is_end f && is_simple (end_row i row left).state.flags.strategy) same.4 ∙ ap (λ (y : SupFlags). is_end left.state.follows && is_simple y.strategy) same.0) ∙ x)
-          ),
-          none, same.2, busy
-        ))
+    let same : Alike (end_row i row left) left = end_row-alike i row left in
+    let e : (q : ℕ) → rows_in (runs_as q) (end_row i row left).state.rows + cond (runs_as q row.state) 1 0 ≡ rows_in (runs_as q) left.state.rows = λ q. rows_in-end (runs_as q) refl i row left at in
+    let a : rows_in is_awaited (end_row i row left).state.rows + cond (is_awaited row.state) 1 0 ≡ rows_in is_awaited left.state.rows = rows_in-end is_awaited refl i row left at in
+    let none : rows_in is_awaited (end_row i row left).state.rows ≡ 0 = omega (arith, a, r.1) in
+    let busy : is_some (end_row i row left).state.follows ≡ true = ap (λ (f : Option After). is_some f) same.4 ∙ r.3 in
+    let there : IsCovered ps (end_row i row left).state.rows = popped-covered p ps i row o (end_row i row left).state.rows r h e in (
+      (
+        limited-one (end_row i row left).state.follows (rows_in is_awaited (end_row i row left).state.rows) busy (omega (arith, none)),
+        (λ q. let t : times q (end_row i row left).state.to_stop ≡ times q ps = ap (λ (xs : List ℕ). times q xs) same.2 in omega (arith, t, there q)),
+        (λ idle. absurd (false≢true (sym idle ∙ busy))),
+        (λ over. absurd (false≢true (sym (start.0.3 (sym (ap is_over same.1) ∙ over)) ∙ r.3))),
+        (λ x. same.3 ∙ start.0.4 (sym (ap is_end same.4) ∙ x)),
+        λ x. same.2 ∙ start.0.5 (sym (ap (λ (f : Option After). is_end f && is_simple (end_row i row left).state.flags.strategy) same.4 ∙ ap (λ (y : SupFlags). is_end left.state.follows && is_simple y.strategy) same.0) ∙ x),
+      ),
+      none,
+      same.2,
+      busy,
+    ))
 
 -- the next process is told to stop
 told-sound : (p : ℕ) (ps : List ℕ) (o : Outcome) → IsReady (p ∷ ps) o → IsSound (tell p (with_work ps o.state.to_start o.state.follows o)).state
@@ -358,18 +352,20 @@ told-sound p ps o r =
     let left : Outcome = with_work ps o.state.to_start o.state.follows o in
     at_number-survives (λ x. IsSound x.state) p (tell_row p) left (popped-sound p ps o r)
     (λ i row at h.
-        let now : RowState = told o.state.last p row.spec.shutdown in
-        let e : (t : RowState → Bool) → rows_in t (slice_set o.state.rows i (with_state now row)) + cond (t row.state) 1 0 ≡ rows_in t o.state.rows + cond (t now) 1 0 = λ t. rows_in-set t i row now o.state.rows at in
-        let one : (x : Bool) → cond x 1 0 ≤ 1 = λ x. cond_both x 1 0 (λ n. n ≤ 1) (λ _. omega arith) (λ _. omega arith) in
-        let g : IsSound left.state = popped-sound p ps o r in
-        (
-          limited-one o.state.follows (rows_in is_awaited (slice_set o.state.rows i (with_state now row))) r.3 (omega (arith, e is_awaited, r.1, one (is_awaited now))),
-          popped-covered p ps i row o (slice_set o.state.rows i (with_state now row)) r h
-            (λ q.
-                let z : ◌≡◌ {A = ℕ} (cond (runs_as q now) 1 0) 0 = ap (λ (b : Bool). cond b 1 0) (told-runs o.state.last p q row.spec.shutdown) in
-                omega (arith, e (runs_as q), z)),
-          g.2, g.3, g.4, g.5
-        ))
+    let now : RowState = told o.state.last p row.spec.shutdown in
+    let e : (t : RowState → Bool) → rows_in t (slice_set o.state.rows i (with_state now row)) + cond (t row.state) 1 0 ≡ rows_in t o.state.rows + cond (t now) 1 0 = λ t. rows_in-set t i row now o.state.rows at in
+    let one : (x : Bool) → cond x 1 0 ≤ 1 = λ x. cond_both x 1 0 (λ n. n ≤ 1) (λ _. omega arith) (λ _. omega arith) in
+    let g : IsSound left.state = popped-sound p ps o r in (
+      limited-one o.state.follows (rows_in is_awaited (slice_set o.state.rows i (with_state now row))) r.3 (omega (arith, e is_awaited, r.1, one (is_awaited now))),
+      popped-covered p ps i row o (slice_set o.state.rows i (with_state now row)) r h
+          (λ q.
+          let z : ◌≡◌ {A = ℕ} (cond (runs_as q now) 1 0) 0 = ap (λ (b : Bool). cond b 1 0) (told-runs o.state.last p q row.spec.shutdown) in
+          omega (arith, e (runs_as q), z)),
+      g.2,
+      g.3,
+      g.4,
+      g.5,
+    ))
 
 -- the next child is ordered to start
 ordered-sound : (due : Due) (dues : List Due) (n : ℕ) (o : Outcome) → o.state.to_start ≡ due ∷ dues → IsReady [] o → IsSound (start due n (with_work o.state.to_stop dues o.state.follows o)).state
@@ -381,13 +377,15 @@ ordered-sound due dues n o is r =
     let sound : IsSound left.state = (g.0, g.1, λ idle. absurd (false≢true (sym idle ∙ r.3)), g.3, λ e. absurd (stays e), g.5) in
     at_row-survives (λ x. IsSound x.state) (is_due due) left (start_row due n) left sound sound
     (λ i row at h.
-        let now : RowState = Starting n (unwrap_or due.kept n) in
-        let e : (t : RowState → Bool) → rows_in t (slice_set o.state.rows i (with_state now row)) + cond (t row.state) 1 0 ≡ rows_in t o.state.rows + cond (t now) 1 0 = λ t. rows_in-set t i row now o.state.rows at in
-        (
-          limited-one o.state.follows (rows_in is_awaited (slice_set o.state.rows i (with_state now row))) r.3 (omega (arith, e is_awaited, r.1)),
-          covered-none o.state.to_stop (slice_set o.state.rows i (with_state now row)) r.2,
-          sound.2, sound.3, sound.4, sound.5
-        ))
+    let now : RowState = Starting n (unwrap_or due.kept n) in
+    let e : (t : RowState → Bool) → rows_in t (slice_set o.state.rows i (with_state now row)) + cond (t row.state) 1 0 ≡ rows_in t o.state.rows + cond (t now) 1 0 = λ t. rows_in-set t i row now o.state.rows at in (
+      limited-one o.state.follows (rows_in is_awaited (slice_set o.state.rows i (with_state now row))) r.3 (omega (arith, e is_awaited, r.1)),
+      covered-none o.state.to_stop (slice_set o.state.rows i (with_state now row)) r.2,
+      sound.2,
+      sound.3,
+      sound.4,
+      sound.5,
+    ))
 
 follow-sound : (f : Option After) (o : Outcome) → rows_in is_awaited o.state.rows ≡ 0 → IsSound o.state → IsSound (follow f o).state
 unfolding follow end_all refuse_all answer
@@ -420,7 +418,7 @@ advance-sound n o g =
     let go : Outcome = stop_first o.state.to_stop n o in
     by_test (λ x. IsSound x.state) (is_busy o) (if list_any (row_has is_awaited) o.state.rows then o else go) o
     (λ busy. by_test (λ x. IsSound x.state) (list_any (row_has is_awaited) o.state.rows) o go (λ _. g)
-        (λ none. stop_first-sound o.state.to_stop n o (g, none_in is_awaited o.state.rows none, refl, busy)))
+    (λ none. stop_first-sound o.state.to_stop n o (g, none_in is_awaited o.state.rows none, refl, busy)))
     (λ _. g)
 
 pub empty-sound : (flags : SupFlags) (specs : List ChildSpec) → IsSound (empty_state flags specs)

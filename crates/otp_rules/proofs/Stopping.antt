@@ -1,35 +1,32 @@
 -- The open work and its progress are in step: what has been stopped.
-use Rattle.std.specs.Prelude.{◌≡◌, ◌⊎◌, ℕ, ◌==◌, ◌+◌, ◌-◌, ◌<◌, ◌++◌, ◌&&◌, Bool, true, false, List, [], ◌∷◌, Option, None, Some, refl, is_some, slice_set, nat_lt, remove, count_by}
+use Rattle.std.specs.Prelude.{◌≡◌, ◌⊎◌, ℕ, ◌==◌, ◌+◌, ◌<◌, ◌++◌, ◌&&◌, Bool, true, false, List, [], ◌∷◌, Option, None, Some, refl, is_some, slice_set, nat_lt, remove, count_by}
 use Rattle.std.specs.List.{filter_map, cons_option}
 use Rattle.std.proofs.Common.{◌∙◌, ap, sym, subst, inl, inr, arith, ⊎_elim, cond}
 use Rattle.std.proofs.lemmas.Bool.{cond_both, false≢true, cases_Bool, eq-eqb, eqb-true}
 use Rattle.std.proofs.lemmas.List.Sums.{sum_by-cons}
 use Rattle.otp_reason.specs.declared.reason.Reason.{Reason}
-use Rattle.otp_reason.specs.declared.note.Note.{Note}
 use Rattle.otp_spec.specs.declared.flags.SupFlags.{SupFlags}
 use Rattle.otp_table.specs.declared.row.Row.{Row}
 use Rattle.otp_table.specs.declared.row.RowState.{RowState}
 use Rattle.otp_table.specs.declared.row.RowState.TheVariants.{Undefined, Starting, Up, Asked, Killed, Restarting}
 use Rattle.otp_table.specs.Rows.{with_state}
 use Rattle.otp_window.specs.Period.{in_period}
-use Rattle.otp_rules.specs.declared.call.Call.{Call}
 use Rattle.otp_rules.specs.declared.call.Reply.{Reply}
 use Rattle.otp_rules.specs.declared.ending.Ending.{Ending}
 use Rattle.otp_rules.specs.declared.event.Event.{Event}
-use Rattle.otp_rules.specs.declared.event.Item.{Item}
 use Rattle.otp_rules.specs.declared.event.Kind.{Kind}
 use Rattle.otp_rules.specs.declared.event.Waiting.{Waiting}
 use Rattle.otp_rules.specs.declared.work.After.{After}
 use Rattle.otp_rules.specs.State.{Outcome, State, answer, closed, is_simple, put_last, with_rows, with_stamps, with_waiting, with_work}
 use Rattle.otp_rules.specs.Places.{end_row, set_row}
 use Rattle.otp_rules.specs.Restarts.{running}
-use Rattle.otp_rules.specs.Stops.{calm_all, is_exit, told, start, terminate_ordered, terminate_together, terminate}
+use Rattle.otp_rules.specs.Stops.{calm_all, is_exit, terminate_ordered, terminate_together, terminate}
 use Rattle.otp_rules.specs.Deaths.{restart_rows, restart_or_end, restart}
 use Rattle.otp_rules.specs.Calls.{new_row}
-use Rattle.otp_rules.specs.Step.{open_with, open_rows, tick, decide, stamped, step}
+use Rattle.otp_rules.specs.Step.{open_with, open_rows, tick, decide, stamped}
 use Rattle.otp_rules.proofs.Decisions.{IsNoted, StandsAt, Survives, by_test, decide-survives, is_told}
 use Rattle.otp_rules.proofs.Counting.{rows_in, times, times-cons, times-append, rows_in-set, rows_in-end, Alike, alike, end_row-alike, stop_each-alike, tick_count, end_row-quiet, put_count}
-use Rattle.otp_rules.specs.Order.{Progress, is_end, is_opened, ends_together, exit_of_waiting, ended_by, decided, opened_now, went_on, seen, progress, IsIn}
+use Rattle.otp_rules.specs.Order.{Progress, is_end, is_opened, ends_together, exit_of_waiting, ended_by, decided, opened_now, went_on, seen, IsIn}
 use Rattle.otp_rules.proofs.Sound.{IsSound, sound-survives}
 use Rattle.otp_reason.specs.declared.note.Note.TheVariants as note
 use Rattle.otp_rules.specs.declared.ending.Ending.TheVariants as ending
@@ -85,31 +82,28 @@ still-carried : (f : Option After) (g : Progress) (o new : Outcome) → Alike ne
     → (is_some o.state.follows ≡ true → (q : ℕ) → 0 < count_by (is_exit q) new.state.waiting → IsIn q g.ended ⊎ (0 < count_by (is_exit q) o.state.waiting))
     → (is_some o.state.follows ≡ true → (q : ℕ) → 0 < rows_in (is_told q) o.state.rows → IsIn q g.ended ⊎ (0 < rows_in (is_told q) new.state.rows))
     → Carried f g o → Carried f g new
-still-carried f g o new same sound hw hr c =
-    (
-      sound,
-      subst (λ (x : Option After). (x ≡ f) ⊎ ((x ≡ None) ⊎ (is_opened f x ≡ true))) (sym same.4) c.1,
-      λ no busy.
-        let open_too : is_some o.state.follows ≡ true = ap (λ (x : Option After). is_some x) (sym same.4) ∙ busy in
-        let had : HasWaiting o.state g × HasStops o.state g = c.2 (ap (λ (x : Option After). is_opened f x) (sym same.4) ∙ no) open_too in
-        (
-          λ q h. ⊎_elim (λ x. x) (λ x. had.0 q x) (hw open_too q h),
-          λ apart.
-            let part : (done : List ℕ) × (g.stops ≡ done ++ o.state.to_stop) × ((q : ℕ) → IsIn q done → IsIn q g.ended ⊎ (0 < rows_in (is_told q) o.state.rows)) = had.1 (sym (apart-alike new o same) ∙ apart) in
-            (
+still-carried f g o new same sound hw hr c = (
+  sound,
+  subst (λ (x : Option After). (x ≡ f) ⊎ ((x ≡ None) ⊎ (is_opened f x ≡ true))) (sym same.4) c.1,
+  λ no busy.
+      let open_too : is_some o.state.follows ≡ true = ap (λ (x : Option After). is_some x) (sym same.4) ∙ busy in
+      let had : HasWaiting o.state g × HasStops o.state g = c.2 (ap (λ (x : Option After). is_opened f x) (sym same.4) ∙ no) open_too in (
+        λ q h. ⊎_elim (λ x. x) (λ x. had.0 q x) (hw open_too q h),
+        λ apart.
+            let part : (done : List ℕ) × (g.stops ≡ done ++ o.state.to_stop) × ((q : ℕ) → IsIn q done → IsIn q g.ended ⊎ (0 < rows_in (is_told q) o.state.rows)) = had.1 (sym (apart-alike new o same) ∙ apart) in (
               part.0,
               part.1 ∙ ap (λ (xs : List ℕ). part.0 ++ xs) (sym same.2),
-              λ q i. ⊎_elim (λ x. inl x) (λ x. hr open_too q x) (part.2 q i)
-            )
-        )
-    )
+              λ q i. ⊎_elim (λ x. inl x) (λ x. hr open_too q x) (part.2 q i),
+            ),
+      ),
+)
 
 -- the event brings the Exit
 noted-in : (k : Kind) (b : Bool) (p : ℕ) (r : Reason) (o : Outcome) (g : Progress) → IsNoted k b (note.Exit p r) o → is_some o.state.follows ≡ true → IsIn p (went_on k g).ended
 noted-in k b p r o g (inl is) busy =
     subst (λ (x : Kind). IsIn p (g.ended ++ ended_by x)) (sym is)
     (let one : ◌≡◌ {A = ℕ} (cond (p == p) 1 0) 1 = ap (λ (x : Bool). cond x 1 0) (eq-eqb p p refl) in
-     omega (arith, times-append p g.ended (p ∷ []), times-cons p p [], one))
+    omega (arith, times-append p g.ended (p ∷ []), times-cons p p [], one))
 noted-in k b p r o g (inr idle) busy = absurd (false≢true (sym idle.1 ∙ busy))
 
 told_same : (p q : ℕ) (state : RowState) → is_told p state ≡ true → is_told q state ≡ true → q ≡ p
@@ -186,56 +180,56 @@ carried-survives k b f g is_base =
       answered = λ c r o x. answer-carried f k g1 c r o x (s.answered c r o x.0);
       taken = λ w ws o idle runs is x. idle-carried f g1 (with_waiting ws o) idle.1 (s.taken w ws o idle runs is x.0);
       call_waits = λ c call o x.
-        still-carried f g1 o (put_last (waiting.Item (item.Call c call)) o) (alike o) (s.call_waits c call o x.0)
-        (λ _ q h. inr (omega (arith, h, put_count q o.state.waiting (waiting.Item (item.Call c call))))) (λ _ q h. inr h) x;
+          still-carried f g1 o (put_last (waiting.Item (item.Call c call)) o) (alike o) (s.call_waits c call o x.0)
+          (λ _ q h. inr (omega (arith, h, put_count q o.state.waiting (waiting.Item (item.Call c call))))) (λ _ q h. inr h) x;
       exit_waits = λ p r o noted x.
-        still-carried f g1 o (put_last (waiting.Item (item.Note (note.Exit p r))) o) (alike o) (s.exit_waits p r o noted x.0)
-        (λ busy q h. put-waits k b p r o g noted busy q h) (λ _ q h. inr h) x;
+          still-carried f g1 o (put_last (waiting.Item (item.Note (note.Exit p r))) o) (alike o) (s.exit_waits p r o noted x.0)
+          (λ busy q h. put-waits k b p r o g noted busy q h) (λ _ q h. inr h) x;
       up = λ p place row q kept o at is same noted x.
-        still-carried f g1 o (set_row place row (Up p) o) (alike o) (s.up p place row q kept o at is same noted x.0)
-        (λ _ n h. inr h)
-        (λ _ n h. inr (
-            let e : rows_in (is_told n) (slice_set o.state.rows place (with_state (Up p) row)) + cond (is_told n row.state) 1 0 ≡ rows_in (is_told n) o.state.rows + 0 = rows_in-set (is_told n) place row (Up p) o.state.rows at in
-            let z : ◌≡◌ {A = ℕ} (cond (is_told n row.state) 1 0) 0 = ap (λ (t : RowState). cond (is_told n t) 1 0) is in
-            omega (arith, h, e, z))) x;
+          still-carried f g1 o (set_row place row (Up p) o) (alike o) (s.up p place row q kept o at is same noted x.0)
+          (λ _ n h. inr h)
+          (λ _ n h. inr (
+          let e : rows_in (is_told n) (slice_set o.state.rows place (with_state (Up p) row)) + cond (is_told n row.state) 1 0 ≡ rows_in (is_told n) o.state.rows + 0 = rows_in-set (is_told n) place row (Up p) o.state.rows at in
+          let z : ◌≡◌ {A = ℕ} (cond (is_told n row.state) 1 0) 0 = ap (λ (t : RowState). cond (is_told n t) 1 0) is in
+          omega (arith, h, e, z))) x;
       up_closed = λ p place row q kept c o at is same follows x. idle-carried f g1 (closed (set_row place row (Up p) o)) refl (s.up_closed p place row q kept c o at is same follows x.0);
       ignored = λ p place row q kept o at is same noted x.
-        still-carried f g1 o (end_row place row o) (end_row-alike place row o) (s.ignored p place row q kept o at is same noted x.0)
-        (λ _ n h. inr (subst (λ (ws : List Waiting). 0 < count_by (is_exit n) ws) (end_row-quiet place row o).0 h))
-        (λ _ n h. inr (
-            let e : rows_in (is_told n) (end_row place row o).state.rows + cond (is_told n row.state) 1 0 ≡ rows_in (is_told n) o.state.rows = rows_in-end (is_told n) refl place row o at in
-            let z : ◌≡◌ {A = ℕ} (cond (is_told n row.state) 1 0) 0 = ap (λ (t : RowState). cond (is_told n t) 1 0) is in
-            omega (arith, h, e, z))) x;
+          still-carried f g1 o (end_row place row o) (end_row-alike place row o) (s.ignored p place row q kept o at is same noted x.0)
+          (λ _ n h. inr (subst (λ (ws : List Waiting). 0 < count_by (is_exit n) ws) (end_row-quiet place row o).0 h))
+          (λ _ n h. inr (
+          let e : rows_in (is_told n) (end_row place row o).state.rows + cond (is_told n row.state) 1 0 ≡ rows_in (is_told n) o.state.rows = rows_in-end (is_told n) refl place row o at in
+          let z : ◌≡◌ {A = ℕ} (cond (is_told n row.state) 1 0) 0 = ap (λ (t : RowState). cond (is_told n t) 1 0) is in
+          omega (arith, h, e, z))) x;
       opening_failed = λ place row q kept o runs at is follows x.
-        opened-carried f g1 (terminate (ending.InitFailed row.spec.id) (set_row place row Undefined o))
-        (ap (λ (y : Option After). is_opened f y) (terminate-follows (ending.InitFailed row.spec.id) (set_row place row Undefined o)) ∙ fails_opening f (ending.InitFailed row.spec.id) o.state x.1 follows)
-        (s.opening_failed place row q kept o runs at is follows x.0);
+          opened-carried f g1 (terminate (ending.InitFailed row.spec.id) (set_row place row Undefined o))
+          (ap (λ (y : Option After). is_opened f y) (terminate-follows (ending.InitFailed row.spec.id) (set_row place row Undefined o)) ∙ fails_opening f (ending.InitFailed row.spec.id) o.state x.1 follows)
+          (s.opening_failed place row q kept o runs at is follows x.0);
       restart_failed = λ place row q kept o at is follows x. idle-carried f g1 (closed (put_last (waiting.Retry kept) (set_row place row (Restarting kept) o))) refl (s.restart_failed place row q kept o at is follows x.0);
       added_failed = λ place row q kept c o at is follows x. idle-carried f g1 (closed (with_rows (remove o.state.rows place) o)) refl (s.added_failed place row q kept c o at is follows x.0);
       restarted_failed = λ place row q kept c o at is follows x. idle-carried f g1 (closed (set_row place row Undefined o)) refl (s.restarted_failed place row q kept c o at is follows x.0);
       stopped = λ p r place row o at h noted x.
-        still-carried f g1 o (end_row place row o) (end_row-alike place row o) (s.stopped p r place row o at h noted x.0)
-        (λ _ n i. inr (subst (λ (ws : List Waiting). 0 < count_by (is_exit n) ws) (end_row-quiet place row o).0 i))
-        (λ busy n i. stopped-told k b p r place row o g at h noted busy n i) x;
+          still-carried f g1 o (end_row place row o) (end_row-alike place row o) (s.stopped p r place row o at h noted x.0)
+          (λ _ n i. inr (subst (λ (ws : List Waiting). 0 < count_by (is_exit n) ws) (end_row-quiet place row o).0 i))
+          (λ busy n i. stopped-told k b p r place row o g at h noted busy n i) x;
       died = λ p place row o idle runs at is x.
-        idle-carried f g1 (end_row place row o) (ap (λ (y : Option After). is_some y) (end_row-alike place row o).4 ∙ idle.1) (s.died p place row o idle runs at is x.0);
+          idle-carried f g1 (end_row place row o) (ap (λ (y : Option After). is_some y) (end_row-alike place row o).4 ∙ idle.1) (s.died p place row o idle runs at is x.0);
       restarts = λ p place row o idle runs at h x.
-        opened-carried f g1 (restart p place row o) (opens_none f b (restart p place row o).state.follows is_base idle.0 (restart-busy p place row o)) (s.restarts p place row o idle runs at h x.0);
+          opened-carried f g1 (restart p place row o) (opens_none f b (restart p place row o).state.follows is_base idle.0 (restart-busy p place row o)) (s.restarts p place row o idle runs at h x.0);
       ends = λ e o idle runs x.
-        opened-carried f g1 (terminate e o) (opens_none f b (terminate e o).state.follows is_base idle.0 (ap (λ (y : Option After). is_some y) (terminate-follows e o))) (s.ends e o idle runs x.0);
+          opened-carried f g1 (terminate e o) (opens_none f b (terminate e o).state.follows is_base idle.0 (ap (λ (y : Option After). is_some y) (terminate-follows e o))) (s.ends e o idle runs x.0);
       ticks = λ o is x. tick-carried f g1 o (s.ticks o is x.0) (λ q. tick_count (is_told q) (λ p d. refl) o) x;
       opens = λ own o link over x.
-        opened-carried f g1 (open_rows own o) (opens_none f b (open_rows own o).state.follows is_base (sym link ∙ x.0.3 over) (open_rows-busy own o)) (s.opens own o link over x.0);
+          opened-carried f g1 (open_rows own o) (opens_none f b (open_rows own o).state.follows is_base (sym link ∙ x.0.3 over) (open_rows-busy own o)) (s.opens own o link over x.0);
       adds = λ c id spec o idle runs named x.
-        opened-carried f g1 (with_work [] (record { id = id; kept = None } ∷ []) (Some (after.Added c)) (with_rows (o.state.rows ++ new_row id spec ∷ []) o))
-        (opens_none f b (Some (after.Added c)) is_base idle.0 refl) (s.adds c id spec o idle runs named x.0);
+          opened-carried f g1 (with_work [] (record { id = id; kept = None } ∷ []) (Some (after.Added c)) (with_rows (o.state.rows ++ new_row id spec ∷ []) o))
+          (opens_none f b (Some (after.Added c)) is_base idle.0 refl) (s.adds c id spec o idle runs named x.0);
       starts_again = λ c id place row o idle runs at h is x.
-        opened-carried f g1 (with_work [] (record { id = Some id; kept = None } ∷ []) (Some (after.Restarted c)) o)
-        (opens_none f b (Some (after.Restarted c)) is_base idle.0 refl) (s.starts_again c id place row o idle runs at h is x.0);
+          opened-carried f g1 (with_work [] (record { id = Some id; kept = None } ∷ []) (Some (after.Restarted c)) o)
+          (opens_none f b (Some (after.Restarted c)) is_base idle.0 refl) (s.starts_again c id place row o idle runs at h is x.0);
       removed = λ place row o idle runs at h x. idle-carried f g1 (with_rows (remove o.state.rows place) o) idle.1 (s.removed place row o idle runs at h x.0);
       given_up = λ place row o idle runs at h x. idle-carried f g1 (set_row place row Undefined o) idle.1 (s.given_up place row o idle runs at h x.0);
       stops_child = λ c p place row o idle runs at h x.
-        opened-carried f g1 (with_work (p ∷ []) [] (Some (after.Stopped c)) o) (opens_none f b (Some (after.Stopped c)) is_base idle.0 refl) (s.stops_child c p place row o idle runs at h x.0);
+          opened-carried f g1 (with_work (p ∷ []) [] (Some (after.Stopped c)) o) (opens_none f b (Some (after.Stopped c)) is_base idle.0 refl) (s.stops_child c p place row o idle runs at h x.0);
     }
 
 -- the Exits that wait are those of the list
@@ -252,30 +246,30 @@ waits-all q [] = refl
 waits-all q (w ∷ ws) = omega (arith, waits-one q w (filter_map exit_of_waiting ws), sum_by-cons (λ x. cond (is_exit q x) 1 0) w ws, waits-all q ws)
 
 pub opened_now-keeps : (s : State) → Keeps s (opened_now s)
-opened_now-keeps s busy =
-    (
-      λ q h. omega (arith, h, waits-all q s.waiting),
-      λ apart. ([], refl, λ q i. absurd (omega (arith, i)))
-    )
+opened_now-keeps s busy = (
+  λ q h. omega (arith, h, waits-all q s.waiting),
+  λ apart. ([], refl, λ q i. absurd (omega (arith, i))),
+)
 
 -- the event is taken: the work that it opens, or that was open, is in step
 pub decided-keeps : (s : State) (e : Event) (g : Progress) → IsSound s → Keeps s g → IsSound (decided s e) × Keeps (decided s e) (seen s e g)
 decided-keeps s e g sound keeps =
     let start : Outcome = record { state = stamped e.reading s; orders = [] } in
-    let first : Carried s.follows (went_on e.kind g) start =
-        (sound, inl refl, λ no busy.
-            let had : HasWaiting s g × HasStops s g = keeps busy in
-            (
-              λ q h. omega (arith, had.0 q h, times-append q g.ended (ended_by e.kind)),
-              λ apart.
+    let first : Carried s.follows (went_on e.kind g) start = (
+      sound,
+      inl refl,
+      λ no busy.
+          let had : HasWaiting s g × HasStops s g = keeps busy in (
+            λ q h. omega (arith, had.0 q h, times-append q g.ended (ended_by e.kind)),
+            λ apart.
                 let part : (done : List ℕ) × (g.stops ≡ done ++ s.to_stop) × ((q : ℕ) → IsIn q done → IsIn q g.ended ⊎ (0 < rows_in (is_told q) s.rows)) = had.1 apart in
-                (part.0, part.1, λ q i. ⊎_elim (λ x. inl (omega (arith, x, times-append q g.ended (ended_by e.kind)))) (λ x. inr x) (part.2 q i))
-            )) in
+                (part.0, part.1, λ q i. ⊎_elim (λ x. inl (omega (arith, x, times-append q g.ended (ended_by e.kind)))) (λ x. inr x) (part.2 q i)),
+          ),
+    ) in
     let last : Carried s.follows (went_on e.kind g) (decide e.kind start) =
-        decide-survives e.kind (Carried s.follows (went_on e.kind g)) start (carried-survives e.kind (is_some s.follows) s.follows g refl) first in
-    (
+    decide-survives e.kind (Carried s.follows (went_on e.kind g)) start (carried-survives e.kind (is_some s.follows) s.follows g refl) first in (
       last.0,
       cond_both (is_opened s.follows (decided s e).follows) (opened_now (decided s e)) (went_on e.kind g) (λ (x : Progress). Keeps (decided s e) x)
-        (λ _. opened_now-keeps (decided s e))
-        (λ no. last.2 no)
+          (λ _. opened_now-keeps (decided s e))
+          (λ no. last.2 no),
     )

@@ -35,8 +35,8 @@ unfoldable pub add_child : ℕ → Option Name → ChildSpec → Outcome → Out
 add_child c id spec o =
     if nat_le 256 (length o.state.rows) then refuse c fault.TooManyChildren o
     else
-      with_work [] (record { id = id; kept = None } ∷ []) (Some (after.Added c))
-      (with_rows (o.state.rows ++ new_row id spec ∷ []) o)
+    with_work [] (record { id = id; kept = None } ∷ []) (Some (after.Added c))
+    (with_rows (o.state.rows ++ new_row id spec ∷ []) o)
 
 -- a child with this id is there already (supervisor, start_child/2)
 abbrev pub already : RowState → CallFault

@@ -19,7 +19,7 @@ use Rattle.otp_rules.specs.declared.event.Waiting.TheVariants as waiting
 use Rattle.otp_rules.specs.declared.work.After.{After}
 use Rattle.otp_rules.specs.declared.work.After.TheVariants as after
 use Rattle.otp_rules.specs.declared.work.Due.{Due}
-use Rattle.otp_rules.specs.State.{Outcome, State, is_simple}
+use Rattle.otp_rules.specs.State.{State, is_simple}
 use Rattle.otp_rules.specs.Step.{decide, stamped, step}
 use Rattle.otp_rules.specs.Run.{empty_state, state_after}
 use Rattle.otp_rules.specs.Needs.{IsLawfulHistory}

@@ -14,8 +14,17 @@ use Rattle.otp_rules.specs.Step.{step}
 abbrev pub empty_state : SupFlags → List ChildSpec → State
 empty_state flags specs =
     record {
-      flags = flags; specs = specs; rows = []; stamps = []; to_stop = []; to_start = [];
-      follows = None; waiting = []; replies = []; last = 0; phase = Unopened;
+      flags = flags;
+      specs = specs;
+      rows = [];
+      stamps = [];
+      to_stop = [];
+      to_start = [];
+      follows = None;
+      waiting = [];
+      replies = [];
+      last = 0;
+      phase = Unopened;
     }
 
 -- the state after these events

@@ -2,6 +2,7 @@
 
 ghost use Rattle.otp_rules.specs.Frames.{OrdersAppended, StepKeepsPlan, StepKeepsStamped, StepStamps};
 ghost use Rattle.otp_rules.specs.Needs.{NumberStartsWork};
+ghost use Rattle.otp_rules.specs.Order.{StartOrder, StopOrder};
 ghost use Rattle.otp_rules.specs.Rate.{RestartRate};
 
 /// No event changes the flags or the specifications.
@@ -33,4 +34,18 @@ pub fn number_starts_work()
 /// that is ending, or has ended, by it (Supervisor Behaviour, Maximum Restart Intensity).
 pub fn restart_rate()
     ensures { RestartRate }
+{}
+
+/// In a lawful history a child is started only when all that were to be stopped have ended, and each child that comes
+/// before it in the start list was started since, in that order, and has answered with Up or Ignored (Supervisor
+/// Behaviour, Starting a Supervisor and Restart Strategy).
+pub fn start_order()
+    ensures { StartOrder }
+{}
+
+/// A child is told to stop only when each child that comes before it in the stop list has ended: each that stands after
+/// it in start order (Supervisor Behaviour, Stopping). Two things are no such order: a kill at a deadline, and the end of
+/// a simple_one_for_one supervisor, whose children are told together.
+pub fn stop_order()
+    ensures { StopOrder }
 {}

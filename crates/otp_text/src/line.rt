@@ -1,9 +1,9 @@
 //! Lines as they are read.
 
-ghost use Rattle.std.specs.Prelude.{◌≡◌, option_copied};
+ghost use Rattle.std.specs.Prelude.{◌≡◌, ◌≤◌, ◌^◌, IfSome, IsTrue, option_copied};
 ghost use Rattle.std.specs.Option.{option_map};
 ghost use Rattle.otp_text.specs.Words.{words_of, words_left};
-ghost use Rattle.otp_text.specs.Lines.{number_in, one_number, one_name, number_and_reason, two_names, spec_named, spec_in, start_in, terminate_in, one_terminate, call_of, line_with, line_of_words, line_of};
+ghost use Rattle.otp_text.specs.Lines.{number_in, one_number, one_name, number_and_reason, two_names, spec_named, spec_in, start_in, terminate_in, one_terminate, call_of, line_with, line_of_words, line_of, is_timely};
 
 use crate::verb::Verb;
 use crate::word::{
@@ -37,7 +37,8 @@ pub enum Line {
 /// The line that these bytes are, without their end of line; `None` for any other form and for more than 512 bytes.
 #[tactic(auto, unfolding(crate::specs::Lines::line_of))]
 pub fn read_line(line: &[u8]) -> Option<Line>
-    ensures { result ≡ line_of line.now }
+    ensures line { result ≡ line_of line.now }
+    ensures time { IfSome result (λ read. IsTrue (is_timely read)) }
 {
     if line.is_empty() {
         return Some(Line::Empty);
@@ -51,7 +52,8 @@ pub fn read_line(line: &[u8]) -> Option<Line>
 /// The line of these words.
 #[tactic(auto, unfolding(crate::specs::Lines::line_of_words))]
 fn read_words(line: &[u8]) -> Option<Line>
-    ensures { result ≡ line_of_words (words_of line.now) }
+    ensures line { result ≡ line_of_words (words_of line.now) }
+    ensures time { IfSome result (λ read. IsTrue (is_timely read)) }
 {
     let (word, rest) = cut(line);
     let verb = Verb::of_word(word)?;
@@ -61,7 +63,8 @@ fn read_words(line: &[u8]) -> Option<Line>
 /// The line of a verb and the words after it.
 #[tactic(auto, unfolding(crate::specs::Lines::line_with))]
 fn read_verb(verb: Verb, rest: Option<&[u8]>) -> Option<Line>
-    ensures { result ≡ line_with verb (words_left (option_copied rest.entry)) }
+    ensures line { result ≡ line_with verb (words_left (option_copied rest.entry)) }
+    ensures time { IfSome result (λ read. IsTrue (is_timely read)) }
 {
     match verb {
         Verb::At => Some(Line::At(read_one_number(rest)?)),
@@ -182,7 +185,8 @@ fn read_child(word: &[u8]) -> Option<Call>
 /// A clock's reading or a process number.
 #[tactic(auto, unfolding(crate::specs::Lines::number_in))]
 fn read_any_number(word: &[u8]) -> Option<u64>
-    ensures { result ≡ number_in word.now }
+    ensures number { result ≡ number_in word.now }
+    ensures within { IfSome result (λ number. number ≤ 2 ^ 62) }
 {
     read_number(GREATEST_NUMBER, word)
 }
@@ -190,7 +194,8 @@ fn read_any_number(word: &[u8]) -> Option<u64>
 /// One word, a number.
 #[tactic(auto, unfolding(crate::specs::Lines::one_number))]
 fn read_one_number(rest: Option<&[u8]>) -> Option<u64>
-    ensures { result ≡ one_number (words_left (option_copied rest.entry)) }
+    ensures number { result ≡ one_number (words_left (option_copied rest.entry)) }
+    ensures within { IfSome result (λ number. number ≤ 2 ^ 62) }
 {
     read_any_number(last_word(rest)?)
 }

@@ -1,8 +1,9 @@
-use Rattle.std.proofs.Common.{◌≡◌, ℕ, ◌+◌, ◌-◌, ◌*◌, ◌≤◌, ◌<◌, Bool, true, false, cond, ◌&&◌, nat_le, nat_lt, List, [], ◌∷◌, length, get_or, take, drop, refl, ap, ◌∙◌, sym, arith, ⊎_elim, All, count_by, length-take, length-drop}
+use Rattle.std.proofs.Common.{◌≡◌, ℕ, ◌+◌, ◌-◌, ◌*◌, ◌≤◌, ◌<◌, Bool, true, false, cond, ◌&&◌, nat_le, nat_lt, List, [], ◌∷◌, ◌++◌, length, get_or, take, drop, refl, ap, ◌∙◌, sym, arith, ⊎_elim, All, count_by, length-take, length-drop}
 use Rattle.std.proofs.lemmas.Bool.{cases_Bool, lt-ltb, le-ltb, leb-true, le-leb, both_ways, and_parts, and_from, false_from_ne_true}
-use Rattle.std.proofs.lemmas.List.{get_or-take, get_or-drop}
-use Rattle.std.proofs.lemmas.List.Elements.{All-head, All-tail, All-from_get_or}
-use Rattle.std.proofs.lemmas.List.Sums.{sum_by-cons, sum_by-take-drop, sum_by-drop_more, count_by-le-length}
+use Rattle.std.proofs.lemmas.List.{get_or-take, get_or-drop, get_or_append_left, length-append}
+use Rattle.std.proofs.lemmas.List.Elements.{All-head, All-tail, All-from_get_or, All-push}
+use Rattle.std.proofs.lemmas.List.Sorted.{IsNonDecreasingBy-push}
+use Rattle.std.proofs.lemmas.List.Sums.{sum_by-append, sum_by-cons, sum_by-take-drop, sum_by-drop_more, count_by-le-length}
 use Rattle.std.specs.List.Sorted.{IsNonDecreasing}
 use Rattle.otp_window.specs.Period.{in_period}
 
@@ -75,3 +76,37 @@ crowded limit period t stamps enough ordered latest =
     let near : is_near period t (get_or stamps k 0) ≡ nat_le (t - get_or stamps k 0) (1000 * period) = ap (λ b. b && nat_le (t - get_or stamps k 0) (1000 * period)) past in
     let back : length stamps - 1 - k ≡ limit = omega arith in
     sym near ∙ passes_from (is_near period t) stamps k within (later_is_nearer period t stamps ordered latest) ∙ ap (λ n. nat_lt n (in_period period stamps t)) back
+
+-- the last stamp lies in the period that it ends
+ends_itself : (period t : ℕ) (stamps : List ℕ) → 0 < in_period period (stamps ++ t ∷ []) t
+ends_itself period t stamps =
+    let parts : in_period period (stamps ++ t ∷ []) t ≡ in_period period stamps t + in_period period (t ∷ []) t = sum_by-append (λ s. cond (is_near period t s) 1 0) stamps (t ∷ []) in
+    let one : in_period period (t ∷ []) t ≡ cond (is_near period t t) 1 0 + in_period period [] t = sum_by-cons (λ s. cond (is_near period t s) 1 0) t [] in
+    let near : is_near period t t ≡ true = and_from _ _ (le-leb t t (omega arith)) (le-leb (t - t) (1000 * period) (omega arith)) in
+    let here : ◌≡◌ {A = ℕ} (cond (is_near period t t) 1 0) 1 = ap (λ b. cond b 1 0) near in
+    omega (arith, parts, one, here)
+
+-- with no restart allowed, each is one too many
+pub crowded_at_zero : (period t : ℕ) (stamps : List ℕ) → nat_lt 0 (in_period period (stamps ++ t ∷ []) t) ≡ true
+crowded_at_zero period t stamps = lt-ltb _ _ (ends_itself period t stamps)
+
+-- so many stamps aren't more
+pub crowded_below : (limit period t : ℕ) (stamps : List ℕ) → length stamps < limit → nat_lt limit (in_period period (stamps ++ t ∷ []) t) ≡ false
+crowded_below limit period t stamps few =
+    let all : in_period period (stamps ++ t ∷ []) t ≤ length (stamps ++ t ∷ []) = count_by-le-length (is_near period t) (stamps ++ t ∷ []) in
+    le-ltb _ _ (omega (arith, all, length-append stamps (t ∷ [])))
+
+-- a last stamp that is no earlier: still none falls
+rising_push : (stamps : List ℕ) (t : ℕ) → IsNonDecreasing stamps → All (λ s. s ≤ t) stamps → IsNonDecreasing (stamps ++ t ∷ [])
+rising_push stamps t ordered latest = IsNonDecreasingBy-push (λ s. s) stamps t ordered (λ d some. latest (length stamps - 1) d (omega arith))
+
+-- one stamp more, the last, that is no earlier
+pub crowded_with : (limit period t : ℕ) (stamps : List ℕ) → 0 < limit → limit ≤ length stamps → IsNonDecreasing stamps → All (λ s. s ≤ t) stamps
+    → nat_le (t - get_or stamps (length stamps - limit) 0) (1000 * period) ≡ nat_lt limit (in_period period (stamps ++ t ∷ []) t)
+crowded_with limit period t stamps some enough ordered latest =
+    let all : List ℕ = stamps ++ t ∷ [] in
+    let long : length all ≡ length stamps + 1 = length-append stamps (t ∷ []) in
+    let place : length all - 1 - limit ≡ length stamps - limit = omega (arith, long) in
+    let same : get_or all (length all - 1 - limit) 0 ≡ get_or stamps (length stamps - limit) 0 = ap (λ i. get_or all i 0) place ∙ get_or_append_left stamps (t ∷ []) 0 (length stamps - limit) (omega arith) in
+    ap (λ s. nat_le (t - s) (1000 * period)) (sym same)
+    ∙ crowded limit period t all (omega (arith, long)) (rising_push stamps t ordered latest) (All-push (λ s. s ≤ t) stamps t latest (omega arith))

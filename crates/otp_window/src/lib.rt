@@ -3,15 +3,16 @@
 //! OTP Design Principles, Supervisor Behaviour, "Maximum Restart Intensity".
 #![tactic(auto)]
 
-ghost use Rattle.std.specs.Prelude.{◌≡◌, ◌≤◌, ◌^◌, ◌++◌, ◌∷◌, [], true, false, All, OnOk, OnErr};
+ghost use Rattle.std.specs.Prelude.{◌≡◌, ◌≤◌, ◌^◌, ◌++◌, ◌∷◌, [], true, false, All, OnOk, OnErr, nat_lt};
 ghost use Rattle.otp_window.specs.Answer.{within};
+ghost use Rattle.otp_window.specs.Period.{in_period};
 
 use std::alloc::{AllocError, Global};
 use std::marker::Model;
 
 mod ordered;
 
-use crate::ordered::is_crowded;
+use crate::ordered::{is_crowded, is_crowded_with};
 
 /// What a restart makes of the intensity.
 #[derive(Clone, Copy, Debug, PartialEq, Eq)]
@@ -104,6 +105,15 @@ impl Window {
         self.stamps.clear();
     }
 
+    /// Whether a restart at `now`, in milliseconds, would be one too many. Adds nothing and looks at one stamp,
+    /// however many there are.
+    pub fn would_exceed(&self, now: u64) -> bool
+        requires { All (λ s. s ≤ now) self.now.stamps }
+        ensures { result ≡ nat_lt self.now.intensity (in_period self.now.period (self.now.stamps ++ now ∷ []) now) }
+    {
+        is_crowded_with(&self.stamps, self.intensity, self.period, now)
+    }
+
     /// Adds a restart at `now`, in milliseconds, and tells whether the period that ends then has too many.
     /// Takes no memory and looks at one stamp, however many there are.
     pub fn add(&mut self, now: u64) -> Within
@@ -145,6 +155,11 @@ mod tests {
             assert_eq!(rt; window.add(1000), Within::Ok);
             window.reserve()?;
             assert!(rt; second >= 1000 && second < 7000);
+            assert_eq!(rt;
+                window.would_exceed(second),
+                want == Within::Exceeded,
+                "at {second}"
+            );
             assert_eq!(rt; window.add(second), want, "at {second}");
             assert_eq!(rt; window.stamps(), [1000, second].as_slice());
         }

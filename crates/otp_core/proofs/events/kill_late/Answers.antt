@@ -9,8 +9,8 @@ loop-place-preserved c =
     let kill : Row → Row = λ row. killed row (late_number c.args.now row.state) in
     record {
       done = mapped_further kill c.loop-place.rows.rows c.kill_if_late.new.rows.rows c.loop-place.place c.kill_if_late.ensures.found.0
-        c.kill_if_late.ensures.found.1 (c.kill_if_late.ensures.rows c.kill_if_late.ensures.found.0 c.kill_if_late.ensures.found.1)
-        ∙ c.loop-place.invariant.done;
+          c.kill_if_late.ensures.found.1 (c.kill_if_late.ensures.rows c.kill_if_late.ensures.found.0 c.kill_if_late.ensures.found.1)
+          ∙ c.loop-place.invariant.done;
       len = c.kill_if_late.ensures.len ∙ c.loop-place.invariant.len;
       room = c.kill_if_late.ensures.room ∙ c.loop-place.invariant.room;
     }

@@ -1,0 +1,109 @@
+%% The same work as bench/run gives to the program, done by Erlang/OTP's own supervisor.
+%% erl -noshell -pa DIR -run otp_bench main WORK HOW N
+%%   WORK: storm (N restarts of one child), all (N restarts of 256 children under one_for_all),
+%%         calls (N calls, which_children and count_children in turn, over 256 children).
+%%   HOW:  process (a supervisor process, which is sent messages), or callbacks (supervisor's
+%%         handle_info and handle_call, called in this process).
+%% Prints the microseconds that the work took. Reports of the logger are off.
+-module(otp_bench).
+-behaviour(supervisor).
+-export([main/1, init/1, start_worker/1]).
+
+%% The storm's supervisors live for so many restarts each: one more would end them.
+-define(INTENSITY, 1000).
+-define(PERIOD, 1000000).
+-define(CHILDREN, 256).
+
+main([Work, How, N]) ->
+    ok = logger:set_primary_config(level, none),
+    process_flag(trap_exit, true),
+    Count = list_to_integer(N),
+    Begin = erlang:monotonic_time(microsecond),
+    ok = work(list_to_atom(Work), list_to_atom(How), Count),
+    io:format("~b~n", [erlang:monotonic_time(microsecond) - Begin]),
+    halt(0).
+
+init({Strategy, Children, Driver}) ->
+    Flags = #{strategy => Strategy, intensity => ?INTENSITY, period => ?PERIOD},
+    Start = {?MODULE, start_worker, [Driver]},
+    {ok, {Flags, [#{id => Id, start => Start} || Id <- lists:seq(1, Children)]}}.
+
+start_worker(Driver) ->
+    Pid = spawn_link(fun() -> receive die -> exit(crash) end end),
+    Driver ! {started, Pid},
+    {ok, Pid}.
+
+work(storm, How, N) when N > ?INTENSITY ->
+    ok = work(storm, How, ?INTENSITY),
+    work(storm, How, N - ?INTENSITY);
+work(storm, process, N) ->
+    {ok, Sup} = supervisor:start_link(?MODULE, {one_for_one, 1, self()}),
+    ok = storm(N, last_started(1, none)),
+    stop(Sup);
+work(storm, callbacks, N) ->
+    {ok, State} = supervisor:init({self, ?MODULE, {one_for_one, 1, self()}}),
+    storm_callbacks(N, last_started(1, none), State);
+work(all, process, N) ->
+    {ok, Sup} = supervisor:start_link(?MODULE, {one_for_all, ?CHILDREN, self()}),
+    ok = all(N, last_started(?CHILDREN, none)),
+    stop(Sup);
+work(all, callbacks, N) ->
+    {ok, State} = supervisor:init({self, ?MODULE, {one_for_all, ?CHILDREN, self()}}),
+    all_callbacks(N, last_started(?CHILDREN, none), State);
+work(calls, process, N) ->
+    {ok, Sup} = supervisor:start_link(?MODULE, {one_for_one, ?CHILDREN, self()}),
+    last_started(?CHILDREN, none),
+    ok = calls(N, Sup),
+    stop(Sup);
+work(calls, callbacks, N) ->
+    {ok, State} = supervisor:init({self, ?MODULE, {one_for_one, ?CHILDREN, self()}}),
+    last_started(?CHILDREN, none),
+    calls_callbacks(N, State).
+
+%% The last of so many workers that were started.
+last_started(0, Pid) -> Pid;
+last_started(N, _) -> receive {started, Pid} -> last_started(N - 1, Pid) end.
+
+stop(Sup) ->
+    Monitor = monitor(process, Sup),
+    exit(Sup, shutdown),
+    receive {'DOWN', Monitor, process, Sup, shutdown} -> ok end.
+
+die(Pid) ->
+    Pid ! die,
+    receive {'EXIT', Pid, crash} = Exit -> Exit end.
+
+storm(0, _) -> ok;
+storm(N, Pid) -> Pid ! die, storm(N - 1, last_started(1, none)).
+
+storm_callbacks(0, _, _) -> ok;
+storm_callbacks(N, Pid, State) ->
+    {noreply, Next} = supervisor:handle_info(die(Pid), State),
+    storm_callbacks(N - 1, last_started(1, none), Next).
+
+%% The last child dies, all others are stopped, and all are started again.
+all(0, _) -> ok;
+all(N, Pid) -> Pid ! die, all(N - 1, last_started(?CHILDREN, none)).
+
+all_callbacks(0, _, _) -> ok;
+all_callbacks(N, Pid, State) ->
+    {noreply, Next} = supervisor:handle_info(die(Pid), State),
+    all_callbacks(N - 1, last_started(?CHILDREN, none), Next).
+
+calls(0, _) -> ok;
+calls(N, Sup) when N rem 2 =:= 0 ->
+    ?CHILDREN = length(supervisor:which_children(Sup)),
+    calls(N - 1, Sup);
+calls(N, Sup) ->
+    {active, ?CHILDREN} = lists:keyfind(active, 1, supervisor:count_children(Sup)),
+    calls(N - 1, Sup).
+
+calls_callbacks(0, _) -> ok;
+calls_callbacks(N, State) when N rem 2 =:= 0 ->
+    {reply, Children, _} = supervisor:handle_call(which_children, none, State),
+    ?CHILDREN = length(Children),
+    calls_callbacks(N - 1, State);
+calls_callbacks(N, State) ->
+    {reply, Counts, _} = supervisor:handle_call(count_children, none, State),
+    {active, ?CHILDREN} = lists:keyfind(active, 1, Counts),
+    calls_callbacks(N - 1, State).

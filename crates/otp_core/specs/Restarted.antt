@@ -1,0 +1,47 @@
+-- The work that a restart opens (own).
+use Rattle.std.specs.Prelude.{ℕ, Bool, true, false, ◌&&◌, not, List, [], ◌∷◌, ◌++◌, Option, None, Some, drop, remove, reverse, slice_range, take}
+use Rattle.std.specs.List.{list_any}
+use Rattle.otp_table.specs.declared.row.Row.{Row}
+use Rattle.otp_table.specs.Rows.{calm_rows, is_awaited, row_has}
+use Rattle.otp_rules.specs.declared.event.Waiting.{Waiting}
+use Rattle.otp_spec.specs.declared.child.ChildSpec.{ChildSpec}
+use Rattle.otp_rules.specs.declared.work.After.{After}
+use Rattle.otp_rules.specs.declared.work.After.TheVariants as after
+use Rattle.otp_rules.specs.State.{Outcome, is_busy}
+use Rattle.otp_rules.specs.Needs.{ends_wait, has_due}
+use Rattle.otp_rules.specs.Restarts.{restart_list, running}
+
+-- the restart of the children from one place to another goes on to a start at once
+abbrev pub restart_goes_on : ℕ → ℕ → ℕ → ℕ → List Row → List Waiting → Bool
+restart_goes_on from to place kept rows items =
+    not (list_any (row_has is_awaited) (take from rows ++ calm_rows (slice_range rows from to) ++ drop to rows))
+    && (ends_wait (reverse (running (slice_range rows from to))) items && has_due (restart_list from to place kept rows))
+
+-- the open work goes on to a start where the child at the place is not awaited
+abbrev pub goes_on_beside : ℕ → Outcome → Bool
+goes_on_beside place o =
+    is_busy o && (not (list_any (row_has is_awaited) (remove o.state.rows place)) && (ends_wait o.state.to_stop o.state.waiting && has_due o.state.to_start))
+
+-- the work that goes on once a child runs
+abbrev pub outlives_up : Option After → Bool
+outlives_up None = true
+outlives_up (Some after.Ready) = true
+outlives_up (Some after.Nothing) = true
+outlives_up (Some (after.Added _)) = false
+outlives_up (Some (after.Restarted _)) = false
+outlives_up (Some (after.Stopped _)) = true
+outlives_up (Some (after.End _)) = true
+
+-- the work that goes on though a child did not start
+abbrev pub outlives_failure : Option After → Bool
+outlives_failure None = true
+outlives_failure (Some after.Ready) = false
+outlives_failure (Some after.Nothing) = false
+outlives_failure (Some (after.Added _)) = false
+outlives_failure (Some (after.Restarted _)) = false
+outlives_failure (Some (after.Stopped _)) = true
+outlives_failure (Some (after.End _)) = true
+
+abbrev pub has_spec : List ChildSpec → Bool
+has_spec [] = false
+has_spec (spec ∷ specs) = true

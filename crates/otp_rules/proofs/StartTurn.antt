@@ -1,0 +1,335 @@
+-- The law of the start order, along every lawful history.
+use Rattle.std.specs.Prelude.{◌≡◌, ◌⊎◌, ℕ, ◌==◌, ◌+◌, ◌≤◌, ◌<◌, ◌++◌, ◌&&◌, ◌||◌, Bool, true, false, List, [], ◌∷◌, Option, None, Some, All, refl, if◌then◌else◌, not, position, is_some, slice_set, nat_lt, remove, unwrap_or, map, AllPairs}
+use Rattle.std.specs.List.{list_any, filter_map, cons_option}
+use Rattle.std.proofs.Common.{◌∙◌, ap, sym, subst, inl, inr, arith, ⊎_elim, cond, get_or}
+use Rattle.std.proofs.lemmas.Bool.{cond_both, false≢true, cases_Bool, and_parts, eq-eqb}
+use Rattle.std.proofs.lemmas.List.Elements.{All-nil, All-push, All-head, All-tail, All-cons, filter_map-append}
+use Rattle.std.proofs.lemmas.List.{append-nil, append_assoc, map-append}
+use Rattle.otp_reason.specs.declared.name.Name.{Name}
+use Rattle.otp_spec.specs.declared.child.Shutdown.{Shutdown}
+use Rattle.otp_spec.specs.declared.child.Shutdown.TheVariants.{BrutalKill, Milliseconds, Infinity}
+use Rattle.otp_table.specs.declared.row.Row.{Row}
+use Rattle.otp_table.specs.declared.row.RowState.{RowState}
+use Rattle.otp_table.specs.declared.row.RowState.TheVariants.{Undefined, Starting, Up, Asked, Killed, Restarting}
+use Rattle.otp_table.specs.Rows.{has_process, is_awaited, row_has, with_state}
+use Rattle.otp_rules.specs.declared.event.Effect.{Effect}
+use Rattle.otp_rules.specs.declared.event.Event.{Event}
+use Rattle.otp_rules.specs.declared.work.Due.{Due}
+use Rattle.otp_rules.specs.declared.work.After.{After}
+use Rattle.otp_rules.specs.State.{Outcome, State, answer, emit, is_busy, is_simple, with_rows, with_waiting, with_work}
+use Rattle.otp_rules.specs.Places.{at_number, end_row, end_process, is_removed, set_row}
+use Rattle.otp_rules.specs.Stops.{is_exit, without, told, stop_order, tell_row, tell, use_exit, is_due, start_row, start, refuse_all, end_all, follow, start_first, stop_first, advance}
+use Rattle.otp_rules.specs.Step.{decide, stamped, step, step_on}
+use Rattle.otp_rules.specs.Run.{empty_state, state_after}
+use Rattle.otp_rules.proofs.Decisions.{StandsAt, by_test, decide-survives, is_told}
+use Prim.Native.Nat.{suc}
+use Rattle.otp_rules.proofs.Counting.{rows_in, times, rows_in-set, rows_in-at, Alike, end_row-alike, use_exit-alike, none_in, there, at_row-found, at_row-first, use_exit-quiet}
+use Rattle.otp_rules.specs.Order.{Ordered, Progress, no_progress, is_end, ends_together, started, seen, gave, progress, IsIn, StartsInTurn, IsStartInTurn, StartOrder}
+use Rattle.otp_rules.proofs.Sound.{IsSound, IsReady, empty-sound, used-ready}
+use Rattle.otp_rules.proofs.Stopping.{HasWaiting, HasStops, Keeps, decided-keeps, not_busy}
+use Rattle.std.proofs.lemmas.List.Sums.{sum_by-le-sum_by}
+use Rattle.otp_rules.specs.Needs.{IsNumbered, is_start, numbers_of}
+use Rattle.otp_rules.proofs.NeedsWork.{decide-quiet}
+use Rattle.otp_rules.proofs.Numbers.{use_exit-no_more, IsDistinct, decided-distinct, numbered-distinct, unnumbered-distinct}
+use Rattle.otp_rules.proofs.InTurn.{HasDone, used-waits, used-done, none_told, TakesReplies, follow-orders, follow-closes, stands, step-keeps}
+use Rattle.otp_rules.proofs.Fits.{is_free, Fits, fits-stop, fits-stop-remove, due_there, fits-start}
+use Rattle.otp_rules.proofs.Fitted.{set-named, named-less, end-named, IsNamed, IsFitted, Stands, fitted-survives, empty-fitted}
+use Rattle.otp_rules.proofs.Starting.{idle_keeps, is_starting, HasStarts, KeepsStarts, decided-starts}
+use Rattle.otp_rules.specs.declared.event.Effect.TheVariants as effect
+use Rattle.otp_rules.specs.declared.event.Waiting.TheVariants as waiting
+use Rattle.otp_rules.specs.declared.work.After.TheVariants as after
+
+-- the order starts nobody
+abbrev NoStart : Effect → Type 0
+NoStart x = is_start x ≡ false
+
+none_start : TakesReplies NoStart
+none_start = (λ c. refl, refl, λ x. refl)
+
+from_any : (xs : List Effect) → list_any is_start xs ≡ false → All NoStart xs
+from_any [] h = All-nil NoStart
+from_any (x ∷ xs) h =
+    (elim (is_start x) as (λ b. is_start x ≡ b → (b || list_any is_start xs) ≡ false → All NoStart (x ∷ xs)) [
+      | true ↦ λ e k. absurd (false≢true (sym k))
+      | false ↦ λ e k. All-cons NoStart x xs e (from_any xs k)
+    ]) refl h
+
+in_turn_without : (g : Progress) (x : Effect) → is_start x ≡ false → IsStartInTurn g x
+in_turn_without g (effect.Start _ _) h = absurd (false≢true (sym h))
+in_turn_without g (effect.Ask _ _) h = tt
+in_turn_without g (effect.Kill _ _) h = tt
+in_turn_without g (effect.Reply _) h = tt
+in_turn_without g effect.Ready h = tt
+in_turn_without g (effect.End _) h = tt
+
+all_in_turn : (g : Progress) (xs : List Effect) → All NoStart xs → All (IsStartInTurn g) xs
+all_in_turn g xs h i d within = in_turn_without g (get_or xs i d) (h i d within)
+
+started_none : (x : Effect) (rest : List Ordered) → is_start x ≡ false → cons_option (started x) rest ≡ rest
+started_none (effect.Start _ _) rest h = absurd (false≢true (sym h))
+started_none (effect.Ask _ _) rest h = refl
+started_none (effect.Kill _ _) rest h = refl
+started_none (effect.Reply _) rest h = refl
+started_none effect.Ready rest h = refl
+started_none (effect.End _) rest h = refl
+
+nobody_started : (xs : List Effect) → All NoStart xs → filter_map started xs ≡ []
+nobody_started [] h = refl
+nobody_started (x ∷ xs) h = started_none x (filter_map started xs) (All-head NoStart x xs h) ∙ nobody_started xs (All-tail NoStart x xs h)
+
+gave_nothing : (xs : List Effect) (g : Progress) → All NoStart xs → gave xs g ≡ g
+gave_nothing xs g h = ap (λ (os : List Ordered). record g { ordered = os }) (ap (λ (os : List Ordered). g.ordered ++ os) (nobody_started xs h) ∙ append-nil g.ordered)
+
+stop_order-none : (id : Option Name) (p : ℕ) (s : Shutdown) → is_start (stop_order id p s) ≡ false
+stop_order-none id p BrutalKill = refl
+stop_order-none id p (Milliseconds _) = refl
+stop_order-none id p Infinity = refl
+
+-- what holds after the work went on
+abbrev Gone : Progress → Outcome → Type 0
+Gone g x = KeepsStarts x.state (gave x.orders g) × All (IsStartInTurn g) x.orders × IsFitted x.state
+
+-- where no start was ordered
+quietly : (g : Progress) (x : Outcome) → KeepsStarts x.state g → All NoStart x.orders → IsFitted x.state → Gone g x
+quietly g x keeps none fitted = (subst (λ (y : Progress). KeepsStarts x.state y) (sym (gave_nothing x.orders g none)) keeps, all_in_turn g x.orders none, fitted)
+
+-- those that were to be started before have been, and were answered
+abbrev AllAnswered : Progress → Outcome → Type 0
+AllAnswered g o = (first : List Due) × (g.starts ≡ first ++ o.state.to_start) × (map (λ x. x.id) g.ordered ≡ map (λ x. x.id) first) × All (λ x. IsIn x.number g.answered) g.ordered
+
+-- the work may go on to a start
+abbrev MayStart : Progress → List ℕ → Outcome → Type 0
+MayStart g ps o =
+    IsReady ps o × ((q : ℕ) → rows_in (has_process q) o.state.rows ≤ 1) × IsNamed o.state × Fits ps o.state.to_start o.state.rows
+    × HasWaiting o.state g × HasDone g ps o × AllAnswered g o × All NoStart o.orders
+
+keeps_answered : (g : Progress) (o : Outcome) (s : State) → s.to_start ≡ o.state.to_start → AllAnswered g o → KeepsStarts s g
+keeps_answered g o s same h busy = (h.0, h.1 ∙ ap (λ (ds : List Due). h.0 ++ ds) (sym same), h.2, λ i d within. inl (h.3 i d within))
+
+follow-fitted : (f : Option After) (o : Outcome) → IsFitted o.state → IsFitted (follow f o).state
+unfolding follow end_all refuse_all answer
+follow-fitted None o h = h
+follow-fitted (Some after.Ready) o h = (h.0, tt)
+follow-fitted (Some after.Nothing) o h = (h.0, tt)
+follow-fitted (Some (after.Added c)) o h = (h.0, tt)
+follow-fitted (Some (after.Restarted c)) o h = (h.0, tt)
+follow-fitted (Some (after.Stopped c)) o h = (h.0, tt)
+follow-fitted (Some (after.End e)) o h = (λ _. refl, tt)
+
+-- all that was to be stopped has ended
+all_ended : (g : Progress) (o : Outcome) → ends_together o.state ≡ false → HasDone g [] o → (p : ℕ) → IsIn p g.stops → IsIn p g.ended
+all_ended g o apart d p h =
+    let part : (done : List ℕ) × (g.stops ≡ done ++ []) × ((q : ℕ) → IsIn q done → IsIn q g.ended) = d apart in
+    part.2 p (subst (λ (xs : List ℕ). IsIn p xs) (part.1 ∙ append-nil part.0) h)
+
+ordered-gone : (g : Progress) (due : Due) (rest : List Due) (n : ℕ) (o : Outcome) → o.state.to_start ≡ due ∷ rest → MayStart g [] o → Gone g (start due n (with_work o.state.to_stop rest o.state.follows o))
+unfolding start start_row
+ordered-gone g due rest n o is m =
+    let left : Outcome = with_work o.state.to_stop rest o.state.follows o in
+    let fits : Fits [] (due ∷ rest) o.state.rows = subst (λ (ds : List Due). Fits [] ds o.state.rows) is m.3 in
+    let not_end : is_end o.state.follows ≡ false = ⊎_elim (λ yes. absurd (let k : due ∷ rest ≡ [] = sym is ∙ m.0.0.4 yes in cc)) (λ other. other) (cases_Bool (is_end o.state.follows)) in
+    let apart : ends_together o.state ≡ false = ap (λ (b : Bool). b && is_simple o.state.flags.strategy) not_end in
+    let answered : AllAnswered g o = m.6 in
+    let new : Ordered = record { id = due.id; number = n } in
+    let given : List Effect = o.orders ++ effect.Start due.id n ∷ [] in
+    let now : RowState = Starting n (unwrap_or due.kept n) in
+    let longer : filter_map started given ≡ new ∷ [] =
+    filter_map-append started o.orders (effect.Start due.id n ∷ []) ∙ ap (λ (os : List Ordered). os ++ new ∷ []) (nobody_started o.orders m.7) in
+    let ordered_is : (gave given g).ordered ≡ g.ordered ++ new ∷ [] = ap (λ (os : List Ordered). g.ordered ++ os) longer in
+    let next : g.starts ≡ answered.0 ++ due ∷ rest = answered.1 ∙ ap (λ (ds : List Due). answered.0 ++ ds) is in
+    let turn : StartsInTurn g due.id = (answered.0, due, rest, next, refl, answered.2, answered.3, all_ended g o apart m.5) in
+    at_row-first (λ x. Gone g (emit (effect.Start due.id n) x)) (is_due due) left (start_row due n) left (due_there due rest o.state.rows m.0.1 fits)
+    (λ i row found at.
+    let rows : List Row = slice_set o.state.rows i (with_state now row) in (
+      (λ busy. (
+        answered.0 ++ due ∷ [],
+        next ∙ sym (append_assoc answered.0 (due ∷ []) rest),
+        ap (λ (os : List Ordered). map (λ (x : Ordered). x.id) os) ordered_is
+            ∙ map-append (λ (x : Ordered). x.id) g.ordered (new ∷ [])
+            ∙ ap (λ (ids : List (Option Name)). ids ++ due.id ∷ []) answered.2
+            ∙ sym (map-append (λ (x : Due). x.id) answered.0 (due ∷ [])),
+        subst (λ (os : List Ordered). All (λ (x : Ordered). IsIn x.number g.answered ⊎ (0 < rows_in (is_starting x.number) rows)) os) (sym ordered_is)
+            (All-push (λ (x : Ordered). IsIn x.number g.answered ⊎ (0 < rows_in (is_starting x.number) rows)) g.ordered new
+            (λ j d within. inl (answered.3 j d within))
+            (inr (
+            let e : rows_in (is_starting n) rows + cond (is_starting n row.state) 1 0 ≡ rows_in (is_starting n) o.state.rows + cond (n == n) 1 0 = rows_in-set (is_starting n) i row now o.state.rows at in
+            let one : ◌≡◌ {A = ℕ} (cond (n == n) 1 0) 1 = ap (λ (b : Bool). cond b 1 0) (eq-eqb n n refl) in
+            omega (arith, e, one, rows_in-at (is_starting n) i row o.state.rows at)))),
+      )),
+      All-push (IsStartInTurn g) o.orders (effect.Start due.id n) (all_in_turn g o.orders m.7) turn,
+      (
+        set-named i row now o at m.2,
+        subst (λ (ps : List ℕ). Fits ps rest rows) (sym m.0.2) (fits-start due rest (with_state now row) i o.state.rows found m.0.1 fits),
+      ),
+    ))
+
+start_first-gone : (g : Progress) (dues : List Due) (n : ℕ) (o : Outcome) → o.state.to_start ≡ dues → MayStart g [] o → Gone g (start_first dues n o)
+unfolding start_first
+start_first-gone g [] n o is m =
+    quietly g (follow o.state.follows o) (idle_keeps (follow o.state.follows o).state g (follow-closes o.state.follows o refl))
+    (follow-orders NoStart none_start o.state.follows o m.7)
+    (follow-fitted o.state.follows o (m.2, subst (λ (ps : List ℕ). Fits ps o.state.to_start o.state.rows) (sym m.0.2) m.3))
+start_first-gone g (due ∷ rest) n o is m = ordered-gone g due rest n o is m
+
+-- a process that goes when it ends, and one that stays
+held_goes : (ps : List ℕ) (p : ℕ) (state : RowState) → has_process p state ≡ true → is_free ps true state ≡ true → ⊥
+held_goes ps p Undefined h k = false≢true h
+held_goes ps p (Starting _ _) h k = false≢true k
+held_goes ps p (Up _) h k = false≢true k
+held_goes ps p (Asked _ _) h k = false≢true k
+held_goes ps p (Killed _) h k = false≢true k
+held_goes ps p (Restarting _) h k = false≢true h
+
+told_is : (qs : List ℕ) (p now : ℕ) (s : Shutdown) (goes : Bool) → not goes ≡ true → is_free qs goes (told now p s) ≡ true
+told_is qs p now BrutalKill goes h = h
+told_is qs p now (Milliseconds _) goes h = h
+told_is qs p now Infinity goes h = h
+
+told_free : (ps qs : List ℕ) (p now : ℕ) (s : Shutdown) (goes : Bool) (state : RowState) → has_process p state ≡ true → is_free ps goes state ≡ true → is_free qs goes (told now p s) ≡ true
+told_free ps qs p now s goes Undefined h k = absurd (false≢true h)
+told_free ps qs p now s goes (Starting _ _) h k = absurd (false≢true k)
+told_free ps qs p now s goes (Up x) h k = told_is qs p now s goes (and_parts (not goes) (nat_lt 0 (times x ps)) k).0
+told_free ps qs p now s goes (Asked _ _) h k = told_is qs p now s goes k
+told_free ps qs p now s goes (Killed _) h k = told_is qs p now s goes k
+told_free ps qs p now s goes (Restarting _) h k = absurd (false≢true h)
+
+end-stops : (p : ℕ) (ps : List ℕ) (ds : List Due) (i : ℕ) (row : Row) (o : Outcome) → StandsAt i row o → has_process p row.state ≡ true → rows_in (has_process p) o.state.rows ≤ 1 → Fits (p ∷ ps) ds o.state.rows → Fits ps ds (end_row i row o).state.rows
+unfolding end_row
+end-stops p ps ds i row o at has one fits =
+    by_test (λ x. Fits ps ds x.state.rows) (is_removed row) (with_rows (remove o.state.rows i) o) (set_row i row Undefined o)
+    (λ goes. fits-stop-remove p ps i row has (λ free. held_goes (p ∷ ps) p row.state has (sym (ap (λ (b : Bool). is_free (p ∷ ps) b row.state) goes) ∙ free)) ds o.state.rows at one fits)
+    (λ _. fits-stop p ps i row Undefined has (λ _. refl) ds o.state.rows at one fits)
+
+used-fits : (p : ℕ) (ps : List ℕ) (place : Option ℕ) (o : Outcome) → IsReady (p ∷ ps) o → rows_in (has_process p) o.state.rows ≤ 1 → IsNamed o.state → Fits (p ∷ ps) o.state.to_start o.state.rows
+    → IsNamed (use_exit p place (with_work ps o.state.to_start o.state.follows o)).state × Fits ps o.state.to_start (use_exit p place (with_work ps o.state.to_start o.state.follows o)).state.rows
+unfolding use_exit end_process at_number
+used-fits p ps place o r one named fits =
+    let left : Outcome = with_waiting (without o.state.waiting place) (with_work ps o.state.to_start o.state.follows o) in
+    at_row-found (λ x. IsNamed x.state × Fits ps o.state.to_start x.state.rows) (row_has (has_process p)) left end_row left (stands p ps o r)
+    (λ i row at has. (
+      named-less (end_row i row left).state left.state (end_row-alike i row left).0 (end-named i row left at) named,
+      end-stops p ps o.state.to_start i row left at has one fits,
+    ))
+
+told-gone : (g : Progress) (p : ℕ) (ps : List ℕ) (o : Outcome) → MayStart g (p ∷ ps) o → Gone g (tell p (with_work ps o.state.to_start o.state.follows o))
+unfolding tell tell_row at_number
+told-gone g p ps o m =
+    let left : Outcome = with_work ps o.state.to_start o.state.follows o in
+    at_row-found (Gone g) (row_has (has_process p)) left (tell_row p) left (stands p ps o m.0)
+    (λ i row at has.
+    let now : RowState = told o.state.last p row.spec.shutdown in
+    let x : Outcome = emit (stop_order row.id p row.spec.shutdown) (set_row i row now left) in
+    quietly g x (keeps_answered g o x.state refl m.6)
+    (All-push NoStart o.orders (stop_order row.id p row.spec.shutdown) m.7 (stop_order-none row.id p row.spec.shutdown)) (
+      set-named i row now left at m.2,
+      fits-stop p ps i row now has (λ free. told_free (p ∷ ps) ps p o.state.last row.spec.shutdown (is_removed row) row.state has free) o.state.to_start o.state.rows at (m.1 p) m.3,
+    ))
+
+stop_first-gone : (g : Progress) (ps : List ℕ) (n : ℕ) (o : Outcome) → MayStart g ps o → Gone g (stop_first ps n o)
+unfolding stop_first
+stop_first-gone g [] n o m = start_first-gone g o.state.to_start n o refl m
+stop_first-gone g (p ∷ ps) n o m =
+    let left : Outcome = with_work ps o.state.to_start o.state.follows o in
+    let place : Option ℕ = position (is_exit p) o.state.waiting in
+    let used : Outcome = use_exit p place left in
+    by_test (Gone g) (is_some place) (stop_first ps n used) (tell p left)
+    (λ waits.
+    let ended : IsIn p g.ended = m.4 p (there (is_exit p) o.state.waiting (waiting.Retry 0) waits) in
+    let same : Alike used left = use_exit-alike p place left in
+    let fits : IsNamed used.state × Fits ps o.state.to_start used.state.rows = used-fits p ps place o m.0 (m.1 p) m.2 m.3 in
+    let answered : AllAnswered g o = m.6 in
+    stop_first-gone g ps n used (
+      used-ready p ps place o m.0,
+      (λ q. omega (arith, use_exit-no_more p place left left (λ x. omega arith) q, m.1 q)),
+      fits.0,
+      subst (λ (ds : List Due). Fits ps ds used.state.rows) (sym same.3) fits.1,
+      used-waits g p ps o m.4,
+      used-done g p ps place o ended m.5,
+      (answered.0, answered.1 ∙ ap (λ (ds : List Due). answered.0 ++ ds) (sym same.3), answered.2, answered.3),
+      subst (λ (xs : List Effect). All NoStart xs) (sym (use_exit-quiet p place left).1) m.7,
+    ))
+    (λ _. told-gone g p ps o m)
+
+-- where nothing is awaited, each start was answered
+none_starting : (m : ℕ) (rows : List Row) → rows_in is_awaited rows ≡ 0 → 0 < rows_in (is_starting m) rows → ⊥
+none_starting m rows none some =
+    let more : rows_in (is_starting m) rows ≤ rows_in is_awaited rows =
+    sum_by-le-sum_by (λ (row : Row). cond (is_starting m row.state) 1 0) (λ (row : Row). cond (is_awaited row.state) 1 0) rows (λ row. starting_awaits row.state) in
+    omega (arith, none, some, more)
+  where
+    starting_awaits : (state : RowState) → cond (is_starting m state) 1 0 ≤ cond (is_awaited state) 1 0
+    starting_awaits Undefined = omega arith
+    starting_awaits (Starting x _) = cond_both (x == m) 1 0 (λ n. n ≤ 1) (λ _. omega arith) (λ _. omega arith)
+    starting_awaits (Up _) = omega arith
+    starting_awaits (Asked _ _) = omega arith
+    starting_awaits (Killed _) = omega arith
+    starting_awaits (Restarting _) = omega arith
+
+advance-gone : (g : Progress) (n : ℕ) (o : Outcome) → Stands o → ((q : ℕ) → rows_in (has_process q) o.state.rows ≤ 1) → Keeps o.state g → KeepsStarts o.state g → All NoStart o.orders → Gone g (advance n o)
+unfolding advance
+advance-gone g n o h one stops starts none =
+    let go : Outcome = stop_first o.state.to_stop n o in
+    by_test (Gone g) (is_busy o) (if list_any (row_has is_awaited) o.state.rows then o else go) o
+    (λ busy. by_test (Gone g) (list_any (row_has is_awaited) o.state.rows) o go (λ _. quietly g o starts none h.1)
+    (λ calm.
+    let zero : rows_in is_awaited o.state.rows ≡ 0 = none_in is_awaited o.state.rows calm in
+    let had : HasWaiting o.state g × HasStops o.state g = stops busy in
+    let begun : HasStarts o.state g = starts busy in
+    stop_first-gone g o.state.to_stop n o (
+      (h.0, zero, refl, busy),
+      one,
+      h.1.0,
+      h.1.1,
+      had.0,
+      (λ apart.
+          let part : (done : List ℕ) × (g.stops ≡ done ++ o.state.to_stop) × ((q : ℕ) → IsIn q done → IsIn q g.ended ⊎ (0 < rows_in (is_told q) o.state.rows)) = had.1 apart in
+          (part.0, part.1, λ q i. ⊎_elim (λ x. x) (λ x. absurd (none_told q o.state.rows zero x)) (part.2 q i))),
+      (begun.0, begun.1, begun.2, λ i d within. ⊎_elim (λ x. x) (λ x. absurd (none_starting (get_or g.ordered i d).number o.state.rows zero x)) (begun.3 i d within)),
+      none,
+    )))
+    (λ _. quietly g o starts none h.1)
+
+-- all that holds between two events of a lawful history, whose numbers so far are below m
+abbrev Lawfully : ℕ → State → Progress → Type 0
+Lawfully m s g = IsSound s × IsFitted s × IsDistinct m s × Keeps s g × KeepsStarts s g
+
+step-gone : (m : ℕ) (s : State) (e : Event) (g : Progress) → Lawfully m s g → Gone (seen s e g) (step s e)
+unfolding step step_on
+step-gone m s e g l =
+    let start : Outcome = record { state = stamped e.reading s; orders = [] } in
+    let o : Outcome = decide e.kind start in
+    let stands_now : Stands o = decide-survives e.kind Stands start (fitted-survives e.kind (is_some s.follows)) (l.0, l.1) in
+    let quiet : list_any is_start o.orders ≡ false = decide-survives e.kind (λ x. list_any is_start x.orders ≡ false) start (decide-quiet e.kind (is_some s.follows)) refl in
+    advance-gone (seen s e g) (unwrap_or e.number 0) o stands_now (decided-distinct m s e l.2).0 (decided-keeps s e g l.0 l.3).1 (decided-starts s e g l.0 l.4) (from_any o.orders quiet)
+
+-- the numbers that follow are no less
+step-lawful : (m k : ℕ) (s : State) (e : Event) (g : Progress) → Lawfully m s g → IsDistinct k (step s e).state → Lawfully k (step s e).state (gave (step s e).orders (seen s e g))
+step-lawful m k s e g l distinct =
+    let gone : Gone (seen s e g) (step s e) = step-gone m s e g l in
+    let kept : IsSound (step s e).state × Keeps (step s e).state (gave (step s e).orders (seen s e g)) = step-keeps s e g l.0 l.3 in
+    (kept.0, gone.2, distinct, kept.1, gone.0)
+
+pairs_rest : (x : ℕ) (xs : List ℕ) → AllPairs (λ i j. i < j) (x ∷ xs) → AllPairs (λ i j. i < j) xs
+pairs_rest x xs h i j d less within = h (suc i) (suc j) d (omega (arith, less)) (omega (arith, within))
+
+pairs_first : (x : ℕ) (xs : List ℕ) → AllPairs (λ i j. i < j) (x ∷ xs) → All (λ y. x + 1 ≤ y) xs
+pairs_first x xs h i d within = let k : x < get_or xs i d = h 0 (suc i) d (omega arith) (omega (arith, within)) in omega (arith, k)
+
+-- the numbers of a history whose first event has this one
+run-lawful : (m : ℕ) (s : State) (g : Progress) (events : List Event) (e : Event) → Lawfully m s g → IsNumbered s (events ++ e ∷ []) → AllPairs (λ i j. i < j) (numbers_of (events ++ e ∷ [])) → All (λ y. m ≤ y) (numbers_of (events ++ e ∷ []))
+    → All (IsStartInTurn (seen (state_after s events) e (progress s g events))) (step (state_after s events) e).orders
+run-lawful m s g [] e l numbered rises fresh = (step-gone m s e g l).1
+run-lawful m s g (x ∷ events) e l numbered rises fresh =
+    let rest : List ℕ = numbers_of (events ++ e ∷ []) in
+    let goes_on : (k : ℕ) → IsDistinct k (step s x).state → AllPairs (λ i j. i < j) rest → All (λ y. k ≤ y) rest → All (IsStartInTurn (seen (state_after s (x ∷ events)) e (progress s g (x ∷ events)))) (step (state_after s (x ∷ events)) e).orders =
+    λ k distinct up above. run-lawful k (step s x).state (gave (step s x).orders (seen s x g)) events e (step-lawful m k s x g l distinct) numbered.1 up above in
+    (elim x.number as (λ (n : Option ℕ). x.number ≡ n → AllPairs (λ i j. i < j) (cons_option n rest) → All (λ y. m ≤ y) (cons_option n rest) → All (IsStartInTurn (seen (state_after s (x ∷ events)) e (progress s g (x ∷ events)))) (step (state_after s (x ∷ events)) e).orders) [
+      | None ↦ λ is up above. goes_on m (unnumbered-distinct m s x is (sym numbered.0 ∙ ap (λ (n : Option ℕ). is_some n) is) l.2) up above
+      | Some n ↦ λ is up above. goes_on (n + 1) (numbered-distinct m n s x is (All-head (λ y. m ≤ y) n rest above) l.2) (pairs_rest n rest up) (pairs_first n rest up)
+    ]) refl rises fresh
+
+pub start_order_law : StartOrder
+start_order_law flags specs events e lawful =
+    run-lawful 0 (empty_state flags specs) no_progress events e
+    (empty-sound flags specs, empty-fitted flags specs, (λ q. omega arith, λ q h. refl), not_busy (empty_state flags specs) no_progress refl, idle_keeps (empty_state flags specs) no_progress refl)
+    lawful.0 lawful.1 (λ i d within. omega arith)

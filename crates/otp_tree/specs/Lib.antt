@@ -1,0 +1,6 @@
+pub mod Values
+pub mod Faults
+pub mod Tables
+pub mod Children
+pub mod Tree
+pub mod Files
