@@ -1,5 +1,5 @@
 -- The lines that are read (own).
-use Rattle.std.specs.Prelude.{ℕ, ◌^◌, Bool, true, false, nat_le, nat_lt, List, [], ◌∷◌, Option, Some, None, length, take, drop, codes, if◌then◌else◌}
+use Rattle.std.specs.Prelude.{ℕ, ◌≤◌, ◌^◌, Bool, true, false, nat_lt, List, [], ◌∷◌, Option, Some, None, length, take, drop, codes, if◌then◌else◌}
 use Rattle.std.specs.Option.{option_map}
 use Rattle.otp_reason.specs.declared.name.Name.{Name}
 use Rattle.otp_reason.specs.declared.note.Note.{Note}
@@ -153,9 +153,9 @@ line_of [] = Some line.Empty
 line_of (byte ∷ bytes) = if nat_lt 512 (length (byte ∷ bytes)) then None else line_of_words (words_of (byte ∷ bytes))
 
 -- a clock's reading is at most 2 ^ 62 milliseconds
-abbrev pub is_timely : Line → Bool
-is_timely line.Empty = true
-is_timely (line.At reading) = nat_le reading (2 ^ 62)
-is_timely (line.Note _) = true
-is_timely line.Stop = true
-is_timely (line.Call _) = true
+abbrev pub IsTimely : Line → Type 0
+IsTimely line.Empty = Unit {0}
+IsTimely (line.At reading) = reading ≤ 2 ^ 62
+IsTimely (line.Note _) = Unit {0}
+IsTimely line.Stop = Unit {0}
+IsTimely (line.Call _) = Unit {0}

@@ -1,9 +1,9 @@
 //! Lines as they are read.
 
-ghost use Rattle.std.specs.Prelude.{◌≡◌, ◌≤◌, ◌^◌, IfSome, IsTrue, option_copied};
+ghost use Rattle.std.specs.Prelude.{◌≡◌, ◌≤◌, ◌^◌, IfSome, option_copied};
 ghost use Rattle.std.specs.Option.{option_map};
 ghost use Rattle.otp_text.specs.Words.{words_of, words_left};
-ghost use Rattle.otp_text.specs.Lines.{number_in, one_number, one_name, number_and_reason, two_names, spec_named, spec_in, start_in, terminate_in, one_terminate, call_of, line_with, line_of_words, line_of, is_timely};
+ghost use Rattle.otp_text.specs.Lines.{number_in, one_number, one_name, number_and_reason, two_names, spec_named, spec_in, start_in, terminate_in, one_terminate, call_of, line_with, line_of_words, line_of, IsTimely};
 
 use crate::verb::Verb;
 use crate::word::{
@@ -38,7 +38,7 @@ pub enum Line {
 #[tactic(auto, unfolding(crate::specs::Lines::line_of))]
 pub fn read_line(line: &[u8]) -> Option<Line>
     ensures line { result ≡ line_of line.now }
-    ensures time { IfSome result (λ read. IsTrue (is_timely read)) }
+    ensures time { IfSome result IsTimely }
 {
     if line.is_empty() {
         return Some(Line::Empty);
@@ -53,7 +53,7 @@ pub fn read_line(line: &[u8]) -> Option<Line>
 #[tactic(auto, unfolding(crate::specs::Lines::line_of_words))]
 fn read_words(line: &[u8]) -> Option<Line>
     ensures line { result ≡ line_of_words (words_of line.now) }
-    ensures time { IfSome result (λ read. IsTrue (is_timely read)) }
+    ensures time { IfSome result IsTimely }
 {
     let (word, rest) = cut(line);
     let verb = Verb::of_word(word)?;
@@ -64,7 +64,7 @@ fn read_words(line: &[u8]) -> Option<Line>
 #[tactic(auto, unfolding(crate::specs::Lines::line_with))]
 fn read_verb(verb: Verb, rest: Option<&[u8]>) -> Option<Line>
     ensures line { result ≡ line_with verb (words_left (option_copied rest.entry)) }
-    ensures time { IfSome result (λ read. IsTrue (is_timely read)) }
+    ensures time { IfSome result IsTimely }
 {
     match verb {
         Verb::At => Some(Line::At(read_one_number(rest)?)),
