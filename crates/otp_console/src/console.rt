@@ -1,0 +1,59 @@
+//! The program but for its words, its files and its standard streams.
+
+ghost use Rattle.otp_console.specs.Runs.{IsRun};
+
+use crate::ending::Ending;
+use otp_core::opening::check_open;
+use otp_sim::{Input, Output, SimEnd, sim};
+use otp_tree::{TreeFault, read_tree};
+use std::alloc::Global;
+
+/// Reads the tree of a file, plays the lines of the input on its supervisor, and writes the orders to the output.
+pub fn console<R: Input, W: Output>(
+    alloc: Global,
+    file: &[u8],
+    input: &mut R,
+    output: &mut W,
+) -> Ending
+    ensures { IsRun result file.now
+        (record { left = R.remaining input.old; written = W.contents output.old; read_failures = R.failures input.old; write_failures = W.failures output.old })
+        (record { left = R.remaining input.new; written = W.contents output.new; read_failures = R.failures input.new; write_failures = W.failures output.new }) }
+{
+    let tree = match read_tree(alloc, file) {
+        Ok(tree) => tree,
+        Err(fault) => return Ending::of_tree(fault),
+    };
+    if let Err(fault) = check_open(&tree.flags, tree.specs.as_slice()) {
+        return Ending::TreeRefused(TreeFault::Unlawful(fault));
+    }
+    Ending::of_sim(sim(alloc, &tree.flags, tree.specs.as_slice(), input, output))
+}
+
+impl Ending {
+    ghost use Rattle.std.specs.Prelude.{◌≡◌};
+    ghost use Rattle.otp_console.specs.Statuses.{ending_of, ending_of_tree};
+
+    /// The end of a run of `sim`.
+    fn of_sim(end: SimEnd) -> Self
+        ensures { result ≡ ending_of end }
+    {
+        match end {
+            SimEnd::Done => Ending::Done,
+            SimEnd::LineRefused(line) => Ending::LineRefused(line),
+            SimEnd::HistoryFull => Ending::HistoryFull,
+            SimEnd::InputFailed => Ending::InputFailed,
+            SimEnd::OutputFailed => Ending::OutputFailed,
+            SimEnd::Memory => Ending::OutOfMemory,
+        }
+    }
+
+    /// The end for a tree that is not had.
+    fn of_tree(fault: TreeFault) -> Self
+        ensures { result ≡ ending_of_tree fault }
+    {
+        match fault {
+            TreeFault::OutOfMemory => Ending::OutOfMemory,
+            _ => Ending::TreeRefused(fault),
+        }
+    }
+}

@@ -1,0 +1,87 @@
+//! The program: `sim FILE` reads a tree file and then lines of standard input, and prints the orders of its supervisor.
+#![tactic(auto)]
+
+pub mod console;
+pub mod ending;
+pub mod words;
+
+use crate::console::console;
+use crate::ending::Ending;
+use crate::words::{WordsFault, settings};
+use otp_sim::Counted;
+use std::process::ExitCode;
+use std::{env, fs, io};
+
+fn main(rt: HostRuntime) -> ExitCode {
+    let ending = run(&rt);
+    ExitCode::from(ending)
+}
+
+/// The status for words that are refused.
+const WORDS_REFUSED: u8 = 2;
+
+fn run(rt: &HostRuntime) -> u8 {
+    let Ok(words) = words_of(rt) else {
+        return tell(rt, Ending::OutOfMemory);
+    };
+    let mut texts = Vec::new(rt.alloc());
+    for word in words.iter() {
+        if texts.push(word.as_str()).is_err() {
+            return tell(rt, Ending::OutOfMemory);
+        }
+    }
+    match settings(rt.alloc(), texts.as_slice()) {
+        Ok(settings) => tell(rt, simulate(rt, settings.file)),
+        Err(fault) => tell_words(rt, fault),
+    }
+}
+
+/// The words of the command line.
+fn words_of(rt: &HostRuntime) -> io::Result<Vec<String>> {
+    let mut words = Vec::new(rt.alloc());
+    for word in env::args(rt)? {
+        words.push(word)?;
+    }
+    Ok(words)
+}
+
+/// Prints how the program ends, and gives its status.
+fn tell(rt: &HostRuntime, ending: Ending) -> u8 {
+    if ending != Ending::Done {
+        let _ = eprintln!(rt; "{ending}");
+    }
+    ending.status()
+}
+
+/// Prints what `clap` says of the words, and gives the status.
+fn tell_words(rt: &HostRuntime, fault: WordsFault) -> u8 {
+    match fault {
+        WordsFault::Clap(error) => {
+            if error.use_stderr() {
+                let _ = eprint!(rt; "{error}");
+                WORDS_REFUSED
+            } else {
+                let _ = print!(rt; "{error}");
+                0
+            }
+        }
+        WordsFault::NoFile => {
+            let _ = eprintln!(rt; "usage: otp sim FILE");
+            WORDS_REFUSED
+        }
+        WordsFault::OutOfMemory => tell(rt, Ending::OutOfMemory),
+    }
+}
+
+/// Plays the lines of standard input on the supervisor of the file, and prints its orders on standard output.
+fn simulate(rt: &HostRuntime, name: &str) -> Ending {
+    let Ok(file) = fs::read(rt, name) else {
+        return Ending::TreeNotRead;
+    };
+    let mut input = Counted::new(rt.stdin());
+    let mut output = Counted::new(rt.stdout());
+    console(rt.alloc(), &file, &mut input, &mut output)
+}
+
+#[cfg(test)]
+mod tests;

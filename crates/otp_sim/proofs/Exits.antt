@@ -1,0 +1,311 @@
+-- What each way out of a run says.
+use Rattle.std.proofs.Common.{◌≡◌, ℕ, ◌<◌, ◌≤◌, ◌^◌, ◌+◌, ◌⊎◌, inl, inr, List, [], ◌∷◌, ◌++◌, length, Option, Some, None, is_some, take, true, Result, Ok, Err, IfSome, refl, ap, sym, ◌∙◌, append_assoc, subst, arith, length-append}
+use Rattle.std.specs.Io.KnownBytes.{Appends, Consumes, IsAtEnd, Keeps}
+use Rattle.std.proofs.lemmas.List.{append-nil, take-append-le, take_all}
+use Rattle.otp_spec.specs.declared.child.ChildSpec.{ChildSpec}
+use Rattle.otp_spec.specs.declared.flags.SupFlags.{SupFlags}
+use Rattle.otp_sim.specs.declared.session.Stop.{Stop}
+use Rattle.otp_sim.specs.declared.session.Stop.TheVariants as stop
+use Rattle.otp_sim.specs.declared.engine.SimEnd.{SimEnd}
+use Rattle.otp_sim.specs.declared.engine.SimEnd.TheVariants.{Done, LineRefused, HistoryFull, InputFailed, OutputFailed, Memory}
+use Rattle.otp_sim.specs.Devices.{Begins, AppendsPart, IsPieceEnd}
+use Rattle.otp_sim.specs.Sim.{Sim, opened, happen, stepped, take_line, take_lines, lines_of, but_last, sim_of, sim_text, sim_end, end_of, whole_text}
+use Rattle.otp_sim.specs.Runs.{Served, Ran, Broke, NoEnd, Writes, LastWrites, Devices, WroteAll, WrotePart, WroteLines, with_text}
+use Rattle.otp_sim.proofs.Texts.{take_line_after, after}
+use Rattle.otp_sim.proofs.Writes.{appends_none, appends_more}
+use Rattle.otp_sim.proofs.Progress.{ran_start, ran_read, ran_then, broke_then, ran_part, ran_stuck, ran_written, last_served, ended_served, long_served, whole_served}
+
+pub consumes_none : (known : Option (List ℕ)) → Consumes known known []
+consumes_none None = tt
+consumes_none (Some xs) = refl
+
+pub consumes_more : (a b c : Option (List ℕ)) (x y : List ℕ) → Consumes a b x → Consumes b c y → Consumes a c (x ++ y)
+consumes_more None b c x y first second = tt
+consumes_more (Some xs) None c x y first second = absurd first
+consumes_more (Some xs) (Some ys) None x y first second = absurd second
+consumes_more (Some xs) (Some ys) (Some zs) x y first second = first ∙ ap (λ bytes. x ++ bytes) second ∙ sym (append_assoc x y zs)
+
+pub consumes_kept : (a b c : Option (List ℕ)) (x : List ℕ) → Consumes a b x → Keeps b c → Consumes a c x
+consumes_kept None b c x first kept = tt
+consumes_kept (Some xs) None c x first kept = absurd first
+consumes_kept (Some xs) (Some ys) None x first kept = absurd kept
+consumes_kept (Some xs) (Some ys) (Some zs) x first kept = first ∙ ap (λ bytes. x ++ bytes) (sym kept)
+
+-- of the input these bytes were taken, and so it stands
+pub record Stands (start s : Sim) (old now : Devices) (ready kept : List ℕ) (count : ℕ) : Type 0 where
+  pub taken : List ℕ
+  pub consumed : Consumes old.left now.left taken
+  pub ran : Ran start s old.written now.written ready taken kept
+  pub none : NoEnd kept
+  pub size : count ≡ length taken
+  pub lines : s.lines ≤ count
+  pub reads : old.read_failures ≤ now.read_failures
+  pub writes : old.write_failures ≤ now.write_failures
+
+-- only a part was written
+part_of : (start : Sim) (taken : List ℕ) (left_old left_now before now : Option (List ℕ)) → Consumes left_old left_now taken → Broke start before now taken
+    → IfSome left_old (WrotePart start before now)
+unfolding sim_of
+part_of start taken None left_now before now consumed broke = tt
+part_of start taken (Some bytes) None before now consumed broke = absurd consumed
+part_of start taken (Some bytes) (Some rest) before now consumed broke =
+    record {
+      text = broke.text;
+      written = broke.written;
+      begins = subst (λ (xs : List ℕ). Begins broke.text (take_lines (lines_of xs) start).text) (sym consumed) (broke.begins rest);
+    }
+
+-- all was written, where what is left of the input leads to this end
+all_of : (start final : Sim) (taken : List ℕ) (left_old left_now before now : Option (List ℕ)) → Consumes left_old left_now taken
+    → ((rest : List ℕ) → left_now ≡ Some rest → take_lines (lines_of (taken ++ rest)) start ≡ final) → Appends before now final.text
+    → IfSome left_old (WroteAll start before now (end_of final.end))
+unfolding sim_of
+all_of start final taken None left_now before now consumed same text = tt
+all_of start final taken (Some bytes) None before now consumed same text = absurd consumed
+all_of start final taken (Some bytes) (Some rest) before now consumed same text =
+    let whole : take_lines (lines_of bytes) start ≡ final = ap (λ xs. take_lines (lines_of xs) start) consumed ∙ same rest refl in
+    record {
+      text = subst (λ (t : Sim). Appends before now t.text) (sym whole) text;
+      end = ap (λ (t : Sim). end_of t.end) (sym whole);
+    }
+
+-- a part of it was
+some_of : (start final : Sim) (taken text : List ℕ) (left_old left_now before now : Option (List ℕ)) → Consumes left_old left_now taken
+    → ((rest : List ℕ) → left_now ≡ Some rest → take_lines (lines_of (taken ++ rest)) start ≡ final) → Appends before now text → Begins text final.text
+    → IfSome left_old (WrotePart start before now)
+unfolding sim_of
+some_of start final taken text None left_now before now consumed same written begins = tt
+some_of start final taken text (Some bytes) None before now consumed same written begins = absurd consumed
+some_of start final taken text (Some bytes) (Some rest) before now consumed same written begins =
+    let whole : take_lines (lines_of bytes) start ≡ final = ap (λ xs. take_lines (lines_of xs) start) consumed ∙ same rest refl in
+    record { text = text; written = written; begins = subst (λ (t : Sim). Begins text t.text) (sym whole) begins }
+
+ends_so : (reason : Option Stop) (start : Sim) (old now : Devices)
+    → IfSome old.left (WroteAll start old.written now.written (end_of reason)) → Writes (end_of reason) start old now
+ends_so None start old now all = all
+ends_so (Some (stop.LineRefused line)) start old now all = all
+ends_so (Some stop.HistoryFull) start old now all = all
+
+piece_ends : (how : SimEnd) (start : Sim) (old now : Devices) (failures : ℕ) → old.write_failures ≤ failures
+    → IfSome old.left (WrotePart start old.written now.written) → IsPieceEnd (Err how) failures now.write_failures → Writes how start old now
+piece_ends Done start old now failures later part cause = absurd cause
+piece_ends (LineRefused line) start old now failures later part cause = absurd cause
+piece_ends HistoryFull start old now failures later part cause = absurd cause
+piece_ends InputFailed start old now failures later part cause = absurd cause
+piece_ends OutputFailed start old now failures later part cause = (part, omega arith)
+piece_ends Memory start old now failures later part cause = part
+
+-- at the start
+pub stands_start : (s : Sim) (devices : Devices) (ready kept : List ℕ) → kept ≡ [] → s.lines ≡ 0 → Stands (with_text ready s) s devices devices ready kept 0
+stands_start s devices ready kept empty none =
+    subst (λ (bytes : List ℕ). Stands (with_text ready s) s devices devices ready bytes 0) (sym empty) (record {
+      taken = [];
+      consumed = consumes_none devices.left;
+      ran = ran_start s devices.written ready [];
+      none = λ k d inside. absurd (omega arith);
+      size = refl;
+      lines = omega arith;
+      reads = omega arith;
+      writes = omega arith;
+    })
+
+-- for want of memory nothing goes on
+pub memory_exit : (start s : Sim) (old now : Devices) (ready kept : List ℕ) (count : ℕ) → Stands start s old now ready kept count → Writes Memory start old now
+memory_exit start s old now ready kept count stands =
+    part_of start stands.taken old.left now.left old.written now.written stands.consumed
+    (ran_stuck start s old.written now.written ready stands.taken kept stands.ran)
+
+-- what is ready is written
+pub stands_written : (start s : Sim) (old now : Devices) (ready left kept : List ℕ) (count : ℕ) (written : Option (List ℕ)) (failures : ℕ)
+    → Stands start s old now ready kept count → Appends now.written written ready → left ≡ [] → now.write_failures ≤ failures
+    → Stands start s old (record now { written = written; write_failures = failures }) left kept count
+stands_written start s old now ready left kept count written failures stands more empty later =
+    subst (λ (bytes : List ℕ). Stands start s old (record now { written = written; write_failures = failures }) bytes kept count) (sym empty) (record {
+      taken = stands.taken;
+      consumed = stands.consumed;
+      ran = ran_written start s old.written now.written written ready stands.taken kept stands.ran more;
+      none = stands.none;
+      size = stands.size;
+      lines = stands.lines;
+      reads = stands.reads;
+      writes = omega (arith, stands.writes);
+    })
+
+pub output_exit : (start s : Sim) (old now : Devices) (ready kept : List ℕ) (count : ℕ) (written : Option (List ℕ)) (failures : ℕ)
+    → Stands start s old now ready kept count → AppendsPart now.written written ready → now.write_failures < failures
+    → Writes OutputFailed start old (record now { written = written; write_failures = failures })
+output_exit start s old now ready kept count written failures stands part failed = (
+  part_of start stands.taken old.left now.left old.written written stands.consumed
+      (ran_part start s old.written now.written written ready stands.taken kept stands.ran part),
+  omega (arith, stands.writes),
+)
+
+pub ended_exit : (how : SimEnd) (start s : Sim) (old now : Devices) (ready kept : List ℕ) (count : ℕ) (reason : Stop)
+    → Stands start s old now ready kept count → ready ≡ [] → Some reason ≡ s.end → how ≡ end_of (Some reason) → Writes how start old now
+ended_exit how start s old now ready kept count reason some_ready empty ended named =
+    let stands = subst (λ (bytes : List ℕ). Stands start s old now bytes kept count) empty some_ready in
+    let final : Sim = with_text (stands.ran.written ++ []) s in
+    let some : is_some s.end ≡ true = ap is_some (sym ended) in
+    let text : Appends old.written now.written (stands.ran.written ++ []) = rw append-nil stands.ran.appended in
+    let all = all_of start final stands.taken old.left now.left old.written now.written stands.consumed
+    (λ rest e. ended_served start final stands.taken kept rest some stands.ran.served) text in
+    subst (λ (end : SimEnd). Writes end start old now) (sym named)
+    (ends_so (Some reason) start old now
+    (subst (λ (end : Option Stop). IfSome old.left (WroteAll start old.written now.written (end_of end))) (sym ended) all))
+
+-- the reader fails
+pub input_exit : (start s : Sim) (old now : Devices) (ready kept : List ℕ) (count : ℕ) (left : Option (List ℕ)) (failures : ℕ)
+    → Stands start s old now ready kept count → ready ≡ [] → Keeps now.left left
+    → ((now.read_failures < failures) ⊎ (2 ^ 62 ≤ count))
+    → Writes InputFailed start old (record now { left = left; read_failures = failures })
+unfolding whole_text
+input_exit start s old now ready kept count left failures some_ready empty same why =
+    let stands = subst (λ (bytes : List ℕ). Stands start s old now bytes kept count) empty some_ready in
+    let text : whole_text start stands.taken ≡ stands.ran.written =
+    ap (λ (t : Sim). t.text) (whole_served start _ stands.taken kept stands.none stands.ran.served) ∙ append-nil stands.ran.written in
+    record {
+      taken = stands.taken;
+      consumed = consumes_kept old.left now.left left stands.taken stands.consumed same;
+      written = rw text stands.ran.appended;
+      why = elim why [ inl failed ↦ inl (omega (arith, stands.reads)) | inr many ↦ inr (omega (arith, stands.size)) ];
+    }
+
+-- the reader is at its end
+pub stands_end : (start s : Sim) (old now : Devices) (ready kept : List ℕ) (count : ℕ) (left : Option (List ℕ)) (failures : ℕ)
+    → Stands start s old now ready kept count → (piece : List ℕ) → piece ≡ [] → Consumes now.left left piece → now.read_failures ≤ failures
+    → Stands start s old (record now { left = left; read_failures = failures }) ready kept count
+stands_end start s old now ready kept count left failures stands piece none some later =
+    let nothing = subst (Consumes now.left left) none some in
+    record {
+      taken = stands.taken;
+      consumed = subst (Consumes old.left left) (append-nil stands.taken) (consumes_more old.left now.left left stands.taken [] stands.consumed nothing);
+      ran = stands.ran;
+      none = stands.none;
+      size = stands.size;
+      lines = stands.lines;
+      reads = omega (arith, stands.reads);
+      writes = stands.writes;
+    }
+
+-- a last line is taken
+last_exit : (how : SimEnd) (start s t : Sim) (old now : Devices) (ready kept : List ℕ) (count : ℕ) (written : Option (List ℕ)) (failures : ℕ)
+    (stands : Stands start s old now ready kept count)
+    → ((rest : List ℕ) → now.left ≡ Some rest → take_lines (lines_of (stands.taken ++ rest)) start ≡ after stands.ran.written t)
+    → LastWrites how t now.written written now.write_failures failures
+    → Writes how start old (record now { written = written; write_failures = failures })
+last_exit Done start s t old now ready kept count written failures stands final last =
+    let text = appends_more old.written now.written written stands.ran.written t.text stands.ran.appended last.0 in
+    subst (λ (end : SimEnd). IfSome old.left (WroteAll start old.written written end)) (sym last.1)
+    (all_of start (after stands.ran.written t) stands.taken old.left now.left old.written written stands.consumed final text)
+last_exit (LineRefused line) start s t old now ready kept count written failures stands final last =
+    let text = appends_more old.written now.written written stands.ran.written t.text stands.ran.appended last.0 in
+    subst (λ (end : SimEnd). IfSome old.left (WroteAll start old.written written end)) (sym last.1)
+    (all_of start (after stands.ran.written t) stands.taken old.left now.left old.written written stands.consumed final text)
+last_exit HistoryFull start s t old now ready kept count written failures stands final last =
+    let text = appends_more old.written now.written written stands.ran.written t.text stands.ran.appended last.0 in
+    subst (λ (end : SimEnd). IfSome old.left (WroteAll start old.written written end)) (sym last.1)
+    (all_of start (after stands.ran.written t) stands.taken old.left now.left old.written written stands.consumed final text)
+last_exit InputFailed start s t old now ready kept count written failures stands final last = absurd last
+last_exit OutputFailed start s t old now ready kept count written failures stands final last = (
+  some_of start (after stands.ran.written t) stands.taken (stands.ran.written ++ last.0.front) old.left now.left old.written written stands.consumed final
+      (appends_more old.written now.written written stands.ran.written last.0.front stands.ran.appended last.0.appended)
+      (record {
+        rest = last.0.begins.rest;
+        same = ap (λ bytes. stands.ran.written ++ bytes) last.0.begins.same
+            ∙ sym (append_assoc stands.ran.written last.0.front last.0.begins.rest);
+      }),
+  omega (arith, stands.writes, last.1),
+)
+last_exit Memory start s t old now ready kept count written failures stands final last =
+    some_of start (after stands.ran.written t) stands.taken (stands.ran.written ++ last.front) old.left now.left old.written written stands.consumed final
+    (appends_more old.written now.written written stands.ran.written last.front stands.ran.appended last.appended)
+    (record {
+      rest = last.begins.rest;
+      same = ap (λ bytes. stands.ran.written ++ bytes) last.begins.same
+          ∙ sym (append_assoc stands.ran.written last.front last.begins.rest);
+    })
+
+-- at the end of the input
+pub end_exit : (how : SimEnd) (start s : Sim) (old now : Devices) (ready kept line : List ℕ) (count : ℕ) (written : Option (List ℕ)) (failures : ℕ)
+    (stands : Stands start s old now ready kept count) → IsAtEnd now.left → line ≡ kept
+    → LastWrites how (take_line line (with_text ready s)) now.written written now.write_failures failures
+    → Writes how start old (record now { written = written; write_failures = failures })
+end_exit how start s old now ready kept line count written failures stands at_end same_line line_last =
+    let last = subst (λ (bytes : List ℕ). LastWrites how (take_line bytes (with_text ready s)) now.written written now.write_failures failures) same_line line_last in
+    let served : take_lines (lines_of stands.taken) start ≡ after stands.ran.written (take_line kept (with_text ready s)) =
+    last_served start _ stands.taken kept stands.none stands.ran.served ∙ take_line_after stands.ran.written kept (with_text ready s) in
+    last_exit how start s (take_line kept (with_text ready s)) old now ready kept count written failures stands
+    (λ rest e.
+    let none : rest ≡ [] = subst IsAtEnd e at_end in
+    ap (λ bytes. take_lines (lines_of (stands.taken ++ bytes)) start) none
+    ∙ ap (λ bytes. take_lines (lines_of bytes) start) (append-nil stands.taken) ∙ served)
+    last
+
+-- at a line that is too long
+pub long_exit : (how : SimEnd) (start s : Sim) (old now : Devices) (ready kept line : List ℕ) (count : ℕ) (written : Option (List ℕ)) (failures : ℕ)
+    (stands : Stands start s old now ready kept count) → 512 < length kept → line ≡ kept
+    → LastWrites how (take_line line (with_text ready s)) now.written written now.write_failures failures
+    → Writes how start old (record now { written = written; write_failures = failures })
+long_exit how start s old now ready kept line count written failures stands long same_line line_last =
+    let last = subst (λ (bytes : List ℕ). LastWrites how (take_line bytes (with_text ready s)) now.written written now.write_failures failures) same_line line_last in
+    last_exit how start s (take_line kept (with_text ready s)) old now ready kept count written failures stands
+    (λ rest e. long_served start _ stands.taken kept rest stands.none long stands.ran.served ∙ take_line_after stands.ran.written kept (with_text ready s))
+    last
+
+-- a piece of the input is served
+pub stands_served : (start s t : Sim) (old now : Devices) (ready ready_now kept kept_now piece : List ℕ) (count count_now : ℕ)
+    (left written : Option (List ℕ)) (read_failures write_failures : ℕ)
+    → Stands start s old now ready kept count → count_now ≡ count + length piece → Consumes now.left left piece → now.read_failures ≤ read_failures
+    → Ran (with_text ready s) t now.written written ready_now (kept ++ piece) kept_now → NoEnd kept_now → t.lines ≤ s.lines + length piece
+    → now.write_failures ≤ write_failures
+    → Stands start t old (record { left = left; written = written; read_failures = read_failures; write_failures = write_failures }) ready_now kept_now count_now
+stands_served start s t old now ready ready_now kept kept_now piece count count_now left written read_failures write_failures stands counted more reads ran none lines writes =
+    record {
+      taken = stands.taken ++ piece;
+      consumed = consumes_more old.left now.left left stands.taken piece stands.consumed more;
+      ran = ran_then start s t old.written now.written written ready ready_now (stands.taken ++ piece) (kept ++ piece) kept_now
+          (ran_read start s old.written now.written ready stands.taken kept piece stands.ran) ran;
+      none = none;
+      size = omega (arith, stands.size, length-append stands.taken piece);
+      lines = omega (arith, stands.lines);
+      reads = omega (arith, stands.reads);
+      writes = omega (arith, stands.writes);
+    }
+
+pub piece_exit : (how : SimEnd) (start s : Sim) (old now : Devices) (ready kept piece : List ℕ) (count : ℕ)
+    (left written : Option (List ℕ)) (read_failures write_failures : ℕ)
+    → Stands start s old now ready kept count → Consumes now.left left piece
+    → Broke (with_text ready s) now.written written (kept ++ piece) → IsPieceEnd (Err how) now.write_failures write_failures
+    → Writes how start old (record { left = left; written = written; read_failures = read_failures; write_failures = write_failures })
+piece_exit how start s old now ready kept piece count left written read_failures write_failures stands more broke cause =
+    let part = part_of start (stands.taken ++ piece) old.left left old.written written
+    (consumes_more old.left now.left left stands.taken piece stands.consumed more)
+    (broke_then start s old.written now.written written ready (stands.taken ++ piece) (kept ++ piece)
+    (ran_read start s old.written now.written ready stands.taken kept piece stands.ran) broke) in
+    piece_ends how start old (record { left = left; written = written; read_failures = read_failures; write_failures = write_failures }) now.write_failures stands.writes part cause
+
+pub keeps_known : (known : Option (List ℕ)) → Keeps known known
+keeps_known None = tt
+keeps_known (Some xs) = refl
+
+-- bytes that were written over a whole buffer
+pub written_over : (size : ℕ) (bytes rest : List ℕ) → size ≡ length bytes → take size (bytes ++ rest) ≡ bytes
+written_over size bytes rest same =
+    let within : size ≤ length bytes = omega arith in
+    let all : length bytes ≤ size = omega arith in
+    take-append-le size bytes rest within ∙ take_all size bytes all
+
+-- the opening is no line
+pub opened_lines : (flags : SupFlags) (specs : List ChildSpec) → (opened flags specs).lines ≡ 0
+unfolding opened happen stepped
+opened_lines flags specs = refl
+
+-- nothing is a beginning of what was to be written
+pub nothing_written : (start : Sim) (devices : Devices) → Writes Memory start devices devices
+nothing_written start devices =
+    part_of start [] devices.left devices.left devices.written devices.written (consumes_none devices.left)
+    (ran_stuck start start devices.written devices.written start.text [] [] (ran_start start devices.written start.text []))
+
+-- one start or the same
+pub writes_from : (how : SimEnd) (a b : Sim) (old new : Devices) → a ≡ b → Writes how a old new → Writes how b old new
+writes_from how a b old new same writes = subst (λ (start : Sim). Writes how start old new) same writes

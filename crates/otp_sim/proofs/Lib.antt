@@ -1,0 +1,6 @@
+pub mod Texts
+pub mod Progress
+pub mod Writes
+pub mod Exits
+pub mod Played
+pub mod Settled

@@ -1,0 +1,413 @@
+-- What serving a line, a piece of the input or its end does to a run.
+use Rattle.std.proofs.Common.{◌≡◌, ℕ, ◌+◌, ◌<◌, ◌==◌, Bool, true, false, cond, List, [], ◌∷◌, ◌++◌, length, Option, Some, None, is_some, take, drop, get_or, position, ◌≤◌, subst, refl, ap, sym, ◌∙◌, append_assoc, arith, nat_lt}
+use Rattle.std.specs.List.{slice_split, onto_first, position_or_len, All}
+use Rattle.std.proofs.lemmas.List.{append-nil, length-append, length-take, get_or-take}
+use Rattle.std.proofs.lemmas.List.Splits.{slice_split_at, slice_split_none, slice_split-cons_no}
+use Rattle.std.proofs.lemmas.Bool.{lt-ltb, ltb-true, ltb-false, eqb-true}
+use Rattle.std.proofs.lemmas.List.Sums.{fails_before_first, passes_at_first, split_at_first}
+use Rattle.std.proofs.lemmas.List.Elements.{All-head, All-tail, All-append, All-from_get_or}
+use Rattle.otp_text.specs.Words.{words_of}
+use Rattle.otp_text.specs.Lines.{line_of, line_of_words}
+use Rattle.otp_sim.specs.Devices.{Begins}
+use Rattle.otp_sim.specs.Sim.{Sim, take_form, take_line, take_lines, lines_of, but_last}
+use Rattle.otp_sim.specs.Runs.{Served, Ran, Broke, NoEnd, with_text}
+use Rattle.otp_sim.specs.Devices.{AppendsPart, Moves}
+use Rattle.std.specs.Io.KnownBytes.{Appends}
+use Rattle.otp_sim.proofs.Writes.{appends_none, appends_more}
+use Rattle.otp_sim.proofs.Texts.{take_line_after, take_lines_after, after}
+
+abbrev is_end : ℕ → Bool
+is_end byte = byte == 10
+
+take_lines_append : (xs ys : List (List ℕ)) (s : Sim) → take_lines (xs ++ ys) s ≡ take_lines ys (take_lines xs s)
+unfolding take_lines
+take_lines_append [] ys s = refl
+take_lines_append (x ∷ xs) ys s = take_lines_append xs ys (take_line x s)
+
+take_one : (line : List ℕ) (s : Sim) → take_lines (line ∷ []) s ≡ take_line line s
+unfolding take_lines
+take_one line s = refl
+
+-- after the end no line is taken
+take_lines_ended : (lines : List (List ℕ)) (s : Sim) → is_some s.end ≡ true → take_lines lines s ≡ s
+unfolding take_lines take_line
+take_lines_ended [] s e = refl
+take_lines_ended (line ∷ others) s e =
+    let here : take_line line s ≡ s = ap (λ ended. cond ended s (take_form (line_of line) (record s { lines = s.lines + 1 }))) e in
+    ap (take_lines others) here ∙ take_lines_ended others s e
+
+no_parts : List (List ℕ) → Bool
+no_parts [] = true
+no_parts (_ ∷ _) = false
+
+onto_first_some : (byte : ℕ) (parts : List (List ℕ)) → no_parts (onto_first byte parts) ≡ false
+unfolding no_parts
+onto_first_some byte [] = refl
+onto_first_some byte (_ ∷ _) = refl
+
+parts_some : (test : ℕ → Bool) (bytes : List ℕ) → no_parts (slice_split test bytes) ≡ false
+unfolding no_parts
+parts_some test [] = refl
+parts_some test (byte ∷ bytes) =
+    elim (test byte) as (λ t. no_parts (cond t ([] ∷ slice_split test bytes) (onto_first byte (slice_split test bytes))) ≡ false)
+    [ true ↦ refl | false ↦ onto_first_some byte (slice_split test bytes) ]
+
+head_none : (byte : ℕ) (bytes : List ℕ) → NoEnd (byte ∷ bytes) → (byte == 10) ≡ false
+head_none byte bytes none = All-head (λ b. (b == 10) ≡ false) byte bytes none
+
+tail_none : (byte : ℕ) (bytes : List ℕ) → NoEnd (byte ∷ bytes) → NoEnd bytes
+tail_none byte bytes none = All-tail (λ b. (b == 10) ≡ false) byte bytes none
+
+-- nothing is served yet
+pub none_served : (start : Sim) → Served start [] [] start
+unfolding take_lines
+none_served start = record { lines = []; cut = λ more. refl; so_far = refl }
+
+-- more is read
+pub more_read : (start s : Sim) (taken waiting piece : List ℕ) → Served start taken waiting s → Served start (taken ++ piece) (waiting ++ piece) s
+more_read start s taken waiting piece served =
+    record {
+      lines = served.lines;
+      cut = λ more. ap lines_of (append_assoc taken piece more) ∙ served.cut (piece ++ more)
+          ∙ ap (λ bytes. served.lines ++ lines_of bytes) (sym (append_assoc waiting piece more));
+      so_far = served.so_far;
+    }
+
+-- a line is served
+pub line_served : (start s : Sim) (taken line others : List ℕ) → NoEnd line → Served start taken (line ++ 10 ∷ others) s
+    → Served start taken others (take_line line s)
+unfolding lines_of
+line_served start s taken line others none served =
+    record {
+      lines = served.lines ++ line ∷ [];
+      cut = λ more.
+          served.cut more
+          ∙ ap (λ bytes. served.lines ++ lines_of bytes) (append_assoc line (10 ∷ others) more)
+          ∙ ap (λ parts. served.lines ++ parts) (slice_split_at is_end line 10 (others ++ more) none refl)
+          ∙ sym (append_assoc served.lines (line ∷ []) (lines_of (others ++ more)));
+      so_far = ap (take_line line) served.so_far ∙ sym (take_one line _) ∙ sym (take_lines_append served.lines (line ∷ []) start);
+    }
+
+-- at the end of the input the last line is served
+pub last_served : (start s : Sim) (taken line : List ℕ) → NoEnd line → Served start taken line s
+    → take_lines (lines_of taken) start ≡ take_line line s
+unfolding lines_of
+last_served start s taken line none served =
+    ap (λ bytes. take_lines (lines_of bytes) start) (sym (append-nil taken))
+    ∙ ap (λ lines. take_lines lines start) (served.cut [])
+    ∙ take_lines_append served.lines (lines_of (line ++ [])) start
+    ∙ ap (take_lines (lines_of (line ++ []))) (sym served.so_far)
+    ∙ ap (λ bytes. take_lines (lines_of bytes) s) (append-nil line)
+    ∙ ap (λ lines. take_lines lines s) (slice_split_none is_end line none)
+    ∙ take_one line s
+
+-- after the end, what follows changes nothing
+pub ended_served : (start s : Sim) (taken waiting more : List ℕ) → is_some s.end ≡ true → Served start taken waiting s
+    → take_lines (lines_of (taken ++ more)) start ≡ s
+ended_served start s taken waiting more e served =
+    ap (λ lines. take_lines lines start) (served.cut more)
+    ∙ take_lines_append served.lines (lines_of (waiting ++ more)) start
+    ∙ ap (take_lines (lines_of (waiting ++ more))) (sym served.so_far)
+    ∙ take_lines_ended (lines_of (waiting ++ more)) s e
+
+-- the lines of which the end has come are all but the one that waits
+but_last_append : (lines : List (List ℕ)) (line : List ℕ) → but_last (lines ++ line ∷ []) ≡ lines
+but_last_append [] line = refl
+but_last_append (first ∷ []) line = refl
+but_last_append (first ∷ second ∷ others) line = ap (λ rest. first ∷ rest) (but_last_append (second ∷ others) line)
+
+pub whole_served : (start s : Sim) (taken line : List ℕ) → NoEnd line → Served start taken line s
+    → take_lines (but_last (lines_of taken)) start ≡ s
+unfolding lines_of
+whole_served start s taken line none served =
+    let parts : lines_of taken ≡ served.lines ++ line ∷ [] =
+    ap lines_of (sym (append-nil taken)) ∙ served.cut []
+    ∙ ap (λ bytes. served.lines ++ lines_of bytes) (append-nil line)
+    ∙ ap (λ lines. served.lines ++ lines) (slice_split_none is_end line none) in
+    ap (λ lines. take_lines (but_last lines) start) parts
+    ∙ ap (λ lines. take_lines lines start) (but_last_append served.lines line)
+    ∙ sym served.so_far
+
+-- a line that is too long already is refused, however it goes on
+pub record FirstLine (line bytes : List ℕ) : Type 0 where
+  rest : List ℕ
+  others : List (List ℕ)
+  same : lines_of bytes ≡ (line ++ rest) ∷ others
+
+first_line_more : (byte : ℕ) (parts : List (List ℕ)) (line rest : List ℕ) (others : List (List ℕ))
+    → parts ≡ (line ++ rest) ∷ others → onto_first byte parts ≡ ((byte ∷ line) ++ rest) ∷ others
+first_line_more byte parts line rest others e = ap (onto_first byte) e
+
+some_line : (bytes : List ℕ) (parts : List (List ℕ)) → parts ≡ lines_of bytes → no_parts parts ≡ false → FirstLine [] bytes
+unfolding no_parts
+some_line bytes [] e none = let contradiction : ⊥ = cc in absurd contradiction
+some_line bytes (part ∷ others) e none = record { rest = part; others = others; same = sym e }
+
+first_line : (line more : List ℕ) → NoEnd line → FirstLine line (line ++ more)
+unfolding lines_of
+first_line [] more none = some_line more (lines_of more) refl (parts_some is_end more)
+first_line (byte ∷ line) more none =
+    let later = first_line line more (tail_none byte line none) in
+    record {
+      rest = later.rest;
+      others = later.others;
+      same = slice_split-cons_no is_end byte (line ++ more) (head_none byte line none)
+          ∙ first_line_more byte (lines_of (line ++ more)) line later.rest later.others later.same;
+    }
+
+too_long : (line rest : List ℕ) → 512 < length line → line_of (line ++ rest) ≡ None
+unfolding line_of
+too_long [] rest long = absurd (omega arith)
+too_long (byte ∷ line) rest long =
+    let longer : 512 < length ((byte ∷ line) ++ rest) = omega (arith, length-append (byte ∷ line) rest) in
+    ap (λ test. cond test None (line_of_words (words_of ((byte ∷ line) ++ rest)))) (lt-ltb 512 (length ((byte ∷ line) ++ rest)) longer)
+
+refused_same : (line rest : List ℕ) (s : Sim) → 512 < length line → take_line (line ++ rest) s ≡ take_line line s
+unfolding take_line
+refused_same line rest s long =
+    ap (λ form. cond (is_some s.end) s (take_form form (record s { lines = s.lines + 1 })))
+    (too_long line rest long ∙ sym (ap line_of (sym (append-nil line)) ∙ too_long line [] long))
+
+refused_ends : (line : List ℕ) (s : Sim) → 512 < length line → is_some (take_line line s).end ≡ true
+unfolding take_line take_form
+refused_ends line s long =
+    rw (ap line_of (sym (append-nil line)) ∙ too_long line [] long)
+    (elim (is_some s.end) as (λ ended. is_some s.end ≡ ended → is_some (cond ended s (take_form None (record s { lines = s.lines + 1 }))).end ≡ true)
+    [ true ↦ λ e. e | false ↦ λ e. refl ] refl)
+
+pub long_served : (start s : Sim) (taken line more : List ℕ) → NoEnd line → 512 < length line → Served start taken line s
+    → take_lines (lines_of (taken ++ more)) start ≡ take_line line s
+unfolding take_lines
+long_served start s taken line more none long served =
+    let first = first_line line more none in
+    ap (λ lines. take_lines lines start) (served.cut more)
+    ∙ take_lines_append served.lines (lines_of (line ++ more)) start
+    ∙ ap (take_lines (lines_of (line ++ more))) (sym served.so_far)
+    ∙ ap (λ lines. take_lines lines s) first.same
+    ∙ ap (take_lines first.others) (refused_same line first.rest s long)
+    ∙ take_lines_ended first.others (take_line line s) (refused_ends line s long)
+
+-- what is printed for more lines begins with what is printed so far
+pub text_begins : (lines : List (List ℕ)) (s : Sim) → Begins s.text (take_lines lines s).text
+text_begins lines s =
+    let bare : Sim = with_text [] s in
+    let whole : take_lines lines s ≡ after s.text (take_lines lines bare) =
+    ap (λ text. take_lines lines (with_text text s)) (sym (append-nil s.text)) ∙ take_lines_after s.text lines bare in
+    record { rest = (take_lines lines bare).text; same = ap (λ (t : Sim). t.text) whole }
+
+pub served_begins : (start s : Sim) (taken waiting more : List ℕ) → Served start taken waiting s
+    → Begins s.text (take_lines (lines_of (taken ++ more)) start).text
+served_begins start s taken waiting more served =
+    let all : take_lines (lines_of (taken ++ more)) start ≡ take_lines (lines_of (waiting ++ more)) s =
+    ap (λ lines. take_lines lines start) (served.cut more)
+    ∙ take_lines_append served.lines (lines_of (waiting ++ more)) start
+    ∙ ap (take_lines (lines_of (waiting ++ more))) (sym served.so_far) in
+    rw all (text_begins (lines_of (waiting ++ more)) s)
+
+-- a part of a run goes on where another one stopped
+pub served_then : (start s0 s1 : Sim) (taken waiting rest : List ℕ) → Served start taken waiting s0 → Served s0 waiting rest s1
+    → Served start taken rest s1
+served_then start s0 s1 taken waiting rest first second =
+    record {
+      lines = first.lines ++ second.lines;
+      cut = λ more. first.cut more ∙ ap (λ lines. first.lines ++ lines) (second.cut more)
+          ∙ sym (append_assoc first.lines second.lines (lines_of (rest ++ more)));
+      so_far = second.so_far ∙ ap (take_lines second.lines) first.so_far ∙ sym (take_lines_append first.lines second.lines start);
+    }
+
+-- and what was written before doesn't matter
+served_after : (front : List ℕ) (start s : Sim) (taken waiting : List ℕ) → Served start taken waiting s → Served (after front start) taken waiting (after front s)
+served_after front start s taken waiting served =
+    record {
+      lines = served.lines;
+      cut = served.cut;
+      so_far = ap (after front) served.so_far ∙ sym (take_lines_after front served.lines start);
+    }
+
+pub ran_start : (s : Sim) (known : Option (List ℕ)) (ready waiting : List ℕ) → Ran (with_text ready s) s known known ready waiting waiting
+unfolding take_lines
+ran_start s known ready waiting =
+    record { written = []; appended = appends_none known; served = record { lines = []; cut = λ more. refl; so_far = refl } }
+
+pub ran_then : (start s0 s1 : Sim) (before mid now : Option (List ℕ)) (ready0 ready1 taken waiting rest : List ℕ)
+    → Ran start s0 before mid ready0 taken waiting → Ran (with_text ready0 s0) s1 mid now ready1 waiting rest
+    → Ran start s1 before now ready1 taken rest
+ran_then start s0 s1 before mid now ready0 ready1 taken waiting rest first second =
+    let later : Served (with_text (first.written ++ ready0) s0) waiting rest (with_text (first.written ++ (second.written ++ ready1)) s1) =
+    served_after first.written (with_text ready0 s0) (with_text (second.written ++ ready1) s1) waiting rest second.served in
+    record {
+      written = first.written ++ second.written;
+      appended = appends_more before mid now first.written second.written first.appended second.appended;
+      served = rw (append_assoc first.written second.written ready1) (served_then start _ _ taken waiting rest first.served later);
+    }
+
+-- what is ready is written
+pub ran_written : (start s : Sim) (before mid now : Option (List ℕ)) (ready taken waiting : List ℕ)
+    → Ran start s before mid ready taken waiting → Appends mid now ready → Ran start s before now [] taken waiting
+ran_written start s before mid now ready taken waiting ran more =
+    record {
+      written = ran.written ++ ready;
+      appended = appends_more before mid now ran.written ready ran.appended more;
+      served = rw (append-nil (ran.written ++ ready)) ran.served;
+    }
+
+-- one line more
+pub ran_line : (start s t : Sim) (before now : Option (List ℕ)) (ready0 ready1 taken line others : List ℕ)
+    → NoEnd line → Ran start s before now ready0 taken (line ++ 10 ∷ others)
+    → with_text ready1 t ≡ take_line line (with_text ready0 s)
+    → Ran start t before now ready1 taken others
+ran_line start s t before now ready0 ready1 taken line others none ran step =
+    let here : with_text (ran.written ++ ready1) t ≡ take_line line (with_text (ran.written ++ ready0) s) =
+    ap (after ran.written) step ∙ sym (take_line_after ran.written line (with_text ready0 s)) in
+    record {
+      written = ran.written;
+      appended = ran.appended;
+      served = rw here (line_served start _ taken line others none ran.served);
+    }
+
+-- more of the input is read
+pub ran_read : (start s : Sim) (before now : Option (List ℕ)) (ready taken waiting piece : List ℕ)
+    → Ran start s before now ready taken waiting → Ran start s before now ready (taken ++ piece) (waiting ++ piece)
+ran_read start s before now ready taken waiting piece ran =
+    record { written = ran.written; appended = ran.appended; served = more_read start _ taken waiting piece ran.served }
+
+-- what was written is a beginning, and so is it with a part of what is ready
+begins_front : (front rest whole : List ℕ) → Begins (front ++ rest) whole → Begins front whole
+begins_front front rest whole begins =
+    record { rest = rest ++ begins.rest; same = begins.same ∙ append_assoc front rest begins.rest }
+
+pub ran_part : (start s : Sim) (before mid now : Option (List ℕ)) (ready taken waiting : List ℕ)
+    → Ran start s before mid ready taken waiting → AppendsPart mid now ready → Broke start before now taken
+ran_part start s before mid now ready taken waiting ran part =
+    record {
+      text = ran.written ++ part.front;
+      written = appends_more before mid now ran.written part.front ran.appended part.appended;
+      begins = λ more.
+          let whole : Begins (ran.written ++ ready) (take_lines (lines_of (taken ++ more)) start).text =
+          served_begins start _ taken waiting more ran.served in
+          let split : ran.written ++ ready ≡ (ran.written ++ part.front) ++ part.begins.rest =
+          ap (λ bytes. ran.written ++ bytes) part.begins.same ∙ sym (append_assoc ran.written part.front part.begins.rest) in
+          begins_front (ran.written ++ part.front) part.begins.rest _ (rw (← split) whole);
+    }
+
+pub ran_stuck : (start s : Sim) (before now : Option (List ℕ)) (ready taken waiting : List ℕ)
+    → Ran start s before now ready taken waiting → Broke start before now taken
+ran_stuck start s before now ready taken waiting ran =
+    ran_part start s before now now ready taken waiting ran
+    (record { front = []; appended = appends_none now; begins = record { rest = ready; same = refl } })
+
+pub broke_then : (start s : Sim) (before mid now : Option (List ℕ)) (ready taken waiting : List ℕ)
+    → Ran start s before mid ready taken waiting → Broke (with_text ready s) mid now waiting → Broke start before now taken
+broke_then start s before mid now ready taken waiting ran broke =
+    record {
+      text = ran.written ++ broke.text;
+      written = appends_more before mid now ran.written broke.text ran.appended broke.written;
+      begins = λ more.
+          let all : take_lines (lines_of (taken ++ more)) start ≡ after ran.written (take_lines (lines_of (waiting ++ more)) (with_text ready s)) =
+          ap (λ lines. take_lines lines start) (ran.served.cut more)
+          ∙ take_lines_append ran.served.lines (lines_of (waiting ++ more)) start
+          ∙ ap (take_lines (lines_of (waiting ++ more))) (sym ran.served.so_far)
+          ∙ take_lines_after ran.written (lines_of (waiting ++ more)) (with_text ready s) in
+          let front = broke.begins more in
+          record {
+            rest = front.rest;
+            same = ap (λ (t : Sim). t.text) all ∙ ap (λ bytes. ran.written ++ bytes) front.same
+                ∙ sym (append_assoc ran.written broke.text front.rest);
+          };
+    }
+
+-- some of what is ready is written
+pub ran_moved : (start s : Sim) (before mid now : Option (List ℕ)) (ready left taken waiting : List ℕ)
+    → Ran start s before mid ready taken waiting → Moves mid now ready left → Ran start s before now left taken waiting
+ran_moved start s before mid now ready left taken waiting ran moved =
+    let same : ran.written ++ ready ≡ (ran.written ++ moved.text) ++ left =
+    ap (λ bytes. ran.written ++ bytes) moved.whole ∙ sym (append_assoc ran.written moved.text left) in
+    record {
+      written = ran.written ++ moved.text;
+      appended = appends_more before mid now ran.written moved.text ran.appended moved.appended;
+      served = rw (← same) ran.served;
+    }
+
+-- a piece is cut at its first LF
+not_found : (found : Bool) (place : ℕ) → cond found (Some place) None ≡ None → found ≡ false
+not_found true place e = cc
+not_found false place e = refl
+
+found_at : (found : Bool) (place end : ℕ) → cond found (Some place) None ≡ Some end → (found ≡ true) × (place ≡ end)
+found_at true place end e = (refl, cc)
+found_at false place end e = cc
+
+pub no_end_left : (bytes : List ℕ) → position is_end bytes ≡ None → NoEnd bytes
+no_end_left bytes e =
+    let past : length bytes ≤ position_or_len is_end bytes = ltb-false _ _ (not_found _ _ e) in
+    All-from_get_or (λ byte. is_end byte ≡ false) bytes 0
+    (λ i inside. let before : i < position_or_len is_end bytes = omega arith in fails_before_first is_end bytes i 0 before)
+
+pub record Split (bytes : List ℕ) (end : ℕ) : Type 0 where
+  pub same : bytes ≡ take end bytes ++ 10 ∷ drop (end + 1) bytes
+  pub none : NoEnd (take end bytes)
+
+pub piece_split : (bytes : List ℕ) (end : ℕ) → position is_end bytes ≡ Some end → Split bytes end
+piece_split bytes end e =
+    let both = found_at _ _ end e in
+    let inside : position_or_len is_end bytes < length bytes = ltb-true _ _ both.0 in
+    let is_ten : get_or bytes (position_or_len is_end bytes) 0 ≡ 10 = eqb-true _ _ (passes_at_first is_end bytes 0 inside) in
+    let whole : bytes ≡ take (position_or_len is_end bytes) bytes ++ 10 ∷ drop (position_or_len is_end bytes + 1) bytes =
+    split_at_first is_end bytes 0 inside
+    ∙ ap (λ byte. take (position_or_len is_end bytes) bytes ++ byte ∷ drop (position_or_len is_end bytes + 1) bytes) is_ten in
+    let none : NoEnd (take (position_or_len is_end bytes) bytes) =
+    All-from_get_or (λ byte. is_end byte ≡ false) (take (position_or_len is_end bytes) bytes) 0
+    (λ i short.
+    let before : i < position_or_len is_end bytes = omega (arith, length-take (position_or_len is_end bytes) bytes) in
+    rw (get_or-take (position_or_len is_end bytes) bytes i 0 before) (fails_before_first is_end bytes i 0 before)) in
+    subst (Split bytes) both.1 (record { same = whole; none = none })
+
+cut_waiting : (kept rest : List ℕ) (end : ℕ) → Split rest end → kept ++ rest ≡ (kept ++ take end rest) ++ 10 ∷ drop (end + 1) rest
+cut_waiting kept rest end split =
+    ap (λ bytes. kept ++ bytes) split.same ∙ sym (append_assoc kept (take end rest) (10 ∷ drop (end + 1) rest))
+
+pub part_no_end : (kept rest : List ℕ) (end : ℕ) → position is_end rest ≡ Some end → NoEnd kept → NoEnd (kept ++ take end rest)
+part_no_end kept rest end found none = All-append (λ byte. (byte == 10) ≡ false) kept (take end rest) none (piece_split rest end found).none
+
+pub rest_no_end : (kept rest : List ℕ) → position is_end rest ≡ None → NoEnd kept → NoEnd (kept ++ rest)
+rest_no_end kept rest found none = All-append (λ byte. (byte == 10) ≡ false) kept rest none (no_end_left rest found)
+
+pub next_broke : (start s : Sim) (before mid now : Option (List ℕ)) (ready taken kept rest : List ℕ) (end : ℕ)
+    → position is_end rest ≡ Some end → Ran start s before mid ready taken (kept ++ rest)
+    → ((others : List ℕ) → Broke (with_text ready s) mid now ((kept ++ take end rest) ++ 10 ∷ others))
+    → Broke start before now taken
+next_broke start s before mid now ready taken kept rest end found ran broke =
+    let whole = cut_waiting kept rest end (piece_split rest end found) in
+    broke_then start s before mid now ready taken (kept ++ rest) ran (rw whole (broke (drop (end + 1) rest)))
+
+pub next_ran : (start s t : Sim) (before mid now : Option (List ℕ)) (ready left taken kept kept_now rest rest_now : List ℕ) (end : ℕ)
+    → position is_end rest ≡ Some end → Ran start s before mid ready taken (kept ++ rest)
+    → ((others : List ℕ) → Ran (with_text ready s) t mid now left ((kept ++ take end rest) ++ 10 ∷ others) others)
+    → kept_now ≡ [] → rest_now ≡ drop (end + 1) rest
+    → Ran start t before now left taken (kept_now ++ rest_now)
+next_ran start s t before mid now ready left taken kept kept_now rest rest_now end found ran step none same =
+    let whole = cut_waiting kept rest end (piece_split rest end found) in
+    let after_line : Ran (with_text ready s) t mid now left (kept ++ rest) (drop (end + 1) rest) = rw whole (step (drop (end + 1) rest)) in
+    rw (none, same) (ran_then start s t before mid now ready left taken (kept ++ rest) (drop (end + 1) rest) ran after_line)
+
+-- one line is served, and perhaps some of the text written
+pub line_ran : (s t : Sim) (before now : Option (List ℕ)) (ready0 ready1 left line : List ℕ)
+    → NoEnd line → with_text ready1 t ≡ take_line line (with_text ready0 s) → Moves before now ready1 left
+    → (others : List ℕ) → Ran (with_text ready0 s) t before now left (line ++ 10 ∷ others) others
+line_ran s t before now ready0 ready1 left line none step moved others =
+    ran_moved (with_text ready0 s) t before before now ready1 left (line ++ 10 ∷ others) others
+    (ran_line (with_text ready0 s) s t before before ready0 ready1 (line ++ 10 ∷ others) line others none
+    (ran_start s before ready0 (line ++ 10 ∷ others)) step)
+    moved
+
+pub line_broke : (s t : Sim) (before now : Option (List ℕ)) (ready0 ready1 line : List ℕ)
+    → NoEnd line → with_text ready1 t ≡ take_line line (with_text ready0 s) → AppendsPart before now ready1
+    → (others : List ℕ) → Broke (with_text ready0 s) before now (line ++ 10 ∷ others)
+line_broke s t before now ready0 ready1 line none step part others =
+    ran_part (with_text ready0 s) t before before now ready1 (line ++ 10 ∷ others) others
+    (ran_line (with_text ready0 s) s t before before ready0 ready1 (line ++ 10 ∷ others) line others none
+    (ran_start s before ready0 (line ++ 10 ∷ others)) step)
+    part
+
+pub none_broke : (s : Sim) (known : Option (List ℕ)) (ready waiting : List ℕ) → Broke (with_text ready s) known known waiting
+none_broke s known ready waiting = ran_stuck (with_text ready s) s known known ready waiting waiting (ran_start s known ready waiting)

@@ -1,0 +1,83 @@
+-- What is printed doesn't depend on what was printed before.
+use Rattle.std.proofs.Common.{◌≡◌, ℕ, zero, suc, ◌+◌, ◌-◌, ◌==◌, Bool, true, false, cond, List, [], ◌∷◌, ◌++◌, Option, Some, None, is_some, refl, ap, sym, ◌∙◌, append_assoc}
+use Rattle.otp_rules.specs.declared.event.Event.{Event}
+use Rattle.otp_rules.specs.declared.event.Kind.{Kind}
+use Rattle.otp_rules.specs.declared.event.Kind.TheVariants as kind
+use Rattle.otp_rules.specs.State.{Outcome}
+use Rattle.otp_rules.specs.Step.{step}
+use Rattle.otp_text.specs.declared.line.Line.{Line}
+use Rattle.otp_text.specs.declared.line.Line.TheVariants as line
+use Rattle.otp_text.specs.Lines.{line_of}
+use Rattle.otp_sim.specs.Sim.{Sim, event_of, stepped, happen, next_kind, if_some, settled_within, settled, is_due, ticked, take_read, take_form, take_line, take_lines, orders_text}
+use Rattle.otp_sim.specs.declared.session.Stop.TheVariants.{HistoryFull}
+use Rattle.otp_sim.specs.Runs.{with_text}
+
+-- s, had this text been printed before
+abbrev pub after : List ℕ → Sim → Sim
+after front s = with_text (front ++ s.text) s
+
+stepped_after : (front : List ℕ) (event : Event) (o : Outcome) (s : Sim) → stepped event o (after front s) ≡ after front (stepped event o s)
+unfolding stepped
+stepped_after front event o s =
+    ap (λ text. with_text text (stepped event o s)) (append_assoc front s.text (orders_text o.state.replies o.orders))
+
+happen_after : (front : List ℕ) (what : Kind) (s : Sim) → happen what (after front s) ≡ after front (happen what s)
+unfolding happen event_of
+happen_after front what s =
+    elim (s.room == 0) as (λ full.
+    cond full (record (after front s) { end = Some HistoryFull }) (stepped (event_of what s) (step s.state (event_of what s)) (after front s))
+    ≡ after front (cond full (record s { end = Some HistoryFull }) (stepped (event_of what s) (step s.state (event_of what s)) s)))
+    [ true ↦ refl | false ↦ stepped_after front (event_of what s) (step s.state (event_of what s)) s ]
+
+next_after : (front : List ℕ) (s : Sim) → next_kind (after front s) ≡ next_kind s
+unfolding next_kind
+next_after front s = refl
+
+settled_within_after : (room : ℕ) (front : List ℕ) (s : Sim) → settled_within room (after front s) ≡ after front (settled_within room s)
+unfolding settled_within next_kind
+settled_within_after zero front s =
+    elim (next_kind s) as (λ next. if_some next (λ what. happen what (after front s)) (after front s) ≡ after front (if_some next (λ what. happen what s) s))
+    [ None ↦ refl | Some what ↦ happen_after front what s ]
+settled_within_after (suc room) front s =
+    elim (next_kind s) as (λ next.
+    if_some next (λ what. settled_within room (happen what (after front s))) (after front s)
+    ≡ after front (if_some next (λ what. settled_within room (happen what s)) s)) [
+      | None ↦ refl
+      | Some what ↦ ap (settled_within room) (happen_after front what s) ∙ settled_within_after room front (happen what s)
+    ]
+
+settled_after : (front : List ℕ) (s : Sim) → settled (after front s) ≡ after front (settled s)
+unfolding settled
+settled_after front s = settled_within_after s.room front s
+
+ticked_after : (front : List ℕ) (s : Sim) → ticked (after front s) ≡ after front (ticked s)
+unfolding ticked is_due
+ticked_after front s =
+    elim (is_due s) as (λ due. cond due (happen kind.Ticked (after front s)) (after front s) ≡ after front (cond due (happen kind.Ticked s) s))
+    [ true ↦ happen_after front kind.Ticked s | false ↦ refl ]
+
+take_read_after : (front : List ℕ) (read : Line) (s : Sim) → take_read read (after front s) ≡ after front (take_read read s)
+unfolding take_read
+take_read_after front line.Empty s = refl
+take_read_after front (line.At reading) s = ticked_after front (record s { reading = reading })
+take_read_after front (line.Note note) s = happen_after front _ s
+take_read_after front line.Stop s = refl
+take_read_after front (line.Call call) s = happen_after front _ (record s { calls = s.calls + 1 })
+
+take_form_after : (front : List ℕ) (read : Option Line) (s : Sim) → take_form read (after front s) ≡ after front (take_form read s)
+unfolding take_form
+take_form_after front None s = refl
+take_form_after front (Some read) s = ap settled (take_read_after front read s) ∙ settled_after front (take_read read s)
+
+pub take_line_after : (front bytes : List ℕ) (s : Sim) → take_line bytes (after front s) ≡ after front (take_line bytes s)
+unfolding take_line
+take_line_after front bytes s =
+    elim (is_some s.end) as (λ ended.
+    cond ended (after front s) (take_form (line_of bytes) (after front (record s { lines = s.lines + 1 })))
+    ≡ after front (cond ended s (take_form (line_of bytes) (record s { lines = s.lines + 1 }))))
+    [ true ↦ refl | false ↦ take_form_after front (line_of bytes) (record s { lines = s.lines + 1 }) ]
+
+pub take_lines_after : (front : List ℕ) (lines : List (List ℕ)) (s : Sim) → take_lines lines (after front s) ≡ after front (take_lines lines s)
+unfolding take_lines
+take_lines_after front [] s = refl
+take_lines_after front (bytes ∷ others) s = ap (take_lines others) (take_line_after front bytes s) ∙ take_lines_after front others (take_line bytes s)

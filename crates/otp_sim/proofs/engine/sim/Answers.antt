@@ -1,0 +1,23 @@
+use Rattle.std.proofs.Common.{◌≡◌, ap, ◌∙◌}
+use Rattle.otp_sim.specs.Sim.{Sim, opened}
+use Rattle.otp_sim.specs.Runs.{Devices, with_text}
+use Rattle.otp_sim.proofs.Exits.{opened_lines, nothing_written, writes_from}
+use Rattle.otp_sim.proofs.engine.sim.Goals as goal
+
+pub serve-requires : goal.serve-requires
+serve-requires g c =
+    ap (λ (s : Sim). s.lines) c.in-Ok.ensures ∙ opened_lines c.args.flags.now c.args.specs.now
+
+pub returns-in_default : goal.returns-in_default
+returns-in_default g c =
+    let devices : Devices = record {
+      left = g.R.Input.remaining c.args.input.now;
+      written = g.W.Output.contents c.args.output.now;
+      read_failures = g.R.Input.failures c.args.input.now;
+      write_failures = g.W.Output.failures c.args.output.now;
+    } in
+    nothing_written (opened c.args.flags.now c.args.specs.now) devices
+
+pub returns : goal.returns
+returns g c =
+    writes_from c.serve.result (with_text c.open.new.out.items c.in-Ok.player) (opened c.args.flags.now c.args.specs.now) _ _ c.in-Ok.ensures c.serve.ensures

@@ -1,0 +1,84 @@
+use Rattle.std.proofs.Common.{◌≡◌, ℕ, ◌+◌, ◌-◌, ◌<◌, ◌≤◌, ◌++◌, ◌==◌, Bool, false, List, [], ◌∷◌, ◌∙◌, Option, None, Some, All, ap, arith, length, length-append, refl, sym, append-nil}
+use Rattle.std.specs.Prelude.{OnOk, Ok, Err, unwrap_or, if◌then◌else◌, true}
+use Rattle.std.proofs.lemmas.Bool.{false≢true}
+use Rattle.std.proofs.Common.{subst}
+use Rattle.otp_rules.specs.Needs.{needs_number, numbers_of}
+use Rattle.otp_rules.specs.declared.event.Event.{Event}
+use Rattle.otp_rules.specs.declared.event.Effect.{Effect}
+use Rattle.otp_rules.specs.State.{State}
+use Rattle.otp_rules.specs.Step.{step}
+use Rattle.otp_rules.specs.Run.{state_after}
+use Rattle.otp_core.specs.View.{View, state_of}
+use Rattle.otp_sim.specs.Sim.{Sim, event_of, happen, orders_text}
+use Rattle.otp_sim.specs.Runs.{with_text}
+use Rattle.otp_sim.specs.PlayerInside.{sim_of_player}
+use Rattle.otp_sim.proofs.Played.{at_most_next, few_left, happened, numbers_after, pushed}
+use Rattle.otp_sim.proofs.Settled.{happen_full, is_zero}
+use Rattle.otp_sim.proofs.player.Player.happen.Goals as goal
+
+pub returns-then-is_full-clause-ok : goal.returns-then-is_full-clause-ok
+returns-then-is_full-clause-ok c =
+    let before : Sim = with_text c.args.out.now.items (sim_of_player c.self.inside) in
+    let most : 65536 ≤ length c.self.inside.core.history = c.is_full.ensures.0 c.if-is_full.true in
+    let none : 65536 - length c.self.inside.core.history ≡ 0 = omega (arith, most) in
+    sym (happen_full c.args.kind before (is_zero before.room none)) ∙ ap (λ (v : Sim). happen c.args.kind (with_text c.args.out.now.items v)) c.self.view_is
+
+pub invariant_of-self-3 : goal.invariant_of-self-3
+invariant_of-self-3 c =
+    let core : View = c.prepare.new.self in
+    let prepared : core ≡ record c.self.inside.core { prepared = true } = c.in_ok-prepare.ensures.ok in
+    let event : Event = record { reading = c.self.inside.reading; number = c.next_number-number.result; kind = c.args.kind } in
+    let cleared : c.clear_effects.new.self.history ≡ c.step.new.self.history = ap (λ (v : View). v.history) c.clear_effects.ensures in
+    let same : core.history ≡ c.self.inside.core.history = ap (λ (v : View). v.history) prepared in
+    let longer : c.clear_effects.new.self.history ≡ c.self.inside.core.history ++ event ∷ [] = cleared ∙ c.step.ensures.history ∙ ap (λ (h : List Event). h ++ event ∷ []) same in
+    let count : length c.clear_effects.new.self.history ≡ length c.self.inside.core.history + 1 = ap (λ (h : List Event). length h) longer ∙ length-append c.self.inside.core.history (event ∷ []) in
+    let next : (n : ℕ) → c.next_number-number.result ≡ Some n → n ≡ c.self.inside.processes + 1 = c.next_number-number.ensures.next in
+    let few : ¬ (65536 ≤ length c.self.inside.core.history) = λ most. false≢true (sym c.if-is_full.false ∙ c.is_full.ensures.1 most) in
+    let greatest : unwrap_or c.next_number-number.result c.self.inside.processes ≤ c.self.inside.processes + 1 = at_most_next c.next_number-number.result c.self.inside.processes next in
+    let Numbers : ℕ → Type 0 = λ p. All (λ m. m ≤ p) (numbers_of c.clear_effects.new.self.history) in
+    record {
+      effects = ap (λ (v : View). v.effects) c.clear_effects.ensures;
+      reading = c.self.invariant.reading;
+      history = omega (arith, count, few);
+      processes = omega (arith, count, greatest, c.unwrap_or-self-inside.ensures, c.self.invariant.processes);
+      numbers = subst Numbers (sym c.unwrap_or-self-inside.ensures) (numbers_after c.self.inside.processes c.self.inside.core.history c.clear_effects.new.self.history event longer next c.self.invariant.numbers);
+      calls = c.self.invariant.calls;
+    }
+
+pub returns-clause-ok : goal.returns-clause-ok
+unfolding event_of
+returns-clause-ok c =
+    let core : View = c.prepare.new.self in
+    let old : View = c.self.inside.core in
+    let prepared : core ≡ record old { prepared = true } = c.in_ok-prepare.ensures.ok in
+    let before : Sim = with_text c.args.out.now.items (sim_of_player c.self.inside) in
+    let event : Event = record { reading = c.self.inside.reading; number = c.next_number-number.result; kind = c.args.kind } in
+    let after : View = c.clear_effects.new.self in
+    let some : (before.room == 0) ≡ false = few_left (length old.history) (λ most. false≢true (sym c.if-is_full.false ∙ c.is_full.ensures.1 most)) in
+    let same : state_of core ≡ state_of old = ap state_of prepared in
+    let number : c.next_number-number.result ≡ (event_of c.args.kind before).number =
+    c.next_number-number.ensures.number ∙ ap (λ (s : State). if needs_number s c.self.inside.reading c.args.kind then Some (c.self.inside.processes + 1) else None) same in
+    let is_event : event ≡ event_of c.args.kind before = ap (λ (n : Option ℕ). record { reading = c.self.inside.reading; number = n; kind = c.args.kind }) number in
+    let moved : state_of c.step.new.self ≡ (step (state_of core) event).state =
+    ap (λ (b : State). state_after b c.step.new.self.history) c.step.ensures.base ∙ ap (state_after core.base) c.step.ensures.history ∙ pushed core.base core.history event in
+    let stepped : state_of c.step.new.self ≡ (step (state_of old) event).state = moved ∙ ap (λ (s : State). (step s event).state) same in
+    let is_state : state_of after ≡ (step (state_of old) event).state = ap state_of c.clear_effects.ensures ∙ stepped in
+    let longer : after.history ≡ old.history ++ event ∷ [] =
+    ap (λ (v : View). v.history) c.clear_effects.ensures ∙ c.step.ensures.history ∙ ap (λ (v : View). v.history ++ event ∷ []) prepared in
+    let count : length after.history ≡ length old.history + 1 = ap (λ (h : List Event). length h) longer ∙ length-append old.history (event ∷ []) in
+    let orders : c.step.new.self.effects ≡ (step (state_of old) event).orders =
+    c.step.ensures.effects ∙ ap (λ (xs : List Effect). xs ++ (step (state_of core) event).orders) (ap (λ (v : View). v.effects) prepared ∙ c.self.invariant.effects)
+    ∙ ap (λ (s : State). (step s event).orders) same in
+    let printed : orders_text (state_of c.step.new.self).replies c.step.new.self.effects ≡ orders_text (state_of after).replies (step (state_of old) event).orders =
+    ap (λ (s : State). orders_text s.replies c.step.new.self.effects) (sym (ap state_of c.clear_effects.ensures))
+    ∙ ap (orders_text (state_of after).replies) orders in
+    (elim c.print_orders-printed.result as (λ r.
+    OnOk r (c.print_orders-printed.new.out.items ≡ c.args.out.now.items ++ orders_text (state_of c.step.new.self).replies c.step.new.self.effects) →
+    OnOk r (record before { state = state_of after; processes = c.unwrap_or-self-inside.result; room = 65536 - length after.history; text = c.print_orders-printed.new.out.items } ≡ happen c.args.kind (with_text c.args.out.now.items c.args.self.now))) [
+      | Ok _ ↦ λ text.
+          happened c.args.kind before event (state_of after) c.unwrap_or-self-inside.result (65536 - length after.history) c.print_orders-printed.new.out.items
+          some is_event is_state c.unwrap_or-self-inside.ensures (omega (arith, count))
+          (text ∙ ap (λ (t : List ℕ). c.args.out.now.items ++ t) printed)
+          ∙ ap (λ (v : Sim). happen c.args.kind (with_text c.args.out.now.items v)) c.self.view_is
+      | Err _ ↦ λ x. x
+    ]) c.print_orders-printed.ensures

@@ -1,0 +1,4 @@
+pub mod Sim
+pub mod Devices
+pub mod Runs
+pub mod PlayerInside

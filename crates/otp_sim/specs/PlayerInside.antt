@@ -1,0 +1,29 @@
+-- What a player stands for, and what it keeps.
+use Rattle.std.specs.Prelude.{◌≡◌, ℕ, ◌-◌, ◌≤◌, ◌^◌, [], All, length}
+use Rattle.otp_rules.specs.Needs.{numbers_of}
+use Rattle.otp_core.specs.View.{state_of}
+use Rattle.otp_sim.specs.declared.player.Player.TheInside.{Inside}
+use Rattle.otp_sim.specs.Sim.{Sim}
+
+abbrev pub sim_of_player : Inside → Sim
+sim_of_player p =
+    record {
+      state = state_of p.core;
+      reading = p.reading;
+      processes = p.processes;
+      calls = p.calls;
+      is_stopping = p.is_stopping;
+      room = 65536 - length p.core.history;
+      lines = p.lines;
+      text = [];
+      end = p.end;
+    }
+
+pub record IsPlayer (p : Inside) : Type 0 where
+  pub effects : p.core.effects ≡ []
+  pub reading : p.reading ≤ 2 ^ 62
+  pub history : length p.core.history ≤ 65536
+  -- a number is given to an event at the most
+  pub processes : p.processes ≤ length p.core.history
+  pub numbers : All (λ m. m ≤ p.processes) (numbers_of p.core.history)
+  pub calls : p.calls ≤ p.lines

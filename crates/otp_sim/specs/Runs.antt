@@ -1,0 +1,78 @@
+-- How far a run of `sim` has come, and how it ends (own).
+use Rattle.std.specs.Prelude.{◌≡◌, ◌==◌, ℕ, ◌<◌, ◌≤◌, ◌^◌, length, ◌⊎◌, false, List, ◌++◌, Option, Some, None, IfSome}
+use Rattle.std.specs.List.{All}
+use Rattle.std.specs.Io.KnownBytes.{Appends, Consumes}
+use Rattle.otp_sim.specs.declared.engine.SimEnd.{SimEnd}
+use Rattle.otp_sim.specs.declared.engine.SimEnd.TheVariants.{Done, LineRefused, HistoryFull, InputFailed, OutputFailed, Memory}
+use Rattle.otp_sim.specs.Devices.{Begins, AppendsPart}
+use Rattle.otp_sim.specs.Sim.{Sim, take_lines, lines_of, sim_text, sim_end, whole_text, end_of}
+
+-- with this text printed so far
+abbrev pub with_text : List ℕ → Sim → Sim
+with_text text s = record s { text = text }
+
+-- of the bytes taken some lines have been served, and these bytes wait; so it stands at s
+pub record Served (start : Sim) (taken waiting : List ℕ) (s : Sim) : Type 0 where
+  pub lines : List (List ℕ)
+  pub cut : (more : List ℕ) → lines_of (taken ++ more) ≡ lines ++ lines_of (waiting ++ more)
+  pub so_far : s ≡ take_lines lines start
+
+-- the same, where part of the text has been written and part is ready to be
+pub record Ran (start s : Sim) (before now : Option (List ℕ)) (ready taken waiting : List ℕ) : Type 0 where
+  pub written : List ℕ
+  pub appended : Appends before now written
+  pub served : Served start taken waiting (with_text (written ++ ready) s)
+
+-- the writer got the text of all of the input, and it ended so
+pub record WroteAll (start : Sim) (before now : Option (List ℕ)) (how : SimEnd) (bytes : List ℕ) : Type 0 where
+  pub text : Appends before now (sim_text start bytes)
+  pub end : how ≡ sim_end start bytes
+
+-- the writer got a beginning of that text
+pub record WrotePart (start : Sim) (before now : Option (List ℕ)) (bytes : List ℕ) : Type 0 where
+  pub text : List ℕ
+  pub written : Appends before now text
+  pub begins : Begins text (sim_text start bytes)
+
+-- the writer got the text of the lines whose LF was read, and then the reader failed or had given 2 ^ 62 bytes
+pub record WroteLines (start : Sim) (left_before left_now before now : Option (List ℕ)) (failures_before failures_now : ℕ) : Type 0 where
+  pub taken : List ℕ
+  pub consumed : Consumes left_before left_now taken
+  pub written : Appends before now (whole_text start taken)
+  pub why : (failures_before < failures_now) ⊎ (2 ^ 62 ≤ length taken)
+
+-- what a reader and a writer show: the bytes that are left and those that were written, where they are known, and
+-- how often each has failed
+pub record Devices : Type 0 where
+  pub left : Option (List ℕ)
+  pub written : Option (List ℕ)
+  pub read_failures : ℕ
+  pub write_failures : ℕ
+
+-- what was written from this start on, by how the run ended
+abbrev pub Writes : SimEnd → Sim → Devices → Devices → Type 0
+Writes Done start old new = IfSome old.left (WroteAll start old.written new.written Done)
+Writes (LineRefused line) start old new = IfSome old.left (WroteAll start old.written new.written (LineRefused line))
+Writes HistoryFull start old new = IfSome old.left (WroteAll start old.written new.written HistoryFull)
+Writes InputFailed start old new = WroteLines start old.left new.left old.written new.written old.read_failures new.read_failures
+Writes OutputFailed start old new = IfSome old.left (WrotePart start old.written new.written) × (old.write_failures < new.write_failures)
+Writes Memory start old new = IfSome old.left (WrotePart start old.written new.written)
+
+-- the text of a last line was written, by how its taking ended; s is what it leads to
+abbrev pub LastWrites : SimEnd → Sim → Option (List ℕ) → Option (List ℕ) → ℕ → ℕ → Type 0
+LastWrites Done s before now failures_before failures_now = Appends before now s.text × (Done ≡ end_of s.end)
+LastWrites (LineRefused line) s before now failures_before failures_now = Appends before now s.text × (LineRefused line ≡ end_of s.end)
+LastWrites HistoryFull s before now failures_before failures_now = Appends before now s.text × (HistoryFull ≡ end_of s.end)
+LastWrites InputFailed s before now failures_before failures_now = ⊥
+LastWrites OutputFailed s before now failures_before failures_now = AppendsPart before now s.text × (failures_before < failures_now)
+LastWrites Memory s before now failures_before failures_now = AppendsPart before now s.text
+
+-- only a beginning was written, however the input goes on
+pub record Broke (start : Sim) (before now : Option (List ℕ)) (taken : List ℕ) : Type 0 where
+  pub text : List ℕ
+  pub written : Appends before now text
+  pub begins : (more : List ℕ) → Begins text (take_lines (lines_of (taken ++ more)) start).text
+
+-- no byte is the end of a line
+abbrev pub NoEnd : List ℕ → Type 0
+NoEnd bytes = All (λ byte. (byte == 10) ≡ false) bytes

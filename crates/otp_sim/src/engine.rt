@@ -1,0 +1,149 @@
+//! The engine of `sim`: lines in, orders out.
+
+ghost use Rattle.std.specs.Prelude.{◌≡◌, ◌+◌, ◌<◌, ◌^◌, IfOk, None, vec_len};
+ghost use Rattle.otp_sim.specs.Runs.{Writes, LastWrites, with_text};
+ghost use Rattle.otp_rules.specs.Opening.{open_fault};
+ghost use Rattle.otp_sim.specs.Sim.{opened, take_line, end_of};
+
+use crate::device::{Input, Output};
+use crate::player::Player;
+use crate::serving::serve_piece;
+use crate::session::{Session, Stop};
+use crate::writing::write_out;
+use otp_spec::{ChildSpec, SupFlags};
+use std::alloc::{AllocError, Global};
+
+/// How a run of `sim` ended.
+#[derive(Clone, Copy, Debug, PartialEq, Eq)]
+pub enum SimEnd {
+    /// All of the input was read.
+    Done,
+    /// The line with this number, counted from 1, has no form that is read.
+    LineRefused(u64),
+    /// The history has no room for another event.
+    HistoryFull,
+    /// The input failed.
+    InputFailed,
+    /// The output failed.
+    OutputFailed,
+    /// Memory was refused.
+    Memory,
+}
+
+/// How many bytes are read at once.
+const PIECE: usize = 65536;
+
+/// The most bytes of a line, without its LF.
+const LONGEST_LINE: usize = 512;
+
+/// The most bytes of the input.
+const MOST_BYTES: u64 = 1 << 62;
+
+/// Reads lines, plays them on a supervisor with these flags and children, and writes its orders, each as a line.
+///
+/// Printed text is written before each read that might wait.
+///
+/// The input and the output are said to have failed only where they did, or where 2^62 bytes were read.
+/// Where memory was refused or a write failed, a beginning of the text was written; where a read failed, the text of
+/// the lines that were read with their LF.
+pub fn sim<R: Input, W: Output>(
+    alloc: Global,
+    flags: &SupFlags,
+    specs: &[ChildSpec],
+    input: &mut R,
+    output: &mut W,
+) -> SimEnd
+    requires { open_fault flags.now specs.now ≡ None }
+    ensures { Writes result (opened flags.now specs.now)
+        (record { left = R.remaining input.old; written = W.contents output.old; read_failures = R.failures input.old; write_failures = W.failures output.old })
+        (record { left = R.remaining input.new; written = W.contents output.new; read_failures = R.failures input.new; write_failures = W.failures output.new }) }
+{
+    let mut ready = Vec::new(alloc);
+    let Ok(mut player) = Player::open(alloc, *flags, specs, &mut ready) else {
+        return SimEnd::Memory;
+    };
+    serve(alloc, &mut player, &mut ready, input, output)
+}
+
+/// Serves the lines of the input, to its end or to the line that ends the session, and writes what is printed
+/// before each read that might wait.
+pub(crate) fn serve<S: Session, R: Input, W: Output>(
+    alloc: Global,
+    session: &mut S,
+    ready: &mut Vec<u8>,
+    input: &mut R,
+    output: &mut W,
+) -> SimEnd
+    requires { (S.sim session.old).lines ≡ 0 }
+    ensures { Writes result (with_text ready.old.items (S.sim session.old))
+        (record { left = R.remaining input.old; written = W.contents output.old; read_failures = R.failures input.old; write_failures = W.failures output.old })
+        (record { left = R.remaining input.new; written = W.contents output.new; read_failures = R.failures input.new; write_failures = W.failures output.new }) }
+{
+    let Ok(mut buffer) = zeros(alloc, PIECE) else {
+        return SimEnd::Memory;
+    };
+    let mut kept = Vec::new(alloc);
+    let mut taken: u64 = 0;
+    while taken < MOST_BYTES {
+        let Ok(()) = write_out(output, ready) else {
+            return SimEnd::OutputFailed;
+        };
+        if let Some(stop) = session.end() {
+            return end_of(Some(stop));
+        }
+        let Ok(count) = input.read(&mut buffer) else {
+            return SimEnd::InputFailed;
+        };
+        if count == 0 {
+            return serve_last(session, &kept, ready, output);
+        }
+        if let Err(end) = serve_piece(session, &mut kept, ready, output, &buffer[..count]) {
+            return end;
+        }
+        if kept.len() > LONGEST_LINE {
+            return serve_last(session, &kept, ready, output);
+        }
+        taken += count as u64;
+    }
+    let Ok(()) = write_out(output, ready) else {
+        return SimEnd::OutputFailed;
+    };
+    SimEnd::InputFailed
+}
+
+/// So many zeros.
+fn zeros(alloc: Global, size: usize) -> Result<Vec<u8>, AllocError>
+    ensures { IfOk result (λ buffer. vec_len buffer ≡ size) }
+{
+    Vec::from_elem(alloc, 0u8, size)
+}
+
+/// Serves a last line, and writes what is printed.
+fn serve_last<S: Session, W: Output>(
+    session: &mut S,
+    line: &[u8],
+    ready: &mut Vec<u8>,
+    output: &mut W,
+) -> SimEnd
+    requires { (S.sim session.old).lines + 1 < 2 ^ 63 }
+    ensures { LastWrites result (take_line line.now (with_text ready.old.items (S.sim session.old))) (W.contents output.old) (W.contents output.new) (W.failures output.old) (W.failures output.new) }
+{
+    let Ok(()) = session.take_line(line, ready) else {
+        return SimEnd::Memory;
+    };
+    let Ok(()) = write_out(output, ready) else {
+        return SimEnd::OutputFailed;
+    };
+    end_of(session.end())
+}
+
+/// How a run ends that stops for this reason, or for none.
+fn end_of(stop: Option<Stop>) -> SimEnd
+    ensures { result ≡ end_of stop }
+{
+    match stop {
+        None => SimEnd::Done,
+        Some(Stop::LineRefused(line)) => SimEnd::LineRefused(line),
+        Some(Stop::HistoryFull) => SimEnd::HistoryFull,
+    }
+}

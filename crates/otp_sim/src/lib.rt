@@ -1,0 +1,19 @@
+//! `sim`: a supervisor that is driven by lines, and that prints its orders.
+//!
+//! `specs/Sim` says what is printed for which input, `specs/Runs` how much of it has been written however a run ends.
+#![tactic(auto)]
+
+pub mod device;
+pub mod engine;
+pub mod player;
+mod serving;
+pub mod session;
+pub mod streams;
+mod writing;
+
+pub use device::{Failed, Input, Output};
+pub use engine::{SimEnd, sim};
+pub use streams::Counted;
+
+#[cfg(test)]
+mod tests;

@@ -1,0 +1,261 @@
+//! A supervisor's core that is played: lines are turned into events, and orders into text.
+
+ghost use Rattle.std.specs.Prelude.{ℕ, [], ◌≡◌, ◌+◌, ◌<◌, ◌≤◌, ◌^◌, ◌++◌, None, Some, OnOk, OnErr, IfOk, IfSome, is_some, option_map};
+ghost use Rattle.otp_text.specs.Lines.{IsTimely};
+ghost use Rattle.std.specs.List.{flat_map};
+ghost use Rattle.otp_core.specs.View.{state_of};
+ghost use Rattle.otp_rules.specs.Needs.{needs_number};
+ghost use Rattle.otp_rules.specs.Opening.{open_fault};
+ghost use Rattle.otp_rules.specs.Run.{reply_of};
+ghost use Rattle.otp_sim.specs.Sim.{event_of, happen, is_due, next_kind, opened, orders_text, settled, take_form, take_line, take_read, ticked, told_by};
+ghost use Rattle.otp_sim.specs.Runs.{with_text};
+
+use crate::session::{Session, Stop};
+use otp_core::{Core, OpenFault};
+use otp_rules::{Effect, Event, Item, Kind, Reply};
+use otp_spec::{ChildSpec, SupFlags};
+use otp_text::{Line, Printer, read_line};
+use std::alloc::{AllocError, Global};
+use std::marker::Model;
+
+/// A core, the clock, and what a run of `sim` counts.
+#[derive(Drop)]
+pub struct Player {
+    core: Core,
+    printer: Printer,
+    /// The clock's reading, in milliseconds.
+    reading: u64,
+    /// The greatest process number given.
+    processes: u64,
+    /// The greatest call number given.
+    calls: u64,
+    is_stopping: bool,
+    /// How many lines were read.
+    lines: u64,
+    end: Option<Stop>,
+}
+
+impl Model for Player {
+    ghost use Rattle.otp_sim.specs.Sim.{Sim};
+
+    ghost Value = { Sim };
+
+    ghost use Rattle.otp_sim.specs.PlayerInside.{sim_of_player, IsPlayer};
+
+    ghost view = { sim_of_player };
+
+    ghost invariant = { IsPlayer };
+}
+
+/// Prints the orders of a core.
+fn print_orders(core: &Core, printer: &mut Printer, out: &mut Vec<u8>) -> Result<(), AllocError>
+    ensures { OnOk result (out.new.items ≡ out.old.items ++ orders_text (state_of core.now).replies core.now.effects) }
+{
+    print_all(core, core.effects(), printer, out)
+}
+
+#[tactic(auto, unfolding(crate::specs::Sim::orders_text))]
+fn print_all(
+    core: &Core,
+    effects: &[Effect],
+    printer: &mut Printer,
+    out: &mut Vec<u8>,
+) -> Result<(), AllocError>
+    ensures { OnOk result (out.new.items ≡ out.old.items ++ orders_text (state_of core.now).replies effects.now) }
+{
+    for effect in effects {
+        let reply = told_by(core, effect);
+        printer.print(effect, reply, out)?;
+    }
+    Ok(())
+}
+
+/// The answer that an order tells of.
+#[tactic(auto, unfolding(crate::specs::Sim::told_by))]
+fn told_by<'a>(core: &'a Core, effect: &Effect) -> Option<&'a Reply>
+    ensures { option_map (λ r. r.now) result ≡ told_by effect.now (state_of core.now).replies }
+{
+    match effect {
+        Effect::Reply(call) => core.reply(*call),
+        _ => None,
+    }
+}
+
+impl Player {
+    /// A player whose supervisor was opened under the number 0. What that prints is put into a list, empty so far.
+    ///
+    /// # Errors
+    ///
+    /// Where memory is refused.
+    #[tactic(auto, unfolding(crate::specs::Sim::opened))]
+    pub fn open(
+        alloc: Global,
+        flags: SupFlags,
+        specs: &[ChildSpec],
+        out: &mut Vec<u8>,
+    ) -> Result<Self, AllocError>
+        requires lawful { open_fault flags specs.now ≡ None }
+        requires empty { out.old.items ≡ [] }
+        ensures { IfOk result (λ player. with_text out.new.items player ≡ opened flags specs.now) }
+    {
+        let core = match Core::open(alloc, flags, specs) {
+            Ok(core) => core,
+            Err(_) => return Err(AllocError),
+        };
+        let mut player = Player {
+            core,
+            printer: Printer::new(alloc),
+            reading: 0,
+            processes: 0,
+            calls: 0,
+            is_stopping: false,
+            lines: 0,
+            end: None,
+        };
+        player.happen(Kind::Opened(0), out)?;
+        Ok(player)
+    }
+
+    /// The number for a child that this starts now, if it starts one.
+    #[tactic(auto, unfolding(crate::specs::Sim::event_of))]
+    fn next_number(&self, kind: Kind) -> Option<u64>
+        requires { self.now.processes < 2 ^ 62 }
+        ensures number { result ≡ (event_of kind self.now).number }
+        ensures given { is_some result ≡ needs_number self.now.state self.now.reading kind }
+        ensures next { (n : ℕ) → result ≡ Some n → n ≡ self.now.processes + 1 }
+    {
+        if self.core.needs_number(self.reading, &kind) {
+            Some(self.processes + 1)
+        } else {
+            None
+        }
+    }
+
+    /// Something happens now.
+    fn happen(&mut self, kind: Kind, out: &mut Vec<u8>) -> Result<(), AllocError>
+        ensures ok { OnOk result (with_text out.new.items self.new ≡ happen kind (with_text out.old.items self.old)) }
+        ensures lines { self.new.lines ≡ self.old.lines }
+    {
+        if self.core.is_full() {
+            self.end = Some(Stop::HistoryFull);
+            return Ok(());
+        }
+        self.core.prepare()?;
+        let number = self.next_number(kind);
+        self.core.step(Event {
+            reading: self.reading,
+            number,
+            kind,
+        });
+        self.processes = number.unwrap_or(self.processes);
+        let printed = print_orders(&self.core, &mut self.printer, out);
+        self.core.clear_effects();
+        printed
+    }
+
+    /// What happens after a line, if something does.
+    #[tactic(auto, unfolding(crate::specs::Sim::next_kind))]
+    fn next_kind(&self) -> Option<Kind>
+        ensures { result ≡ next_kind self.now }
+    {
+        if self.end.is_some() || self.core.has_open_work() {
+            return None;
+        }
+        if self.is_stopping && !self.core.has_ended() {
+            return Some(Kind::Stopped);
+        }
+        if self.core.has_waiting() {
+            return Some(Kind::Resumed);
+        }
+        None
+    }
+
+    /// All of that happens until none is left to happen.
+    fn settle(&mut self, out: &mut Vec<u8>) -> Result<(), AllocError>
+        ensures ok { OnOk result (with_text out.new.items self.new ≡ settled (with_text out.old.items self.old)) }
+        ensures lines { self.new.lines ≡ self.old.lines }
+    {
+        while let Some(kind) = self.next_kind() {
+            self.happen(kind, out)?;
+        }
+        Ok(())
+    }
+
+    /// What a line does by itself.
+    #[tactic(auto, unfolding(crate::specs::Sim::take_read, crate::specs::Sim::ticked, crate::specs::Sim::is_due))]
+    fn take_read(&mut self, line: Line, out: &mut Vec<u8>) -> Result<(), AllocError>
+        requires calls { self.old.calls < self.old.lines }
+        requires time { IsTimely line }
+        requires lines { self.old.lines < 2 ^ 63 }
+        ensures ok { OnOk result (with_text out.new.items self.new ≡ take_read line (with_text out.old.items self.old)) }
+        ensures lines { self.new.lines ≡ self.old.lines }
+    {
+        match line {
+            Line::Empty => Ok(()),
+            Line::At(reading) => {
+                self.reading = reading;
+                if self.core.is_due(reading) {
+                    return self.happen(Kind::Ticked, out);
+                }
+                Ok(())
+            }
+            Line::Note(note) => self.happen(Kind::Took(Item::Note(note)), out),
+            Line::Stop => {
+                self.is_stopping = true;
+                Ok(())
+            }
+            Line::Call(call) => {
+                self.calls += 1;
+                self.happen(Kind::Took(Item::Call(self.calls, call)), out)
+            }
+        }
+    }
+}
+
+impl Player {
+    /// A line that has a form, or none.
+    #[tactic(auto, unfolding(crate::specs::Sim::take_form))]
+    fn take_form(&mut self, line: Option<Line>, out: &mut Vec<u8>) -> Result<(), AllocError>
+        requires calls { self.old.calls < self.old.lines }
+        requires time { IfSome line (λ read. IsTimely read) }
+        requires lines { self.old.lines < 2 ^ 63 }
+        ensures ok { OnOk result (with_text out.new.items self.new ≡ take_form line (with_text out.old.items self.old)) }
+        ensures lines { self.new.lines ≡ self.old.lines }
+    {
+        match line {
+            None => {
+                self.end = Some(Stop::LineRefused(self.lines));
+                Ok(())
+            }
+            Some(read) => {
+                self.take_read(read, out)?;
+                self.settle(out)
+            }
+        }
+    }
+
+    #[tactic(auto, unfolding(crate::specs::Sim::take_line))]
+    fn take_next(&mut self, line: &[u8], out: &mut Vec<u8>) -> Result<(), AllocError>
+        requires { self.old.lines + 1 < 2 ^ 63 }
+        ensures ok { OnOk result (with_text out.new.items self.new ≡ take_line line.now (with_text out.old.items self.old)) }
+        ensures lines { self.new.lines ≤ self.old.lines + 1 }
+    {
+        if self.end.is_some() {
+            return Ok(());
+        }
+        self.lines += 1;
+        self.take_form(read_line(line), out)
+    }
+}
+
+impl Session for Player {
+    ghost sim = { λ player. player };
+
+    fn take_line(&mut self, line: &[u8], out: &mut Vec<u8>) -> Result<(), AllocError> {
+        self.take_next(line, out)
+    }
+
+    fn end(&self) -> Option<Stop> {
+        self.end
+    }
+}

@@ -1,0 +1,101 @@
+//! Serving the lines of the input as it comes.
+
+ghost use Rattle.std.specs.Prelude.{◌≡◌, ◌==◌, ◌∷◌, ℕ, List, ◌+◌, ◌<◌, ◌≤◌, ◌^◌, ◌++◌, [], length, position, OnOk, OnErr, IfSome};
+ghost use Rattle.otp_sim.specs.Devices.{IsPieceEnd};
+ghost use Rattle.otp_sim.specs.Sim.{take_line};
+ghost use Rattle.otp_sim.specs.Runs.{with_text, Ran, Broke, NoEnd};
+
+use crate::device::Output;
+use crate::engine::SimEnd;
+use crate::session::Session;
+use crate::writing::write_much;
+use std::alloc::AllocError;
+
+/// Serves all lines whose end is in the piece, and keeps the beginning of the next line.
+///
+/// # Errors
+///
+/// [`SimEnd::Memory`] and [`SimEnd::OutputFailed`]; a beginning of the text was written.
+pub(crate) fn serve_piece<S: Session, W: Output>(
+    session: &mut S,
+    kept: &mut Vec<u8>,
+    ready: &mut Vec<u8>,
+    output: &mut W,
+    piece: &[u8],
+) -> Result<(), SimEnd>
+    requires lines { (S.sim session.old).lines + length piece.now < 2 ^ 63 }
+    requires kept { NoEnd kept.old.items }
+    ensures ok { OnOk result (Ran (with_text ready.old.items (S.sim session.old)) (S.sim session.new) (W.contents output.old) (W.contents output.new) ready.new.items (kept.old.items ++ piece.now) kept.new.items) }
+    ensures no_end { OnOk result (NoEnd kept.new.items) }
+    ensures lines { OnOk result ((S.sim session.new).lines ≤ (S.sim session.old).lines + length piece.now) }
+    ensures broke { OnErr result (Broke (with_text ready.old.items (S.sim session.old)) (W.contents output.old) (W.contents output.new) (kept.old.items ++ piece.now)) }
+    ensures failures { W.failures output.old ≤ W.failures output.new }
+    ensures cause { IsPieceEnd result (W.failures output.old) (W.failures output.new) }
+{
+    let mut rest = piece;
+    while let Some(end) = line_end(rest) {
+        if let Err(why) = serve_next(session, kept, ready, output, &rest[..end]) {
+            return Err(why);
+        }
+        rest = &rest[end + 1..];
+    }
+    let Ok(()) = kept.extend_from_slice(rest) else {
+        return Err(SimEnd::Memory);
+    };
+    Ok(())
+}
+
+/// Serves the line of what was kept and a last part, and writes what is ready if it is much.
+fn serve_next<S: Session, W: Output>(
+    session: &mut S,
+    kept: &mut Vec<u8>,
+    ready: &mut Vec<u8>,
+    output: &mut W,
+    part: &[u8],
+) -> Result<(), SimEnd>
+    requires lines { (S.sim session.old).lines + 1 < 2 ^ 63 }
+    requires kept { NoEnd (kept.old.items ++ part.now) }
+    ensures ok { OnOk result ((others : List ℕ) → Ran (with_text ready.old.items (S.sim session.old)) (S.sim session.new) (W.contents output.old) (W.contents output.new) ready.new.items (kept.old.items ++ part.now ++ 10 ∷ others) others) }
+    ensures empty { OnOk result (kept.new.items ≡ []) }
+    ensures lines { OnOk result ((S.sim session.new).lines ≤ (S.sim session.old).lines + 1) }
+    ensures broke { OnErr result ((others : List ℕ) → Broke (with_text ready.old.items (S.sim session.old)) (W.contents output.old) (W.contents output.new) (kept.old.items ++ part.now ++ 10 ∷ others)) }
+    ensures failures { W.failures output.old ≤ W.failures output.new }
+    ensures cause { IsPieceEnd result (W.failures output.old) (W.failures output.new) }
+{
+    let Ok(()) = serve_line(session, kept, ready, part) else {
+        return Err(SimEnd::Memory);
+    };
+    let Ok(()) = write_much(output, ready) else {
+        return Err(SimEnd::OutputFailed);
+    };
+    Ok(())
+}
+
+/// The place of the first LF.
+fn line_end(bytes: &[u8]) -> Option<usize>
+    ensures found { result ≡ position (λ byte. byte == 10) bytes.now }
+    ensures inside { IfSome result (λ end. end < length bytes.now) }
+{
+    bytes.iter().position(|byte| *byte == b'\n')
+}
+
+/// Serves the line of what was kept and a last part.
+fn serve_line<S: Session>(
+    session: &mut S,
+    kept: &mut Vec<u8>,
+    ready: &mut Vec<u8>,
+    part: &[u8],
+) -> Result<(), AllocError>
+    requires { (S.sim session.old).lines + 1 < 2 ^ 63 }
+    ensures ok { OnOk result (with_text ready.new.items (S.sim session.new) ≡ take_line (kept.old.items ++ part.now) (with_text ready.old.items (S.sim session.old))) }
+    ensures empty { OnOk result (kept.new.items ≡ []) }
+    ensures lines { OnOk result ((S.sim session.new).lines ≤ (S.sim session.old).lines + 1) }
+{
+    if kept.is_empty() {
+        return session.take_line(part, ready);
+    }
+    kept.extend_from_slice(part)?;
+    session.take_line(kept.as_slice(), ready)?;
+    kept.clear();
+    Ok(())
+}

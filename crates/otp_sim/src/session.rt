@@ -1,0 +1,36 @@
+//! Who takes the lines.
+
+ghost use Rattle.std.specs.Prelude.{◌≡◌, ◌+◌, ◌<◌, ◌≤◌, ◌^◌, OnOk};
+ghost use Rattle.otp_sim.specs.Sim.{Sim, take_line};
+ghost use Rattle.otp_sim.specs.Runs.{with_text};
+
+use std::alloc::AllocError;
+
+/// Why no line is taken any more.
+#[derive(Clone, Copy, Debug, PartialEq, Eq)]
+pub enum Stop {
+    /// The line with this number, counted from 1, has no form that is read.
+    LineRefused(u64),
+    /// The history has no room for another event.
+    HistoryFull,
+}
+
+/// A supervisor that is driven by lines.
+pub trait Session {
+    /// How it stands.
+    ghost sim: { Self → Sim };
+
+    /// Takes a line, without its LF, and appends what is printed for it.
+    ///
+    /// # Errors
+    ///
+    /// Where memory is refused, and then the session and what was appended are not to be used any more.
+    fn take_line(&mut self, line: &[u8], out: &mut Vec<u8>) -> Result<(), AllocError>
+        requires { (sim self.old).lines + 1 < 2 ^ 63 }
+        ensures ok { OnOk result (with_text out.new.items (sim self.new) ≡ take_line line.now (with_text out.old.items (sim self.old))) }
+        ensures lines { OnOk result ((sim self.new).lines ≤ (sim self.old).lines + 1) };
+
+    /// Why no line is taken any more, if none is.
+    fn end(&self) -> Option<Stop>
+        ensures { result ≡ (sim self.now).end };
+}

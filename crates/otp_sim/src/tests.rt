@@ -1,0 +1,248 @@
+//! What no clause says: that the definition of the text is the text that was meant, and that runs succeed.
+
+use crate::{Failed, Input, Output, SimEnd, sim};
+use otp_core::opening::check_open;
+use otp_reason::Name;
+use otp_spec::{ChildSpec, Shutdown, SupFlags};
+use otp_tally::Tally;
+use std::alloc::{AllocError, Global};
+use std::test::Fail;
+
+/// A reader of a text, so many bytes at once, that fails once so many are read.
+#[derive(Drop)]
+struct Pieces<'a> {
+    text: &'a [u8],
+    size: usize,
+    good: usize,
+    failures: Tally,
+}
+
+impl<'a> Input for Pieces<'a> {
+    ghost use Rattle.std.specs.Prelude.{None};
+
+    ghost remaining = { λ _. None };
+
+    ghost failures = { λ pieces. pieces.failures.count };
+
+    fn read(&mut self, buffer: &mut [u8]) -> Result<usize, Failed> {
+        if self.good == 0 {
+            self.failures.raise();
+            return Err(Failed);
+        }
+        let count = self
+            .size
+            .min(self.text.len())
+            .min(buffer.len())
+            .min(self.good);
+        let (piece, rest) = self.text.split_at(count);
+        buffer[..count].copy_from_slice(piece);
+        self.text = rest;
+        self.good -= count;
+        Ok(count)
+    }
+}
+
+/// A writer that takes at most three bytes at once, and fails once it has so many.
+#[derive(Drop)]
+struct Page {
+    bytes: Vec<u8>,
+    room: usize,
+    failures: Tally,
+}
+
+impl Output for Page {
+    ghost use Rattle.std.specs.Prelude.{None};
+
+    ghost contents = { λ _. None };
+
+    ghost failures = { λ page. page.failures.count };
+
+    fn write(&mut self, bytes: &[u8]) -> Result<usize, Failed> {
+        let count = bytes.len().min(3).min(self.room);
+        if count == 0 || self.bytes.extend_from_slice(&bytes[..count]).is_err() {
+            self.failures.raise();
+            return Err(Failed);
+        }
+        self.room -= count;
+        Ok(count)
+    }
+}
+
+fn named(text: &str) -> Result<Name, Fail> {
+    Ok(Name::new(text.as_bytes()).ok_or("a name of at most 32 bytes")?)
+}
+
+fn worker(id: &str) -> Result<ChildSpec, Fail> {
+    Ok(ChildSpec::new(named(id)?, named(id)?))
+}
+
+fn blank_page(alloc: Global, room: usize) -> Page {
+    Page {
+        bytes: Vec::new(alloc),
+        room,
+        failures: Tally::new(),
+    }
+}
+
+/// The text with an LF for each `;`.
+fn with_line_ends(alloc: Global, text: &str) -> Result<Vec<u8>, AllocError> {
+    let mut bytes = Vec::new(alloc);
+    for byte in text.as_bytes() {
+        bytes.push(if *byte == b';' { b'\n' } else { *byte })?;
+    }
+    Ok(bytes)
+}
+
+/// Whether a supervisor with these children ends so and prints this for these lines, however many bytes come at once.
+/// A `;` stands for an LF.
+fn is_played(
+    alloc: Global,
+    flags: &SupFlags,
+    specs: &[ChildSpec],
+    lines: &str,
+    end: SimEnd,
+    printed: &str,
+) -> Result<bool, AllocError> {
+    let input = with_line_ends(alloc, lines)?;
+    let wanted = with_line_ends(alloc, printed)?;
+    let mut is_same = true;
+    for size in [1usize, 7, 4096] {
+        let mut reader = Pieces {
+            text: input.as_slice(),
+            size,
+            good: usize::MAX,
+            failures: Tally::new(),
+        };
+        let mut writer = blank_page(alloc, usize::MAX);
+        let Ok(()) = check_open(flags, specs) else {
+            return Ok(false);
+        };
+        let ended = sim(alloc, flags, specs, &mut reader, &mut writer);
+        is_same = is_same && ended == end && writer.bytes.as_slice() == wanted.as_slice();
+    }
+    Ok(is_same)
+}
+
+#[test]
+fn runs_are_printed(rt: HostRuntime) -> Result<(), Fail> {
+    let alloc = rt.alloc();
+    let flags = SupFlags::default();
+    let a = worker("a")?;
+    let mut quick = a;
+    quick.shutdown = Shutdown::Milliseconds(100);
+    let rows = [
+        (
+            a,
+            "up 1;at 1000;exit 1 error:x;up 2;at 6000;exit 2 error:x",
+            SimEnd::Done,
+            "start a #1;ready;start a #2;end shutdown;",
+        ),
+        (
+            a,
+            "up 1;at 1000;exit 1 error:x;up 2;at 6001;exit 2 error:x;",
+            SimEnd::Done,
+            "start a #1;ready;start a #2;start a #3;",
+        ),
+        (
+            a,
+            "up 1;at 9000;exit 1 error:x;up 2;at 2000;exit 2 error:x",
+            SimEnd::Done,
+            "start a #1;ready;start a #2;end shutdown;",
+        ),
+        (a, "up 1;up 01", SimEnd::LineRefused(2), "start a #1;ready;"),
+        (
+            a,
+            "up 1;up 1;exit 7 error:x;start b b permanent true 5000 worker;delete a",
+            SimEnd::Done,
+            "start a #1;ready;reply 1 error bad_spec E4;reply 2 error running;",
+        ),
+        (
+            a,
+            "up 1;stop;which;exit 1 shutdown;count",
+            SimEnd::Done,
+            "start a #1;ready;ask a #1;reply 1 noproc;end shutdown;reply 2 noproc;",
+        ),
+        (
+            quick,
+            "up 1;at 500;stop;at 599;at 600;exit 1 killed;exit 1 killed;which",
+            SimEnd::Done,
+            "start a #1;ready;ask a #1;kill a #1;end shutdown;reply 1 noproc;",
+        ),
+        (
+            a,
+            "up 1;exit 1 error:x;fail 2 error:y",
+            SimEnd::Done,
+            "start a #1;ready;start a #2;end shutdown;",
+        ),
+    ];
+    for (spec, lines, end, printed) in rows {
+        assert!(rt;
+            is_played(alloc, &flags, &[spec], lines, end, printed)?,
+            "{lines}"
+        );
+    }
+    Ok(())
+}
+
+#[test]
+fn three_workers_stop(rt: HostRuntime) -> Result<(), Fail> {
+    let specs = [worker("a")?, worker("b")?, worker("c")?];
+    let lines = "up 1;up 2;up 3;stop;exit 3 shutdown;exit 2 shutdown;exit 1 shutdown";
+    let printed = "start a #1;start b #2;start c #3;ready;ask c #3;ask b #2;ask a #1;end shutdown;";
+    assert!(rt;
+        is_played(
+            rt.alloc(),
+            &SupFlags::default(),
+            &specs,
+            lines,
+            SimEnd::Done,
+            printed
+        )?
+    );
+    assert!(rt;
+        is_played(
+            rt.alloc(),
+            &SupFlags::default(),
+            &[],
+            "stop",
+            SimEnd::Done,
+            "ready;end shutdown;"
+        )?
+    );
+    Ok(())
+}
+
+#[test]
+fn failures_leave_a_beginning(rt: HostRuntime) -> Result<(), Fail> {
+    let alloc = rt.alloc();
+    let flags = SupFlags::default();
+    let specs = [worker("a")?];
+    let Ok(()) = check_open(&flags, &specs) else {
+        return Err(Fail::new("the specifications are lawful"));
+    };
+    let mut reader = Pieces {
+        text: b"up 1\nexit 1 error:x\n",
+        size: 4096,
+        good: 8,
+        failures: Tally::new(),
+    };
+    let mut writer = blank_page(alloc, usize::MAX);
+    assert_eq!(rt;
+        sim(alloc, &flags, &specs, &mut reader, &mut writer),
+        SimEnd::InputFailed
+    );
+    assert!(rt; writer.bytes.as_slice() == b"start a #1\nready\n".as_slice());
+    let mut reader = Pieces {
+        text: b"up 1\nexit 1 error:x\n",
+        size: 4096,
+        good: usize::MAX,
+        failures: Tally::new(),
+    };
+    let mut writer = blank_page(alloc, 13);
+    assert_eq!(rt;
+        sim(alloc, &flags, &specs, &mut reader, &mut writer),
+        SimEnd::OutputFailed
+    );
+    assert!(rt; writer.bytes.as_slice() == b"start a #1\nre".as_slice());
+    Ok(())
+}

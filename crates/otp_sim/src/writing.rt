@@ -1,0 +1,62 @@
+//! Writing all of a text.
+
+ghost use Rattle.std.specs.Prelude.{◌≡◌, ◌≤◌, ◌<◌, [], OnOk, OnErr};
+ghost use Rattle.std.specs.Io.KnownBytes.{Appends};
+ghost use Rattle.otp_sim.specs.Devices.{AppendsPart, Moves};
+
+use crate::device::{Failed, Output};
+
+/// From so many printed bytes on, they are written before the next line is served.
+const WRITE_AT: usize = 65536;
+
+/// Writes what is ready, if it is much.
+///
+/// # Errors
+///
+/// Where a write fails or takes nothing; a beginning was written.
+pub(crate) fn write_much<W: Output>(output: &mut W, ready: &mut Vec<u8>) -> Result<(), Failed>
+    ensures ok { OnOk result (Moves (W.contents output.old) (W.contents output.new) ready.old.items ready.new.items) }
+    ensures part { AppendsPart (W.contents output.old) (W.contents output.new) ready.old.items }
+    ensures kept { W.failures output.old ≤ W.failures output.new }
+    ensures failed { OnErr result (W.failures output.old < W.failures output.new) }
+{
+    if ready.len() < WRITE_AT {
+        return Ok(());
+    }
+    write_out(output, ready)
+}
+
+/// Writes what is ready, which is then gone.
+///
+/// # Errors
+///
+/// Where a write fails or takes nothing; a beginning was written.
+pub(crate) fn write_out<W: Output>(output: &mut W, ready: &mut Vec<u8>) -> Result<(), Failed>
+    ensures ok { OnOk result (Appends (W.contents output.old) (W.contents output.new) ready.old.items) }
+    ensures empty { OnOk result (ready.new.items ≡ []) }
+    ensures part { AppendsPart (W.contents output.old) (W.contents output.new) ready.old.items }
+    ensures kept { W.failures output.old ≤ W.failures output.new }
+    ensures failed { OnErr result (W.failures output.old < W.failures output.new) }
+{
+    write_all(output, ready.as_slice())?;
+    ready.clear();
+    Ok(())
+}
+
+/// Writes all of the bytes.
+fn write_all<W: Output>(output: &mut W, bytes: &[u8]) -> Result<(), Failed>
+    ensures ok { OnOk result (Appends (W.contents output.old) (W.contents output.new) bytes.now) }
+    ensures part { AppendsPart (W.contents output.old) (W.contents output.new) bytes.now }
+    ensures kept { W.failures output.old ≤ W.failures output.new }
+    ensures failed { OnErr result (W.failures output.old < W.failures output.new) }
+{
+    let mut rest = bytes;
+    while !rest.is_empty() {
+        let taken = output.write(rest)?;
+        if taken == 0 {
+            return Err(Failed);
+        }
+        rest = &rest[taken..];
+    }
+    Ok(())
+}
