@@ -82,3 +82,6 @@ fn simulate(rt: &HostRuntime, name: &str) -> Ending {
     let mut output = Counted::new(rt.stdout());
     console(rt.alloc(), &file, &mut input, &mut output)
 }
+
+#[cfg(test)]
+mod tests;

@@ -25,6 +25,17 @@ impl<D> Counted<D> {
         }
     }
 
+    /// The device itself.
+    pub fn into_device(self) -> D
+        ensures { result ≡ self.device }
+    {
+        let Counted {
+            device,
+            failures: _failures,
+        } = self;
+        device
+    }
+
     /// The device failed once more.
     fn fail(&mut self) -> Failed
         ensures device { self.new.device ≡ self.old.device }
