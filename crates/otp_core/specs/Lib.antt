@@ -5,3 +5,5 @@ pub mod Opened
 pub mod Begun
 pub mod Ups
 pub mod Restarted
+pub mod Kept
+pub mod AnswersInside

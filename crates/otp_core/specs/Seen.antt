@@ -1,7 +1,7 @@
 -- What the machine's parts stand for, and the memory that it has ready.
-use Rattle.std.specs.Prelude.{ℕ, max, ◌≡◌, ◌+◌, ◌<◌, ◌≤◌, ◌^◌, [], All, length, reverse, true, vec_len, vec_capacity}
+use Rattle.std.specs.Prelude.{◌≡◌, ◌+◌, ◌<◌, ◌≤◌, ◌^◌, All, length, reverse, true, vec_len, vec_capacity}
 use Rattle.std.specs.VecDeque.{deque_len, deque_capacity}
-use Rattle.otp_rules.specs.State.{Outcome, State}
+use Rattle.otp_rules.specs.State.{Outcome}
 use Rattle.otp_core.specs.declared.machine.Machine.{Machine}
 
 abbrev pub outcome_of : Machine → Outcome
@@ -16,7 +16,7 @@ outcome_of m =
         to_start = m.to_start.items;
         follows = m.follows;
         waiting = m.waiting.items;
-        replies = m.replies.items;
+        replies = m.replies.answers;
         last = m.last;
         phase = m.phase;
       };
@@ -27,14 +27,14 @@ outcome_of m =
 pub record CanAdvance (m : Machine) : Type 0 where
   -- a call is answered, or all that wait are and the end is ordered
   pub orders : vec_len m.orders + deque_len m.waiting < vec_capacity m.orders
-  pub replies : vec_len m.replies + deque_len m.waiting < vec_capacity m.replies
+  pub replies : deque_len m.waiting < m.replies.room
   pub stamps : m.window.intensity < vec_capacity m.spare_stamps
   pub last : m.last ≤ 2 ^ 62
 
 -- there is room for this many orders to children, and for the open work after them
 pub record CanStop (m : Machine) : Type 0 where
   pub orders : vec_len m.orders + length m.rows.rows + deque_len m.waiting < vec_capacity m.orders
-  pub replies : vec_len m.replies + deque_len m.waiting < vec_capacity m.replies
+  pub replies : deque_len m.waiting < m.replies.room
   pub to_stop : length m.rows.rows ≤ vec_capacity m.to_stop
   pub stamps : m.window.intensity < vec_capacity m.spare_stamps
   pub last : m.last ≤ 2 ^ 62
@@ -42,7 +42,7 @@ pub record CanStop (m : Machine) : Type 0 where
 -- there is room for whatever an event does
 pub record CanDecide (m : Machine) : Type 0 where
   pub orders : vec_len m.orders + length m.rows.rows + deque_len m.waiting + 1 < vec_capacity m.orders
-  pub replies : vec_len m.replies + deque_len m.waiting + 1 < vec_capacity m.replies
+  pub replies : deque_len m.waiting + 1 < m.replies.room
   pub waiting : deque_len m.waiting < deque_capacity m.waiting
   pub to_stop : length m.rows.rows ≤ vec_capacity m.to_stop
   pub one_stop : 0 < vec_capacity m.to_stop
@@ -61,7 +61,7 @@ pub record CanDecide (m : Machine) : Type 0 where
 -- there is memory for an event, whatever it is
 pub record HasMemory (m : Machine) : Type 0 where
   pub orders : vec_len m.orders + length m.rows.rows + deque_len m.waiting + 1 < vec_capacity m.orders
-  pub replies : vec_len m.replies + deque_len m.waiting + 1 < vec_capacity m.replies
+  pub replies : deque_len m.waiting + 1 < m.replies.room
   pub waiting : deque_len m.waiting < deque_capacity m.waiting
   pub to_stop : length m.rows.rows ≤ vec_capacity m.to_stop
   pub one_stop : 0 < vec_capacity m.to_stop

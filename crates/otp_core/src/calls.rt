@@ -8,7 +8,7 @@ use crate::lists::{count_active, count_supervisors, count_workers, list_lines};
 use crate::machine::Machine;
 use crate::rows::is_simple;
 use otp_reason::Name;
-use otp_rules::{After, Call, CallFault, ChildLines, CountsNow, Due, Reply};
+use otp_rules::{After, Call, CallFault, ChildLines, CountsNow, Due, Effect, Reply};
 use otp_spec::{ChildSpec, check_childspecs};
 use otp_table::{Row, RowState};
 use std::mem;
@@ -17,6 +17,8 @@ impl Machine {
     ghost use Rattle.otp_core.specs.Seen.{outcome_of, CanAdvance, CanDecide};
     ghost use Rattle.otp_rules.specs.Calls.{add_child, at_child, delete_child_at, delete_child_in, get_childspec, refuse, restart_child_at, restart_child_in, start_child, start_dynamic, start_lawful, stop_process, take_call, terminate_child_at, terminate_child_in, terminate_process, terminate_process_in};
     ghost use Rattle.otp_rules.specs.Counts.{counts_of, which_of};
+    ghost use Rattle.otp_rules.specs.State.{answer};
+    ghost use Rattle.otp_rules.specs.declared.call.Reply.TheVariants as reply;
     ghost use Rattle.otp_table.specs.declared.row.Row.{Row};
 
     pub fn refuse(&mut self, call: u64, fault: CallFault)
@@ -280,6 +282,21 @@ impl Machine {
         ChildLines::from_vec(lines)
     }
 
+    /// which_children. A list that was told before is told again, without a copy.
+    #[tactic(auto, unfolding(otp_rules::specs::State::answer))]
+    fn answer_which(&mut self, call: u64)
+        requires { CanDecide self.old }
+        ensures outcome { outcome_of self.new ≡ answer call (reply.Which (which_of self.old.rows.rows)) (outcome_of self.old) }
+        ensures room { CanAdvance self.new }
+    {
+        if self.replies.push_again(call, self.rows.as_slice()) {
+            self.orders.push_reserved(Effect::Reply(call));
+            return;
+        }
+        let lines = self.which();
+        self.answer(call, Reply::Which(lines));
+    }
+
     /// What count_children answers.
     pub fn counts(&self) -> CountsNow
         ensures { result ≡ counts_of (outcome_of self.now).state }
@@ -340,10 +357,7 @@ impl Machine {
             Call::DeleteChild(id) => self.delete_child(number, id),
             Call::TerminateChild(id) => self.terminate_child(number, id),
             Call::TerminateProcess(p) => self.terminate_process(number, p),
-            Call::WhichChildren => {
-                let lines = self.which();
-                self.answer(number, Reply::Which(lines));
-            }
+            Call::WhichChildren => self.answer_which(number),
             Call::CountChildren => {
                 let counts = self.counts();
                 self.answer(number, Reply::Count(counts));

@@ -3,10 +3,12 @@
 //! [`Core`] stores the history of its events; its state is what the rules give for that history.
 #![tactic(auto)]
 
+mod answers;
 mod calls;
 mod deaths;
 mod ends;
 mod events;
+mod lines;
 mod lists;
 mod machine;
 mod needs;

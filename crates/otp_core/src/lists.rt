@@ -5,15 +5,16 @@ ghost use Rattle.std.specs.List.{filter, filter_map, list_any};
 ghost use Rattle.otp_rules.specs.Effects.{is_reply};
 ghost use Rattle.std.specs.VecDeque.{deque_len, deque_capacity};
 ghost use Rattle.otp_table.specs.Rows.{is_awaited, row_has};
-ghost use Rattle.otp_rules.specs.Counts.{process_of, is_active, is_supervisor, is_worker, line_of};
+ghost use Rattle.otp_rules.specs.Counts.{is_active, is_supervisor, is_worker, line_of};
 ghost use Rattle.otp_rules.specs.Restarts.{dues, is_left, running};
-ghost use Rattle.otp_rules.specs.Run.{reply_of};
 ghost use Rattle.otp_rules.specs.Step.{due_of, is_late, row_of};
 ghost use Rattle.otp_rules.specs.Stops.{is_due, is_exit, refusal, refused};
 
+use crate::answers::Answers;
 use crate::events::late_number;
+use crate::lines::line_of;
 use crate::rows::{is_due, is_exit, is_left, is_temporary};
-use otp_rules::{Answered, ChildLine, ChildProcess, Due, Effect, Item, Reply, Waiting};
+use otp_rules::{ChildLine, Due, Effect, Item, Reply, Waiting};
 use otp_spec::{ChildSpec, ChildType};
 use otp_table::{Row, RowState, Rows};
 use std::collections::VecDeque;
@@ -94,32 +95,13 @@ pub fn list_children(specs: &[ChildSpec], rows: &mut Rows, starts: &mut Vec<Due>
     }
 }
 
-/// What which_children says of a process.
-fn process_of(state: RowState) -> ChildProcess
-    ensures { result ≡ process_of state }
-{
-    match state {
-        RowState::Undefined => ChildProcess::Undefined,
-        RowState::Starting(number, _) => ChildProcess::Number(number),
-        RowState::Up(number) => ChildProcess::Number(number),
-        RowState::Asked(number, _) => ChildProcess::Number(number),
-        RowState::Killed(number) => ChildProcess::Number(number),
-        RowState::Restarting(_) => ChildProcess::Restarting,
-    }
-}
-
 /// Adds a line of which_children for each row.
 pub fn list_lines(rows: &[Row], list: &mut Vec<ChildLine>)
     requires { vec_len list.old + length rows.now ≤ vec_capacity list.old }
     ensures { list.new.items ≡ list.old.items ++ map line_of rows.now }
 {
     for row in rows {
-        list.push_reserved(ChildLine {
-            id: row.id,
-            process: process_of(row.state),
-            kind: row.spec.kind,
-            modules: row.spec.modules,
-        });
+        list.push_reserved(line_of(row));
     }
 }
 
@@ -172,14 +154,10 @@ fn is_worker(kind: ChildType) -> bool
 }
 
 /// Answers noproc to the calls that wait, in order.
-pub fn refuse_calls(
-    waiting: &VecDeque<Waiting>,
-    replies: &mut Vec<Answered>,
-    orders: &mut Vec<Effect>,
-)
-    requires replies { vec_len replies.old + deque_len waiting.now ≤ vec_capacity replies.old }
+pub fn refuse_calls(waiting: &VecDeque<Waiting>, replies: &mut Answers, orders: &mut Vec<Effect>)
+    requires replies { deque_len waiting.now ≤ replies.old.room }
     requires orders { vec_len orders.old + deque_len waiting.now ≤ vec_capacity orders.old }
-    ensures replies { replies.new.items ≡ replies.old.items ++ filter_map refused waiting.now.items }
+    ensures replies { replies.new.answers ≡ replies.old.answers ++ filter_map refused waiting.now.items }
     ensures orders { orders.new.items ≡ orders.old.items ++ filter_map refusal waiting.now.items }
     ensures len { vec_len orders.new ≤ vec_len orders.old + deque_len waiting.now }
     ensures capacity { vec_capacity orders.old ≤ vec_capacity orders.new }
@@ -189,22 +167,18 @@ pub fn refuse_calls(
     refuse_items(back, replies, orders);
 }
 
-fn refuse_items(items: &[Waiting], replies: &mut Vec<Answered>, orders: &mut Vec<Effect>)
-    requires replies { vec_len replies.old + length items.now ≤ vec_capacity replies.old }
+fn refuse_items(items: &[Waiting], replies: &mut Answers, orders: &mut Vec<Effect>)
+    requires replies { length items.now ≤ replies.old.room }
     requires orders { vec_len orders.old + length items.now ≤ vec_capacity orders.old }
-    ensures replies { replies.new.items ≡ replies.old.items ++ filter_map refused items.now }
+    ensures replies { replies.new.answers ≡ replies.old.answers ++ filter_map refused items.now }
     ensures orders { orders.new.items ≡ orders.old.items ++ filter_map refusal items.now }
-    ensures len_replies { vec_len replies.new ≤ vec_len replies.old + length items.now }
+    ensures room { replies.old.room ≤ replies.new.room + length items.now }
     ensures len { vec_len orders.new ≤ vec_len orders.old + length items.now }
-    ensures capacity_replies { vec_capacity replies.old ≤ vec_capacity replies.new }
     ensures capacity { vec_capacity orders.old ≤ vec_capacity orders.new }
 {
     for item in items {
         if let Waiting::Item(Item::Call(call, _)) = item {
-            replies.push_reserved(Answered {
-                call: *call,
-                reply: Reply::NoProc,
-            });
+            replies.push(*call, Reply::NoProc);
             orders.push_reserved(Effect::Reply(*call));
         }
     }
@@ -215,20 +189,6 @@ pub fn has_late(now: u64, rows: &[Row]) -> bool
     ensures { result ≡ list_any (λ row. is_late now row.state) rows.now }
 {
     rows.iter().any(|row| late_number(now, row.state).is_some())
-}
-
-/// The last answer to the call with this number. The search begins at the end, where a fresh answer is.
-pub fn find_reply(replies: &[Answered], call: u64) -> Option<&Reply>
-    ensures { MatchOption result (reply_of call replies.now ≡ None) (λ r. reply_of call replies.now ≡ Some r.now) }
-{
-    let mut place = replies.len();
-    while place > 0 {
-        place -= 1;
-        if replies[place].call == call {
-            return Some(&replies[place].reply);
-        }
-    }
-    None
 }
 
 fn is_reply(effect: &Effect) -> bool

@@ -2,7 +2,8 @@
 
 ghost use Rattle.std.specs.Prelude.{◌≡◌, ◌≤◌, ◌<◌, ◌^◌, OnOk, vec_capacity, vec_len};
 
-use otp_rules::{After, Answered, ChildLine, Due, Effect, Phase, Waiting};
+use crate::answers::Answers;
+use otp_rules::{After, ChildLine, Due, Effect, Phase, Waiting};
 use otp_spec::{AutoShutdown, ChildSpec, Strategy, SupFlags};
 use otp_table::Rows;
 use otp_window::Window;
@@ -24,7 +25,7 @@ pub struct Machine {
     pub to_start: Vec<Due>,
     pub follows: Option<After>,
     pub waiting: VecDeque<Waiting>,
-    pub replies: Vec<Answered>,
+    pub replies: Answers,
     /// The stamp of the last event, in milliseconds.
     pub last: u64,
     pub phase: Phase,

@@ -106,15 +106,14 @@ impl Machine {
     #[tactic(auto, unfolding(otp_rules::specs::State::answer))]
     pub fn answer(&mut self, call: u64, reply: Reply)
         requires orders { vec_len self.old.orders < vec_capacity self.old.orders }
-        requires replies { vec_len self.old.replies < vec_capacity self.old.replies }
+        requires replies { 0 < self.old.replies.room }
         ensures outcome { outcome_of self.new ≡ answer call reply (outcome_of self.old) }
         ensures rest { self.new ≡ record self.old { orders = self.new.orders; replies = self.new.replies } }
         ensures orders { vec_len self.new.orders ≡ vec_len self.old.orders + 1 }
-        ensures replies { vec_len self.new.replies ≡ vec_len self.old.replies + 1 }
+        ensures replies { self.new.replies.room + 1 ≡ self.old.replies.room }
         ensures orders_room { vec_capacity self.new.orders ≡ vec_capacity self.old.orders }
-        ensures replies_room { vec_capacity self.new.replies ≡ vec_capacity self.old.replies }
     {
-        self.replies.push_reserved(Answered { call, reply });
+        self.replies.push(call, reply);
         self.orders.push_reserved(Effect::Reply(call));
     }
 

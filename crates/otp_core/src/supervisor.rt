@@ -13,7 +13,8 @@ ghost use Rattle.otp_rules.specs.Run.{empty_state, reply_of};
 ghost use Rattle.otp_rules.specs.State.{is_over};
 ghost use Rattle.otp_rules.specs.Step.{is_late, step};
 
-use crate::lists::{find_reply, has_late, move_orders};
+use crate::answers::Answers;
+use crate::lists::{has_late, move_orders};
 use crate::machine::Machine;
 use crate::opening::{OpenFault, check_open, copy_specs};
 use crate::rows::is_over;
@@ -76,7 +77,7 @@ impl Core {
             to_start: Vec::new(alloc),
             follows: None,
             waiting: VecDeque::new(alloc),
-            replies: Vec::new(alloc),
+            replies: Answers::new(alloc),
             last: 0,
             phase: Phase::Unopened,
             orders: Vec::new(alloc),
@@ -177,7 +178,7 @@ impl Core {
     pub fn reply(&self, call: u64) -> Option<&Reply>
         ensures { MatchOption result (reply_of call (state_of self.now).replies ≡ None) (λ r. reply_of call (state_of self.now).replies ≡ Some r.now) }
     {
-        find_reply(&self.machine.replies, call)
+        self.machine.replies.find(call)
     }
 
     /// What count_children would answer now.

@@ -504,6 +504,36 @@ fn restart_is_tried_again(rt: HostRuntime) -> Result<(), Fail> {
 }
 
 #[test]
+fn children_are_told_again(rt: HostRuntime) -> Result<(), Fail> {
+    let a = child(b"a")?;
+    let mut driver = Driver::open(&rt, rt.alloc(), SupFlags::default(), &[a])?;
+    let lines = [
+        up(1),
+        Line::Asked(Call::WhichChildren),
+        Line::Asked(Call::WhichChildren),
+        exit(1, error()?),
+        up(2),
+        Line::Asked(Call::WhichChildren),
+        Line::Asked(Call::CountChildren),
+        Line::Asked(Call::WhichChildren),
+    ];
+    driver.lines(&rt, &lines)?;
+    for (call, number) in [(1u64, 1u64), (2, 1), (3, 2), (5, 2)] {
+        let Some(Reply::Which(children)) = driver.core.reply(call) else {
+            return Err(Fail::from("the children"));
+        };
+        assert_eq!(rt; children.as_slice().len(), 1);
+        for line in children.as_slice() {
+            assert_eq!(rt;
+                (line.id, line.process),
+                (Some(a.id), ChildProcess::Number(number))
+            );
+        }
+    }
+    Ok(())
+}
+
+#[test]
 fn refused_openings(rt: HostRuntime) -> Result<(), Fail> {
     let a = child(b"a")?;
     let lawful = SupFlags::default();

@@ -1,4 +1,4 @@
-ghost use Rattle.std.specs.Prelude.{◌≡◌, ◌≤◌, length};
+ghost use Rattle.std.specs.Prelude.{◌≡◌, ◌≤◌, ◌↔◌, IsTrue, length};
 ghost use Rattle.std.specs.Option.{SomeIff};
 ghost use Rattle.std.specs.List.{list_all};
 ghost use Rattle.otp_reason.specs.Names.{name_bytes, name_of, is_name_byte, is_lawful_name};
@@ -40,6 +40,14 @@ impl Name {
         ensures { result.now ≡ name_bytes self.now }
     {
         &self.bytes[..self.len.min(NAME_SIZE)]
+    }
+
+    /// Whether the other name is this one in every byte that is kept, those that it doesn't show too. Then one can
+    /// stand for the other, which `==` alone doesn't tell.
+    pub fn is_same(&self, other: &Name) -> bool
+        ensures { IsTrue result ↔ (self.now ≡ other.now) }
+    {
+        self.len == other.len && self.bytes == other.bytes
     }
 
     /// Whether the name has 1 to 32 bytes, each of them one of `a-z A-Z 0-9 _ - .`.

@@ -57,7 +57,11 @@ fn names(rt: HostRuntime) -> Result<(), Fail> {
         let name = Name::new(bytes).ok_or("at most 32 bytes")?;
         assert_eq!(rt; name.as_bytes(), bytes);
         assert_eq!(rt; name.is_lawful(), lawful, "{bytes:?}");
+        assert!(rt; name.is_same(&name));
     }
+    let short = Name::new(b"a").ok_or("a name")?;
+    let long = Name::new(b"a\0").ok_or("a name")?;
+    assert!(rt; !short.is_same(&long));
     assert_eq!(rt; Name::new(b"abcdefghijklmnopqrstuvwxyz0123456"), None);
     assert_ne!(rt; Name::new(b"a"), Name::new(b"a\0"));
     Ok(())

@@ -90,6 +90,28 @@ pub struct ChildSpec {
     pub modules: Modules,
 }
 
+impl Modules {
+    ghost use Rattle.std.specs.Prelude.{◌↔◌, IsTrue};
+
+    /// Whether the others are these in every byte that is kept (`Name::is_same`).
+    pub fn is_same(&self, other: &Modules) -> bool
+        ensures { IsTrue result ↔ (self.now ≡ other.now) }
+    {
+        match (self, other) {
+            (Modules::Dynamic, Modules::Dynamic) | (Modules::None, Modules::None) => true,
+            (Modules::One(a), Modules::One(e)) => a.is_same(e),
+            (Modules::Two(a, b), Modules::Two(e, f)) => a.is_same(e) && b.is_same(f),
+            (Modules::Three(a, b, c), Modules::Three(e, f, g)) => {
+                a.is_same(e) && b.is_same(f) && c.is_same(g)
+            }
+            (Modules::Four(a, b, c, d), Modules::Four(e, f, g, h)) => {
+                a.is_same(e) && b.is_same(f) && c.is_same(g) && d.is_same(h)
+            }
+            _ => false,
+        }
+    }
+}
+
 impl ChildSpec {
     /// A specification with the manual's default for every key but these two: a permanent worker that is not
     /// significant, has 5000 milliseconds to shut down, and is of the one module of its start function.

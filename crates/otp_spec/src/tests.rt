@@ -53,6 +53,26 @@ fn defaults_are_the_manuals(rt: HostRuntime) -> Result<(), Fail> {
 }
 
 #[test]
+fn same_modules(rt: HostRuntime) -> Result<(), Fail> {
+    let [a, b] = [named(b"a")?, named(b"b")?];
+    let lists = [
+        Modules::Dynamic,
+        Modules::None,
+        Modules::One(a),
+        Modules::Two(a, b),
+        Modules::Two(b, a),
+        Modules::Three(a, b, a),
+        Modules::Four(a, b, a, b),
+    ];
+    for (place, one) in lists.iter().enumerate() {
+        for (other_place, other) in lists.iter().enumerate() {
+            assert_eq!(rt; one.is_same(other), place == other_place);
+        }
+    }
+    Ok(())
+}
+
+#[test]
 fn limits_of_flags(rt: HostRuntime) {
     let limits = [
         (0, 1, true),

@@ -1,4 +1,4 @@
-use Rattle.std.proofs.Common.{◌≡◌, ◌∙◌}
+use Rattle.std.proofs.Common.{◌∙◌}
 use Rattle.otp_rules.specs.Step.{killed, late_number}
 use Rattle.otp_table.specs.declared.row.Row.{Row}
 use Rattle.otp_core.proofs.Steps.{mapped_further}

@@ -1,4 +1,4 @@
-use Rattle.std.proofs.Common.{◌≡◌, ◌+◌, ◌≤◌, ◌++◌, length, drop, map, vec_len, vec_capacity}
+use Rattle.std.proofs.Common.{◌≡◌, ◌+◌, ◌++◌, drop, map, vec_len, vec_capacity}
 use Rattle.otp_rules.specs.Counts.{line_of}
 use Rattle.otp_core.proofs.lists.list_lines.Given as goal
 

@@ -4,7 +4,7 @@ use Rattle.otp_core.proofs.lists.refuse_calls.Goals as goal
 
 pub returns-clause-replies : goal.returns-clause-replies
 returns-clause-replies c =
-    joined refused c.args.replies.now.items c.refuse_items.new.replies.items c.refuse_items-2.new.replies.items
+    joined refused c.args.replies.now.answers c.refuse_items.new.replies.answers c.refuse_items-2.new.replies.answers
     c.as_slices.result.0.now c.as_slices.result.1.now c.args.waiting.now.items
     c.refuse_items.ensures.replies c.refuse_items-2.ensures.replies c.as_slices.ensures.items
 

@@ -1,4 +1,4 @@
-use Rattle.std.proofs.Common.{◌≡◌, ◌+◌, ◌++◌, take, vec_len, vec_capacity}
+use Rattle.std.proofs.Common.{◌≡◌, take, vec_len, vec_capacity}
 use Rattle.otp_core.proofs.stops.last_stamps.Given as goal
 
 abbrev pub invariant-loop-stamp : goal.invariant-loop-stamp

@@ -2,7 +2,6 @@ use Rattle.std.proofs.Common.{rules, ◌≡◌, ℕ, ◌≤◌, ◌++◌, All, L
 use Rattle.otp_spec.specs.declared.child.ChildSpec.{ChildSpec}
 use Rattle.otp_spec.specs.declared.flags.SupFlags.{SupFlags}
 use Rattle.otp_rules.specs.declared.event.Event.{Event}
-use Rattle.otp_rules.specs.declared.event.Effect.{Effect}
 use Rattle.otp_rules.specs.State.{Outcome, State}
 use Rattle.otp_rules.specs.Step.{step}
 use Rattle.otp_rules.specs.Run.{empty_state, state_after}
