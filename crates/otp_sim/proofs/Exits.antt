@@ -1,5 +1,5 @@
 -- What each way out of a run says.
-use Rattle.std.proofs.Common.{◌≡◌, ℕ, ◌<◌, ◌≤◌, ◌^◌, ◌+◌, ◌⊎◌, inl, inr, List, [], ◌∷◌, ◌++◌, length, Option, Some, None, is_some, take, true, Result, Ok, Err, IfSome, refl, ap, sym, ◌∙◌, append_assoc, subst, arith, length-append}
+use Rattle.std.proofs.Common.{◌≡◌, ℕ, ◌<◌, ◌≤◌, ◌^◌, ◌+◌, ◌⊎◌, inl, inr, List, [], ◌++◌, length, Option, Some, None, is_some, take, true, Err, IfSome, refl, ap, sym, ◌∙◌, append_assoc, subst, arith, length-append}
 use Rattle.std.specs.Io.KnownBytes.{Appends, Consumes, IsAtEnd, Keeps}
 use Rattle.std.proofs.lemmas.List.{append-nil, take-append-le, take_all}
 use Rattle.otp_spec.specs.declared.child.ChildSpec.{ChildSpec}
@@ -8,12 +8,12 @@ use Rattle.otp_sim.specs.declared.session.Stop.{Stop}
 use Rattle.otp_sim.specs.declared.session.Stop.TheVariants as stop
 use Rattle.otp_sim.specs.declared.engine.SimEnd.{SimEnd}
 use Rattle.otp_sim.specs.declared.engine.SimEnd.TheVariants.{Done, LineRefused, HistoryFull, InputFailed, OutputFailed, Memory}
-use Rattle.otp_sim.specs.Devices.{Begins, AppendsPart, IsPieceEnd}
-use Rattle.otp_sim.specs.Sim.{Sim, opened, happen, stepped, take_line, take_lines, lines_of, but_last, sim_of, sim_text, sim_end, end_of, whole_text}
-use Rattle.otp_sim.specs.Runs.{Served, Ran, Broke, NoEnd, Writes, LastWrites, Devices, WroteAll, WrotePart, WroteLines, with_text}
+use Rattle.otp_sim.specs.Devices.{Begins, AppendsPart}
+use Rattle.otp_sim.specs.Sim.{Sim, opened, happen, stepped, take_line, take_lines, lines_of, sim_of, end_of, whole_text}
+use Rattle.otp_sim.specs.Runs.{Ran, Broke, Halted, PieceEnds, Flushes, NoEnd, Writes, LastWrites, Devices, WroteAll, WrotePart, WroteFirst, with_text}
 use Rattle.otp_sim.proofs.Texts.{take_line_after, after}
-use Rattle.otp_sim.proofs.Writes.{appends_none, appends_more}
-use Rattle.otp_sim.proofs.Progress.{ran_start, ran_read, ran_then, broke_then, ran_part, ran_stuck, ran_written, last_served, ended_served, long_served, whole_served}
+use Rattle.otp_sim.proofs.Writes.{appends_more}
+use Rattle.otp_sim.proofs.Progress.{ran_start, ran_read, ran_then, piece_then, ran_part, ran_written, line_part, last_served, ended_served, long_served, whole_served}
 
 pub consumes_none : (known : Option (List ℕ)) → Consumes known known []
 consumes_none None = tt
@@ -55,6 +55,22 @@ part_of start taken (Some bytes) (Some rest) before now consumed broke =
       begins = subst (λ (xs : List ℕ). Begins broke.text (take_lines (lines_of xs) start).text) (sym consumed) (broke.begins rest);
     }
 
+-- the text of the first lines was written
+first_of : (start : Sim) (taken : List ℕ) (left_old left_now before now : Option (List ℕ)) → Consumes left_old left_now taken → Halted start before now taken
+    → IfSome left_old (WroteFirst start before now)
+first_of start taken None left_now before now consumed halted = tt
+first_of start taken (Some bytes) None before now consumed halted = absurd consumed
+first_of start taken (Some bytes) (Some rest) before now consumed halted =
+    let ran = halted.ran in
+    let text : ran.written ≡ (take_lines ran.served.lines start).text =
+    sym (append-nil ran.written) ∙ ap (λ (t : Sim). t.text) ran.served.so_far in
+    record {
+      lines = ran.served.lines;
+      others = lines_of (halted.waiting ++ rest);
+      first = ap lines_of consumed ∙ ran.served.cut rest;
+      text = subst (Appends before now) text ran.appended;
+    }
+
 -- all was written, where what is left of the input leads to this end
 all_of : (start final : Sim) (taken : List ℕ) (left_old left_now before now : Option (List ℕ)) → Consumes left_old left_now taken
     → ((rest : List ℕ) → left_now ≡ Some rest → take_lines (lines_of (taken ++ rest)) start ≡ final) → Appends before now final.text
@@ -86,14 +102,16 @@ ends_so None start old now all = all
 ends_so (Some (stop.LineRefused line)) start old now all = all
 ends_so (Some stop.HistoryFull) start old now all = all
 
-piece_ends : (how : SimEnd) (start : Sim) (old now : Devices) (failures : ℕ) → old.write_failures ≤ failures
-    → IfSome old.left (WrotePart start old.written now.written) → IsPieceEnd (Err how) failures now.write_failures → Writes how start old now
-piece_ends Done start old now failures later part cause = absurd cause
-piece_ends (LineRefused line) start old now failures later part cause = absurd cause
-piece_ends HistoryFull start old now failures later part cause = absurd cause
-piece_ends InputFailed start old now failures later part cause = absurd cause
-piece_ends OutputFailed start old now failures later part cause = (part, omega arith)
-piece_ends Memory start old now failures later part cause = part
+-- the way a piece ends is the way the run ends
+piece_writes : (how : SimEnd) (start : Sim) (old now : Devices) (taken : List ℕ) (failures : ℕ) → old.write_failures ≤ failures
+    → Consumes old.left now.left taken → PieceEnds (Err how) start old.written now.written taken failures now.write_failures → Writes how start old now
+piece_writes Done start old now taken failures later consumed ends = absurd ends
+piece_writes (LineRefused number) start old now taken failures later consumed ends = absurd ends
+piece_writes HistoryFull start old now taken failures later consumed ends = absurd ends
+piece_writes InputFailed start old now taken failures later consumed ends = absurd ends
+piece_writes OutputFailed start old now taken failures later consumed ends =
+    (part_of start taken old.left now.left old.written now.written consumed ends.0, omega (arith, ends.1))
+piece_writes Memory start old now taken failures later consumed ends = inr (first_of start taken old.left now.left old.written now.written consumed ends)
 
 -- at the start
 pub stands_start : (s : Sim) (devices : Devices) (ready kept : List ℕ) → kept ≡ [] → s.lines ≡ 0 → Stands (with_text ready s) s devices devices ready kept 0
@@ -108,12 +126,6 @@ stands_start s devices ready kept empty none =
       reads = omega arith;
       writes = omega arith;
     })
-
--- for want of memory nothing goes on
-pub memory_exit : (start s : Sim) (old now : Devices) (ready kept : List ℕ) (count : ℕ) → Stands start s old now ready kept count → Writes Memory start old now
-memory_exit start s old now ready kept count stands =
-    part_of start stands.taken old.left now.left old.written now.written stands.consumed
-    (ran_stuck start s old.written now.written ready stands.taken kept stands.ran)
 
 -- what is ready is written
 pub stands_written : (start s : Sim) (old now : Devices) (ready left kept : List ℕ) (count : ℕ) (written : Option (List ℕ)) (failures : ℕ)
@@ -139,6 +151,23 @@ output_exit start s old now ready kept count written failures stands part failed
       (ran_part start s old.written now.written written ready stands.taken kept stands.ran part),
   omega (arith, stands.writes),
 )
+
+-- for want of memory nothing goes on, but what is ready is written
+pub flush_exit : (how : SimEnd) (start s : Sim) (old now : Devices) (ready kept : List ℕ) (count : ℕ) (written : Option (List ℕ)) (failures : ℕ)
+    → Stands start s old now ready kept count → Flushes how now.written written ready now.write_failures failures
+    → Writes how start old (record now { written = written; write_failures = failures })
+flush_exit Done start s old now ready kept count written failures stands flushes = absurd flushes
+flush_exit (LineRefused number) start s old now ready kept count written failures stands flushes = absurd flushes
+flush_exit HistoryFull start s old now ready kept count written failures stands flushes = absurd flushes
+flush_exit InputFailed start s old now ready kept count written failures stands flushes = absurd flushes
+flush_exit OutputFailed start s old now ready kept count written failures stands flushes =
+    output_exit start s old now ready kept count written failures stands flushes.0 flushes.1
+flush_exit Memory start s old now ready kept count written failures stands flushes =
+    inr (first_of start stands.taken old.left now.left old.written written stands.consumed (record {
+      s = s;
+      waiting = kept;
+      ran = ran_written start s old.written now.written written ready stands.taken kept stands.ran flushes;
+    }))
 
 pub ended_exit : (how : SimEnd) (start s : Sim) (old now : Devices) (ready kept : List ℕ) (count : ℕ) (reason : Stop)
     → Stands start s old now ready kept count → ready ≡ [] → Some reason ≡ s.end → how ≡ end_of (Some reason) → Writes how start old now
@@ -188,26 +217,29 @@ stands_end start s old now ready kept count left failures stands piece none some
     }
 
 -- a last line is taken
-last_exit : (how : SimEnd) (start s t : Sim) (old now : Devices) (ready kept : List ℕ) (count : ℕ) (written : Option (List ℕ)) (failures : ℕ)
+last_exit : (how : SimEnd) (start s : Sim) (old now : Devices) (ready kept line : List ℕ) (count : ℕ) (written : Option (List ℕ)) (failures : ℕ)
     (stands : Stands start s old now ready kept count)
-    → ((rest : List ℕ) → now.left ≡ Some rest → take_lines (lines_of (stands.taken ++ rest)) start ≡ after stands.ran.written t)
-    → LastWrites how t now.written written now.write_failures failures
+    → ((rest : List ℕ) → now.left ≡ Some rest → take_lines (lines_of (stands.taken ++ rest)) start ≡ after stands.ran.written (take_line line (with_text ready s)))
+    → LastWrites how line (with_text ready s) now.written written now.write_failures failures
     → Writes how start old (record now { written = written; write_failures = failures })
-last_exit Done start s t old now ready kept count written failures stands final last =
+last_exit Done start s old now ready kept line count written failures stands final last =
+    let t : Sim = take_line line (with_text ready s) in
     let text = appends_more old.written now.written written stands.ran.written t.text stands.ran.appended last.0 in
     subst (λ (end : SimEnd). IfSome old.left (WroteAll start old.written written end)) (sym last.1)
     (all_of start (after stands.ran.written t) stands.taken old.left now.left old.written written stands.consumed final text)
-last_exit (LineRefused line) start s t old now ready kept count written failures stands final last =
+last_exit (LineRefused number) start s old now ready kept line count written failures stands final last =
+    let t : Sim = take_line line (with_text ready s) in
     let text = appends_more old.written now.written written stands.ran.written t.text stands.ran.appended last.0 in
     subst (λ (end : SimEnd). IfSome old.left (WroteAll start old.written written end)) (sym last.1)
     (all_of start (after stands.ran.written t) stands.taken old.left now.left old.written written stands.consumed final text)
-last_exit HistoryFull start s t old now ready kept count written failures stands final last =
+last_exit HistoryFull start s old now ready kept line count written failures stands final last =
+    let t : Sim = take_line line (with_text ready s) in
     let text = appends_more old.written now.written written stands.ran.written t.text stands.ran.appended last.0 in
     subst (λ (end : SimEnd). IfSome old.left (WroteAll start old.written written end)) (sym last.1)
     (all_of start (after stands.ran.written t) stands.taken old.left now.left old.written written stands.consumed final text)
-last_exit InputFailed start s t old now ready kept count written failures stands final last = absurd last
-last_exit OutputFailed start s t old now ready kept count written failures stands final last = (
-  some_of start (after stands.ran.written t) stands.taken (stands.ran.written ++ last.0.front) old.left now.left old.written written stands.consumed final
+last_exit InputFailed start s old now ready kept line count written failures stands final last = absurd last
+last_exit OutputFailed start s old now ready kept line count written failures stands final last = (
+  some_of start (after stands.ran.written (take_line line (with_text ready s))) stands.taken (stands.ran.written ++ last.0.front) old.left now.left old.written written stands.consumed final
       (appends_more old.written now.written written stands.ran.written last.0.front stands.ran.appended last.0.appended)
       (record {
         rest = last.0.begins.rest;
@@ -216,25 +248,29 @@ last_exit OutputFailed start s t old now ready kept count written failures stand
       }),
   omega (arith, stands.writes, last.1),
 )
-last_exit Memory start s t old now ready kept count written failures stands final last =
-    some_of start (after stands.ran.written t) stands.taken (stands.ran.written ++ last.front) old.left now.left old.written written stands.consumed final
-    (appends_more old.written now.written written stands.ran.written last.front stands.ran.appended last.appended)
-    (record {
-      rest = last.begins.rest;
-      same = ap (λ bytes. stands.ran.written ++ bytes) last.begins.same
-          ∙ sym (append_assoc stands.ran.written last.front last.begins.rest);
-    })
+last_exit Memory start s old now ready kept line count written failures stands final last =
+    flush_exit Memory start s old now ready kept count written failures stands last
+
+-- a last line for which memory is refused adds nothing to what is ready
+pub last_flushes : (how : SimEnd) (line : List ℕ) (s : Sim) (before now : Option (List ℕ)) (failures_before failures_now : ℕ)
+    → Flushes how before now s.text failures_before failures_now → LastWrites how line s before now failures_before failures_now
+last_flushes Done line s before now failures_before failures_now flushes = absurd flushes
+last_flushes (LineRefused number) line s before now failures_before failures_now flushes = absurd flushes
+last_flushes HistoryFull line s before now failures_before failures_now flushes = absurd flushes
+last_flushes InputFailed line s before now failures_before failures_now flushes = absurd flushes
+last_flushes OutputFailed line s before now failures_before failures_now flushes = (line_part line s before now flushes.0, flushes.1)
+last_flushes Memory line s before now failures_before failures_now flushes = flushes
 
 -- at the end of the input
 pub end_exit : (how : SimEnd) (start s : Sim) (old now : Devices) (ready kept line : List ℕ) (count : ℕ) (written : Option (List ℕ)) (failures : ℕ)
     (stands : Stands start s old now ready kept count) → IsAtEnd now.left → line ≡ kept
-    → LastWrites how (take_line line (with_text ready s)) now.written written now.write_failures failures
+    → LastWrites how line (with_text ready s) now.written written now.write_failures failures
     → Writes how start old (record now { written = written; write_failures = failures })
 end_exit how start s old now ready kept line count written failures stands at_end same_line line_last =
-    let last = subst (λ (bytes : List ℕ). LastWrites how (take_line bytes (with_text ready s)) now.written written now.write_failures failures) same_line line_last in
+    let last = subst (λ (bytes : List ℕ). LastWrites how bytes (with_text ready s) now.written written now.write_failures failures) same_line line_last in
     let served : take_lines (lines_of stands.taken) start ≡ after stands.ran.written (take_line kept (with_text ready s)) =
     last_served start _ stands.taken kept stands.none stands.ran.served ∙ take_line_after stands.ran.written kept (with_text ready s) in
-    last_exit how start s (take_line kept (with_text ready s)) old now ready kept count written failures stands
+    last_exit how start s old now ready kept kept count written failures stands
     (λ rest e.
     let none : rest ≡ [] = subst IsAtEnd e at_end in
     ap (λ bytes. take_lines (lines_of (stands.taken ++ bytes)) start) none
@@ -244,11 +280,11 @@ end_exit how start s old now ready kept line count written failures stands at_en
 -- at a line that is too long
 pub long_exit : (how : SimEnd) (start s : Sim) (old now : Devices) (ready kept line : List ℕ) (count : ℕ) (written : Option (List ℕ)) (failures : ℕ)
     (stands : Stands start s old now ready kept count) → 512 < length kept → line ≡ kept
-    → LastWrites how (take_line line (with_text ready s)) now.written written now.write_failures failures
+    → LastWrites how line (with_text ready s) now.written written now.write_failures failures
     → Writes how start old (record now { written = written; write_failures = failures })
 long_exit how start s old now ready kept line count written failures stands long same_line line_last =
-    let last = subst (λ (bytes : List ℕ). LastWrites how (take_line bytes (with_text ready s)) now.written written now.write_failures failures) same_line line_last in
-    last_exit how start s (take_line kept (with_text ready s)) old now ready kept count written failures stands
+    let last = subst (λ (bytes : List ℕ). LastWrites how bytes (with_text ready s) now.written written now.write_failures failures) same_line line_last in
+    last_exit how start s old now ready kept kept count written failures stands
     (λ rest e. long_served start _ stands.taken kept rest stands.none long stands.ran.served ∙ take_line_after stands.ran.written kept (with_text ready s))
     last
 
@@ -275,14 +311,14 @@ stands_served start s t old now ready ready_now kept kept_now piece count count_
 pub piece_exit : (how : SimEnd) (start s : Sim) (old now : Devices) (ready kept piece : List ℕ) (count : ℕ)
     (left written : Option (List ℕ)) (read_failures write_failures : ℕ)
     → Stands start s old now ready kept count → Consumes now.left left piece
-    → Broke (with_text ready s) now.written written (kept ++ piece) → IsPieceEnd (Err how) now.write_failures write_failures
+    → PieceEnds (Err how) (with_text ready s) now.written written (kept ++ piece) now.write_failures write_failures
     → Writes how start old (record { left = left; written = written; read_failures = read_failures; write_failures = write_failures })
-piece_exit how start s old now ready kept piece count left written read_failures write_failures stands more broke cause =
-    let part = part_of start (stands.taken ++ piece) old.left left old.written written
-    (consumes_more old.left now.left left stands.taken piece stands.consumed more)
-    (broke_then start s old.written now.written written ready (stands.taken ++ piece) (kept ++ piece)
-    (ran_read start s old.written now.written ready stands.taken kept piece stands.ran) broke) in
-    piece_ends how start old (record { left = left; written = written; read_failures = read_failures; write_failures = write_failures }) now.write_failures stands.writes part cause
+piece_exit how start s old now ready kept piece count left written read_failures write_failures stands more ends =
+    let later : Devices = record { left = left; written = written; read_failures = read_failures; write_failures = write_failures } in
+    let taken = consumes_more old.left now.left left stands.taken piece stands.consumed more in
+    let ran = ran_read start s old.written now.written ready stands.taken kept piece stands.ran in
+    piece_writes how start old later (stands.taken ++ piece) now.write_failures stands.writes taken
+    (piece_then how start s old.written now.written written ready (stands.taken ++ piece) (kept ++ piece) now.write_failures write_failures ran ends)
 
 pub keeps_known : (known : Option (List ℕ)) → Keeps known known
 keeps_known None = tt
@@ -300,11 +336,9 @@ pub opened_lines : (flags : SupFlags) (specs : List ChildSpec) → (opened flags
 unfolding opened happen stepped
 opened_lines flags specs = refl
 
--- nothing is a beginning of what was to be written
+-- before the opening nothing was read or written
 pub nothing_written : (start : Sim) (devices : Devices) → Writes Memory start devices devices
-nothing_written start devices =
-    part_of start [] devices.left devices.left devices.written devices.written (consumes_none devices.left)
-    (ran_stuck start start devices.written devices.written start.text [] [] (ran_start start devices.written start.text []))
+nothing_written start devices = inl refl
 
 -- one start or the same
 pub writes_from : (how : SimEnd) (a b : Sim) (old new : Devices) → a ≡ b → Writes how a old new → Writes how b old new

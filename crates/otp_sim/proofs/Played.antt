@@ -1,4 +1,4 @@
-use Rattle.std.proofs.Common.{◌≡◌, ℕ, ◌+◌, ◌-◌, ◌<◌, ◌≤◌, ◌++◌, ◌==◌, Bool, false, List, [], ◌∷◌, ◌∙◌, Option, None, Some, ap, append-nil, arith, length, length-append, refl, subst, sym}
+use Rattle.std.proofs.Common.{◌≡◌, ℕ, ◌+◌, ◌-◌, ◌≤◌, ◌++◌, ◌==◌, Bool, false, List, [], ◌∷◌, ◌∙◌, Option, None, Some, ap, arith, refl, subst, sym}
 use Rattle.std.specs.Prelude.{if◌then◌else◌, true, unwrap_or}
 use Rattle.std.proofs.lemmas.Bool.{eqb-true}
 use Rattle.std.specs.List.{All}
@@ -8,7 +8,7 @@ use Rattle.otp_rules.specs.declared.event.Kind.{Kind}
 use Rattle.otp_rules.specs.declared.event.Effect.{Effect}
 use Rattle.otp_rules.specs.Needs.{numbers_of}
 use Rattle.otp_rules.specs.Run.{state_after}
-use Rattle.otp_rules.specs.State.{Outcome, State}
+use Rattle.otp_rules.specs.State.{State}
 use Rattle.otp_rules.specs.Step.{step}
 use Rattle.otp_sim.specs.declared.session.Stop.TheVariants as stop
 use Rattle.otp_sim.specs.Sim.{Sim, event_of, happen, orders_text, stepped}

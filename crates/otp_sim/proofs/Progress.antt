@@ -1,6 +1,6 @@
 -- What serving a line, a piece of the input or its end does to a run.
-use Rattle.std.proofs.Common.{◌≡◌, ℕ, ◌+◌, ◌<◌, ◌==◌, Bool, true, false, cond, List, [], ◌∷◌, ◌++◌, length, Option, Some, None, is_some, take, drop, get_or, position, ◌≤◌, subst, refl, ap, sym, ◌∙◌, append_assoc, arith, nat_lt}
-use Rattle.std.specs.List.{slice_split, onto_first, position_or_len, All}
+use Rattle.std.proofs.Common.{◌≡◌, ℕ, ◌+◌, ◌<◌, ◌==◌, Bool, true, false, cond, List, [], ◌∷◌, ◌++◌, length, Option, Some, None, Err, is_some, take, drop, get_or, position, ◌≤◌, subst, refl, ap, sym, ◌∙◌, append_assoc, arith}
+use Rattle.std.specs.List.{slice_split, onto_first, position_or_len}
 use Rattle.std.proofs.lemmas.List.{append-nil, length-append, length-take, get_or-take}
 use Rattle.std.proofs.lemmas.List.Splits.{slice_split_at, slice_split_none, slice_split-cons_no}
 use Rattle.std.proofs.lemmas.Bool.{lt-ltb, ltb-true, ltb-false, eqb-true}
@@ -10,7 +10,9 @@ use Rattle.otp_text.specs.Words.{words_of}
 use Rattle.otp_text.specs.Lines.{line_of, line_of_words}
 use Rattle.otp_sim.specs.Devices.{Begins}
 use Rattle.otp_sim.specs.Sim.{Sim, take_form, take_line, take_lines, lines_of, but_last}
-use Rattle.otp_sim.specs.Runs.{Served, Ran, Broke, NoEnd, with_text}
+use Rattle.otp_sim.specs.declared.engine.SimEnd.{SimEnd}
+use Rattle.otp_sim.specs.declared.engine.SimEnd.TheVariants.{Done, LineRefused, HistoryFull, InputFailed, OutputFailed, Memory}
+use Rattle.otp_sim.specs.Runs.{Served, Ran, Broke, PieceEnds, Flushes, NoEnd, with_text}
 use Rattle.otp_sim.specs.Devices.{AppendsPart, Moves}
 use Rattle.std.specs.Io.KnownBytes.{Appends}
 use Rattle.otp_sim.proofs.Writes.{appends_none, appends_more}
@@ -195,6 +197,20 @@ text_begins lines s =
     ap (λ text. take_lines lines (with_text text s)) (sym (append-nil s.text)) ∙ take_lines_after s.text lines bare in
     record { rest = (take_lines lines bare).text; same = ap (λ (t : Sim). t.text) whole }
 
+-- so a part of that is a part of the text with one line more
+pub line_part : (line : List ℕ) (s : Sim) (before now : Option (List ℕ)) → AppendsPart before now s.text → AppendsPart before now (take_line line s).text
+unfolding take_lines
+line_part line s before now part =
+    let more : Begins s.text (take_line line s).text = text_begins (line ∷ []) s in
+    record {
+      front = part.front;
+      appended = part.appended;
+      begins = record {
+        rest = part.begins.rest ++ more.rest;
+        same = more.same ∙ ap (λ bytes. bytes ++ more.rest) part.begins.same ∙ append_assoc part.front part.begins.rest more.rest;
+      };
+    }
+
 pub served_begins : (start s : Sim) (taken waiting more : List ℕ) → Served start taken waiting s
     → Begins s.text (take_lines (lines_of (taken ++ more)) start).text
 served_begins start s taken waiting more served =
@@ -290,13 +306,7 @@ ran_part start s before mid now ready taken waiting ran part =
           begins_front (ran.written ++ part.front) part.begins.rest _ (rw (← split) whole);
     }
 
-pub ran_stuck : (start s : Sim) (before now : Option (List ℕ)) (ready taken waiting : List ℕ)
-    → Ran start s before now ready taken waiting → Broke start before now taken
-ran_stuck start s before now ready taken waiting ran =
-    ran_part start s before now now ready taken waiting ran
-    (record { front = []; appended = appends_none now; begins = record { rest = ready; same = refl } })
-
-pub broke_then : (start s : Sim) (before mid now : Option (List ℕ)) (ready taken waiting : List ℕ)
+broke_then : (start s : Sim) (before mid now : Option (List ℕ)) (ready taken waiting : List ℕ)
     → Ran start s before mid ready taken waiting → Broke (with_text ready s) mid now waiting → Broke start before now taken
 broke_then start s before mid now ready taken waiting ran broke =
     record {
@@ -315,6 +325,43 @@ broke_then start s before mid now ready taken waiting ran broke =
                 ∙ sym (append_assoc ran.written broke.text front.rest);
           };
     }
+
+-- a piece ends, after a part of the run
+pub piece_then : (how : SimEnd) (start s : Sim) (before mid now : Option (List ℕ)) (ready taken waiting : List ℕ) (failures_before failures_now : ℕ)
+    → Ran start s before mid ready taken waiting → PieceEnds (Err how) (with_text ready s) mid now waiting failures_before failures_now
+    → PieceEnds (Err how) start before now taken failures_before failures_now
+piece_then Done start s before mid now ready taken waiting failures_before failures_now ran ends = ends
+piece_then (LineRefused number) start s before mid now ready taken waiting failures_before failures_now ran ends = ends
+piece_then HistoryFull start s before mid now ready taken waiting failures_before failures_now ran ends = ends
+piece_then InputFailed start s before mid now ready taken waiting failures_before failures_now ran ends = ends
+piece_then OutputFailed start s before mid now ready taken waiting failures_before failures_now ran ends =
+    (broke_then start s before mid now ready taken waiting ran ends.0, ends.1)
+piece_then Memory start s before mid now ready taken waiting failures_before failures_now ran ends =
+    record { s = ends.s; waiting = ends.waiting; ran = ran_then start s ends.s before mid now ready [] taken waiting ends.waiting ran ends.ran }
+
+-- the same after some of the writer's failures, which are counted
+pub ends_earlier : (how : SimEnd) (start : Sim) (before now : Option (List ℕ)) (taken : List ℕ) (earliest failures_before failures_now : ℕ)
+    → earliest ≤ failures_before → PieceEnds (Err how) start before now taken failures_before failures_now
+    → PieceEnds (Err how) start before now taken earliest failures_now
+ends_earlier Done start before now taken earliest failures_before failures_now later ends = ends
+ends_earlier (LineRefused number) start before now taken earliest failures_before failures_now later ends = ends
+ends_earlier HistoryFull start before now taken earliest failures_before failures_now later ends = ends
+ends_earlier InputFailed start before now taken earliest failures_before failures_now later ends = ends
+ends_earlier OutputFailed start before now taken earliest failures_before failures_now later ends = (ends.0, omega (arith, ends.1))
+ends_earlier Memory start before now taken earliest failures_before failures_now later ends = ends
+
+-- for want of memory what is ready is written, and then the piece ends
+pub flushed : (how : SimEnd) (start s : Sim) (before mid now : Option (List ℕ)) (ready taken waiting : List ℕ) (failures_before failures_now : ℕ)
+    → Ran start s before mid ready taken waiting → Flushes how mid now ready failures_before failures_now
+    → PieceEnds (Err how) start before now taken failures_before failures_now
+flushed Done start s before mid now ready taken waiting failures_before failures_now ran flushes = flushes
+flushed (LineRefused number) start s before mid now ready taken waiting failures_before failures_now ran flushes = flushes
+flushed HistoryFull start s before mid now ready taken waiting failures_before failures_now ran flushes = flushes
+flushed InputFailed start s before mid now ready taken waiting failures_before failures_now ran flushes = flushes
+flushed OutputFailed start s before mid now ready taken waiting failures_before failures_now ran flushes =
+    (ran_part start s before mid now ready taken waiting ran flushes.0, flushes.1)
+flushed Memory start s before mid now ready taken waiting failures_before failures_now ran flushes =
+    record { s = s; waiting = waiting; ran = ran_written start s before mid now ready taken waiting ran flushes }
 
 -- some of what is ready is written
 pub ran_moved : (start s : Sim) (before mid now : Option (List ℕ)) (ready left taken waiting : List ℕ)
@@ -372,13 +419,15 @@ part_no_end kept rest end found none = All-append (λ byte. (byte == 10) ≡ fal
 pub rest_no_end : (kept rest : List ℕ) → position is_end rest ≡ None → NoEnd kept → NoEnd (kept ++ rest)
 rest_no_end kept rest found none = All-append (λ byte. (byte == 10) ≡ false) kept rest none (no_end_left rest found)
 
-pub next_broke : (start s : Sim) (before mid now : Option (List ℕ)) (ready taken kept rest : List ℕ) (end : ℕ)
-    → position is_end rest ≡ Some end → Ran start s before mid ready taken (kept ++ rest)
-    → ((others : List ℕ) → Broke (with_text ready s) mid now ((kept ++ take end rest) ++ 10 ∷ others))
-    → Broke start before now taken
-next_broke start s before mid now ready taken kept rest end found ran broke =
+pub next_ends : (how : SimEnd) (start s : Sim) (before mid now : Option (List ℕ)) (ready taken kept rest : List ℕ) (end earliest failures_before failures_now : ℕ)
+    → position is_end rest ≡ Some end → Ran start s before mid ready taken (kept ++ rest) → earliest ≤ failures_before
+    → ((others : List ℕ) → PieceEnds (Err how) (with_text ready s) mid now ((kept ++ take end rest) ++ 10 ∷ others) failures_before failures_now)
+    → PieceEnds (Err how) start before now taken earliest failures_now
+next_ends how start s before mid now ready taken kept rest end earliest failures_before failures_now found ran later ends =
     let whole = cut_waiting kept rest end (piece_split rest end found) in
-    broke_then start s before mid now ready taken (kept ++ rest) ran (rw whole (broke (drop (end + 1) rest)))
+    let here : PieceEnds (Err how) (with_text ready s) mid now (kept ++ rest) failures_before failures_now = rw whole (ends (drop (end + 1) rest)) in
+    ends_earlier how start before now taken earliest failures_before failures_now later
+    (piece_then how start s before mid now ready taken (kept ++ rest) failures_before failures_now ran here)
 
 pub next_ran : (start s t : Sim) (before mid now : Option (List ℕ)) (ready left taken kept kept_now rest rest_now : List ℕ) (end : ℕ)
     → position is_end rest ≡ Some end → Ran start s before mid ready taken (kept ++ rest)
@@ -409,5 +458,9 @@ line_broke s t before now ready0 ready1 line none step part others =
     (ran_start s before ready0 (line ++ 10 ∷ others)) step)
     part
 
-pub none_broke : (s : Sim) (known : Option (List ℕ)) (ready waiting : List ℕ) → Broke (with_text ready s) known known waiting
-none_broke s known ready waiting = ran_stuck (with_text ready s) s known known ready waiting waiting (ran_start s known ready waiting)
+-- no line is served for want of memory
+pub line_flushed : (how : SimEnd) (s : Sim) (before now : Option (List ℕ)) (ready waiting : List ℕ) (failures_before failures_now : ℕ)
+    → Flushes how before now ready failures_before failures_now
+    → PieceEnds (Err how) (with_text ready s) before now waiting failures_before failures_now
+line_flushed how s before now ready waiting failures_before failures_now flushes =
+    flushed how (with_text ready s) s before before now ready waiting waiting failures_before failures_now (ran_start s before ready waiting) flushes

@@ -1,5 +1,5 @@
 -- What is printed doesn't depend on what was printed before.
-use Rattle.std.proofs.Common.{◌≡◌, ℕ, zero, suc, ◌+◌, ◌-◌, ◌==◌, Bool, true, false, cond, List, [], ◌∷◌, ◌++◌, Option, Some, None, is_some, refl, ap, sym, ◌∙◌, append_assoc}
+use Rattle.std.proofs.Common.{◌≡◌, ℕ, zero, suc, ◌+◌, ◌==◌, true, false, cond, List, [], ◌∷◌, ◌++◌, Option, Some, None, is_some, refl, ap, sym, ◌∙◌, append_assoc, append-nil}
 use Rattle.otp_rules.specs.declared.event.Event.{Event}
 use Rattle.otp_rules.specs.declared.event.Kind.{Kind}
 use Rattle.otp_rules.specs.declared.event.Kind.TheVariants as kind
@@ -81,3 +81,10 @@ pub take_lines_after : (front : List ℕ) (lines : List (List ℕ)) (s : Sim) �
 unfolding take_lines
 take_lines_after front [] s = refl
 take_lines_after front (bytes ∷ others) s = ap (take_lines others) (take_line_after front bytes s) ∙ take_lines_after front others (take_line bytes s)
+
+-- what a line prints on an empty page may be put behind other text
+pub page_added : (line old page whole : List ℕ) (s t : Sim) → with_text page t ≡ take_line line (with_text [] s) → whole ≡ old ++ page
+    → with_text whole t ≡ take_line line (with_text old s)
+page_added line old page whole s t taken added =
+    ap (λ text. with_text text t) added ∙ ap (after old) taken ∙ sym (take_line_after old line (with_text [] s))
+    ∙ ap (λ text. take_line line (with_text text s)) (append-nil old)

@@ -1,8 +1,8 @@
 -- Known bytes that grow in steps.
-use Rattle.std.proofs.Common.{◌≡◌, ℕ, List, [], ◌∷◌, ◌++◌, Option, Some, None, Result, Ok, Err, take, drop, refl, ap, sym, ◌∙◌, append_assoc}
-use Rattle.std.specs.Io.KnownBytes.{Appends, Consumes, Keeps, ReadConsumes, WriteAppends, IsAtEnd}
+use Rattle.std.proofs.Common.{◌≡◌, ℕ, List, [], ◌++◌, Option, Some, None, Result, Ok, Err, take, drop, refl, ap, sym, ◌∙◌, append_assoc}
+use Rattle.std.specs.Io.KnownBytes.{Appends, Consumes, Keeps, ReadConsumes, WriteAppends}
 use Rattle.std.proofs.lemmas.List.{append-nil, take-append-drop}
-use Rattle.otp_sim.specs.Devices.{Begins, AppendsPart, Moves}
+use Rattle.otp_sim.specs.Devices.{AppendsPart, Moves}
 
 -- some of the bytes were written, and these are left
 pub record Halfway (before now : Option (List ℕ)) (bytes rest : List ℕ) : Type 0 where

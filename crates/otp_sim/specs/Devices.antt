@@ -1,8 +1,6 @@
 -- What a reader's or a writer's call says of its failures (own).
-use Rattle.std.specs.Prelude.{◌≡◌, ℕ, ◌<◌, ◌≤◌, List, ◌++◌, length, Option, Result, Ok, Err, OnErr, IfOk}
+use Rattle.std.specs.Prelude.{◌≡◌, ℕ, ◌<◌, ◌≤◌, List, ◌++◌, length, Option, Result, OnErr, IfOk}
 use Rattle.std.specs.Io.KnownBytes.{Appends}
-use Rattle.otp_sim.specs.declared.engine.SimEnd.{SimEnd}
-use Rattle.otp_sim.specs.declared.engine.SimEnd.TheVariants.{Done, LineRefused, HistoryFull, InputFailed, OutputFailed, Memory}
 
 -- failures are counted: an error is one
 pub record CountsErrors {T E : Type 0} (before now : ℕ) (result : Result T E) : Type 0 where
@@ -25,16 +23,6 @@ pub record AppendsPart (before now : Option (List ℕ)) (text : List ℕ) : Type
   pub front : List ℕ
   pub appended : Appends before now front
   pub begins : Begins front text
-
--- serving a piece of the input ends for want of memory, or because the writer failed in it
-abbrev pub IsPieceEnd : Result (Unit {0}) SimEnd → ℕ → ℕ → Type 0
-IsPieceEnd (Ok _) before now = Unit {0}
-IsPieceEnd (Err Done) before now = ⊥
-IsPieceEnd (Err (LineRefused _)) before now = ⊥
-IsPieceEnd (Err HistoryFull) before now = ⊥
-IsPieceEnd (Err InputFailed) before now = ⊥
-IsPieceEnd (Err OutputFailed) before now = before < now
-IsPieceEnd (Err Memory) before now = Unit {0}
 
 -- known bytes grew by the front of what was ready, and the rest is left
 pub record Moves (before now : Option (List ℕ)) (ready left : List ℕ) : Type 0 where

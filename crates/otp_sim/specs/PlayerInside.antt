@@ -1,5 +1,5 @@
 -- What a player stands for, and what it keeps.
-use Rattle.std.specs.Prelude.{◌≡◌, ℕ, ◌-◌, ◌≤◌, ◌^◌, [], All, length}
+use Rattle.std.specs.Prelude.{◌≡◌, ◌-◌, ◌≤◌, ◌^◌, [], All, length}
 use Rattle.otp_rules.specs.Needs.{numbers_of}
 use Rattle.otp_core.specs.View.{state_of}
 use Rattle.otp_sim.specs.declared.player.Player.TheInside.{Inside}

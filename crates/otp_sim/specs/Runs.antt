@@ -1,11 +1,11 @@
 -- How far a run of `sim` has come, and how it ends (own).
-use Rattle.std.specs.Prelude.{◌≡◌, ◌==◌, ℕ, ◌<◌, ◌≤◌, ◌^◌, length, ◌⊎◌, false, List, ◌++◌, Option, Some, None, IfSome}
+use Rattle.std.specs.Prelude.{◌≡◌, ◌==◌, ℕ, ◌<◌, ◌≤◌, ◌^◌, length, ◌⊎◌, false, List, ◌++◌, Option, IfSome, Result, Ok, Err, []}
 use Rattle.std.specs.List.{All}
 use Rattle.std.specs.Io.KnownBytes.{Appends, Consumes}
 use Rattle.otp_sim.specs.declared.engine.SimEnd.{SimEnd}
 use Rattle.otp_sim.specs.declared.engine.SimEnd.TheVariants.{Done, LineRefused, HistoryFull, InputFailed, OutputFailed, Memory}
 use Rattle.otp_sim.specs.Devices.{Begins, AppendsPart}
-use Rattle.otp_sim.specs.Sim.{Sim, take_lines, lines_of, sim_text, sim_end, whole_text, end_of}
+use Rattle.otp_sim.specs.Sim.{Sim, take_line, take_lines, lines_of, sim_text, sim_end, whole_text, end_of}
 
 -- with this text printed so far
 abbrev pub with_text : List ℕ → Sim → Sim
@@ -34,6 +34,13 @@ pub record WrotePart (start : Sim) (before now : Option (List ℕ)) (bytes : Lis
   pub written : Appends before now text
   pub begins : Begins text (sim_text start bytes)
 
+-- the writer got the text of the first lines, those that were taken whole
+pub record WroteFirst (start : Sim) (before now : Option (List ℕ)) (bytes : List ℕ) : Type 0 where
+  pub lines : List (List ℕ)
+  pub others : List (List ℕ)
+  pub first : lines_of bytes ≡ lines ++ others
+  pub text : Appends before now (take_lines lines start).text
+
 -- the writer got the text of the lines whose LF was read, and then the reader failed or had given 2 ^ 62 bytes
 pub record WroteLines (start : Sim) (left_before left_now before now : Option (List ℕ)) (failures_before failures_now : ℕ) : Type 0 where
   pub taken : List ℕ
@@ -56,22 +63,48 @@ Writes (LineRefused line) start old new = IfSome old.left (WroteAll start old.wr
 Writes HistoryFull start old new = IfSome old.left (WroteAll start old.written new.written HistoryFull)
 Writes InputFailed start old new = WroteLines start old.left new.left old.written new.written old.read_failures new.read_failures
 Writes OutputFailed start old new = IfSome old.left (WrotePart start old.written new.written) × (old.write_failures < new.write_failures)
-Writes Memory start old new = IfSome old.left (WrotePart start old.written new.written)
+-- before the supervisor was opened, or later
+Writes Memory start old new = (new ≡ old) ⊎ IfSome old.left (WroteFirst start old.written new.written)
 
--- the text of a last line was written, by how its taking ended; s is what it leads to
-abbrev pub LastWrites : SimEnd → Sim → Option (List ℕ) → Option (List ℕ) → ℕ → ℕ → Type 0
-LastWrites Done s before now failures_before failures_now = Appends before now s.text × (Done ≡ end_of s.end)
-LastWrites (LineRefused line) s before now failures_before failures_now = Appends before now s.text × (LineRefused line ≡ end_of s.end)
-LastWrites HistoryFull s before now failures_before failures_now = Appends before now s.text × (HistoryFull ≡ end_of s.end)
-LastWrites InputFailed s before now failures_before failures_now = ⊥
-LastWrites OutputFailed s before now failures_before failures_now = AppendsPart before now s.text × (failures_before < failures_now)
-LastWrites Memory s before now failures_before failures_now = AppendsPart before now s.text
+-- for want of memory what was ready was written, or the writer failed in it
+abbrev pub Flushes : SimEnd → Option (List ℕ) → Option (List ℕ) → List ℕ → ℕ → ℕ → Type 0
+Flushes Done before now ready failures_before failures_now = ⊥
+Flushes (LineRefused _) before now ready failures_before failures_now = ⊥
+Flushes HistoryFull before now ready failures_before failures_now = ⊥
+Flushes InputFailed before now ready failures_before failures_now = ⊥
+Flushes OutputFailed before now ready failures_before failures_now = AppendsPart before now ready × (failures_before < failures_now)
+Flushes Memory before now ready failures_before failures_now = Appends before now ready
+
+-- from s on a last line was served, and its text written, by how that ended
+abbrev pub LastWrites : SimEnd → List ℕ → Sim → Option (List ℕ) → Option (List ℕ) → ℕ → ℕ → Type 0
+LastWrites Done line s before now failures_before failures_now = Appends before now (take_line line s).text × (Done ≡ end_of (take_line line s).end)
+LastWrites (LineRefused number) line s before now failures_before failures_now = Appends before now (take_line line s).text × (LineRefused number ≡ end_of (take_line line s).end)
+LastWrites HistoryFull line s before now failures_before failures_now = Appends before now (take_line line s).text × (HistoryFull ≡ end_of (take_line line s).end)
+LastWrites InputFailed line s before now failures_before failures_now = ⊥
+LastWrites OutputFailed line s before now failures_before failures_now = AppendsPart before now (take_line line s).text × (failures_before < failures_now)
+LastWrites Memory line s before now failures_before failures_now = Appends before now s.text
 
 -- only a beginning was written, however the input goes on
 pub record Broke (start : Sim) (before now : Option (List ℕ)) (taken : List ℕ) : Type 0 where
   pub text : List ℕ
   pub written : Appends before now text
   pub begins : (more : List ℕ) → Begins text (take_lines (lines_of (taken ++ more)) start).text
+
+-- all that the lines served so far print was written
+pub record Halted (start : Sim) (before now : Option (List ℕ)) (taken : List ℕ) : Type 0 where
+  pub s : Sim
+  pub waiting : List ℕ
+  pub ran : Ran start s before now [] taken waiting
+
+-- serving a piece of the input ends for want of memory, or because the writer failed in it
+abbrev pub PieceEnds : Result (Unit {0}) SimEnd → Sim → Option (List ℕ) → Option (List ℕ) → List ℕ → ℕ → ℕ → Type 0
+PieceEnds (Ok _) start before now taken failures_before failures_now = Unit {0}
+PieceEnds (Err Done) start before now taken failures_before failures_now = ⊥
+PieceEnds (Err (LineRefused _)) start before now taken failures_before failures_now = ⊥
+PieceEnds (Err HistoryFull) start before now taken failures_before failures_now = ⊥
+PieceEnds (Err InputFailed) start before now taken failures_before failures_now = ⊥
+PieceEnds (Err OutputFailed) start before now taken failures_before failures_now = Broke start before now taken × (failures_before < failures_now)
+PieceEnds (Err Memory) start before now taken failures_before failures_now = Halted start before now taken
 
 -- no byte is the end of a line
 abbrev pub NoEnd : List ℕ → Type 0

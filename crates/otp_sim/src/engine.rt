@@ -3,13 +3,14 @@
 ghost use Rattle.std.specs.Prelude.{◌≡◌, ◌+◌, ◌<◌, ◌^◌, IfOk, None, vec_len};
 ghost use Rattle.otp_sim.specs.Runs.{Writes, LastWrites, with_text};
 ghost use Rattle.otp_rules.specs.Opening.{open_fault};
-ghost use Rattle.otp_sim.specs.Sim.{opened, take_line, end_of};
+ghost use Rattle.otp_sim.specs.Sim.{opened, end_of};
 
 use crate::device::{Input, Output};
+use crate::paged::PagedPlayer;
 use crate::player::Player;
 use crate::serving::serve_piece;
 use crate::session::{Session, Stop};
-use crate::writing::write_out;
+use crate::writing::{out_of_memory, write_out};
 use otp_spec::{ChildSpec, SupFlags};
 use std::alloc::{AllocError, Global};
 
@@ -44,8 +45,10 @@ const MOST_BYTES: u64 = 1 << 62;
 /// Printed text is written before each read that might wait.
 ///
 /// The input and the output are said to have failed only where they did, or where 2^62 bytes were read.
-/// Where memory was refused or a write failed, a beginning of the text was written; where a read failed, the text of
-/// the lines that were read with their LF.
+/// Where a write failed, a beginning of the text was written; where a read failed, the text of the lines that were
+/// read with their LF. Where memory was refused, the text of the first lines, those that were taken whole; or nothing
+/// was read or written, since the supervisor was not opened. Where a write fails after memory was refused, the output
+/// is said to have failed.
 pub fn sim<R: Input, W: Output>(
     alloc: Global,
     flags: &SupFlags,
@@ -59,14 +62,15 @@ pub fn sim<R: Input, W: Output>(
         (record { left = R.remaining input.new; written = W.contents output.new; read_failures = R.failures input.new; write_failures = W.failures output.new }) }
 {
     let mut ready = Vec::new(alloc);
-    let Ok(mut player) = Player::open(alloc, *flags, specs, &mut ready) else {
+    let Ok(player) = Player::open(alloc, *flags, specs, &mut ready) else {
         return SimEnd::Memory;
     };
-    serve(alloc, &mut player, &mut ready, input, output)
+    let mut session = PagedPlayer::new(alloc, player);
+    serve(alloc, &mut session, &mut ready, input, output)
 }
 
 /// Serves the lines of the input, to its end or to the line that ends the session, and writes what is printed
-/// before each read that might wait.
+/// before each read that might wait, and before it ends.
 pub(crate) fn serve<S: Session, R: Input, W: Output>(
     alloc: Global,
     session: &mut S,
@@ -80,7 +84,7 @@ pub(crate) fn serve<S: Session, R: Input, W: Output>(
         (record { left = R.remaining input.new; written = W.contents output.new; read_failures = R.failures input.new; write_failures = W.failures output.new }) }
 {
     let Ok(mut buffer) = zeros(alloc, PIECE) else {
-        return SimEnd::Memory;
+        return out_of_memory(output, ready);
     };
     let mut kept = Vec::new(alloc);
     let mut taken: u64 = 0;
@@ -126,10 +130,10 @@ fn serve_last<S: Session, W: Output>(
     output: &mut W,
 ) -> SimEnd
     requires { (S.sim session.old).lines + 1 < 2 ^ 63 }
-    ensures { LastWrites result (take_line line.now (with_text ready.old.items (S.sim session.old))) (W.contents output.old) (W.contents output.new) (W.failures output.old) (W.failures output.new) }
+    ensures { LastWrites result line.now (with_text ready.old.items (S.sim session.old)) (W.contents output.old) (W.contents output.new) (W.failures output.old) (W.failures output.new) }
 {
     let Ok(()) = session.take_line(line, ready) else {
-        return SimEnd::Memory;
+        return out_of_memory(output, ready);
     };
     let Ok(()) = write_out(output, ready) else {
         return SimEnd::OutputFailed;

@@ -5,7 +5,8 @@
 
 pub mod device;
 pub mod engine;
-pub mod player;
+mod paged;
+mod player;
 mod serving;
 pub mod session;
 pub mod streams;

@@ -10,7 +10,7 @@ ghost use Rattle.otp_rules.specs.Run.{reply_of};
 ghost use Rattle.otp_sim.specs.Sim.{event_of, happen, is_due, next_kind, opened, orders_text, settled, take_form, take_line, take_read, ticked, told_by};
 ghost use Rattle.otp_sim.specs.Runs.{with_text};
 
-use crate::session::{Session, Stop};
+use crate::session::Stop;
 use otp_core::{Core, OpenFault};
 use otp_rules::{Effect, Event, Item, Kind, Reply};
 use otp_spec::{ChildSpec, SupFlags};
@@ -234,8 +234,13 @@ impl Player {
         }
     }
 
+    /// A line of the input, without its LF. What it prints is appended.
+    ///
+    /// # Errors
+    ///
+    /// Where memory is refused. Then part of the line's text may have been appended, and the player is not used again.
     #[tactic(auto, unfolding(crate::specs::Sim::take_line))]
-    fn take_next(&mut self, line: &[u8], out: &mut Vec<u8>) -> Result<(), AllocError>
+    pub(crate) fn take_line(&mut self, line: &[u8], out: &mut Vec<u8>) -> Result<(), AllocError>
         requires { self.old.lines + 1 < 2 ^ 63 }
         ensures ok { OnOk result (with_text out.new.items self.new ≡ take_line line.now (with_text out.old.items self.old)) }
         ensures lines { self.new.lines ≤ self.old.lines + 1 }
@@ -246,16 +251,11 @@ impl Player {
         self.lines += 1;
         self.take_form(read_line(line), out)
     }
-}
 
-impl Session for Player {
-    ghost sim = { λ player. player };
-
-    fn take_line(&mut self, line: &[u8], out: &mut Vec<u8>) -> Result<(), AllocError> {
-        self.take_next(line, out)
-    }
-
-    fn end(&self) -> Option<Stop> {
+    /// Why no line is taken any more, if none is.
+    pub(crate) fn end(&self) -> Option<Stop>
+        ensures { result ≡ self.now.end }
+    {
         self.end
     }
 }

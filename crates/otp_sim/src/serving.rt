@@ -1,21 +1,21 @@
 //! Serving the lines of the input as it comes.
 
 ghost use Rattle.std.specs.Prelude.{◌≡◌, ◌==◌, ◌∷◌, ℕ, List, ◌+◌, ◌<◌, ◌≤◌, ◌^◌, ◌++◌, [], length, position, OnOk, OnErr, IfSome};
-ghost use Rattle.otp_sim.specs.Devices.{IsPieceEnd};
 ghost use Rattle.otp_sim.specs.Sim.{take_line};
-ghost use Rattle.otp_sim.specs.Runs.{with_text, Ran, Broke, NoEnd};
+ghost use Rattle.otp_sim.specs.Runs.{with_text, Ran, PieceEnds, NoEnd};
 
 use crate::device::Output;
 use crate::engine::SimEnd;
 use crate::session::Session;
-use crate::writing::write_much;
+use crate::writing::{out_of_memory, write_much};
 use std::alloc::AllocError;
 
 /// Serves all lines whose end is in the piece, and keeps the beginning of the next line.
 ///
 /// # Errors
 ///
-/// [`SimEnd::Memory`] and [`SimEnd::OutputFailed`]; a beginning of the text was written.
+/// [`SimEnd::Memory`], once the text of the lines before is written, and [`SimEnd::OutputFailed`], where a beginning
+/// of it is.
 pub(crate) fn serve_piece<S: Session, W: Output>(
     session: &mut S,
     kept: &mut Vec<u8>,
@@ -28,9 +28,8 @@ pub(crate) fn serve_piece<S: Session, W: Output>(
     ensures ok { OnOk result (Ran (with_text ready.old.items (S.sim session.old)) (S.sim session.new) (W.contents output.old) (W.contents output.new) ready.new.items (kept.old.items ++ piece.now) kept.new.items) }
     ensures no_end { OnOk result (NoEnd kept.new.items) }
     ensures lines { OnOk result ((S.sim session.new).lines ≤ (S.sim session.old).lines + length piece.now) }
-    ensures broke { OnErr result (Broke (with_text ready.old.items (S.sim session.old)) (W.contents output.old) (W.contents output.new) (kept.old.items ++ piece.now)) }
+    ensures err { PieceEnds result (with_text ready.old.items (S.sim session.old)) (W.contents output.old) (W.contents output.new) (kept.old.items ++ piece.now) (W.failures output.old) (W.failures output.new) }
     ensures failures { W.failures output.old ≤ W.failures output.new }
-    ensures cause { IsPieceEnd result (W.failures output.old) (W.failures output.new) }
 {
     let mut rest = piece;
     while let Some(end) = line_end(rest) {
@@ -40,7 +39,7 @@ pub(crate) fn serve_piece<S: Session, W: Output>(
         rest = &rest[end + 1..];
     }
     let Ok(()) = kept.extend_from_slice(rest) else {
-        return Err(SimEnd::Memory);
+        return Err(out_of_memory(output, ready));
     };
     Ok(())
 }
@@ -58,12 +57,11 @@ fn serve_next<S: Session, W: Output>(
     ensures ok { OnOk result ((others : List ℕ) → Ran (with_text ready.old.items (S.sim session.old)) (S.sim session.new) (W.contents output.old) (W.contents output.new) ready.new.items (kept.old.items ++ part.now ++ 10 ∷ others) others) }
     ensures empty { OnOk result (kept.new.items ≡ []) }
     ensures lines { OnOk result ((S.sim session.new).lines ≤ (S.sim session.old).lines + 1) }
-    ensures broke { OnErr result ((others : List ℕ) → Broke (with_text ready.old.items (S.sim session.old)) (W.contents output.old) (W.contents output.new) (kept.old.items ++ part.now ++ 10 ∷ others)) }
+    ensures err { (others : List ℕ) → PieceEnds result (with_text ready.old.items (S.sim session.old)) (W.contents output.old) (W.contents output.new) (kept.old.items ++ part.now ++ 10 ∷ others) (W.failures output.old) (W.failures output.new) }
     ensures failures { W.failures output.old ≤ W.failures output.new }
-    ensures cause { IsPieceEnd result (W.failures output.old) (W.failures output.new) }
 {
     let Ok(()) = serve_line(session, kept, ready, part) else {
-        return Err(SimEnd::Memory);
+        return Err(out_of_memory(output, ready));
     };
     let Ok(()) = write_much(output, ready) else {
         return Err(SimEnd::OutputFailed);
@@ -79,7 +77,7 @@ fn line_end(bytes: &[u8]) -> Option<usize>
     bytes.iter().position(|byte| *byte == b'\n')
 }
 
-/// Serves the line of what was kept and a last part.
+/// Serves the line of what was kept and a last part. Where memory is refused, what was ready is as it was.
 fn serve_line<S: Session>(
     session: &mut S,
     kept: &mut Vec<u8>,
@@ -88,6 +86,7 @@ fn serve_line<S: Session>(
 ) -> Result<(), AllocError>
     requires { (S.sim session.old).lines + 1 < 2 ^ 63 }
     ensures ok { OnOk result (with_text ready.new.items (S.sim session.new) ≡ take_line (kept.old.items ++ part.now) (with_text ready.old.items (S.sim session.old))) }
+    ensures err { OnErr result (ready.new.items ≡ ready.old.items) }
     ensures empty { OnOk result (kept.new.items ≡ []) }
     ensures lines { OnOk result ((S.sim session.new).lines ≤ (S.sim session.old).lines + 1) }
 {

@@ -1,6 +1,6 @@
 //! Who takes the lines.
 
-ghost use Rattle.std.specs.Prelude.{◌≡◌, ◌+◌, ◌<◌, ◌≤◌, ◌^◌, OnOk};
+ghost use Rattle.std.specs.Prelude.{◌≡◌, ◌+◌, ◌<◌, ◌≤◌, ◌^◌, OnOk, OnErr};
 ghost use Rattle.otp_sim.specs.Sim.{Sim, take_line};
 ghost use Rattle.otp_sim.specs.Runs.{with_text};
 
@@ -24,10 +24,11 @@ pub trait Session {
     ///
     /// # Errors
     ///
-    /// Where memory is refused, and then the session and what was appended are not to be used any more.
+    /// Where memory is refused. Then nothing was appended, and the session is not to be used any more.
     fn take_line(&mut self, line: &[u8], out: &mut Vec<u8>) -> Result<(), AllocError>
         requires { (sim self.old).lines + 1 < 2 ^ 63 }
         ensures ok { OnOk result (with_text out.new.items (sim self.new) ≡ take_line line.now (with_text out.old.items (sim self.old))) }
+        ensures err { OnErr result (out.new.items ≡ out.old.items) }
         ensures lines { OnOk result ((sim self.new).lines ≤ (sim self.old).lines + 1) };
 
     /// Why no line is taken any more, if none is.

@@ -1,5 +1,9 @@
 //! What no clause says: that the definition of the text is the text that was meant, and that runs succeed.
 
+use crate::engine::serve;
+use crate::paged::PagedPlayer;
+use crate::player::Player;
+use crate::session::{Session, Stop};
 use crate::{Failed, Input, Output, SimEnd, sim};
 use otp_core::opening::check_open;
 use otp_reason::Name;
@@ -65,6 +69,29 @@ impl Output for Page {
         }
         self.room -= count;
         Ok(count)
+    }
+}
+
+/// A player that is refused memory once it took so many lines.
+#[derive(Drop)]
+struct Refused {
+    player: PagedPlayer,
+    left: usize,
+}
+
+impl Session for Refused {
+    ghost sim = { λ refused. refused.player.player };
+
+    fn take_line(&mut self, line: &[u8], out: &mut Vec<u8>) -> Result<(), AllocError> {
+        if self.left == 0 {
+            return Err(AllocError);
+        }
+        self.left -= 1;
+        self.player.take_line(line, out)
+    }
+
+    fn end(&self) -> Option<Stop> {
+        self.player.end()
     }
 }
 
@@ -244,5 +271,72 @@ fn failures_leave_a_beginning(rt: HostRuntime) -> Result<(), Fail> {
         SimEnd::OutputFailed
     );
     assert!(rt; writer.bytes.as_slice() == b"start a #1\nre".as_slice());
+    Ok(())
+}
+
+/// Whether what three lines print is written so and ends so, where memory is refused after so many of them and the
+/// writer has so much room.
+fn is_flushed(
+    alloc: Global,
+    lines: usize,
+    room: usize,
+    end: SimEnd,
+    printed: &[u8],
+) -> Result<bool, Fail> {
+    let flags = SupFlags::default();
+    let specs = [worker("a")?];
+    let Ok(()) = check_open(&flags, &specs) else {
+        return Err(Fail::new("the specifications are lawful"));
+    };
+    let mut ready = Vec::new(alloc);
+    let player = Player::open(alloc, flags, &specs, &mut ready)?;
+    let mut session = Refused {
+        player: PagedPlayer::new(alloc, player),
+        left: lines,
+    };
+    let mut reader = Pieces {
+        text: b"up 1\nexit 1 error:x\nup 2\nwhich",
+        size: 4096,
+        good: usize::MAX,
+        failures: Tally::new(),
+    };
+    let mut writer = blank_page(alloc, room);
+    let ended = serve(alloc, &mut session, &mut ready, &mut reader, &mut writer);
+    Ok(ended == end && writer.bytes.as_slice() == printed)
+}
+
+#[test]
+fn refused_memory_loses_no_earlier_line(rt: HostRuntime) -> Result<(), Fail> {
+    let alloc = rt.alloc();
+    let rows = [
+        (
+            0usize,
+            usize::MAX,
+            SimEnd::Memory,
+            b"start a #1\n".as_slice(),
+        ),
+        (
+            1,
+            usize::MAX,
+            SimEnd::Memory,
+            b"start a #1\nready\n".as_slice(),
+        ),
+        (
+            2,
+            usize::MAX,
+            SimEnd::Memory,
+            b"start a #1\nready\nstart a #2\n".as_slice(),
+        ),
+        (2, 13, SimEnd::OutputFailed, b"start a #1\nre".as_slice()),
+        (
+            3,
+            usize::MAX,
+            SimEnd::Memory,
+            b"start a #1\nready\nstart a #2\n".as_slice(),
+        ),
+    ];
+    for (lines, room, end, printed) in rows {
+        assert!(rt; is_flushed(alloc, lines, room, end, printed)?, "{lines}");
+    }
     Ok(())
 }

@@ -3,8 +3,10 @@
 ghost use Rattle.std.specs.Prelude.{◌≡◌, ◌≤◌, ◌<◌, [], OnOk, OnErr};
 ghost use Rattle.std.specs.Io.KnownBytes.{Appends};
 ghost use Rattle.otp_sim.specs.Devices.{AppendsPart, Moves};
+ghost use Rattle.otp_sim.specs.Runs.{Flushes};
 
 use crate::device::{Failed, Output};
+use crate::engine::SimEnd;
 
 /// From so many printed bytes on, they are written before the next line is served.
 const WRITE_AT: usize = 65536;
@@ -41,6 +43,19 @@ pub(crate) fn write_out<W: Output>(output: &mut W, ready: &mut Vec<u8>) -> Resul
     write_all(output, ready.as_slice())?;
     ready.clear();
     Ok(())
+}
+
+/// How a run ends that was refused memory: what is ready is written first, so that no text of an earlier line is lost.
+///
+/// Where that fails too, the run ends as one whose output failed.
+pub(crate) fn out_of_memory<W: Output>(output: &mut W, ready: &mut Vec<u8>) -> SimEnd
+    ensures end { Flushes result (W.contents output.old) (W.contents output.new) ready.old.items (W.failures output.old) (W.failures output.new) }
+    ensures kept { W.failures output.old ≤ W.failures output.new }
+{
+    match write_out(output, ready) {
+        Ok(()) => SimEnd::Memory,
+        Err(Failed) => SimEnd::OutputFailed,
+    }
 }
 
 /// Writes all of the bytes.

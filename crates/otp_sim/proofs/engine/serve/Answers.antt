@@ -1,8 +1,13 @@
-use Rattle.std.proofs.Common.{◌≡◌, ℕ, ◌+◌, ◌<◌, ◌≤◌, ◌⊎◌, inl, inr, List, take, length, Option, arith, subst, sym, refl, ap, ◌∙◌}
+use Rattle.std.proofs.Common.{[], ◌≡◌, ℕ, ◌+◌, ◌<◌, ◌≤◌, inl, inr, List, take, length, arith, subst, sym, refl, ap, ◌∙◌}
 use Rattle.std.proofs.lemmas.List.{length-take-le}
 use Rattle.std.specs.Io.KnownBytes.{Consumes}
-use Rattle.otp_sim.proofs.Exits.{stands_start, stands_written, memory_exit, output_exit, ended_exit, input_exit, stands_end, end_exit, long_exit, stands_served, piece_exit, keeps_known, written_over}
+use Rattle.otp_sim.proofs.Exits.{stands_start, stands_written, flush_exit, output_exit, ended_exit, input_exit, stands_end, end_exit, long_exit, stands_served, piece_exit, keeps_known, written_over}
 use Rattle.otp_sim.proofs.engine.serve.Goals as goal
+
+pub returns-in_default : goal.returns-in_default
+returns-in_default g c =
+    flush_exit c.out_of_memory.result _ (g.S.Session.sim c.args.session.now) _ _ c.args.ready.now.items [] 0 _ _
+    (stands_start (g.S.Session.sim c.args.session.now) _ c.args.ready.now.items [] refl c.requires) c.out_of_memory.ensures.end
 
 pub loop-taken-init : goal.loop-taken-init
 loop-taken-init g c = record {
@@ -50,7 +55,7 @@ returns-in-Err g c =
     let more = subst (λ (bytes : List ℕ). Consumes (g.R.Input.remaining c.loop-taken.input) (g.R.Input.remaining c.read.new.self) (take c.in-Ok-read.count bytes))
     (sym same) c.in-Ok-read.ensures.bytes.0 in
     piece_exit c.in-Err.end _ (g.S.Session.sim c.loop-taken.session) _ _ c.write_out.new.ready.items c.loop-taken.kept.items piece c.loop-taken.taken _ _ _ _
-    written more c.in-Err.ensures.broke c.in-Err.ensures.cause
+    written more c.in-Err.ensures.err
 
 pub returns-then-len-gt-LONGEST_LINE : goal.returns-then-len-gt-LONGEST_LINE
 returns-then-len-gt-LONGEST_LINE g c =

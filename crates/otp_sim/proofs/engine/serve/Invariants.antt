@@ -1,5 +1,5 @@
 use Rattle.std.proofs.Common.{◌≡◌, ◌-◌, ◌^◌, vec_len}
-use Rattle.otp_sim.specs.Runs.{Devices, with_text}
+use Rattle.otp_sim.specs.Runs.{with_text}
 use Rattle.otp_sim.proofs.Exits.{Stands}
 use Rattle.otp_sim.proofs.engine.serve.Given as goal
 

@@ -1,8 +1,8 @@
-use Rattle.std.proofs.Common.{arith, sym, subst, [], ◌==◌, false, length-drop, ◌≡◌, ◌-◌, ◌+◌, take, drop, length, List, ℕ, ◌++◌}
+use Rattle.std.proofs.Common.{arith, sym, subst, [], ◌==◌, false, length-drop, ◌≡◌, ◌-◌, ◌+◌, take, drop, length, ◌++◌}
 use Rattle.std.proofs.lemmas.Grind.{common_steps}
 use Rattle.std.proofs.lemmas.List.Elements.{All-nil}
 use Rattle.otp_sim.specs.Runs.{NoEnd}
-use Rattle.otp_sim.proofs.Progress.{ran_start, ran_stuck, part_no_end, rest_no_end, next_broke, next_ran}
+use Rattle.otp_sim.proofs.Progress.{ran_start, part_no_end, rest_no_end, ends_earlier, flushed, next_ends, next_ran}
 use Rattle.otp_sim.proofs.serving.serve_piece.Goals as goal
 
 pub loop-end-init : goal.loop-end-init
@@ -17,10 +17,10 @@ pub serve_next-requires-clause-kept : goal.serve_next-requires-clause-kept
 serve_next-requires-clause-kept g c =
     part_no_end c.loop-end.kept.items c.loop-end.rest.now c.in-Some.end (sym c.in-Some.ensures.found) c.loop-end.invariant.kept
 
-pub returns-in-Err-clause-broke : goal.returns-in-Err-clause-broke
-returns-in-Err-clause-broke g c =
-    next_broke _ (g.S.Session.sim c.loop-end.session) _ _ _ c.loop-end.ready.items _ c.loop-end.kept.items c.loop-end.rest.now
-    c.in-Some.end (sym c.in-Some.ensures.found) c.loop-end.invariant.ran c.in-Err.ensures.broke
+pub returns-in-Err-clause-err : goal.returns-in-Err-clause-err
+returns-in-Err-clause-err g c =
+    next_ends c.in-Err.why _ (g.S.Session.sim c.loop-end.session) _ _ _ c.loop-end.ready.items _ c.loop-end.kept.items c.loop-end.rest.now
+    c.in-Some.end _ _ _ (sym c.in-Some.ensures.found) c.loop-end.invariant.ran c.loop-end.invariant.failures c.in-Err.ensures.err
 
 pub loop-end-preserved : goal.loop-end-preserved
 loop-end-preserved g c =
@@ -37,9 +37,11 @@ loop-end-preserved g c =
       failures = omega (arith, done.failures, c.loop-end.invariant.failures);
     }
 
-pub returns-in_default-extend_from_slice-clause-broke : goal.returns-in_default-extend_from_slice-clause-broke
-returns-in_default-extend_from_slice-clause-broke g c =
-    ran_stuck _ (g.S.Session.sim c.loop-end.session) _ _ c.loop-end.ready.items _ _ c.loop-end.invariant.ran
+pub returns-in_default-extend_from_slice-clause-err : goal.returns-in_default-extend_from_slice-clause-err
+returns-in_default-extend_from_slice-clause-err g c =
+    ends_earlier c.out_of_memory.result _ _ _ _ _ _ _ c.loop-end.invariant.failures
+    (flushed c.out_of_memory.result _ (g.S.Session.sim c.loop-end.session) _ _ _ c.loop-end.ready.items _ _ _ _
+    c.loop-end.invariant.ran c.out_of_memory.ensures.end)
 
 pub returns-clause-no_end : goal.returns-clause-no_end
 returns-clause-no_end g c =

@@ -1,4 +1,4 @@
-use Rattle.std.proofs.Common.{◌≡◌, ℕ, ◌+◌, ◌-◌, ◌<◌, ◌≤◌, ◌++◌, ◌==◌, Bool, false, List, [], ◌∷◌, ◌∙◌, Option, None, Some, All, ap, arith, length, length-append, refl, sym, append-nil}
+use Rattle.std.proofs.Common.{◌≡◌, ℕ, ◌+◌, ◌-◌, ◌≤◌, ◌++◌, ◌==◌, false, List, [], ◌∷◌, ◌∙◌, Option, None, Some, All, ap, arith, length, length-append, sym}
 use Rattle.std.specs.Prelude.{OnOk, Ok, Err, unwrap_or, if◌then◌else◌, true}
 use Rattle.std.proofs.lemmas.Bool.{false≢true}
 use Rattle.std.proofs.Common.{subst}

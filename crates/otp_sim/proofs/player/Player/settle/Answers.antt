@@ -1,4 +1,4 @@
-use Rattle.std.proofs.Common.{◌≡◌, ◌<◌, ◌∙◌, ℕ, ap, arith, sym, Some, None}
+use Rattle.std.proofs.Common.{◌≡◌, ◌<◌, ◌∙◌, ap, arith, sym, Some, None}
 use Rattle.otp_rules.specs.declared.event.Kind.{Kind}
 use Rattle.otp_sim.specs.Sim.{Sim, happen, next_kind, settled}
 use Rattle.otp_sim.specs.Runs.{with_text}
