@@ -1,7 +1,9 @@
 //! The words of the program.
 
+use clap::error::ErrorKind;
 use clap::{Arg, Command, Error};
 use std::alloc::{AllocError, Global};
+use std::io;
 
 /// What the words ask for: a run of `sim` on a tree file.
 #[derive(Clone, Copy, Debug, PartialEq, Eq)]
@@ -17,13 +19,28 @@ pub enum WordsFault {
     Clap(Error),
     /// They name no file.
     NoFile,
+    /// One of them is no UTF-8 text.
+    NotText,
     /// There is no memory to read them.
     OutOfMemory,
 }
 
 impl From<Error> for WordsFault {
     fn from(error: Error) -> Self {
-        WordsFault::Clap(error)
+        match error.kind() {
+            ErrorKind::OutOfMemory => WordsFault::OutOfMemory,
+            _ => WordsFault::Clap(error),
+        }
+    }
+}
+
+/// What may go wrong where the words are taken from the system.
+impl From<io::Error> for WordsFault {
+    fn from(error: io::Error) -> Self {
+        match error.kind() {
+            io::ErrorKind::OutOfMemory => WordsFault::OutOfMemory,
+            _ => WordsFault::NotText,
+        }
     }
 }
 
@@ -37,7 +54,8 @@ impl From<AllocError> for WordsFault {
 ///
 /// # Errors
 ///
-/// [`WordsFault::Clap`] where `clap` refuses the words or is asked for help.
+/// [`WordsFault::Clap`] where `clap` refuses the words or is asked for help, [`WordsFault::NoFile`] where they are no more
+/// than the program's name, and [`WordsFault::OutOfMemory`].
 pub fn settings<'a>(
     alloc: Global,
     words: &'a [&'a str],
