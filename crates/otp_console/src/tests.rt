@@ -53,10 +53,20 @@ fn words(rt: HostRuntime) -> Result<(), Fail> {
         Err(_) => assert!(rt; false, "sim with a file"),
     }
     let refused = ["otp", "simulate"];
+    match settings(rt.alloc(), refused.as_slice()) {
+        Err(WordsFault::Clap(error)) => assert!(rt; error.use_stderr()),
+        _ => assert!(rt; false, "no such subcommand"),
+    }
+    let help = ["otp", "--help"];
+    match settings(rt.alloc(), help.as_slice()) {
+        Err(WordsFault::Clap(error)) => assert!(rt; !error.use_stderr()),
+        _ => assert!(rt; false, "help"),
+    }
+    let none = ["otp"];
     assert!(rt;
         matches!(
-            settings(rt.alloc(), refused.as_slice()),
-            Err(WordsFault::Clap(_))
+            settings(rt.alloc(), none.as_slice()),
+            Err(WordsFault::NoFile)
         )
     );
     Ok(())

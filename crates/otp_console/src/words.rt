@@ -1,5 +1,8 @@
 //! The words of the program.
 
+ghost use Rattle.std.specs.Prelude.{IfErr};
+ghost use Rattle.otp_console.specs.Words.{IsTold};
+
 use clap::error::ErrorKind;
 use clap::{Arg, Command, Error};
 use std::alloc::{AllocError, Global};
@@ -26,6 +29,8 @@ pub enum WordsFault {
 }
 
 impl From<Error> for WordsFault {
+    ghost from_gives = { λ _ fault. IsTold fault };
+
     fn from(error: Error) -> Self {
         match error.kind() {
             ErrorKind::OutOfMemory => WordsFault::OutOfMemory,
@@ -45,6 +50,8 @@ impl From<io::Error> for WordsFault {
 }
 
 impl From<AllocError> for WordsFault {
+    ghost from_gives = { λ _ fault. IsTold fault };
+
     fn from(_error: AllocError) -> Self {
         WordsFault::OutOfMemory
     }
@@ -56,10 +63,9 @@ impl From<AllocError> for WordsFault {
 ///
 /// [`WordsFault::Clap`] where `clap` refuses the words or is asked for help, [`WordsFault::NoFile`] where they are no more
 /// than the program's name, and [`WordsFault::OutOfMemory`].
-pub fn settings<'a>(
-    alloc: Global,
-    words: &'a [&'a str],
-) -> Result<ProgramSettings<'a>, WordsFault> {
+pub fn settings<'a>(alloc: Global, words: &'a [&'a str]) -> Result<ProgramSettings<'a>, WordsFault>
+    ensures { IfErr result IsTold }
+{
     let file = Arg::new(alloc, "FILE")
         .required(true)
         .help("The tree file, in TOML");
