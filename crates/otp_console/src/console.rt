@@ -3,12 +3,12 @@
 ghost use Rattle.otp_console.specs.Runs.{IsRun};
 
 use crate::ending::Ending;
-use otp_core::opening::check_open;
 use otp_sim::{Input, Output, SimEnd, sim};
 use otp_tree::{TreeFault, read_tree};
 use std::alloc::Global;
 
 /// Reads the tree of a file, plays the lines of the input on its supervisor, and writes the orders to the output.
+#[tactic(auto, unfolding(otp_rules::specs::Opening::open_fault))]
 pub fn console<R: Input, W: Output>(
     alloc: Global,
     file: &[u8],
@@ -23,9 +23,6 @@ pub fn console<R: Input, W: Output>(
         Ok(tree) => tree,
         Err(fault) => return Ending::of_tree(fault),
     };
-    if let Err(fault) = check_open(&tree.flags, tree.specs.as_slice()) {
-        return Ending::TreeRefused(TreeFault::Unlawful(fault));
-    }
     Ending::of_sim(sim(alloc, &tree.flags, tree.specs.as_slice(), input, output))
 }
 

@@ -9,8 +9,9 @@ use crate::console::console;
 use crate::ending::Ending;
 use crate::words::{WordsFault, settings};
 use otp_sim::Counted;
+use std::io::ErrorKind;
 use std::process::ExitCode;
-use std::{env, fs, io};
+use std::{env, fs};
 
 fn main(rt: HostRuntime) -> ExitCode {
     let ending = run(&rt);
@@ -21,8 +22,9 @@ fn main(rt: HostRuntime) -> ExitCode {
 const WORDS_REFUSED: u8 = 2;
 
 fn run(rt: &HostRuntime) -> u8 {
-    let Ok(words) = words_of(rt) else {
-        return tell(rt, Ending::OutOfMemory);
+    let words = match words_of(rt) {
+        Ok(words) => words,
+        Err(fault) => return tell_words(rt, fault),
     };
     let mut texts = Vec::new(rt.alloc());
     for word in words.iter() {
@@ -37,10 +39,10 @@ fn run(rt: &HostRuntime) -> u8 {
 }
 
 /// The words of the command line.
-fn words_of(rt: &HostRuntime) -> io::Result<Vec<String>> {
+fn words_of(rt: &HostRuntime) -> Result<Vec<String>, WordsFault> {
     let mut words = Vec::new(rt.alloc());
     for word in env::args(rt)? {
-        words.push(word)?;
+        words.push(word).map_err(|_| WordsFault::OutOfMemory)?;
     }
     Ok(words)
 }
@@ -69,14 +71,20 @@ fn tell_words(rt: &HostRuntime, fault: WordsFault) -> u8 {
             let _ = eprintln!(rt; "usage: otp sim FILE");
             WORDS_REFUSED
         }
+        WordsFault::NotText => {
+            let _ = eprintln!(rt; "error: a word is not UTF-8");
+            WORDS_REFUSED
+        }
         WordsFault::OutOfMemory => tell(rt, Ending::OutOfMemory),
     }
 }
 
 /// Plays the lines of standard input on the supervisor of the file, and prints its orders on standard output.
 fn simulate(rt: &HostRuntime, name: &str) -> Ending {
-    let Ok(file) = fs::read(rt, name) else {
-        return Ending::TreeNotRead;
+    let file = match fs::read(rt, name) {
+        Ok(file) => file,
+        Err(error) if error.kind() == ErrorKind::OutOfMemory => return Ending::OutOfMemory,
+        Err(_) => return Ending::TreeNotRead,
     };
     let mut input = Counted::new(rt.stdin());
     let mut output = Counted::new(rt.stdout());

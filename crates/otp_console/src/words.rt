@@ -1,7 +1,12 @@
 //! The words of the program.
 
+ghost use Rattle.std.specs.Prelude.{IfErr};
+ghost use Rattle.otp_console.specs.Words.{IsTold};
+
+use clap::error::ErrorKind;
 use clap::{Arg, Command, Error};
 use std::alloc::{AllocError, Global};
+use std::io;
 
 /// What the words ask for: a run of `sim` on a tree file.
 #[derive(Clone, Copy, Debug, PartialEq, Eq)]
@@ -17,17 +22,36 @@ pub enum WordsFault {
     Clap(Error),
     /// They name no file.
     NoFile,
+    /// One of them is no UTF-8 text.
+    NotText,
     /// There is no memory to read them.
     OutOfMemory,
 }
 
 impl From<Error> for WordsFault {
+    ghost from_gives = { λ _ fault. IsTold fault };
+
     fn from(error: Error) -> Self {
-        WordsFault::Clap(error)
+        match error.kind() {
+            ErrorKind::OutOfMemory => WordsFault::OutOfMemory,
+            _ => WordsFault::Clap(error),
+        }
+    }
+}
+
+/// What may go wrong where the words are taken from the system.
+impl From<io::Error> for WordsFault {
+    fn from(error: io::Error) -> Self {
+        match error.kind() {
+            io::ErrorKind::OutOfMemory => WordsFault::OutOfMemory,
+            _ => WordsFault::NotText,
+        }
     }
 }
 
 impl From<AllocError> for WordsFault {
+    ghost from_gives = { λ _ fault. IsTold fault };
+
     fn from(_error: AllocError) -> Self {
         WordsFault::OutOfMemory
     }
@@ -37,11 +61,11 @@ impl From<AllocError> for WordsFault {
 ///
 /// # Errors
 ///
-/// [`WordsFault::Clap`] where `clap` refuses the words or is asked for help.
-pub fn settings<'a>(
-    alloc: Global,
-    words: &'a [&'a str],
-) -> Result<ProgramSettings<'a>, WordsFault> {
+/// [`WordsFault::Clap`] where `clap` refuses the words or is asked for help, [`WordsFault::NoFile`] where they are no more
+/// than the program's name, and [`WordsFault::OutOfMemory`].
+pub fn settings<'a>(alloc: Global, words: &'a [&'a str]) -> Result<ProgramSettings<'a>, WordsFault>
+    ensures { IfErr result IsTold }
+{
     let file = Arg::new(alloc, "FILE")
         .required(true)
         .help("The tree file, in TOML");
