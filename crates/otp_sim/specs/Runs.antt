@@ -34,7 +34,7 @@ pub record WrotePart (start : Sim) (before now : Option (List ℕ)) (bytes : Lis
   pub written : Appends before now text
   pub begins : Begins text (sim_text start bytes)
 
--- the writer got the text of the first lines, those that were taken whole
+-- the writer got exactly the text of some first lines
 pub record WroteFirst (start : Sim) (before now : Option (List ℕ)) (bytes : List ℕ) : Type 0 where
   pub lines : List (List ℕ)
   pub others : List (List ℕ)

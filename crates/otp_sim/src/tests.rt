@@ -274,8 +274,8 @@ fn failures_leave_a_beginning(rt: HostRuntime) -> Result<(), Fail> {
     Ok(())
 }
 
-/// Whether what three lines print is written so and ends so, where memory is refused after so many of them and the
-/// writer has so much room.
+/// Whether a run of some lines ends so and prints this, where memory is refused after so many of them and the writer
+/// has so much room.
 fn is_flushed(
     alloc: Global,
     lines: usize,

@@ -1,6 +1,6 @@
 //! Writing all of a text.
 
-ghost use Rattle.std.specs.Prelude.{◌≡◌, ◌≤◌, ◌<◌, [], OnOk, OnErr};
+ghost use Rattle.std.specs.Prelude.{◌≡◌, ◌≤◌, ◌<◌, [], length, OnOk, OnErr};
 ghost use Rattle.std.specs.Io.KnownBytes.{Appends};
 ghost use Rattle.otp_sim.specs.Devices.{AppendsPart, Moves};
 ghost use Rattle.otp_sim.specs.Runs.{Flushes};
@@ -18,6 +18,7 @@ const WRITE_AT: usize = 65536;
 /// Where a write fails or takes nothing; a beginning was written.
 pub(crate) fn write_much<W: Output>(output: &mut W, ready: &mut Vec<u8>) -> Result<(), Failed>
     ensures ok { OnOk result (Moves (W.contents output.old) (W.contents output.new) ready.old.items ready.new.items) }
+    ensures little { OnOk result (length ready.new.items < 65536) }
     ensures part { AppendsPart (W.contents output.old) (W.contents output.new) ready.old.items }
     ensures kept { W.failures output.old ≤ W.failures output.new }
     ensures failed { OnErr result (W.failures output.old < W.failures output.new) }
