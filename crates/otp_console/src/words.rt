@@ -1,10 +1,8 @@
 //! The words of the program.
 
 ghost use Rattle.std.specs.Prelude.{◌≡◌, IfErr};
-ghost use Rattle.std.specs.IoError.{error_kind};
-ghost use Rattle.std.specs.declared.io.ErrorKind.TheVariants as system;
-ghost use Rattle.otp_console.specs.Words.{IsOfClap, IsTold};
-ghost use Rattle.otp_console.specs.declared.words.WordsFault.TheVariants.{NotText, OutOfMemory};
+ghost use Rattle.otp_console.specs.Words.{IsOfClap, IsOfSystem, IsTold};
+ghost use Rattle.otp_console.specs.declared.words.WordsFault.TheVariants.{OutOfMemory};
 
 use clap::error::ErrorKind;
 use clap::{Arg, Command, Error};
@@ -44,8 +42,7 @@ impl From<Error> for WordsFault {
 
 /// What may go wrong where the words are taken from the system.
 impl From<io::Error> for WordsFault {
-    ghost from_gives = { λ error fault. (error_kind error ≡ system.OutOfMemory → fault ≡ OutOfMemory)
-        × (¬ (error_kind error ≡ system.OutOfMemory) → fault ≡ NotText) };
+    ghost from_gives = { IsOfSystem };
 
     fn from(error: io::Error) -> Self {
         match error.kind() {
