@@ -1,5 +1,9 @@
 -- What the words of the command line are refused for (own).
 use Rattle.std.specs.Prelude.{◌≡◌}
+use Rattle.std.specs.IoError.{error_kind}
+use Rattle.std.specs.declared.io.Error.{Error as SystemError}
+use Rattle.std.specs.declared.io.ErrorKind.TheVariants as system
+use Rattle.clap.specs.declared.error.Error.{Error}
 use Rattle.clap.specs.declared.error.kind.ErrorKind.TheVariants as kind
 use Rattle.clap.specs.Values.{kind_of}
 use Rattle.otp_console.specs.declared.words.WordsFault.{WordsFault}
@@ -11,3 +15,11 @@ IsTold (Clap error) = ¬ (kind_of error ≡ kind.OutOfMemory)
 IsTold NoFile = Unit {0}
 IsTold NotText = Unit {0}
 IsTold OutOfMemory = Unit {0}
+
+-- what becomes of an answer of clap that is no match: want of memory is told as such, and all else as it is
+abbrev pub IsOfClap : Error → WordsFault → Type 0
+IsOfClap error fault = (kind_of error ≡ kind.OutOfMemory → fault ≡ OutOfMemory) × (¬ (kind_of error ≡ kind.OutOfMemory) → fault ≡ Clap error)
+
+-- the same of an error of the system where the words are taken from it: all else is a word that is no text
+abbrev pub IsOfSystem : SystemError → WordsFault → Type 0
+IsOfSystem error fault = (error_kind error ≡ system.OutOfMemory → fault ≡ OutOfMemory) × (¬ (error_kind error ≡ system.OutOfMemory) → fault ≡ NotText)

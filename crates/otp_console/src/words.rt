@@ -1,7 +1,8 @@
 //! The words of the program.
 
-ghost use Rattle.std.specs.Prelude.{IfErr};
-ghost use Rattle.otp_console.specs.Words.{IsTold};
+ghost use Rattle.std.specs.Prelude.{◌≡◌, IfErr};
+ghost use Rattle.otp_console.specs.Words.{IsOfClap, IsOfSystem, IsTold};
+ghost use Rattle.otp_console.specs.declared.words.WordsFault.TheVariants.{OutOfMemory};
 
 use clap::error::ErrorKind;
 use clap::{Arg, Command, Error};
@@ -29,7 +30,7 @@ pub enum WordsFault {
 }
 
 impl From<Error> for WordsFault {
-    ghost from_gives = { λ _ fault. IsTold fault };
+    ghost from_gives = { λ error fault. IsTold fault × IsOfClap error fault };
 
     fn from(error: Error) -> Self {
         match error.kind() {
@@ -41,6 +42,8 @@ impl From<Error> for WordsFault {
 
 /// What may go wrong where the words are taken from the system.
 impl From<io::Error> for WordsFault {
+    ghost from_gives = { IsOfSystem };
+
     fn from(error: io::Error) -> Self {
         match error.kind() {
             io::ErrorKind::OutOfMemory => WordsFault::OutOfMemory,
@@ -50,7 +53,7 @@ impl From<io::Error> for WordsFault {
 }
 
 impl From<AllocError> for WordsFault {
-    ghost from_gives = { λ _ fault. IsTold fault };
+    ghost from_gives = { λ _ fault. fault ≡ OutOfMemory };
 
     fn from(_error: AllocError) -> Self {
         WordsFault::OutOfMemory
