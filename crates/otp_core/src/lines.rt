@@ -36,7 +36,7 @@ pub fn line_of(row: &Row) -> ChildLine
 
 /// Whether these are the lines of these rows.
 pub fn are_lines(lines: &[ChildLine], rows: &[Row]) -> bool
-    ensures { IsTrue result → lines.now ≡ which_of rows.now }
+    ensures { IsTrue result ↔ (lines.now ≡ which_of rows.now) }
 {
     if lines.len() != rows.len() {
         return false;
