@@ -92,7 +92,7 @@ pub record Survives (k : Kind) (b : Bool) (P : Outcome → Type 0) : Type 0 wher
   pub stopped : (p : ℕ) (r : Reason) (place : ℕ) (row : Row) (o : Outcome) → StandsAt place row o → is_told p row.state ≡ true → IsNoted k b (note.Exit p r) o → P o → P (end_row place row o)
   pub died : (p place : ℕ) (row : Row) (o : Outcome) → IsIdle b o → IsRunning o → StandsAt place row o → row.state ≡ Up p → P o → P (end_row place row o)
   pub restarts : (p place : ℕ) (row : Row) (o : Outcome) → IsIdle b o → IsRunning o → StandsAt place row o → (row.state ≡ Up p) ⊎ (row.state ≡ Restarting p) → P o → P (restart p place row o)
-  pub ends : (e : Ending) (o : Outcome) → IsIdle b o → IsRunning o → P o → P (terminate e o)
+  pub ends : (e : Ending) (o : Outcome) → (e ≡ ending.Intensity → ⊥) → IsIdle b o → IsRunning o → P o → P (terminate e o)
   pub ticks : (o : Outcome) → k ≡ kind.Ticked → P o → P (tick o)
   pub opens : (own : ℕ) (o : Outcome) → is_busy o ≡ b → is_over o.state.phase ≡ true → P o → P (open_rows own o)
   -- calls
@@ -133,7 +133,7 @@ after_end-survives : (k : Kind) (b : Bool) (P : Outcome → Type 0) → Survives
 unfolding after_end
 after_end-survives k b P s p row o idle runs x =
     by_test P (ends_by_significance o.state.flags.auto_shutdown row o.state.rows) (terminate (ending.Significant p) o) o
-    (λ _. s.ends (ending.Significant p) o idle runs x) (λ _. x)
+    (λ _. s.ends (ending.Significant p) o (λ k. cc) idle runs x) (λ _. x)
 
 -- a row's end opens no work and ends no supervisor
 abbrev end_of : ℕ → Row → Bool → Outcome → Outcome
@@ -411,4 +411,4 @@ decide-survives (kind.Opened own) P o s x = by_test P (is_over o.state.phase) (o
 decide-survives (kind.Took i) P o s x = take_item-survives (kind.Took i) (is_busy o) P s i o refl (inl refl) x
 decide-survives kind.Resumed P o s x = if_idle-survives P (resume o.state.waiting o) o x (λ idle runs. resume-survives kind.Resumed (is_busy o) P s o.state.waiting o refl idle runs x)
 decide-survives kind.Ticked P o s x = s.ticks o refl x
-decide-survives kind.Stopped P o s x = if_idle-survives P (terminate ending.Asked o) o x (λ idle runs. s.ends ending.Asked o idle runs x)
+decide-survives kind.Stopped P o s x = if_idle-survives P (terminate ending.Asked o) o x (λ idle runs. s.ends ending.Asked o (λ k. cc) idle runs x)

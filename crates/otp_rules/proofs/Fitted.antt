@@ -394,7 +394,7 @@ fitted-survives k b =
         idle-fitted b (end_row place row o) o idle (end_row-alike place row o).3 (named-less (end_row place row o).state o.state (end_row-alike place row o).0 (end-named place row o at) x.1.0) x,
       );
       restarts = λ p place row o idle runs at is x. (s.restarts p place row o idle runs at is x.0, restart-fitted b p place row o idle at x);
-      ends = λ e o idle runs x. (s.ends e o idle runs x.0, terminate-fitted e o x.1.0);
+      ends = λ e o other idle runs x. (s.ends e o other idle runs x.0, terminate-fitted e o x.1.0);
       ticks = λ o is x. (s.ticks o is x.0, tick-fitted o x.1);
       opens = λ own o link over x. (s.opens own o link over x.0, open-fitted own o);
       adds = λ c id spec o idle runs named x. (

@@ -15,3 +15,4 @@ pub mod Fitted
 pub mod Starting
 pub mod StartTurn
 mod WorkedLaws
+mod Shown

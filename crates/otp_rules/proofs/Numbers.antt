@@ -185,7 +185,7 @@ no_more-survives old k b =
       stopped = λ p r place row o at told noted h. end-no_more place row old o at h;
       died = λ p place row o idle runs at is h. end-no_more place row old o at h;
       restarts = λ p place row o idle runs at is h. restart-no_more p place row old o at h;
-      ends = λ e o idle runs h. terminate-no_more e old o h;
+      ends = λ e o other idle runs h. terminate-no_more e old o h;
       ticks = λ o is h q. let e : holders q (tick o) ≡ holders q o = tick_count (has_process q) (λ p d. refl) o in omega (arith, e, h q);
       opens = λ own o link over h. open-no_more own old o;
       adds = λ c id spec o idle runs named h q. omega (arith, h q, rows_in-append (has_process q) o.state.rows (new_row id spec ∷ []), rows_in-cons (has_process q) (new_row id spec) []);

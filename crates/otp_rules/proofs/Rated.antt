@@ -225,7 +225,7 @@ survives k b =
       stopped = λ p r place row o at told noted g. good-calm (end_row place row o) o (end_row-calm place row o) g;
       died = λ p place row o idle runs at is g. good-calm (end_row place row o) o (end_row-calm place row o) g;
       restarts = λ p place row o idle runs at settled g. restart-good b p place row o idle runs g;
-      ends = λ e o idle runs g. ends-good e o (bounded o (idle_not_ending b o idle runs) g.1) g;
+      ends = λ e o other idle runs g. ends-good e o (bounded o (idle_not_ending b o idle runs) g.1) g;
       ticks = λ o ticked g. tick-good o g;
       opens = λ own o link over g. open-good own o g;
       adds = λ c id spec o idle runs named g. opened-good b o (with_work [] (record { id = id; kept = None } ∷ []) (Some (after.Added c)) (with_rows (o.state.rows ++ new_row id spec ∷ []) o)) idle runs (refl, refl, refl) g;

@@ -282,7 +282,7 @@ sound-survives k b =
             λ _. same.2 ∙ (g.2 idle.1).0,
           );
       restarts = λ p place row o idle runs at h g. restart-sound b p place row o idle runs at g;
-      ends = λ e o idle runs g. terminate-sound e o runs;
+      ends = λ e o other idle runs g. terminate-sound e o runs;
       ticks = λ o is g. tick-sound o g;
       opens = λ own o link over g. open-sound own o;
       adds = λ c id spec o idle runs named g.

@@ -215,8 +215,8 @@ carried-survives k b f g is_base =
           idle-carried f g1 (end_row place row o) (ap (λ (y : Option After). is_some y) (end_row-alike place row o).4 ∙ idle.1) (s.died p place row o idle runs at is x.0);
       restarts = λ p place row o idle runs at h x.
           opened-carried f g1 (restart p place row o) (opens_none f b (restart p place row o).state.follows is_base idle.0 (restart-busy p place row o)) (s.restarts p place row o idle runs at h x.0);
-      ends = λ e o idle runs x.
-          opened-carried f g1 (terminate e o) (opens_none f b (terminate e o).state.follows is_base idle.0 (ap (λ (y : Option After). is_some y) (terminate-follows e o))) (s.ends e o idle runs x.0);
+      ends = λ e o other idle runs x.
+          opened-carried f g1 (terminate e o) (opens_none f b (terminate e o).state.follows is_base idle.0 (ap (λ (y : Option After). is_some y) (terminate-follows e o))) (s.ends e o other idle runs x.0);
       ticks = λ o is x. tick-carried f g1 o (s.ticks o is x.0) (λ q. tick_count (is_told q) (λ p d. refl) o) x;
       opens = λ own o link over x.
           opened-carried f g1 (open_rows own o) (opens_none f b (open_rows own o).state.follows is_base (sym link ∙ x.0.3 over) (open_rows-busy own o)) (s.opens own o link over x.0);

@@ -1,12 +1,19 @@
 -- What an end shows by itself (Supervisor Behaviour, Maximum Restart Intensity and Automatic Shutdown).
-use Rattle.std.specs.Prelude.{◌≡◌, ℕ, ◌+◌, ◌*◌, ◌≤◌, List, length}
+use Rattle.std.specs.Prelude.{◌≡◌, ℕ, ◌+◌, ◌*◌, ◌≤◌, List, All, length}
 use Rattle.std.specs.List.{Contains}
 use Rattle.std.specs.List.Sorted.{IsNonDecreasing}
 use Rattle.otp_reason.specs.declared.reason.Reason.TheVariants.{Shutdown}
 use Rattle.otp_rules.specs.declared.ending.Cause.{Cause}
 use Rattle.otp_rules.specs.declared.ending.Cause.TheVariants as cause
 use Rattle.otp_rules.specs.declared.ending.SupEnd.{SupEnd}
+use Rattle.otp_spec.specs.declared.child.ChildSpec.{ChildSpec}
+use Rattle.otp_spec.specs.declared.flags.SupFlags.{SupFlags}
+use Rattle.otp_rules.specs.declared.event.Effect.{Effect}
+use Rattle.otp_rules.specs.declared.event.Effect.TheVariants as effect
+use Rattle.otp_rules.specs.declared.event.Event.{Event}
 use Rattle.otp_rules.specs.Ends.{init_failed}
+use Rattle.otp_rules.specs.Run.{empty_state, state_after}
+use Rattle.otp_rules.specs.Step.{step}
 
 -- one restart more than the intensity, none before another, all within one period of milliseconds
 pub record IsTooMany (intensity period : ℕ) (stamps : List ℕ) : Type 0 where
@@ -23,3 +30,18 @@ IsShownBy end (cause.InitFailed id) = end.reason ≡ init_failed id
 -- the cause shows why the supervisor ended with this reason
 abbrev pub IsEvidence : SupEnd → Type 0
 IsEvidence end = IsShownBy end end.cause
+
+-- an order to end shows why
+abbrev pub IsEvident : Effect → Type 0
+IsEvident (effect.Start _ _) = Unit {0}
+IsEvident (effect.Ask _ _) = Unit {0}
+IsEvident (effect.Kill _ _) = Unit {0}
+IsEvident (effect.Reply _) = Unit {0}
+IsEvident effect.Ready = Unit {0}
+IsEvident (effect.End end) = IsEvidence end
+
+-- whatever happens: each end that is ordered shows why
+abbrev pub EndEvidence : Type 0
+EndEvidence =
+    (flags : SupFlags) (specs : List ChildSpec) (events : List Event) (e : Event)
+    → All IsEvident (step (state_after (empty_state flags specs) events) e).orders

@@ -1,5 +1,6 @@
 //! Laws over all states, events and histories. A law is a function that does nothing: what it ensures is the law.
 
+ghost use Rattle.otp_rules.specs.Evidence.{EndEvidence};
 ghost use Rattle.otp_rules.specs.Frames.{OrdersAppended, StepKeepsPlan, StepKeepsStamped, StepStamps};
 ghost use Rattle.otp_rules.specs.Needs.{NumberStartsWork};
 ghost use Rattle.otp_rules.specs.Order.{StartOrder, StopOrder};
@@ -30,8 +31,8 @@ pub fn number_starts_work()
     ensures { NumberStartsWork }
 {}
 
-/// No period, wherever it ends, holds more restarts than the intensity, but for the last restart of a supervisor
-/// that is ending, or has ended, by it (Supervisor Behaviour, Maximum Restart Intensity).
+/// Among the restarts of one opening no period, wherever it ends, holds more than the intensity, but for the last
+/// restart of a supervisor that is ending, or has ended, by it (Supervisor Behaviour, Maximum Restart Intensity).
 pub fn restart_rate()
     ensures { RestartRate }
 {}
@@ -48,4 +49,11 @@ pub fn start_order()
 /// a simple_one_for_one supervisor, whose children are told together.
 pub fn stop_order()
     ensures { StopOrder }
+{}
+
+/// Each end that is ordered shows why: by the intensity, the flags and one restart more than the intensity, none before
+/// another and all within one period; else the reason that the cause has (Supervisor Behaviour, Maximum Restart
+/// Intensity and Automatic Shutdown).
+pub fn end_evidence()
+    ensures { EndEvidence }
 {}
