@@ -9,7 +9,7 @@ use Rattle.clap.specs.Values.{kind_of}
 use Rattle.otp_console.specs.declared.words.WordsFault.{WordsFault}
 use Rattle.otp_console.specs.declared.words.WordsFault.TheVariants.{Clap, NoFile, NotText, OutOfMemory}
 
--- want of memory is never told as a mistake in the words
+-- an error of clap that is handed on is not want of memory
 abbrev pub IsTold : WordsFault → Type 0
 IsTold (Clap error) = ¬ (kind_of error ≡ kind.OutOfMemory)
 IsTold NoFile = Unit {0}

@@ -55,7 +55,7 @@ fn tell(rt: &HostRuntime, ending: Ending) -> u8 {
     ending.status()
 }
 
-/// Prints what `clap` says of the words, and gives the status.
+/// Prints why the words are refused, or the help of `clap`, and gives the status.
 fn tell_words(rt: &HostRuntime, fault: WordsFault) -> u8 {
     match fault {
         WordsFault::Clap(error) => {

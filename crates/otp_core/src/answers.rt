@@ -1,5 +1,5 @@
-//! The answers to calls, kept. Lists of children that say the same are kept once, so that a supervisor that is asked
-//! for its children again and again, while nothing happens to them, doesn't keep a list for each call.
+//! The answers to calls, kept. A list of children that says the same as the one told last is not kept again, so that a
+//! supervisor that is asked for its children again and again, while nothing happens to them, keeps one list.
 
 ghost use Rattle.std.specs.Prelude.{◌≡◌, ◌+◌, ◌<◌, ◌≤◌, ◌++◌, ◌∷◌, ℕ, [], All, List, None, Some, get_or, length, map, IsTrue, IsFalse, MatchOption, OnOk, IfSome};
 ghost use Rattle.otp_rules.specs.declared.call.Reply.{Reply};

@@ -282,7 +282,7 @@ impl Machine {
         ChildLines::from_vec(lines)
     }
 
-    /// which_children. A list that was told before is told again, without a copy.
+    /// which_children. If the list told last still holds, it is told again without a copy.
     #[tactic(auto, unfolding(otp_rules::specs::State::answer))]
     fn answer_which(&mut self, call: u64)
         requires { CanDecide self.old }

@@ -6,9 +6,9 @@ use Rattle.std.proofs.Common.{◌∙◌, sym, subst, arith}
 use Rattle.std.proofs.lemmas.Bool.{cond_both, leb-true, ltb-true}
 use Rattle.std.proofs.lemmas.List.{get_or_default, get_or-drop, length-drop}
 use Rattle.std.proofs.lemmas.List.Elements.{All-append, All-nil, All-push}
-use Rattle.std.proofs.lemmas.List.Sorted.{IsNonDecreasingBy-drop, IsNonDecreasingBy-push, IsNonDecreasingBy-short}
+use Rattle.std.proofs.lemmas.List.Sorted.{IsNonDecreasingBy-drop, IsNonDecreasingBy-short}
 use Rattle.std.proofs.lemmas.List.Sums.{count_by-le-length}
-use Rattle.otp_window.proofs.Crowded.{crowded}
+use Rattle.otp_window.proofs.Crowded.{crowded, rising_push}
 use Rattle.otp_spec.specs.declared.child.Shutdown.{Shutdown}
 use Rattle.otp_spec.specs.declared.child.Shutdown.TheVariants.{BrutalKill, Milliseconds, Infinity}
 use Rattle.otp_reason.specs.declared.name.Name.{Name}
@@ -65,10 +65,6 @@ too_many intensity period t stamps ordered latest many =
           let past : get_or stamps (k + l.0) last ≤ t = latest (k + l.0) last in_last in
           omega (arith, here, there, rises, same, past, close);
     }
-
--- a last stamp that is no earlier: still none falls
-rising_push : (stamps : List ℕ) (t : ℕ) → IsNonDecreasing stamps → All (λ s. s ≤ t) stamps → IsNonDecreasing (stamps ++ t ∷ [])
-rising_push stamps t ordered latest = IsNonDecreasingBy-push (λ s. s) stamps t ordered (λ d some. latest (length stamps - 1) d (omega arith))
 
 -- stamps never fall, and none is later than the last event
 abbrev Ordered : State → Type 0

@@ -46,7 +46,7 @@ const MOST_BYTES: u64 = 1 << 62;
 ///
 /// The input and the output are said to have failed only where they did, or where 2^62 bytes were read.
 /// Where a write failed, a beginning of the text was written; where a read failed, the text of the lines that were
-/// read with their LF. Where memory was refused, the text of the first lines, those that were taken whole; or nothing
+/// read with their LF. Where memory was refused, the text of some first lines, none cut short; or nothing
 /// was read or written, since the supervisor was not opened. Where a write fails after memory was refused, the output
 /// is said to have failed.
 pub fn sim<R: Input, W: Output>(

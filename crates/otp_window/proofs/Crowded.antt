@@ -97,7 +97,7 @@ crowded_below limit period t stamps few =
     le-ltb _ _ (omega (arith, all, length-append stamps (t ∷ [])))
 
 -- a last stamp that is no earlier: still none falls
-rising_push : (stamps : List ℕ) (t : ℕ) → IsNonDecreasing stamps → All (λ s. s ≤ t) stamps → IsNonDecreasing (stamps ++ t ∷ [])
+pub rising_push : (stamps : List ℕ) (t : ℕ) → IsNonDecreasing stamps → All (λ s. s ≤ t) stamps → IsNonDecreasing (stamps ++ t ∷ [])
 rising_push stamps t ordered latest = IsNonDecreasingBy-push (λ s. s) stamps t ordered (λ d some. latest (length stamps - 1) d (omega arith))
 
 -- one stamp more, the last, that is no earlier
