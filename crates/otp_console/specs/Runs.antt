@@ -1,9 +1,9 @@
 -- What the program did to its input and its output, by how it ended (own).
 use Rattle.std.specs.Prelude.{◌≡◌, ◌⊎◌, ℕ, List, Ok, Err}
-use Rattle.otp_tree.specs.declared.fault.TreeFault.{TreeFault}
-use Rattle.otp_tree.specs.declared.fault.TreeFault.TheVariants.{NotToml}
-use Rattle.otp_tree.specs.declared.tree.TreeSpec.{TreeSpec}
-use Rattle.otp_tree.specs.Files.{Says, IsToml}
+use Rattle.otp_file.specs.declared.fault.TreeFault.{TreeFault}
+use Rattle.otp_file.specs.declared.fault.TreeFault.TheVariants.{NotToml}
+use Rattle.otp_file.specs.declared.tree.TreeSpec.{TreeSpec}
+use Rattle.otp_file.specs.Files.{Says, IsToml}
 use Rattle.otp_sim.specs.declared.engine.SimEnd.{SimEnd}
 use Rattle.otp_sim.specs.declared.engine.SimEnd.TheVariants as sim
 use Rattle.otp_sim.specs.Runs.{Devices, Writes}

@@ -1,7 +1,7 @@
 -- The exit statuses (own).
 use Rattle.std.specs.Prelude.{ℕ}
-use Rattle.otp_tree.specs.declared.fault.TreeFault.{TreeFault}
-use Rattle.otp_tree.specs.declared.fault.TreeFault.TheVariants as fault
+use Rattle.otp_file.specs.declared.fault.TreeFault.{TreeFault}
+use Rattle.otp_file.specs.declared.fault.TreeFault.TheVariants as fault
 use Rattle.otp_sim.specs.declared.engine.SimEnd.{SimEnd}
 use Rattle.otp_sim.specs.declared.engine.SimEnd.TheVariants as sim
 use Rattle.otp_console.specs.declared.ending.Ending.{Ending}

@@ -3,8 +3,8 @@
 ghost use Rattle.otp_console.specs.Runs.{IsRun};
 
 use crate::ending::Ending;
+use otp_file::{TreeFault, read_tree};
 use otp_sim::{Input, Output, SimEnd, sim};
-use otp_tree::{TreeFault, read_tree};
 use std::alloc::Global;
 
 /// Reads the tree of a file, plays the lines of the input on its supervisor, and writes the orders to the output.

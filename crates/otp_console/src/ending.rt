@@ -3,7 +3,7 @@
 ghost use Rattle.std.specs.Prelude.{◌≡◌};
 ghost use Rattle.otp_console.specs.Statuses.{status_of};
 
-use otp_tree::TreeFault;
+use otp_file::TreeFault;
 use std::fmt;
 
 /// How the program ends once its words were read.

@@ -1,0 +1,151 @@
+ghost use Rattle.std.specs.Prelude.{◌≡◌};
+ghost use Rattle.otp_file.specs.Faults.{child_fault, code_of, flag_fault};
+
+use crate::value::Unfit;
+use otp_spec::SpecFault;
+use std::fmt;
+use thiserror::Error;
+
+/// The keys of a supervisor's table.
+#[derive(Clone, Copy, Debug, PartialEq, Eq)]
+pub enum FlagKey {
+    Strategy,
+    Intensity,
+    Period,
+    AutoShutdown,
+    Child,
+}
+
+impl FlagKey {
+    /// The fault of a supervisor whose value at this key is unfit.
+    pub(crate) fn fault(self, unfit: Unfit) -> TreeFault
+        ensures { result ≡ flag_fault self unfit }
+    {
+        match unfit {
+            Unfit::WrongKind => TreeFault::WrongKind(Place::Flag(self)),
+            Unfit::OutOfLimits => TreeFault::BadFlag(self),
+        }
+    }
+}
+
+impl fmt::Display for FlagKey {
+    fn fmt<W: fmt::Write>(&self, f: &mut fmt::Formatter<W>) -> fmt::Result {
+        match self {
+            FlagKey::Strategy => write!(f, "strategy"),
+            FlagKey::Intensity => write!(f, "intensity"),
+            FlagKey::Period => write!(f, "period"),
+            FlagKey::AutoShutdown => write!(f, "auto_shutdown"),
+            FlagKey::Child => write!(f, "child"),
+        }
+    }
+}
+
+/// The keys of a child's table.
+#[derive(Clone, Copy, Debug, PartialEq, Eq)]
+pub enum ChildKey {
+    Id,
+    Start,
+    Restart,
+    Significant,
+    Shutdown,
+    Kind,
+    Modules,
+}
+
+impl ChildKey {
+    /// The fault of the child at `index` whose value at this key is unfit.
+    pub(crate) fn fault(self, index: usize, unfit: Unfit) -> TreeFault
+        ensures { result ≡ child_fault index self unfit }
+    {
+        match unfit {
+            Unfit::WrongKind => TreeFault::WrongKind(Place::ChildKey(index, self)),
+            Unfit::OutOfLimits => TreeFault::BadSpec { index, key: self },
+        }
+    }
+}
+
+impl fmt::Display for ChildKey {
+    fn fmt<W: fmt::Write>(&self, f: &mut fmt::Formatter<W>) -> fmt::Result {
+        match self {
+            ChildKey::Id => write!(f, "id"),
+            ChildKey::Start => write!(f, "start"),
+            ChildKey::Restart => write!(f, "restart"),
+            ChildKey::Significant => write!(f, "significant"),
+            ChildKey::Shutdown => write!(f, "shutdown"),
+            ChildKey::Kind => write!(f, "type"),
+            ChildKey::Modules => write!(f, "modules"),
+        }
+    }
+}
+
+/// A place in the file. An index is that of a child, from 0.
+#[derive(Clone, Copy, Debug, PartialEq, Eq)]
+pub enum Place {
+    /// The supervisor's table.
+    Table,
+    /// A key of it.
+    Flag(FlagKey),
+    /// The child at an index.
+    Child(usize),
+    /// A key of that child.
+    ChildKey(usize, ChildKey),
+}
+
+impl fmt::Display for Place {
+    fn fmt<W: fmt::Write>(&self, f: &mut fmt::Formatter<W>) -> fmt::Result {
+        match self {
+            Place::Table => write!(f, "supervisor"),
+            Place::Flag(key) => write!(f, "supervisor, {key}"),
+            Place::Child(index) => write!(f, "child {index}"),
+            Place::ChildKey(index, key) => write!(f, "child {index}, {key}"),
+        }
+    }
+}
+
+/// Why a tree file is refused. An index is that of a child, from 0.
+#[derive(Clone, Copy, Debug, PartialEq, Eq, Error)]
+pub enum TreeFault {
+    /// E0: memory was refused, which says nothing of the file.
+    #[error("out of memory")]
+    OutOfMemory,
+    /// E10: the bytes are no UTF-8, or the text is no TOML document.
+    #[error("the file is not TOML")]
+    NotToml,
+    /// E11: a table has a key that is not listed for it.
+    #[error("{0}: unknown key")]
+    UnknownKey(Place),
+    /// E12: a child has no `id` or no `start`.
+    #[error("child {index}: {key} is missing")]
+    MissingKey { index: usize, key: ChildKey },
+    /// E13: a value is of another kind than its key asks for, or another word.
+    #[error("{0}: the value is of the wrong kind")]
+    WrongKind(Place),
+    /// E1: the intensity is not 0 to 1000, or the period not 1 to 1,000,000 seconds.
+    #[error("supervisor, {0}: the number is out of its limits")]
+    BadFlag(FlagKey),
+    /// E2: a text is no lawful name, a list of modules has more than four, or a shutdown is not 0 to
+    /// 4,294,967,295 milliseconds.
+    #[error("child {index}, {key}: the value is out of its limits")]
+    BadSpec { index: usize, key: ChildKey },
+    /// E2 to E7: the specifications are refused as they would be outside a file.
+    #[error("{0}")]
+    Unlawful(SpecFault),
+}
+
+impl TreeFault {
+    /// The number by which the program names the fault: printed as `E0` to `E7` and `E10` to `E13`.
+    pub fn code(&self) -> u8
+        ensures { result ≡ code_of self.now }
+    {
+        match self {
+            TreeFault::OutOfMemory => 0,
+            TreeFault::BadFlag(_) => 1,
+            TreeFault::BadSpec { .. } => 2,
+            TreeFault::Unlawful(fault) => fault.code(),
+            TreeFault::NotToml => 10,
+            TreeFault::UnknownKey(_) => 11,
+            TreeFault::MissingKey { .. } => 12,
+            TreeFault::WrongKind(_) => 13,
+        }
+    }
+}

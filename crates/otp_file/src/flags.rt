@@ -1,0 +1,40 @@
+//! The flags of a supervisor, out of its table.
+ghost use Rattle.std.specs.Prelude.{◌≡◌, IfOk, None};
+ghost use Rattle.otp_spec.specs.Flags.{flags_fault};
+ghost use Rattle.otp_file.specs.Faults.{answer_of};
+ghost use Rattle.otp_file.specs.Tree.{flag_faults, flags_in};
+ghost use Rattle.toml.specs.View.{table_view};
+
+use crate::fault::{FlagKey, Place, TreeFault};
+use crate::table::{has_only_flag_keys, value_at};
+use crate::value::{auto_shutdown_at, intensity_at, period_at, strategy_at};
+use otp_spec::SupFlags;
+use toml::Table;
+
+/// The flags that the table says. What stands at `child` is not looked at.
+pub(crate) fn flags_in(table: &Table) -> Result<SupFlags, TreeFault>
+    ensures answer { result ≡ answer_of (flag_faults (table_view table.now)) (flags_in (table_view table.now)) }
+    ensures lawful { IfOk result (λ flags. flags_fault flags ≡ None) }
+{
+    if !has_only_flag_keys(table) {
+        return Err(TreeFault::UnknownKey(Place::Table));
+    }
+    let strategy = strategy_at(value_at(table, "strategy")).map_err(|unfit| FlagKey::Strategy.fault(
+        unfit,
+    ))?;
+    let intensity = intensity_at(value_at(table, "intensity")).map_err(
+        |unfit| FlagKey::Intensity.fault(unfit),
+    )?;
+    let period = period_at(value_at(table, "period")).map_err(|unfit| FlagKey::Period.fault(
+        unfit,
+    ))?;
+    let auto_shutdown = auto_shutdown_at(value_at(table, "auto_shutdown")).map_err(
+        |unfit| FlagKey::AutoShutdown.fault(unfit),
+    )?;
+    Ok(SupFlags {
+        strategy,
+        intensity,
+        period,
+        auto_shutdown,
+    })
+}

@@ -1,0 +1,105 @@
+//! The rules of the words, the steps that are made on them, and how tokens are split and joined.
+use crate::view::View;
+use atomic_table::{Join, Play, Split, TableRule};
+use std::marker::{Brand, PhantomData};
+
+/// The number rule and the signal rule, which each step keeps.
+pub struct BothRules;
+
+impl TableRule<u8, View, usize> for BothRules {
+    ghost use Rattle.otp_signals.specs.Rules.{KeepsRules, first_view};
+
+    ghost holds = { λ slots state. KeepsRules slots state };
+
+    ghost first = { λ slots. first_view slots };
+}
+
+/// A number is drawn.
+pub struct Draw;
+
+impl Play<u8, View> for Draw {
+    ghost use Rattle.otp_signals.specs.Rules.{Draws};
+
+    ghost then = { Draws };
+}
+
+/// A word is posted.
+pub struct Post;
+
+impl Play<u8, View> for Post {
+    ghost use Rattle.otp_signals.specs.Rules.{Posts};
+
+    ghost then = { Posts };
+}
+
+/// A word is looked at.
+pub struct Look;
+
+impl Play<u8, View> for Look {
+    ghost use Rattle.otp_signals.specs.Rules.{Looks};
+
+    ghost then = { Looks };
+}
+
+/// An owner learns what the number rule says of it. It changes nothing.
+pub struct Learn;
+
+impl Play<u8, View> for Learn {
+    ghost use Rattle.otp_signals.specs.Rules.{Learns};
+
+    ghost then = { Learns };
+}
+
+/// What is cut off an owner: the slots from one to below another, and a quota. Each call picks it.
+pub trait Piece {
+    ghost use Rattle.std.specs.Prelude.{ℕ};
+
+    ghost from: { ℕ };
+
+    ghost to: { ℕ };
+
+    ghost quota: { ℕ };
+}
+
+impl Piece for Brand {
+    ghost from = { 0 };
+
+    ghost to = { 0 };
+
+    ghost quota = { 0 };
+}
+
+/// An owner is cut in two.
+pub struct Cut<P: Piece> {
+    of: PhantomData<P>,
+}
+
+impl<P: Piece> Split<View> for Cut<P> {
+    ghost use Rattle.otp_signals.specs.Rules.{kept_view, cut_view};
+
+    ghost left = { λ v. kept_view P.from P.to P.quota v };
+
+    ghost right = { λ v. cut_view P.from P.to P.quota v };
+}
+
+/// A viewer is split off any token.
+pub struct Apart;
+
+impl Split<View> for Apart {
+    ghost use Rattle.otp_signals.specs.Rules.{blank_view};
+
+    ghost left = { λ v. v };
+
+    ghost right = { λ v. blank_view };
+}
+
+/// An owner takes in another.
+pub struct Merge;
+
+impl Join<View> for Merge {
+    ghost use Rattle.otp_signals.specs.Rules.{joined_view, blank_view};
+
+    ghost both = { λ v w. joined_view v w };
+
+    ghost spent = { blank_view };
+}
