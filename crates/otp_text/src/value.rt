@@ -10,7 +10,7 @@ use otp_spec::{ChildType, Modules, Restart, Shutdown};
 use std::alloc::AllocError;
 
 /// Appends a number in decimal digits.
-pub(crate) fn write_number(number: u64, out: &mut Vec<u8>) -> Result<(), AllocError>
+pub fn write_number(number: u64, out: &mut Vec<u8>) -> Result<(), AllocError>
     ensures { OnOk result (out.new.items ≡ out.old.items ++ decimal number) }
 {
     let mut buffer = Buffer::new();
@@ -18,7 +18,7 @@ pub(crate) fn write_number(number: u64, out: &mut Vec<u8>) -> Result<(), AllocEr
 }
 
 /// Appends a name.
-pub(crate) fn write_name(name: &Name, out: &mut Vec<u8>) -> Result<(), AllocError>
+pub fn write_name(name: &Name, out: &mut Vec<u8>) -> Result<(), AllocError>
     ensures { OnOk result (out.new.items ≡ out.old.items ++ name_bytes name.now) }
 {
     out.extend_from_slice(name.as_bytes())
@@ -26,7 +26,7 @@ pub(crate) fn write_name(name: &Name, out: &mut Vec<u8>) -> Result<(), AllocErro
 
 /// Appends a process number: `#` and the digits.
 #[tactic(auto, unfolding(crate::specs::Values::process_text))]
-pub(crate) fn write_process(number: u64, out: &mut Vec<u8>) -> Result<(), AllocError>
+pub fn write_process(number: u64, out: &mut Vec<u8>) -> Result<(), AllocError>
     ensures { OnOk result (out.new.items ≡ out.old.items ++ process_text number) }
 {
     out.extend_from_slice(b"#")?;
@@ -35,7 +35,7 @@ pub(crate) fn write_process(number: u64, out: &mut Vec<u8>) -> Result<(), AllocE
 
 /// Appends a reason.
 #[tactic(auto, unfolding(crate::specs::Values::reason_text))]
-pub(crate) fn write_reason(reason: &Reason, out: &mut Vec<u8>) -> Result<(), AllocError>
+pub fn write_reason(reason: &Reason, out: &mut Vec<u8>) -> Result<(), AllocError>
     ensures { OnOk result (out.new.items ≡ out.old.items ++ reason_text reason.now) }
 {
     match reason {

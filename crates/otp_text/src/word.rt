@@ -70,7 +70,7 @@ pub(crate) fn is_text(word: &[u8], text: &[u8]) -> bool
 
 /// The number that a word spells, where it is at most the limit.
 #[tactic(auto, unfolding(crate::specs::Words::number_up_to))]
-pub(crate) fn read_number(limit: u64, word: &[u8]) -> Option<u64>
+pub fn read_number(limit: u64, word: &[u8]) -> Option<u64>
     ensures number { result ≡ number_up_to limit word.now }
     ensures within { IfSome result (λ number. number ≤ limit) }
 {
@@ -114,7 +114,7 @@ fn decimal_value(word: &[u8]) -> u64
 
 /// The lawful name that a word is.
 #[tactic(auto, unfolding(crate::specs::Words::name_in))]
-pub(crate) fn read_name(word: &[u8]) -> Option<Name>
+pub fn read_name(word: &[u8]) -> Option<Name>
     ensures { result ≡ name_in word.now }
 {
     let name = Name::new(word)?;
@@ -123,7 +123,7 @@ pub(crate) fn read_name(word: &[u8]) -> Option<Name>
 
 /// The reason that is printed so.
 #[tactic(auto, unfolding(crate::specs::Words::reason_in))]
-pub(crate) fn read_reason(word: &[u8]) -> Option<Reason>
+pub fn read_reason(word: &[u8]) -> Option<Reason>
     ensures { result ≡ reason_in word.now }
 {
     if is_text(word, b"normal") {

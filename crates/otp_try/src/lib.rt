@@ -1,0 +1,13 @@
+//! What would my tree do? A supervisor's core that is played: children start and stop by themselves, unless a script
+//! says otherwise, and each order is told with its time.
+//!
+//! `specs/Story` says what is told: all orders that the core gives, in their order, and nothing else.
+#![tactic(auto)]
+
+pub mod script;
+mod state;
+mod telling;
+mod time;
+mod words;
+mod world;
+

@@ -1,0 +1,265 @@
+//! Lines of a script.
+
+use crate::words::{next_word, strip_end};
+use otp_reason::{Name, Reason, Text};
+use otp_rules::Call;
+use otp_text::{LONGEST_LINE, Line, read_line, read_name, read_number, read_reason};
+use thiserror::Error;
+
+/// The greatest time and the greatest process number: 2^62.
+const GREATEST: u64 = 4_611_686_018_427_387_904;
+
+/// The greatest number of minutes or seconds that a word may say, so that it is at most [`GREATEST`] milliseconds.
+const MOST_MINUTES: u64 = 1_000_000_000_000;
+
+/// A child of the supervisor, as a script names it.
+#[derive(Clone, Copy, Debug, PartialEq, Eq)]
+pub enum Child {
+    /// By its id.
+    Named(Name),
+    /// By its process number, as `#3`.
+    Numbered(u64),
+}
+
+/// What a child's next start answers, where it doesn't succeed.
+#[derive(Clone, Copy, Debug, PartialEq, Eq)]
+pub enum NextStart {
+    Ignore,
+    Fail(Reason),
+}
+
+/// When a line happens, in milliseconds.
+#[derive(Clone, Copy, Debug, PartialEq, Eq)]
+pub enum When {
+    /// As soon as what came before has happened.
+    Now,
+    /// So long after the beginning.
+    At(u64),
+    /// So long after the line before.
+    After(u64),
+}
+
+/// What happens.
+#[derive(Clone, Copy, Debug, PartialEq, Eq)]
+pub enum Action {
+    /// Nothing but that time goes by.
+    Nothing,
+    /// The child's process ends for this reason.
+    Exit(Child, Reason),
+    /// The next start of the child with this id answers so.
+    Start(Name, NextStart),
+    /// The child doesn't end when it is next asked to shut down.
+    Hang(Child),
+    /// The parent asks the supervisor to shut down.
+    Stop,
+    /// Somebody calls the supervisor.
+    Call(Call),
+}
+
+/// A line of a script.
+#[derive(Clone, Copy, Debug, PartialEq, Eq)]
+pub struct Step {
+    pub when: When,
+    pub action: Action,
+}
+
+/// Why a line is refused, in words that say what would be read.
+#[derive(Clone, Copy, Debug, PartialEq, Eq, Error)]
+pub enum ScriptFault {
+    #[error("unknown word: a line is one of crash, exit, fail, ignore, hang, stop, at TIME, +TIME, or a call (start, restart, delete, terminate, get, which, count)")]
+    UnknownWord,
+    #[error("no time: after `at` or `+` comes one as 10s, 500ms, 2m or, in milliseconds, 500")]
+    BadTime,
+    #[error("no child: here comes a child's id, or a process number as #3")]
+    BadChild,
+    #[error("no child's id: here comes one of 1 to 32 bytes of a-z A-Z 0-9 _ - .")]
+    BadName,
+    #[error("no reason: here comes normal, shutdown, shutdown:TEXT, kill, killed, noproc or error:TEXT")]
+    BadReason,
+    #[error("no such call: docs/FORMATS.md has the words of each")]
+    BadCall,
+    #[error("more words than the line may have")]
+    TooManyWords,
+    #[error("more than 512 bytes")]
+    TooLong,
+}
+
+/// Reads a line, without its LF. Empty lines and lines that begin with `#` say nothing; spaces, tabs and a CR at the end
+/// don't count.
+///
+/// # Errors
+///
+/// The first fault from the left.
+pub fn read_step(line: &[u8]) -> Result<Step, ScriptFault> {
+    if line.len() > LONGEST_LINE {
+        return Err(ScriptFault::TooLong);
+    }
+    let (when, rest) = read_when(strip_end(line))?;
+    let action = read_action(rest)?;
+    Ok(Step { when, action })
+}
+
+/// When the line happens, and what is left of it.
+fn read_when(line: &[u8]) -> Result<(When, &[u8]), ScriptFault> {
+    let Some((word, rest)) = next_word(line) else {
+        return Ok((When::Now, line));
+    };
+    if word == b"at".as_slice() {
+        let Some((time, rest)) = next_word(rest) else {
+            return Err(ScriptFault::BadTime);
+        };
+        return Ok((When::At(read_time(time)?), rest));
+    }
+    if word[0] == b'+' {
+        return Ok((When::After(read_time(&word[1..])?), rest));
+    }
+    Ok((When::Now, line))
+}
+
+/// A time in milliseconds: digits, and after them `ms`, `s`, `m` or nothing.
+fn read_time(word: &[u8]) -> Result<u64, ScriptFault> {
+    let (digits, unit) = match word {
+        [digits @ .., b'm', b's'] => (digits, 1),
+        [digits @ .., b's'] => (digits, 1000),
+        [digits @ .., b'm'] => (digits, 60_000),
+        digits => (digits, 1),
+    };
+    let most = if unit == 1 { GREATEST } else { MOST_MINUTES };
+    match read_number(most, digits) {
+        Some(number) => Ok(number * unit),
+        None => Err(ScriptFault::BadTime),
+    }
+}
+
+/// What happens by the words that are left.
+fn read_action(line: &[u8]) -> Result<Action, ScriptFault> {
+    let Some((word, rest)) = next_word(line) else {
+        return Ok(Action::Nothing);
+    };
+    if word[0] == b'#' {
+        return Ok(Action::Nothing);
+    }
+    match word {
+        b"crash" => read_crash(rest),
+        b"exit" => read_exit(rest),
+        b"fail" => read_fail(rest),
+        b"ignore" => read_ignore(rest),
+        b"hang" => read_hang(rest),
+        _ => read_plain(line),
+    }
+}
+
+/// A child and what is left after it.
+fn read_child(line: &[u8]) -> Result<(Child, &[u8]), ScriptFault> {
+    let Some((word, rest)) = next_word(line) else {
+        return Err(ScriptFault::BadChild);
+    };
+    if word[0] == b'#' {
+        return match read_number(GREATEST, &word[1..]) {
+            Some(number) => Ok((Child::Numbered(number), rest)),
+            None => Err(ScriptFault::BadChild),
+        };
+    }
+    match read_name(word) {
+        Some(name) => Ok((Child::Named(name), rest)),
+        None => Err(ScriptFault::BadChild),
+    }
+}
+
+/// A child's id and what is left after it.
+fn read_id(line: &[u8]) -> Result<(Name, &[u8]), ScriptFault> {
+    match next_word(line) {
+        Some((word, rest)) => match read_name(word) {
+            Some(name) => Ok((name, rest)),
+            None => Err(ScriptFault::BadName),
+        },
+        None => Err(ScriptFault::BadName),
+    }
+}
+
+/// A reason that may be left out, as the last word.
+fn read_last_reason(line: &[u8]) -> Result<Option<Reason>, ScriptFault> {
+    let Some((word, rest)) = next_word(line) else {
+        return Ok(None);
+    };
+    let Some(reason) = read_reason(word) else {
+        return Err(ScriptFault::BadReason);
+    };
+    end_of(rest)?;
+    Ok(Some(reason))
+}
+
+/// That no word is left.
+fn end_of(line: &[u8]) -> Result<(), ScriptFault> {
+    match next_word(line) {
+        None => Ok(()),
+        Some(_) => Err(ScriptFault::TooManyWords),
+    }
+}
+
+/// The reason of a line that names none: an error with this text.
+fn error_of(text: &[u8]) -> Reason {
+    match Text::new(text) {
+        Some(text) => Reason::Error(text),
+        None => Reason::Killed,
+    }
+}
+
+/// `crash CHILD [REASON]`: without a reason `error:crash`.
+fn read_crash(line: &[u8]) -> Result<Action, ScriptFault> {
+    let (child, rest) = read_child(line)?;
+    let reason = read_last_reason(rest)?;
+    Ok(Action::Exit(child, reason.unwrap_or(error_of(b"crash"))))
+}
+
+/// `exit CHILD REASON`.
+fn read_exit(line: &[u8]) -> Result<Action, ScriptFault> {
+    let (child, rest) = read_child(line)?;
+    match read_last_reason(rest)? {
+        Some(reason) => Ok(Action::Exit(child, reason)),
+        None => Err(ScriptFault::BadReason),
+    }
+}
+
+/// `fail ID [REASON]`: without a reason `error:fail`.
+fn read_fail(line: &[u8]) -> Result<Action, ScriptFault> {
+    let (id, rest) = read_id(line)?;
+    let reason = read_last_reason(rest)?;
+    Ok(Action::Start(id, NextStart::Fail(reason.unwrap_or(error_of(b"fail")))))
+}
+
+/// `ignore ID`.
+fn read_ignore(line: &[u8]) -> Result<Action, ScriptFault> {
+    let (id, rest) = read_id(line)?;
+    end_of(rest)?;
+    Ok(Action::Start(id, NextStart::Ignore))
+}
+
+/// `hang CHILD`.
+fn read_hang(line: &[u8]) -> Result<Action, ScriptFault> {
+    let (child, rest) = read_child(line)?;
+    end_of(rest)?;
+    Ok(Action::Hang(child))
+}
+
+/// What has the same form as a line of `sim`: `stop`, and the calls.
+fn read_plain(line: &[u8]) -> Result<Action, ScriptFault> {
+    match read_line(line) {
+        Some(Line::Stop) => Ok(Action::Stop),
+        Some(Line::Call(call)) => Ok(Action::Call(call)),
+        Some(_) => Err(ScriptFault::UnknownWord),
+        None => Err(fault_of_plain(line)),
+    }
+}
+
+/// Why a line is no `stop` and no call: it begins with the word of one, or with another.
+fn fault_of_plain(line: &[u8]) -> ScriptFault {
+    let Some((word, _)) = next_word(line) else {
+        return ScriptFault::UnknownWord;
+    };
+    match word {
+        b"stop" => ScriptFault::TooManyWords,
+        b"start" | b"restart" | b"delete" | b"terminate" | b"get" | b"which" | b"count" => ScriptFault::BadCall,
+        _ => ScriptFault::UnknownWord,
+    }
+}

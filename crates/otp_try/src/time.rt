@@ -1,0 +1,70 @@
+//! Times as they are told.
+
+ghost use Rattle.std.specs.Prelude.{◌≡◌, ◌<◌, ◌++◌, OnOk, decimal};
+ghost use Rattle.std.specs.List.{flat_map};
+ghost use Rattle.otp_try.specs.Story.{next_time_text, time_text, times_text, zeros_before};
+
+use otp_text::write_number;
+use std::alloc::AllocError;
+
+/// How many milliseconds a second has.
+const SECOND: u64 = 1000;
+
+/// Appends the zeros that a number below 1000 lacks to have three digits.
+#[tactic(auto, unfolding(crate::specs::Story::zeros_before))]
+fn write_zeros(number: u64, out: &mut Vec<u8>) -> Result<(), AllocError>
+    ensures { OnOk result (out.new.items ≡ out.old.items ++ zeros_before number) }
+{
+    if number < 10 {
+        out.extend_from_slice(b"00")
+    } else if number < 100 {
+        out.extend_from_slice(b"0")
+    } else {
+        Ok(())
+    }
+}
+
+/// Appends a time in milliseconds, written in seconds.
+#[tactic(auto, unfolding(crate::specs::Story::time_text))]
+pub(crate) fn write_time(time: u64, out: &mut Vec<u8>) -> Result<(), AllocError>
+    ensures { OnOk result (out.new.items ≡ out.old.items ++ time_text time) }
+{
+    write_number(time / SECOND, out)?;
+    out.extend_from_slice(b".")?;
+    write_zeros(time % SECOND, out)?;
+    write_number(time % SECOND, out)?;
+    out.extend_from_slice(b" s")
+}
+
+/// Appends a comma and a time.
+#[tactic(auto, unfolding(crate::specs::Story::next_time_text))]
+fn write_next_time(time: u64, out: &mut Vec<u8>) -> Result<(), AllocError>
+    ensures { OnOk result (out.new.items ≡ out.old.items ++ next_time_text time) }
+{
+    out.extend_from_slice(b", ")?;
+    write_time(time, out)
+}
+
+/// Appends times, each after a comma.
+fn write_next_times(times: &[u64], out: &mut Vec<u8>) -> Result<(), AllocError>
+    ensures { OnOk result (out.new.items ≡ out.old.items ++ flat_map next_time_text times.now) }
+{
+    for time in times {
+        write_next_time(*time, out)?;
+    }
+    Ok(())
+}
+
+/// Appends times with commas between.
+#[tactic(auto, unfolding(crate::specs::Story::times_text))]
+pub(crate) fn write_times(times: &[u64], out: &mut Vec<u8>) -> Result<(), AllocError>
+    ensures { OnOk result (out.new.items ≡ out.old.items ++ times_text times.now) }
+{
+    match times {
+        [] => Ok(()),
+        [first, rest @ ..] => {
+            write_time(*first, out)?;
+            write_next_times(rest, out)
+        }
+    }
+}
