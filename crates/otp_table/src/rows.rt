@@ -1,5 +1,5 @@
 ghost use Rattle.std.specs.Prelude.{◌≡◌, ◌+◌, ◌<◌, ◌≤◌, ◌==◌, ◌++◌, ◌∷◌, [], length, max, nat_le, position, remove, slice_get, slice_range, slice_set, take, drop, OnOk, OnErr, Some, if◌then◌else◌};
-ghost use Rattle.otp_table.specs.Rows.{awaits_retry, calm_rows, has_id, has_number, has_process, row_has, with_state};
+ghost use Rattle.otp_table.specs.Rows.{awaits_retry, calm_rows, free_slot, has_id, has_number, has_process, row_has, with_state};
 ghost use Rattle.otp_table.specs.declared.row.Row.{Row};
 
 use crate::row::{Row, RowState};
@@ -125,6 +125,14 @@ impl Rows {
         search::find_retry(&self.items, number)
     }
 
+    /// The slot of the next child: the least that no row has.
+    pub fn free_slot(&self) -> usize
+        ensures slot { result ≡ free_slot self.now.rows }
+        ensures limit { result ≤ length self.now.rows }
+    {
+        search::free_slot(&self.items)
+    }
+
     /// Takes the memory of the next `n` inserts.
     pub fn reserve(&mut self, n: usize) -> Result<(), AllocError>
         ensures rows { self.new.rows ≡ self.old.rows }
@@ -204,9 +212,10 @@ mod tests {
     use otp_spec::ChildSpec;
     use std::test::Fail;
 
-    fn row(id: &[u8], state: RowState) -> Result<Row, Fail> {
+    fn row(slot: usize, id: &[u8], state: RowState) -> Result<Row, Fail> {
         let name = Name::new(id).ok_or("a name")?;
         Ok(Row {
+            slot,
             id: Some(name),
             spec: ChildSpec::new(name, name),
             state,
@@ -217,9 +226,9 @@ mod tests {
     #[test]
     fn three_children(rt: HostRuntime) -> Result<(), Fail> {
         let (a, b, c) = (
-            row(b"a", RowState::Up(1))?,
-            row(b"b", RowState::Restarting(2))?,
-            row(b"c", RowState::Starting(5, 3))?,
+            row(0, b"a", RowState::Up(1))?,
+            row(1, b"b", RowState::Restarting(2))?,
+            row(2, b"c", RowState::Starting(5, 3))?,
         );
         let mut rows = Rows::new(rt.alloc());
         assert!(rt; rows.is_empty() && !rows.is_full());
@@ -228,13 +237,13 @@ mod tests {
             assert!(rt; rows.room() > 0);
             rows.insert(row)?;
         }
-        assert_eq!(rt; (rows.len(), rows.room()), (3, 0));
+        assert_eq!(rt; (rows.len(), rows.room(), rows.free_slot()), (3, 0, 3));
         assert_eq!(rt; rows.as_slice(), [a, b, c].as_slice());
         assert_eq!(rt; *rows.get(1), b);
         assert_eq!(rt; rows.after(0), [b, c].as_slice());
         assert_eq!(rt; rows.find_id(&c.spec.id), Some(2));
         assert_eq!(rt;
-            rows.find_id(&row(b"d", RowState::Undefined)?.spec.id),
+            rows.find_id(&row(3, b"d", RowState::Undefined)?.spec.id),
             None
         );
         assert_eq!(rt; (rows.find_number(2), rows.find_number(3)), (Some(1), None));
@@ -255,7 +264,7 @@ mod tests {
             ]
         );
         assert_eq!(rt; rows.remove(1).id, b.id);
-        assert_eq!(rt; rows.find_id(&c.spec.id), Some(1));
+        assert_eq!(rt; (rows.find_id(&c.spec.id), rows.free_slot()), (Some(1), 1));
         rows.clear();
         assert!(rt; rows.is_empty());
         Ok(())
@@ -285,7 +294,7 @@ mod tests {
     /// The 257th child is refused, and nothing is lost.
     #[test]
     fn too_many_children(rt: HostRuntime) -> Result<(), Fail> {
-        let child = row(b"a", RowState::Undefined)?;
+        let child = row(0, b"a", RowState::Undefined)?;
         let mut rows = Rows::new(rt.alloc());
         rows.reserve(MAX_CHILDREN)?;
         for _ in 0..MAX_CHILDREN {
