@@ -16,3 +16,4 @@ pub mod Starting
 pub mod StartTurn
 mod WorkedLaws
 mod Shown
+pub mod Opened
