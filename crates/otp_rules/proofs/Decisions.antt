@@ -15,7 +15,7 @@ use Rattle.otp_spec.specs.Lawful.{first_fault}
 use Rattle.otp_table.specs.declared.row.Row.{Row}
 use Rattle.otp_table.specs.declared.row.RowState.{RowState}
 use Rattle.otp_table.specs.declared.row.RowState.TheVariants.{Undefined, Starting, Up, Asked, Killed, Restarting}
-use Rattle.otp_table.specs.Rows.{awaits_retry, has_id, has_number, has_process, is_awaited, row_has}
+use Rattle.otp_table.specs.Rows.{awaits_retry, has_id, has_number, has_process, is_awaited, row_has, free_slot}
 use Rattle.otp_rules.specs.declared.call.Call.{Call}
 use Rattle.otp_rules.specs.declared.call.Call.TheVariants as call
 use Rattle.otp_rules.specs.declared.ending.Ending.{Ending}
@@ -96,7 +96,7 @@ pub record Survives (k : Kind) (b : Bool) (P : Outcome → Type 0) : Type 0 wher
   pub ticks : (o : Outcome) → k ≡ kind.Ticked → P o → P (tick o)
   pub opens : (own : ℕ) (o : Outcome) → is_busy o ≡ b → is_over o.state.phase ≡ true → P o → P (open_rows own o)
   -- calls
-  pub adds : (c : ℕ) (id : Option Name) (spec : ChildSpec) (o : Outcome) → IsIdle b o → IsRunning o → is_some id ≡ not (is_simple o.state.flags.strategy) → P o → P (with_work [] (record { id = id; kept = None } ∷ []) (Some (after.Added c)) (with_rows (o.state.rows ++ new_row id spec ∷ []) o))
+  pub adds : (c : ℕ) (id : Option Name) (spec : ChildSpec) (o : Outcome) → IsIdle b o → IsRunning o → is_some id ≡ not (is_simple o.state.flags.strategy) → P o → P (with_work [] (record { id = id; kept = None } ∷ []) (Some (after.Added c)) (with_rows (o.state.rows ++ new_row (free_slot o.state.rows) id spec ∷ []) o))
   pub starts_again : (c : ℕ) (id : Name) (place : ℕ) (row : Row) (o : Outcome) → IsIdle b o → IsRunning o → StandsAt place row o → has_id id row ≡ true → row.state ≡ Undefined → P o → P (with_work [] (record { id = Some id; kept = None } ∷ []) (Some (after.Restarted c)) o)
   pub removed : (place : ℕ) (row : Row) (o : Outcome) → IsIdle b o → IsRunning o → StandsAt place row o → is_down row.state ≡ true → P o → P (with_rows (remove o.state.rows place) o)
   pub given_up : (place : ℕ) (row : Row) (o : Outcome) → IsIdle b o → IsRunning o → StandsAt place row o → is_down row.state ≡ true → P o → P (set_row place row Undefined o)

@@ -1,5 +1,5 @@
 ghost use Rattle.std.specs.Prelude.{◌≡◌, ◌+◌, ◌<◌, ◌≤◌, ◌==◌, ◌++◌, ◌∷◌, [], length, max, nat_le, position, remove, slice_get, slice_range, slice_set, take, drop, OnOk, OnErr, Some, if◌then◌else◌};
-ghost use Rattle.otp_table.specs.Rows.{awaits_retry, calm_rows, has_id, has_number, has_process, row_has, with_state};
+ghost use Rattle.otp_table.specs.Rows.{awaits_retry, calm_rows, free_slot, has_id, has_number, has_process, row_has, with_state};
 ghost use Rattle.otp_table.specs.declared.row.Row.{Row};
 
 use crate::row::{Row, RowState};
@@ -123,6 +123,14 @@ impl Rows {
         ensures { result ≡ position (row_has (awaits_retry number)) self.now.rows }
     {
         search::find_retry(&self.items, number)
+    }
+
+    /// The slot of the next child: the least that no row has.
+    pub fn free_slot(&self) -> usize
+        ensures slot { result ≡ free_slot self.now.rows }
+        ensures limit { result ≤ length self.now.rows }
+    {
+        search::free_slot(&self.items)
     }
 
     /// Takes the memory of the next `n` inserts.

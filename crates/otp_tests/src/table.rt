@@ -3,9 +3,10 @@ use otp_spec::{ChildSpec, SpecFault};
 use otp_table::{MAX_CHILDREN, Row, RowState, Rows};
 use std::test::Fail;
 
-fn row(id: &[u8], state: RowState) -> Result<Row, Fail> {
+fn row(slot: usize, id: &[u8], state: RowState) -> Result<Row, Fail> {
     let name = Name::new(id).ok_or("a name")?;
     Ok(Row {
+        slot,
         id: Some(name),
         spec: ChildSpec::new(name, name),
         state,
@@ -16,9 +17,9 @@ fn row(id: &[u8], state: RowState) -> Result<Row, Fail> {
 #[test]
 fn three_children(rt: HostRuntime) -> Result<(), Fail> {
     let (a, b, c) = (
-        row(b"a", RowState::Up(1))?,
-        row(b"b", RowState::Restarting(2))?,
-        row(b"c", RowState::Starting(5, 3))?,
+        row(0, b"a", RowState::Up(1))?,
+        row(1, b"b", RowState::Restarting(2))?,
+        row(2, b"c", RowState::Starting(5, 3))?,
     );
     let mut rows = Rows::new(rt.alloc());
     assert!(rt; rows.is_empty() && !rows.is_full());
@@ -27,13 +28,13 @@ fn three_children(rt: HostRuntime) -> Result<(), Fail> {
         assert!(rt; rows.room() > 0);
         rows.insert(row)?;
     }
-    assert_eq!(rt; (rows.len(), rows.room()), (3, 0));
+    assert_eq!(rt; (rows.len(), rows.room(), rows.free_slot()), (3, 0, 3));
     assert_eq!(rt; rows.as_slice(), [a, b, c].as_slice());
     assert_eq!(rt; *rows.get(1), b);
     assert_eq!(rt; rows.after(0), [b, c].as_slice());
     assert_eq!(rt; rows.find_id(&c.spec.id), Some(2));
     assert_eq!(rt;
-        rows.find_id(&row(b"d", RowState::Undefined)?.spec.id),
+        rows.find_id(&row(3, b"d", RowState::Undefined)?.spec.id),
         None
     );
     assert_eq!(rt; (rows.find_number(2), rows.find_number(3)), (Some(1), None));
@@ -54,7 +55,7 @@ fn three_children(rt: HostRuntime) -> Result<(), Fail> {
         ]
     );
     assert_eq!(rt; rows.remove(1).id, b.id);
-    assert_eq!(rt; rows.find_id(&c.spec.id), Some(1));
+    assert_eq!(rt; (rows.find_id(&c.spec.id), rows.free_slot()), (Some(1), 1));
     rows.clear();
     assert!(rt; rows.is_empty());
     Ok(())
@@ -81,7 +82,7 @@ fn states(rt: HostRuntime) -> Result<(), Fail> {
 /// The 257th child is refused, and nothing is lost.
 #[test]
 fn too_many_children(rt: HostRuntime) -> Result<(), Fail> {
-    let child = row(b"a", RowState::Undefined)?;
+    let child = row(0, b"a", RowState::Undefined)?;
     let mut rows = Rows::new(rt.alloc());
     rows.reserve(MAX_CHILDREN)?;
     for _ in 0..MAX_CHILDREN {

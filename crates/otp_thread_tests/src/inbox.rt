@@ -1,7 +1,7 @@
 // What no clause says: that calls succeed, that what a `take` finds is there, and that bodies come along.
 ghost use Rattle.std.specs.Prelude.{◌≡◌, ◌<◌};
 
-use otp_inbox::{ALL_PARTS, COUNT_LIMIT, Inbox, InboxNaming, Item, Sender, Taker, UnnamedInbox};
+use otp_inbox::{ALL_PARTS, COUNT_LIMIT, Inbox, InboxNaming, Mail, Sender, Taker, UnnamedInbox};
 use std::alloc::Global;
 use std::marker::Brand;
 use std::process::Abort;
@@ -41,7 +41,7 @@ struct Head {
     number: u64,
 }
 
-impl<B: Drop> Item<Head> for Letter<B> {
+impl<B: Drop> Mail<Head> for Letter<B> {
     ghost plain = { λ l. record { from = l.from; number = l.number } };
 }
 
@@ -133,7 +133,9 @@ fn exchange<N: InboxNaming + Send + Sync, R: Threads + Wait + Abort + Sync>(
 ) -> Result<(), Fail>
     requires { inbox ≡ N.inbox 7 }
 {
-    let (inbox, taker, mut first) = inbox.named::<N>(7);
+    let (inbox, mut taker, mut first) = inbox.named::<N>(7);
+    // The sender's pass goes through the taker's and back: both still send and take afterwards.
+    inbox.credit(&mut taker, &mut first, 3, 5);
     let second = inbox.split(&mut first, 1);
     let shared = &inbox;
     let (senders, took) = thread::join(
