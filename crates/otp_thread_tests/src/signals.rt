@@ -1,4 +1,4 @@
-ghost use Rattle.std.specs.Prelude.{◌≡◌, ◌<◌, Contains, IfOk};
+ghost use Rattle.std.specs.Prelude.{◌≡◌, Contains, IfOk};
 ghost use Rattle.otp_signals.specs.Lists.{AllIn};
 
 use otp_signals::{Exhausted, OpenWords, Owner, Signal, Words, WordsNaming};
@@ -32,12 +32,7 @@ fn draw_several<N: WordsNaming>(
 }
 
 // Posts to the first slot.
-fn post_first<N: WordsNaming>(
-    words: &Words<N>,
-    owner: &mut Owner<N>,
-    number: u64,
-    signal: Signal,
-)
+fn post_first<N: WordsNaming>(words: &Words<N>, owner: &mut Owner<N>, number: u64, signal: Signal)
     requires slot { Contains owner.old.slots 0 }
     requires number { Contains owner.old.drawn number }
     ensures drawn { owner.new.drawn ≡ owner.old.drawn }
