@@ -20,3 +20,5 @@ pub mod Homes
 pub mod Slots
 pub mod Named
 pub mod Processes
+pub mod Runs
+pub mod Few
