@@ -21,3 +21,5 @@ pub mod Slots
 pub mod Named
 pub mod Processes
 pub mod Opened
+pub mod Runs
+pub mod Few

@@ -1,5 +1,6 @@
 //! Laws over all states, events and histories. A law is a function that does nothing: what it ensures is the law.
 
+ghost use Rattle.otp_rules.specs.Effects.{OrdersFew};
 ghost use Rattle.otp_rules.specs.Evidence.{EndEvidence};
 ghost use Rattle.otp_rules.specs.Frames.{OrdersAppended, StepKeepsPlan, StepKeepsStamped, StepStamps};
 ghost use Rattle.otp_rules.specs.Homes.{HomesKept, HomesKeptFrom};
@@ -8,6 +9,7 @@ ghost use Rattle.otp_rules.specs.Needs.{NumberStartsWork};
 ghost use Rattle.otp_rules.specs.Order.{StartOrder, StopOrder};
 ghost use Rattle.otp_rules.specs.Processes.{ProcessesOwned, ProcessesStayOwned};
 ghost use Rattle.otp_rules.specs.Rate.{RestartRate};
+ghost use Rattle.otp_rules.specs.Run.{RunGoesOn, RunsJoined};
 ghost use Rattle.otp_rules.specs.Slots.{SlotsOwned, SlotsStayOwned, SlotsTellProcesses};
 
 /// No event changes the flags or the specifications.
@@ -94,4 +96,15 @@ pub fn orders_are_numbered()
 pub fn homes_are_kept()
     ensures from_empty { HomesKept }
     ensures from_any { HomesKeptFrom }
+{}
+
+/// The orders of two lists of events follow each other, and so do their states: one event more does its step.
+pub fn runs_are_joined()
+    ensures lists { RunsJoined }
+    ensures one_more { RunGoesOn }
+{}
+
+/// An event gives one order more than there are rows at most, beside answers to calls.
+pub fn orders_are_few()
+    ensures { OrdersFew }
 {}
