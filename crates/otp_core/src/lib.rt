@@ -23,6 +23,3 @@ pub use numbers::{Counter, Given, Numbers};
 pub use opening::OpenFault;
 pub use otp_rules::laws;
 pub use supervisor::{Core, MAX_EVENTS};
-
-#[cfg(test)]
-mod tests;
