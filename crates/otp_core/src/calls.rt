@@ -37,6 +37,7 @@ impl Machine {
         ensures room { CanAdvance self.new }
     {
         match self.rows.insert(Row {
+            slot: self.rows.free_slot(),
             id,
             spec,
             state: RowState::Undefined,

@@ -7,7 +7,7 @@ ghost use Rattle.std.specs.VecDeque.{deque_len, deque_capacity};
 ghost use Rattle.otp_table.specs.Rows.{is_awaited, row_has};
 ghost use Rattle.otp_rules.specs.Counts.{is_active, is_supervisor, is_worker, line_of};
 ghost use Rattle.otp_rules.specs.Restarts.{dues, is_left, running};
-ghost use Rattle.otp_rules.specs.Step.{due_of, is_late, row_of};
+ghost use Rattle.otp_rules.specs.Step.{due_of, is_late, rows_from};
 ghost use Rattle.otp_rules.specs.Stops.{is_due, is_exit, refusal, refused};
 
 use crate::answers::Answers;
@@ -18,13 +18,6 @@ use otp_rules::{ChildLine, Due, Effect, Item, Reply, Waiting};
 use otp_spec::{ChildSpec, ChildType};
 use otp_table::{Row, RowState, Rows};
 use std::collections::VecDeque;
-
-/// Whether the open work waits for an answer of a child.
-pub fn has_awaited(rows: &[Row]) -> bool
-    ensures { result ≡ list_any (row_has is_awaited) rows.now }
-{
-    rows.iter().any(|row| row.state.is_awaited())
-}
 
 /// Whether a significant child is left.
 pub fn has_left(rows: &[Row]) -> bool
@@ -74,16 +67,18 @@ pub fn list_dues(rows: &[Row], kept: Option<u64>, list: &mut Vec<Due>)
     }
 }
 
-/// Adds a row and a start for each specification.
+/// Adds a row and a start for each specification. Where there are no rows yet, a child's slot is the place of its
+/// specification.
 pub fn list_children(specs: &[ChildSpec], rows: &mut Rows, starts: &mut Vec<Due>)
     requires limit { length specs.now + length rows.old.rows ≤ 256 }
     requires rows { length specs.now ≤ rows.old.room }
     requires starts { vec_len starts.old + length specs.now ≤ vec_capacity starts.old }
-    ensures rows { rows.new.rows ≡ rows.old.rows ++ map row_of specs.now }
+    ensures rows { rows.new.rows ≡ rows.old.rows ++ rows_from (length rows.old.rows) specs.now }
     ensures starts { starts.new.items ≡ starts.old.items ++ map due_of specs.now }
 {
     for spec in specs {
         let _ = rows.insert(Row {
+            slot: rows.len(),
             id: Some(spec.id),
             spec: *spec,
             state: RowState::Undefined,
