@@ -12,5 +12,5 @@ mod word;
 
 pub use effect::Printer;
 pub use line::{LONGEST_LINE, Line, read_line};
-pub use value::{write_name, write_number, write_process, write_reason};
+pub use value::{write_child_name, write_name, write_number, write_process, write_reason};
 pub use word::{read_name, read_number, read_reason};

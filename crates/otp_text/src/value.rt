@@ -57,7 +57,7 @@ pub fn write_reason(reason: &Reason, out: &mut Vec<u8>) -> Result<(), AllocError
 
 /// Appends a child's id, or `-` for a dynamic child.
 #[tactic(auto, unfolding(crate::specs::Values::child_name_text))]
-pub(crate) fn write_child_name(name: &Option<Name>, out: &mut Vec<u8>) -> Result<(), AllocError>
+pub fn write_child_name(name: &Option<Name>, out: &mut Vec<u8>) -> Result<(), AllocError>
     ensures { OnOk result (out.new.items ≡ out.old.items ++ child_name_text name.now) }
 {
     match name {

@@ -1,2 +1,4 @@
 pub mod Story
 pub mod World
+pub mod Played
+pub mod Inside

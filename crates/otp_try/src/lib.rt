@@ -4,10 +4,16 @@
 //! `specs/Story` says what is told: all orders that the core gives, in their order, and nothing else.
 #![tactic(auto)]
 
+mod awaited;
+pub mod finding;
+pub mod play;
 pub mod script;
 mod state;
 mod telling;
 mod time;
+pub mod trial;
 mod words;
 mod world;
 
+#[cfg(test)]
+mod tests;

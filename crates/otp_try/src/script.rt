@@ -4,7 +4,7 @@ use crate::words::{next_word, strip_end};
 use otp_reason::{Name, Reason, Text};
 use otp_rules::Call;
 use otp_text::{LONGEST_LINE, Line, read_line, read_name, read_number, read_reason};
-use thiserror::Error;
+use std::fmt;
 
 /// The greatest time and the greatest process number: 2^62.
 const GREATEST: u64 = 4_611_686_018_427_387_904;
@@ -64,24 +64,50 @@ pub struct Step {
 }
 
 /// Why a line is refused, in words that say what would be read.
-#[derive(Clone, Copy, Debug, PartialEq, Eq, Error)]
+#[derive(Clone, Copy, Debug, PartialEq, Eq)]
 pub enum ScriptFault {
-    #[error("unknown word: a line is one of crash, exit, fail, ignore, hang, stop, at TIME, +TIME, or a call (start, restart, delete, terminate, get, which, count)")]
+    /// It begins with no word of a line.
     UnknownWord,
-    #[error("no time: after `at` or `+` comes one as 10s, 500ms, 2m or, in milliseconds, 500")]
+    /// A time was wanted.
     BadTime,
-    #[error("no child: here comes a child's id, or a process number as #3")]
+    /// A child was wanted.
     BadChild,
-    #[error("no child's id: here comes one of 1 to 32 bytes of a-z A-Z 0-9 _ - .")]
+    /// A child's id was wanted.
     BadName,
-    #[error("no reason: here comes normal, shutdown, shutdown:TEXT, kill, killed, noproc or error:TEXT")]
+    /// A reason was wanted.
     BadReason,
-    #[error("no such call: docs/FORMATS.md has the words of each")]
+    /// The words of the call are others.
     BadCall,
-    #[error("more words than the line may have")]
+    /// There are more words than the line may have.
     TooManyWords,
-    #[error("more than 512 bytes")]
+    /// It has more than 512 bytes.
     TooLong,
+}
+
+impl ScriptFault {
+    /// What would be read.
+    pub fn text(self) -> &'static str {
+        match self {
+            ScriptFault::UnknownWord =>
+                "unknown word: a line is one of crash, exit, fail, ignore, hang, stop, at TIME, +TIME, or a call (start, restart, delete, terminate, get, which, count)",
+            ScriptFault::BadTime =>
+                "no time: after `at` or `+` comes one as 10s, 500ms, 2m or, in milliseconds, 500",
+            ScriptFault::BadChild => "no child: here comes a child's id, or a process number as #3",
+            ScriptFault::BadName =>
+                "no child's id: here comes one of 1 to 32 bytes of a-z A-Z 0-9 _ - .",
+            ScriptFault::BadReason =>
+                "no reason: here comes normal, shutdown, shutdown:TEXT, kill, killed, noproc or error:TEXT",
+            ScriptFault::BadCall => "no such call: docs/FORMATS.md has the words of each",
+            ScriptFault::TooManyWords => "more words than the line may have",
+            ScriptFault::TooLong => "more than 512 bytes",
+        }
+    }
+}
+
+impl fmt::Display for ScriptFault {
+    fn fmt<W: fmt::Write>(&self, f: &mut fmt::Formatter<W>) -> fmt::Result {
+        f.write_str(self.text())
+    }
 }
 
 /// Reads a line, without its LF. Empty lines and lines that begin with `#` say nothing; spaces, tabs and a CR at the end
@@ -259,7 +285,8 @@ fn fault_of_plain(line: &[u8]) -> ScriptFault {
     };
     match word {
         b"stop" => ScriptFault::TooManyWords,
-        b"start" | b"restart" | b"delete" | b"terminate" | b"get" | b"which" | b"count" => ScriptFault::BadCall,
+        b"start" | b"restart" | b"delete" | b"terminate" | b"get" | b"which" | b"count" =>
+            ScriptFault::BadCall,
         _ => ScriptFault::UnknownWord,
     }
 }

@@ -1,9 +1,5 @@
 //! How a supervisor stands, in one line.
 
-
-
-
-
 use otp_spec::SupFlags;
 use otp_table::{Row, RowState};
 use otp_text::write_number;
@@ -60,7 +56,12 @@ fn count_of(rows: &[Row], doing: Doing) -> u64 {
 }
 
 /// Appends how many children do this, where some do, and a comma before it where it is not the first that is told.
-fn write_doing(rows: &[Row], doing: Doing, is_first: bool, out: &mut Vec<u8>) -> Result<bool, AllocError> {
+fn write_doing(
+    rows: &[Row],
+    doing: Doing,
+    is_first: bool,
+    out: &mut Vec<u8>,
+) -> Result<bool, AllocError> {
     let count = count_of(rows, doing);
     if count == 0 {
         return Ok(is_first);
@@ -95,7 +96,13 @@ pub(crate) fn write_state(
     out: &mut Vec<u8>,
 ) -> Result<(), AllocError> {
     let mut is_first = true;
-    for doing in [Doing::Up, Doing::Starting, Doing::Stopping, Doing::Restarting, Doing::Down] {
+    for doing in [
+        Doing::Up,
+        Doing::Starting,
+        Doing::Stopping,
+        Doing::Restarting,
+        Doing::Down,
+    ] {
         is_first = write_doing(rows, doing, is_first, out)?;
     }
     if is_first {

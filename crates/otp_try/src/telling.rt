@@ -42,7 +42,12 @@ fn write_restarts(flags: &SupFlags, stamps: &[u64], out: &mut Vec<u8>) -> Result
 
 /// Appends a process number between two words.
 #[tactic(auto, unfolding(crate::specs::Story::number_between))]
-fn write_between(before: &[u8], number: u64, after: &[u8], out: &mut Vec<u8>) -> Result<(), AllocError>
+fn write_between(
+    before: &[u8],
+    number: u64,
+    after: &[u8],
+    out: &mut Vec<u8>,
+) -> Result<(), AllocError>
     ensures { OnOk result (out.new.items ≡ out.old.items ++ number_between before.now number after.now) }
 {
     out.extend_from_slice(before)?;
@@ -80,7 +85,12 @@ fn write_end(end: &SupEnd, out: &mut Vec<u8>) -> Result<(), AllocError>
 
 /// Appends an order as it is told: of an end also why.
 #[tactic(auto, unfolding(crate::specs::Story::order_text))]
-fn write_order(core: &Core, order: &Effect, printer: &mut Printer, out: &mut Vec<u8>) -> Result<(), AllocError>
+fn write_order(
+    core: &Core,
+    order: &Effect,
+    printer: &mut Printer,
+    out: &mut Vec<u8>,
+) -> Result<(), AllocError>
     ensures { OnOk result (out.new.items ≡ out.old.items ++ order_text order.now (state_of core.now).replies) }
 {
     match order {
@@ -124,7 +134,12 @@ fn write_all(
 }
 
 /// Appends the lines of the orders of a core that were not cleared, given at this time.
-pub(crate) fn tell(time: u64, core: &Core, printer: &mut Printer, out: &mut Vec<u8>) -> Result<(), AllocError>
+pub(crate) fn tell(
+    time: u64,
+    core: &Core,
+    printer: &mut Printer,
+    out: &mut Vec<u8>,
+) -> Result<(), AllocError>
     ensures { OnOk result (out.new.items ≡ out.old.items ++ told_lines time (state_of core.now).replies core.now.effects) }
 {
     write_all(time, core, core.effects(), printer, out)

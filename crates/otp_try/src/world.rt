@@ -56,7 +56,9 @@ fn is_meant(child: &Child, id: &Option<Name>, number: u64) -> bool {
 fn place_of(children: &[Child], id: &Option<Name>, number: u64) -> Option<usize>
     ensures { IfSome result (λ place. place < length children.now) }
 {
-    children.iter().position(|child| is_meant(child, id, number))
+    children
+        .iter()
+        .position(|child| is_meant(child, id, number))
 }
 
 impl World {

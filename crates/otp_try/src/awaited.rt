@@ -1,0 +1,57 @@
+//! What a supervisor awaits of its children.
+
+use crate::time::write_time;
+use otp_reason::Name;
+use otp_table::{Row, RowState};
+use otp_text::{write_child_name, write_process};
+use std::alloc::AllocError;
+
+/// Appends a line for what is awaited of a child.
+fn write_line(
+    what: &[u8],
+    id: &Option<Name>,
+    process: u64,
+    until: Option<u64>,
+    out: &mut Vec<u8>,
+) -> Result<(), AllocError> {
+    out.extend_from_slice(what)?;
+    write_child_name(id, out)?;
+    out.extend_from_slice(b" ")?;
+    write_process(process, out)?;
+    if let Some(time) = until {
+        out.extend_from_slice(b" until ")?;
+        write_time(time, out)?;
+    }
+    out.extend_from_slice(b"\n")
+}
+
+/// Appends a line for each child of which something is awaited.
+pub(crate) fn write_awaited(rows: &[Row], out: &mut Vec<u8>) -> Result<(), AllocError> {
+    for row in rows {
+        match row.state {
+            RowState::Starting(process, _) => write_line(
+                b"awaits the start of ",
+                &row.id,
+                process,
+                None,
+                out,
+            )?,
+            RowState::Asked(process, until) => write_line(
+                b"awaits the end of ",
+                &row.id,
+                process,
+                until,
+                out,
+            )?,
+            RowState::Killed(process) => write_line(
+                b"awaits the end of ",
+                &row.id,
+                process,
+                None,
+                out,
+            )?,
+            RowState::Up(_) | RowState::Undefined | RowState::Restarting(_) => {}
+        }
+    }
+    Ok(())
+}
