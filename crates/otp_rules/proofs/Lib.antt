@@ -16,3 +16,10 @@ pub mod Starting
 pub mod StartTurn
 mod WorkedLaws
 mod Shown
+pub mod Homes
+pub mod Slots
+pub mod Named
+pub mod Processes
+pub mod Opened
+pub mod Runs
+pub mod Few

@@ -14,5 +14,11 @@ pub mod Needs
 pub mod Frames
 pub mod Rate
 pub mod Opening
+pub mod Progress
+pub mod Fit
 pub mod Order
 pub mod Effects
+pub mod Homes
+pub mod Slots
+pub mod Named
+pub mod Processes
