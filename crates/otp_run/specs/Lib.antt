@@ -1,0 +1,4 @@
+pub mod Names
+pub mod Rule
+pub mod Deques
+pub mod Schedulers
