@@ -2,3 +2,5 @@ pub mod Sums
 pub mod Steps
 pub mod Thefts
 pub mod Ledger
+pub mod Places
+pub mod Shares

@@ -1,8 +1,7 @@
 -- What contracts see of a scheduler, and the ledger of begun and ended processes. (own)
-use Rattle.std.specs.Prelude.{◌≡◌, ℕ, zero, suc, ◌+◌, ◌-◌, ◌<◌, ◌≤◌, ◌⊎◌, ◌^◌, List, [], ◌∷◌, ◌++◌, length, map}
+use Rattle.std.specs.Prelude.{◌≡◌, ℕ, ◌+◌, ◌-◌, ◌≤◌, ◌⊎◌, ◌^◌, List, [], ◌∷◌, ◌++◌, length}
 use Rattle.otp_job.specs.declared.process.Ticket.{Ticket}
-use Rattle.otp_run.specs.Rule.{all_parts}
-use Rattle.otp_run.specs.Deques.{OwnState, VictimState, index_of, stolen, missed, TakenFrom}
+use Rattle.otp_run.specs.Deques.{OwnState, VictimState, stolen, missed, TakenFrom}
 
 -- its deque, those of the others in the order in which it tries them, how many processes began and ended here, and how
 -- often it found nothing anywhere
@@ -12,19 +11,6 @@ pub record SchedulerState : Type 0 where
   pub begun : ℕ
   pub ended : ℕ
   pub empty_finds : ℕ
-
--- how many schedulers there are
-abbrev pub count_of : SchedulerState → ℕ
-count_of s = length s.others + 1
-
--- so many numbers, from one on
-abbrev pub numbers_from : ℕ → ℕ → List ℕ
-numbers_from first zero = []
-numbers_from first (suc k) = first ∷ numbers_from (first + 1) k
-
--- of so many, all others: in rising order from its own on, wrapping round
-abbrev pub order_of : ℕ → ℕ → List ℕ
-order_of index count = numbers_from (index + 1) (count - 1 - index) ++ numbers_from 0 index
 
 -- what it put: processes that began here, and those that it gave back
 abbrev pub puts : SchedulerState → List Ticket
@@ -44,9 +30,6 @@ out s = length (finds s) - given_back s - s.ended
 
 -- what holds of each scheduler at all times
 pub record IsScheduler (s : SchedulerState) : Type 0 where
-  pub shared : s.own.parts + length s.others ≡ all_parts
-  pub inside : s.own.index < count_of s
-  pub in_order : map index_of s.others ≡ order_of s.own.index (count_of s)
   pub begun_is_put : s.begun ≤ length (puts s)
   -- what it gave back and what ended here was found here
   pub found_first : given_back s + s.ended ≤ length (finds s)

@@ -5,9 +5,11 @@
 
 pub mod deque;
 pub mod naming;
+pub mod queue;
 pub mod rule;
 pub mod scheduler;
 
 pub use deque::{OwnDeque, Victim};
 pub use naming::RunNaming;
+pub use queue::RunQueue;
 pub use scheduler::{SHARE_LIMIT, Scheduler, Share};

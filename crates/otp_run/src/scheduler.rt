@@ -1,12 +1,14 @@
 // A scheduler's end of the run queue.
-ghost use Rattle.std.specs.Prelude.{◌≡◌, ◌+◌, ◌<◌, ◌≤◌, ◌^◌, ◌++◌, ◌∷◌, [], length, IfSome, IfNone, IfErr, IsErr, OnOk, OnErr};
-ghost use Rattle.otp_run.specs.Deques.{missed, robbed, TakenFrom};
+ghost use Rattle.std.specs.Prelude.{◌≡◌, ◌+◌, ◌-◌, ◌<◌, ◌≤◌, ◌^◌, ◌++◌, ◌∷◌, [], length, IfSome, IfNone, IfOk, IfErr, IsErr, OnOk, OnErr};
+ghost use Rattle.otp_run.specs.Deques.{fresh_victim, missed, robbed, TakenFrom};
+ghost use Rattle.otp_run.specs.Opens.{unused};
 ghost use Rattle.otp_run.specs.Schedulers.{out, Found, nothing_found};
 
 use crate::deque::{OwnDeque, Victim};
 use crate::naming::RunNaming;
 use otp_job::{Process, Spent};
 use otp_tally::Tally;
+use std::alloc::AllocError;
 use std::marker::Model;
 
 /// At most so many processes may begin, and so many end, at one scheduler.
@@ -128,6 +130,25 @@ impl<N: RunNaming, J: Drop, S: Drop> Scheduler<N, J, S> {
         }
         self.empty_finds.raise();
         None
+    }
+}
+
+impl<N: RunNaming, J: Drop, S: Drop> Scheduler<N, J, S> {
+    // A way into its own deque, for another scheduler.
+    pub(crate) fn lend(&mut self) -> Result<Victim<N, J, S>, AllocError>
+        requires { 1 < self.old.own.parts }
+        ensures victim { IfOk result (λ victim. victim ≡ fresh_victim self.old.own.index) }
+        ensures lent { OnOk result (self.new ≡ record self.old { own = record self.old.own { parts = self.old.own.parts - 1 } }) }
+    {
+        self.own.lend()
+    }
+
+    // Gives one that has done nothing its ways to the others.
+    pub(crate) fn equip(&mut self, ways: Vec<Victim<N, J, S>>)
+        requires { self.old ≡ unused self.old.own.index self.old.own.parts self.old.others }
+        ensures { self.new ≡ record self.old { others = ways.items } }
+    {
+        self.others = ways;
     }
 }
 

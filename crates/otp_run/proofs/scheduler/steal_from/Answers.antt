@@ -1,5 +1,5 @@
 use Rattle.std.proofs.Common.{ap, arith, ◌≡◌}
-use Rattle.otp_run.proofs.Thefts.{tried, taken_from, length-missed}
+use Rattle.otp_run.proofs.Thefts.{tried, taken_from}
 use Rattle.otp_run.proofs.scheduler.steal_from.Goals as goal
 
 pub returns-in-Some-clause-found : goal.returns-in-Some-clause-found
