@@ -1,7 +1,8 @@
 -- Facts of each element of a list by its place, as elements are added and changed.
 use Rattle.std.proofs.Common.{Some, None, ◌≡◌, ℕ, zero, suc, ◌+◌, ◌<◌, List, [], ◌∷◌, ◌++◌, length, set, get_or, map, refl, sym, ap, ◌∙◌, subst, arith, add-zero, add-one}
 use Rattle.std.specs.Prelude.{slice_get, IfSome}
-use Rattle.otp_run.specs.Lists.{AllAt, numbers_from}
+use Rattle.otp_run.specs.Lists.{AllAt}
+use Rattle.otp_run.specs.Schedulers.{numbers_from}
 
 module _ {A : Type 0} where
   pub push_at : (P : ℕ → A → Type 0) (xs : List A) (x : A) → AllAt P xs → P (length xs) x → AllAt P (xs ++ x ∷ [])

@@ -1,10 +1,11 @@
 -- The parts of the deques are shared out, a way at a time.
 use Rattle.std.proofs.Common.{◌≡◌, ℕ, suc, ◌+◌, ◌-◌, ◌<◌, ◌≤◌, List, [], ◌∷◌, ◌++◌, length, set, get_or, map, min, refl, sym, ap, ◌∙◌, subst, arith, append_assoc}
-use Rattle.otp_run.specs.Lists.{AllAt, numbers_from}
+use Rattle.otp_run.specs.Lists.{AllAt}
+use Rattle.otp_run.specs.Schedulers.{numbers_from}
 use Rattle.otp_run.specs.Rule.{all_parts}
-use Rattle.otp_run.specs.Deques.{VictimState, fresh_victim}
-use Rattle.otp_run.specs.Schedulers.{SchedulerState}
-use Rattle.otp_run.specs.Opens.{HasLent, unused, opened, none_yet, from_all, order_of}
+use Rattle.otp_run.specs.Deques.{OwnState, VictimState, fresh_victim, index_of}
+use Rattle.otp_run.specs.Schedulers.{SchedulerState, IsPlaced, IsScheduler, order_of}
+use Rattle.otp_run.specs.Opens.{HasLent, unused, opened, none_yet, from_all, CompleteUpTo}
 use Rattle.otp_run.proofs.Places.{set_at, get_at, each_at, numbers-push, map-append}
 
 abbrev lowered : SchedulerState → SchedulerState
@@ -47,6 +48,10 @@ module _ (count thief index : ℕ) (ss : List SchedulerState) (v w : SchedulerSt
             ways = λ less. all_ways ∙ ap (λ k. map fresh_victim (order_of k count)) (sym at);
           })
 
+indexes-fresh : (ks : List ℕ) → map index_of (map fresh_victim ks) ≡ ks
+indexes-fresh [] = refl
+indexes-fresh (k ∷ ks) = ap (λ l. k ∷ l) (indexes-fresh ks)
+
 pub ways_more : (first k more index : ℕ) (old ways now : List VictimState) (x : VictimState) → ways ≡ old ++ map fresh_victim (numbers_from first k) → now ≡ ways ++ x ∷ [] → x ≡ fresh_victim index → first + k ≡ index → more ≡ k + 1
     → now ≡ old ++ map fresh_victim (numbers_from first more)
 ways_more first k more index old ways now x so_far pushed is at one_more =
@@ -69,15 +74,53 @@ nobody_lent count ss all =
     each_at (λ k s. s ≡ unused k all_parts []) (HasLent count 0 none_yet) ss all
         (λ j x within p. record { parts = all_parts; others = []; is = p; left = omega arith; ways = λ less. absurd (omega arith) })
 
-pub all_opened : (count thief : ℕ) (ss : List SchedulerState) → thief ≡ count → length ss ≡ count → AllAt (HasLent count thief none_yet) ss → AllAt (λ k s. s ≡ opened count k) ss
-all_opened count thief ss done many all =
-    each_at (HasLent count thief none_yet) (λ k s. s ≡ opened count k) ss all
-        (λ j x within p.
-            let l = p.left in
-            let n : p.parts ≡ all_parts + 1 - count = omega arith in
-            p.is ∙ ap (λ (z : ℕ × List VictimState). unused j z.0 z.1) (λ i. (n i, p.ways (omega arith) i)))
+-- one that has all its ways and lent all its parts
+pub is_placed : (count index : ℕ) (v : SchedulerState) → index < count → count ≤ all_parts → HasLent count count none_yet index v → IsPlaced (record v { count = count })
+is_placed count index v within few h =
+    let at : v.own.index ≡ index = ap (λ s. s.own.index) h.is in
+    let parts : v.own.parts ≡ h.parts = ap (λ s. s.own.parts) h.is in
+    let l = h.left in
+    record {
+      inside = omega arith;
+      shared = omega arith;
+      ordered = ap (λ s. map index_of s.others) h.is ∙ ap (map index_of) (h.ways within) ∙ indexes-fresh (order_of index count) ∙ ap (λ k. order_of k count) (sym at);
+    }
+
+pub one_complete : (count index : ℕ) (v w : SchedulerState) → index < count → count ≤ all_parts → HasLent count count none_yet index v → w ≡ record v { count = count } → w ≡ opened count index
+one_complete count index v w within few h now =
+    let l = h.left in
+    let n : h.parts ≡ all_parts + 1 - count = omega arith in
+    now ∙ ap (λ (s : SchedulerState). record s { count = count }) (h.is ∙ ap (λ (z : ℕ × List VictimState). unused index z.0 z.1) (λ i. (n i, h.ways within i)))
+
+pub completed_more : (count index : ℕ) (ss : List SchedulerState) (w : SchedulerState) → w ≡ opened count index → AllAt (CompleteUpTo count index) ss → AllAt (CompleteUpTo count (index + 1)) (set ss index w)
+completed_more count index ss w is all =
+    set_at (CompleteUpTo count index) (CompleteUpTo count (index + 1)) ss index w all
+        (λ j x apart p. ((λ less. p.0 (omega arith)), (λ more. p.1 (omega arith))))
+        ((λ less. is), (λ more. absurd (omega arith)))
 
 pub lent_by_then : (count thief : ℕ) (lent lent' : ℕ → ℕ) (ss : List SchedulerState) → ((j : ℕ) → j < length ss → lent' j ≡ lent j) → AllAt (HasLent count thief lent) ss → AllAt (HasLent count thief lent') ss
 lent_by_then count thief lent lent' ss same all =
     each_at (HasLent count thief lent) (HasLent count thief lent') ss all
         (λ j x within p. record { parts = p.parts; others = p.others; is = p.is; left = (let l = p.left in let e = same j within in omega arith); ways = p.ways })
+
+-- the next that is to be told how many there are
+module _ (count index : ℕ) (ss : List SchedulerState) (v : SchedulerState) (within : index < length ss) (is : v ≡ get_or ss index v) (all : AllAt (CompleteUpTo count index) ss) where
+  pub next_lent : HasLent count count none_yet index v
+  next_lent = (subst (CompleteUpTo count index index) (sym is) (get_at (CompleteUpTo count index) ss index v all within)).1 (omega arith)
+
+  pub next_unused : v ≡ unused v.own.index v.own.parts v.others
+  next_unused =
+      let h = next_lent in
+      h.is ∙ ap (λ s. unused s.own.index s.own.parts s.others) (sym h.is)
+
+-- lending keeps the ledger of one that has no ways yet
+pub lending_keeps : (s now : SchedulerState) (own : OwnState) → IsScheduler s → s ≡ now → now ≡ unused now.own.index now.own.parts now.others → own ≡ record s.own { parts = s.own.parts - 1 } → IsScheduler (record s { own = own })
+lending_keeps s now own l is unused_now lent =
+    let none : s.count ≡ 0 = ap (λ z. z.count) is ∙ ap (λ z. z.count) unused_now in
+    subst (λ (o : OwnState). IsScheduler (record s { own = o })) (sym lent) (record {
+      placed = λ some. absurd (omega arith);
+      begun_is_put = l.begun_is_put;
+      found_first = l.found_first;
+      begun_bounded = l.begun_bounded;
+      ended_bounded = l.ended_bounded;
+    })

@@ -1,7 +1,7 @@
 -- Tries at other deques, one after another, and what they leave of the ledger.
 use Rattle.std.proofs.Common.{get_or, add-one, ◌≡◌, ℕ, zero, suc, ◌+◌, ◌-◌, ◌<◌, ◌≤◌, List, [], ◌∷◌, ◌++◌, length, set, map, refl, sym, ap, ◌∙◌, arith, length-append}
 use Rattle.otp_job.specs.declared.process.Ticket.{Ticket}
-use Rattle.otp_run.specs.Deques.{VictimState, stolen, missed, robbed, TakenFrom}
+use Rattle.otp_run.specs.Deques.{VictimState, index_of, stolen, missed, robbed, TakenFrom}
 
 -- a try at the next, which gave nothing
 missed_next : (vs : List VictimState) (k : ℕ) (d : VictimState) → k < length vs → set (missed k vs) k (record (get_or (missed k vs) k d) { misses = (get_or (missed k vs) k d).misses + 1 }) ≡ missed (suc k) vs
@@ -17,6 +17,16 @@ pub robbed_next : (vs : List VictimState) (k : ℕ) (t : Ticket) (d : VictimStat
 robbed_next [] k t d within = absurd (omega arith)
 robbed_next (v ∷ vs) zero t d within = refl
 robbed_next (v ∷ vs) (suc k) t d within = ap (λ l. record v { misses = v.misses + 1 } ∷ l) (robbed_next vs k t d (omega arith))
+
+pub indexes-missed : (k : ℕ) (vs : List VictimState) → map index_of (missed k vs) ≡ map index_of vs
+indexes-missed zero vs = refl
+indexes-missed (suc k) [] = refl
+indexes-missed (suc k) (v ∷ vs) = ap (λ l. v.index ∷ l) (indexes-missed k vs)
+
+pub indexes-robbed : (k : ℕ) (t : Ticket) (vs : List VictimState) → map index_of (robbed k t vs) ≡ map index_of vs
+indexes-robbed k t [] = refl
+indexes-robbed zero t (v ∷ vs) = refl
+indexes-robbed (suc k) t (v ∷ vs) = ap (λ l. v.index ∷ l) (indexes-robbed k t vs)
 
 pub stolen-missed : (k : ℕ) (vs : List VictimState) → stolen (missed k vs) ≡ stolen vs
 stolen-missed zero vs = refl

@@ -3,21 +3,18 @@ use Rattle.std.specs.Prelude.{◌≡◌, ℕ, ◌+◌, ◌-◌, ◌≤◌, ◌<�
 use Rattle.crossbeam_deque.specs.Handles.{worker_deque, worker_flavor, worker_view}
 use Rattle.crossbeam_deque.specs.declared.handles.Worker.{Worker}
 use Rattle.otp_run.specs.declared.rule.View.{View}
-use Rattle.otp_run.specs.Lists.{AllAt, numbers_from}
+use Rattle.otp_run.specs.Lists.{AllAt}
 use Rattle.otp_run.specs.Names.{DequeId}
 use Rattle.otp_run.specs.Rule.{whole_view, all_parts}
 use Rattle.otp_run.specs.Deques.{VictimState, fresh_victim}
-use Rattle.otp_run.specs.Schedulers.{SchedulerState}
-
--- of so many schedulers all but one: in rising order from that one on, wrapping round
-abbrev pub order_of : ℕ → ℕ → List ℕ
-order_of index count = numbers_from (index + 1) (count - 1 - index) ++ numbers_from 0 index
+use Rattle.otp_run.specs.Schedulers.{SchedulerState, order_of}
 
 -- a scheduler that has done nothing
 abbrev pub unused : ℕ → ℕ → List VictimState → SchedulerState
 unused index parts others = record {
   own = record { index = index; parts = parts; puts = []; taken = []; misses = 0 };
   others = others;
+  count = 0;
   begun = 0;
   ended = 0;
   empty_finds = 0;
@@ -25,7 +22,7 @@ unused index parts others = record {
 
 -- one of so many schedulers at the opening: each other has a part of its deque, and it has a way into each other's
 abbrev pub opened : ℕ → ℕ → SchedulerState
-opened count index = unused index (all_parts + 1 - count) (map fresh_victim (order_of index count))
+opened count index = record (unused index (all_parts + 1 - count) (map fresh_victim (order_of index count))) { count = count }
 
 -- the worker of a deque into which nothing was put
 abbrev pub IsFresh : {T A P : Type 0} → Worker T A View P → Type 0
@@ -48,3 +45,7 @@ from_above thief k = min 1 (k - thief)
 
 abbrev pub from_all : ℕ → ℕ → ℕ
 from_all thief k = min 1 (k - thief) + min 1 (thief - k)
+
+-- the first so many know how many there are
+abbrev pub CompleteUpTo : ℕ → ℕ → ℕ → SchedulerState → Type 0
+CompleteUpTo count done index s = (index < done → s ≡ opened count index) × (done ≤ index → HasLent count count none_yet index s)

@@ -1,13 +1,15 @@
 -- What contracts see of a scheduler, and the ledger of begun and ended processes. (own)
-use Rattle.std.specs.Prelude.{◌≡◌, ℕ, ◌+◌, ◌-◌, ◌≤◌, ◌⊎◌, ◌^◌, List, [], ◌∷◌, ◌++◌, length}
+use Rattle.std.specs.Prelude.{◌≡◌, ℕ, zero, suc, ◌+◌, ◌-◌, ◌<◌, ◌≤◌, map, ◌⊎◌, ◌^◌, List, [], ◌∷◌, ◌++◌, length}
 use Rattle.otp_job.specs.declared.process.Ticket.{Ticket}
-use Rattle.otp_run.specs.Deques.{OwnState, VictimState, stolen, missed, TakenFrom}
+use Rattle.otp_run.specs.Rule.{all_parts}
+use Rattle.otp_run.specs.Deques.{OwnState, VictimState, index_of, stolen, missed, TakenFrom}
 
--- its deque, those of the others in the order in which it tries them, how many processes began and ended here, and how
--- often it found nothing anywhere
+-- its deque, those of the others in the order in which it tries them, how many schedulers there are (0 until it has its
+-- ways to all others), how many processes began and ended here, and how often it found nothing anywhere
 pub record SchedulerState : Type 0 where
   pub own : OwnState
   pub others : List VictimState
+  pub count : ℕ
   pub begun : ℕ
   pub ended : ℕ
   pub empty_finds : ℕ
@@ -28,8 +30,24 @@ given_back s = length (puts s) - s.begun
 unfoldable pub out : SchedulerState → ℕ
 out s = length (finds s) - given_back s - s.ended
 
+-- so many numbers, from one on
+abbrev pub numbers_from : ℕ → ℕ → List ℕ
+numbers_from first zero = []
+numbers_from first (suc k) = first ∷ numbers_from (first + 1) k
+
+-- of so many schedulers all but one: in rising order from that one on, wrapping round
+abbrev pub order_of : ℕ → ℕ → List ℕ
+order_of index count = numbers_from (index + 1) (count - 1 - index) ++ numbers_from 0 index
+
+-- it has its ways to all others, in their order, and each of them has a part of its deque
+pub record IsPlaced (s : SchedulerState) : Type 0 where
+  pub inside : s.own.index < s.count
+  pub shared : s.own.parts + s.count ≡ all_parts + 1
+  pub ordered : map index_of s.others ≡ order_of s.own.index s.count
+
 -- what holds of each scheduler at all times
 pub record IsScheduler (s : SchedulerState) : Type 0 where
+  pub placed : 0 < s.count → IsPlaced s
   pub begun_is_put : s.begun ≤ length (puts s)
   -- what it gave back and what ended here was found here
   pub found_first : given_back s + s.ended ≤ length (finds s)

@@ -1,10 +1,11 @@
 // The run queue is opened, and shared out among its schedulers.
 ghost use Rattle.std.specs.Prelude.{◌≡◌, ◌+◌, ◌-◌, [], ◌<◌, ◌≤◌, ◌++◌, length, map, IfOk, OnOk};
 ghost use Rattle.crossbeam_deque.specs.Handles.{worker_deque};
-ghost use Rattle.otp_run.specs.Lists.{AllAt, numbers_from};
+ghost use Rattle.otp_run.specs.Lists.{AllAt};
 ghost use Rattle.otp_run.specs.Deques.{fresh_victim};
-ghost use Rattle.otp_run.specs.Opens.{IsFresh, HasLent, opened, unused, none_yet, from_above, from_all, order_of};
+ghost use Rattle.otp_run.specs.Opens.{IsFresh, HasLent, opened, unused, none_yet, from_above, from_all, CompleteUpTo};
 ghost use Rattle.otp_run.specs.Rule.{all_parts};
+ghost use Rattle.otp_run.specs.Schedulers.{numbers_from};
 
 use crate::deque::{OwnDeque, Victim};
 use crate::naming::RunNaming;
@@ -72,7 +73,21 @@ impl<J: Drop, S: Drop> RunQueue<J, S> {
             lend_from_below(&mut schedulers, thief, &mut ways)?;
             schedulers[thief].equip(ways);
         }
+        complete_all(&mut schedulers);
         Ok(schedulers)
+    }
+}
+
+// Each is told how many there are.
+fn complete_all<N: RunNaming, J: Drop, S: Drop>(schedulers: &mut Vec<Scheduler<N, J, S>>)
+    requires few { length schedulers.old.items ≤ all_parts }
+    requires lent { AllAt (HasLent (length schedulers.old.items) (length schedulers.old.items) none_yet) schedulers.old.items }
+    ensures count { length schedulers.new.items ≡ length schedulers.old.items }
+    ensures opened { AllAt (λ k s. s ≡ opened (length schedulers.old.items) k) schedulers.new.items }
+{
+    let count = schedulers.len();
+    for index in 0..count {
+        schedulers[index].complete(count);
     }
 }
 
@@ -114,6 +129,7 @@ fn unused_scheduler<N: RunNaming, J: Drop, S: Drop>(
     Scheduler {
         own,
         others: Vec::new(alloc),
+        count: 0,
         share: Share {
             begun: 0,
             ended: 0,

@@ -2,7 +2,7 @@
 ghost use Rattle.std.specs.Prelude.{◌≡◌, ◌+◌, ◌-◌, ◌<◌, ◌≤◌, ◌^◌, ◌++◌, ◌∷◌, [], length, IfSome, IfNone, IfOk, IfErr, IsErr, OnOk, OnErr};
 ghost use Rattle.otp_run.specs.Deques.{fresh_victim, missed, robbed, TakenFrom};
 ghost use Rattle.otp_run.specs.Opens.{unused};
-ghost use Rattle.otp_run.specs.Schedulers.{out, Found, nothing_found};
+ghost use Rattle.otp_run.specs.Schedulers.{out, Found, IsPlaced, nothing_found};
 
 use crate::deque::{OwnDeque, Victim};
 use crate::naming::RunNaming;
@@ -29,6 +29,7 @@ pub struct Share {
 pub struct Scheduler<N: RunNaming, J: Drop, S: Drop> {
     pub(crate) own: OwnDeque<N, J, S>,
     pub(crate) others: Vec<Victim<N, J, S>>,
+    pub(crate) count: usize,
     pub(crate) share: Share,
     pub(crate) empty_finds: Tally,
 }
@@ -41,6 +42,7 @@ impl<N: RunNaming, J: Drop, S: Drop> Model for Scheduler<N, J, S> {
     ghost view = { λ s. record {
         own = s.own;
         others = s.others.items;
+        count = s.count;
         begun = s.share.begun;
         ended = s.share.ended;
         empty_finds = s.empty_finds.count } };
@@ -48,6 +50,7 @@ impl<N: RunNaming, J: Drop, S: Drop> Model for Scheduler<N, J, S> {
     ghost invariant = { λ s. IsScheduler (record {
         own = s.own;
         others = s.others.items;
+        count = s.count;
         begun = s.share.begun;
         ended = s.share.ended;
         empty_finds = s.empty_finds.count }) };
@@ -59,6 +62,13 @@ impl<N: RunNaming, J: Drop, S: Drop> Scheduler<N, J, S> {
         ensures { result ≡ self.now.own.index }
     {
         self.own.index
+    }
+
+    /// How many schedulers the run queue has.
+    pub fn count(&self) -> usize
+        ensures { result ≡ self.now.count }
+    {
+        self.count
     }
 
     /// How many processes began and ended here.
@@ -136,11 +146,13 @@ impl<N: RunNaming, J: Drop, S: Drop> Scheduler<N, J, S> {
 impl<N: RunNaming, J: Drop, S: Drop> Scheduler<N, J, S> {
     // A way into its own deque, for another scheduler.
     pub(crate) fn lend(&mut self) -> Result<Victim<N, J, S>, AllocError>
-        requires { 1 < self.old.own.parts }
+        requires some { 1 < self.old.own.parts }
+        requires unused { self.old ≡ unused self.old.own.index self.old.own.parts self.old.others }
         ensures victim { IfOk result (λ victim. victim ≡ fresh_victim self.old.own.index) }
         ensures lent { OnOk result (self.new ≡ record self.old { own = record self.old.own { parts = self.old.own.parts - 1 } }) }
     {
-        self.own.lend()
+        let victim = self.own.lend()?;
+        Ok(victim)
     }
 
     // Gives one that has done nothing its ways to the others.
@@ -149,6 +161,15 @@ impl<N: RunNaming, J: Drop, S: Drop> Scheduler<N, J, S> {
         ensures { self.new ≡ record self.old { others = ways.items } }
     {
         self.others = ways;
+    }
+
+    // Tells one that has all its ways how many schedulers there are.
+    pub(crate) fn complete(&mut self, count: usize)
+        requires placed { IsPlaced (record self.old { count = count }) }
+        requires unused { self.old ≡ unused self.old.own.index self.old.own.parts self.old.others }
+        ensures { self.new ≡ record self.old { count = count } }
+    {
+        self.count = count;
     }
 }
 

@@ -1,5 +1,6 @@
 use Rattle.std.proofs.Common.{◌≡◌, ◌+◌, ◌-◌, ◌++◌, length, map, min}
-use Rattle.otp_run.specs.Lists.{AllAt, numbers_from}
+use Rattle.otp_run.specs.Lists.{AllAt}
+use Rattle.otp_run.specs.Schedulers.{numbers_from}
 use Rattle.otp_run.specs.Deques.{fresh_victim}
 use Rattle.otp_run.specs.Opens.{HasLent}
 use Rattle.otp_run.proofs.queue.lend_from_above.Given as goal

@@ -1,7 +1,14 @@
 use Rattle.std.proofs.Common.{arith, ◌≡◌, ℕ, ◌+◌, ◌-◌, ◌<◌, ◌∙◌, ap, min, length, length-set}
 use Rattle.otp_run.specs.Deques.{fresh_victim}
-use Rattle.otp_run.proofs.Shares.{lent_more, one_index, ways_more}
+use Rattle.otp_run.proofs.Shares.{lent_more, one_unused, one_index, ways_more}
 use Rattle.otp_run.proofs.queue.lend_from_below.Goals as goal
+
+pub lend-requires-clause-unused : goal.lend-requires-clause-unused
+lend-requires-clause-unused g c =
+    let test = c.loop-index-test.true in
+    let one = c.requires.thief in
+    let many = c.loop-index.invariant.0 in
+    one_unused (length c.args.schedulers.now.items) c.args.thief c.loop-index.index c.loop-index.schedulers.items c.index_mut.result.now c.index_mut.result.now (omega arith) c.index_mut.ensures.value (λ k. min 1 (k - c.args.thief) + min 1 (c.loop-index.index - k)) c.loop-index.invariant.1
 
 pub loop-index-preserved : goal.loop-index-preserved
 loop-index-preserved g c =

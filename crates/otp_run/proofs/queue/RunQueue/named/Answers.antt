@@ -4,9 +4,10 @@ use Rattle.crossbeam_deque.specs.Handles.{worker_deque}
 use Rattle.otp_run.specs.Lists.{AllAt}
 use Rattle.otp_run.specs.Names.{DequeId}
 use Rattle.otp_run.specs.Deques.{fresh_victim}
-use Rattle.otp_run.specs.Opens.{HasLent, from_all, order_of}
+use Rattle.otp_run.specs.Opens.{HasLent, from_all, none_yet}
+use Rattle.otp_run.specs.Schedulers.{order_of}
 use Rattle.otp_run.proofs.Places.{map_at}
-use Rattle.otp_run.proofs.Shares.{nobody_lent, equipped, one_unused, all_opened, both_ways}
+use Rattle.otp_run.proofs.Shares.{nobody_lent, equipped, one_unused, both_ways}
 use Rattle.otp_run.proofs.queue.RunQueue.named.Goals as goal
 
 pub unused_schedulers-requires-clause-names : goal.unused_schedulers-requires-clause-names
@@ -55,8 +56,8 @@ loop-thief-preserved g c =
       equipped count thief thief c.lend_from_below.new.schedulers.items c.index_mut.result.now c.equip.new.self (omega arith) c.index_mut.ensures.value c.lend_from_below.new.ways.items refl c.equip.ensures (ways ∙ ap (λ n. map fresh_victim (order_of thief n)) many) lent,
     )
 
-pub returns-clause-opened : goal.returns-clause-opened
-returns-clause-opened g c =
+pub complete_all-requires-clause-lent : goal.complete_all-requires-clause-lent
+complete_all-requires-clause-lent g c =
     let test = c.loop-thief-test.false in
     let size = c.len-thief-end.ensures in
     let ok = c.in_ok-schedulers.schedulers.ok in
@@ -64,5 +65,6 @@ returns-clause-opened g c =
     let named = ap (λ l. length l) c.self.view_is in
     let shown = length-map c.self.inside.workers.items worker_deque in
     let low = c.loop-thief.auto.thief-end in
-    let few = c.self.invariant.1 in
-    all_opened _ c.loop-thief.thief _ (omega arith) c.loop-thief.invariant.0 c.loop-thief.invariant.1
+    let many = c.loop-thief.invariant.0 in
+    let all : c.loop-thief.thief ≡ length c.loop-thief.schedulers.items = omega arith in
+    subst (λ (z : ℕ × ℕ). AllAt (HasLent z.0 z.1 none_yet) c.loop-thief.schedulers.items) (λ i. (sym many i, all i)) c.loop-thief.invariant.1
