@@ -22,3 +22,4 @@ pub mod Named
 pub mod Processes
 pub mod Runs
 pub mod Few
+pub mod Waits

@@ -11,6 +11,7 @@ ghost use Rattle.otp_rules.specs.Processes.{ProcessesOwned, ProcessesStayOwned};
 ghost use Rattle.otp_rules.specs.Rate.{RestartRate};
 ghost use Rattle.otp_rules.specs.Run.{RunGoesOn, RunsJoined};
 ghost use Rattle.otp_rules.specs.Slots.{SlotsOwned, SlotsStayOwned, SlotsTellProcesses};
+ghost use Rattle.otp_rules.specs.Waits.{StartsWait};
 
 /// No event changes the flags or the specifications.
 pub fn step_keeps_plan()
@@ -103,4 +104,10 @@ pub fn runs_are_joined()
 /// An event gives one order more than there are rows at most, beside answers to calls.
 pub fn orders_are_few()
     ensures { OrdersFew }
+{}
+
+/// Each start call that waits was taken while work was open. They are taken in their order when the supervisor resumes,
+/// and none waits once it has ended.
+pub fn start_calls_wait()
+    ensures { StartsWait }
 {}
