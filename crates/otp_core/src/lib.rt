@@ -21,6 +21,3 @@ pub mod supervisor;
 pub use opening::OpenFault;
 pub use otp_rules::laws;
 pub use supervisor::{Core, MAX_EVENTS};
-
-#[cfg(test)]
-mod tests;

@@ -189,7 +189,7 @@ fits-dues ps kept (row ∷ rows) calm there named =
     running-more q (Killed _) rest = omega arith
     running-more q (Restarting _) rest = omega arith
 
-slice_split : (rows : List Row) (a m z : ℕ) → a ≤ m → m ≤ z → slice_range rows a z ≡ slice_range rows a m ++ slice_range rows m z
+pub slice_split : (rows : List Row) (a m z : ℕ) → a ≤ m → m ≤ z → slice_range rows a z ≡ slice_range rows a m ++ slice_range rows m z
 slice_split rows a m z h k =
     append_cancel_right (slice_range rows a z) (slice_range rows a m ++ slice_range rows m z) (drop z rows)
     (sym (drop_split rows a z (omega (arith, h, k))) ∙ drop_split rows a m h ∙ ap (λ (t : List Row). slice_range rows a m ++ t) (drop_split rows m z k)
@@ -234,13 +234,13 @@ restarted-fits from to place k rows le more calm named =
     (fits-after ps (restart_list from to place k rows) (take from rows) (calm_rows whole)
     (subst (λ (t : List Row). Fits ps (restart_list from to place k rows) t) (sym calmed_split) parts))
 
-affected_from_le : (s : Strategy) (place : ℕ) → affected_from s place ≤ place
+pub affected_from_le : (s : Strategy) (place : ℕ) → affected_from s place ≤ place
 affected_from_le OneForOne place = omega arith
 affected_from_le OneForAll place = omega arith
 affected_from_le RestForOne place = omega arith
 affected_from_le SimpleOneForOne place = omega arith
 
-affected_to_more : (s : Strategy) (place count : ℕ) → place < count → place + 1 ≤ affected_to s place count
+pub affected_to_more : (s : Strategy) (place count : ℕ) → place < count → place + 1 ≤ affected_to s place count
 affected_to_more OneForOne place count h = omega arith
 affected_to_more OneForAll place count h = omega (arith, h)
 affected_to_more RestForOne place count h = omega (arith, h)

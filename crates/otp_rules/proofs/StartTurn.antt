@@ -1,5 +1,5 @@
 -- The law of the start order, along every lawful history.
-use Rattle.std.specs.Prelude.{◌≡◌, ◌⊎◌, ℕ, ◌==◌, ◌+◌, ◌≤◌, ◌<◌, ◌++◌, ◌&&◌, ◌||◌, Bool, true, false, List, [], ◌∷◌, Option, None, Some, All, refl, if◌then◌else◌, not, position, is_some, slice_set, nat_lt, remove, unwrap_or, map, AllPairs}
+use Rattle.std.specs.Prelude.{◌≡◌, ℕ, ◌==◌, ◌+◌, ◌≤◌, ◌<◌, ◌++◌, ◌&&◌, ◌||◌, Bool, true, false, List, [], ◌∷◌, Option, None, Some, All, refl, if◌then◌else◌, not, position, is_some, slice_set, nat_lt, remove, unwrap_or, map, reverse, AllPairs}
 use Rattle.std.specs.List.{list_any, filter_map, cons_option}
 use Rattle.std.proofs.Common.{◌∙◌, ap, sym, subst, inl, inr, arith, ⊎_elim, cond, get_or}
 use Rattle.std.proofs.lemmas.Bool.{cond_both, false≢true, cases_Bool, and_parts, eq-eqb}
@@ -21,20 +21,21 @@ use Rattle.otp_rules.specs.Places.{at_number, end_row, end_process, is_removed, 
 use Rattle.otp_rules.specs.Stops.{is_exit, without, told, stop_order, tell_row, tell, use_exit, is_due, start_row, start, refuse_all, end_all, follow, start_first, stop_first, advance}
 use Rattle.otp_rules.specs.Step.{decide, stamped, step, step_on}
 use Rattle.otp_rules.specs.Run.{empty_state, state_after}
-use Rattle.otp_rules.proofs.Decisions.{StandsAt, by_test, decide-survives, is_told}
+use Rattle.otp_rules.proofs.Decisions.{StandsAt, by_test, decide-survives}
 use Prim.Native.Nat.{suc}
-use Rattle.otp_rules.proofs.Counting.{rows_in, times, rows_in-set, rows_in-at, Alike, end_row-alike, use_exit-alike, none_in, there, at_row-found, at_row-first, use_exit-quiet}
-use Rattle.otp_rules.specs.Order.{Ordered, Progress, no_progress, is_end, ends_together, started, seen, gave, progress, IsIn, StartsInTurn, IsStartInTurn, StartOrder}
+use Rattle.otp_rules.proofs.Counting.{rows_in, times, rows_in-set, rows_in-at, Alike, end_row-alike, use_exit-alike, times-reverse, none_in, there, at_row-found, at_row-first, use_exit-quiet}
+use Rattle.otp_rules.specs.Order.{Ordered, Progress, no_progress, is_end, ends_together, id_bytes, processes, started, start_list, seen, gave, progress, IsIn, StartsInTurn, IsStartInTurn, StartOrder}
 use Rattle.otp_rules.proofs.Sound.{IsSound, IsReady, empty-sound, used-ready}
-use Rattle.otp_rules.proofs.Stopping.{HasWaiting, HasStops, Keeps, decided-keeps, not_busy}
+use Rattle.otp_rules.proofs.Stopping.{HasWaiting, HasStops, Keeps, IsListed, not_busy}
+use Rattle.otp_rules.proofs.Opened.{decided-keeps}
 use Rattle.std.proofs.lemmas.List.Sums.{sum_by-le-sum_by}
 use Rattle.otp_rules.specs.Needs.{IsNumbered, is_start, numbers_of}
 use Rattle.otp_rules.proofs.NeedsWork.{decide-quiet}
 use Rattle.otp_rules.proofs.Numbers.{use_exit-no_more, IsDistinct, decided-distinct, numbered-distinct, unnumbered-distinct}
-use Rattle.otp_rules.proofs.InTurn.{HasDone, used-waits, used-done, none_told, TakesReplies, follow-orders, follow-closes, stands, step-keeps}
+use Rattle.otp_rules.proofs.InTurn.{IsDone, HasDone, all-done, used-waits, used-done, TakesReplies, follow-orders, follow-closes, stands, step-keeps}
 use Rattle.otp_rules.proofs.Fits.{is_free, Fits, fits-stop, fits-stop-remove, due_there, fits-start}
 use Rattle.otp_rules.proofs.Fitted.{set-named, named-less, end-named, IsNamed, IsFitted, Stands, fitted-survives, empty-fitted}
-use Rattle.otp_rules.proofs.Starting.{idle_keeps, is_starting, HasStarts, KeepsStarts, decided-starts}
+use Rattle.otp_rules.proofs.Starting.{idle_keeps, is_starting, IsUnderWay, HasStarts, KeepsStarts, decided-starts}
 use Rattle.otp_rules.specs.declared.event.Effect.TheVariants as effect
 use Rattle.otp_rules.specs.declared.event.Waiting.TheVariants as waiting
 use Rattle.otp_rules.specs.declared.work.After.TheVariants as after
@@ -95,7 +96,8 @@ quietly g x keeps none fitted = (subst (λ (y : Progress). KeepsStarts x.state y
 
 -- those that were to be started before have been, and were answered
 abbrev AllAnswered : Progress → Outcome → Type 0
-AllAnswered g o = (first : List Due) × (g.starts ≡ first ++ o.state.to_start) × (map (λ x. x.id) g.ordered ≡ map (λ x. x.id) first) × All (λ x. IsIn x.number g.answered) g.ordered
+AllAnswered g o =
+    (first : List Due) × (g.opened.to_start ≡ first ++ o.state.to_start) × (map (λ x. id_bytes x.id) g.ordered ≡ map (λ (x : Due). id_bytes x.id) first) × All (λ x. x.answered ≡ true) g.ordered
 
 -- the work may go on to a start
 abbrev MayStart : Progress → List ℕ → Outcome → Type 0
@@ -116,11 +118,46 @@ follow-fitted (Some (after.Restarted c)) o h = (h.0, tt)
 follow-fitted (Some (after.Stopped c)) o h = (h.0, tt)
 follow-fitted (Some (after.End e)) o h = (λ _. refl, tt)
 
--- all that was to be stopped has ended
-all_ended : (g : Progress) (o : Outcome) → ends_together o.state ≡ false → HasDone g [] o → (p : ℕ) → IsIn p g.stops → IsIn p g.ended
-all_ended g o apart d p h =
-    let part : (done : List ℕ) × (g.stops ≡ done ++ []) × ((q : ℕ) → IsIn q done → IsIn q g.ended) = d apart in
-    part.2 p (subst (λ (xs : List ℕ). IsIn p xs) (part.1 ∙ append-nil part.0) h)
+-- as the ids of the lists agree, so do their parts
+same_parts : (first : List Due) (due : Due) (rest : List Due) (rows : List Row) → map (λ (x : Due). id_bytes x.id) (first ++ due ∷ rest) ≡ map (λ (x : Row). id_bytes x.id) rows
+    → (before : List Row) × (row : Row) × (after_it : List Row) × (rows ≡ before ++ row ∷ after_it) × (id_bytes row.id ≡ id_bytes due.id) × (map (λ (x : Due). id_bytes x.id) first ≡ map (λ (x : Row). id_bytes x.id) before)
+same_parts [] due rest [] h = cc
+same_parts [] due rest (row ∷ rows) h = ([], row, rows, refl, cc, refl)
+same_parts (x ∷ first) due rest [] h = cc
+same_parts (x ∷ first) due rest (row ∷ rows) h =
+    let tail : map (λ (y : Due). id_bytes y.id) (first ++ due ∷ rest) ≡ map (λ (y : Row). id_bytes y.id) rows = cc in
+    let here : id_bytes x.id ≡ id_bytes row.id = cc in
+    let more : (before : List Row) × (r : Row) × (after_it : List Row) × (rows ≡ before ++ r ∷ after_it) × (id_bytes r.id ≡ id_bytes due.id) × (map (λ (y : Due). id_bytes y.id) first ≡ map (λ (y : Row). id_bytes y.id) before) = same_parts first due rest rows tail in (
+      row ∷ more.0,
+      more.1,
+      more.2,
+      ap (λ (rs : List Row). row ∷ rs) more.3,
+      more.4,
+      ap (λ (id : Option (List ℕ)). id ∷ map (λ (y : Due). id_bytes y.id) first) here ∙ ap (λ (ids : List (Option (List ℕ))). id_bytes row.id ∷ ids) more.5,
+    )
+
+-- the next of the start list is in its turn
+in_turn : (g : Progress) (due : Due) (rest : List Due) (o : Outcome) → o.state.to_start ≡ due ∷ rest → AllAnswered g o → IsDone g [] → StartsInTurn g due.id
+in_turn g due rest o is answered d =
+    let listed : IsListed g.opened = d.0 in
+    let part : List Row = listed.0 in
+    let next : g.opened.to_start ≡ answered.0 ++ due ∷ rest = answered.1 ∙ ap (λ (ds : List Due). answered.0 ++ ds) is in
+    let parts : (before : List Row) × (row : Row) × (after_it : List Row) × (start_list g.opened.follows part ≡ before ++ row ∷ after_it) × (id_bytes row.id ≡ id_bytes due.id) × (map (λ (x : Due). id_bytes x.id) answered.0 ≡ map (λ (x : Row). id_bytes x.id) before) =
+    same_parts answered.0 due rest (start_list g.opened.follows part) (ap (λ (ds : List Due). map (λ (x : Due). id_bytes x.id) ds) (sym next) ∙ listed.7) in (
+      part,
+      listed.1,
+      parts.0,
+      parts.1,
+      parts.2,
+      parts.3,
+      parts.4,
+      answered.2 ∙ parts.5,
+      answered.3,
+      λ p h. d.3 p (
+          let e : times p g.opened.to_stop ≡ times p (reverse (processes part)) = ap (λ (xs : List ℕ). times p xs) listed.6 in
+          let all : times p g.opened.to_stop ≡ times p d.1 = ap (λ (xs : List ℕ). times p xs) (d.2 ∙ append-nil d.1) in
+          omega (arith, h, e, all, times-reverse p (processes part))),
+    )
 
 ordered-gone : (g : Progress) (due : Due) (rest : List Due) (n : ℕ) (o : Outcome) → o.state.to_start ≡ due ∷ rest → MayStart g [] o → Gone g (start due n (with_work o.state.to_stop rest o.state.follows o))
 unfolding start start_row
@@ -130,26 +167,26 @@ ordered-gone g due rest n o is m =
     let not_end : is_end o.state.follows ≡ false = ⊎_elim (λ yes. absurd (let k : due ∷ rest ≡ [] = sym is ∙ m.0.0.4 yes in cc)) (λ other. other) (cases_Bool (is_end o.state.follows)) in
     let apart : ends_together o.state ≡ false = ap (λ (b : Bool). b && is_simple o.state.flags.strategy) not_end in
     let answered : AllAnswered g o = m.6 in
-    let new : Ordered = record { id = due.id; number = n } in
+    let new : Ordered = record { id = due.id; number = n; answered = false } in
     let given : List Effect = o.orders ++ effect.Start due.id n ∷ [] in
     let now : RowState = Starting n (unwrap_or due.kept n) in
     let longer : filter_map started given ≡ new ∷ [] =
     filter_map-append started o.orders (effect.Start due.id n ∷ []) ∙ ap (λ (os : List Ordered). os ++ new ∷ []) (nobody_started o.orders m.7) in
     let ordered_is : (gave given g).ordered ≡ g.ordered ++ new ∷ [] = ap (λ (os : List Ordered). g.ordered ++ os) longer in
-    let next : g.starts ≡ answered.0 ++ due ∷ rest = answered.1 ∙ ap (λ (ds : List Due). answered.0 ++ ds) is in
-    let turn : StartsInTurn g due.id = (answered.0, due, rest, next, refl, answered.2, answered.3, all_ended g o apart m.5) in
+    let next : g.opened.to_start ≡ answered.0 ++ due ∷ rest = answered.1 ∙ ap (λ (ds : List Due). answered.0 ++ ds) is in
+    let turn : StartsInTurn g due.id = in_turn g due rest o is answered (m.5 apart) in
     at_row-first (λ x. Gone g (emit (effect.Start due.id n) x)) (is_due due) left (start_row due n) left (due_there due rest o.state.rows m.0.1 fits)
     (λ i row found at.
     let rows : List Row = slice_set o.state.rows i (with_state now row) in (
       (λ busy. (
         answered.0 ++ due ∷ [],
         next ∙ sym (append_assoc answered.0 (due ∷ []) rest),
-        ap (λ (os : List Ordered). map (λ (x : Ordered). x.id) os) ordered_is
-            ∙ map-append (λ (x : Ordered). x.id) g.ordered (new ∷ [])
-            ∙ ap (λ (ids : List (Option Name)). ids ++ due.id ∷ []) answered.2
-            ∙ sym (map-append (λ (x : Due). x.id) answered.0 (due ∷ [])),
-        subst (λ (os : List Ordered). All (λ (x : Ordered). IsIn x.number g.answered ⊎ (0 < rows_in (is_starting x.number) rows)) os) (sym ordered_is)
-            (All-push (λ (x : Ordered). IsIn x.number g.answered ⊎ (0 < rows_in (is_starting x.number) rows)) g.ordered new
+        ap (λ (os : List Ordered). map (λ (x : Ordered). id_bytes x.id) os) ordered_is
+            ∙ map-append (λ (x : Ordered). id_bytes x.id) g.ordered (new ∷ [])
+            ∙ ap (λ (ids : List (Option (List ℕ))). ids ++ id_bytes due.id ∷ []) answered.2
+            ∙ sym (map-append (λ (x : Due). id_bytes x.id) answered.0 (due ∷ [])),
+        subst (λ (os : List Ordered). All (IsUnderWay rows) os) (sym ordered_is)
+            (All-push (IsUnderWay rows) g.ordered new
             (λ j d within. inl (answered.3 j d within))
             (inr (
             let e : rows_in (is_starting n) rows + cond (is_starting n row.state) 1 0 ≡ rows_in (is_starting n) o.state.rows + cond (n == n) 1 0 = rows_in-set (is_starting n) i row now o.state.rows at in
@@ -281,9 +318,7 @@ advance-gone g n o h one stops starts none =
       h.1.0,
       h.1.1,
       had.0,
-      (λ apart.
-          let part : (done : List ℕ) × (g.stops ≡ done ++ o.state.to_stop) × ((q : ℕ) → IsIn q done → IsIn q g.ended ⊎ (0 < rows_in (is_told q) o.state.rows)) = had.1 apart in
-          (part.0, part.1, λ q i. ⊎_elim (λ x. x) (λ x. absurd (none_told q o.state.rows zero x)) (part.2 q i))),
+      (λ apart. all-done o.state g zero (had.1 apart)),
       (begun.0, begun.1, begun.2, λ i d within. ⊎_elim (λ x. x) (λ x. absurd (none_starting (get_or g.ordered i d).number o.state.rows zero x)) (begun.3 i d within)),
       none,
     )))
@@ -330,6 +365,7 @@ run-lawful m s g (x ∷ events) e l numbered rises fresh =
 
 pub start_order_law : StartOrder
 start_order_law flags specs events e lawful =
-    run-lawful 0 (empty_state flags specs) no_progress events e
-    (empty-sound flags specs, empty-fitted flags specs, (λ q. omega arith, λ q h. refl), not_busy (empty_state flags specs) no_progress refl, idle_keeps (empty_state flags specs) no_progress refl)
+    let base : State = empty_state flags specs in
+    run-lawful 0 base (no_progress base) events e
+    (empty-sound flags specs, empty-fitted flags specs, (λ q. omega arith, λ q h. refl), not_busy base (no_progress base) refl, idle_keeps base (no_progress base) refl)
     lawful.0 lawful.1 (λ i d within. omega arith)

@@ -44,16 +44,20 @@ pub fn restart_rate()
     ensures { RestartRate }
 {}
 
-/// In a lawful history a child is started only when all that were to be stopped have ended, and each child that comes
-/// before it in the start list was started since, in that order, and has answered with Up or Ignored (Supervisor
-/// Behaviour, Starting a Supervisor and Restart Strategy).
+/// In a lawful history a child is started only in its turn. The children to start are those that the work is about, as
+/// they stood when it was opened, in start order: all at the opening, one for a call, and for a restart those that it
+/// affects and that aren't temporary. Each of them that comes before the child was started since, in that order, and has
+/// answered after that start with Up or Ignored; and each process of a child that the work is about has ended
+/// (Supervisor Behaviour, Starting a Supervisor and Restart Strategy).
 pub fn start_order()
     ensures { StartOrder }
 {}
 
-/// A child is told to stop only when each child that comes before it in the stop list has ended: each that stands after
-/// it in start order (Supervisor Behaviour, Stopping). Two things are no such order: a kill at a deadline, and the end of
-/// a simple_one_for_one supervisor, whose children are told together.
+/// A child is told to stop only in its turn: no answer of a child is awaited, the work is about it, and of the children
+/// that the work is about each that had a process and stands after it in start order has ended (Supervisor Behaviour,
+/// Stopping and Restart Strategy). Two things are no such order: a kill of a child that was asked and whose deadline has
+/// come, which only an event that ticks gives; and the end of a simple_one_for_one supervisor, whose children are told
+/// together by the event that ends it.
 pub fn stop_order()
     ensures { StopOrder }
 {}
