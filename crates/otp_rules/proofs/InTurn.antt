@@ -28,11 +28,13 @@ use Rattle.otp_rules.specs.Stops.{is_exit, without, told, stop_order, tell_row, 
 use Rattle.otp_rules.specs.Deaths.{restart_rows, restart_or_end, restart}
 use Rattle.otp_rules.specs.Step.{kill_order, late_number, open_with, open_rows, tick, decide, stamped, step, step_on}
 use Rattle.otp_rules.specs.Run.{empty_state, state_after}
-use Rattle.otp_rules.proofs.Decisions.{IsIdle, Survives, at_row-survives, by_test, decide-survives, is_told}
-use Rattle.otp_rules.proofs.Counting.{rows_in, times, times-cons, times-append, rows_in-set, rows_in-at, Alike, end_row-alike, use_exit-alike, told-told, times-reverse, runs_as, none_in, there, at_row-found, end_row-quiet, use_exit-quiet, without_count}
-use Rattle.otp_rules.specs.Order.{Progress, no_progress, is_end, is_opened, ends_together, decided, went_on, seen, gave, progress, processes, IsIn, StopsInTurn, IsToldTogether, IsStopInTurn, StopOrder}
-use Rattle.otp_rules.proofs.Sound.{IsSound, IsReady, advance-sound, empty-sound, used-ready}
-use Rattle.otp_rules.proofs.Stopping.{HasWaiting, HasStops, HasPart, Keeps, IsListed, Carried, apart-alike, carried-survives, fails_opening, no_after, not_busy, opens_none}
+use Rattle.otp_rules.specs.Progress.{Progress, no_progress, is_end, is_opened, ends_together, decided, went_on, seen, gave, progress, processes, IsIn}
+use Rattle.otp_rules.specs.Fit.{is_told, rows_in, times, runs_as, IsSound, HasWaiting, HasStops, HasPart, Keeps, IsListed}
+use Rattle.otp_rules.proofs.Decisions.{IsIdle, Survives, at_row-survives, by_test, decide-survives}
+use Rattle.otp_rules.proofs.Counting.{times-cons, times-append, rows_in-set, rows_in-at, Alike, end_row-alike, use_exit-alike, told-told, times-reverse, none_in, there, at_row-found, end_row-quiet, use_exit-quiet, without_count}
+use Rattle.otp_rules.specs.Order.{StopsInTurn, IsToldTogether, IsStopInTurn, StopOrder, StopOrderFromEmpty}
+use Rattle.otp_rules.proofs.Sound.{IsReady, advance-sound, empty-sound, used-ready}
+use Rattle.otp_rules.proofs.Stopping.{Carried, apart-alike, carried-survives, fails_opening, no_after, not_busy, opens_none}
 use Rattle.otp_rules.proofs.Opened.{decided-keeps, stands_at, started-carried, together, together-follows}
 use Rattle.otp_rules.specs.declared.ending.SupEnd.{SupEnd}
 use Rattle.otp_rules.specs.Ends.{sup_end_of}
@@ -450,8 +452,11 @@ run-keeps s g (e ∷ es) sound keeps =
     run-keeps (step s e).state (gave (step s e).orders (seen s e g)) es next.0 next.1
 
 pub stop_order_law : StopOrder
-stop_order_law flags specs events e =
+stop_order_law s g step_in events e =
+    let now : IsSound (state_after s events) × Keeps (state_after s events) (progress s g events) = run-keeps s g events step_in.0 step_in.1 in
+    step-in-turn (state_after s events) e (progress s g events) now.0 now.1
+
+pub stop_order_from_empty : StopOrderFromEmpty
+stop_order_from_empty flags specs =
     let base : State = empty_state flags specs in
-    let now : IsSound (state_after base events) × Keeps (state_after base events) (progress base (no_progress base) events) =
-    run-keeps base (no_progress base) events (empty-sound flags specs) (not_busy base (no_progress base) refl) in
-    step-in-turn (state_after base events) e (progress base (no_progress base) events) now.0 now.1
+    stop_order_law base (no_progress base) (empty-sound flags specs, not_busy base (no_progress base) refl)

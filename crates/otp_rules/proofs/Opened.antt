@@ -37,12 +37,13 @@ use Rattle.otp_rules.specs.Stops.{calm_all, stop_each, terminate_ordered, termin
 use Rattle.otp_rules.specs.Deaths.{restart_rows, restart_or_end, restart}
 use Rattle.otp_rules.specs.Calls.{new_row}
 use Rattle.otp_rules.specs.Step.{due_of, rows_from, open_with, open_rows, opening_specs, tick, decide, stamped}
-use Rattle.otp_rules.specs.Order.{Progress, is_opened, ends_together, ended_by, decided, opened_now, went_on, seen, affected, comes_back, id_bytes, process_number, processes, IsIn}
-use Rattle.otp_rules.proofs.Decisions.{StandsAt, Survives, by_test, decide-survives, is_told}
-use Rattle.otp_rules.proofs.Counting.{rows_in, times, times-cons, times-append, rows_in-cons, rows_in-append, rows_in-set, rows_in-at, Alike, end_row-alike, alike, stop_each-alike, take_rows, drop_rows, calm_awaited}
-use Rattle.otp_rules.proofs.Sound.{IsLimited, IsSound, awaits_nothing, sound-survives}
+use Rattle.otp_rules.specs.Progress.{Progress, is_opened, ends_together, ended_by, decided, opened_now, went_on, seen, affected, comes_back, id_bytes, process_number, processes, IsIn}
+use Rattle.otp_rules.specs.Fit.{is_told, rows_in, times, IsLimited, IsSound, HasWaiting, HasStops, HasPart, Keeps, IsListed}
+use Rattle.otp_rules.proofs.Decisions.{StandsAt, Survives, by_test, decide-survives}
+use Rattle.otp_rules.proofs.Counting.{times-cons, times-append, rows_in-cons, rows_in-append, rows_in-set, rows_in-at, Alike, end_row-alike, alike, stop_each-alike, take_rows, drop_rows, calm_awaited}
+use Rattle.otp_rules.proofs.Sound.{awaits_nothing, sound-survives}
 use Rattle.otp_rules.proofs.Fitted.{affected_from_le, affected_to_more, slice_split}
-use Rattle.otp_rules.proofs.Stopping.{HasWaiting, HasStops, HasPart, Keeps, IsListed, Tracks, Carried, apart-alike, carried-survives, fails_opening, no_after, opens_none, restart-busy, terminate-follows, waits-all}
+use Rattle.otp_rules.proofs.Stopping.{Tracks, Carried, apart-alike, carried-survives, fails_opening, no_after, opens_none, restart-busy, terminate-follows, waits-all}
 use Rattle.otp_rules.specs.declared.ending.Ending.TheVariants as ending
 use Rattle.otp_rules.specs.declared.event.Waiting.TheVariants as waiting
 use Rattle.otp_rules.specs.declared.work.After.TheVariants as after

@@ -4,10 +4,12 @@ use Rattle.std.specs.List.{list_any, filter_map, cons_option}
 use Rattle.std.proofs.Common.{◌∙◌, ap, sym, subst, inl, inr, arith, ⊎_elim, cond, get_or}
 use Rattle.std.proofs.lemmas.Bool.{cond_both, false≢true, cases_Bool, and_parts, eq-eqb}
 use Rattle.std.proofs.lemmas.List.Elements.{All-nil, All-push, All-head, All-tail, All-cons, filter_map-append}
-use Rattle.std.proofs.lemmas.List.{append-nil, append_assoc, map-append}
+use Rattle.std.proofs.lemmas.List.{get_or_append_left, length-append, append-nil, append_assoc, map-append}
 use Rattle.otp_reason.specs.declared.name.Name.{Name}
 use Rattle.otp_spec.specs.declared.child.Shutdown.{Shutdown}
 use Rattle.otp_spec.specs.declared.child.Shutdown.TheVariants.{BrutalKill, Milliseconds, Infinity}
+use Rattle.otp_spec.specs.declared.flags.SupFlags.{SupFlags}
+use Rattle.otp_spec.specs.declared.child.ChildSpec.{ChildSpec}
 use Rattle.otp_table.specs.declared.row.Row.{Row}
 use Rattle.otp_table.specs.declared.row.RowState.{RowState}
 use Rattle.otp_table.specs.declared.row.RowState.TheVariants.{Undefined, Starting, Up, Asked, Killed, Restarting}
@@ -21,21 +23,23 @@ use Rattle.otp_rules.specs.Places.{at_number, end_row, end_process, is_removed, 
 use Rattle.otp_rules.specs.Stops.{is_exit, without, told, stop_order, tell_row, tell, use_exit, is_due, start_row, start, refuse_all, end_all, follow, start_first, stop_first, advance}
 use Rattle.otp_rules.specs.Step.{decide, stamped, step, step_on}
 use Rattle.otp_rules.specs.Run.{empty_state, state_after}
+use Rattle.otp_rules.specs.Progress.{Ordered, Progress, no_progress, is_end, ends_together, id_bytes, processes, started, start_list, seen, gave, progress, IsIn}
+use Rattle.otp_rules.specs.Fit.{rows_in, times, IsSound, HasWaiting, HasStops, Keeps, IsListed, IsDistinct, is_free, Fits, IsNamed, IsFitted, is_starting, IsUnderWay, HasStarts, KeepsStarts, next_number, IsFit, IsLawfulFrom, StaysFit}
 use Rattle.otp_rules.proofs.Decisions.{StandsAt, by_test, decide-survives}
 use Prim.Native.Nat.{suc}
-use Rattle.otp_rules.proofs.Counting.{rows_in, times, rows_in-set, rows_in-at, Alike, end_row-alike, use_exit-alike, times-reverse, none_in, there, at_row-found, at_row-first, use_exit-quiet}
-use Rattle.otp_rules.specs.Order.{Ordered, Progress, no_progress, is_end, ends_together, id_bytes, processes, started, start_list, seen, gave, progress, IsIn, StartsInTurn, IsStartInTurn, StartOrder}
-use Rattle.otp_rules.proofs.Sound.{IsSound, IsReady, empty-sound, used-ready}
-use Rattle.otp_rules.proofs.Stopping.{HasWaiting, HasStops, Keeps, IsListed, not_busy}
+use Rattle.otp_rules.proofs.Counting.{rows_in-set, rows_in-at, Alike, end_row-alike, use_exit-alike, times-reverse, none_in, there, at_row-found, at_row-first, use_exit-quiet}
+use Rattle.otp_rules.specs.Order.{StartsInTurn, IsStartInTurn, StartOrder, StartOrderFromEmpty}
+use Rattle.otp_rules.proofs.Sound.{IsReady, empty-sound, used-ready}
+use Rattle.otp_rules.proofs.Stopping.{not_busy}
 use Rattle.otp_rules.proofs.Opened.{decided-keeps}
 use Rattle.std.proofs.lemmas.List.Sums.{sum_by-le-sum_by}
 use Rattle.otp_rules.specs.Needs.{IsNumbered, is_start, numbers_of}
 use Rattle.otp_rules.proofs.NeedsWork.{decide-quiet}
-use Rattle.otp_rules.proofs.Numbers.{use_exit-no_more, IsDistinct, decided-distinct, numbered-distinct, unnumbered-distinct}
+use Rattle.otp_rules.proofs.Numbers.{use_exit-no_more, decided-distinct, numbered-distinct, unnumbered-distinct}
 use Rattle.otp_rules.proofs.InTurn.{IsDone, HasDone, all-done, used-waits, used-done, TakesReplies, follow-orders, follow-closes, stands, step-keeps}
-use Rattle.otp_rules.proofs.Fits.{is_free, Fits, fits-stop, fits-stop-remove, due_there, fits-start}
-use Rattle.otp_rules.proofs.Fitted.{set-named, named-less, end-named, IsNamed, IsFitted, Stands, fitted-survives, empty-fitted}
-use Rattle.otp_rules.proofs.Starting.{idle_keeps, is_starting, IsUnderWay, HasStarts, KeepsStarts, decided-starts}
+use Rattle.otp_rules.proofs.Fits.{fits-stop, fits-stop-remove, due_there, fits-start}
+use Rattle.otp_rules.proofs.Fitted.{set-named, named-less, end-named, Stands, fitted-survives, empty-fitted}
+use Rattle.otp_rules.proofs.Starting.{idle_keeps, decided-starts}
 use Rattle.otp_rules.specs.declared.event.Effect.TheVariants as effect
 use Rattle.otp_rules.specs.declared.event.Waiting.TheVariants as waiting
 use Rattle.otp_rules.specs.declared.work.After.TheVariants as after
@@ -324,25 +328,21 @@ advance-gone g n o h one stops starts none =
     )))
     (λ _. quietly g o starts none h.1)
 
--- all that holds between two events of a lawful history, whose numbers so far are below m
-abbrev Lawfully : ℕ → State → Progress → Type 0
-Lawfully m s g = IsSound s × IsFitted s × IsDistinct m s × Keeps s g × KeepsStarts s g
-
-step-gone : (m : ℕ) (s : State) (e : Event) (g : Progress) → Lawfully m s g → Gone (seen s e g) (step s e)
+step-gone : (m : ℕ) (s : State) (e : Event) (g : Progress) → IsFit m s g → Gone (seen s e g) (step s e)
 unfolding step step_on
 step-gone m s e g l =
     let start : Outcome = record { state = stamped e.reading s; orders = [] } in
     let o : Outcome = decide e.kind start in
-    let stands_now : Stands o = decide-survives e.kind Stands start (fitted-survives e.kind (is_some s.follows)) (l.0, l.1) in
+    let stands_now : Stands o = decide-survives e.kind Stands start (fitted-survives e.kind (is_some s.follows)) (l.0.0, l.1) in
     let quiet : list_any is_start o.orders ≡ false = decide-survives e.kind (λ x. list_any is_start x.orders ≡ false) start (decide-quiet e.kind (is_some s.follows)) refl in
-    advance-gone (seen s e g) (unwrap_or e.number 0) o stands_now (decided-distinct m s e l.2).0 (decided-keeps s e g l.0 l.3).1 (decided-starts s e g l.0 l.4) (from_any o.orders quiet)
+    advance-gone (seen s e g) (unwrap_or e.number 0) o stands_now (decided-distinct m s e l.2).0 (decided-keeps s e g l.0.0 l.0.1).1 (decided-starts s e g l.0.0 l.3) (from_any o.orders quiet)
 
 -- the numbers that follow are no less
-step-lawful : (m k : ℕ) (s : State) (e : Event) (g : Progress) → Lawfully m s g → IsDistinct k (step s e).state → Lawfully k (step s e).state (gave (step s e).orders (seen s e g))
+step-lawful : (m k : ℕ) (s : State) (e : Event) (g : Progress) → IsFit m s g → IsDistinct k (step s e).state → IsFit k (step s e).state (gave (step s e).orders (seen s e g))
 step-lawful m k s e g l distinct =
     let gone : Gone (seen s e g) (step s e) = step-gone m s e g l in
-    let kept : IsSound (step s e).state × Keeps (step s e).state (gave (step s e).orders (seen s e g)) = step-keeps s e g l.0 l.3 in
-    (kept.0, gone.2, distinct, kept.1, gone.0)
+    let kept : IsSound (step s e).state × Keeps (step s e).state (gave (step s e).orders (seen s e g)) = step-keeps s e g l.0.0 l.0.1 in
+    (kept, gone.2, distinct, gone.0)
 
 pub pairs_rest : (x : ℕ) (xs : List ℕ) → AllPairs (λ i j. i < j) (x ∷ xs) → AllPairs (λ i j. i < j) xs
 pairs_rest x xs h i j d less within = h (suc i) (suc j) d (omega (arith, less)) (omega (arith, within))
@@ -350,22 +350,59 @@ pairs_rest x xs h i j d less within = h (suc i) (suc j) d (omega (arith, less)) 
 pub pairs_first : (x : ℕ) (xs : List ℕ) → AllPairs (λ i j. i < j) (x ∷ xs) → All (λ y. x + 1 ≤ y) xs
 pairs_first x xs h i d within = let k : x < get_or xs i d = h 0 (suc i) d (omega arith) (omega (arith, within)) in omega (arith, k)
 
--- the numbers of a history whose first event has this one
-run-lawful : (m : ℕ) (s : State) (g : Progress) (events : List Event) (e : Event) → Lawfully m s g → IsNumbered s (events ++ e ∷ []) → AllPairs (λ i j. i < j) (numbers_of (events ++ e ∷ [])) → All (λ y. m ≤ y) (numbers_of (events ++ e ∷ []))
-    → All (IsStartInTurn (seen (state_after s events) e (progress s g events))) (step (state_after s events) e).orders
-run-lawful m s g [] e l numbered rises fresh = (step-gone m s e g l).1
-run-lawful m s g (x ∷ events) e l numbered rises fresh =
-    let rest : List ℕ = numbers_of (events ++ e ∷ []) in
-    let goes_on : (k : ℕ) → IsDistinct k (step s x).state → AllPairs (λ i j. i < j) rest → All (λ y. k ≤ y) rest → All (IsStartInTurn (seen (state_after s (x ∷ events)) e (progress s g (x ∷ events)))) (step (state_after s (x ∷ events)) e).orders =
-    λ k distinct up above. run-lawful k (step s x).state (gave (step s x).orders (seen s x g)) events e (step-lawful m k s x g l distinct) numbered.1 up above in
-    (elim x.number as (λ (n : Option ℕ). x.number ≡ n → AllPairs (λ i j. i < j) (cons_option n rest) → All (λ y. m ≤ y) (cons_option n rest) → All (IsStartInTurn (seen (state_after s (x ∷ events)) e (progress s g (x ∷ events)))) (step (state_after s (x ∷ events)) e).orders) [
+-- a lawful history keeps a state fit
+run-fit : (m : ℕ) (s : State) (g : Progress) (events : List Event) → IsFit m s g → IsNumbered s events → AllPairs (λ i j. i < j) (numbers_of events) → All (λ y. m ≤ y) (numbers_of events)
+    → IsFit (next_number m (numbers_of events)) (state_after s events) (progress s g events)
+run-fit m s g [] l numbered rises fresh = l
+run-fit m s g (x ∷ events) l numbered rises fresh =
+    let rest : List ℕ = numbers_of events in
+    let s1 : State = (step s x).state in
+    let g1 : Progress = gave (step s x).orders (seen s x g) in
+    let goes_on : (k : ℕ) → IsDistinct k (step s x).state → AllPairs (λ i j. i < j) rest → All (λ y. k ≤ y) rest → IsFit (next_number k rest) (state_after s (x ∷ events)) (progress s g (x ∷ events)) =
+    λ k distinct up above. run-fit k s1 g1 events (step-lawful m k s x g l distinct) numbered.1 up above in
+    (elim x.number as (λ (n : Option ℕ). x.number ≡ n → AllPairs (λ i j. i < j) (cons_option n rest) → All (λ y. m ≤ y) (cons_option n rest) → IsFit (next_number m (cons_option n rest)) (state_after s (x ∷ events)) (progress s g (x ∷ events))) [
       | None ↦ λ is up above. goes_on m (unnumbered-distinct m s x is (sym numbered.0 ∙ ap (λ (n : Option ℕ). is_some n) is) l.2) up above
       | Some n ↦ λ is up above. goes_on (n + 1) (numbered-distinct m n s x is (All-head (λ y. m ≤ y) n rest above) l.2) (pairs_rest n rest up) (pairs_first n rest up)
     ]) refl rises fresh
 
-pub start_order_law : StartOrder
-start_order_law flags specs events e lawful =
+-- the beginning of a lawful history is lawful
+numbered_front : (s : State) (events more : List Event) → IsNumbered s (events ++ more) → IsNumbered s events
+numbered_front s [] more h = tt
+numbered_front s (x ∷ events) more h = (h.0, numbered_front (step s x).state events more h.1)
+
+lawful_front : (m : ℕ) (s : State) (events more : List Event) → IsLawfulFrom m s (events ++ more) → IsLawfulFrom m s events
+lawful_front m s events more h =
+    let ns : List ℕ = numbers_of events in
+    let split : numbers_of (events ++ more) ≡ numbers_of events ++ numbers_of more = filter_map-append (λ (x : Event). x.number) events more in
+    let rises : AllPairs (λ i j. i < j) (ns ++ numbers_of more) = subst (λ (xs : List ℕ). AllPairs (λ i j. i < j) xs) split h.0.1 in
+    let fresh : All (λ n. m ≤ n) (ns ++ numbers_of more) = subst (λ (xs : List ℕ). All (λ n. m ≤ n) xs) split h.1 in (
+      (
+        numbered_front s events more h.0.0,
+        λ i j d less within.
+            let first : get_or (ns ++ numbers_of more) i d ≡ get_or ns i d = get_or_append_left ns (numbers_of more) d i (omega (arith, less, within)) in
+            let last : get_or (ns ++ numbers_of more) j d ≡ get_or ns j d = get_or_append_left ns (numbers_of more) d j within in
+            omega (arith, first, last, rises i j d less (omega (arith, within, length-append ns (numbers_of more)))),
+      ),
+      λ i d within.
+          let same : get_or (ns ++ numbers_of more) i d ≡ get_or ns i d = get_or_append_left ns (numbers_of more) d i within in
+          omega (arith, same, fresh i d (omega (arith, within, length-append ns (numbers_of more)))),
+    )
+
+stays_fit : (m : ℕ) (s : State) (g : Progress) (events : List Event) → IsFit m s g → IsLawfulFrom m s events → IsFit (next_number m (numbers_of events)) (state_after s events) (progress s g events)
+stays_fit m s g events l lawful = run-fit m s g events l lawful.0.0 lawful.0.1 lawful.1
+
+empty_fit : (flags : SupFlags) (specs : List ChildSpec) → IsFit 0 (empty_state flags specs) (no_progress (empty_state flags specs))
+empty_fit flags specs =
     let base : State = empty_state flags specs in
-    run-lawful 0 base (no_progress base) events e
-    (empty-sound flags specs, empty-fitted flags specs, (λ q. omega arith, λ q h. refl), not_busy base (no_progress base) refl, idle_keeps base (no_progress base) refl)
-    lawful.0 lawful.1 (λ i d within. omega arith)
+    ((empty-sound flags specs, not_busy base (no_progress base) refl), empty-fitted flags specs, (λ q. omega arith, λ q h. refl), idle_keeps base (no_progress base) refl)
+
+pub stays_fit_law : StaysFit
+stays_fit_law = (empty_fit, stays_fit)
+
+pub start_order_law : StartOrder
+start_order_law m s g l events e lawful =
+    (step-gone (next_number m (numbers_of events)) (state_after s events) e (progress s g events) (stays_fit m s g events l (lawful_front m s events (e ∷ []) lawful))).1
+
+pub start_order_from_empty : StartOrderFromEmpty
+start_order_from_empty flags specs events e lawful =
+    start_order_law 0 (empty_state flags specs) (no_progress (empty_state flags specs)) (empty_fit flags specs) events e (lawful, λ i d within. omega arith)

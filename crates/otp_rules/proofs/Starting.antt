@@ -19,37 +19,17 @@ use Rattle.otp_rules.specs.Stops.{terminate}
 use Rattle.otp_rules.specs.Deaths.{restart}
 use Rattle.otp_rules.specs.Calls.{new_row}
 use Rattle.otp_rules.specs.Step.{open_with, open_rows, tick, decide, stamped}
-use Rattle.otp_rules.proofs.Decisions.{IsNoted, Survives, decide-survives, is_told}
-use Rattle.otp_rules.proofs.Counting.{rows_in, rows_in-set, rows_in-end, Alike, alike, end_row-alike, tick_count}
-use Rattle.otp_rules.specs.Order.{Ordered, Progress, is_opened, is_answer_note, is_answer, heard, decided, id_bytes, opened_now, went_on, seen}
-use Rattle.otp_rules.proofs.Sound.{IsSound, sound-survives}
+use Rattle.otp_rules.specs.Progress.{Ordered, Progress, is_opened, is_answer_note, is_answer, heard, decided, id_bytes, opened_now, went_on, seen}
+use Rattle.otp_rules.specs.Fit.{is_told, rows_in, IsSound, is_starting, IsUnderWay, HasStarts, KeepsStarts}
+use Rattle.otp_rules.proofs.Decisions.{IsNoted, Survives, decide-survives}
+use Rattle.otp_rules.proofs.Counting.{rows_in-set, rows_in-end, Alike, alike, end_row-alike, tick_count}
+use Rattle.otp_rules.proofs.Sound.{sound-survives}
 use Rattle.otp_rules.proofs.Stopping.{Tracks, fails_opening, no_after, opens_none, restart-busy, terminate-follows}
 use Rattle.otp_reason.specs.declared.note.Note.TheVariants as note
 use Rattle.otp_rules.specs.declared.ending.Ending.TheVariants as ending
 use Rattle.otp_rules.specs.declared.event.Item.TheVariants as item
 use Rattle.otp_rules.specs.declared.event.Waiting.TheVariants as waiting
 use Rattle.otp_rules.specs.declared.work.After.TheVariants as after
-
--- the answer to the start of this process is awaited
-abbrev pub is_starting : ℕ → RowState → Bool
-is_starting m Undefined = false
-is_starting m (Starting q _) = q == m
-is_starting m (Up _) = false
-is_starting m (Asked _ _) = false
-is_starting m (Killed _) = false
-is_starting m (Restarting _) = false
-
--- the start was answered, or its answer is awaited
-abbrev pub IsUnderWay : List Row → Ordered → Type 0
-IsUnderWay rows x = (x.answered ≡ true) ⊎ (0 < rows_in (is_starting x.number) rows)
-
--- what was to be started is what still is, and before it those whose start was ordered
-abbrev pub HasStarts : State → Progress → Type 0
-HasStarts s g =
-    (first : List Due) × (g.opened.to_start ≡ first ++ s.to_start) × (map (λ x. id_bytes x.id) g.ordered ≡ map (λ (x : Due). id_bytes x.id) first) × All (IsUnderWay s.rows) g.ordered
-
-abbrev pub KeepsStarts : State → Progress → Type 0
-KeepsStarts s g = is_some s.follows ≡ true → HasStarts s g
 
 abbrev CarriedStarts : Option After → Progress → Outcome → Type 0
 CarriedStarts f g o = IsSound o.state × Tracks f o.state × (is_opened f o.state.follows ≡ false → KeepsStarts o.state g)

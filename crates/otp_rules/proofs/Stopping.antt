@@ -1,5 +1,5 @@
 -- The open work and its progress are in step: what has been stopped.
-use Rattle.std.specs.Prelude.{◌≡◌, ◌⊎◌, ℕ, ◌==◌, ◌+◌, ◌<◌, ◌++◌, ◌&&◌, Bool, true, false, List, [], ◌∷◌, Option, None, Some, refl, is_some, slice_set, nat_lt, remove, count_by, map, reverse}
+use Rattle.std.specs.Prelude.{◌≡◌, ◌⊎◌, ℕ, ◌==◌, ◌+◌, ◌<◌, ◌++◌, ◌&&◌, Bool, true, false, List, [], ◌∷◌, Option, None, Some, refl, is_some, slice_set, nat_lt, remove, count_by}
 use Rattle.std.specs.List.{filter_map, cons_option}
 use Rattle.std.proofs.Common.{◌∙◌, ap, sym, subst, inl, inr, arith, ⊎_elim, cond}
 use Rattle.std.proofs.lemmas.Bool.{cond_both, false≢true, cases_Bool, eq-eqb, eqb-true}
@@ -23,41 +23,16 @@ use Rattle.otp_rules.specs.Stops.{calm_all, is_exit, terminate_ordered, terminat
 use Rattle.otp_rules.specs.Deaths.{restart_rows, restart_or_end, restart}
 use Rattle.otp_rules.specs.Calls.{new_row}
 use Rattle.otp_rules.specs.Step.{open_with, open_rows, tick}
-use Rattle.otp_rules.proofs.Decisions.{IsNoted, StandsAt, Survives, by_test, is_told}
-use Rattle.otp_rules.proofs.Counting.{rows_in, times, times-cons, times-append, rows_in-set, rows_in-end, Alike, alike, end_row-alike, stop_each-alike, tick_count, end_row-quiet, put_count}
-use Rattle.otp_rules.specs.Order.{Progress, is_end, is_opened, ends_together, exit_of_waiting, ended_by, went_on, id_bytes, processes, start_list, IsAbout, IsIn}
-use Rattle.otp_rules.proofs.Sound.{IsSound, sound-survives}
+use Rattle.otp_rules.specs.Progress.{Progress, is_end, is_opened, ends_together, exit_of_waiting, ended_by, went_on, IsIn}
+use Rattle.otp_rules.specs.Fit.{is_told, rows_in, times, IsSound, HasWaiting, HasPart, HasStops, Keeps}
+use Rattle.otp_rules.proofs.Decisions.{IsNoted, StandsAt, Survives, by_test}
+use Rattle.otp_rules.proofs.Counting.{times-cons, times-append, rows_in-set, rows_in-end, Alike, alike, end_row-alike, stop_each-alike, tick_count, end_row-quiet, put_count}
+use Rattle.otp_rules.proofs.Sound.{sound-survives}
 use Rattle.otp_reason.specs.declared.note.Note.TheVariants as note
 use Rattle.otp_rules.specs.declared.ending.Ending.TheVariants as ending
 use Rattle.otp_rules.specs.declared.event.Item.TheVariants as item
 use Rattle.otp_rules.specs.declared.event.Waiting.TheVariants as waiting
 use Rattle.otp_rules.specs.declared.work.After.TheVariants as after
-
--- each process whose Exit waits has ended
-abbrev pub HasWaiting : State → Progress → Type 0
-HasWaiting s g = (q : ℕ) → 0 < count_by (is_exit q) s.waiting → IsIn q g.ended
-
--- the lists of work that has just been opened are those of the children that it is about: their processes, of which
--- none stands later among the rows, in reverse start order; and those that are to be started
-abbrev pub IsListed : State → Type 0
-IsListed s =
-    (part : List Row) × IsAbout s.follows s.flags.strategy s.rows part
-    × (earlier : List ℕ) × (later : List ℕ)
-    × (processes s.rows ≡ earlier ++ processes part ++ later)
-    × ((q : ℕ) → IsIn q later → IsIn q (processes part) → ⊥)
-    × (s.to_stop ≡ reverse (processes part))
-    × (map (λ x. id_bytes x.id) s.to_start ≡ map (λ (x : Row). id_bytes x.id) (start_list s.follows part))
-
--- what was to be stopped is what still is, and before it those that have ended or were told to stop
-abbrev pub HasPart : State → Progress → Type 0
-HasPart s g = IsListed g.opened × (done : List ℕ) × (g.opened.to_stop ≡ done ++ s.to_stop) × ((q : ℕ) → IsIn q done → IsIn q g.ended ⊎ (0 < rows_in (is_told q) s.rows))
-
-abbrev pub HasStops : State → Progress → Type 0
-HasStops s g = ends_together s ≡ false → HasPart s g
-
--- while work is open, its progress is in step with the state
-abbrev pub Keeps : State → Progress → Type 0
-Keeps s g = is_some s.follows ≡ true → HasWaiting s g × HasStops s g
 
 -- the work that was open is open, or has closed, or work was opened
 abbrev pub Tracks : Option After → State → Type 0

@@ -38,7 +38,8 @@ use Rattle.otp_window.specs.Period.{in_period}
 use Rattle.otp_rules.specs.declared.ending.Ending.TheVariants as ending
 use Rattle.otp_rules.specs.declared.work.Phase.TheVariants.{Ended}
 use Rattle.otp_rules.specs.Needs.{IsLawfulHistory, needs_number}
-use Rattle.otp_rules.specs.Order.{no_progress, processes, progress_at}
+use Rattle.otp_rules.specs.Order.{progress_at}
+use Rattle.otp_rules.specs.Progress.{no_progress, processes}
 
 abbrev named : List ℕ → Restart → Bool → Shutdown → ChildSpec
 named bytes restart significant shutdown = record { id = name_of bytes; start = name_of bytes; restart = restart; significant = significant; shutdown = shutdown; kind = Worker; modules = One (name_of bytes) }

@@ -2,11 +2,12 @@
 
 ghost use Rattle.otp_rules.specs.Effects.{OrdersFew};
 ghost use Rattle.otp_rules.specs.Evidence.{EndEvidence};
+ghost use Rattle.otp_rules.specs.Fit.{StaysFit};
 ghost use Rattle.otp_rules.specs.Frames.{OrdersAppended, StepKeepsPlan, StepKeepsStamped, StepStamps};
 ghost use Rattle.otp_rules.specs.Homes.{HomesKept, HomesKeptFrom};
 ghost use Rattle.otp_rules.specs.Named.{OrdersNumbered, OrdersNumberedFrom};
 ghost use Rattle.otp_rules.specs.Needs.{NumberStartsWork};
-ghost use Rattle.otp_rules.specs.Order.{StartOrder, StopOrder};
+ghost use Rattle.otp_rules.specs.Order.{StartOrder, StartOrderFromEmpty, StopOrder, StopOrderFromEmpty};
 ghost use Rattle.otp_rules.specs.Processes.{ProcessesOwned, ProcessesStayOwned};
 ghost use Rattle.otp_rules.specs.Rate.{RestartRate};
 ghost use Rattle.otp_rules.specs.Run.{RunGoesOn, RunsJoined};
@@ -44,22 +45,31 @@ pub fn restart_rate()
     ensures { RestartRate }
 {}
 
-/// In a lawful history a child is started only in its turn. The children to start are those that the work is about, as
+/// A supervisor that was never opened is fit to be a base, and each lawful history leads from a fit state to a fit one:
+/// among other things each process is the child's in one row at most, no number is given twice, and what is still to stop
+/// and to start is there.
+pub fn stays_fit()
+    ensures { StaysFit }
+{}
+
+/// In a lawful history a child is started only in its turn, from each state that is fit. The children to start are those that the work is about, as
 /// they stood when it was opened, in start order: all at the opening, one for a call, and for a restart those that it
 /// affects and that aren't temporary. Each of them that comes before the child was started since, in that order, and has
 /// answered after that start with Up or Ignored; and each process of a child that the work is about has ended
 /// (Supervisor Behaviour, Starting a Supervisor and Restart Strategy).
 pub fn start_order()
-    ensures { StartOrder }
+    ensures from_any { StartOrder }
+    ensures from_empty { StartOrderFromEmpty }
 {}
 
-/// A child is told to stop only in its turn: no answer of a child is awaited, the work is about it, and of the children
+/// A child is told to stop only in its turn, from each state whose open work is in step with what was seen of it: no answer of a child is awaited, the work is about it, and of the children
 /// that the work is about each that had a process and stands after it in start order has ended (Supervisor Behaviour,
 /// Stopping and Restart Strategy). Two things are no such order: a kill of a child that was asked and whose deadline has
 /// come, which only an event that ticks gives; and the end of a simple_one_for_one supervisor, whose children are told
 /// together by the event that ends it.
 pub fn stop_order()
-    ensures { StopOrder }
+    ensures from_any { StopOrder }
+    ensures from_empty { StopOrderFromEmpty }
 {}
 
 /// Each end that is ordered shows why: by the intensity, the flags and one restart more than the intensity, none before
