@@ -1,5 +1,6 @@
-ghost use Rattle.std.specs.Prelude.{◌≡◌, ◌+◌, ◌<◌, ◌≤◌, ◌==◌, ◌++◌, ◌∷◌, [], length, max, nat_le, position, remove, slice_get, slice_range, slice_set, take, drop, OnOk, OnErr, Some, if◌then◌else◌};
-ghost use Rattle.otp_table.specs.Rows.{awaits_retry, calm_rows, free_slot, has_id, has_number, has_process, row_has, with_state};
+ghost use Rattle.std.specs.Prelude.{◌≡◌, ◌+◌, ◌<◌, ◌≤◌, ◌==◌, ◌++◌, ◌∷◌, [], length, max, nat_le, position, remove, vec_len, vec_capacity, slice_get, slice_range, slice_set, take, drop, OnOk, OnErr, Some, if◌then◌else◌};
+ghost use Rattle.otp_table.specs.Rows.{awaits_retry, calm_rows, free_slot, has_id, has_number, has_process, is_awaited, row_has, with_state};
+ghost use Rattle.std.specs.List.{list_any};
 ghost use Rattle.otp_table.specs.declared.row.Row.{Row};
 
 use crate::row::{Row, RowState};
@@ -18,6 +19,8 @@ pub struct Rows {
     items: Vec<Row>,
     /// How many more rows the memory of `items` is known to hold.
     room: usize,
+    /// How many rows are awaited.
+    awaited: usize,
 }
 
 impl Model for Rows {
@@ -41,6 +44,7 @@ impl Rows {
         Rows {
             items: Vec::new(alloc),
             room: 0,
+            awaited: 0,
         }
     }
 
@@ -79,6 +83,13 @@ impl Rows {
         ensures { result ≡ self.now.room }
     {
         self.room
+    }
+
+    /// Whether an answer of a child is awaited. Looks at no row.
+    pub fn has_awaited(&self) -> bool
+        ensures { result ≡ list_any (row_has is_awaited) self.now.rows }
+    {
+        self.awaited > 0
     }
 
     /// The row at this place.
@@ -157,9 +168,8 @@ impl Rows {
         if self.is_full() {
             return Err(SpecFault::TooManyChildren);
         }
-        if self.items.push(row).is_err() {
-            unreachable!();
-        }
+        self.awaited += row.state.is_awaited() as usize;
+        self.items.push_reserved(row);
         self.room -= 1;
         Ok(())
     }
@@ -172,6 +182,8 @@ impl Rows {
         ensures len { length self.new.rows ≡ length self.old.rows }
         ensures room { self.new.room ≡ self.old.room }
     {
+        self.awaited -= self.items[place].state.is_awaited() as usize;
+        self.awaited += state.is_awaited() as usize;
         self.items[place].state = state;
     }
 
@@ -183,7 +195,7 @@ impl Rows {
         ensures len { length self.new.rows ≡ length self.old.rows }
         ensures room { self.new.room ≡ self.old.room }
     {
-        search::calm(&mut self.items[from..to]);
+        calm_items(&mut self.items, from, to);
     }
 
     /// Takes the row out; those after it move up.
@@ -194,6 +206,7 @@ impl Rows {
         ensures len { length self.new.rows + 1 ≡ length self.old.rows }
         ensures room { self.new.room ≡ self.old.room }
     {
+        self.awaited -= self.items[place].state.is_awaited() as usize;
         self.items.remove(place)
     }
 
@@ -203,5 +216,17 @@ impl Rows {
         ensures room { self.new.room ≡ self.old.room }
     {
         self.items.clear();
+        self.awaited = 0;
     }
+}
+
+/// Gives up the waiting retries of the items from one place to before another.
+fn calm_items(items: &mut Vec<Row>, from: usize, to: usize)
+    requires from { from ≤ to }
+    requires to { to ≤ length items.old.items }
+    ensures items { items.new.items ≡ take from items.old.items ++ calm_rows (slice_range items.old.items from to) ++ drop to items.old.items }
+    ensures len { vec_len items.new ≡ vec_len items.old }
+    ensures capacity { vec_capacity items.new ≡ vec_capacity items.old }
+{
+    search::calm(&mut items[from..to]);
 }

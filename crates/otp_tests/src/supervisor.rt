@@ -1,11 +1,7 @@
 //! Worked histories of a supervisor, from outside.
 
-ghost use Rattle.std.specs.Prelude.{All, IsTrue, Some, is_some, ℕ, ◌<◌, ◌≡◌};
-ghost use Rattle.otp_core.specs.View.{state_of};
-ghost use Rattle.otp_rules.specs.Needs.{needs_number, numbers_of};
-
 use crate::fixtures::named;
-use otp_core::{Core, OpenFault};
+use otp_core::{Core, Counter, OpenFault};
 use otp_reason::{Name, Note, Reason, Text};
 use otp_rules::{
     Call, CallFault, Cause, ChildProcess, CountsNow, Effect, Ending, Event, Item, Kind, Reply,
@@ -83,26 +79,11 @@ fn exit(number: u64, reason: Reason) -> Line {
     Line::Told(Note::Exit(number, reason))
 }
 
-// Whether each number of the events is below this one.
-fn are_below(history: &[Event], next: u64) -> bool
-    ensures { IsTrue result → All (λ m. m < next) (numbers_of history.now) }
-{
-    for event in history {
-        if let Some(number) = event.number {
-            if number >= next {
-                return false;
-            }
-        }
-    }
-    true
-}
-
-// A core, the clock, and how many children were started and calls made.
+// A core, the clock, and how many calls were made.
 #[derive(Drop)]
 struct Driver {
     core: Core,
     reading: u64,
-    starts: u64,
     calls: u64,
 }
 
@@ -121,7 +102,6 @@ impl Driver {
         let mut driver = Driver {
             core,
             reading: 0,
-            starts: 0,
             calls: 0,
         };
         driver.event(rt, Kind::Opened(0))?;
@@ -145,33 +125,19 @@ impl Driver {
         Ok(())
     }
 
-    // The number of an event: the children get 1, 2, 3 in their order.
-    fn number_for(&self, rt: &impl Abort, kind: &Kind) -> Option<u64>
-        ensures needed { is_some result ≡ needs_number (state_of self.now.core) self.now.reading kind.now }
-        ensures rises { (n : ℕ) → result ≡ Some n → All (λ m. m < n) (numbers_of self.now.core.history) }
-    {
-        if !self.core.needs_number(self.reading, kind) {
-            return None;
-        }
-        let next = self.starts.saturating_add(1);
-        assert!(rt; are_below(self.core.history(), next));
-        Some(next)
-    }
-
+    // The children get the numbers 1, 2, 3 in their order.
     fn event(&mut self, rt: &impl Abort, kind: Kind) -> Result<(), Fail> {
         self.prepare(rt)?;
         assert!(rt; self.core.is_prepared());
         assert!(rt; !self.core.is_full());
         assert!(rt; self.reading <= 1 << 62);
-        let number = self.number_for(rt, &kind);
-        if number.is_some() {
-            self.starts = self.starts.saturating_add(1);
-        }
-        self.core.step(Event {
-            reading: self.reading,
-            number,
-            kind,
-        });
+        let mut numbers = Counter {
+            last: self.core.last_number(),
+        };
+        assert!(rt; numbers.last < u64::MAX);
+        let is_needed = self.core.needs_number(self.reading, &kind);
+        let number = self.core.step_with(self.reading, kind, &mut numbers);
+        assert_eq!(rt; number.is_some(), is_needed);
         Ok(())
     }
 
@@ -550,6 +516,27 @@ fn refused_openings(rt: HostRuntime) -> Result<(), Fail> {
             return Err(Fail::from("a fault"));
         };
         assert_eq!(rt; why, fault);
+    }
+    Ok(())
+}
+
+#[test]
+fn numbers_that_are_drawn_beforehand(rt: HostRuntime) -> Result<(), Fail> {
+    let mut core = Core::open(rt.alloc(), SupFlags::default(), &[child(b"a")?])?;
+    let events = [(Kind::Opened(5), Some(7u64)), (Kind::Stopped, None)];
+    for (kind, number) in events {
+        core.prepare()?;
+        assert!(rt; core.is_prepared());
+        assert!(rt; !core.is_full());
+        let is_needed = core.needs_number(0, &kind);
+        assert_eq!(rt; is_needed, number.is_some());
+        assert!(rt; number.is_none_or(|n| core.last_number() < n));
+        core.step(Event {
+            reading: 0,
+            number,
+            kind,
+        });
+        assert_eq!(rt; core.last_number(), 7);
     }
     Ok(())
 }

@@ -1,7 +1,7 @@
 use Rattle.std.proofs.Common.{◌∙◌}
 use Rattle.otp_core.specs.Begun.{left}
 use Rattle.otp_core.proofs.Needed.{restart_seen}
-use Rattle.otp_core.proofs.ends.restart_goes_on.Goals as goal
+use Rattle.otp_core.proofs.waited.restart_goes_on.Goals as goal
 
 pub returns : goal.returns
 returns c = λ kept row at.

@@ -1,6 +1,6 @@
 use Rattle.otp_core.specs.Begun.{left}
 use Rattle.otp_core.proofs.Going.{ends_else, ends_then}
-use Rattle.otp_core.proofs.ends.children_have_ended.Goals as goal
+use Rattle.otp_core.proofs.waited.children_have_ended.Goals as goal
 
 pub returns-then-each_has_ended : goal.returns-then-each_has_ended
 returns-then-each_has_ended c =

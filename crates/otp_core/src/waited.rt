@@ -15,13 +15,19 @@ ghost use Rattle.otp_rules.specs.Places.{is_temporary};
 ghost use Rattle.otp_rules.specs.Restarts.{running};
 ghost use Rattle.otp_rules.specs.Stops.{is_exit};
 ghost use Rattle.otp_core.specs.Begun.{left};
-ghost use Rattle.otp_core.specs.Ups.{passes, runs_as};
+ghost use Rattle.otp_core.specs.Ups.{ends_counted, passes, runs_as};
 
-use crate::lists::has_awaited;
 use crate::rows::{is_exit, is_temporary};
 use otp_rules::Waiting;
 use otp_table::{Row, RowState};
 use std::collections::VecDeque;
+
+/// Whether an answer of one of the children is awaited.
+fn has_awaited(rows: &[Row]) -> bool
+    ensures { result ≡ list_any (row_has is_awaited) rows.now }
+{
+    rows.iter().any(|row| row.state.is_awaited())
+}
 
 /// Whether an answer of another child than the one at the place is awaited.
 pub fn has_other_awaited(rows: &[Row], place: usize) -> bool
@@ -69,7 +75,7 @@ fn count_number(numbers: &[u64], number: u64) -> usize
 }
 
 fn have_ended_in_order(numbers: &[u64], waiting: &VecDeque<Waiting>, resumed: bool) -> bool
-    ensures { result ≡ ends_wait numbers.now (left resumed waiting.now.items) }
+    ensures { result ≡ ends_counted numbers.now (left resumed waiting.now.items) }
 {
     numbers.iter().all(|p| count_number(numbers, *p) <= count_left(waiting, resumed, *p))
 }
