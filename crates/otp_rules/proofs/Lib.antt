@@ -24,3 +24,4 @@ pub mod Opened
 pub mod Runs
 pub mod Few
 pub mod Waits
+pub mod NamedRows

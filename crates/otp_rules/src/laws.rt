@@ -5,7 +5,7 @@ ghost use Rattle.otp_rules.specs.Evidence.{EndEvidence};
 ghost use Rattle.otp_rules.specs.Fit.{StaysFit};
 ghost use Rattle.otp_rules.specs.Frames.{OrdersAppended, StepKeepsPlan, StepKeepsStamped, StepStamps};
 ghost use Rattle.otp_rules.specs.Homes.{HomesKept, HomesKeptFrom};
-ghost use Rattle.otp_rules.specs.Named.{OrdersNumbered, OrdersNumberedFrom};
+ghost use Rattle.otp_rules.specs.Named.{OrdersNameRows, OrdersNameRowsFrom, OrdersNumbered, OrdersNumberedFrom};
 ghost use Rattle.otp_rules.specs.Needs.{NumberStartsWork};
 ghost use Rattle.otp_rules.specs.Order.{StartOrder, StartOrderFromEmpty, StopOrder, StopOrderFromEmpty};
 ghost use Rattle.otp_rules.specs.Processes.{ProcessesOwned, ProcessesStayOwned};
@@ -100,6 +100,12 @@ pub fn slots_tell_processes()
 pub fn orders_are_numbered()
     ensures from_empty { OrdersNumbered }
     ensures from_any { OrdersNumberedFrom }
+{}
+
+/// After an event each of its orders names a process that a row has.
+pub fn orders_name_rows()
+    ensures from_empty { OrdersNameRows }
+    ensures from_any { OrdersNameRowsFrom }
 {}
 
 /// A child whose process has ended is at home only because the note of that end was taken: each child that is at home
