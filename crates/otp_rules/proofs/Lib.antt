@@ -24,3 +24,5 @@ pub mod Processes
 pub mod Opened
 pub mod Runs
 pub mod Few
+pub mod Waits
+pub mod NamedRows

@@ -23,3 +23,4 @@ pub mod Homes
 pub mod Slots
 pub mod Named
 pub mod Processes
+pub mod Waits
