@@ -15,7 +15,6 @@ use otp_core::{Core, Counter, MAX_EVENTS};
 use otp_reason::{Note, Reason};
 use otp_rules::{Call, Item, Kind};
 use otp_spec::{ChildSpec, SupFlags};
-use otp_table::{Row, RowState};
 use otp_text::Printer;
 use std::alloc::{AllocError, Global};
 use std::marker::Model;
@@ -158,23 +157,14 @@ impl Trial {
         Ok(())
     }
 
-    /// What happens next by itself, if something does: what a process tells, a stop that is wanted, what waits.
+    /// What happens next by itself, if something does: what a process tells, a deadline, a stop that is wanted, what waits.
     fn next_kind(&mut self) -> Option<Kind>
         ensures { self.new ≡ self.old }
     {
-        if let Some(note) = self.world.next_note() {
-            return Some(Kind::Took(Item::Note(note)));
+        match self.world.next_note() {
+            Some(note) => Some(Kind::Took(Item::Note(note))),
+            None => self.core.next_kind(self.now, self.is_stopping),
         }
-        if self.core.has_open_work() {
-            return None;
-        }
-        if self.is_stopping && !self.core.has_ended() {
-            return Some(Kind::Stopped);
-        }
-        if self.core.has_waiting() {
-            return Some(Kind::Resumed);
-        }
-        None
     }
 
     /// All of that happens until none is left to happen.
@@ -203,7 +193,7 @@ impl Trial {
     fn next_deadline(&self, time: u64) -> Option<u64>
         ensures { IfSome result (λ deadline. deadline ≤ time) }
     {
-        let deadline = least_deadline(self.core.rows())?;
+        let deadline = self.core.next_deadline()?;
         if deadline <= time {
             Some(deadline)
         } else {
@@ -223,7 +213,7 @@ impl Trial {
                 return Ok(());
             };
             self.now = self.now.max(deadline);
-            self.play(Kind::Ticked, out)?;
+            self.settle(out)?;
         }
         Err(Halt::HistoryFull)
     }
@@ -295,30 +285,4 @@ impl Trial {
         self.play(Kind::Took(Item::Call(self.calls, call)), out)?;
         Ok(Taken::Done)
     }
-}
-
-/// The deadline of a child in this state, in milliseconds.
-fn deadline_of(state: RowState) -> Option<u64> {
-    match state {
-        RowState::Asked(_, deadline) => deadline,
-        _ => None,
-    }
-}
-
-/// The earlier of two times, where there are two.
-fn earlier(one: Option<u64>, other: Option<u64>) -> Option<u64> {
-    match (one, other) {
-        (Some(one), Some(other)) => Some(one.min(other)),
-        (Some(time), None) | (None, Some(time)) => Some(time),
-        (None, None) => None,
-    }
-}
-
-/// The first deadline of all children.
-fn least_deadline(rows: &[Row]) -> Option<u64> {
-    let mut least = None;
-    for row in rows {
-        least = earlier(least, deadline_of(row.state));
-    }
-    least
 }
