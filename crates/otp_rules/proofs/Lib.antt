@@ -1,6 +1,7 @@
 mod Worked
 pub mod Keeps
 pub mod Decisions
+pub mod Deadlines
 pub mod Period
 pub mod Rated
 pub mod Appended
@@ -16,3 +17,12 @@ pub mod Starting
 pub mod StartTurn
 mod WorkedLaws
 mod Shown
+pub mod Homes
+pub mod Slots
+pub mod Named
+pub mod Processes
+pub mod Opened
+pub mod Runs
+pub mod Few
+pub mod Waits
+pub mod NamedRows

@@ -7,7 +7,7 @@ use Rattle.std.proofs.lemmas.List.Elements.{All-nil, All-push}
 use Rattle.otp_spec.specs.declared.flags.SupFlags.{SupFlags}
 use Rattle.otp_table.specs.declared.row.Row.{Row}
 use Rattle.otp_table.specs.declared.row.RowState.TheVariants.{Undefined, Up, Restarting}
-use Rattle.otp_table.specs.Rows.{has_process, is_awaited, row_has}
+use Rattle.otp_table.specs.Rows.{has_process, is_awaited, row_has, free_slot}
 use Rattle.otp_window.specs.Period.{in_period}
 use Rattle.otp_rules.specs.declared.call.Reply.{Reply}
 use Rattle.otp_rules.specs.declared.ending.Ending.{Ending}
@@ -228,7 +228,7 @@ survives k b =
       ends = λ e o other idle runs g. ends-good e o (bounded o (idle_not_ending b o idle runs) g.1) g;
       ticks = λ o ticked g. tick-good o g;
       opens = λ own o link over g. open-good own o g;
-      adds = λ c id spec o idle runs named g. opened-good b o (with_work [] (record { id = id; kept = None } ∷ []) (Some (after.Added c)) (with_rows (o.state.rows ++ new_row id spec ∷ []) o)) idle runs (refl, refl, refl) g;
+      adds = λ c id spec o idle runs named g. opened-good b o (with_work [] (record { id = id; kept = None } ∷ []) (Some (after.Added c)) (with_rows (o.state.rows ++ new_row (free_slot o.state.rows) id spec ∷ []) o)) idle runs (refl, refl, refl) g;
       starts_again = λ c id place row o idle runs at h is g. opened-good b o (with_work [] (record { id = Some id; kept = None } ∷ []) (Some (after.Restarted c)) o) idle runs (refl, refl, refl) g;
       removed = λ place row o idle runs at down g. g;
       given_up = λ place row o idle runs at down g. g;

@@ -15,7 +15,7 @@ use Rattle.otp_reason.specs.declared.name.Name.{Name}
 use Rattle.otp_spec.specs.declared.flags.SupFlags.{SupFlags}
 use Rattle.otp_table.specs.declared.row.Row.{Row}
 use Rattle.otp_table.specs.declared.row.RowState.TheVariants.{Undefined}
-use Rattle.otp_table.specs.Rows.{has_process, is_awaited, row_has}
+use Rattle.otp_table.specs.Rows.{has_process, is_awaited, row_has, free_slot}
 use Rattle.otp_window.specs.Period.{in_period}
 use Rattle.otp_rules.specs.declared.call.Reply.{Reply}
 use Rattle.otp_rules.specs.declared.ending.Ending.{Ending}
@@ -299,7 +299,7 @@ survives k b =
       ticks = λ o ticked g. tick-evident o g;
       opens = λ own o link over g. open-evident own o g;
       adds = λ c id spec o idle runs named g.
-          opened-evident o (with_work [] (record { id = id; kept = None } ∷ []) (Some (after.Added c)) (with_rows (o.state.rows ++ new_row id spec ∷ []) o)) (after.Added c) refl (λ k. cc) g.0 g.2;
+          opened-evident o (with_work [] (record { id = id; kept = None } ∷ []) (Some (after.Added c)) (with_rows (o.state.rows ++ new_row (free_slot o.state.rows) id spec ∷ []) o)) (after.Added c) refl (λ k. cc) g.0 g.2;
       starts_again = λ c id place row o idle runs at h is g. opened-evident o (with_work [] (record { id = Some id; kept = None } ∷ []) (Some (after.Restarted c)) o) (after.Restarted c) refl (λ k. cc) g.0 g.2;
       removed = λ place row o idle runs at down g. g;
       given_up = λ place row o idle runs at down g. g;
