@@ -21,7 +21,7 @@ use crate::machine::Machine;
 use crate::numbers::{Given, Numbers};
 use crate::opening::{OpenFault, check_open, copy_specs};
 use crate::rows::is_over;
-use otp_rules::{CountsNow, Effect, Event, Kind, Phase, Reply, Waiting, laws};
+use otp_rules::{CountsNow, Effect, Event, Kind, Phase, Reply, SupEnd, Waiting, laws};
 use otp_spec::{ChildSpec, SupFlags};
 use otp_table::{Row, Rows};
 use otp_window::Window;
@@ -83,11 +83,13 @@ impl Core {
             follows: None,
             waiting: VecDeque::new(alloc),
             replies: Answers::new(alloc),
+            ends: Vec::new(alloc),
             last: 0,
             phase: Phase::Unopened,
             orders: Vec::new(alloc),
             spare_lines: Vec::new(alloc),
             spare_stamps: Vec::new(alloc),
+            spare_kept_stamps: Vec::new(alloc),
         };
         Ok(Core {
             machine,
@@ -239,6 +241,13 @@ impl Core {
         ensures { MatchOption result (reply_of call (state_of self.now).replies ≡ None) (λ r. reply_of call (state_of self.now).replies ≡ Some r.now) }
     {
         self.machine.replies.find(call)
+    }
+
+    /// The end of each opening that ended, with the supervisor's own number then, in their order.
+    pub fn ends(&self) -> &[(u64, SupEnd)]
+        ensures { result.now ≡ (state_of self.now).ends }
+    {
+        &self.machine.ends
     }
 
     /// What count_children would answer now.
