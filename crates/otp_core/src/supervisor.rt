@@ -315,7 +315,7 @@ impl Core {
         laws::step_stamps();
         laws::step_keeps_stamped();
         laws::orders_are_appended();
-        let number = self.machine.step(reading, kind, numbers);
+        let number = self.machine.step(reading, &kind, numbers);
         self.last_number = number.unwrap_or(self.last_number);
         self.history.push_reserved(Event {
             reading,
