@@ -1,6 +1,7 @@
 mod Worked
 pub mod Keeps
 pub mod Decisions
+pub mod Deadlines
 pub mod Period
 pub mod Rated
 pub mod Appended

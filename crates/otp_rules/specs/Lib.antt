@@ -11,6 +11,7 @@ pub mod Calls
 pub mod Step
 pub mod Run
 pub mod Needs
+pub mod Next
 pub mod Frames
 pub mod Rate
 pub mod Opening

@@ -7,6 +7,7 @@ ghost use Rattle.otp_rules.specs.Frames.{OrdersAppended, StepKeepsPlan, StepKeep
 ghost use Rattle.otp_rules.specs.Homes.{HomesKept, HomesKeptFrom};
 ghost use Rattle.otp_rules.specs.Named.{OrdersNameRows, OrdersNameRowsFrom, OrdersNumbered, OrdersNumberedFrom};
 ghost use Rattle.otp_rules.specs.Needs.{NumberStartsWork};
+ghost use Rattle.otp_rules.specs.Next.{DeadlinesCome};
 ghost use Rattle.otp_rules.specs.Order.{StartOrder, StartOrderFromEmpty, StopOrder, StopOrderFromEmpty};
 ghost use Rattle.otp_rules.specs.Processes.{ProcessesOwned, ProcessesStayOwned};
 ghost use Rattle.otp_rules.specs.Rate.{RestartRate};
@@ -124,6 +125,11 @@ pub fn runs_are_joined()
 /// An event gives one order more than there are rows at most, beside answers to calls.
 pub fn orders_are_few()
     ensures { OrdersFew }
+{}
+
+/// Some child's deadline has come exactly when the least one has.
+pub fn deadlines_come()
+    ensures { DeadlinesCome }
 {}
 
 /// Each start call that waits was taken while work was open. They are taken in their order when the supervisor resumes,
