@@ -1,5 +1,5 @@
 -- Where a child is while it has no process: at home, with its supervisor. What an event brings home (own).
-use Rattle.std.specs.Prelude.{◌≡◌, ◌⊎◌, ℕ, ◌==◌, Bool, true, false, List, [], ◌∷◌, Option, Some, None, All, Contains, ◌<◌}
+use Rattle.std.specs.Prelude.{◌≡◌, ◌⊎◌, ℕ, ◌==◌, Bool, true, false, List, [], ◌∷◌, Option, Some, None, All, Contains, ◌<◌, slice_get}
 use Rattle.std.specs.List.{list_any}
 use Rattle.otp_reason.specs.declared.note.Note.{Note}
 use Rattle.otp_reason.specs.declared.note.Note.TheVariants as note
@@ -18,7 +18,7 @@ use Rattle.otp_rules.specs.declared.event.Kind.{Kind}
 use Rattle.otp_rules.specs.declared.event.Kind.TheVariants as kind
 use Rattle.otp_rules.specs.declared.event.Waiting.{Waiting}
 use Rattle.otp_rules.specs.declared.event.Waiting.TheVariants as waiting
-use Rattle.otp_rules.specs.State.{State}
+use Rattle.otp_rules.specs.State.{State, is_over}
 use Rattle.otp_rules.specs.Step.{step}
 use Rattle.otp_rules.specs.Run.{empty_state, state_after}
 use Rattle.otp_rules.specs.Needs.{IsLawfulHistory, numbers_of}
@@ -106,8 +106,12 @@ abbrev pub is_started : Option ℕ → RowState → Bool
 is_started None state = false
 is_started (Some n) state = has_process n state
 
-abbrev pub IsOpening : Kind → Type 0
-IsOpening k = (own : ℕ) × (k ≡ kind.Opened own)
+-- the row is new: the opening makes it, in the slot that is the place of its specification
+pub record IsOpened (s : State) (k : Kind) (row : Row) : Type 0 where
+  pub own : ℕ
+  pub opening : k ≡ kind.Opened own
+  pub over : is_over s.phase ≡ true
+  pub place : slice_get s.specs row.slot ≡ Some row.spec
 
 -- no row has the process that the event starts
 abbrev pub IsNewNumber : Option ℕ → List Row → Type 0
@@ -119,7 +123,7 @@ abbrev pub KeepsHomes : State → Event → Type 0
 KeepsHomes s e =
     (row : Row) → Contains (step s e).state.rows row
     → (is_home (step s e).state.waiting row.state ≡ true) ⊎ (is_started e.number row.state ≡ true)
-    → WasThere s e.kind row.slot ⊎ (IsAdded s e.kind row.slot ⊎ IsOpening e.kind)
+    → WasThere s e.kind row.slot ⊎ (IsAdded s e.kind row.slot ⊎ IsOpened s e.kind row)
 
 -- each event whose number is no row's does so
 abbrev pub HomesKeptFrom : Type 0
