@@ -105,15 +105,15 @@ tell-told p o quiet h =
     let kept : (q : ℕ) → 0 < rows_in (is_told q) o.state.rows → 0 < rows_in (is_told q) rows = λ q some.
     ⊎_elim
     (λ was. let same : q ≡ p = told_same p q row.state has was in
-        subst (λ (n : ℕ). 0 < rows_in (is_told n) rows) (sym same) (omega (arith, e p, one, at_most_1 (is_told p row.state), rows_in-at (is_told p) i row o.state.rows at)))
+    subst (λ (n : ℕ). 0 < rows_in (is_told n) rows) (sym same) (omega (arith, e p, one, at_most_1 (is_told p row.state), rows_in-at (is_told p) i row o.state.rows at)))
     (λ other. let none : ◌≡◌ {A = ℕ} (cond (is_told q row.state) 1 0) 0 = ap (λ (b : Bool). cond b 1 0) other in omega (arith, e q, none, some))
     (cases_Bool (is_told q row.state)) in
     All-push (IsTold new) o.orders (stop_order row.id p row.spec.shutdown)
     (λ j d within q some. let was = h j d within q some in (kept q was.0, was.1))
     (λ q some.
-        let same : p ≡ q = ap (λ (y : Option ℕ). unwrap_or y q) (sym (named_stop row.id p row.spec.shutdown) ∙ some) in
-        subst (λ (n : ℕ). (0 < rows_in (is_told n) rows) × (count_by (is_exit n) o.state.waiting ≡ 0)) same
-        (omega (arith, e p, one, rows_in-at (is_told p) i row o.state.rows at), quiet)))
+    let same : p ≡ q = ap (λ (y : Option ℕ). unwrap_or y q) (sym (named_stop row.id p row.spec.shutdown) ∙ some) in
+    subst (λ (n : ℕ). (0 < rows_in (is_told n) rows) × (count_by (is_exit n) o.state.waiting ≡ 0)) same
+    (omega (arith, e p, one, rows_in-at (is_told p) i row o.state.rows at), quiet)))
   where
     at_most_1 : (b : Bool) → cond b 1 0 ≤ 1
     at_most_1 true = omega arith
