@@ -103,7 +103,7 @@ pub fn orders_are_numbered()
     ensures from_any { OrdersNumberedFrom }
 {}
 
-/// After an event each of its orders names a process that a row has.
+/// After an event each of its orders names a process that a row has, whose slot is found by the process.
 pub fn orders_name_rows()
     ensures from_empty { OrdersNameRows }
     ensures from_any { OrdersNameRowsFrom }
