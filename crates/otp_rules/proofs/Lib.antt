@@ -1,6 +1,7 @@
 mod Worked
 pub mod Keeps
 pub mod Decisions
+pub mod Steady
 pub mod Period
 pub mod Rated
 pub mod Appended
@@ -17,3 +18,4 @@ pub mod StartTurn
 mod WorkedLaws
 mod Shown
 pub mod Opened
+pub mod Restarted

@@ -1,11 +1,11 @@
 //! Laws over all states, events and histories. A law is a function that does nothing: what it ensures is the law.
 
-ghost use Rattle.otp_rules.specs.Evidence.{EndEvidence};
+ghost use Rattle.otp_rules.specs.Evidence.{EndEvidence, EndEvidenceFromEmpty};
 ghost use Rattle.otp_rules.specs.Fit.{StaysFit};
 ghost use Rattle.otp_rules.specs.Frames.{OrdersAppended, StepKeepsPlan, StepKeepsStamped, StepStamps};
 ghost use Rattle.otp_rules.specs.Needs.{NumberStartsWork};
 ghost use Rattle.otp_rules.specs.Order.{StartOrder, StartOrderFromEmpty, StopOrder, StopOrderFromEmpty};
-ghost use Rattle.otp_rules.specs.Rate.{RestartRate};
+ghost use Rattle.otp_rules.specs.Rate.{RestartRate, RestartRateFromEmpty, RestartsCounted};
 
 /// No event changes the flags or the specifications.
 pub fn step_keeps_plan()
@@ -32,10 +32,14 @@ pub fn number_starts_work()
     ensures { NumberStartsWork }
 {}
 
-/// Among the restarts of one opening no period, wherever it ends, holds more than the intensity, but for the last
-/// restart of a supervisor that is ending, or has ended, by it (Supervisor Behaviour, Maximum Restart Intensity).
+/// The stamps are the times of the restarts of this opening, as they are seen from outside: each counts once. Among them
+/// no period, wherever it ends, holds more than the intensity, but for the last restart of a supervisor that is ending,
+/// or has ended, by it (Supervisor Behaviour, Maximum Restart Intensity). So it is from each state that is sound and
+/// keeps the rate.
 pub fn restart_rate()
-    ensures { RestartRate }
+    ensures counted { RestartsCounted }
+    ensures from_any { RestartRate }
+    ensures from_empty { RestartRateFromEmpty }
 {}
 
 /// A supervisor that was never opened is fit to be a base, and each lawful history leads from a fit state to a fit one:
@@ -67,7 +71,9 @@ pub fn stop_order()
 
 /// Each end that is ordered shows why: by the intensity, the flags and one restart more than the intensity, none before
 /// another and all within one period; else the reason that the cause has (Supervisor Behaviour, Maximum Restart
-/// Intensity and Automatic Shutdown).
+/// Intensity and Automatic Shutdown). So it is from each state whose restarts are in order and, where it is ending by the
+/// intensity, one too many.
 pub fn end_evidence()
-    ensures { EndEvidence }
+    ensures from_any { EndEvidence }
+    ensures from_empty { EndEvidenceFromEmpty }
 {}
