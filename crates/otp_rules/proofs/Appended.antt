@@ -14,7 +14,7 @@ use Rattle.otp_spec.specs.Lawful.{first_fault}
 use Rattle.otp_table.specs.declared.row.Row.{Row}
 use Rattle.otp_table.specs.declared.row.RowState.{RowState}
 use Rattle.otp_table.specs.declared.row.RowState.TheVariants.{Undefined, Starting, Up, Asked, Killed, Restarting}
-use Rattle.otp_table.specs.Rows.{awaits_retry, has_id, has_number, has_process, is_awaited, row_has}
+use Rattle.otp_table.specs.Rows.{awaits_retry, has_id, has_number, has_process, is_awaited, row_has, free_slot}
 use Rattle.otp_rules.specs.declared.call.Call.{Call}
 use Rattle.otp_rules.specs.declared.call.CallFault.{CallFault}
 use Rattle.otp_rules.specs.declared.call.CallFault.TheVariants as fault
@@ -317,7 +317,7 @@ refuse-behind xs c why o = answer-behind xs c (reply.Refused why) o
 add_child-behind : (xs : List Effect) (c : ℕ) (id : Option Name) (spec : ChildSpec) (o : Outcome) → add_child c id spec (behind xs o) ≡ behind xs (add_child c id spec o)
 unfolding add_child
 add_child-behind xs c id spec o =
-    let fresh : Outcome → Outcome = λ x. with_work [] (record { id = id; kept = None } ∷ []) (Some (after.Added c)) (with_rows (o.state.rows ++ new_row id spec ∷ []) x) in
+    let fresh : Outcome → Outcome = λ x. with_work [] (record { id = id; kept = None } ∷ []) (Some (after.Added c)) (with_rows (o.state.rows ++ new_row (free_slot o.state.rows) id spec ∷ []) x) in
     either xs (nat_le 256 (length o.state.rows)) (refuse c fault.TooManyChildren (behind xs o)) (fresh (behind xs o)) (refuse c fault.TooManyChildren o) (fresh o)
     (refuse-behind xs c fault.TooManyChildren o) refl
 
@@ -475,7 +475,7 @@ if_idle-behind xs done' done o h =
     either xs (is_busy o) (behind xs o) (if is_over o.state.phase then behind xs o else done') o (if is_over o.state.phase then o else done)
     refl (either xs (is_over o.state.phase) (behind xs o) done' o done refl h)
 
-decide-behind : (xs : List Effect) (k : Kind) (o : Outcome) → decide k (behind xs o) ≡ behind xs (decide k o)
+pub decide-behind : (xs : List Effect) (k : Kind) (o : Outcome) → decide k (behind xs o) ≡ behind xs (decide k o)
 unfolding decide
 decide-behind xs (kind.Opened own) o = either xs (is_over o.state.phase) (open_rows own (behind xs o)) (behind xs o) (open_rows own o) o (open_rows-behind xs own o) refl
 decide-behind xs (kind.Took x) o = take_item-behind xs x o

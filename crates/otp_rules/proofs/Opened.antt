@@ -21,7 +21,7 @@ use Rattle.otp_spec.specs.declared.flags.Strategy.TheVariants.{OneForOne, OneFor
 use Rattle.otp_table.specs.declared.row.Row.{Row}
 use Rattle.otp_table.specs.declared.row.RowState.{RowState}
 use Rattle.otp_table.specs.declared.row.RowState.TheVariants.{Undefined, Starting, Up, Asked, Killed, Restarting}
-use Rattle.otp_table.specs.Rows.{has_id, is_awaited, with_state, calm_rows, calmed, up_number}
+use Rattle.otp_table.specs.Rows.{free_slot, has_id, is_awaited, with_state, calm_rows, calmed, up_number}
 use Rattle.otp_window.specs.Period.{in_period}
 use Rattle.otp_rules.specs.declared.call.Reply.{Reply}
 use Rattle.otp_rules.specs.declared.ending.Ending.{Ending}
@@ -36,7 +36,7 @@ use Rattle.otp_rules.specs.Restarts.{affected_from, affected_to, dues, restart_l
 use Rattle.otp_rules.specs.Stops.{calm_all, stop_each, terminate_ordered, terminate_together, terminate}
 use Rattle.otp_rules.specs.Deaths.{restart_rows, restart_or_end, restart}
 use Rattle.otp_rules.specs.Calls.{new_row}
-use Rattle.otp_rules.specs.Step.{due_of, row_of, open_with, open_rows, opening_specs, tick, decide, stamped}
+use Rattle.otp_rules.specs.Step.{due_of, rows_from, open_with, open_rows, opening_specs, tick, decide, stamped}
 use Rattle.otp_rules.specs.Progress.{Progress, is_opened, ends_together, ended_by, decided, opened_now, went_on, seen, affected, comes_back, id_bytes, process_number, processes, IsIn}
 use Rattle.otp_rules.specs.Fit.{is_told, rows_in, times, IsLimited, IsSound, HasWaiting, HasStops, HasPart, Keeps, IsListed}
 use Rattle.otp_rules.proofs.Decisions.{StandsAt, Survives, by_test, decide-survives}
@@ -293,24 +293,24 @@ ended-listed e o none =
     ))
 
 -- new children have no process
-new-processes : (specs : List ChildSpec) → processes (map row_of specs) ≡ []
-new-processes [] = refl
-new-processes (spec ∷ specs) = new-processes specs
+new-processes : (slot : ℕ) (specs : List ChildSpec) → processes (rows_from slot specs) ≡ []
+new-processes slot [] = refl
+new-processes slot (spec ∷ specs) = new-processes (slot + 1) specs
 
-pub new-awaited : (specs : List ChildSpec) → rows_in is_awaited (map row_of specs) ≡ 0
-new-awaited [] = refl
-new-awaited (spec ∷ specs) = omega (arith, rows_in-cons is_awaited (row_of spec) (map row_of specs), new-awaited specs)
+pub new-awaited : (slot : ℕ) (specs : List ChildSpec) → rows_in is_awaited (rows_from slot specs) ≡ 0
+new-awaited slot [] = refl
+new-awaited slot (spec ∷ specs) = omega (arith, rows_in-cons is_awaited (new_row slot (Some spec.id) spec) (rows_from (slot + 1) specs), new-awaited (slot + 1) specs)
 
-new-ids : (specs : List ChildSpec) → map (λ (x : Due). id_bytes x.id) (map due_of specs) ≡ map (λ (x : Row). id_bytes x.id) (map row_of specs)
-new-ids [] = refl
-new-ids (spec ∷ specs) = ap (λ (ids : List (Option (List ℕ))). Some (name_bytes spec.id) ∷ ids) (new-ids specs)
+new-ids : (slot : ℕ) (specs : List ChildSpec) → map (λ (x : Due). id_bytes x.id) (map due_of specs) ≡ map (λ (x : Row). id_bytes x.id) (rows_from slot specs)
+new-ids slot [] = refl
+new-ids slot (spec ∷ specs) = ap (λ (ids : List (Option (List ℕ))). Some (name_bytes spec.id) ∷ ids) (new-ids (slot + 1) specs)
 
 opened-listed : (own : ℕ) (o : Outcome) → IsFresh (open_rows own o).state
 unfolding open_rows open_with
 opened-listed own o =
     let specs : List ChildSpec = opening_specs (is_simple o.state.flags.strategy) o.state.specs in
-    let rows : List Row = map row_of specs in (
-      new-awaited specs,
+    let rows : List Row = rows_from 0 specs in (
+      new-awaited 0 specs,
       (
         rows,
         refl,
@@ -318,16 +318,16 @@ opened-listed own o =
         [],
         sym (append-nil (processes rows)),
         (λ q h k. omega (arith, h)),
-        sym (ap (λ (ps : List ℕ). reverse ps) (new-processes specs)),
-        new-ids specs,
+        sym (ap (λ (ps : List ℕ). reverse ps) (new-processes 0 specs)),
+        new-ids 0 specs,
       ),
     )
 
 -- a child that is added
 added-listed : (c : ℕ) (id : Option Name) (spec : ChildSpec) (o : Outcome) → rows_in is_awaited o.state.rows ≡ 0
-    → IsFresh (with_work [] (record { id = id; kept = None } ∷ []) (Some (after.Added c)) (with_rows (o.state.rows ++ new_row id spec ∷ []) o)).state
+    → IsFresh (with_work [] (record { id = id; kept = None } ∷ []) (Some (after.Added c)) (with_rows (o.state.rows ++ new_row (free_slot o.state.rows) id spec ∷ []) o)).state
 added-listed c id spec o none =
-    let row : Row = new_row id spec in (
+    let row : Row = new_row (free_slot o.state.rows) id spec in (
       omega (arith, rows_in-append is_awaited o.state.rows (row ∷ []), rows_in-cons is_awaited row [], none),
       (
         row ∷ [],
@@ -509,7 +509,7 @@ fresh-survives k b f is_base =
       opens = λ own o link over x.
           opens-fresh k b f o (open_rows own o) is_base (sym link ∙ x.0.3 over) (open_rows-busy own o) (s.opens own o link over x.0) (λ _. opened-listed own o);
       adds = λ c id spec o idle runs named x.
-          opens-fresh k b f o (with_work [] (record { id = id; kept = None } ∷ []) (Some (after.Added c)) (with_rows (o.state.rows ++ new_row id spec ∷ []) o)) is_base idle.0 refl (s.adds c id spec o idle runs named x.0)
+          opens-fresh k b f o (with_work [] (record { id = id; kept = None } ∷ []) (Some (after.Added c)) (with_rows (o.state.rows ++ new_row (free_slot o.state.rows) id spec ∷ []) o)) is_base idle.0 refl (s.adds c id spec o idle runs named x.0)
           (λ _. added-listed c id spec o (awaits_nothing b o idle x.0));
       starts_again = λ c id place row o idle runs at h is x.
           opens-fresh k b f o (with_work [] (record { id = Some id; kept = None } ∷ []) (Some (after.Restarted c)) o) is_base idle.0 refl (s.starts_again c id place row o idle runs at h is x.0)

@@ -5,7 +5,7 @@ use Rattle.std.proofs.lemmas.Bool.{cond_both, false≢true, cases_Bool}
 use Rattle.std.proofs.Common.{⊎_elim}
 use Rattle.otp_table.specs.declared.row.Row.{Row}
 use Rattle.otp_table.specs.declared.row.RowState.TheVariants.{Undefined, Starting, Up, Restarting}
-use Rattle.otp_table.specs.Rows.{calm_rows, is_awaited, with_state}
+use Rattle.otp_table.specs.Rows.{free_slot, calm_rows, is_awaited, with_state}
 use Rattle.std.proofs.lemmas.List.Elements.{All-nil}
 use Rattle.otp_reason.specs.declared.note.Note.TheVariants as note
 use Rattle.otp_window.specs.Period.{in_period}
@@ -175,7 +175,7 @@ tick-counted f times o sound same x = still-counted f times o (tick o) (alike o)
 open-counted : (b : Bool) (f : Option After) (times : List ℕ) (own : ℕ) (o : Outcome) → b ≡ is_some f → b ≡ false → IsSound (open_rows own o).state → Counted f times (open_rows own o)
 unfolding open_rows open_with
 open-counted b f times own o is idle sound =
-    opens-counted b f times (open_rows own o) is idle refl sound (λ _. new-awaited (opening_specs (is_simple o.state.flags.strategy) o.state.specs)) refl
+    opens-counted b f times (open_rows own o) is idle refl sound (λ _. new-awaited 0 (opening_specs (is_simple o.state.flags.strategy) o.state.specs)) refl
 
 counted-survives : (k : Kind) (b : Bool) (f : Option After) (times : List ℕ) → b ≡ is_some f → Survives k b (Counted f times)
 counted-survives k b f times is_base =
@@ -213,8 +213,8 @@ counted-survives k b f times is_base =
       ticks = λ o is x. tick-counted f times o (s.ticks o is x.0) (tick_count is_awaited (λ p d. refl) o) x;
       opens = λ own o link over x. open-counted b f times own o is_base (sym link ∙ x.0.3 over) (s.opens own o link over x.0);
       adds = λ c id spec o idle runs named x.
-          opens-counted b f times (with_work [] (record { id = id; kept = None } ∷ []) (Some (after.Added c)) (with_rows (o.state.rows ++ new_row id spec ∷ []) o)) is_base idle.0 refl (s.adds c id spec o idle runs named x.0)
-          (λ _. omega (arith, awaits_nothing b o idle x.0, rows_in-append is_awaited o.state.rows (new_row id spec ∷ []), rows_in-cons is_awaited (new_row id spec) [])) (rests b f times o idle x);
+          opens-counted b f times (with_work [] (record { id = id; kept = None } ∷ []) (Some (after.Added c)) (with_rows (o.state.rows ++ new_row (free_slot o.state.rows) id spec ∷ []) o)) is_base idle.0 refl (s.adds c id spec o idle runs named x.0)
+          (λ _. omega (arith, awaits_nothing b o idle x.0, rows_in-append is_awaited o.state.rows (new_row (free_slot o.state.rows) id spec ∷ []), rows_in-cons is_awaited (new_row (free_slot o.state.rows) id spec) [])) (rests b f times o idle x);
       starts_again = λ c id place row o idle runs at h is x.
           opens-counted b f times (with_work [] (record { id = Some id; kept = None } ∷ []) (Some (after.Restarted c)) o) is_base idle.0 refl (s.starts_again c id place row o idle runs at h is x.0) (λ _. awaits_nothing b o idle x.0) (rests b f times o idle x);
       removed = λ place row o idle runs at h x. idle-counted f times (with_rows (remove o.state.rows place) o) (no_after o.state.follows idle.1) (s.removed place row o idle runs at h x.0) (rests b f times o idle x);

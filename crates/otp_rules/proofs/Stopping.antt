@@ -9,7 +9,7 @@ use Rattle.otp_spec.specs.declared.flags.SupFlags.{SupFlags}
 use Rattle.otp_table.specs.declared.row.Row.{Row}
 use Rattle.otp_table.specs.declared.row.RowState.{RowState}
 use Rattle.otp_table.specs.declared.row.RowState.TheVariants.{Undefined, Starting, Up, Asked, Killed, Restarting}
-use Rattle.otp_table.specs.Rows.{with_state}
+use Rattle.otp_table.specs.Rows.{with_state, free_slot}
 use Rattle.otp_window.specs.Period.{in_period}
 use Rattle.otp_rules.specs.declared.call.Reply.{Reply}
 use Rattle.otp_rules.specs.declared.ending.Ending.{Ending}
@@ -208,7 +208,7 @@ carried-survives k b f g is_base =
       opens = λ own o link over x.
           opened-carried f g1 (open_rows own o) (opens_none f b (open_rows own o).state.follows is_base (sym link ∙ x.0.3 over) (open_rows-busy own o)) (s.opens own o link over x.0);
       adds = λ c id spec o idle runs named x.
-          opened-carried f g1 (with_work [] (record { id = id; kept = None } ∷ []) (Some (after.Added c)) (with_rows (o.state.rows ++ new_row id spec ∷ []) o))
+          opened-carried f g1 (with_work [] (record { id = id; kept = None } ∷ []) (Some (after.Added c)) (with_rows (o.state.rows ++ new_row (free_slot o.state.rows) id spec ∷ []) o))
           (opens_none f b (Some (after.Added c)) is_base idle.0 refl) (s.adds c id spec o idle runs named x.0);
       starts_again = λ c id place row o idle runs at h is x.
           opened-carried f g1 (with_work [] (record { id = Some id; kept = None } ∷ []) (Some (after.Restarted c)) o)

@@ -1,0 +1,17 @@
+//! Jobs, and the processes that run them a turn at a time.
+//!
+//! A user writes a [`Job`] and hands it in as the [`Body`] of a child; a runtime makes a [`Process`] of it at each start
+//! and calls [`one_turn`] until that answers [`After::Done`]. `Process<BoxedJob, BoxedSubsystem>` runs any job; the
+//! types are generic so that a test may name its own.
+#![tactic(auto)]
+
+pub mod body;
+mod boxed;
+pub mod job;
+pub mod process;
+pub mod turn;
+
+pub use body::{Body, TableNo};
+pub use job::{BoxedJob, Job, Told, Turn};
+pub use process::{Phase, Process, Spent, Ticket};
+pub use turn::{After, EndNote, one_turn};
