@@ -20,7 +20,7 @@ use crate::opening::{OpenFault, check_open, copy_specs};
 use crate::rows::is_over;
 use otp_rules::{CountsNow, Effect, Event, Kind, Phase, Reply, laws};
 use otp_spec::{ChildSpec, SupFlags};
-use otp_table::Rows;
+use otp_table::{Row, Rows};
 use otp_window::Window;
 use std::alloc::{AllocError, Global};
 use std::collections::VecDeque;
@@ -158,6 +158,21 @@ impl Core {
         ensures { result ≡ is_over (state_of self.now).phase }
     {
         is_over(self.machine.phase)
+    }
+
+    /// Whether it runs, and under which number.
+    pub fn phase(&self) -> Phase
+        ensures { result ≡ (state_of self.now).phase }
+    {
+        self.machine.phase
+    }
+
+    /// Its children in start order.
+    pub fn rows(&self) -> &[Row]
+        ensures rows { result.now ≡ (state_of self.now).rows }
+        ensures limit { length (state_of self.now).rows ≤ 256 }
+    {
+        self.machine.rows.as_slice()
     }
 
     /// Whether an item waits until no work is open.

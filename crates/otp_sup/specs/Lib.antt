@@ -1,0 +1,6 @@
+pub mod Letters
+pub mod Ports
+pub mod Facts
+pub mod Turns
+pub mod Flushes
+pub mod Slots
