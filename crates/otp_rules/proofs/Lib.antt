@@ -16,3 +16,7 @@ pub mod Starting
 pub mod StartTurn
 mod WorkedLaws
 mod Shown
+pub mod Homes
+pub mod Slots
+pub mod Named
+pub mod Processes

@@ -309,10 +309,10 @@ step-lawful m k s e g l distinct =
     let kept : IsSound (step s e).state × Keeps (step s e).state (gave (step s e).orders (seen s e g)) = step-keeps s e g l.0 l.3 in
     (kept.0, gone.2, distinct, kept.1, gone.0)
 
-pairs_rest : (x : ℕ) (xs : List ℕ) → AllPairs (λ i j. i < j) (x ∷ xs) → AllPairs (λ i j. i < j) xs
+pub pairs_rest : (x : ℕ) (xs : List ℕ) → AllPairs (λ i j. i < j) (x ∷ xs) → AllPairs (λ i j. i < j) xs
 pairs_rest x xs h i j d less within = h (suc i) (suc j) d (omega (arith, less)) (omega (arith, within))
 
-pairs_first : (x : ℕ) (xs : List ℕ) → AllPairs (λ i j. i < j) (x ∷ xs) → All (λ y. x + 1 ≤ y) xs
+pub pairs_first : (x : ℕ) (xs : List ℕ) → AllPairs (λ i j. i < j) (x ∷ xs) → All (λ y. x + 1 ≤ y) xs
 pairs_first x xs h i d within = let k : x < get_or xs i d = h 0 (suc i) d (omega arith) (omega (arith, within)) in omega (arith, k)
 
 -- the numbers of a history whose first event has this one

@@ -16,3 +16,7 @@ pub mod Rate
 pub mod Opening
 pub mod Order
 pub mod Effects
+pub mod Homes
+pub mod Slots
+pub mod Named
+pub mod Processes

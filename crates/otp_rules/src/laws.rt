@@ -2,9 +2,13 @@
 
 ghost use Rattle.otp_rules.specs.Evidence.{EndEvidence};
 ghost use Rattle.otp_rules.specs.Frames.{OrdersAppended, StepKeepsPlan, StepKeepsStamped, StepStamps};
+ghost use Rattle.otp_rules.specs.Homes.{HomesKept, HomesKeptFrom};
+ghost use Rattle.otp_rules.specs.Named.{OrdersNumbered, OrdersNumberedFrom};
 ghost use Rattle.otp_rules.specs.Needs.{NumberStartsWork};
 ghost use Rattle.otp_rules.specs.Order.{StartOrder, StopOrder};
+ghost use Rattle.otp_rules.specs.Processes.{ProcessesOwned, ProcessesStayOwned};
 ghost use Rattle.otp_rules.specs.Rate.{RestartRate};
+ghost use Rattle.otp_rules.specs.Slots.{SlotsOwned, SlotsStayOwned, SlotsTellProcesses};
 
 /// No event changes the flags or the specifications.
 pub fn step_keeps_plan()
@@ -56,4 +60,34 @@ pub fn stop_order()
 /// Intensity and Automatic Shutdown).
 pub fn end_evidence()
     ensures { EndEvidence }
+{}
+
+/// No two children of a supervisor have one slot, and each slot is below 256, after every list of events.
+pub fn slots_are_owned()
+    ensures from_empty { SlotsOwned }
+    ensures from_any { SlotsStayOwned }
+{}
+
+/// In a lawful history no process is that of two children, and no child has one whose number is still to come.
+pub fn processes_are_owned()
+    ensures from_empty { ProcessesOwned }
+    ensures from_any { ProcessesStayOwned }
+{}
+
+/// So the slot of a child that has a process is no other's that has one.
+pub fn slots_tell_processes()
+    ensures { SlotsTellProcesses }
+{}
+
+/// Each order of a lawful history names a process that the history started.
+pub fn orders_are_numbered()
+    ensures from_empty { OrdersNumbered }
+    ensures from_any { OrdersNumberedFrom }
+{}
+
+/// A child whose process has ended is at home only because the note of that end was taken: each child that is at home
+/// after an event, or that the event starts, was at home before it, or comes home by the note that the event takes, or is new.
+pub fn homes_are_kept()
+    ensures from_empty { HomesKept }
+    ensures from_any { HomesKeptFrom }
 {}
