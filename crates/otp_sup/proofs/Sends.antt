@@ -10,7 +10,7 @@ use Rattle.otp_rules.specs.declared.event.Effect.{Effect}
 use Rattle.otp_rules.specs.declared.event.Event.{Event}
 use Rattle.otp_rules.specs.Effects.{is_reply}
 use Rattle.otp_rules.specs.Needs.{IsLawfulHistory, numbers_of}
-use Rattle.otp_rules.specs.Named.{OrdersNumbered, IsAmongNumbers, number_ordered}
+use Rattle.otp_rules.specs.Named.{OrdersNumbered, NamesOneOf, named_by}
 use Rattle.otp_rules.specs.State.{State, own_number}
 use Rattle.otp_core.specs.View.{state_of}
 use Rattle.otp_rules.specs.Run.{orders_of}
@@ -123,7 +123,7 @@ abbrev number_in : Option (ℕ × Signal) → Option ℕ
 number_in None = None
 number_in (Some x) = Some x.0
 
-post_names : (e : Effect) → number_ordered e ≡ number_in (post_of e)
+post_names : (e : Effect) → named_by e ≡ number_in (post_of e)
 post_names (effect.Start id n) = refl
 post_names (effect.Ask id n) = refl
 post_names (effect.Kill id n) = refl
@@ -134,7 +134,7 @@ post_names (effect.End x) = refl
 -- the process of the first order is one of the office's numbers
 pub known_number : (o : OfficeView) (number : ℕ) (told : Signal) → Posts o number told → OrdersNumbered → IsLawfulHistory o.core.base o.core.history → IsOffice o → Contains o.owner.drawn number
 known_number o number told p law lawful i =
-    let P : Effect → Type 0 = IsAmongNumbers (numbers_of o.core.history) in
+    let P : Effect → Type 0 = NamesOneOf (numbers_of o.core.history) in
     let Lawful : State → Type 0 = λ s. IsLawfulHistory s o.core.history in
     let Orders : State → Type 0 = λ s. All P (orders_of s o.core.history) in
     let orders : All P (orders_of o.core.base o.core.history) =
@@ -142,7 +142,7 @@ known_number o number told p law lawful i =
     let later : All P (drop o.sent (orders_along o.core)) = all_drop P o.sent (orders_along o.core) (all_filter P (λ (x : Effect). not (is_reply x)) (orders_of o.core.base o.core.history) orders) in
     let First : List Effect → Type 0 = λ l. All P l in
     let all_first : All P (p.order ∷ p.rest) = subst First (sym i.orders ∙ p.outbox) later in
-    let first : IsAmongNumbers (numbers_of o.core.history) p.order = all_first 0 p.order (omega arith) in
+    let first : NamesOneOf (numbers_of o.core.history) p.order = all_first 0 p.order (omega arith) in
     let In : List ℕ → Type 0 = λ l. Contains l number in
     subst In (sym i.numbers) (first number (post_names p.order ∙ ap number_in p.post))
 

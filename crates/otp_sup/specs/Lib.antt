@@ -4,3 +4,4 @@ pub mod Facts
 pub mod Turns
 pub mod Flushes
 pub mod Slots
+pub mod Clients

@@ -15,12 +15,11 @@ pub mod letter;
 pub mod office;
 pub mod orders;
 pub mod port;
+mod replies;
 mod rows;
 mod sending;
 pub mod sup;
 pub mod table;
-#[cfg(test)]
-mod tests;
 pub mod turns;
 
 pub use bodies::Bodies;

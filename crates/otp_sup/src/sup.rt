@@ -6,8 +6,10 @@ use crate::port::{Flushed, Port};
 use crate::table::Table;
 use crate::turns::{TurnAnswer, TurnFault};
 use otp_inbox::{Inbox, InboxNaming};
-use otp_rules::Item;
+use crate::replies::copy_reply;
+use otp_rules::{Item, Reply};
 use otp_signals::{Signal, Words, WordsNaming};
+use std::alloc::{AllocError, Global};
 use std::sync::{Mutex, Wait};
 
 /// A supervisor that threads share: a table under its lock, beside its inbox, so that whoever sends to it doesn't wait
@@ -61,12 +63,19 @@ impl<N: WordsNaming + InboxNaming, B: Drop> Sup<N, B> {
         answer
     }
 
-    /// What this does with the table, under its lock: to read a reply, or to see what it keeps.
-    pub fn look<R: Wait, T, F: FnOnce(&Table<N, B>) -> T>(&self, rt: &R, reads: F) -> T
-        requires { F.IsAlwaysCallable reads }
-    {
+    /// A copy of the kept answer to the call with this number. None where it wasn't answered yet.
+    pub fn reply<R: Wait>(
+        &self,
+        rt: &R,
+        alloc: Global,
+        call: u64,
+    ) -> Result<Option<Reply>, AllocError> {
         let guard = self.table.lock(rt);
-        reads(&*guard)
+        let table = &*guard;
+        match table.reply(call) {
+            Some(reply) => Ok(Some(copy_reply(alloc, reply)?)),
+            None => Ok(None),
+        }
     }
 
     /// The body that the call with this number brought: see [`Table::take_box`].

@@ -1,5 +1,7 @@
 //! What lies under a supervisor's lock.
-ghost use Rattle.std.specs.Prelude.{◌≡◌, ◌+◌, ◌<◌, ◌≤◌, ◌^◌, [], is_some, IsSome};
+ghost use Rattle.std.specs.Prelude.{◌≡◌, ◌+◌, ◌<◌, ◌≤◌, ◌^◌, [], is_some, IsSome, MatchOption, None, Some};
+ghost use Rattle.otp_core.specs.View.{state_of};
+ghost use Rattle.otp_rules.specs.Run.{reply_of};
 ghost use Rattle.otp_sup.specs.Facts.{KeepsRules};
 ghost use Rattle.otp_sup.specs.Flushes.{Flushes};
 ghost use Rattle.otp_sup.specs.Letters.{one_if};
@@ -146,7 +148,9 @@ impl<N: WordsNaming + InboxNaming, B: Drop> Table<N, B> {
     }
 
     /// The kept answer to the call with this number.
-    pub fn reply(&self, call: u64) -> Option<&Reply> {
+    pub fn reply(&self, call: u64) -> Option<&Reply>
+        ensures { MatchOption result (reply_of call (state_of self.now.office.core).replies ≡ None) (λ r. reply_of call (state_of self.now.office.core).replies ≡ Some r.now) }
+    {
         self.office.reply(call)
     }
 

@@ -8,7 +8,7 @@ use Rattle.otp_sup.proofs.office.Office.post.Goals as goal
 pub post-requires-clause-number : goal.post-requires-clause-number
 post-requires-clause-number g c =
     let P : OfficeView → Type 0 = λ o. Posts o c.args.number c.args.told in
-    inr (known_number _ c.args.number c.args.told (subst P (sym c.self.view_is) c.requires) c.orders_are_numbered.ensures c.history.ensures.lawful c.self.invariant)
+    inr (known_number _ c.args.number c.args.told (subst P (sym c.self.view_is) c.requires) c.orders_are_numbered.ensures.from_empty c.history.ensures.lawful c.self.invariant)
 
 pub invariant_of-self : goal.invariant_of-self
 invariant_of-self g c =
