@@ -42,6 +42,7 @@ use Rattle.otp_rules.specs.State.{Outcome, answer, is_busy, is_over, put_last, i
 use Rattle.otp_rules.specs.Stops.{calm_all, is_exit, stop_each, tell, tell_row, terminate, terminate_ordered, terminate_together, use_exit}
 use Rattle.otp_core.specs.Restarted.{goes_on_beside, has_spec, outlives_failure, outlives_up, restart_goes_on}
 use Rattle.otp_core.proofs.Going.{all_same, ends_reversed}
+use Rattle.otp_core.proofs.Walk.{walk_counted}
 
 and_true : (b : Bool) → (b && true) ≡ b
 and_true true = refl
@@ -262,7 +263,8 @@ restart_seen rows from place to kept row items le lt at =
     let numbers : List ℕ = running (slice_range rows from place) ++ running (slice_range rows (place + 1) to) in
     let awaited : awaits (take from set ++ calm_rows (slice_range set from to) ++ drop to set) ≡ awaits (remove rows place) = awaits_part set from to (omega arith) ∙ awaits_set rows place gone within refl in
     let ended : ends_wait (reverse (running (slice_range set from to))) items ≡ ends_wait numbers items =
-    ends_reversed (running (slice_range set from to)) items ∙ ap (λ ps. ends_wait ps items) (restart_running rows from place to row le lt within) in
+    ends_reversed (running (slice_range set from to)) items ∙ sym (walk_counted (running (slice_range set from to)) items)
+    ∙ ap (λ ps. ends_wait ps items) (restart_running rows from place to row le lt within) in
     ap (λ b. not b && (ends_wait numbers items && list_any lasts (slice_range rows from to))) (sym awaited)
     ∙ ap (λ b. not (awaits (take from set ++ calm_rows (slice_range set from to) ++ drop to set)) && (b && list_any lasts (slice_range rows from to))) (sym ended)
     ∙ ap (λ b. not (awaits (take from set ++ calm_rows (slice_range set from to) ++ drop to set)) && (ends_wait (reverse (running (slice_range set from to))) items && b)) (sym (restart_due rows from place to kept row le lt at))
@@ -460,7 +462,9 @@ call_waits : (c : ℕ) (x : Call) (o : Outcome) → work_starts (put_last (waiti
 unfolding work_starts
 call_waits c x o =
     ap (λ b. is_busy o && (not (awaits o.state.rows) && (b && has_due o.state.to_start)))
-    (all_same _ _ o.state.to_stop (λ p. ap (λ k. nat_le (count_by (λ q. q == p) o.state.to_stop) k) (exits_call c x o.state.waiting p)))
+    (walk_counted o.state.to_stop (o.state.waiting ++ waiting.Item (item.Call c x) ∷ [])
+    ∙ all_same _ _ o.state.to_stop (λ p. ap (λ k. nat_le (count_by (λ q. q == p) o.state.to_stop) k) (exits_call c x o.state.waiting p))
+    ∙ sym (walk_counted o.state.to_stop o.state.waiting))
 
 pub ask_over : (c : ℕ) (x : Call) (o : Outcome) → is_over o.state.phase ≡ true → work_starts (ask c x o) ≡ work_starts o
 unfolding ask

@@ -7,14 +7,17 @@ ghost use Rattle.otp_table.specs.declared.row.Row.{Row};
 
 use crate::lists::list_children;
 use crate::machine::Machine;
+use crate::numbers::Numbers;
 use crate::rows::{is_over, is_simple};
 use otp_reason::Note;
-use otp_rules::{After, Call, Effect, Ending, Event, Item, Kind, Phase, Reply, Waiting};
+use otp_rules::laws::number_starts_work;
+use otp_rules::{After, Call, Effect, Ending, Item, Kind, Phase, Reply, Waiting};
 use otp_table::{Row, RowState, Rows};
 
 impl Machine {
     ghost use Rattle.otp_core.specs.Seen.{outcome_of, CanAdvance, CanDecide, HasMemory, IsSound};
-    ghost use Rattle.std.specs.Prelude.{not, ◌&&◌, is_some};
+    ghost use Rattle.std.specs.Prelude.{not, ◌&&◌, is_some, IsTrue, MatchOption};
+    ghost use Rattle.otp_rules.specs.Needs.{needs_number};
     ghost use Rattle.otp_rules.specs.State.{is_over};
     ghost use Rattle.otp_rules.specs.Step.{ask, decide, open_rows, resume, step_on, take_item, take_note, take_waiting, tick};
 
@@ -151,17 +154,22 @@ impl Machine {
         }
     }
 
-    /// One event. Takes no memory; its orders are put behind those that are there.
+    /// What happens now. Draws a number exactly where a child is started, and says which. Takes no memory; its orders
+    /// are put behind those that are there.
     #[tactic(auto, unfolding(otp_rules::specs::Step::step_on))]
-    pub fn step(&mut self, event: Event)
+    pub fn step<N: Numbers>(&mut self, reading: u64, kind: Kind, numbers: &mut N) -> Option<u64>
         requires memory { HasMemory self.old }
         requires sound { IsSound self.old }
-        requires reading { event.reading ≤ 2 ^ 62 }
-        ensures { outcome_of self.new ≡ step_on event (outcome_of self.old) }
+        requires reading { reading ≤ 2 ^ 62 }
+        requires number { IsTrue (needs_number (outcome_of self.old).state reading kind) → N.can_give numbers.old }
+        ensures outcome { outcome_of self.new ≡ step_on (record { reading = reading; number = result; kind = kind }) (outcome_of self.old) }
+        ensures starts { is_some result ≡ needs_number (outcome_of self.old).state reading kind }
+        ensures drawn { MatchOption result (numbers.new ≡ numbers.old) (λ n. N.gives numbers.old n numbers.new) }
     {
-        self.last = self.last.max(event.reading);
-        self.decide(event.kind);
-        self.advance(event.number.unwrap_or(0));
+        number_starts_work();
+        self.last = reading.max(self.last);
+        self.decide(kind);
+        self.advance(numbers)
     }
 }
 

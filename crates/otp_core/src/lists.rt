@@ -19,13 +19,6 @@ use otp_spec::{ChildSpec, ChildType};
 use otp_table::{Row, RowState, Rows};
 use std::collections::VecDeque;
 
-/// Whether the open work waits for an answer of a child.
-pub fn has_awaited(rows: &[Row]) -> bool
-    ensures { result ≡ list_any (row_has is_awaited) rows.now }
-{
-    rows.iter().any(|row| row.state.is_awaited())
-}
-
 /// Whether a significant child is left.
 pub fn has_left(rows: &[Row]) -> bool
     ensures { result ≡ list_any is_left rows.now }

@@ -6,7 +6,7 @@ ghost use Rattle.otp_core.specs.View.{state_of};
 ghost use Rattle.otp_core.specs.Opened.{IsOpenFault};
 ghost use Rattle.otp_rules.specs.Counts.{counts_of};
 ghost use Rattle.otp_rules.specs.Effects.{is_reply};
-ghost use Rattle.otp_rules.specs.Needs.{IsLawfulHistory, needs_number, numbers_of};
+ghost use Rattle.otp_rules.specs.Needs.{IsLawfulHistory, last_number, needs_number, numbers_of};
 ghost use Rattle.otp_rules.specs.Opening.{open_fault};
 ghost use Rattle.otp_rules.specs.Rate.{IsRated};
 ghost use Rattle.otp_rules.specs.Run.{empty_state, reply_of};
@@ -16,6 +16,7 @@ ghost use Rattle.otp_rules.specs.Step.{is_late, step};
 use crate::answers::Answers;
 use crate::lists::{has_late, move_orders};
 use crate::machine::Machine;
+use crate::numbers::{Given, Numbers};
 use crate::opening::{OpenFault, check_open, copy_specs};
 use crate::rows::is_over;
 use otp_rules::{CountsNow, Effect, Event, Kind, Phase, Reply, laws};
@@ -34,6 +35,8 @@ pub const MAX_EVENTS: usize = 65536;
 pub struct Core {
     machine: Machine,
     history: Vec<Event>,
+    /// The last process number that an event gave.
+    last_number: u64,
     prepared: bool,
 }
 
@@ -87,6 +90,7 @@ impl Core {
         Ok(Core {
             machine,
             history: Vec::new(alloc),
+            last_number: 0,
             prepared: false,
         })
     }
@@ -203,6 +207,21 @@ impl Core {
         self.machine.counts()
     }
 
+    /// Whether an event at this reading would start a child, so that [`Core::step`] wants a number for it.
+    pub fn needs_number(&self, reading: u64, kind: &Kind) -> bool
+        ensures { result ≡ needs_number (state_of self.now) reading kind.now }
+    {
+        self.machine.needs_number(reading, kind)
+    }
+
+    /// The last process number that was given to a child, or 0 where none was. Any above it may be the next.
+    pub fn last_number(&self) -> u64
+        ensures last { result ≡ last_number self.now.history }
+        ensures next { (n : ℕ) → result < n → All (λ m. m < n) (numbers_of self.now.history) }
+    {
+        self.last_number
+    }
+
     /// Takes the memory of the next event. An `Err` leaves the core as it was.
     pub fn prepare(&mut self) -> Result<(), AllocError>
         ensures ok { OnOk result (self.new ≡ record self.old { prepared = true }) }
@@ -217,15 +236,44 @@ impl Core {
         Ok(())
     }
 
-    /// Whether such an event needs a number: it starts a child. Takes no memory and changes nothing.
-    pub fn needs_number(&self, reading: u64, kind: &Kind) -> bool
-        ensures { result ≡ needs_number (state_of self.now) reading kind.now }
+    /// What happens now, at this reading of the clock in milliseconds. A number is drawn exactly where a child is
+    /// started, and is the answer; it is to be above [`Core::last_number`].
+    /// It takes no memory by its code; its orders are put behind the effects that are there.
+    pub fn step_with<N: Numbers>(
+        &mut self,
+        reading: u64,
+        kind: Kind,
+        numbers: &mut N,
+    ) -> Option<u64>
+        requires prepared { IsTrue self.old.prepared }
+        requires room { length self.old.history < 65536 }
+        requires reading { reading ≤ 2 ^ 62 }
+        requires number { IsTrue (needs_number (state_of self.old) reading kind) → N.can_give numbers.old }
+        requires rises { (n : ℕ) (after : N) → N.gives numbers.old n after → All (λ m. m < n) (numbers_of self.old.history) }
+        ensures number { is_some result ≡ needs_number (state_of self.old) reading kind }
+        ensures drawn { MatchOption result (numbers.new ≡ numbers.old) (λ n. N.gives numbers.old n numbers.new) }
+        ensures base { self.new.base ≡ self.old.base }
+        ensures history { self.new.history ≡ self.old.history ++ record { reading = reading; number = result; kind = kind } ∷ [] }
+        ensures effects { self.new.effects ≡ self.old.effects ++ (step (state_of self.old) (record { reading = reading; number = result; kind = kind })).orders }
+        ensures prepared { self.new.prepared ≡ false }
     {
-        self.machine.needs_number(reading, kind)
+        laws::step_keeps_plan();
+        laws::step_stamps();
+        laws::step_keeps_stamped();
+        laws::orders_are_appended();
+        let number = self.machine.step(reading, kind, numbers);
+        self.last_number = number.unwrap_or(self.last_number);
+        self.history.push_reserved(Event {
+            reading,
+            number,
+            kind,
+        });
+        self.prepared = false;
+        number
     }
 
-    /// One event, with a number exactly where it starts a child (`needs_number`), greater than each earlier one.
-    /// It takes no memory; its orders are put behind the effects that are there.
+    /// One event, with a number exactly where it starts a child ([`Core::needs_number`]), greater than each earlier one.
+    /// It takes no memory by its code; its orders are put behind the effects that are there.
     pub fn step(&mut self, event: Event)
         requires prepared { IsTrue self.old.prepared }
         requires room { length self.old.history < 65536 }
@@ -237,12 +285,9 @@ impl Core {
         ensures effects { self.new.effects ≡ self.old.effects ++ (step (state_of self.old) event).orders }
         ensures prepared { self.new.prepared ≡ false }
     {
-        laws::step_keeps_plan();
-        laws::step_stamps();
-        laws::step_keeps_stamped();
-        laws::orders_are_appended();
-        self.machine.step(event);
-        self.history.push_reserved(event);
-        self.prepared = false;
+        let mut given = Given {
+            number: event.number,
+        };
+        let _ = self.step_with(event.reading, event.kind, &mut given);
     }
 }

@@ -475,7 +475,7 @@ if_idle-behind xs done' done o h =
     either xs (is_busy o) (behind xs o) (if is_over o.state.phase then behind xs o else done') o (if is_over o.state.phase then o else done)
     refl (either xs (is_over o.state.phase) (behind xs o) done' o done refl h)
 
-decide-behind : (xs : List Effect) (k : Kind) (o : Outcome) → decide k (behind xs o) ≡ behind xs (decide k o)
+pub decide-behind : (xs : List Effect) (k : Kind) (o : Outcome) → decide k (behind xs o) ≡ behind xs (decide k o)
 unfolding decide
 decide-behind xs (kind.Opened own) o = either xs (is_over o.state.phase) (open_rows own (behind xs o)) (behind xs o) (open_rows own o) o (open_rows-behind xs own o) refl
 decide-behind xs (kind.Took x) o = take_item-behind xs x o

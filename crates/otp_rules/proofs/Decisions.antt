@@ -41,6 +41,7 @@ use Rattle.otp_rules.specs.Starts.{up_after, up_in, up_at, take_up, ignored_in, 
 use Rattle.otp_rules.specs.Calls.{already, new_row, add_child, already_at, start_lawful, start_checked, start_child, start_shared, start_dynamic, restart_child_in, restart_child_at, at_child, delete_child_in, delete_child_at, stop_process, terminate_child_in, terminate_child_at, terminate_process_in, terminate_process_at, terminate_process, get_shared, get_childspec, is_named, tell_spec, take_call}
 use Rattle.otp_rules.specs.Homes.{Brings, IsFirst, is_start_call}
 use Rattle.otp_rules.specs.Step.{take_note, ask, take_item, take_waiting, resume, open_rows, tick, decide}
+use Rattle.otp_rules.specs.Fit.{is_told}
 
 -- no work is open, nor was any when the event came
 abbrev pub IsIdle : Bool → Outcome → Type 0
@@ -56,15 +57,6 @@ StandsAt place row o = slice_get o.state.rows place ≡ Some row
 -- the event brings the note, or no work is open
 abbrev pub IsNoted : Kind → Bool → Note → Outcome → Type 0
 IsNoted k b x o = (k ≡ kind.Took (item.Note x)) ⊎ IsIdle b o
-
--- the row's child was told to stop, under this number
-abbrev pub is_told : ℕ → RowState → Bool
-is_told p Undefined = false
-is_told p (Starting _ _) = false
-is_told p (Up _) = false
-is_told p (Asked q _) = q == p
-is_told p (Killed q) = q == p
-is_told p (Restarting _) = false
 
 -- nothing runs in the row: its child is undefined or waits for a retry
 abbrev pub is_down : RowState → Bool

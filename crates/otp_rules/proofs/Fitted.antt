@@ -31,29 +31,19 @@ use Rattle.otp_rules.specs.Deaths.{restart_rows, restart_or_end, restart}
 use Rattle.otp_rules.specs.Calls.{new_row}
 use Rattle.otp_rules.specs.Step.{due_of, rows_from, open_with, open_rows, opening_specs, killed, late_number, tick}
 use Rattle.otp_rules.specs.Run.{empty_state}
-use Rattle.otp_rules.proofs.Decisions.{IsIdle, StandsAt, Survives, by_test, is_told}
+use Rattle.otp_rules.specs.Fit.{is_told, rows_in, times, IsSound, is_free, IsFree, Matches, Fits, nameless, IsNamed, IsFitted}
+use Rattle.otp_rules.proofs.Decisions.{IsIdle, StandsAt, Survives, by_test}
 use Rattle.std.specs.List.{cons_option, sum_by}
 use Prim.Native.Nat.{zero, suc}
-use Rattle.otp_rules.proofs.Counting.{rows_in, times, times-cons, times-append, rows_in-cons, set_count, remove_count, rows_in-set, Alike, end_row-alike, stop_each-alike, times-reverse, there}
-use Rattle.otp_rules.proofs.Sound.{IsSound, awaits_nothing, sound-survives}
+use Rattle.otp_rules.proofs.Counting.{times-cons, times-append, rows_in-cons, set_count, remove_count, rows_in-set, Alike, end_row-alike, stop_each-alike, times-reverse, there}
+use Rattle.otp_rules.proofs.Sound.{awaits_nothing, sound-survives}
 use Rattle.std.proofs.lemmas.List.Folds.{drop_split}
 use Rattle.std.proofs.lemmas.List.Elements.{filter_map-append}
 use Rattle.std.proofs.lemmas.Slice.Eq.{bytes_eq-Decides}
 use Rattle.otp_rules.proofs.Numbers.{counted_length}
-use Rattle.otp_rules.proofs.Fits.{is_free, IsFree, Matches, Fits, fits-front, fits-after, fits-append, fits-before, fits-map, fits-set, fits-remove}
+use Rattle.otp_rules.proofs.Fits.{fits-front, fits-after, fits-append, fits-before, fits-map, fits-set, fits-remove}
 use Rattle.otp_rules.specs.declared.ending.Ending.TheVariants as ending
 use Rattle.otp_rules.specs.declared.work.After.TheVariants as after
-
-abbrev pub nameless : Row → Bool
-nameless row = is_none row.id
-
--- but under simple_one_for_one each child has an id
-abbrev pub IsNamed : State → Type 0
-IsNamed s = is_simple s.flags.strategy ≡ false → count_by nameless s.rows ≡ 0
-
--- each child that is to be started has its row
-abbrev pub IsFitted : State → Type 0
-IsFitted s = IsNamed s × Fits s.to_stop s.to_start s.rows
 
 abbrev pub Stands : Outcome → Type 0
 Stands o = IsSound o.state × IsFitted o.state
@@ -189,7 +179,7 @@ fits-dues ps kept (row ∷ rows) calm there named =
     running-more q (Killed _) rest = omega arith
     running-more q (Restarting _) rest = omega arith
 
-slice_split : (rows : List Row) (a m z : ℕ) → a ≤ m → m ≤ z → slice_range rows a z ≡ slice_range rows a m ++ slice_range rows m z
+pub slice_split : (rows : List Row) (a m z : ℕ) → a ≤ m → m ≤ z → slice_range rows a z ≡ slice_range rows a m ++ slice_range rows m z
 slice_split rows a m z h k =
     append_cancel_right (slice_range rows a z) (slice_range rows a m ++ slice_range rows m z) (drop z rows)
     (sym (drop_split rows a z (omega (arith, h, k))) ∙ drop_split rows a m h ∙ ap (λ (t : List Row). slice_range rows a m ++ t) (drop_split rows m z k)
@@ -234,13 +224,13 @@ restarted-fits from to place k rows le more calm named =
     (fits-after ps (restart_list from to place k rows) (take from rows) (calm_rows whole)
     (subst (λ (t : List Row). Fits ps (restart_list from to place k rows) t) (sym calmed_split) parts))
 
-affected_from_le : (s : Strategy) (place : ℕ) → affected_from s place ≤ place
+pub affected_from_le : (s : Strategy) (place : ℕ) → affected_from s place ≤ place
 affected_from_le OneForOne place = omega arith
 affected_from_le OneForAll place = omega arith
 affected_from_le RestForOne place = omega arith
 affected_from_le SimpleOneForOne place = omega arith
 
-affected_to_more : (s : Strategy) (place count : ℕ) → place < count → place + 1 ≤ affected_to s place count
+pub affected_to_more : (s : Strategy) (place count : ℕ) → place < count → place + 1 ≤ affected_to s place count
 affected_to_more OneForOne place count h = omega arith
 affected_to_more OneForAll place count h = omega (arith, h)
 affected_to_more RestForOne place count h = omega (arith, h)

@@ -38,12 +38,13 @@ use Rattle.otp_rules.specs.Deaths.{restart_rows, restart_or_end, restart}
 use Rattle.otp_rules.specs.Calls.{new_row}
 use Rattle.otp_rules.specs.Step.{tick, decide, stamped, step, step_on, killed, late_number}
 use Rattle.otp_rules.specs.Homes.{Brings, ComesHome, EndsProcess, HomesKept, HomesKeptFrom, IsAdded, IsNewNumber, IsFirst, IsOpening, WasThere, KeepsHomes, end_number, is_ended, is_home, is_start_call, is_started}
-use Rattle.otp_rules.proofs.Decisions.{BringsExit, BringsFailure, StandsAt, SurvivesEvent, at_row-survives, at_number-survives, by_test, decide-survives_event, is_told, is_down}
+use Rattle.otp_rules.proofs.Decisions.{BringsExit, BringsFailure, StandsAt, SurvivesEvent, at_row-survives, at_number-survives, by_test, decide-survives_event, is_down}
 use Rattle.std.specs.Prelude.{length}
 use Rattle.otp_rules.specs.Run.{empty_state, state_after}
 use Rattle.std.proofs.Common.{cond}
-use Rattle.otp_rules.proofs.Counting.{rows_in, rows_in-cons}
+use Rattle.otp_rules.proofs.Counting.{rows_in-cons}
 use Rattle.otp_rules.proofs.Processes.{processes_owned_law}
+use Rattle.otp_rules.specs.Fit.{is_told, rows_in}
 
 -- a fact of each row
 abbrev pub Each : (Row → Type 0) → List Row → Type 0

@@ -20,3 +20,6 @@ pub mod Homes
 pub mod Slots
 pub mod Named
 pub mod Processes
+pub mod Opened
+pub mod Runs
+pub mod Few

@@ -34,12 +34,13 @@ use Rattle.otp_rules.specs.Deaths.{restart_rows, restart_or_end, restart}
 use Rattle.otp_rules.specs.Step.{open_with, open_rows, tick, decide, stamped, step, step_on, kill_order, late_number}
 use Rattle.otp_rules.specs.Named.{AreAmong, named_by, NamesOneOf, OrdersNumbered, OrdersNumberedFrom}
 use Rattle.otp_rules.specs.Ends.{sup_end_of}
-use Rattle.otp_rules.specs.Order.{decided}
 use Rattle.otp_rules.specs.Needs.{is_start, needs_number, numbers_of, IsNumbered}
 use Rattle.otp_rules.specs.Run.{empty_state, orders_of}
 use Rattle.otp_rules.proofs.Decisions.{StandsAt, Survives, at_row-survives, at_number-survives, by_test, decide-survives}
-use Rattle.otp_rules.proofs.Counting.{rows_in, rows_in-cons, rows_in-at}
+use Rattle.otp_rules.proofs.Counting.{rows_in-cons, rows_in-at}
 use Rattle.otp_rules.proofs.Numbers.{holders, NoMore, set-no_more, tell-no_more, use_exit-no_more, calm_process, restart_rows-no_more, affected_in_order, counted_length, no_more-survives, step-grown}
+use Rattle.otp_rules.specs.Fit.{rows_in}
+use Rattle.otp_rules.specs.Progress.{decided}
 
 -- if the order names a process, that is n, or a row had it
 abbrev pub IsHeld : ℕ → Outcome → Effect → Type 0

@@ -28,9 +28,10 @@ use Rattle.otp_rules.specs.Stops.{calm_all, is_exit, without, told, tell_row, te
 use Rattle.otp_rules.specs.Deaths.{restart_rows, restart_or_end, restart}
 use Rattle.otp_rules.specs.Calls.{new_row}
 use Rattle.otp_rules.specs.Step.{rows_from, open_with, open_rows, opening_specs, tick, decide, stamped, step, step_on}
+use Rattle.otp_rules.specs.Progress.{decided}
+use Rattle.otp_rules.specs.Fit.{rows_in, IsDistinct}
 use Rattle.otp_rules.proofs.Decisions.{StandsAt, Survives, at_row-survives, at_number-survives, by_test, decide-survives}
-use Rattle.otp_rules.proofs.Counting.{rows_in, rows_in-cons, rows_in-append, remove_count, rows_in-set, rows_in-end, rows_in-map, tick_count}
-use Rattle.otp_rules.specs.Order.{decided}
+use Rattle.otp_rules.proofs.Counting.{rows_in-cons, rows_in-append, remove_count, rows_in-set, rows_in-end, rows_in-map, tick_count}
 use Rattle.std.proofs.lemmas.List.Folds.{drop_split, list_any-append}
 use Rattle.std.proofs.lemmas.List.{length-set}
 use Rattle.otp_rules.specs.Needs.{is_start, needs_number}
@@ -251,10 +252,6 @@ advance-grown n o =
     by_test (Grown n o) (is_busy o) (if list_any (row_has is_awaited) o.state.rows then o else go) o
     (λ _. by_test (Grown n o) (list_any (row_has is_awaited) o.state.rows) o go (λ _. inl (λ q. omega arith)) (λ _. stop_first-grown o.state.to_stop n o))
     (λ _. inl (λ q. omega arith))
-
--- each process has one row at most, and all numbers are below m
-abbrev pub IsDistinct : ℕ → State → Type 0
-IsDistinct m s = ((q : ℕ) → rows_in (has_process q) s.rows ≤ 1) × ((q : ℕ) → m ≤ q → rows_in (has_process q) s.rows ≡ 0)
 
 pub decided-distinct : (m : ℕ) (s : State) (e : Event) → IsDistinct m s → IsDistinct m (decided s e)
 decided-distinct m s e d =

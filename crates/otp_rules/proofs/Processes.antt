@@ -11,7 +11,8 @@ use Rattle.otp_rules.specs.Run.{empty_state, state_after}
 use Rattle.otp_rules.specs.Needs.{IsNumbered, needs_number, numbers_of}
 use Rattle.otp_rules.specs.Processes.{ProcessesOwned, ProcessesStayOwned}
 use Rattle.otp_rules.proofs.StartTurn.{pairs_first, pairs_rest}
-use Rattle.otp_rules.proofs.Numbers.{IsDistinct, numbered-distinct, unnumbered-distinct}
+use Rattle.otp_rules.proofs.Numbers.{numbered-distinct, unnumbered-distinct}
+use Rattle.otp_rules.specs.Fit.{IsDistinct}
 
 -- along a history the numbers of all rows stay below the next
 pub run-distinct : (m : ℕ) (s : State) (es : List Event) (n : ℕ) → IsNumbered s es → AllPairs (λ i j. i < j) (numbers_of es) → All (λ y. m ≤ y) (numbers_of es) → m ≤ n → All (λ y. y < n) (numbers_of es) → IsDistinct m s → IsDistinct n (state_after s es)

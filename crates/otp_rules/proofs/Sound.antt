@@ -23,21 +23,12 @@ use Rattle.otp_rules.specs.Deaths.{restart_rows, restart_or_end, restart}
 use Rattle.otp_rules.specs.Calls.{new_row}
 use Rattle.otp_rules.specs.Step.{rows_from, open_with, open_rows, opening_specs, tick}
 use Rattle.otp_rules.specs.Run.{empty_state}
-use Rattle.otp_rules.proofs.Decisions.{IsIdle, IsRunning, StandsAt, Survives, at_row-survives, at_number-survives, by_test, is_told}
-use Rattle.otp_rules.proofs.Counting.{rows_in, times, times-cons, rows_in-cons, rows_in-append, remove_count, rows_in-set, rows_in-at, rows_in-end, Alike, end_row-alike, stop_each-alike, told-runs, runs_as, runs_number, times-reverse, running_counted, calm_awaited, tick_count, take_rows, drop_rows, none_in, there}
-use Rattle.otp_rules.specs.Order.{is_end, ends_together}
+use Rattle.otp_rules.specs.Progress.{is_end}
+use Rattle.otp_rules.specs.Fit.{is_told, rows_in, times, runs_as, IsLimited, IsCovered, IsSound}
+use Rattle.otp_rules.proofs.Decisions.{IsIdle, IsRunning, StandsAt, Survives, at_row-survives, at_number-survives, by_test}
+use Rattle.otp_rules.proofs.Counting.{times-cons, rows_in-cons, rows_in-append, remove_count, rows_in-set, rows_in-at, rows_in-end, Alike, end_row-alike, stop_each-alike, told-runs, runs_number, times-reverse, running_counted, calm_awaited, tick_count, take_rows, drop_rows, none_in, there}
 use Rattle.otp_rules.specs.declared.ending.Ending.TheVariants as ending
 use Rattle.otp_rules.specs.declared.work.After.TheVariants as after
-
--- how many answers of children may be awaited, by what follows the open work: none where no work is open
-abbrev pub IsLimited : Option After → ℕ → Type 0
-IsLimited None n = n ≡ 0
-IsLimited (Some after.Ready) n = n ≤ 1
-IsLimited (Some after.Nothing) n = n ≤ 1
-IsLimited (Some (after.Added _)) n = n ≤ 1
-IsLimited (Some (after.Restarted _)) n = n ≤ 1
-IsLimited (Some (after.Stopped _)) n = n ≤ 1
-IsLimited (Some (after.End _)) n = Unit {0}
 
 limited-less : (f : Option After) (m n : ℕ) → m ≤ n → IsLimited f n → IsLimited f m
 limited-less None m n h k = omega (arith, h, k)
@@ -60,20 +51,6 @@ limited-one (Some (after.End _)) n busy h = tt
 limited-none : (f : Option After) (n : ℕ) → is_some f ≡ false → IsLimited f n → n ≡ 0
 limited-none None n idle h = h
 limited-none (Some f) n idle h = absurd (false≢true (sym idle))
-
--- each process still to stop is a child's, as often as it is to stop
-abbrev pub IsCovered : List ℕ → List Row → Type 0
-IsCovered ps rows = (q : ℕ) → times q ps ≤ rows_in (runs_as q) rows
-
--- no more answers are awaited than the open work may await, its processes are there, and it is open while the supervisor runs
-abbrev pub IsSound : State → Type 0
-IsSound s =
-    IsLimited s.follows (rows_in is_awaited s.rows)
-    × IsCovered s.to_stop s.rows
-    × (is_some s.follows ≡ false → (s.to_stop ≡ []) × (s.to_start ≡ []))
-    × (is_over s.phase ≡ true → is_some s.follows ≡ false)
-    × (is_end s.follows ≡ true → s.to_start ≡ [])
-    × (ends_together s ≡ true → s.to_stop ≡ [])
 
 -- nothing to stop is always covered
 pub covered-none : (ps : List ℕ) (rows : List Row) → ps ≡ [] → IsCovered ps rows

@@ -14,6 +14,8 @@ pub mod Needs
 pub mod Frames
 pub mod Rate
 pub mod Opening
+pub mod Progress
+pub mod Fit
 pub mod Order
 pub mod Effects
 pub mod Homes

@@ -1,13 +1,16 @@
 //! Laws over all states, events and histories. A law is a function that does nothing: what it ensures is the law.
 
+ghost use Rattle.otp_rules.specs.Effects.{OrdersFew};
 ghost use Rattle.otp_rules.specs.Evidence.{EndEvidence};
+ghost use Rattle.otp_rules.specs.Fit.{StaysFit};
 ghost use Rattle.otp_rules.specs.Frames.{OrdersAppended, StepKeepsPlan, StepKeepsStamped, StepStamps};
 ghost use Rattle.otp_rules.specs.Homes.{HomesKept, HomesKeptFrom};
 ghost use Rattle.otp_rules.specs.Named.{OrdersNumbered, OrdersNumberedFrom};
 ghost use Rattle.otp_rules.specs.Needs.{NumberStartsWork};
-ghost use Rattle.otp_rules.specs.Order.{StartOrder, StopOrder};
+ghost use Rattle.otp_rules.specs.Order.{StartOrder, StartOrderFromEmpty, StopOrder, StopOrderFromEmpty};
 ghost use Rattle.otp_rules.specs.Processes.{ProcessesOwned, ProcessesStayOwned};
 ghost use Rattle.otp_rules.specs.Rate.{RestartRate};
+ghost use Rattle.otp_rules.specs.Run.{RunGoesOn, RunsJoined};
 ghost use Rattle.otp_rules.specs.Slots.{SlotsOwned, SlotsStayOwned, SlotsTellProcesses};
 
 /// No event changes the flags or the specifications.
@@ -41,18 +44,31 @@ pub fn restart_rate()
     ensures { RestartRate }
 {}
 
-/// In a lawful history a child is started only when all that were to be stopped have ended, and each child that comes
-/// before it in the start list was started since, in that order, and has answered with Up or Ignored (Supervisor
-/// Behaviour, Starting a Supervisor and Restart Strategy).
-pub fn start_order()
-    ensures { StartOrder }
+/// A supervisor that was never opened is fit to be a base, and each lawful history leads from a fit state to a fit one:
+/// among other things each process is the child's in one row at most, no number is given twice, and what is still to stop
+/// and to start is there.
+pub fn stays_fit()
+    ensures { StaysFit }
 {}
 
-/// A child is told to stop only when each child that comes before it in the stop list has ended: each that stands after
-/// it in start order (Supervisor Behaviour, Stopping). Two things are no such order: a kill at a deadline, and the end of
-/// a simple_one_for_one supervisor, whose children are told together.
+/// In a lawful history a child is started only in its turn, from each state that is fit. The children to start are those that the work is about, as
+/// they stood when it was opened, in start order: all at the opening, one for a call, and for a restart those that it
+/// affects and that aren't temporary. Each of them that comes before the child was started since, in that order, and has
+/// answered after that start with Up or Ignored; and each process of a child that the work is about has ended
+/// (Supervisor Behaviour, Starting a Supervisor and Restart Strategy).
+pub fn start_order()
+    ensures from_any { StartOrder }
+    ensures from_empty { StartOrderFromEmpty }
+{}
+
+/// A child is told to stop only in its turn, from each state whose open work is in step with what was seen of it: no answer of a child is awaited, the work is about it, and of the children
+/// that the work is about each that had a process and stands after it in start order has ended (Supervisor Behaviour,
+/// Stopping and Restart Strategy). Two things are no such order: a kill of a child that was asked and whose deadline has
+/// come, which only an event that ticks gives; and the end of a simple_one_for_one supervisor, whose children are told
+/// together by the event that ends it.
 pub fn stop_order()
-    ensures { StopOrder }
+    ensures from_any { StopOrder }
+    ensures from_empty { StopOrderFromEmpty }
 {}
 
 /// Each end that is ordered shows why: by the intensity, the flags and one restart more than the intensity, none before
@@ -90,4 +106,15 @@ pub fn orders_are_numbered()
 pub fn homes_are_kept()
     ensures from_empty { HomesKept }
     ensures from_any { HomesKeptFrom }
+{}
+
+/// The orders of two lists of events follow each other, and so do their states: one event more does its step.
+pub fn runs_are_joined()
+    ensures lists { RunsJoined }
+    ensures one_more { RunGoesOn }
+{}
+
+/// An event gives one order more than there are rows at most, beside answers to calls.
+pub fn orders_are_few()
+    ensures { OrdersFew }
 {}

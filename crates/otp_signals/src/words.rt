@@ -194,14 +194,6 @@ impl<N: WordsNaming> Words<N> {
         self.table.word_count() - 1
     }
 
-    // The word of a slot as it is now.
-    #[cfg(test)]
-    pub(crate) fn word(&self, slot: usize) -> u64
-        requires { slot < self.now }
-    {
-        self.table.shared.peek(slot + 1)
-    }
-
     /// Draws a number: a new one, above all that this owner drew. One atomic step; takes no memory.
     ///
     /// Refused (E9) exactly where the quota is 0.

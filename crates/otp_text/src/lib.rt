@@ -12,6 +12,3 @@ mod word;
 
 pub use effect::Printer;
 pub use line::{LONGEST_LINE, Line, read_line};
-
-#[cfg(test)]
-mod tests;
