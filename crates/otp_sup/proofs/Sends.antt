@@ -20,7 +20,8 @@ use Rattle.otp_signals.specs.Holdings.{after_post}
 use Rattle.otp_sup.specs.Facts.{OfficeView, IsOffice, orders_in, orders_along, post_of, word_posted, word_ordered, IsOrdered}
 use Rattle.otp_sup.specs.Flushes.{Posts, Posted, IsPosted, IsFirst, IsSent, SentFirst, sending_of}
 use Rattle.otp_sup.specs.Letters.{one_if}
-use Rattle.otp_sup.specs.Ports.{Launched, Taken, carried}
+use Rattle.otp_sup.specs.declared.port.Launched.{Launched}
+use Rattle.otp_sup.specs.Ports.{Taken, carried}
 use Rattle.otp_sup.specs.declared.orders.Sending.{Sending}
 use Rattle.std.specs.Prelude.{ltb}
 use Rattle.otp_sup.specs.Turns.{has_some}

@@ -95,6 +95,16 @@ pub record IsOffice (o : OfficeView) : Type 0 where
   pub slots : EachBetween o.first_slot (o.first_slot + 256) (Contains o.owner.slots)
   pub fits : o.first_slot + 256 < 2 ^ 64
 
+-- the office of a supervisor that was never opened
+abbrev pub new_office : SupFlags → List ChildSpec → Holding → ℕ → OfficeView
+new_office flags specs owner first_slot = record {
+  core = record { base = empty_state flags specs; history = []; effects = []; prepared = false };
+  owner = owner;
+  outbox = [];
+  sent = 0;
+  first_slot = first_slot;
+}
+
 -- what an office keeps, as a reader wants it. Its state is what the rules give for its history from its base on
 pub record KeepsOffice (o : OfficeView) : Type 0 where
   -- the base is a supervisor that was never opened, for some flags and specifications

@@ -19,7 +19,7 @@ use Rattle.otp_sup.specs.declared.orders.Sending.TheVariants as sending
 use Rattle.otp_sup.specs.declared.port.Flushed.{Flushed}
 use Rattle.otp_sup.specs.declared.port.Flushed.TheVariants as flushed
 use Rattle.otp_sup.specs.Facts.{OfficeView, post_of}
-use Rattle.otp_sup.specs.Ports.{Launched, Taken}
+use Rattle.otp_sup.specs.Ports.{Taken, launched}
 use Rattle.otp_sup.specs.Slots.{slot_of}
 
 -- the note of a supervisor's end to its parent: it failed where a child didn't start at the opening, else it exited
@@ -71,7 +71,7 @@ pub record IsPut (number : ℕ) (old new : OfficeView) (before after : Taken) : 
   pub slot : ℕ
   pub body : Bool
   pub posted : IsPosted number signal.None slot old new
-  pub took : after ≡ record before { processes = before.processes ++ record { number = number; slot = slot; body = body } ∷ [] }
+  pub took : after ≡ record before { processes = before.processes ++ launched number slot body ∷ [] }
 
 -- a signal was posted, and the port took nothing
 pub record IsAsked (number : ℕ) (told : Signal) (old new : OfficeView) (before after : Taken) : Type 0 where

@@ -1,13 +1,16 @@
 -- What a port took.
-use Rattle.std.specs.Prelude.{ℕ, Bool, List, sum_by}
+use Rattle.std.specs.Prelude.{ℕ, Bool, List, is_some, map, sum_by}
 use Rattle.otp_reason.specs.declared.note.Note.{Note}
+use Rattle.otp_sup.specs.declared.port.Launched.{Launched}
+use Rattle.otp_sup.specs.declared.port.NewProcess.{NewProcess}
 use Rattle.otp_sup.specs.Letters.{one_if}
 
 -- a process that a port took: its number, its slot, and whether it had a body
-pub record Launched : Type 0 where
-  pub number : ℕ
-  pub slot : ℕ
-  pub body : Bool
+abbrev pub launched : ℕ → ℕ → Bool → Launched
+launched number slot body = record { number = number; slot = slot; body = body }
+
+abbrev pub launched_all : {B : Type 0} → List (NewProcess B) → List Launched
+launched_all processes = map (λ p. launched p.number p.slot (is_some p.body)) processes
 
 -- what a port took
 pub record Taken : Type 0 where

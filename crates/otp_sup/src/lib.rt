@@ -23,10 +23,10 @@ pub mod table;
 pub mod turns;
 
 pub use bodies::Bodies;
-pub use client::{Client, SubmitFault};
+pub use client::{Client, SubmitCause, SubmitFault};
 pub use letter::Letter;
 pub use office::Office;
-pub use port::{Flushed, NewProcess, Port};
+pub use port::{Flushed, Launched, MemoryPort, NewProcess, Port};
 pub use sup::Sup;
 pub use table::Table;
 pub use turns::{TurnAnswer, TurnFault};

@@ -1,23 +1,27 @@
 //! A core with the seat that draws its numbers, and its orders on their way.
-ghost use Rattle.std.specs.Prelude.{◌≡◌, ℕ, ◌+◌, ◌<◌, ◌≤◌, ◌^◌, ◌↔◌, [], ◌∷◌, ◌++◌, true, length, All, Contains, is_some, IsTrue, IfSome, IfErr, OnOk, MatchOption, Some, None};
+ghost use Rattle.std.specs.Prelude.{◌≡◌, ℕ, ◌+◌, ◌<◌, ◌≤◌, ◌^◌, ◌↔◌, [], ◌∷◌, ◌++◌, true, length, All, Contains, is_some, IsTrue, IfSome, IfOk, IfErr, OnOk, MatchOption, Some, None};
+ghost use Rattle.otp_core.specs.Opened.{IsOpenFault};
 ghost use Rattle.otp_core.specs.View.{state_of};
+ghost use Rattle.otp_rules.specs.Opening.{open_fault};
 ghost use Rattle.otp_rules.specs.Needs.{needs_number};
 ghost use Rattle.otp_rules.specs.State.{own_number, is_over};
 ghost use Rattle.otp_rules.specs.Run.{reply_of};
 ghost use Rattle.otp_signals.specs.Lists.{EachBetween};
-ghost use Rattle.otp_sup.specs.Facts.{item_of, Begins, KeepsOffice};
+ghost use Rattle.otp_sup.specs.Facts.{item_of, new_office, KeepsOffice};
 ghost use Rattle.otp_sup.specs.declared.turns.TurnFault.TheVariants as fault;
 ghost use Rattle.otp_sup.specs.Turns.{is_told, may_open, due_kind, early_answer, Happened, Readied, IsRefusal};
 
 use crate::orders::first_order;
 use crate::rows::{child_of, state_in};
 use crate::turns::{TurnAnswer, TurnFault};
-use otp_core::Core;
+use otp_core::{Core, OpenFault};
 use otp_reason::Note;
 use otp_rules::{Event, Item, Kind, Phase, Reply};
 use otp_signals::{Owner, Signal, Words, WordsNaming};
+use otp_spec::{ChildSpec, SupFlags};
 use otp_table::{Row, RowState};
 use otp_tally::Tally;
+use std::alloc::Global;
 use std::marker::{Model, PhantomData};
 
 /// The core of a supervisor, with the seat that draws its process numbers and posts to its slots, and with its orders
@@ -122,25 +126,36 @@ fn may_open(number: u64, phase: Phase) -> bool
 }
 
 impl<N: WordsNaming> Office<N> {
-    /// An office of a core that was never opened.
-    pub fn new(core: Core, owner: Owner<N>, first_slot: usize) -> Self
-        requires begins { Begins core.base }
-        requires history { core.history ≡ [] }
-        requires effects { core.effects ≡ [] }
+    /// The office of a supervisor that was never opened, for children of these specifications. Its seat drew no number
+    /// and posted nothing, and owns the 256 slots from the first one on: one for each child that there can be.
+    ///
+    /// # Errors
+    ///
+    /// Those of [`Core::open`]. The seat is dropped then.
+    pub fn open(
+        alloc: Global,
+        flags: SupFlags,
+        specs: &[ChildSpec],
+        owner: Owner<N>,
+        first_slot: usize,
+    ) -> Result<Self, OpenFault>
         requires drawn { owner.drawn ≡ [] }
         requires posts { owner.posts ≡ [] }
         requires slots { EachBetween first_slot (first_slot + 256) (Contains owner.slots) }
         requires fits { first_slot + 256 < 2 ^ 64 }
-        ensures { result ≡ record { core = core; owner = owner; outbox = []; sent = 0; first_slot = first_slot } }
+        ensures ok { OnOk result (open_fault flags specs.now ≡ None) }
+        ensures new { IfOk result (λ office. office ≡ new_office flags specs.now owner first_slot) }
+        ensures fault { IfErr result (λ why. IsOpenFault why (open_fault flags specs.now)) }
     {
-        Office {
+        let core = Core::open(alloc, flags, specs)?;
+        Ok(Office {
             core,
             owner,
             next: 0,
             sent: Tally::new(),
             first_slot,
             of: PhantomData,
-        }
+        })
     }
 
     /// The answer of a turn that changes nothing.

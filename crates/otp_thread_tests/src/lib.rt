@@ -8,4 +8,6 @@ mod inbox;
 #[cfg(test)]
 mod signals;
 #[cfg(test)]
+mod supervisors;
+#[cfg(test)]
 mod tally;

@@ -6,7 +6,8 @@ use Rattle.otp_sup.specs.declared.orders.Sending.{Sending}
 use Rattle.otp_sup.specs.Facts.{OfficeView}
 use Rattle.otp_sup.specs.Flushes.{IsSent}
 use Rattle.otp_sup.specs.Letters.{one_if}
-use Rattle.otp_sup.specs.Ports.{Launched, Taken, taken_by, carried}
+use Rattle.otp_sup.specs.declared.port.Launched.{Launched}
+use Rattle.otp_sup.specs.Ports.{Taken, taken_by, carried}
 use Rattle.otp_sup.proofs.Sends.{sent_first, last_post, carried_last}
 use Rattle.otp_sup.proofs.office.Office.flush_one.Goals as goal
 
