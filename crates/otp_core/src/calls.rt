@@ -300,7 +300,11 @@ impl Machine {
 
     /// What count_children answers.
     pub fn counts(&self) -> CountsNow
-        ensures { result ≡ counts_of (outcome_of self.now).state }
+        ensures counts { result ≡ counts_of (outcome_of self.now).state }
+        ensures specs { result.specs ≤ 256 }
+        ensures active { result.active ≤ 256 }
+        ensures supervisors { result.supervisors ≤ 256 }
+        ensures workers { result.workers ≤ 256 }
     {
         let rows = self.rows.as_slice();
         CountsNow {

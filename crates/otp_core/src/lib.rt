@@ -5,6 +5,7 @@
 
 mod answers;
 mod calls;
+mod deadlines;
 mod deaths;
 mod events;
 mod lines;

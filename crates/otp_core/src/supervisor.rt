@@ -1,12 +1,13 @@
 //! A supervisor's core: its history, and the state that the rules give for it.
 
-ghost use Rattle.std.specs.Prelude.{ℕ, All, ◌≡◌, ◌+◌, ◌<◌, ◌≤◌, ◌^◌, ◌↔◌, ◌++◌, ◌∷◌, [], true, false, length, not, is_some, is_none, nat_lt, max, IsTrue, None, Some, IfOk, IfErr, OnOk, OnErr, MatchOption, vec_len, vec_capacity};
+ghost use Rattle.std.specs.Prelude.{ℕ, All, ◌≡◌, ◌+◌, ◌<◌, ◌≤◌, ◌^◌, ◌↔◌, ◌++◌, ◌∷◌, [], true, false, length, not, is_some, is_none, nat_lt, max, IsTrue, None, Some, IfOk, IfErr, OnOk, OnErr, MatchOption, option_map, slice_get, vec_len, vec_capacity};
 ghost use Rattle.std.specs.List.{filter, list_any};
 ghost use Rattle.otp_core.specs.View.{state_of};
 ghost use Rattle.otp_core.specs.Opened.{IsOpenFault};
 ghost use Rattle.otp_rules.specs.Counts.{counts_of};
 ghost use Rattle.otp_rules.specs.Effects.{is_reply};
 ghost use Rattle.otp_rules.specs.Needs.{IsLawfulHistory, last_number, needs_number, numbers_of};
+ghost use Rattle.otp_rules.specs.Next.{has_come, next_deadline, next_kind};
 ghost use Rattle.otp_rules.specs.Opening.{open_fault};
 ghost use Rattle.otp_rules.specs.Rate.{IsRated};
 ghost use Rattle.otp_rules.specs.Run.{empty_state, reply_of};
@@ -14,12 +15,13 @@ ghost use Rattle.otp_rules.specs.State.{is_over};
 ghost use Rattle.otp_rules.specs.Step.{is_late, step};
 
 use crate::answers::Answers;
-use crate::lists::{has_late, move_orders};
+use crate::deadlines::{has_late, next_deadline};
+use crate::lists::move_orders;
 use crate::machine::Machine;
 use crate::numbers::{Given, Numbers};
 use crate::opening::{OpenFault, check_open, copy_specs};
 use crate::rows::is_over;
-use otp_rules::{CountsNow, Effect, Event, Kind, Phase, Reply, laws};
+use otp_rules::{CountsNow, Effect, Event, Kind, Phase, Reply, Waiting, laws};
 use otp_spec::{ChildSpec, SupFlags};
 use otp_table::{Row, Rows};
 use otp_window::Window;
@@ -136,9 +138,10 @@ impl Core {
         self.machine.window.stamps()
     }
 
-    /// Moves the orders but for replies, in order, into a list that has room, and clears the effects. Takes no memory.
+    /// Moves the orders but for replies, in order, into a list that has room, and clears the effects.
+    /// A step gives one more of them than there were rows at most ([`otp_rules::laws::orders_are_few`]).
     pub fn move_orders(&mut self, list: &mut Vec<Effect>)
-        requires { vec_len list.old + length self.old.effects ≤ vec_capacity list.old }
+        requires { vec_len list.old + length (filter (λ effect. not (is_reply effect)) self.old.effects) ≤ vec_capacity list.old }
         ensures orders { list.new.items ≡ list.old.items ++ filter (λ effect. not (is_reply effect)) self.old.effects }
         ensures core { self.new ≡ record self.old { effects = [] } }
     {
@@ -149,6 +152,21 @@ impl Core {
         ensures { self.new ≡ record self.old { effects = [] } }
     {
         self.machine.orders.clear();
+    }
+
+    /// Whether the supervisor runs, and under which number of its own.
+    pub fn phase(&self) -> Phase
+        ensures { result ≡ (state_of self.now).phase }
+    {
+        self.machine.phase
+    }
+
+    /// The children in start order, at most 256.
+    pub fn rows(&self) -> &[Row]
+        ensures value { result.now ≡ (state_of self.now).rows }
+        ensures limit { length (state_of self.now).rows ≤ 256 }
+    {
+        self.machine.rows.as_slice()
     }
 
     /// Whether children are being stopped or started.
@@ -165,21 +183,6 @@ impl Core {
         is_over(self.machine.phase)
     }
 
-    /// Whether it runs, and under which number.
-    pub fn phase(&self) -> Phase
-        ensures { result ≡ (state_of self.now).phase }
-    {
-        self.machine.phase
-    }
-
-    /// Its children in start order.
-    pub fn rows(&self) -> &[Row]
-        ensures rows { result.now ≡ (state_of self.now).rows }
-        ensures limit { length (state_of self.now).rows ≤ 256 }
-    {
-        self.machine.rows.as_slice()
-    }
-
     /// Whether an item waits until no work is open.
     pub fn has_waiting(&self) -> bool
         ensures { result ≡ nat_lt 0 (length (state_of self.now).waiting) }
@@ -187,11 +190,49 @@ impl Core {
         !self.machine.waiting.is_empty()
     }
 
+    /// The item that waits first. [`Kind::Resumed`] takes it.
+    pub fn first_waiting(&self) -> Option<&Waiting>
+        ensures { option_map (λ item. item.now) result ≡ slice_get (state_of self.now).waiting 0 }
+    {
+        self.machine.waiting.front()
+    }
+
     /// Whether a child is to be killed at this reading of the clock: it was told to shut down, and its deadline has come.
     pub fn is_due(&self, reading: u64) -> bool
         ensures { result ≡ list_any (λ row. is_late (max reading (state_of self.now).last) row.state) (state_of self.now).rows }
     {
         has_late(self.machine.last.max(reading), self.machine.rows.as_slice())
+    }
+
+    /// The least deadline in milliseconds of the children that were told to shut down: once the clock has come to it,
+    /// [`Core::is_due`].
+    pub fn next_deadline(&self) -> Option<u64>
+        ensures least { result ≡ next_deadline (state_of self.now).rows }
+        ensures due { (now : ℕ) → list_any (λ row. is_late now row.state) (state_of self.now).rows ≡ has_come now result }
+    {
+        laws::deadlines_come();
+        next_deadline(self.machine.rows.as_slice())
+    }
+
+    /// The event that comes next without an item of the inbox, at this reading of the clock: a kill whose deadline has
+    /// come; or, where no work is open, the stop that the parent wants, and then what waits first.
+    #[tactic(auto, unfolding(otp_rules::specs::Next::next_kind, otp_rules::specs::Next::idle_kind))]
+    pub fn next_kind(&self, reading: u64, is_stop_wanted: bool) -> Option<Kind>
+        ensures { result ≡ next_kind (state_of self.now) reading is_stop_wanted }
+    {
+        if self.is_due(reading) {
+            return Some(Kind::Ticked);
+        }
+        if self.has_open_work() {
+            return None;
+        }
+        if is_stop_wanted && !self.has_ended() {
+            return Some(Kind::Stopped);
+        }
+        if self.has_waiting() {
+            return Some(Kind::Resumed);
+        }
+        None
     }
 
     /// The answer to the call with this number, if it was given.
@@ -203,7 +244,11 @@ impl Core {
 
     /// What count_children would answer now.
     pub fn counts(&self) -> CountsNow
-        ensures { result ≡ counts_of (state_of self.now) }
+        ensures counts { result ≡ counts_of (state_of self.now) }
+        ensures specs { result.specs ≤ 256 }
+        ensures active { result.active ≤ 256 }
+        ensures supervisors { result.supervisors ≤ 256 }
+        ensures workers { result.workers ≤ 256 }
     {
         self.machine.counts()
     }

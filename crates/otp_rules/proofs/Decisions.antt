@@ -432,7 +432,7 @@ take_item-survives k G old P s (item.Note n) o u noted rows x =
     by_test P (is_over o.state.phase) o (take_note n o) (λ _. x) (λ runs. take_note-survives k G old P s n o u runs noted x)
 take_item-survives k G old P s (item.Call c call) o u noted rows x = ask-survives k G old P s c call o u noted rows x
 
-take_waiting-survives : (k : Kind) (G : Item → Type 0) (old : Outcome) (P : Outcome → Type 0) → SurvivesEvent k G old P → (x : Waiting) (o : Outcome) → IsUnmoved old o → ((i : Item) → x ≡ waiting.Item i → G i) → IsIdle (is_busy old) o → IsRunning o → o.state.rows ≡ old.state.rows → P o → P (take_waiting x o)
+pub take_waiting-survives : (k : Kind) (G : Item → Type 0) (old : Outcome) (P : Outcome → Type 0) → SurvivesEvent k G old P → (x : Waiting) (o : Outcome) → IsUnmoved old o → ((i : Item) → x ≡ waiting.Item i → G i) → IsIdle (is_busy old) o → IsRunning o → o.state.rows ≡ old.state.rows → P o → P (take_waiting x o)
 unfolding take_waiting
 take_waiting-survives k G old P s (waiting.Item i) o u got idle runs rows x = take_item-survives k G old P s i o u (got i refl) rows x
 take_waiting-survives k G old P s (waiting.Retry n) o u got idle runs rows x = retry-survives k G old P s n o u idle runs x

@@ -38,13 +38,13 @@ use Rattle.otp_rules.specs.Deaths.{restart_rows, restart_or_end, restart}
 use Rattle.otp_rules.specs.Calls.{new_row}
 use Rattle.otp_rules.specs.Step.{tick, decide, stamped, step, step_on, killed, late_number}
 use Rattle.otp_rules.specs.Homes.{Brings, ComesHome, EndsProcess, HomesKept, HomesKeptFrom, IsAdded, IsNewNumber, IsFirst, IsOpening, WasThere, KeepsHomes, end_number, is_ended, is_home, is_start_call, is_started}
+use Rattle.otp_rules.specs.Fit.{is_told, rows_in}
 use Rattle.otp_rules.proofs.Decisions.{BringsExit, BringsFailure, StandsAt, SurvivesEvent, at_row-survives, at_number-survives, by_test, decide-survives_event, is_down}
 use Rattle.std.specs.Prelude.{length}
 use Rattle.otp_rules.specs.Run.{empty_state, state_after}
 use Rattle.std.proofs.Common.{cond}
 use Rattle.otp_rules.proofs.Counting.{rows_in-cons}
 use Rattle.otp_rules.proofs.Processes.{processes_owned_law}
-use Rattle.otp_rules.specs.Fit.{is_told, rows_in}
 
 -- a fact of each row
 abbrev pub Each : (Row → Type 0) → List Row → Type 0
@@ -607,4 +607,4 @@ homes_kept_from_law s e free = step-homes s e free
 pub homes_kept_law : HomesKept
 homes_kept_law flags specs events e lawful rises =
     let s : State = state_after (empty_state flags specs) events in
-    step-homes s e (new_number e.number s (λ n is. (processes_owned_law flags specs events n lawful (rises n is)).below n (omega arith)))
+    step-homes s e (new_number e.number s (λ n is. (processes_owned_law flags specs events n lawful (rises n is)).1 n (omega arith)))

@@ -1,6 +1,7 @@
 mod Worked
 pub mod Keeps
 pub mod Decisions
+pub mod Deadlines
 pub mod Period
 pub mod Rated
 pub mod Appended
@@ -23,3 +24,5 @@ pub mod Processes
 pub mod Opened
 pub mod Runs
 pub mod Few
+pub mod Waits
+pub mod NamedRows

@@ -34,13 +34,13 @@ use Rattle.otp_rules.specs.Deaths.{restart_rows, restart_or_end, restart}
 use Rattle.otp_rules.specs.Step.{open_with, open_rows, tick, decide, stamped, step, step_on, kill_order, late_number}
 use Rattle.otp_rules.specs.Named.{AreAmong, named_by, NamesOneOf, OrdersNumbered, OrdersNumberedFrom}
 use Rattle.otp_rules.specs.Ends.{sup_end_of}
+use Rattle.otp_rules.specs.Progress.{decided}
+use Rattle.otp_rules.specs.Fit.{rows_in}
 use Rattle.otp_rules.specs.Needs.{is_start, needs_number, numbers_of, IsNumbered}
 use Rattle.otp_rules.specs.Run.{empty_state, orders_of}
 use Rattle.otp_rules.proofs.Decisions.{StandsAt, Survives, at_row-survives, at_number-survives, by_test, decide-survives}
 use Rattle.otp_rules.proofs.Counting.{rows_in-cons, rows_in-at}
 use Rattle.otp_rules.proofs.Numbers.{holders, NoMore, set-no_more, tell-no_more, use_exit-no_more, calm_process, restart_rows-no_more, affected_in_order, counted_length, no_more-survives, step-grown}
-use Rattle.otp_rules.specs.Fit.{rows_in}
-use Rattle.otp_rules.specs.Progress.{decided}
 
 -- if the order names a process, that is n, or a row had it
 abbrev pub IsHeld : ℕ → Outcome → Effect → Type 0
@@ -124,7 +124,7 @@ restart-held n p place row old o at h =
       h.1,
     ))
 
-late_has : (now p : ℕ) (s : RowState) → late_number now s ≡ Some p → has_process p s ≡ true
+pub late_has : (now p : ℕ) (s : RowState) → late_number now s ≡ Some p → has_process p s ≡ true
 late_has now p Undefined h = absurd (search (rules, h))
 late_has now p (Starting _ _) h = absurd (search (rules, h))
 late_has now p (Up _) h = absurd (search (rules, h))
@@ -137,28 +137,32 @@ late_has now p (Asked q (Some d)) h = by_late (nat_le d now) h
 late_has now p (Killed _) h = absurd (search (rules, h))
 late_has now p (Restarting _) h = absurd (search (rules, h))
 
-one_held : (n : ℕ) (old : Outcome) (x : Option Effect) → ((e : Effect) → x ≡ Some e → IsHeld n old e) → All (IsHeld n old) (filter_map (λ (u : Unit {0}). x) (tt ∷ []))
-one_held n old None h k d b = absurd (omega arith)
-one_held n old (Some e) h k d b = All-push (IsHeld n old) [] e (λ k d b. absurd (omega arith)) (h e refl) k d b
+pub one_order : (Q : Effect → Type 0) (x : Option Effect) → ((e : Effect) → x ≡ Some e → Q e) → All Q (filter_map (λ (u : Unit {0}). x) (tt ∷ []))
+one_order Q None h k d b = absurd (omega arith)
+one_order Q (Some e) h k d b = All-push Q [] e (λ k d b. absurd (omega arith)) (h e refl) k d b
 
-kill_held : (n : ℕ) (old : Outcome) (row : Row) (x : Option ℕ) → ((p : ℕ) → x ≡ Some p → 1 ≤ holders p old) → (e : Effect) → kill_order row x ≡ Some e → IsHeld n old e
-kill_held n old row None h e is = absurd (search (rules, is))
-kill_held n old row (Some p) h e is =
-    let F : Effect → Type 0 = λ y. IsHeld n old y in
-    let same : effect.Kill row.id p ≡ e = ap (λ (y : Option Effect). unwrap_or y e) is in
-    subst F same (named n old (effect.Kill row.id p) p refl (inr (h p refl)))
+-- the kills of a tick: what holds of a kill of each process that some row has so
+pub kills : (Q : Effect → Type 0) (t : ℕ → RowState → Bool) (count : ℕ → ℕ) (now : ℕ) (rows : List Row)
+    → ((id : Option Name) (p : ℕ) → 1 ≤ count p → Q (effect.Kill id p)) → ((state : RowState) (p : ℕ) → late_number now state ≡ Some p → t p state ≡ true)
+    → ((q : ℕ) → rows_in (t q) rows ≤ count q) → All Q (filter_map (λ (row : Row). kill_order row (late_number now row.state)) rows)
+kills Q t count now [] holds late h = λ k d b. absurd (omega arith)
+kills Q t count now (row ∷ rows) holds late h =
+    let f : Row → Option Effect = λ r. kill_order r (late_number now r.state) in
+    let rest : All Q (filter_map f rows) = kills Q t count now rows holds late (λ q. omega (arith, h q, rows_in-cons (t q) row rows)) in
+    let here : (p : ℕ) → late_number now row.state ≡ Some p → 1 ≤ count p = λ p is.
+    let one : ◌≡◌ {A = ℕ} (cond (t p row.state) 1 0) 1 = ap (λ (b : Bool). cond b 1 0) (late row.state p is) in
+    omega (arith, one, h p, rows_in-cons (t p) row rows) in
+    subst (λ (l : List Effect). All Q l) (sym (filter_map-append f (row ∷ []) rows))
+    (All-append Q (filter_map f (row ∷ [])) (filter_map f rows) (one_order Q (f row) (kill row (late_number now row.state) here)) rest)
+  where
+    kill : (row : Row) (x : Option ℕ) → ((p : ℕ) → x ≡ Some p → 1 ≤ count p) → (e : Effect) → kill_order row x ≡ Some e → Q e
+    kill row None h e is = absurd (search (rules, is))
+    kill row (Some p) h e is = subst Q (ap (λ (y : Option Effect). unwrap_or y e) is) (holds row.id p (h p refl))
 
 kills-held : (n now : ℕ) (old : Outcome) (rows : List Row) → ((q : ℕ) → rows_in (has_process q) rows ≤ holders q old) → All (IsHeld n old) (filter_map (λ (row : Row). kill_order row (late_number now row.state)) rows)
-kills-held n now old [] h = λ k d b. absurd (omega arith)
-kills-held n now old (row ∷ rows) h =
-    let f : Row → Option Effect = λ r. kill_order r (late_number now r.state) in
-    let F : List Effect → Type 0 = λ l. All (IsHeld n old) l in
-    let rest : All (IsHeld n old) (filter_map f rows) = kills-held n now old rows (λ q. omega (arith, h q, rows_in-cons (has_process q) row rows)) in
-    let here : (p : ℕ) → late_number now row.state ≡ Some p → 1 ≤ holders p old = λ p is.
-    let one : ◌≡◌ {A = ℕ} (cond (has_process p row.state) 1 0) 1 = ap (λ (b : Bool). cond b 1 0) (late_has now p row.state is) in
-    omega (arith, one, h p, rows_in-cons (has_process p) row rows) in
-    let first : All (IsHeld n old) (filter_map f (row ∷ [])) = one_held n old (f row) (kill_held n old row (late_number now row.state) here) in
-    subst F (sym (filter_map-append f (row ∷ []) rows)) (All-append (IsHeld n old) (filter_map f (row ∷ [])) (filter_map f rows) first rest)
+kills-held n now old rows h =
+    kills (IsHeld n old) (λ q state. has_process q state) (λ q. holders q old) now rows
+    (λ id p has. named n old (effect.Kill id p) p refl (inr has)) (λ state p. late_has now p state) h
 
 tick-held : (n : ℕ) (old o : Outcome) → NoMore old (tick o) → Held n old o → Held n old (tick o)
 unfolding tick
@@ -168,7 +172,7 @@ answer-held : (n c : ℕ) (r : Reply) (old o : Outcome) → All (IsHeld n old) o
 unfolding answer
 answer-held n c r old o h = All-push (IsHeld n old) o.orders (effect.Reply c) h (unnamed n old (effect.Reply c) refl)
 
-open-orders : (P : List Effect → Type 0) (own : ℕ) (o : Outcome) → P o.orders → P (open_rows own o).orders
+pub open-orders : (P : List Effect → Type 0) (own : ℕ) (o : Outcome) → P o.orders → P (open_rows own o).orders
 unfolding open_rows open_with
 open-orders P own o h = h
 
@@ -208,7 +212,7 @@ refusals-held n old [] = λ k d b. absurd (omega arith)
 refusals-held n old (w ∷ ws) =
     let F : List Effect → Type 0 = λ l. All (IsHeld n old) l in
     subst F (sym (filter_map-append refusal (w ∷ []) ws))
-    (All-append (IsHeld n old) (filter_map refusal (w ∷ [])) (filter_map refusal ws) (one_held n old (refusal w) (refusal_held w)) (refusals-held n old ws))
+    (All-append (IsHeld n old) (filter_map refusal (w ∷ [])) (filter_map refusal ws) (one_order (IsHeld n old) (refusal w) (refusal_held w)) (refusals-held n old ws))
   where
     refusal_held : (x : Waiting) (e : Effect) → refusal x ≡ Some e → IsHeld n old e
     refusal_held (waiting.Item (item.Note y)) e is = absurd (search (rules, is))

@@ -8,11 +8,11 @@ use Rattle.std.specs.Prelude.{AllPairs, All}
 use Rattle.std.specs.List.{cons_option}
 use Rattle.std.proofs.lemmas.List.Elements.{All-head, All-tail}
 use Rattle.otp_rules.specs.Run.{empty_state, state_after}
+use Rattle.otp_rules.specs.Fit.{IsDistinct}
 use Rattle.otp_rules.specs.Needs.{IsNumbered, needs_number, numbers_of}
 use Rattle.otp_rules.specs.Processes.{ProcessesOwned, ProcessesStayOwned}
 use Rattle.otp_rules.proofs.StartTurn.{pairs_first, pairs_rest}
 use Rattle.otp_rules.proofs.Numbers.{numbered-distinct, unnumbered-distinct}
-use Rattle.otp_rules.specs.Fit.{IsDistinct}
 
 -- along a history the numbers of all rows stay below the next
 pub run-distinct : (m : ℕ) (s : State) (es : List Event) (n : ℕ) → IsNumbered s es → AllPairs (λ i j. i < j) (numbers_of es) → All (λ y. m ≤ y) (numbers_of es) → m ≤ n → All (λ y. y < n) (numbers_of es) → IsDistinct m s → IsDistinct n (state_after s es)
@@ -40,10 +40,8 @@ run-distinct m s (e ∷ es) n numbered up above le less d = by_number e.number r
         goes (k + 1) (pairs_first k (numbers_of es) ups) (omega (arith, All-head (λ y. y < n) k (numbers_of es) lesss)) (numbered-distinct m k s e is (All-head (λ y. m ≤ y) k (numbers_of es) aboves) d)
 
 pub processes_stay_owned_law : ProcessesStayOwned
-processes_stay_owned_law s events first next lawful above below le h =
-    let d : IsDistinct next (state_after s events) = run-distinct first s events next lawful.0 lawful.1 above le below (h.one, h.below) in
-    record { one = d.0; below = d.1 }
+processes_stay_owned_law s events first next lawful above below le h = run-distinct first s events next lawful.0 lawful.1 above le below h
 
 pub processes_owned_law : ProcessesOwned
 processes_owned_law flags specs events next lawful below =
-    processes_stay_owned_law (empty_state flags specs) events 0 next lawful (λ i k h. omega arith) below (omega arith) (record { one = λ q. omega arith; below = λ q h. refl })
+    processes_stay_owned_law (empty_state flags specs) events 0 next lawful (λ i k h. omega arith) below (omega arith) (λ q. omega arith, λ q h. refl)

@@ -428,11 +428,11 @@ one_process p q (Killed x) h k = sym (eqb-true x p h) ∙ eqb-true x q k
 one_process p q (Restarting _) h k = absurd (false≢true h)
 
 pub slots_tell_processes_law : SlotsTellProcesses
-slots_tell_processes_law rows next slotted owned a b p q in_a in_b has_p has_q = (
+slots_tell_processes_law s next slotted owned a b p q in_a in_b has_p has_q = (
   λ same.
-      let row : a ≡ b = same_row (has_slot b.slot) rows a b (slotted.one b.slot) in_a in_b (eq-eqb a.slot b.slot same) (eq-eqb b.slot b.slot refl) in
+      let row : a ≡ b = same_row (has_slot b.slot) s.rows a b (slotted.one b.slot) in_a in_b (eq-eqb a.slot b.slot same) (eq-eqb b.slot b.slot refl) in
       one_process p q b.state (subst (λ (r : Row). has_process p r.state ≡ true) row has_p) has_q,
   λ same.
       let here : has_process q a.state ≡ true = subst (λ (n : ℕ). has_process n a.state ≡ true) same has_p in
-      ap (λ (r : Row). r.slot) (same_row (row_has (has_process q)) rows a b (owned.one q) in_a in_b here has_q),
+      ap (λ (r : Row). r.slot) (same_row (row_has (has_process q)) s.rows a b (owned.0 q) in_a in_b here has_q),
 )

@@ -241,7 +241,7 @@ end-stops p ps ds i row o at has one fits =
     (λ goes. fits-stop-remove p ps i row has (λ free. held_goes (p ∷ ps) p row.state has (sym (ap (λ (b : Bool). is_free (p ∷ ps) b row.state) goes) ∙ free)) ds o.state.rows at one fits)
     (λ _. fits-stop p ps i row Undefined has (λ _. refl) ds o.state.rows at one fits)
 
-used-fits : (p : ℕ) (ps : List ℕ) (place : Option ℕ) (o : Outcome) → IsReady (p ∷ ps) o → rows_in (has_process p) o.state.rows ≤ 1 → IsNamed o.state → Fits (p ∷ ps) o.state.to_start o.state.rows
+pub used-fits : (p : ℕ) (ps : List ℕ) (place : Option ℕ) (o : Outcome) → IsReady (p ∷ ps) o → rows_in (has_process p) o.state.rows ≤ 1 → IsNamed o.state → Fits (p ∷ ps) o.state.to_start o.state.rows
     → IsNamed (use_exit p place (with_work ps o.state.to_start o.state.follows o)).state × Fits ps o.state.to_start (use_exit p place (with_work ps o.state.to_start o.state.follows o)).state.rows
 unfolding use_exit end_process at_number
 used-fits p ps place o r one named fits =

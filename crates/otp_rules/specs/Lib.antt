@@ -11,6 +11,7 @@ pub mod Calls
 pub mod Step
 pub mod Run
 pub mod Needs
+pub mod Next
 pub mod Frames
 pub mod Rate
 pub mod Opening
@@ -22,3 +23,4 @@ pub mod Homes
 pub mod Slots
 pub mod Named
 pub mod Processes
+pub mod Waits

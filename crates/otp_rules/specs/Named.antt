@@ -8,8 +8,11 @@ use Rattle.otp_rules.specs.declared.event.Effect.{Effect}
 use Rattle.otp_rules.specs.declared.event.Effect.TheVariants as effect
 use Rattle.otp_rules.specs.declared.event.Event.{Event}
 use Rattle.otp_rules.specs.State.{State}
-use Rattle.otp_rules.specs.Run.{empty_state, orders_of}
+use Rattle.otp_rules.specs.Step.{step}
+use Rattle.otp_rules.specs.Run.{empty_state, orders_of, state_after}
 use Rattle.otp_rules.specs.Needs.{IsLawfulHistory, numbers_of}
+use Rattle.otp_rules.specs.Progress.{Progress}
+use Rattle.otp_rules.specs.Fit.{IsFit}
 
 -- the process that an order names, if it names one
 abbrev pub named_by : Effect → Option ℕ
@@ -38,3 +41,17 @@ abbrev pub OrdersNumbered : Type 0
 OrdersNumbered =
     (flags : SupFlags) (specs : List ChildSpec) (events : List Event) → IsLawfulHistory (empty_state flags specs) events
     → All (NamesOneOf (numbers_of events)) (orders_of (empty_state flags specs) events)
+
+-- a process that the order names is that of a row
+abbrev pub NamesRowOf : List Row → Effect → Type 0
+NamesRowOf rows order = (p : ℕ) → named_by order ≡ Some p → (row : Row) × Contains rows row × (has_process p row.state ≡ true)
+
+-- each order of an event names a process that a row has after the event, from each state that is fit
+abbrev pub OrdersNameRowsFrom : Type 0
+OrdersNameRowsFrom = (next : ℕ) (s : State) (g : Progress) (e : Event) → IsFit next s g → All (NamesRowOf (step s e).state.rows) (step s e).orders
+
+-- so it is after each lawful history
+abbrev pub OrdersNameRows : Type 0
+OrdersNameRows =
+    (flags : SupFlags) (specs : List ChildSpec) (events : List Event) (e : Event) → IsLawfulHistory (empty_state flags specs) events
+    → All (NamesRowOf (step (state_after (empty_state flags specs) events) e).state.rows) (step (state_after (empty_state flags specs) events) e).orders

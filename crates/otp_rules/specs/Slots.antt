@@ -6,7 +6,7 @@ use Rattle.otp_table.specs.declared.row.Row.{Row}
 use Rattle.otp_table.specs.Rows.{has_process, has_slot}
 use Rattle.otp_rules.specs.declared.event.Event.{Event}
 use Rattle.otp_rules.specs.State.{State}
-use Rattle.otp_rules.specs.Processes.{AreOwned}
+use Rattle.otp_rules.specs.Fit.{IsDistinct}
 use Rattle.otp_rules.specs.Run.{empty_state, state_after}
 
 -- each slot has one row at most, and lies below 256
@@ -14,16 +14,16 @@ pub record AreSlotted (rows : List Row) : Type 0 where
   pub one : (slot : ℕ) → count_by (has_slot slot) rows ≤ 1
   pub below : All (λ row. row.slot < 256) rows
 
--- so it stays along every list of events, where there are at most 256 specifications
+-- this stays along every list of events, where there are at most 256 specifications
 abbrev pub SlotsStayOwned : Type 0
 SlotsStayOwned = (s : State) (events : List Event) → length s.specs ≤ 256 → AreSlotted s.rows → AreSlotted (state_after s events).rows
 
--- and so it is from the first event on
+-- and it holds from the first event on
 abbrev pub SlotsOwned : Type 0
 SlotsOwned = (flags : SupFlags) (specs : List ChildSpec) (events : List Event) → length specs ≤ 256 → AreSlotted (state_after (empty_state flags specs) events).rows
 
 -- of two rows with a process the slots are one exactly where the processes are: what is kept by slots is a process's own
 abbrev pub SlotsTellProcesses : Type 0
 SlotsTellProcesses =
-    (rows : List Row) (next : ℕ) → AreSlotted rows → AreOwned next rows
-    → (a b : Row) (p q : ℕ) → Contains rows a → Contains rows b → has_process p a.state ≡ true → has_process q b.state ≡ true → (a.slot ≡ b.slot) ↔ (p ≡ q)
+    (s : State) (next : ℕ) → AreSlotted s.rows → IsDistinct next s
+    → (a b : Row) (p q : ℕ) → Contains s.rows a → Contains s.rows b → has_process p a.state ≡ true → has_process q b.state ≡ true → (a.slot ≡ b.slot) ↔ (p ≡ q)

@@ -5,13 +5,15 @@ ghost use Rattle.otp_rules.specs.Evidence.{EndEvidence};
 ghost use Rattle.otp_rules.specs.Fit.{StaysFit};
 ghost use Rattle.otp_rules.specs.Frames.{OrdersAppended, StepKeepsPlan, StepKeepsStamped, StepStamps};
 ghost use Rattle.otp_rules.specs.Homes.{HomesKept, HomesKeptFrom};
-ghost use Rattle.otp_rules.specs.Named.{OrdersNumbered, OrdersNumberedFrom};
+ghost use Rattle.otp_rules.specs.Named.{OrdersNameRows, OrdersNameRowsFrom, OrdersNumbered, OrdersNumberedFrom};
 ghost use Rattle.otp_rules.specs.Needs.{NumberStartsWork};
+ghost use Rattle.otp_rules.specs.Next.{DeadlinesCome};
 ghost use Rattle.otp_rules.specs.Order.{StartOrder, StartOrderFromEmpty, StopOrder, StopOrderFromEmpty};
 ghost use Rattle.otp_rules.specs.Processes.{ProcessesOwned, ProcessesStayOwned};
 ghost use Rattle.otp_rules.specs.Rate.{RestartRate};
 ghost use Rattle.otp_rules.specs.Run.{RunGoesOn, RunsJoined};
 ghost use Rattle.otp_rules.specs.Slots.{SlotsOwned, SlotsStayOwned, SlotsTellProcesses};
+ghost use Rattle.otp_rules.specs.Waits.{StartsWait};
 
 /// No event changes the flags or the specifications.
 pub fn step_keeps_plan()
@@ -101,6 +103,12 @@ pub fn orders_are_numbered()
     ensures from_any { OrdersNumberedFrom }
 {}
 
+/// After an event each of its orders names a process that a row has.
+pub fn orders_name_rows()
+    ensures from_empty { OrdersNameRows }
+    ensures from_any { OrdersNameRowsFrom }
+{}
+
 /// A child whose process has ended is at home only because the note of that end was taken: each child that is at home
 /// after an event, or that the event starts, was at home before it, or comes home by the note that the event takes, or is new.
 pub fn homes_are_kept()
@@ -117,4 +125,15 @@ pub fn runs_are_joined()
 /// An event gives one order more than there are rows at most, beside answers to calls.
 pub fn orders_are_few()
     ensures { OrdersFew }
+{}
+
+/// Some child's deadline has come exactly when the least one has.
+pub fn deadlines_come()
+    ensures { DeadlinesCome }
+{}
+
+/// Each start call that waits was taken while work was open. They are taken in their order when the supervisor resumes,
+/// and none waits once it has ended.
+pub fn start_calls_wait()
+    ensures { StartsWait }
 {}

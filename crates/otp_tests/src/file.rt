@@ -355,3 +355,30 @@ fn texts_of_faults(rt: HostRuntime) -> Result<(), Fail> {
     assert_eq!(rt; TreeFault::OutOfMemory.code(), 0);
     Ok(())
 }
+
+#[test]
+fn texts_of_keys(rt: HostRuntime) -> Result<(), Fail> {
+    let flag_keys = [
+        (FlagKey::Strategy, "strategy"),
+        (FlagKey::Intensity, "intensity"),
+        (FlagKey::Period, "period"),
+        (FlagKey::AutoShutdown, "auto_shutdown"),
+        (FlagKey::Child, "child"),
+    ];
+    for (key, text) in flag_keys {
+        assert_eq!(rt; format!(in rt.alloc(); "{key}")?.as_str(), text);
+    }
+    let child_keys = [
+        (ChildKey::Id, "id"),
+        (ChildKey::Start, "start"),
+        (ChildKey::Restart, "restart"),
+        (ChildKey::Significant, "significant"),
+        (ChildKey::Shutdown, "shutdown"),
+        (ChildKey::Kind, "type"),
+        (ChildKey::Modules, "modules"),
+    ];
+    for (key, text) in child_keys {
+        assert_eq!(rt; format!(in rt.alloc(); "{key}")?.as_str(), text);
+    }
+    Ok(())
+}

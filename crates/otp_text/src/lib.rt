@@ -4,6 +4,7 @@
 #![tactic(auto)]
 
 pub mod effect;
+pub mod laws;
 pub mod line;
 mod reply;
 mod value;

@@ -13,4 +13,4 @@ returns-clause-below g c =
     let Below : ℕ → Type 0 = λ k. k < 256 in
     subst Below (sym c.slot_of.ensures)
     (slot_of-below c.rows.result.now c.args.number
-    (subst AreSlotted (sym c.rows.ensures.rows) (subst F (sym begins.is) (c.slots_are_owned.ensures.from_empty begins.flags begins.specs core.history begins.few))))
+    (subst AreSlotted (sym c.rows.ensures.value) (subst F (sym begins.is) (c.slots_are_owned.ensures.from_empty begins.flags begins.specs core.history begins.few))))

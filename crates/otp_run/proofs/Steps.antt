@@ -1,0 +1,149 @@
+-- Each step on a deque keeps its rule.
+use Rattle.std.proofs.Common.{◌≡◌, ◌≢◌, ⊎_elim, ℕ, zero, suc, ◌+◌, ◌-◌, ◌<◌, ◌≤◌, List, [], ◌∷◌, ◌++◌, length, map, set, refl, sym, ap, ◌∙◌, subst, arith}
+use Rattle.std.specs.Prelude.{sum_by}
+use Rattle.std.proofs.lemmas.List.Sums.{sum_by-append, sum_by-cons}
+use mathlib.Core.Option.{some, some-ne-none, some-injective}
+use lib.ListN.{get_elem?}
+use Rattle.crossbeam_deque.specs.Tasks.{Pushes, Takes, Pops, Finds, Forks, Merges}
+use Rattle.crossbeam_deque.proofs.Lists.{at_set, at_snoc}
+use Rattle.otp_job.specs.Processes.{ProcessState}
+use Rattle.otp_job.specs.declared.process.Ticket.{Ticket}
+use Rattle.otp_run.specs.declared.rule.View.{View}
+use Rattle.otp_run.specs.Rule.{IsDeque, all_parts, ticket_of, view_of, whole_view, blank_view, thief_view, kept_view, joined_view, Puts, IsEmptied}
+use Rattle.otp_run.specs.Rule.{Takes as TakesTickets}
+use Rattle.otp_run.proofs.Sums.{sum_by-set, two_le_sum_by, sum_by-alone}
+
+Idle : View → Type 0
+Idle v = v.parts ≡ 0 → (v.put ≡ []) × (v.taken ≡ [])
+
+only_first : (v u : View) (id : ℕ) → get_elem? (v ∷ []) id ≡ some u → v ≡ u
+only_first v u zero e = some-injective v u e
+only_first v u (suc id) e = absurd (some-ne-none u (sym e))
+
+map-append : {A B : Type 0} (f : A → B) (xs ys : List A) → map f (xs ++ ys) ≡ map f xs ++ map f ys
+map-append f [] ys = refl
+map-append f (x ∷ xs) ys = ap (λ l. f x ∷ l) (map-append f xs ys)
+
+pub begins : IsDeque [] (whole_view ∷ [])
+begins = record {
+  whole = refl;
+  as_often = λ weight. refl;
+  idle = λ id v e none. let x = only_first whole_view v id e in absurd (let p : 8 ≡ v.parts = ap (λ (u : View). u.parts) x in omega arith);
+}
+
+-- one pass changed what it put or took, and the deque has changed by as much
+changed : (items more : List Ticket) (views : List View) (id : ℕ) (v w : View) → get_elem? views id ≡ some v → 0 < v.parts → w.parts ≡ v.parts
+    → ((weight : Ticket → ℕ) → sum_by weight w.put + sum_by weight v.taken + sum_by weight items ≡ sum_by weight v.put + sum_by weight w.taken + sum_by weight more)
+    → IsDeque items views → IsDeque more (set views id w)
+changed items more views id v w at some_part same weighs d = record {
+  whole = let s = sum_by-set (λ (u : View). u.parts) views id v w at in let o = d.whole in omega arith;
+  as_often = λ weight.
+      let s = sum_by-set (λ (u : View). sum_by weight u.put) views id v w at in
+      let t = sum_by-set (λ (u : View). sum_by weight u.taken) views id v w at in
+      let o = d.as_often weight in
+      let p = weighs weight in
+      omega arith;
+  idle = λ j u e none. ⊎_elim
+      (λ (y : (j ≡ id) × (w ≡ u)). absurd (let p : w.parts ≡ u.parts = ap (λ (z : View). z.parts) y.1 in omega arith))
+      (λ (y : (j ≢ id) × (get_elem? views j ≡ some u)). d.idle j u y.1 none)
+      (at_set views id j w u e);
+}
+
+forked : (items : List Ticket) (views : List View) (id : ℕ) (v : View) → get_elem? views id ≡ some v → 1 < v.parts → IsDeque items views → IsDeque items (set views id (kept_view v) ++ thief_view ∷ [])
+forked items views id v at two d =
+    let l : View = kept_view v in
+    let r : View = thief_view in
+    record {
+      whole =
+          let f : View → ℕ = λ u. u.parts in
+          let s = sum_by-set f views id v l at in
+          let o = d.whole in
+          omega (arith, sum_by-append f (set views id l) (r ∷ []), sum_by-cons f r []);
+      as_often = λ weight.
+          let f : View → ℕ = λ u. sum_by weight u.put in
+          let g : View → ℕ = λ u. sum_by weight u.taken in
+          let s = sum_by-set f views id v l at in
+          let t = sum_by-set g views id v l at in
+          let o = d.as_often weight in
+          omega (arith, sum_by-append f (set views id l) (r ∷ []), sum_by-cons f r [], sum_by-append g (set views id l) (r ∷ []), sum_by-cons g r []);
+      idle = λ j u e none. ⊎_elim
+          (λ was. ⊎_elim
+          (λ (y : (j ≡ id) × (l ≡ u)). absurd (let p : l.parts ≡ u.parts = ap (λ (z : View). z.parts) y.1 in omega arith))
+          (λ (y : (j ≢ id) × (get_elem? views j ≡ some u)). d.idle j u y.1 none)
+          (at_set views id j l u was))
+          (λ (is : r ≡ u). absurd (let p : r.parts ≡ u.parts = ap (λ (z : View). z.parts) is in omega arith))
+          (at_snoc (set views id l) r u j e);
+    }
+
+merged : (items : List Ticket) (views : List View) (id other : ℕ) (v w : View) → get_elem? views id ≡ some v → ¬ (other ≡ id) → get_elem? (set views id (joined_view v w)) other ≡ some w → 0 < v.parts → IsDeque items views
+    → IsDeque items (set (set views id (joined_view v w)) other blank_view)
+merged items views id other v w at apart there some_part d =
+    let b : View = joined_view v w in
+    record {
+      whole =
+          let f : View → ℕ = λ u. u.parts in
+          let s = sum_by-set f views id v b at in
+          let t = sum_by-set f (set views id b) other w blank_view there in
+          let o = d.whole in
+          omega arith;
+      as_often = λ weight.
+          let f : View → ℕ = λ u. sum_by weight u.put in
+          let g : View → ℕ = λ u. sum_by weight u.taken in
+          let s = sum_by-set f views id v b at in
+          let t = sum_by-set f (set views id b) other w blank_view there in
+          let x = sum_by-set g views id v b at in
+          let y = sum_by-set g (set views id b) other w blank_view there in
+          let o = d.as_often weight in
+          omega (arith, sum_by-append weight v.put w.put, sum_by-append weight v.taken w.taken);
+      idle = λ j u e none. ⊎_elim
+          (λ (y : (j ≡ other) × (blank_view ≡ u)). (sym (ap (λ (z : View). z.put) y.1), sym (ap (λ (z : View). z.taken) y.1)))
+          (λ (y : (j ≢ other) × (get_elem? (set views id b) j ≡ some u)). ⊎_elim
+          (λ (x : (j ≡ id) × (b ≡ u)). absurd (let p : b.parts ≡ u.parts = ap (λ (z : View). z.parts) x.1 in omega arith))
+          (λ (x : (j ≢ id) × (get_elem? views j ≡ some u)). d.idle j u x.1 none)
+          (at_set views id j b u y.1))
+          (at_set (set views id b) other j blank_view u e);
+    }
+
+pub settles : (views : List View) (id : ℕ) (v : View) → IsDeque [] views → get_elem? views id ≡ some v → IsEmptied v
+settles views id v d at all weight =
+    let f : View → ℕ = λ u. sum_by weight u.put in
+    let g : View → ℕ = λ u. sum_by weight u.taken in
+    let whole = d.whole ∙ sym all in
+    let p = sum_by-alone (λ (u : View). u.parts) f views id v at (λ j u e none. ap (sum_by weight) (d.idle j u e none).0) whole in
+    let q = sum_by-alone (λ (u : View). u.parts) g views id v at (λ j u e none. ap (sum_by weight) (d.idle j u e none).1) whole in
+    let o = d.as_often weight in
+    omega arith
+
+module _ {J S : Type 0} where
+  pub puts : (id : ℕ) (v : View) (xs : List (ProcessState J S)) → 0 < v.parts → Pushes (λ (items : List (ProcessState J S)) views. IsDeque (map ticket_of items) views) id v xs (Puts v (map ticket_of xs))
+  puts id v xs some_part items views d at =
+      let w : View = view_of v.parts (v.put ++ map ticket_of xs) v.taken in (
+        w,
+        changed (map ticket_of items) (map ticket_of (items ++ xs)) views id v w at some_part refl
+            (λ weight.
+            let l : sum_by weight (map ticket_of (items ++ xs)) ≡ sum_by weight (map ticket_of items ++ map ticket_of xs) = ap (sum_by weight) (map-append ticket_of items xs) in
+            omega (arith, sum_by-append weight v.put (map ticket_of xs), sum_by-append weight (map ticket_of items) (map ticket_of xs)))
+            d,
+        refl,
+      )
+
+  pub takes : (id : ℕ) (v : View) → 0 < v.parts → Takes (λ (items : List (ProcessState J S)) views. IsDeque (map ticket_of items) views) id v 1 (λ xs w. TakesTickets v (map ticket_of xs) w)
+  takes id v some_part xs items views some_task one d at =
+      let w : View = view_of v.parts v.put (v.taken ++ map ticket_of xs) in (
+        w,
+        changed (map ticket_of (xs ++ items)) (map ticket_of items) views id v w at some_part refl
+            (λ weight.
+            let l : sum_by weight (map ticket_of (xs ++ items)) ≡ sum_by weight (map ticket_of xs ++ map ticket_of items) = ap (sum_by weight) (map-append ticket_of xs items) in
+            omega (arith, sum_by-append weight v.taken (map ticket_of xs), sum_by-append weight (map ticket_of xs) (map ticket_of items)))
+            d,
+        refl,
+      )
+
+  pub cuts : (id : ℕ) (v : View) → 1 < v.parts → Forks (λ (items : List (ProcessState J S)) views. IsDeque (map ticket_of items) views) id v (kept_view v) thief_view
+  cuts id v two items views d at = forked (map ticket_of items) views id v at two d
+
+  pub merges : (id other : ℕ) (v w : View) → 0 < v.parts → Merges (λ (items : List (ProcessState J S)) views. IsDeque (map ticket_of items) views) id v other w (joined_view v w) blank_view
+  merges id other v w some_part items views d at apart there = merged (map ticket_of items) views id other v w at apart there some_part d
+
+pub finds : (id : ℕ) (v : View) (views : List View) → IsDeque [] views → get_elem? views id ≡ some v → IsEmptied v
+finds id v views d at = settles views id v d at
