@@ -40,10 +40,6 @@ type Body = Box<dyn Job, Global>;
 
 type Post = Letter<Body>;
 
-fn boxed(alloc: Global, tag: u64) -> Result<Body, Fail> {
-    Ok(Box::new(alloc, Tagged { tag })?)
-}
-
 // The specification of the one child, `a`.
 fn child() -> Result<ChildSpec, Fail> {
     let id = Name::new(b"a").ok_or("a name")?;
@@ -169,23 +165,45 @@ fn launched<R: Abort>(rt: &R, port: &mut MemoryPort<Body>) -> Option<(u64, usize
 fn one_child(rt: HostRuntime) -> Result<(), Fail> {
     let words = OpenWords::open(rt.alloc(), 256)?;
     let inbox = UnnamedInbox::<Item, Post>::open(rt.alloc())?;
-    one_child_in::<Brand, _>(&rt, rt.alloc(), words, inbox)
+    let bodies: (Body, Body, Body) = (
+        Box::new(rt.alloc(), Tagged { tag: 6 })?,
+        Box::new(rt.alloc(), Tagged { tag: 7 })?,
+        Box::new(rt.alloc(), Tagged { tag: 8 })?,
+    );
+    one_child_in::<Brand, _>(&rt, rt.alloc(), words, inbox, bodies)
+}
+
+fn is_send<T: Send>(_: &T) {}
+
+fn is_sync<T: Sync>(_: &T) {}
+
+// What threads share or carry can be shared and carried, with boxed jobs too.
+fn crosses_threads<N: WordsNaming + InboxNaming + Send + Sync>(one: &Driven<N, Body>) {
+    is_sync(&one.words);
+    is_send(&one.words);
+    is_send(&one.viewer);
+    is_sync(&one.sup);
+    is_send(&one.sup);
+    is_send(&one.sender);
+    is_send(&one.port);
 }
 
 // Opened, restarted, stopped, killed and ended, line by line.
-fn one_child_in<N: WordsNaming + InboxNaming, R: Wait + Abort>(
+fn one_child_in<N: WordsNaming + InboxNaming + Send + Sync, R: Wait + Abort>(
     rt: &R,
     alloc: Global,
     words: OpenWords,
     inbox: UnnamedInbox<Item, Post>,
+    bodies: (Body, Body, Body),
 ) -> Result<(), Fail>
     requires words { words.words ≡ N.words }
     requires slots { words.slots ≡ 256 }
     requires inbox { inbox ≡ N.inbox 0 }
 {
     let x = Text::new(b"x").ok_or("a text")?;
-    let bodies = (boxed(alloc, 7)?, boxed(alloc, 8)?);
-    let mut one = make_driven::<N, Body>(alloc, words, inbox, boxed(alloc, 6)?)?;
+    let (own, second, third) = bodies;
+    let mut one = make_driven::<N, Body>(alloc, words, inbox, own)?;
+    crosses_threads(&one);
     assert_eq!(rt; one.turn(rt, 0, 0, Signal::None), Ok(TurnAnswer::Opened));
     assert_eq!(rt; launched(rt, &mut one.port), Some((1, 0, 6)));
     assert_eq!(rt; one.turn(rt, 0, 0, Signal::None), Ok(TurnAnswer::Quiet));
@@ -193,7 +211,7 @@ fn one_child_in<N: WordsNaming + InboxNaming, R: Wait + Abort>(
     one.up(rt, 1);
     assert_eq!(rt; one.turn(rt, 0, 0, Signal::None), Ok(TurnAnswer::Took));
     assert_eq!(rt; one.port.notes.pop(), Some(Note::Up(0)));
-    one.exit(rt, 1, Reason::Error(x), bodies.0);
+    one.exit(rt, 1, Reason::Error(x), second);
     assert_eq!(rt; one.turn(rt, 0, 1000, Signal::None), Ok(TurnAnswer::Took));
     assert_eq!(rt; launched(rt, &mut one.port), Some((2, 0, 7)));
     one.up(rt, 2);
@@ -203,7 +221,7 @@ fn one_child_in<N: WordsNaming + InboxNaming, R: Wait + Abort>(
     assert_eq!(rt; one.signal(rt, 2), Signal::Shutdown);
     assert_eq!(rt; one.turn(rt, 0, 6000, Signal::None), Ok(TurnAnswer::Ticked));
     assert_eq!(rt; one.signal(rt, 2), Signal::Kill);
-    one.exit(rt, 2, Reason::Killed, bodies.1);
+    one.exit(rt, 2, Reason::Killed, third);
     assert_eq!(rt; one.turn(rt, 0, 6000, Signal::None), Ok(TurnAnswer::Took));
     assert_eq!(rt; one.port.notes.pop(), Some(Note::Exit(0, Reason::Shutdown)));
     assert_eq!(rt; one.turn(rt, 0, 6000, Signal::None), Ok(TurnAnswer::Ended));
@@ -219,7 +237,12 @@ fn one_child_in<N: WordsNaming + InboxNaming, R: Wait + Abort>(
 fn bodies_come_back(rt: HostRuntime) -> Result<(), Fail> {
     let words = OpenWords::open(rt.alloc(), 256)?;
     let inbox = UnnamedInbox::<Item, Post>::open(rt.alloc())?;
-    bodies_in::<Brand, _>(&rt, rt.alloc(), words, inbox)
+    let bodies: (Body, Body, Body) = (
+        Box::new(rt.alloc(), Tagged { tag: 6 })?,
+        Box::new(rt.alloc(), Tagged { tag: 7 })?,
+        Box::new(rt.alloc(), Tagged { tag: 8 })?,
+    );
+    bodies_in::<Brand, _>(&rt, rt.alloc(), words, inbox, bodies)
 }
 
 // The body of a call that was refused, and one that came with a note of no process, can be had once.
@@ -228,19 +251,20 @@ fn bodies_in<N: WordsNaming + InboxNaming, R: Wait + Abort>(
     alloc: Global,
     words: OpenWords,
     inbox: UnnamedInbox<Item, Post>,
+    bodies: (Body, Body, Body),
 ) -> Result<(), Fail>
     requires words { words.words ≡ N.words }
     requires slots { words.slots ≡ 256 }
     requires inbox { inbox ≡ N.inbox 0 }
 {
-    let bodies = (boxed(alloc, 7)?, boxed(alloc, 8)?);
-    let mut one = make_driven::<N, Body>(alloc, words, inbox, boxed(alloc, 6)?)?;
+    let (own, second, third) = bodies;
+    let mut one = make_driven::<N, Body>(alloc, words, inbox, own)?;
     assert_eq!(rt; one.turn(rt, 0, 0, Signal::None), Ok(TurnAnswer::Opened));
     one.up(rt, 1);
     assert_eq!(rt; one.turn(rt, 0, 0, Signal::None), Ok(TurnAnswer::Took));
     let letter = Letter {
         item: Item::Call(40, Call::StartChild(child()?)),
-        body: Some(bodies.0),
+        body: Some(second),
     };
     one.send(rt, letter);
     assert!(rt; one.sup.take_box(rt, 40).is_none());
@@ -249,7 +273,7 @@ fn bodies_in<N: WordsNaming + InboxNaming, R: Wait + Abort>(
     assert!(rt; matches!(reply, Some(Reply::Refused(CallFault::AlreadyStarted(1)))));
     assert_eq!(rt; one.sup.take_box(rt, 40).map(|body| body.tag()), Some(7));
     assert!(rt; one.sup.take_box(rt, 40).is_none());
-    one.exit(rt, 5, Reason::Normal, bodies.1);
+    one.exit(rt, 5, Reason::Normal, third);
     assert!(rt; one.sup.take_stray(rt).is_none());
     assert_eq!(rt; one.turn(rt, 0, 0, Signal::None), Ok(TurnAnswer::Took));
     assert_eq!(rt; one.sup.take_stray(rt).map(|body| body.tag()), Some(8));
