@@ -127,6 +127,6 @@ abbrev pub Turned : ℕ → ℕ → Signal → TableView → TableView → Resul
 Turned number reading told old new result =
     MatchOption (early_answer old.office number)
     (MatchResult result
-        (λ said. MatchOption (due_kind (state_of old.office.core) number reading told) (TookOrEmpty reading old new said) (λ kind. Did reading kind old new said))
-        (λ why. Refused old new × IsRefusal old.office why))
+    (λ said. MatchOption (due_kind (state_of old.office.core) number reading told) (TookOrEmpty reading old new said) (λ kind. Did reading kind old new said))
+    (λ why. Refused old new × IsRefusal old.office why))
     (λ early. (result ≡ early) × (new ≡ old))

@@ -1,6 +1,6 @@
 //! Who sends calls to supervisors.
-ghost use Rattle.std.specs.Prelude.{◌≡◌, ◌<◌, [], is_some, IfOk, IfErr, IfSome, OnOk, OnErr, None};
-ghost use Rattle.otp_sup.specs.Letters.{is_start};
+ghost use Rattle.std.specs.Prelude.{◌≡◌, ◌<◌, ◌⊎◌, [], is_some, IfOk, IfErr, IfSome, OnOk, OnErr, None};
+ghost use Rattle.otp_rules.specs.Homes.{is_start_call};
 ghost use Rattle.otp_sup.specs.Clients.{Submitted};
 ghost use Rattle.otp_sup.specs.declared.client.SubmitCause.TheVariants as cause;
 
@@ -85,11 +85,13 @@ impl<N: WordsNaming + InboxNaming, B: Drop> Client<N, B> {
         ensures sent { IfOk result (λ number. Submitted number call self.old self.new) }
         ensures unsent { OnErr result (self.new.sender ≡ self.old.sender) }
         ensures back { IfErr result (λ fault. fault.body ≡ body) }
-        ensures wrong_body { IfErr result (λ fault. fault.cause ≡ cause.WrongBody → ¬ (is_some body ≡ is_start call)) }
-        ensures right_body { OnOk result (is_some body ≡ is_start call) }
+        ensures wrong_body { IfErr result (λ fault. fault.cause ≡ cause.WrongBody → ¬ (is_some body ≡ is_start_call call)) }
+        ensures right_body { OnOk result (is_some body ≡ is_start_call call) }
+        ensures tested_first { IfErr result (λ fault. (fault.cause ≡ cause.WrongBody) ⊎ (is_some body ≡ is_start_call call)) }
+        ensures some_quota { OnOk result (0 < self.old.owner.quota) }
         ensures exhausted { IfErr result (λ fault. fault.cause ≡ cause.Exhausted → self.old.owner.quota ≡ 0) }
     {
-        if body.is_some() != is_start(&call) {
+        if body.is_some() != is_start_call(&call) {
             return Err(fault(SubmitCause::WrongBody, body));
         }
         let Ok(number) = words.draw(&mut self.owner) else {
@@ -134,8 +136,8 @@ fn fault<B: Drop>(cause: SubmitCause, body: Option<B>) -> SubmitFault<B>
 }
 
 /// Whether the call starts a new child, and so brings its body.
-fn is_start(call: &Call) -> bool
-    ensures { result ≡ is_start call.now }
+fn is_start_call(call: &Call) -> bool
+    ensures { result ≡ is_start_call call.now }
 {
     matches!(call, Call::StartChild(_) | Call::StartDynamic)
 }

@@ -3,10 +3,10 @@ ghost use Rattle.std.specs.Prelude.{◌≡◌, ◌≤◌, ◌^◌};
 
 use crate::letter::Letter;
 use crate::port::{Flushed, Port};
+use crate::replies::copy_reply;
 use crate::table::Table;
 use crate::turns::{TurnAnswer, TurnFault};
 use otp_inbox::{Inbox, InboxNaming};
-use crate::replies::copy_reply;
 use otp_rules::{Item, Reply};
 use otp_signals::{Signal, Words, WordsNaming};
 use std::alloc::{AllocError, Global};

@@ -207,7 +207,10 @@ fn one_child_in<N: WordsNaming + InboxNaming + Send + Sync, R: Wait + Abort>(
     assert_eq!(rt; one.turn(rt, 0, 0, Signal::None), Ok(TurnAnswer::Opened));
     assert_eq!(rt; launched(rt, &mut one.port), Some((1, 0, 6)));
     assert_eq!(rt; one.turn(rt, 0, 0, Signal::None), Ok(TurnAnswer::Quiet));
-    assert_eq!(rt; one.turn(rt, 3, 0, Signal::None), Err(TurnFault::WrongNumber));
+    assert_eq!(rt;
+        one.turn(rt, 3, 0, Signal::None),
+        Err(TurnFault::WrongNumber)
+    );
     one.up(rt, 1);
     assert_eq!(rt; one.turn(rt, 0, 0, Signal::None), Ok(TurnAnswer::Took));
     assert_eq!(rt; one.port.notes.pop(), Some(Note::Up(0)));
@@ -217,7 +220,10 @@ fn one_child_in<N: WordsNaming + InboxNaming + Send + Sync, R: Wait + Abort>(
     one.up(rt, 2);
     assert_eq!(rt; one.turn(rt, 0, 1000, Signal::None), Ok(TurnAnswer::Took));
     assert_eq!(rt; one.signal(rt, 2), Signal::None);
-    assert_eq!(rt; one.turn(rt, 0, 1000, Signal::Shutdown), Ok(TurnAnswer::Stopped));
+    assert_eq!(rt;
+        one.turn(rt, 0, 1000, Signal::Shutdown),
+        Ok(TurnAnswer::Stopped)
+    );
     assert_eq!(rt; one.signal(rt, 2), Signal::Shutdown);
     assert_eq!(rt; one.turn(rt, 0, 6000, Signal::None), Ok(TurnAnswer::Ticked));
     assert_eq!(rt; one.signal(rt, 2), Signal::Kill);
@@ -328,7 +334,10 @@ fn clients_in<N: WordsNaming + InboxNaming + Send + Sync, R: Threads + Wait + Ab
         .split(&words, sup.inbox(), CALLS)
         .ok_or("a client was refused")?;
     let wrong = first.submit(rt, &words, sup.inbox(), Call::CountChildren, Some(3));
-    assert_eq!(rt; wrong.err().map(|fault| (fault.cause, fault.body)), Some((SubmitCause::WrongBody, Some(3))));
+    assert_eq!(rt;
+        wrong.err().map(|fault| (fault.cause, fault.body)),
+        Some((SubmitCause::WrongBody, Some(3)))
+    );
     let (sup, words) = (&sup, &words);
     let (sent, port) = thread::join(
         rt,
