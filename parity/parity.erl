@@ -38,7 +38,7 @@ drawn(Seed, Count) ->
                  {odd, Lines} ->
                      parity_player:close(Player),
                      {no, Lines};
-                 {Played, Now} -> play(["finish"], Now, Played)
+                 {Played, Now} -> play(["finish", "count"], Now, Played)
              end,
     flush(),
     transcript({io_lib:format("by chance, seed ~b", [Seed]), Tree, []}, Result).
@@ -67,6 +67,7 @@ is_timed({_, _, Lines}) -> lists:any(fun(Line) -> lists:prefix("at ", Line) end,
 %% after a second has begun, so that whole seconds of a script are whole seconds of OTP.
 at_once(Scripts) ->
     Self = self(),
+    [parity_text:tree(Tree, Self) || {_, Tree, _} <- Scripts],  % the modules of their starts are made one at a time
     Workers = [spawn_link(fun() -> after_second(), Self ! {self(), record(S)} end) || S <- Scripts],
     [{Name, receive {Worker, Result} -> Result end} || {{Name, _, _}, Worker} <- lists:zip(Scripts, Workers)].
 
@@ -92,6 +93,9 @@ play(Lines, Player, Played) ->
         done ->
             parity_player:close(Player),
             {ok, lists:reverse(Played), parity_player:orders(Player)};
+        {stuck, Line} ->
+            parity_player:close(Player),
+            {no, [Line, ": no such process"]};
         {Line, Rest} ->
             case parity_player:play(Line, Player) of
                 {ok, Next} -> play(Rest, Next, [Line | Played]);

@@ -14,13 +14,14 @@
 -module(parity_player).
 -export([open/1, play/2, orders/1, close/1, view/1, trace/0, init/1]).
 
--record(child, {name, pid, state = starting, slot, why}).
+-record(child, {name, pid, state = starting, slot, why, is_told = false}).
 %% state: starting, up, asked, killed (its end is the next line), gone
 
 -record(player, {
     simple = false,          % children are dynamic
     sup, parent,
     children = #{},          % by number
+    killed = [],             % processes that have ended at the supervisor's word, oldest first: the next lines say so
     starting = none,         % the number whose start is awaited
     restarting = #{},        % what waits for another try of its restart: id or slot, and the number that died
     numbers = 0, calls = 0,
@@ -95,7 +96,7 @@ view(#player{} = S) ->
     #{simple => S#player.simple, starting => S#player.starting, is_open => S#player.is_open,
       end_reason => S#player.end_reason, refused => S#player.refused, odd => S#player.odd,
       children => [{N, C#child.state, C#child.name} || {N, C} <- lists:sort(maps:to_list(S#player.children))],
-      killed => [{N, C#child.why} || {N, #child{state = killed} = C} <- lists:sort(maps:to_list(S#player.children))],
+      killed => [{N, (maps:get(N, S#player.children))#child.why} || N <- S#player.killed],
       restarting => maps:to_list(S#player.restarting),
       asked => [What || {_, {_, What}} <- maps:to_list(S#player.asked)],
       queue => queue(S#player.sup)}.
@@ -127,8 +128,12 @@ why_not(["at" | _], _S) -> none;
 why_not(["exit", P, R], S) ->
     N = list_to_integer(P),
     case S#player.children of
-        #{N := #child{state = killed, why = R}} -> none;
-        #{N := #child{state = killed}} -> "it ended otherwise";
+        #{N := #child{state = killed, why = Why}} ->
+            case {hd(S#player.killed), Why} of
+                {N, R} -> none;
+                {N, _} -> "it ended otherwise";
+                _ -> "another was killed before"
+            end;
         #{N := #child{state = gone}} -> "it ended before";
         #{N := #child{state = State}} -> killed_first(S, count_waits_for(State, S));
         _ -> "no such process"
@@ -136,7 +141,7 @@ why_not(["exit", P, R], S) ->
 why_not(Words, S) -> killed_first(S, why_not_so(Words, S)).
 
 killed_first(S, Why) ->
-    case [N || {N, #child{state = killed}} <- maps:to_list(S#player.children)] of
+    case S#player.killed of
         [] -> Why;
         _ -> "a killed process has ended"
     end.
@@ -164,8 +169,9 @@ why_not_so(["terminate", "#" ++ P], #player{simple = true} = S) ->
     N = list_to_integer(P),
     case S#player.children of
         #{N := #child{state = gone, slot = Slot}} ->
-            case S#player.restarting of
-                #{Slot := N} -> none;
+            case {S#player.restarting, place_started(S)} of
+                {#{Slot := N}, _} -> none;
+                {_, Slot} -> none;
                 _ -> "terminate_child of a process that is gone"
             end;
         #{N := _} -> none;
@@ -175,6 +181,10 @@ why_not_so(["count"], #player{is_minus = true}) -> "a restarting dynamic child t
 why_not_so(["start"], #player{simple = false}) -> "start_child without a specification";
 why_not_so(["start", _ | _], #player{simple = true}) -> "start_child with a specification";
 why_not_so(_, _) -> none.
+
+%% The place of the dynamic child whose start is awaited.
+place_started(#player{starting = none}) -> none;
+place_started(#player{starting = N, children = Children}) -> (maps:get(N, Children))#child.slot.
 
 ignored_dynamic("ignore", #player{simple = true} = S) ->
     #child{slot = Slot} = maps:get(S#player.starting, S#player.children),
@@ -237,7 +247,7 @@ place(#child{slot = Slot}) -> Slot.
 %% A process whose name says so doesn't trap exits: it ends as it is asked to.
 traps(Name) -> string:find(atom_to_list(Name), "plain") =:= nomatch.
 
-do_exit(N, _R, #child{state = killed} = C, S) -> put_child(N, C#child{state = gone}, S);
+do_exit(N, _R, #child{state = killed} = C, S) -> put_child(N, C#child{state = gone}, S#player{killed = tl(S#player.killed)});
 do_exit(N, R, #child{state = starting} = C, S) ->
     parity_job:answer(S#player.sup, {dies, parity_text:reason(R)}),
     Pid = receive {parity_born, Born} -> Born end,
@@ -352,17 +362,20 @@ start_seen(Name, S) ->
 signal_seen(Pid, Signal, S) ->
     case number_of(Pid, S) of
         none -> S;
-        N -> signal_to(N, maps:get(N, S#player.children), Signal, S)
+        N -> signal_to(N, (maps:get(N, S#player.children))#child{is_told = true}, Signal, S)
     end.
 
-signal_to(_N, #child{state = gone}, _Signal, S) -> S;
+signal_to(N, #child{state = gone} = C, _Signal, S) -> put_child(N, C, S);
 signal_to(N, C, shutdown, S) ->
     S1 = order_at(N, "ask", C, S),
     case traps(C#child.name) of
         true -> put_child(N, C#child{state = asked}, S1);
-        false -> put_child(N, C#child{state = killed, why = "shutdown"}, S1)
+        false -> ended(N, "shutdown", C, S1)
     end;
-signal_to(N, C, kill, S) -> put_child(N, C#child{state = killed, why = "killed"}, order_at(N, "kill", C, S)).
+signal_to(N, C, kill, S) -> ended(N, "killed", C, order_at(N, "kill", C, S)).
+
+%% The process ends at once; the line that says so is still to come.
+ended(N, Why, C, S) -> put_child(N, C#child{state = killed, why = Why}, S#player{killed = S#player.killed ++ [N]}).
 
 %% Dynamic children are told to stop in no defined order; here they are told in the order of their first starts.
 order_at(N, Word, #child{name = Name, slot = Slot}, S) ->
@@ -389,12 +402,17 @@ reply_seen(Caller, Reply, S) ->
     S1 = S#player{asked = Asked},
     order(io_lib:format("reply ~b ~s", [N, reply(Call, Reply, S1)]), after_reply(Call, Reply, S1)).
 
-%% A dynamic child that was restarting and is terminated is counted by OTP as -1 from then on.
+%% A dynamic child that was restarting and is terminated is counted by OTP as -1 from then on. One that was told
+%% nothing had gone before: OTP answers ok there too.
 after_reply(["terminate", "#" ++ P], ok, #player{simple = true} = S) ->
     N = list_to_integer(P),
     case [Slot || {Slot, M} <- maps:to_list(S#player.restarting), M =:= N] of
         [Slot] -> S#player{restarting = maps:remove(Slot, S#player.restarting), is_minus = true};
-        [] -> S
+        [] ->
+            case S#player.children of
+                #{N := #child{is_told = true} = C} -> put_child(N, C#child{is_told = false}, S);
+                _ -> S#player{odd = "terminate_child of a process that is gone"}
+            end
     end;
 after_reply(_, _, S) -> S.
 

@@ -69,7 +69,7 @@ after_sign(Sign, T) ->
 skip([C | T]) when C =:= $\s; C =:= $\n -> skip(T);
 skip(T) -> T.
 
-word([C | T], Done) when C >= $a, C =< $z; C >= $0, C =< $9; C =:= $_ -> word(T, [C | Done]);
+word([C | T], Done) when C >= $a, C =< $z; C >= $0, C =< $9; C =:= $_; C =:= $- -> word(T, [C | Done]);
 word(T, Done) -> {lists:reverse(Done), T}.
 
 words(Line) -> string:lexemes(Line, " ").
