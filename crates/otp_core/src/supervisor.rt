@@ -64,6 +64,7 @@ impl Core {
         ensures ok { OnOk result (open_fault flags specs.now ≡ None) }
         ensures core { IfOk result (λ core. core ≡ record { base = empty_state flags specs.now; history = []; effects = []; prepared = false }) }
         ensures fault { IfErr result (λ why. IsOpenFault why (open_fault flags specs.now)) }
+        ensures limit { OnOk result (length specs.now ≤ 256) }
     {
         if let Err(fault) = check_open(&flags, specs) {
             return Err(OpenFault::Spec(fault));

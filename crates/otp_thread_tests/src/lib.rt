@@ -19,6 +19,8 @@ mod queues;
 #[cfg(test)]
 mod signals;
 #[cfg(test)]
+mod supervisors;
+#[cfg(test)]
 mod tally;
 #[cfg(test)]
 mod tokens;
