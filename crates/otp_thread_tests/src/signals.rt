@@ -64,7 +64,8 @@ fn signals_in<N: WordsNaming, R: Abort>(rt: &R, opened: OpenWords) -> Result<(),
     // The viewer's seat goes through the owner's and back: both still post and look afterwards.
     words.compare(&mut owner, &mut viewer);
     assert_eq!(rt; words.look(&mut viewer, 0, nine), Signal::Kill);
-    assert_eq!(rt; post_first(&words, &mut owner, nine, Signal::Kill), 38);
+    post_first(&words, &mut owner, nine, Signal::Kill);
+    assert_eq!(rt; words.look(&mut viewer, 0, nine), Signal::Kill);
     Ok(())
 }
 
