@@ -2,6 +2,7 @@
 use Rattle.std.specs.Prelude.{◌≡◌, ℕ, ◌≤◌, ◌^◌, List, [], length}
 use Rattle.otp_core.specs.View.{View}
 use Rattle.otp_rules.specs.declared.event.Effect.{Effect}
+use Rattle.otp_rules.specs.Needs.{last_number}
 use Rattle.otp_try.specs.declared.trial.Trial.{Inside}
 use Rattle.otp_try.specs.Played.{Played}
 
@@ -13,5 +14,7 @@ pub record IsTrial (t : Inside) : Type 0 where
   pub told : t.core.effects ≡ []
   pub time : t.now ≤ 2 ^ 62
   pub history : length t.core.history ≤ 65536
+  -- a number is given to an event at the most
+  pub numbers : last_number t.core.history ≤ length t.core.history
   -- a call is an event
   pub calls : t.calls ≤ length t.core.history
