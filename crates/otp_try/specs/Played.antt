@@ -52,13 +52,13 @@ found_in_state (Asked p _) = found.Process p
 found_in_state (Killed p) = found.Process p
 found_in_state (Restarting _) = found.NoProcess
 
-unfoldable pub found_at : List Row → Option ℕ → Found
-found_at rows None = found.NoChild
-found_at rows (Some place) = found_in_row (slice_get rows place)
-
 unfoldable pub found_in_row : Option Row → Found
 found_in_row None = found.NoChild
 found_in_row (Some row) = found_in_state row.state
+
+unfoldable pub found_at : List Row → Option ℕ → Found
+found_at rows None = found.NoChild
+found_at rows (Some place) = found_in_row (slice_get rows place)
 
 -- the process of the child that a script means: the first with that id, or the one with that process number
 unfoldable pub found_for : Child → List Row → Found

@@ -10,10 +10,9 @@ pub mod play;
 pub mod script;
 mod state;
 mod telling;
+#[cfg(test)]
+mod tests;
 mod time;
 pub mod trial;
 mod words;
 mod world;
-
-#[cfg(test)]
-mod tests;

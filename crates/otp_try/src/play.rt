@@ -104,7 +104,7 @@ impl Play {
         self.trial.go_to(time, &mut self.page)?;
         match self.trial.act(step.action, &mut self.page)? {
             Taken::Done => Ok(()),
-            Taken::NoChild if self.trial.core().has_ended() => self.miss(Taken::Ended),
+            Taken::NoChild if self.trial.has_ended() => self.miss(Taken::Ended),
             taken => self.miss(taken),
         }
     }
@@ -113,7 +113,7 @@ impl Play {
     fn time_of(&self, when: When) -> Option<u64>
         ensures { IfSome result (λ time. time ≤ 2 ^ 62) }
     {
-        let now = self.trial.now();
+        let now = self.trial.time();
         match when {
             When::Now => Some(now),
             When::At(time) if time < now => None,
@@ -146,17 +146,16 @@ impl Play {
 
     /// Puts how the supervisor stands on the page.
     fn write_standing(&mut self) -> Result<(), AllocError> {
-        let now = self.trial.now();
+        let now = self.trial.time();
         write_time(now, &mut self.page)?;
         self.page.extend_from_slice(b"  ")?;
-        let core = self.trial.core();
-        if core.has_ended() {
+        if self.trial.has_ended() {
             return self.page.extend_from_slice(b"the supervisor has ended");
         }
         write_state(
             &self.flags,
-            core.rows(),
-            core.restarts(),
+            self.trial.rows(),
+            self.trial.restarts(),
             now,
             &mut self.page,
         )
@@ -236,7 +235,7 @@ impl Play {
         }
         self.write_standing()?;
         self.page.extend_from_slice(b"\n")?;
-        write_awaited(self.trial.core().rows(), &mut self.page)?;
+        write_awaited(self.trial.rows(), &mut self.page)?;
         Ok(())
     }
 }

@@ -18,7 +18,14 @@ fn five_crashes(rt: HostRuntime) -> Result<(), Fail> {
     let script = "at 1s crash db\nat 2s crash db\nat 3s crash db\nat 4s crash db\nat 5s crash db\n";
     let mut input = Counted::new(script.as_bytes());
     let mut output = Counted::new(Vec::new(rt.alloc()));
-    let end = try_tree(rt.alloc(), &flags, specs.as_slice(), Writer::Script, &mut input, &mut output);
+    let end = try_tree(
+        rt.alloc(),
+        &flags,
+        specs.as_slice(),
+        Writer::Script,
+        &mut input,
+        &mut output,
+    );
     let text = output.into_device();
     println!(rt; "{}", String::from_utf8(text)?)?;
     assert_eq!(rt; end, TryEnd::Done);

@@ -2,6 +2,7 @@
 
 ghost use Rattle.std.specs.Prelude.{ℕ, ◌≡◌, ◌+◌, ◌<◌, ◌≤◌, ◌^◌, None, OnOk, IfOk, IfSome, length};
 ghost use Rattle.otp_rules.specs.Opening.{open_fault};
+ghost use Rattle.otp_rules.specs.State.{is_over};
 ghost use Rattle.otp_rules.specs.declared.event.Item.TheVariants as item;
 ghost use Rattle.otp_rules.specs.declared.event.Kind.TheVariants as kind;
 ghost use Rattle.otp_try.specs.Played.{Acts, Begins, Ends, Tells, found_for, state_in, unplayed};
@@ -15,6 +16,7 @@ use otp_core::{Core, Counter, MAX_EVENTS};
 use otp_reason::{Note, Reason};
 use otp_rules::{Call, Item, Kind};
 use otp_spec::{ChildSpec, SupFlags};
+use otp_table::Row;
 use otp_text::Printer;
 use std::alloc::{AllocError, Global};
 use std::marker::Model;
@@ -72,7 +74,7 @@ pub struct Trial {
     printer: Printer,
     world: World,
     /// The clock, in milliseconds.
-    now: u64,
+    time: u64,
     /// The greatest call number given.
     calls: u64,
     is_stopping: bool,
@@ -113,7 +115,7 @@ impl Trial {
             core,
             printer: Printer::new(alloc),
             world: World::new(alloc),
-            now: 0,
+            time: 0,
             calls: 0,
             is_stopping: false,
         };
@@ -121,19 +123,32 @@ impl Trial {
         Ok(trial)
     }
 
-    /// The supervisor's core.
-    pub fn core(&self) -> &Core
-        ensures base { result.now.base ≡ self.now.base }
-        ensures history { result.now.history ≡ self.now.history }
+    /// The children in start order.
+    pub fn rows(&self) -> &[Row]
+        ensures { result.now ≡ (state_in self.now).rows }
     {
-        &self.core
+        self.core.rows()
+    }
+
+    /// The times in milliseconds of all restarts.
+    pub fn restarts(&self) -> &[u64]
+        ensures { result.now ≡ (state_in self.now).stamps }
+    {
+        self.core.restarts()
+    }
+
+    /// Whether the supervisor has ended.
+    pub fn has_ended(&self) -> bool
+        ensures { result ≡ is_over (state_in self.now).phase }
+    {
+        self.core.has_ended()
     }
 
     /// The clock, in milliseconds since the beginning.
-    pub fn now(&self) -> u64
+    pub fn time(&self) -> u64
         ensures { result ≤ 2 ^ 62 }
     {
-        self.now
+        self.time
     }
 
     /// Something happens now, and is told.
@@ -148,8 +163,8 @@ impl Trial {
         let mut numbers = Counter {
             last: self.core.last_number(),
         };
-        self.core.step_with(self.now, kind, &mut numbers);
-        let told = tell(self.now, &self.core, &mut self.printer, out);
+        self.core.step_with(self.time, kind, &mut numbers);
+        let told = tell(self.time, &self.core, &mut self.printer, out);
         let obeyed = self.world.obey(self.core.effects());
         self.core.clear_effects();
         told?;
@@ -163,7 +178,7 @@ impl Trial {
     {
         match self.world.next_note() {
             Some(note) => Some(Kind::Took(Item::Note(note))),
-            None => self.core.next_kind(self.now, self.is_stopping),
+            None => self.core.next_kind(self.time, self.is_stopping),
         }
     }
 
@@ -209,10 +224,10 @@ impl Trial {
     {
         for _ in 0..=MAX_EVENTS {
             let Some(deadline) = self.next_deadline(time) else {
-                self.now = self.now.max(time);
+                self.time = self.time.max(time);
                 return Ok(());
             };
-            self.now = self.now.max(deadline);
+            self.time = self.time.max(deadline);
             self.settle(out)?;
         }
         Err(Halt::HistoryFull)
@@ -278,11 +293,9 @@ impl Trial {
         ensures told { OnOk result (Tells self.old self.new out.old.items out.new.items) }
         ensures called { IfOk result (λ taken. (taken ≡ Done) × ((n : ℕ) × Begins (kind.Took (item.Call n call)) self.old self.new)) }
     {
-        if self.core.is_full() {
-            return Err(Halt::HistoryFull);
-        }
-        self.calls += 1;
-        self.play(Kind::Took(Item::Call(self.calls, call)), out)?;
+        self.calls = self.calls.saturating_add(1);
+        let number = self.calls;
+        self.play(Kind::Took(Item::Call(number, call)), out)?;
         Ok(Taken::Done)
     }
 }
