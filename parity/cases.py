@@ -67,7 +67,7 @@ STATES = {
     "has ended": "all up; exit b normal; {}; finish",
     "was ignored": "up; ignore; up; {}; finish",
     "was terminated": "all up; terminate b; ends; {}; finish",
-    "waits for a retry": None,
+    "waits for a retry": None,  # waits_for_retry
     "is started": "all up; exit b error:x; {}; finish",
     "is told to stop": "all up; terminate b; {}; exit b shutdown; finish",
     "has an end that waits": "all up; terminate c; exit b error:x; {}; exit c shutdown; finish",
@@ -97,8 +97,6 @@ for strategy, call, state in product(STRATEGIES, CALLS, STATES):
     if strategy != "one_for_one" and state not in MAIN_STATES:
         continue
     lines = waits_for_retry(strategy, call) if state == "waits for a retry" else STATES[state].format(call)
-    if call == "count" and state == "has an end that waits":
-        lines = "all up; terminate c; count; exit c shutdown; exit b error:x; finish"
     case("calls", f"{strategy}: {short(call)} where b {state}", three(strategy, restart="transient"), lines)
 
 for strategy, call in product(STRATEGIES, ABSENT):

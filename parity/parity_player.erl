@@ -14,8 +14,9 @@
 -module(parity_player).
 -export([open/1, play/2, orders/1, close/1, view/1, trace/0, init/1]).
 
+%% A process of a child. Its state: starting, up, asked, killed (it has ended, and a next line will say why), gone. A dynamic
+%% child's slot is its place in start order, which its restarts keep.
 -record(child, {name, pid, state = starting, slot, why, is_told = false}).
-%% state: starting, up, asked, killed (its end is the next line), gone
 
 -record(player, {
     simple = false,          % children are dynamic
@@ -23,13 +24,13 @@
     children = #{},          % by number
     killed = [],             % processes that have ended at the supervisor's word, oldest first: the next lines say so
     starting = none,         % the number whose start is awaited
-    restarting = #{},        % what waits for another try of its restart: id or slot, and the number that died
+    restarting = #{},        % dynamic children that wait for another try of their restart: slot, and the number that died
     numbers = 0, calls = 0,
     asked = #{},             % calls that aren't answered: by caller, their number and what was asked
     orders = [],             % newest first
     is_open = false, end_reason = none,
     clock = 0, reading = 0,
-    slots = 0,
+    slots = 0,               % the greatest slot given
     retries = #{},           % the children whose next try waits
     is_minus = false,        % a restarting dynamic child was terminated
     refused = none,          % why start_link refused
@@ -93,14 +94,12 @@ trace() ->
 
 %% What a generator of scripts has to know.
 view(#player{} = S) ->
-    #{simple => S#player.simple, starting => S#player.starting, is_open => S#player.is_open,
-      end_reason => S#player.end_reason, refused => S#player.refused, odd => S#player.odd,
+    #{simple => S#player.simple, starting => S#player.starting, is_open => S#player.is_open, end_reason => S#player.end_reason,
       children => [{N, C#child.state, C#child.name} || {N, C} <- lists:sort(maps:to_list(S#player.children))],
       killed => [{N, (maps:get(N, S#player.children))#child.why} || N <- S#player.killed],
-      restarting => maps:to_list(S#player.restarting),
-      asked => [What || {_, {_, What}} <- maps:to_list(S#player.asked)],
-      queue => queue(S#player.sup)}.
+      restarting => maps:to_list(S#player.restarting)}.
 
+%% The messages that wait.
 queue(Sup) ->
     case process_info(Sup, messages) of
         {messages, Messages} -> Messages;
@@ -207,12 +206,12 @@ do(["up", P], S) ->
              undefined -> receive {parity_born, Pid} -> C#child{pid = Pid, state = up} end;
              _ -> C
          end,
-    put_child(N, C1, S#player{starting = none, restarting = maps:remove(place(C), S#player.restarting)});
+    put_child(N, C1, S#player{starting = none, restarting = maps:remove(C#child.slot, S#player.restarting)});
 do(["ignore", P], S) ->
     N = list_to_integer(P),
     #child{} = C = maps:get(N, S#player.children),
     parity_job:answer(S#player.sup, ignore),
-    put_child(N, C#child{state = gone}, S#player{starting = none, restarting = maps:remove(place(C), S#player.restarting)});
+    put_child(N, C#child{state = gone}, S#player{starting = none});
 do(["fail", P, R], S) ->
     N = list_to_integer(P),
     #child{} = C = maps:get(N, S#player.children),
@@ -236,13 +235,10 @@ do(Call, S) ->
 %% Under simple_one_for_one the number that died stays the name of a child whose restart failed.
 failed_restart(_N, #child{slot = undefined}, S) -> S;
 failed_restart(N, #child{slot = Slot}, S) ->
-    Before = [M || {M, #child{slot = Other, pid = Pid}} <- maps:to_list(S#player.children), Other =:= Slot, M < N, Pid =/= undefined],
-    case Before of
+    case [M || {M, #child{slot = Other, pid = Pid}} <- maps:to_list(S#player.children), Other =:= Slot, M < N, Pid =/= undefined] of
         [] -> S;
-        _ -> S#player{restarting = maps:put(Slot, lists:max(Before), S#player.restarting)}
+        Before -> S#player{restarting = maps:put(Slot, lists:max(Before), S#player.restarting)}
     end.
-
-place(#child{slot = Slot}) -> Slot.
 
 %% A process whose name says so doesn't trap exits: it ends as it is asked to.
 traps(Name) -> string:find(atom_to_list(Name), "plain") =:= nomatch.

@@ -36,45 +36,45 @@ impl Machine {
     }
 
     #[tactic(auto, unfolding(otp_rules::specs::Step::ask))]
-    fn ask(&mut self, number: u64, call: Call)
+    fn ask(&mut self, number: u64, call: &Call)
         requires { CanDecide self.old }
-        ensures outcome { outcome_of self.new ≡ ask number call (outcome_of self.old) }
+        ensures outcome { outcome_of self.new ≡ ask number call.now (outcome_of self.old) }
         ensures room { CanAdvance self.new }
     {
         if is_over(self.phase) {
             self.answer(number, Reply::NoProc);
         } else if self.follows.is_some() {
-            self.put_last(Waiting::Item(Item::Call(number, call)));
+            self.put_last(Waiting::Item(Item::Call(number, *call)));
         } else {
             self.take_call(number, call);
         }
     }
 
     #[tactic(auto, unfolding(otp_rules::specs::Step::take_item))]
-    fn take_item(&mut self, item: Item)
+    fn take_item(&mut self, item: &Item)
         requires { CanDecide self.old }
-        ensures outcome { outcome_of self.new ≡ take_item item (outcome_of self.old) }
+        ensures outcome { outcome_of self.new ≡ take_item item.now (outcome_of self.old) }
         ensures room { CanAdvance self.new }
     {
         match item {
             Item::Note(note) => {
                 if !is_over(self.phase) {
-                    self.take_note(note);
+                    self.take_note(*note);
                 }
             }
-            Item::Call(number, call) => self.ask(number, call),
+            Item::Call(number, call) => self.ask(*number, call),
         }
     }
 
     #[tactic(auto, unfolding(otp_rules::specs::Step::take_waiting))]
-    fn take_waiting(&mut self, item: Waiting)
+    fn take_waiting(&mut self, item: &Waiting)
         requires { CanDecide self.old }
-        ensures outcome { outcome_of self.new ≡ take_waiting item (outcome_of self.old) }
+        ensures outcome { outcome_of self.new ≡ take_waiting item.now (outcome_of self.old) }
         ensures room { CanAdvance self.new }
     {
         match item {
             Waiting::Item(item) => self.take_item(item),
-            Waiting::Retry(kept) => self.retry(kept),
+            Waiting::Retry(kept) => self.retry(*kept),
         }
     }
 
@@ -86,7 +86,7 @@ impl Machine {
         ensures room { CanAdvance self.new }
     {
         if let Some(item) = self.waiting.pop_front() {
-            self.take_waiting(item);
+            self.take_waiting(&item);
         }
     }
 
@@ -128,15 +128,15 @@ impl Machine {
 
     /// What the event itself changes.
     #[tactic(auto, unfolding(otp_rules::specs::Step::decide))]
-    fn decide(&mut self, kind: Kind)
+    fn decide(&mut self, kind: &Kind)
         requires { CanDecide self.old }
-        ensures outcome { outcome_of self.new ≡ decide kind (outcome_of self.old) }
+        ensures outcome { outcome_of self.new ≡ decide kind.now (outcome_of self.old) }
         ensures room { CanAdvance self.new }
     {
         match kind {
             Kind::Opened(own) => {
                 if is_over(self.phase) {
-                    self.open_rows(own);
+                    self.open_rows(*own);
                 }
             }
             Kind::Took(item) => self.take_item(item),
@@ -157,13 +157,13 @@ impl Machine {
     /// What happens now. Draws a number exactly where a child is started, and says which. Takes no memory; its orders
     /// are put behind those that are there.
     #[tactic(auto, unfolding(otp_rules::specs::Step::step_on))]
-    pub fn step<N: Numbers>(&mut self, reading: u64, kind: Kind, numbers: &mut N) -> Option<u64>
+    pub fn step<N: Numbers>(&mut self, reading: u64, kind: &Kind, numbers: &mut N) -> Option<u64>
         requires memory { HasMemory self.old }
         requires sound { IsSound self.old }
         requires reading { reading ≤ 2 ^ 62 }
-        requires number { IsTrue (needs_number (outcome_of self.old).state reading kind) → N.can_give numbers.old }
-        ensures outcome { outcome_of self.new ≡ step_on (record { reading = reading; number = result; kind = kind }) (outcome_of self.old) }
-        ensures starts { is_some result ≡ needs_number (outcome_of self.old).state reading kind }
+        requires number { IsTrue (needs_number (outcome_of self.old).state reading kind.now) → N.can_give numbers.old }
+        ensures outcome { outcome_of self.new ≡ step_on (record { reading = reading; number = result; kind = kind.now }) (outcome_of self.old) }
+        ensures starts { is_some result ≡ needs_number (outcome_of self.old).state reading kind.now }
         ensures drawn { MatchOption result (numbers.new ≡ numbers.old) (λ n. N.gives numbers.old n numbers.new) }
     {
         number_starts_work();

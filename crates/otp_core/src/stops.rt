@@ -120,25 +120,19 @@ impl Machine {
         self.orders.push_reserved(Effect::Reply(call));
     }
 
-    /// The end of the supervisor, made in memory that is ready.
-    pub fn sup_end(&mut self, ending: Ending) -> SupEnd
-        requires { self.old.window.intensity < vec_capacity self.old.spare_stamps }
-        ensures sup_end { result ≡ sup_end_of (outcome_of self.old).state.flags self.old.window.stamps ending }
-        ensures rest { self.new ≡ record self.old { spare_stamps = self.new.spare_stamps } }
+    /// The end of the supervisor. Its stamps are put into a list that has room for them.
+    fn sup_end(&self, ending: Ending, list: Vec<u64>) -> SupEnd
+        requires { self.now.window.intensity < vec_capacity list }
+        ensures { result ≡ sup_end_of (outcome_of self.now).state.flags self.now.window.stamps ending }
     {
         match ending {
-            Ending::Intensity => {
-                let alloc = *self.spare_stamps.allocator();
-                let list = mem::replace(&mut self.spare_stamps, Vec::new(alloc));
-                let stamps = last_stamps(self.window.intensity(), self.window.stamps(), list);
-                SupEnd {
-                    reason: Reason::Shutdown,
-                    cause: Cause::Intensity {
-                        flags: self.flags(),
-                        stamps,
-                    },
-                }
-            }
+            Ending::Intensity => SupEnd {
+                reason: Reason::Shutdown,
+                cause: Cause::Intensity {
+                    flags: self.flags(),
+                    stamps: last_stamps(self.window.intensity(), self.window.stamps(), list),
+                },
+            },
             Ending::Significant(number) => SupEnd {
                 reason: Reason::Shutdown,
                 cause: Cause::Significant(number),
@@ -163,8 +157,14 @@ impl Machine {
         refuse_calls(&self.waiting, &mut self.replies, &mut self.orders);
         self.waiting.clear();
         self.rows.clear();
-        self.phase = Phase::Ended(own_number(self.phase), ending);
-        let end = self.sup_end(ending);
+        let own = own_number(self.phase);
+        self.phase = Phase::Ended(own, ending);
+        let alloc = *self.spare_stamps.allocator();
+        let stamps = mem::replace(&mut self.spare_stamps, Vec::new(alloc));
+        let kept_stamps = mem::replace(&mut self.spare_kept_stamps, Vec::new(alloc));
+        let kept = self.sup_end(ending, kept_stamps);
+        self.ends.push_reserved((own, kept));
+        let end = self.sup_end(ending, stamps);
         self.orders.push_reserved(Effect::End(end));
     }
 

@@ -21,7 +21,7 @@ use crate::machine::Machine;
 use crate::numbers::{Given, Numbers};
 use crate::opening::{OpenFault, check_open, copy_specs};
 use crate::rows::is_over;
-use otp_rules::{CountsNow, Effect, Event, Kind, Phase, Reply, Waiting, laws};
+use otp_rules::{CountsNow, Effect, Event, Kind, Phase, Reply, SupEnd, Waiting, laws};
 use otp_spec::{ChildSpec, SupFlags};
 use otp_table::{Row, Rows};
 use otp_window::Window;
@@ -84,11 +84,13 @@ impl Core {
             follows: None,
             waiting: VecDeque::new(alloc),
             replies: Answers::new(alloc),
+            ends: Vec::new(alloc),
             last: 0,
             phase: Phase::Unopened,
             orders: Vec::new(alloc),
             spare_lines: Vec::new(alloc),
             spare_stamps: Vec::new(alloc),
+            spare_kept_stamps: Vec::new(alloc),
         };
         Ok(Core {
             machine,
@@ -242,6 +244,13 @@ impl Core {
         self.machine.replies.find(call)
     }
 
+    /// The end of each opening that ended, with the supervisor's own number then, in their order.
+    pub fn ends(&self) -> &[(u64, SupEnd)]
+        ensures { result.now ≡ (state_of self.now).ends }
+    {
+        &self.machine.ends
+    }
+
     /// What count_children would answer now.
     pub fn counts(&self) -> CountsNow
         ensures counts { result ≡ counts_of (state_of self.now) }
@@ -307,7 +316,7 @@ impl Core {
         laws::step_stamps();
         laws::step_keeps_stamped();
         laws::orders_are_appended();
-        let number = self.machine.step(reading, kind, numbers);
+        let number = self.machine.step(reading, &kind, numbers);
         self.last_number = number.unwrap_or(self.last_number);
         self.history.push_reserved(Event {
             reading,

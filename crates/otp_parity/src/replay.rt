@@ -1,6 +1,6 @@
 //! Transcripts are replayed and counted.
 
-ghost use Rattle.std.specs.Prelude.{◌≡◌, Ok, true};
+ghost use Rattle.std.specs.Prelude.{◌≡◌, ◌==◌, ◌-◌, ◌^◌, Ok, true, false, cond};
 ghost use Rattle.otp_parity.specs.Cut.{Shows};
 
 use crate::play::play;
@@ -18,7 +18,10 @@ pub struct Score {
 
 impl Score {
     /// One more transcript was replayed.
-    fn count(&mut self, passed: bool) {
+    fn count(&mut self, passed: bool)
+        ensures passed { passed ≡ true → self.new.failed ≡ self.old.failed }
+        ensures failed { self.new.failed ≡ self.old.failed → passed ≡ false → self.old.failed ≡ 2 ^ 64 - 1 }
+    {
         if passed {
             self.passed = self.passed.saturating_add(1);
         } else {
@@ -27,7 +30,9 @@ impl Score {
     }
 
     /// The exit status: 0 where none failed.
-    pub fn status(&self) -> u8 {
+    pub fn status(&self) -> u8
+        ensures { result ≡ cond (self.now.failed == 0) 0 1 }
+    {
         if self.failed == 0 { 0 } else { 1 }
     }
 }

@@ -22,6 +22,7 @@ use Rattle.otp_rules.specs.declared.call.Reply.{Reply}
 use Rattle.otp_rules.specs.declared.call.Reply.TheVariants as reply
 use Rattle.otp_rules.specs.declared.call.Call.TheVariants as call
 use Rattle.otp_rules.specs.declared.ending.Ending.{Ending}
+use Rattle.otp_rules.specs.declared.ending.SupEnd.{SupEnd}
 use Rattle.otp_rules.specs.declared.ending.Ending.TheVariants as ending
 use Rattle.otp_rules.specs.declared.event.Event.{Event}
 use Rattle.otp_rules.specs.declared.event.Item.{Item}
@@ -33,7 +34,7 @@ use Rattle.otp_rules.specs.declared.event.Waiting.TheVariants as waiting
 use Rattle.otp_rules.specs.declared.work.Due.{Due}
 use Rattle.otp_rules.specs.declared.work.After.{After}
 use Rattle.otp_rules.specs.declared.work.After.TheVariants as after
-use Rattle.otp_rules.specs.State.{Outcome, answer, closed, emit, is_busy, is_over, is_simple, own_number, put_last, with_phase, with_rows, with_stamps, with_waiting, with_work}
+use Rattle.otp_rules.specs.State.{Outcome, answer, closed, emit, is_busy, is_over, is_simple, own_number, put_last, with_end, with_phase, with_rows, with_stamps, with_waiting, with_work}
 use Rattle.otp_rules.specs.Places.{at_place, at_found, at_row, at_number, end_row, end_process, is_removed, set_row}
 use Rattle.otp_rules.specs.Restarts.{affected_from, affected_to, ends_by_significance, is_restarted, running}
 use Rattle.otp_rules.specs.Stops.{calm_all, is_exit, refusal, refused, stop_order, told, without, tell_row, tell, use_exit, is_due, start_row, start, refuse_all, end_all, follow, start_first, stop_first, advance, stop_each, terminate_ordered, terminate_together, terminate}
@@ -129,10 +130,11 @@ refuse_all-behind xs o =
 end_all-behind : (xs : List Effect) (e : Ending) (o : Outcome) → end_all e (behind xs o) ≡ behind xs (end_all e o)
 unfolding end_all
 end_all-behind xs e o =
-    let last : Effect = effect.End (sup_end_of o.state.flags o.state.stamps e) in
-    let ended : Outcome → Outcome = λ x. with_phase (Ended (own_number o.state.phase) e) (with_rows [] x) in
-    ap (λ (x : Outcome). emit last (ended x)) (refuse_all-behind xs (closed o))
-    ∙ emit-behind xs last (ended (refuse_all (closed o)))
+    let own : ℕ = own_number o.state.phase in
+    let end : SupEnd = sup_end_of o.state.flags o.state.stamps e in
+    let ended : Outcome → Outcome = λ x. with_end own end (with_phase (Ended own e) (with_rows [] x)) in
+    ap (λ (x : Outcome). emit (effect.End end) (ended x)) (refuse_all-behind xs (closed o))
+    ∙ emit-behind xs (effect.End end) (ended (refuse_all (closed o)))
 
 follow-behind : (xs : List Effect) (f : Option After) (o : Outcome) → follow f (behind xs o) ≡ behind xs (follow f o)
 unfolding follow

@@ -70,17 +70,18 @@ rows_in-end t none place row o h =
           omega (arith, e, z)
     ]
 
--- the work, the phase and the flags are the same
+-- the work, the phase, the flags and the stamps are the same
 abbrev pub Alike : Outcome → Outcome → Type 0
 Alike new old =
     (new.state.flags ≡ old.state.flags) × (new.state.phase ≡ old.state.phase) × (new.state.to_stop ≡ old.state.to_stop)
     × (new.state.to_start ≡ old.state.to_start) × (new.state.follows ≡ old.state.follows)
+    × (new.state.stamps ≡ old.state.stamps) × (new.state.last ≡ old.state.last)
 
 pub alike : (o : Outcome) → Alike o o
-alike o = (refl, refl, refl, refl, refl)
+alike o = (refl, refl, refl, refl, refl, refl, refl)
 
 pub alike-chain : (new mid old : Outcome) → Alike new mid → Alike mid old → Alike new old
-alike-chain new mid old h k = (h.0 ∙ k.0, h.1 ∙ k.1, h.2 ∙ k.2, h.3 ∙ k.3, h.4 ∙ k.4)
+alike-chain new mid old h k = (h.0 ∙ k.0, h.1 ∙ k.1, h.2 ∙ k.2, h.3 ∙ k.3, h.4 ∙ k.4, h.5 ∙ k.5, h.6 ∙ k.6)
 
 pub end_row-alike : (place : ℕ) (row : Row) (o : Outcome) → Alike (end_row place row o) o
 unfolding end_row

@@ -127,7 +127,7 @@ unfolding terminate terminate_together terminate_ordered
 terminate-adds e o =
     by_test (Adds (length o.state.rows) o) (is_simple o.state.flags.strategy) (terminate_together e o) (terminate_ordered e o)
     (λ _. let all = stop_each-adds (running o.state.rows) (calm_all (with_work [] [] (Some (after.End e)) o)) in
-        (omega (arith, all.0, running-few o.state.rows), omega (arith, all.1, calm-length o.state.rows)))
+    (omega (arith, all.0, running-few o.state.rows), omega (arith, all.1, calm-length o.state.rows)))
     (λ _. (omega arith, omega (arith, calm-length o.state.rows)))
 
 terminate-busy : (e : Ending) (o : Outcome) → is_busy (terminate e o) ≡ true
@@ -169,8 +169,7 @@ ends-few old e o none less = let ends = terminate-adds e o in (omega (arith, end
 tick-few : (o : Outcome) → orders_in o.orders ≡ 0 → Few o (tick o)
 unfolding tick
 tick-few o none =
-    let kills : Row → Option Effect = λ row. kill_order row (late_number o.state.last row.state) in
-    (
+    let kills : Row → Option Effect = λ row. kill_order row (late_number o.state.last row.state) in (
       omega (arith, none, orders-append o.orders (filter_map kills o.state.rows), from_some kills o.state.rows),
       λ _. omega (arith, length-map o.state.rows (λ (row : Row). killed row (late_number o.state.last row.state))),
     )
@@ -227,6 +226,7 @@ decide-few k o none = by_kind k refl
   where
     other_kind : ((own : ℕ) → k ≡ kind.Opened own → ⊥) → orders_in (decide k o).orders ≤ length o.state.rows
     other_kind other = (decide-survives_event k (λ (i : Item). Unit {0}) o (Few o) (few-survive k (λ (i : Item). Unit {0}) o none other) (λ i b idle. tt) (omega (arith, none), λ _. omega arith)).0
+
     by_kind : (j : Kind) → k ≡ j → orders_in (decide k o).orders ≤ length o.state.rows
     by_kind (kind.Opened own) is = subst (λ (j : Kind). orders_in (decide j o).orders ≤ length o.state.rows) (sym is) (opened-few own o none)
     by_kind (kind.Took i) is = other_kind (λ own as_opened. absurd (search (rules, sym is ∙ as_opened)))

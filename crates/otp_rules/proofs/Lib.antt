@@ -1,6 +1,7 @@
 mod Worked
 pub mod Keeps
 pub mod Decisions
+pub mod Steady
 pub mod Deadlines
 pub mod Period
 pub mod Rated
@@ -22,6 +23,7 @@ pub mod Slots
 pub mod Named
 pub mod Processes
 pub mod Opened
+pub mod Restarted
 pub mod Runs
 pub mod Few
 pub mod Waits

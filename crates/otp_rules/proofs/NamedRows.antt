@@ -11,7 +11,7 @@ use Rattle.otp_spec.specs.declared.flags.Strategy.{Strategy}
 use Rattle.otp_table.specs.declared.row.Row.{Row}
 use Rattle.otp_table.specs.declared.row.RowState.{RowState}
 use Rattle.otp_table.specs.declared.row.RowState.TheVariants.{Undefined, Starting, Up, Asked, Killed, Restarting}
-use Rattle.otp_table.specs.Rows.{free_slot, has_process, is_awaited, row_has, with_state}
+use Rattle.otp_table.specs.Rows.{free_slot, has_process, is_awaited, row_has, slot_of, with_state}
 use Rattle.otp_window.specs.Period.{in_period}
 use Rattle.otp_rules.specs.declared.call.Reply.{Reply}
 use Rattle.otp_rules.specs.declared.ending.Ending.{Ending}
@@ -105,15 +105,15 @@ tell-told p o quiet h =
     let kept : (q : ℕ) → 0 < rows_in (is_told q) o.state.rows → 0 < rows_in (is_told q) rows = λ q some.
     ⊎_elim
     (λ was. let same : q ≡ p = told_same p q row.state has was in
-        subst (λ (n : ℕ). 0 < rows_in (is_told n) rows) (sym same) (omega (arith, e p, one, at_most_1 (is_told p row.state), rows_in-at (is_told p) i row o.state.rows at)))
+    subst (λ (n : ℕ). 0 < rows_in (is_told n) rows) (sym same) (omega (arith, e p, one, at_most_1 (is_told p row.state), rows_in-at (is_told p) i row o.state.rows at)))
     (λ other. let none : ◌≡◌ {A = ℕ} (cond (is_told q row.state) 1 0) 0 = ap (λ (b : Bool). cond b 1 0) other in omega (arith, e q, none, some))
     (cases_Bool (is_told q row.state)) in
     All-push (IsTold new) o.orders (stop_order row.id p row.spec.shutdown)
     (λ j d within q some. let was = h j d within q some in (kept q was.0, was.1))
     (λ q some.
-        let same : p ≡ q = ap (λ (y : Option ℕ). unwrap_or y q) (sym (named_stop row.id p row.spec.shutdown) ∙ some) in
-        subst (λ (n : ℕ). (0 < rows_in (is_told n) rows) × (count_by (is_exit n) o.state.waiting ≡ 0)) same
-        (omega (arith, e p, one, rows_in-at (is_told p) i row o.state.rows at), quiet)))
+    let same : p ≡ q = ap (λ (y : Option ℕ). unwrap_or y q) (sym (named_stop row.id p row.spec.shutdown) ∙ some) in
+    subst (λ (n : ℕ). (0 < rows_in (is_told n) rows) × (count_by (is_exit n) o.state.waiting ≡ 0)) same
+    (omega (arith, e p, one, rows_in-at (is_told p) i row o.state.rows at), quiet)))
   where
     at_most_1 : (b : Bool) → cond b 1 0 ≤ 1
     at_most_1 true = omega arith
@@ -334,18 +334,19 @@ advance-placed n o h one tells =
     stop_first-placed o.state.to_stop n o ((h.0, nothing, refl, busy), one, h.1.0, h.1.1, tells-none o nothing tells)))
     (λ _. tells-placed o tells)
 
--- the row that a count tells of
-some_row : (t : RowState → Bool) (rows : List Row) → 0 < rows_in t rows → (row : Row) × Contains rows row × (t row.state ≡ true)
-some_row t [] some = absurd (omega (arith, some))
-some_row t (row ∷ rows) some = by_first (t row.state) refl (λ more. some_row t rows more)
+-- the first row that has the process, where a count tells of one
+first_row : (p : ℕ) (rows : List Row) → 0 < rows_in (has_process p) rows → (row : Row) × Contains rows row × (has_process p row.state ≡ true) × (slot_of p rows ≡ Some row.slot)
+first_row p [] some = absurd (omega (arith, some))
+first_row p (row ∷ rows) some = by_first (has_process p row.state) refl (λ more. first_row p rows more)
   where
-    by_first : (b : Bool) → t row.state ≡ b → (0 < rows_in t rows → (r : Row) × Contains rows r × (t r.state ≡ true)) → (r : Row) × Contains (row ∷ rows) r × (t r.state ≡ true)
-    by_first true is later = (row, (0, omega arith, refl), is)
+    by_first : (b : Bool) → has_process p row.state ≡ b → (0 < rows_in (has_process p) rows → (r : Row) × Contains rows r × (has_process p r.state ≡ true) × (slot_of p rows ≡ Some r.slot))
+        → (r : Row) × Contains (row ∷ rows) r × (has_process p r.state ≡ true) × (slot_of p (row ∷ rows) ≡ Some r.slot)
+    by_first true is later = (row, (0, omega arith, refl), is, ap (λ (b : Bool). if b then Some row.slot else slot_of p rows) is)
     by_first false is later =
-        let none : ◌≡◌ {A = ℕ} (cond (t row.state) 1 0) 0 = ap (λ (b : Bool). cond b 1 0) is in
-        let one : (r : Row) × Contains rows r × (t r.state ≡ true) = later (omega (arith, some, none, rows_in-cons t row rows)) in
+        let none : ◌≡◌ {A = ℕ} (cond (has_process p row.state) 1 0) 0 = ap (λ (b : Bool). cond b 1 0) is in
+        let one = later (omega (arith, some, none, rows_in-cons (has_process p) row rows)) in
         let c = one.1 in
-        (one.0, (suc c.0, omega (arith, c.1), c.2), one.2)
+        (one.0, (suc c.0, omega (arith, c.1), c.2), one.2, ap (λ (b : Bool). if b then Some row.slot else slot_of p rows) is ∙ one.3)
 
 pub orders_name_rows_from_law : OrdersNameRowsFrom
 unfolding step step_on
@@ -355,7 +356,7 @@ orders_name_rows_from_law next s g e fit j d within p is =
     let stands_now : Stands o = decide-survives e.kind Stands start (fitted-survives e.kind (is_some s.follows)) (fit.0.0, fit.1) in
     let tells : Tells o = decide-survives_event e.kind (λ (i : Item). Unit {0}) start Tells (tells-survive e.kind (λ (i : Item). Unit {0}) start refl) (λ i b idle. tt) (nothing-tells start refl) in
     let placed : Placed (step s e) = advance-placed (unwrap_or e.number 0) o stands_now (decided-distinct next s e fit.2).0 tells in
-    some_row (has_process p) (step s e).state.rows (placed j d within p is)
+    first_row p (step s e).state.rows (placed j d within p is)
 
 pub orders_name_rows_law : OrdersNameRows
 orders_name_rows_law flags specs events e lawful =

@@ -58,7 +58,7 @@ Fresh k f o =
     × ((k ≡ kind.Ticked → ⊥) → is_opened f o.state.follows ≡ true → ends_together o.state ≡ false → IsFresh o.state)
 
 -- where no work is open, none was opened
-opens_nothing : (f : Option After) → is_opened f None ≡ false
+pub opens_nothing : (f : Option After) → is_opened f None ≡ false
 opens_nothing None = refl
 opens_nothing (Some after.Ready) = refl
 opens_nothing (Some after.Nothing) = refl
@@ -297,7 +297,7 @@ new-processes : (slot : ℕ) (specs : List ChildSpec) → processes (rows_from s
 new-processes slot [] = refl
 new-processes slot (spec ∷ specs) = new-processes (slot + 1) specs
 
-new-awaited : (slot : ℕ) (specs : List ChildSpec) → rows_in is_awaited (rows_from slot specs) ≡ 0
+pub new-awaited : (slot : ℕ) (specs : List ChildSpec) → rows_in is_awaited (rows_from slot specs) ≡ 0
 new-awaited slot [] = refl
 new-awaited slot (spec ∷ specs) = omega (arith, rows_in-cons is_awaited (new_row slot (Some spec.id) spec) (rows_from (slot + 1) specs), new-awaited (slot + 1) specs)
 
@@ -431,10 +431,10 @@ stopped-listed c p place row o at up none =
         (λ apart. let z : ◌≡◌ {A = ℕ} (cond (p == q) 1 0) 0 = ap (λ (b : Bool). cond b 1 0) apart in omega (arith, k, z, times-cons q p []))
         (cases_Bool (p == q))
 
-starting : (row : Row) (q kept : ℕ) → row.state ≡ Starting q kept → is_awaited row.state ≡ true
+pub starting : (row : Row) (q kept : ℕ) → row.state ≡ Starting q kept → is_awaited row.state ≡ true
 starting row q kept is = ap is_awaited is
 
-told_awaited : (p : ℕ) (state : RowState) → is_told p state ≡ true → is_awaited state ≡ true
+pub told_awaited : (p : ℕ) (state : RowState) → is_told p state ≡ true → is_awaited state ≡ true
 told_awaited p Undefined h = h
 told_awaited p (Starting _ _) h = refl
 told_awaited p (Up _) h = h
@@ -442,7 +442,7 @@ told_awaited p (Asked _ _) h = refl
 told_awaited p (Killed _) h = refl
 told_awaited p (Restarting _) h = h
 
-down_calm : (place : ℕ) (row : Row) (state : RowState) (o : Outcome) → StandsAt place row o → is_awaited state ≡ false → rows_in is_awaited o.state.rows ≤ cond (is_awaited row.state) 1 0 → rows_in is_awaited (slice_set o.state.rows place (with_state state row)) ≡ 0
+pub down_calm : (place : ℕ) (row : Row) (state : RowState) (o : Outcome) → StandsAt place row o → is_awaited state ≡ false → rows_in is_awaited o.state.rows ≤ cond (is_awaited row.state) 1 0 → rows_in is_awaited (slice_set o.state.rows place (with_state state row)) ≡ 0
 down_calm place row state o at calm few =
     let e : rows_in is_awaited (slice_set o.state.rows place (with_state state row)) + cond (is_awaited row.state) 1 0 ≡ rows_in is_awaited o.state.rows + cond (is_awaited state) 1 0 = rows_in-set is_awaited place row state o.state.rows at in
     let z : ◌≡◌ {A = ℕ} (cond (is_awaited state) 1 0) 0 = ap (λ (b : Bool). cond b 1 0) calm in
@@ -469,11 +469,11 @@ restart-fresh p place row o at none =
 opens-fresh : (k : Kind) (b : Bool) (f : Option After) (o new : Outcome) → b ≡ is_some f → b ≡ false → is_some new.state.follows ≡ true → IsSound new.state → (ends_together new.state ≡ false → IsFresh new.state) → Fresh k f new
 opens-fresh k b f o new is idle busy sound h = (sound, inr (inr (opens_none f b new.state.follows is idle busy)), λ _ _. h)
 
-open_rows-busy : (own : ℕ) (o : Outcome) → is_some (open_rows own o).state.follows ≡ true
+pub open_rows-busy : (own : ℕ) (o : Outcome) → is_some (open_rows own o).state.follows ≡ true
 unfolding open_rows open_with
 open_rows-busy own o = refl
 
-tick-follows : (o : Outcome) → (tick o).state.follows ≡ o.state.follows
+pub tick-follows : (o : Outcome) → (tick o).state.follows ≡ o.state.follows
 unfolding tick
 tick-follows o = refl
 
@@ -526,7 +526,7 @@ fresh-survives k b f is_base =
     }
 
 -- an event that ticks opens no work
-opens_not_again : (f : Option After) → is_opened f f ≡ false
+pub opens_not_again : (f : Option After) → is_opened f f ≡ false
 opens_not_again None = refl
 opens_not_again (Some after.Ready) = refl
 opens_not_again (Some after.Nothing) = refl

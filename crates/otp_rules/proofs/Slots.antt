@@ -1,7 +1,7 @@
 -- No two rows have one slot, and each lies below 256.
-use Rattle.std.specs.Prelude.{Contains, ◌≡◌, ◌⊎◌, ℕ, ◌==◌, ◌+◌, ◌≤◌, ◌<◌, ◌++◌, ◌||◌, Bool, true, false, List, [], ◌∷◌, Option, None, Some, All, refl, if◌then◌else◌, position, is_some, slice_get, slice_set, slice_range, nat_lt, nat_le, length, remove, unwrap_or, map, take, drop, count_by}
+use Rattle.std.specs.Prelude.{Contains, ◌&&◌, not, ◌≡◌, ◌⊎◌, ℕ, ◌==◌, ◌+◌, ◌≤◌, ◌<◌, ◌++◌, ◌||◌, Bool, true, false, List, [], ◌∷◌, Option, None, Some, All, refl, if◌then◌else◌, position, is_some, slice_get, slice_set, slice_range, nat_lt, nat_le, length, remove, unwrap_or, map, take, drop, count_by}
 use Rattle.std.specs.List.{list_any}
-use Rattle.std.proofs.Common.{◌∙◌, ap, sym, subst, inl, inr, arith, ⊎_elim, cond, get_or}
+use Rattle.std.proofs.Common.{◌∙◌, ap, sym, subst, inl, inr, arith, ⊎_elim, cond, get_or, rules}
 use Rattle.std.proofs.lemmas.Bool.{false≢true, cases_Bool, eqb-true, eq-eqb, leb-false, cond_both, lt-ltb, ltb-true, ltb-false}
 use Rattle.std.proofs.lemmas.List.Sums.{sum_by-cons, sum_by-append, sum_by-take-drop}
 use Rattle.std.proofs.lemmas.List.Folds.{drop_split}
@@ -31,6 +31,12 @@ use Rattle.otp_rules.specs.Deaths.{restart_rows, restart_or_end, restart}
 use Rattle.otp_rules.specs.Calls.{new_row}
 use Rattle.otp_rules.specs.Step.{tick, decide, stamped, step, step_on, killed, late_number}
 use Rattle.otp_rules.specs.Run.{empty_state, state_after}
+use Rattle.otp_rules.specs.Opening.{open_fault}
+use Rattle.otp_spec.specs.declared.fault.SpecFault.{SpecFault}
+use Rattle.otp_spec.specs.declared.fault.SpecFault.TheVariants.{BadFlag, SimpleNeedsOne, TooManyChildren}
+use Rattle.otp_spec.specs.declared.flags.SupFlags.{SupFlags}
+use Rattle.otp_spec.specs.Flags.{are_lawful_flags}
+use Rattle.otp_spec.specs.Lawful.{first_fault}
 use Rattle.otp_rules.specs.Slots.{SlotsOwned, SlotsStayOwned, SlotsTellProcesses}
 use Rattle.otp_rules.specs.Step.{rows_from, open_with, open_rows, opening_specs}
 use Rattle.otp_rules.proofs.Keeps.{step_keeps_plan_law}
@@ -394,9 +400,23 @@ slots_stay_owned_law s events few h =
     let end : Slotted (state_after s events).rows = run-slots s events few (h.one, below-none s.rows h.below) in
     record { one = end.0; below = λ i d less. each-below (state_after s events).rows end.1 i d less }
 
+-- more than 256 specifications are a fault
+opened_few : (flags : SupFlags) (specs : List ChildSpec) → open_fault flags specs ≡ None → length specs ≤ 256
+unfolding open_fault
+opened_few flags specs =
+    let P : Option SpecFault → Type 0 = λ fault. fault ≡ None → length specs ≤ 256 in
+    let last : Option SpecFault = if nat_lt 256 (length specs) then Some TooManyChildren else first_fault specs (Some flags.auto_shutdown) in
+    cond_both (not (are_lawful_flags flags)) (Some BadFlag) (if is_simple flags.strategy && not (length specs == 1) then Some SimpleNeedsOne else last) P
+    (λ _ e. absurd (search (rules, e)))
+    (λ _. cond_both (is_simple flags.strategy && not (length specs == 1)) (Some SimpleNeedsOne) last P
+    (λ _ e. absurd (search (rules, e)))
+    (λ _. cond_both (nat_lt 256 (length specs)) (Some TooManyChildren) (first_fault specs (Some flags.auto_shutdown)) P
+    (λ _ e. absurd (search (rules, e)))
+    (λ few _. ltb-false 256 (length specs) few)))
+
 pub slots_owned_law : SlotsOwned
-slots_owned_law flags specs events few =
-    slots_stay_owned_law (empty_state flags specs) events few (record { one = λ k. omega arith; below = λ i d less. absurd (omega (arith, less)) })
+slots_owned_law flags specs events opens =
+    slots_stay_owned_law (empty_state flags specs) events (opened_few flags specs opens) (record { one = λ k. omega arith; below = λ i d less. absurd (omega (arith, less)) })
 
 -- where one row at most passes a test, two that do are one
 passes : (test : Row → Bool) (rows : List Row) (a : Row) → Contains rows a → test a ≡ true → 1 ≤ count_by test rows

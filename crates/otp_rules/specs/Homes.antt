@@ -1,5 +1,6 @@
--- Where a child is while it has no process: at home, with its supervisor. What an event brings home (own).
-use Rattle.std.specs.Prelude.{◌≡◌, ◌⊎◌, ℕ, ◌==◌, Bool, true, false, List, [], ◌∷◌, Option, Some, None, All, Contains, ◌<◌}
+-- Where a child is while it has no process: at home, with its supervisor, which keeps its body (own). What an event
+-- brings home.
+use Rattle.std.specs.Prelude.{◌≡◌, ◌⊎◌, ℕ, ◌==◌, Bool, true, false, List, [], ◌∷◌, Option, Some, None, All, Contains, ◌<◌, slice_get}
 use Rattle.std.specs.List.{list_any}
 use Rattle.otp_reason.specs.declared.note.Note.{Note}
 use Rattle.otp_reason.specs.declared.note.Note.TheVariants as note
@@ -18,21 +19,16 @@ use Rattle.otp_rules.specs.declared.event.Kind.{Kind}
 use Rattle.otp_rules.specs.declared.event.Kind.TheVariants as kind
 use Rattle.otp_rules.specs.declared.event.Waiting.{Waiting}
 use Rattle.otp_rules.specs.declared.event.Waiting.TheVariants as waiting
-use Rattle.otp_rules.specs.State.{State}
+use Rattle.otp_rules.specs.State.{State, is_over}
 use Rattle.otp_rules.specs.Step.{step}
 use Rattle.otp_rules.specs.Run.{empty_state, state_after}
 use Rattle.otp_rules.specs.Needs.{IsLawfulHistory, numbers_of}
 
+-- the call asks for a child more (supervisor, start_child/2)
 abbrev pub is_start_call : Call → Bool
 is_start_call (call.StartChild _) = true
 is_start_call call.StartDynamic = true
-is_start_call (call.RestartChild _) = false
-is_start_call (call.DeleteChild _) = false
-is_start_call (call.TerminateChild _) = false
-is_start_call (call.TerminateProcess _) = false
-is_start_call call.WhichChildren = false
-is_start_call call.CountChildren = false
-is_start_call (call.GetChildspec _) = false
+is_start_call _ = false
 
 -- the first that waits is this item
 abbrev pub IsFirst : List Waiting → Item → Type 0
@@ -47,13 +43,14 @@ Brings kind.Resumed ws i = IsFirst ws i
 Brings kind.Ticked ws i = ⊥
 Brings kind.Stopped ws i = ⊥
 
--- the process whose end the note tells
+-- the process whose end the note tells: it ended, or was never up
 abbrev pub end_number : Note → Option ℕ
 end_number (note.Up _) = None
 end_number (note.Ignored p) = Some p
 end_number (note.Failed p _) = Some p
 end_number (note.Exit p _) = Some p
 
+-- it is this number
 abbrev pub is_number : ℕ → Option ℕ → Bool
 is_number p None = false
 is_number p (Some q) = q == p
@@ -93,7 +90,7 @@ pub record WasThere (s : State) (k : Kind) (slot : ℕ) : Type 0 where
   pub same : row.slot ≡ slot
   pub home : ComesHome s k row
 
--- the row is new: a start call, or the opening, makes it, in a slot that no row had
+-- the row is new: a start call that the event takes makes it, in the least slot that no row had
 pub record IsAdded (s : State) (k : Kind) (slot : ℕ) : Type 0 where
   pub c : ℕ
   pub x : Call
@@ -101,13 +98,17 @@ pub record IsAdded (s : State) (k : Kind) (slot : ℕ) : Type 0 where
   pub brought : Brings k s.waiting (item.Call c x)
   pub free : slot ≡ free_slot s.rows
 
+-- the row is new: the opening makes it, in the slot that is the place of its specification
+pub record IsOpened (s : State) (k : Kind) (row : Row) : Type 0 where
+  pub own : ℕ
+  pub opening : k ≡ kind.Opened own
+  pub over : is_over s.phase ≡ true
+  pub place : slice_get s.specs row.slot ≡ Some row.spec
+
 -- the row has the process that the event starts
 abbrev pub is_started : Option ℕ → RowState → Bool
 is_started None state = false
 is_started (Some n) state = has_process n state
-
-abbrev pub IsOpening : Kind → Type 0
-IsOpening k = (own : ℕ) × (k ≡ kind.Opened own)
 
 -- no row has the process that the event starts
 abbrev pub IsNewNumber : Option ℕ → List Row → Type 0
@@ -119,13 +120,13 @@ abbrev pub KeepsHomes : State → Event → Type 0
 KeepsHomes s e =
     (row : Row) → Contains (step s e).state.rows row
     → (is_home (step s e).state.waiting row.state ≡ true) ⊎ (is_started e.number row.state ≡ true)
-    → WasThere s e.kind row.slot ⊎ (IsAdded s e.kind row.slot ⊎ IsOpening e.kind)
+    → WasThere s e.kind row.slot ⊎ (IsAdded s e.kind row.slot ⊎ IsOpened s e.kind row)
 
--- each event whose number is no row's does so
+-- each event whose number is no row's does so, from any state
 abbrev pub HomesKeptFrom : Type 0
 HomesKeptFrom = (s : State) (e : Event) → IsNewNumber e.number s.rows → KeepsHomes s e
 
--- after a lawful history, each event with a number above all earlier ones, or with none
+-- and so does, after a lawful history, each event with a number above all earlier ones, or with none
 abbrev pub HomesKept : Type 0
 HomesKept =
     (flags : SupFlags) (specs : List ChildSpec) (events : List Event) (e : Event) → IsLawfulHistory (empty_state flags specs) events

@@ -3,7 +3,7 @@ use Rattle.std.specs.Prelude.{◌≡◌, ℕ, ◌++◌, List, Option, Some, None
 use Rattle.otp_spec.specs.declared.child.ChildSpec.{ChildSpec}
 use Rattle.otp_spec.specs.declared.flags.SupFlags.{SupFlags}
 use Rattle.otp_table.specs.declared.row.Row.{Row}
-use Rattle.otp_table.specs.Rows.{has_process}
+use Rattle.otp_table.specs.Rows.{has_process, slot_of}
 use Rattle.otp_rules.specs.declared.event.Effect.{Effect}
 use Rattle.otp_rules.specs.declared.event.Effect.TheVariants as effect
 use Rattle.otp_rules.specs.declared.event.Event.{Event}
@@ -42,9 +42,9 @@ OrdersNumbered =
     (flags : SupFlags) (specs : List ChildSpec) (events : List Event) → IsLawfulHistory (empty_state flags specs) events
     → All (NamesOneOf (numbers_of events)) (orders_of (empty_state flags specs) events)
 
--- a process that the order names is that of a row
+-- a process that the order names is that of a row, and has its slot
 abbrev pub NamesRowOf : List Row → Effect → Type 0
-NamesRowOf rows order = (p : ℕ) → named_by order ≡ Some p → (row : Row) × Contains rows row × (has_process p row.state ≡ true)
+NamesRowOf rows order = (p : ℕ) → named_by order ≡ Some p → (row : Row) × Contains rows row × (has_process p row.state ≡ true) × (slot_of p rows ≡ Some row.slot)
 
 -- each order of an event names a process that a row has after the event, from each state that is fit
 abbrev pub OrdersNameRowsFrom : Type 0

@@ -23,6 +23,7 @@ empty_state flags specs =
       follows = None;
       waiting = [];
       replies = [];
+      ends = [];
       last = 0;
       phase = Unopened;
     }

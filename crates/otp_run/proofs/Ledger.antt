@@ -13,7 +13,7 @@ module _ (s : SchedulerState) where
   -- the others keep their places, and gave so many processes more
   keeps : (others : List VictimState) (empty more : ℕ) → map index_of others ≡ map index_of s.others → length (stolen others) ≡ length (stolen s.others) + more → IsScheduler s → IsScheduler (looked (own_missed s) others empty)
   keeps others empty more places found l = record {
-    placed = λ some. let p = l.placed some in record { inside = p.inside; shared = p.shared; ordered = places ∙ p.ordered };
+    placed = λ some. let p = l.placed some in record { few = p.few; inside = p.inside; shared = p.shared; ordered = places ∙ p.ordered };
     begun_is_put = l.begun_is_put;
     found_first = let p = l.found_first in omega (arith, length-append s.own.taken (stolen others), length-append s.own.taken (stolen s.others));
     begun_bounded = l.begun_bounded;

@@ -4,3 +4,7 @@ pub mod Thefts
 pub mod Ledger
 pub mod Places
 pub mod Shares
+pub mod Drains
+pub mod Gathers
+pub mod Ways
+pub mod Totals

@@ -81,6 +81,7 @@ is_placed count index v within few h =
     let parts : v.own.parts ≡ h.parts = ap (λ s. s.own.parts) h.is in
     let l = h.left in
     record {
+      few = few;
       inside = omega arith;
       shared = omega arith;
       ordered = ap (λ s. map index_of s.others) h.is ∙ ap (map index_of) (h.ways within) ∙ indexes-fresh (order_of index count) ∙ ap (λ k. order_of k count) (sym at);

@@ -1,17 +1,19 @@
 -- Each step on a deque keeps its rule.
-use Rattle.std.proofs.Common.{◌≡◌, ◌≢◌, ⊎_elim, ℕ, zero, suc, ◌+◌, ◌-◌, ◌<◌, ◌≤◌, List, [], ◌∷◌, ◌++◌, length, map, set, refl, sym, ap, ◌∙◌, subst, arith}
+use Rattle.std.proofs.Common.{◌≡◌, ◌≢◌, ⊎_elim, ℕ, zero, suc, ◌+◌, ◌-◌, ◌<◌, ◌≤◌, List, [], ◌∷◌, ◌++◌, length, map, set, refl, sym, ap, ◌∙◌, subst, arith, length-append}
 use Rattle.std.specs.Prelude.{sum_by}
+use Rattle.std.proofs.lemmas.List.{length-map}
 use Rattle.std.proofs.lemmas.List.Sums.{sum_by-append, sum_by-cons}
 use mathlib.Core.Option.{some, some-ne-none, some-injective}
 use lib.ListN.{get_elem?}
-use Rattle.crossbeam_deque.specs.Tasks.{Pushes, Takes, Pops, Finds, Forks, Merges}
+use Rattle.crossbeam_deque.specs.Tasks.{Pushes, Takes, Learns, Forks, Merges}
 use Rattle.crossbeam_deque.proofs.Lists.{at_set, at_snoc}
 use Rattle.otp_job.specs.Processes.{ProcessState}
 use Rattle.otp_job.specs.declared.process.Ticket.{Ticket}
 use Rattle.otp_run.specs.declared.rule.View.{View}
-use Rattle.otp_run.specs.Rule.{IsDeque, all_parts, ticket_of, view_of, whole_view, blank_view, thief_view, kept_view, joined_view, Puts, IsEmptied}
+use Rattle.otp_run.specs.Rule.{IsDeque, all_parts, ticket_of, view_of, whole_view, blank_view, thief_view, kept_view, joined_view, Puts, IsEmptied, TakesLeft, Counts}
 use Rattle.otp_run.specs.Rule.{Takes as TakesTickets}
-use Rattle.otp_run.proofs.Sums.{sum_by-set, two_le_sum_by, sum_by-alone}
+use Rattle.otp_run.proofs.Places.{map-append}
+use Rattle.otp_run.proofs.Sums.{sum_by-set, sum_by-alone, sum_by-one}
 
 Idle : View → Type 0
 Idle v = v.parts ≡ 0 → (v.put ≡ []) × (v.taken ≡ [])
@@ -19,10 +21,6 @@ Idle v = v.parts ≡ 0 → (v.put ≡ []) × (v.taken ≡ [])
 only_first : (v u : View) (id : ℕ) → get_elem? (v ∷ []) id ≡ some u → v ≡ u
 only_first v u zero e = some-injective v u e
 only_first v u (suc id) e = absurd (some-ne-none u (sym e))
-
-map-append : {A B : Type 0} (f : A → B) (xs ys : List A) → map f (xs ++ ys) ≡ map f xs ++ map f ys
-map-append f [] ys = refl
-map-append f (x ∷ xs) ys = ap (λ l. f x ∷ l) (map-append f xs ys)
 
 pub begins : IsDeque [] (whole_view ∷ [])
 begins = record {
@@ -104,14 +102,23 @@ merged items views id other v w at apart there some_part d =
           (at_set (set views id b) other j blank_view u e);
     }
 
-pub settles : (views : List View) (id : ℕ) (v : View) → IsDeque [] views → get_elem? views id ≡ some v → IsEmptied v
-settles views id v d at all weight =
+-- who has all parts knows what is inside
+accounts : (items : List Ticket) (views : List View) (id : ℕ) (v : View) → IsDeque items views → get_elem? views id ≡ some v → v.parts ≡ all_parts → (weight : Ticket → ℕ) → sum_by weight v.put ≡ sum_by weight v.taken + sum_by weight items
+accounts items views id v d at all weight =
     let f : View → ℕ = λ u. sum_by weight u.put in
     let g : View → ℕ = λ u. sum_by weight u.taken in
     let whole = d.whole ∙ sym all in
     let p = sum_by-alone (λ (u : View). u.parts) f views id v at (λ j u e none. ap (sum_by weight) (d.idle j u e none).0) whole in
     let q = sum_by-alone (λ (u : View). u.parts) g views id v at (λ j u e none. ap (sum_by weight) (d.idle j u e none).1) whole in
     let o = d.as_often weight in
+    omega arith
+
+counted : (items : List Ticket) (views : List View) (id : ℕ) (v : View) → IsDeque items views → get_elem? views id ≡ some v → Counts v (length items)
+counted items views id v d at all =
+    let p = accounts items views id v d at all (λ (t : Ticket). 1) in
+    let a = sum_by-one v.put in
+    let b = sum_by-one v.taken in
+    let c = sum_by-one items in
     omega arith
 
 module _ {J S : Type 0} where
@@ -146,4 +153,19 @@ module _ {J S : Type 0} where
   merges id other v w some_part items views d at apart there = merged (map ticket_of items) views id other v w at apart there some_part d
 
 pub finds : (id : ℕ) (v : View) (views : List View) → IsDeque [] views → get_elem? views id ≡ some v → IsEmptied v
-finds id v views d at = settles views id v d at
+finds id v views d at all weight = let p = accounts [] views id v d at all weight in let z : sum_by weight [] ≡ 0 = refl in omega arith
+
+module _ {J S : Type 0} where
+  pub takes_left : (id : ℕ) (v : View) → 0 < v.parts → Takes (λ (items : List (ProcessState J S)) views. IsDeque (map ticket_of items) views) id v 1 (λ xs w. TakesLeft v (map ticket_of xs) w)
+  unfolding takes
+  takes_left id v some_part xs items views some_task one d at =
+      let t = takes id v some_part xs items views some_task one d at in
+      let w : View = view_of v.parts v.put (v.taken ++ map ticket_of xs) in
+      let left : v.parts ≡ all_parts → length w.taken ≤ length w.put = λ all.
+          let p = counted (map ticket_of (xs ++ items)) views id v d at all in
+          let a = ap (λ l. length l) (map-append ticket_of xs items) in
+          omega (arith, length-append (map ticket_of xs) (map ticket_of items), length-append v.taken (map ticket_of xs)) in
+      (w, t.1, (refl, left))
+
+  pub counts : (id : ℕ) (v : View) → Learns (λ (items : List (ProcessState J S)) views. IsDeque (map ticket_of items) views) id v (λ items. Counts v (length items))
+  counts id v items views d at all = let p = counted (map ticket_of items) views id v d at all in let q = length-map items ticket_of in omega arith

@@ -4,3 +4,4 @@ pub mod Rule
 pub mod Deques
 pub mod Schedulers
 pub mod Opens
+pub mod Gathers

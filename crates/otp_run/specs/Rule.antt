@@ -1,5 +1,5 @@
 -- The rule of one deque: each process that was put is inside or was taken, as often as it was put. (own)
-use Rattle.std.specs.Prelude.{◌≡◌, ℕ, ◌+◌, ◌-◌, List, [], ◌++◌, sum_by}
+use Rattle.std.specs.Prelude.{◌≡◌, ℕ, ◌+◌, ◌-◌, ◌≤◌, List, [], ◌++◌, length, sum_by}
 use mathlib.Core.Option.{some}
 use lib.ListN.{get_elem?}
 use Rattle.otp_job.specs.declared.process.Ticket.{Ticket}
@@ -47,6 +47,14 @@ Puts v xs w = w ≡ view_of v.parts (v.put ++ xs) v.taken
 
 abbrev pub Takes : View → List Ticket → View → Type 0
 Takes v xs w = w ≡ view_of v.parts v.put (v.taken ++ xs)
+
+-- who has all parts never takes more than was put
+abbrev pub TakesLeft : View → List Ticket → View → Type 0
+TakesLeft v xs w = Takes v xs w × (v.parts ≡ all_parts → length w.taken ≤ length w.put)
+
+-- who has all parts knows how many are left
+abbrev pub Counts : View → ℕ → Type 0
+Counts v left = v.parts ≡ all_parts → length v.put ≡ length v.taken + left
 
 -- who has all parts and finds nothing left knows that all was taken
 abbrev pub IsEmptied : View → Type 0

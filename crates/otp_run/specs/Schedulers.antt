@@ -41,6 +41,7 @@ order_of index count = numbers_from (index + 1) (count - 1 - index) ++ numbers_f
 
 -- it has its ways to all others, in their order, and each of them has a part of its deque
 pub record IsPlaced (s : SchedulerState) : Type 0 where
+  pub few : s.count ≤ all_parts
   pub inside : s.own.index < s.count
   pub shared : s.own.parts + s.count ≡ all_parts + 1
   pub ordered : map index_of s.others ≡ order_of s.own.index s.count

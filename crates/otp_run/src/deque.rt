@@ -1,10 +1,12 @@
 // The two ends of a scheduler's deque: its own, and those of the others that steal from it.
-ghost use Rattle.std.specs.Prelude.{◌≡◌, ◌+◌, ◌-◌, ◌<◌, ◌++◌, ◌∷◌, [], IfSome, IfNone, IfOk, IfErr, OnOk, OnErr};
+ghost use Rattle.std.specs.Prelude.{◌≡◌, ◌+◌, ◌-◌, ◌<◌, ◌≤◌, length, vec_len, vec_capacity, ◌++◌, ◌∷◌, [], IfSome, IfNone, IfOk, IfErr, OnOk, OnErr};
 ghost use Rattle.otp_run.specs.Deques.{fresh_victim};
+ghost use Rattle.crossbeam_deque.specs.Handles.{worker_flavor, worker_view};
+ghost use Rattle.otp_run.specs.Gathers.{DrainedInto, Popped};
 ghost use Rattle.otp_run.specs.Rule.{all_parts};
 
 use crate::naming::RunNaming;
-use crate::rule::{Cut, Joined, ProcessPass, ProcessStealer, ProcessWorker, Put, Taken};
+use crate::rule::{Counted, Cut, Drained, Joined, ProcessPass, ProcessStealer, ProcessWorker, Put, Taken};
 use crossbeam_deque::Steal;
 use otp_job::Process;
 use otp_tally::Tally;
@@ -101,6 +103,49 @@ impl<N: RunNaming, J: Drop, S: Drop> OwnDeque<N, J, S> {
         self.worker.absorb::<Joined>(pass);
         self.parts += 1;
     }
+
+    // How many processes are left, where all parts are home.
+    pub(crate) fn count(&mut self) -> usize
+        requires { self.old.parts ≡ all_parts }
+        ensures same { self.new ≡ self.old }
+        ensures count { length self.old.puts ≡ length self.old.taken + result }
+    {
+        self.worker.len_as::<Counted>()
+    }
+
+    // Puts what is left at the end of a list that has room for it, where all parts are home.
+    pub(crate) fn drain_into(self, left: &mut Vec<Process<J, S>>)
+        requires home { self.parts ≡ all_parts }
+        requires room { length self.puts + vec_len left.old ≤ length self.taken + vec_capacity left.old }
+        ensures drained { DrainedInto (self ∷ []) left.old.items left.new.items }
+        ensures in_place { vec_capacity left.new ≡ vec_capacity left.old }
+    {
+        let OwnDeque {
+            index: _,
+            parts: _,
+            worker,
+            misses: _,
+            of: _,
+        } = self;
+        pop_all(worker, left);
+    }
+}
+
+// Pops until nothing is left, by a pass that has all parts.
+fn pop_all<J: Drop, S: Drop>(mut worker: ProcessWorker<J, S>, left: &mut Vec<Process<J, S>>)
+    requires fifo { worker_flavor worker ≡ 0 }
+    requires home { (worker_view worker).parts ≡ all_parts }
+    requires room { length (worker_view worker).put + vec_len left.old ≤ length (worker_view worker).taken + vec_capacity left.old }
+    ensures popped { Popped (worker_view worker) left.old.items left.new.items }
+    ensures in_place { vec_capacity left.new ≡ vec_capacity left.old }
+{
+    for _ in 0..usize::MAX {
+        let Some(process) = worker.pop_as::<Drained>() else {
+            return;
+        };
+        left.push_reserved(process);
+    }
+    unreachable!()
 }
 
 /// The way to another scheduler's deque.

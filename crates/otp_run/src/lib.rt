@@ -4,12 +4,14 @@
 #![tactic(auto)]
 
 pub mod deque;
+mod gathering;
 pub mod naming;
 pub mod queue;
 pub mod rule;
 pub mod scheduler;
 
 pub use deque::{OwnDeque, Victim};
+pub use gathering::{GatherFault, LiveTotal, gather, is_all};
 pub use naming::RunNaming;
 pub use queue::RunQueue;
 pub use scheduler::{SHARE_LIMIT, Scheduler, Share};

@@ -1,5 +1,5 @@
 // The rule of a deque, what each of its passes knows, and the steps.
-use crossbeam_deque::protocol::{Join, Outcome, Protocol, Split};
+use crossbeam_deque::protocol::{Join, Lesson, Outcome, Protocol, Split};
 use crossbeam_deque::{Pass, Stealer, Worker};
 use otp_job::{Process, Ticket};
 use std::alloc::Global;
@@ -60,11 +60,21 @@ pub struct Drained;
 
 impl<J: Drop, S: Drop> Outcome<Process<J, S>, View> for Drained {
     ghost use Rattle.std.specs.Prelude.{map};
-    ghost use Rattle.otp_run.specs.Rule.{Takes, IsEmptied, ticket_of};
+    ghost use Rattle.otp_run.specs.Rule.{TakesLeft, IsEmptied, ticket_of};
 
-    ghost then = { λ v xs w. Takes v (map ticket_of xs) w };
+    ghost then = { λ v xs w. TakesLeft v (map ticket_of xs) w };
 
     ghost empty = { λ v. IsEmptied v };
+}
+
+// A count by a pass that has all parts.
+pub struct Counted;
+
+impl<J: Drop, S: Drop> Lesson<Process<J, S>, View> for Counted {
+    ghost use Rattle.std.specs.Prelude.{length};
+    ghost use Rattle.otp_run.specs.Rule.{Counts};
+
+    ghost fact = { λ v items. Counts v (length items) };
 }
 
 // One part is cut off, for a thief.

@@ -1,5 +1,5 @@
 // A scheduler's end of the run queue.
-ghost use Rattle.std.specs.Prelude.{◌≡◌, ◌+◌, ◌-◌, ◌<◌, ◌≤◌, ◌^◌, ◌++◌, ◌∷◌, [], length, IfSome, IfNone, IfOk, IfErr, IsErr, OnOk, OnErr};
+ghost use Rattle.std.specs.Prelude.{◌≡◌, ◌↔◌, ◌+◌, ◌-◌, ◌<◌, ◌≤◌, ◌^◌, ◌++◌, ◌∷◌, [], length, IfSome, IfNone, IfOk, IfErr, IsErr, IsTrue, OnOk, OnErr};
 ghost use Rattle.otp_run.specs.Deques.{fresh_victim, missed, robbed, TakenFrom};
 ghost use Rattle.otp_run.specs.Opens.{unused};
 ghost use Rattle.otp_run.specs.Schedulers.{out, Found, IsPlaced, nothing_found};
@@ -71,9 +71,11 @@ impl<N: RunNaming, J: Drop, S: Drop> Scheduler<N, J, S> {
         self.count
     }
 
-    /// How many processes began and ended here.
+    /// How many processes began and ended here, at most 2^60 each.
     pub fn share(&self) -> Share
-        ensures { result ≡ record { begun = self.now.begun; ended = self.now.ended } }
+        ensures share { result ≡ record { begun = self.now.begun; ended = self.now.ended } }
+        ensures begun_bounded { result.begun ≤ 2 ^ 60 }
+        ensures ended_bounded { result.ended ≤ 2 ^ 60 }
     {
         self.share
     }
@@ -161,6 +163,15 @@ impl<N: RunNaming, J: Drop, S: Drop> Scheduler<N, J, S> {
         ensures { self.new ≡ record self.old { others = ways.items } }
     {
         self.others = ways;
+    }
+
+    // Whether it is the one of this index, among so many that are all there.
+    pub(crate) fn stands_at(&self, index: usize, count: usize) -> bool
+        requires { index < count }
+        ensures same { IsTrue result ↔ ((self.now.own.index ≡ index) × (self.now.count ≡ count)) }
+        ensures placed { IsTrue result → IsPlaced self.now }
+    {
+        self.own.index == index && self.count == count
     }
 
     // Tells one that has all its ways how many schedulers there are.

@@ -1,5 +1,5 @@
 -- The rows of a supervisor's children: what is asked of one row.
-use Rattle.std.specs.Prelude.{ℕ, ◌+◌, Bool, true, false, ◌==◌, Option, Some, None, List, map, length, if◌then◌else◌}
+use Rattle.std.specs.Prelude.{ℕ, ◌+◌, Bool, true, false, ◌==◌, Option, Some, None, List, [], ◌∷◌, map, length, if◌then◌else◌}
 use Rattle.std.specs.List.{list_any}
 use Prim.Native.Nat.{zero, suc}
 use Rattle.std.specs.Option.{option_eq}
@@ -130,3 +130,8 @@ free_from (suc more) slot rows = if list_any (has_slot slot) rows then free_from
 -- most, so none after that has to be tried.
 unfoldable pub free_slot : List Row → ℕ
 free_slot rows = free_from (length rows) 0 rows
+
+-- the slot of the first row whose process has this number
+abbrev pub slot_of : ℕ → List Row → Option ℕ
+slot_of p [] = None
+slot_of p (row ∷ rows) = if has_process p row.state then Some row.slot else slot_of p rows

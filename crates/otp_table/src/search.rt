@@ -2,7 +2,7 @@
 
 ghost use Rattle.std.specs.Prelude.{◌≡◌, ◌<◌, ◌≤◌, ℕ, false, get_or, length, position};
 ghost use Rattle.std.specs.List.{list_any};
-ghost use Rattle.otp_table.specs.Rows.{awaits_retry, calm_rows, free_slot, has_id, has_number, has_process, has_slot, row_has};
+ghost use Rattle.otp_table.specs.Rows.{awaits_retry, calm_rows, free_slot, has_id, has_number, has_process, has_slot, row_has, slot_of};
 
 use crate::row::{Row, RowState};
 use crate::rows::MAX_CHILDREN;
@@ -34,6 +34,18 @@ pub fn find_retry(rows: &[Row], number: u64) -> Option<usize>
     ensures { result ≡ position (row_has (awaits_retry number)) rows.now }
 {
     rows.iter().position(|row| row.state.awaits_retry(number))
+}
+
+/// The slot of the first row whose process has this number.
+pub fn slot_of(rows: &[Row], number: u64) -> Option<usize>
+    ensures { result ≡ slot_of number rows.now }
+{
+    for row in rows {
+        if row.state.has_process(number) {
+            return Some(row.slot);
+        }
+    }
+    None
 }
 
 /// Which slots below [`MAX_CHILDREN`] a row has.

@@ -4,8 +4,8 @@ use crate::fixtures::named;
 use otp_core::{Core, Counter, OpenFault};
 use otp_reason::{Name, Note, Reason, Text};
 use otp_rules::{
-    Call, CallFault, Cause, ChildProcess, CountsNow, Effect, Ending, Event, Item, Kind, Reply,
-    SupEnd,
+    Call, CallFault, Cause, ChildProcess, CountsNow, Effect, Ending, Event, Item, Kind, Phase,
+    Reply, SupEnd, Waiting,
 };
 use otp_spec::{AutoShutdown, ChildSpec, Restart, Shutdown, SpecFault, Strategy, SupFlags};
 use std::alloc::Global;
@@ -537,6 +537,64 @@ fn numbers_that_are_drawn_beforehand(rt: HostRuntime) -> Result<(), Fail> {
             kind,
         });
         assert_eq!(rt; core.last_number(), 7);
+    }
+    Ok(())
+}
+
+// What a core tells of its state while a child is stopped, an end waits, and the supervisor ends.
+#[test]
+fn told_between_events(rt: HostRuntime) -> Result<(), Fail> {
+    let [mut a, b] = [child(b"a")?, child(b"b")?];
+    a.shutdown = Shutdown::Milliseconds(100);
+    let mut driver = Driver::open(&rt, rt.alloc(), SupFlags::default(), &[a, b])?;
+    driver.lines(&rt, &[up(1), up(2)])?;
+    let core = &driver.core;
+    assert_eq!(rt; core.phase(), Phase::Open(0));
+    assert_eq!(rt; (core.next_deadline(), core.first_waiting()), (None, None));
+    assert_eq!(rt; core.next_kind(0, false), None);
+    assert_eq!(rt; core.next_kind(0, true), Some(Kind::Stopped));
+    assert_eq!(rt; core.rows().len(), 2);
+    assert!(rt; core.rows().iter().all(|row| row.state.is_up()));
+
+    let end = Note::Exit(2, error()?);
+    driver.lines(
+        &rt,
+        &[Line::Asked(Call::TerminateChild(a.id)), Line::Told(end)],
+    )?;
+    let core = &driver.core;
+    assert_eq!(rt; core.next_deadline(), Some(100));
+    assert_eq!(rt; (core.is_due(99), core.is_due(100)), (false, true));
+    assert_eq!(rt; core.next_kind(99, true), None);
+    assert_eq!(rt; core.next_kind(100, true), Some(Kind::Ticked));
+    assert_eq!(rt; core.first_waiting(), Some(&Waiting::Item(Item::Note(end))));
+
+    driver.lines(
+        &rt,
+        &[
+            exit(1, Reason::Shutdown),
+            up(3),
+            Line::Asked(Call::WhichChildren),
+        ],
+    )?;
+    let told = driver.core.reply(2).ok_or("an answer")?.try_clone()?;
+    let Reply::Which(lines) = told else {
+        return Err(Fail::from("the children"));
+    };
+    let processes: [ChildProcess; 2] = [ChildProcess::Undefined, ChildProcess::Number(3)];
+    assert_eq!(rt; lines.as_slice().len(), 2);
+    for (line, process) in lines.as_slice().iter().zip(&processes) {
+        assert_eq!(rt; line.process, *process);
+    }
+
+    assert!(rt; driver.core.ends().is_empty());
+    driver.lines(&rt, &[Line::Stop, exit(3, Reason::Shutdown)])?;
+    let core = &driver.core;
+    assert_eq!(rt; core.phase(), Phase::Ended(0, Ending::Asked));
+    assert_eq!(rt; core.next_kind(0, true), None);
+    assert_eq!(rt; core.ends().len(), 1);
+    for (own, end) in core.ends() {
+        assert_eq!(rt; *own, 0);
+        assert_eq!(rt; end.try_clone()?.reason, Reason::Shutdown);
     }
     Ok(())
 }

@@ -1,6 +1,6 @@
 use otp_reason::Name;
 use otp_spec::{ChildSpec, SpecFault};
-use otp_table::{MAX_CHILDREN, Row, RowState, Rows};
+use otp_table::{MAX_CHILDREN, Row, RowState, Rows, slot_of};
 use std::test::Fail;
 
 fn row(slot: usize, id: &[u8], state: RowState) -> Result<Row, Fail> {
@@ -43,6 +43,8 @@ fn three_children(rt: HostRuntime) -> Result<(), Fail> {
         (None, Some(2))
     );
     assert_eq!(rt; (rows.find_retry(2), rows.find_retry(1)), (Some(1), None));
+    let slots = (slot_of(rows.as_slice(), 5), slot_of(rows.as_slice(), 2));
+    assert_eq!(rt; slots, (Some(2), None));
     rows.calm(0, 3);
     rows.set_state(0, RowState::Killed(1));
     let states: [RowState; 3] = [rows.get(0).state, rows.get(1).state, rows.get(2).state];

@@ -3,7 +3,7 @@
 //! OTP Design Principles, Supervisor Behaviour, "Maximum Restart Intensity".
 #![tactic(auto)]
 
-ghost use Rattle.std.specs.Prelude.{◌≡◌, ◌≤◌, ◌^◌, ◌++◌, ◌∷◌, [], true, false, All, OnOk, OnErr, nat_lt};
+ghost use Rattle.std.specs.Prelude.{◌≡◌, ◌≤◌, ◌++◌, ◌∷◌, [], true, false, All, OnOk, OnErr, nat_lt};
 ghost use Rattle.otp_window.specs.Answer.{within};
 ghost use Rattle.otp_window.specs.Period.{in_period};
 
@@ -119,7 +119,6 @@ impl Window {
     pub fn add(&mut self, now: u64) -> Within
         requires reserved { self.old.reserved ≡ true }
         requires latest { All (λ s. s ≤ now) self.old.stamps }
-        requires time { now ≤ 2 ^ 62 }
         ensures window { self.new ≡ record self.old { stamps = self.old.stamps ++ now ∷ []; reserved = false } }
         ensures answer { result ≡ within self.old.intensity self.old.period (self.old.stamps ++ now ∷ []) now }
     {

@@ -1,10 +1,4 @@
-//! The program: `sim FILE` reads a tree file and then lines of standard input, and prints the orders of its supervisor.
-#![tactic(auto)]
-
-pub mod console;
-pub mod ending;
-pub mod program;
-pub mod words;
+//! The program on the system that it is run on.
 
 use crate::program::{TreeFiles, run};
 use crate::words::words_of;
@@ -12,14 +6,15 @@ use otp_sim::Counted;
 use std::process::ExitCode;
 use std::{fs, io};
 
-fn main(rt: HostRuntime) -> ExitCode {
+/// Does what the words of the command line ask for.
+pub fn otp(rt: &HostRuntime) -> ExitCode {
     let mut input = Counted::new(rt.stdin());
     let mut output = Counted::new(rt.stdout());
     let mut errors = Counted::new(rt.stderr());
     let status = run(
         rt.alloc(),
-        words_of(&rt),
-        &rt,
+        words_of(rt),
+        rt,
         &mut input,
         &mut output,
         &mut errors,
@@ -35,6 +30,3 @@ impl TreeFiles for HostRuntime {
         fs::read(self, name)
     }
 }
-
-#[cfg(test)]
-mod tests;

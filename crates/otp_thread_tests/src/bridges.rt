@@ -1,0 +1,35 @@
+// Which calls a subsystem gets.
+use crate::jobs::run;
+use crate::probes::{Calls, pipe};
+use otp_bridge::BridgePhase;
+use otp_job::Body;
+use otp_reason::{Note, Reason};
+use otp_signals::Signal;
+use std::sync::Arc;
+use std::sync::atomic::{AtomicU64, Ordering};
+use std::test::*;
+
+#[test]
+fn each_end_of_a_bridge(rt: HostRuntime) -> Result<(), Fail> {
+    let alloc = rt.alloc();
+    for (ended, signal, reason, wanted, phase) in [
+        (Some(Reason::NoProc), Signal::None, Reason::NoProc, 12, BridgePhase::MainEnded),
+        (None, Signal::Shutdown, Reason::Shutdown, 14, BridgePhase::Terminated),
+        (None, Signal::Kill, Reason::Killed, 1, BridgePhase::Terminated),
+    ] {
+        let calls: Calls = Arc::new(alloc, AtomicU64::new(0))?;
+        let body = pipe(alloc, &calls, ended)?;
+        let (note, body) = run(&rt, body, &[Signal::None, signal]);
+        assert_eq!(rt; note, Some(Note::Exit(7, reason)));
+        assert_eq!(rt; calls.load(Ordering::SeqCst), wanted);
+        let Some(Body::Bridge(bridge)) = body else {
+            panic!(&rt; "the bridge came home");
+        };
+        assert_eq!(rt; bridge.phase(), phase);
+        // A second start calls `init` again.
+        let (note, _) = run(&rt, Body::Bridge(bridge), &[Signal::None]);
+        assert_eq!(rt; note, Some(Note::Up(7)));
+        assert_eq!(rt; calls.load(Ordering::SeqCst), wanted * 10 + 1);
+    }
+    Ok(())
+}

@@ -1,0 +1,119 @@
+// Which calls a job gets in which turn.
+use crate::probes::{AnyBody, AnyProcess, Calls, probe};
+use otp_job::{After, Phase, Process, TableNo, one_turn};
+use otp_job::Body;
+use otp_reason::{Note, Reason, Started};
+use otp_signals::Signal;
+use std::process::Abort;
+use std::sync::Arc;
+use std::sync::atomic::{AtomicU64, Ordering};
+use std::test::*;
+
+/// The notes of a process, turn by turn, and the body that came home.
+pub fn run<R: Abort>(rt: &R, body: AnyBody, signals: &[Signal]) -> (Option<Note>, Option<AnyBody>) {
+    let mut last = None;
+    let mut going: Option<AnyProcess> = Some(Process::new(7, 3, 1, body));
+    for signal in signals {
+        let Some(process) = going else {
+            panic!(rt; "a process that ended has no turn");
+        };
+        assert!(rt; process.is_runnable());
+        match one_turn(process, *signal) {
+            After::Again(process) => {
+                assert_eq!(rt; process.number(), 7);
+                assert_eq!(rt; (process.slot(), process.table()), (3, 1));
+                last = None;
+                going = Some(process);
+            }
+            After::Begun(process, note) => {
+                assert_eq!(rt; process.phase(), Phase::Running);
+                last = Some(note);
+                going = Some(process);
+            }
+            After::Done(end, spent) => {
+                assert_eq!(rt; spent.into_number(), 7);
+                return (Some(end.note), Some(end.body));
+            }
+        }
+    }
+    (last, None)
+}
+
+#[test]
+fn first_turn_starts_and_a_later_kill_calls_nothing(rt: HostRuntime) -> Result<(), Fail> {
+    let alloc = rt.alloc();
+    let calls: Calls = Arc::new(alloc, AtomicU64::new(0))?;
+    let (note, body) = run(&rt, probe(alloc, &calls, true, Started::Up)?, &[Signal::Kill]);
+    assert_eq!(rt; note, Some(Note::Up(7)));
+    assert!(rt; body.is_none());
+    let (note, body) = run(&rt, probe(alloc, &calls, true, Started::Up)?, &[Signal::Kill, Signal::Kill]);
+    assert_eq!(rt; note, Some(Note::Exit(7, Reason::Killed)));
+    assert!(rt; body.is_some());
+    assert_eq!(rt; calls.load(Ordering::SeqCst), 11);
+    Ok(())
+}
+
+#[test]
+fn trapping_job_is_told_once(rt: HostRuntime) -> Result<(), Fail> {
+    let alloc = rt.alloc();
+    for (traps, wanted, end) in [
+        (true, 1_322, None),
+        (false, 1, Some(Note::Exit(7, Reason::Shutdown))),
+    ] {
+        let calls: Calls = Arc::new(alloc, AtomicU64::new(0))?;
+        let body = probe(alloc, &calls, traps, Started::Up)?;
+        let (started, stopped) = (Signal::None, Signal::Shutdown);
+        let signals: &[Signal] = if traps {
+            &[started, stopped, stopped, stopped]
+        } else {
+            &[started, stopped]
+        };
+        let (note, body) = run(&rt, body, signals);
+        assert_eq!(rt; note, end);
+        assert_eq!(rt; body.is_some(), !traps);
+        assert_eq!(rt; calls.load(Ordering::SeqCst), wanted);
+    }
+    Ok(())
+}
+
+#[test]
+fn refused_start_brings_the_body_home(rt: HostRuntime) -> Result<(), Fail> {
+    let alloc = rt.alloc();
+    for (answer, note) in [
+        (Started::Ignore, Note::Ignored(7)),
+        (Started::Fail(Reason::NoProc), Note::Failed(7, Reason::NoProc)),
+    ] {
+        let calls: Calls = Arc::new(alloc, AtomicU64::new(0))?;
+        let (end, body) = run(&rt, probe(alloc, &calls, false, answer)?, &[Signal::None]);
+        assert_eq!(rt; end, Some(note));
+        assert!(rt; body.is_some());
+    }
+    Ok(())
+}
+
+#[test]
+fn table_goes_home_before_its_process_retires(rt: HostRuntime) {
+    let body: AnyBody = Body::Sup(TableNo::new(5));
+    let mut process: AnyProcess = Process::new(9, 0, 0, body);
+    assert_eq!(rt; process.nested_table(), Some(5));
+    assert!(rt; !process.is_runnable());
+    let Some(table) = process.take_table() else {
+        panic!(&rt; "the table is there");
+    };
+    assert_eq!(rt; table.number(), 5);
+    assert!(rt; !process.has_body());
+    process.put_table(table);
+    match process.retire() {
+        Ok(spent) => {
+            let _ = spent.into_number();
+            panic!(&rt; "it has its table");
+        }
+        Err(mut process) => {
+            assert!(rt; process.take_table().is_some());
+            match process.retire() {
+                Ok(spent) => assert_eq!(rt; spent.into_number(), 9),
+                Err(_) => panic!(&rt; "its table is gone"),
+            }
+        }
+    }
+}
