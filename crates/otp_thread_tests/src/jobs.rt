@@ -1,7 +1,6 @@
 // Which calls a job gets in which turn.
-use crate::probes::{AnyBody, AnyProcess, Calls, probe};
-use otp_job::{After, Phase, Process, TableNo, one_turn};
-use otp_job::Body;
+use crate::probes::{AnyBody, AnyProcess, Calls, worker_body};
+use otp_job::{After, Body, Phase, Process, TableNo, one_turn};
 use otp_reason::{Note, Reason, Started};
 use otp_signals::Signal;
 use std::process::Abort;
@@ -43,10 +42,10 @@ pub fn run<R: Abort>(rt: &R, body: AnyBody, signals: &[Signal]) -> (Option<Note>
 fn first_turn_starts_and_a_later_kill_calls_nothing(rt: HostRuntime) -> Result<(), Fail> {
     let alloc = rt.alloc();
     let calls: Calls = Arc::new(alloc, AtomicU64::new(0))?;
-    let (note, body) = run(&rt, probe(alloc, &calls, true, Started::Up)?, &[Signal::Kill]);
+    let (note, body) = run(&rt, worker_body(alloc, &calls, true, Started::Up)?, &[Signal::Kill]);
     assert_eq!(rt; note, Some(Note::Up(7)));
     assert!(rt; body.is_none());
-    let (note, body) = run(&rt, probe(alloc, &calls, true, Started::Up)?, &[Signal::Kill, Signal::Kill]);
+    let (note, body) = run(&rt, worker_body(alloc, &calls, true, Started::Up)?, &[Signal::Kill, Signal::Kill]);
     assert_eq!(rt; note, Some(Note::Exit(7, Reason::Killed)));
     assert!(rt; body.is_some());
     assert_eq!(rt; calls.load(Ordering::SeqCst), 11);
@@ -61,7 +60,7 @@ fn trapping_job_is_told_once(rt: HostRuntime) -> Result<(), Fail> {
         (false, 1, Some(Note::Exit(7, Reason::Shutdown))),
     ] {
         let calls: Calls = Arc::new(alloc, AtomicU64::new(0))?;
-        let body = probe(alloc, &calls, traps, Started::Up)?;
+        let body = worker_body(alloc, &calls, traps, Started::Up)?;
         let (started, stopped) = (Signal::None, Signal::Shutdown);
         let signals: &[Signal] = if traps {
             &[started, stopped, stopped, stopped]
@@ -84,7 +83,7 @@ fn refused_start_brings_the_body_home(rt: HostRuntime) -> Result<(), Fail> {
         (Started::Fail(Reason::NoProc), Note::Failed(7, Reason::NoProc)),
     ] {
         let calls: Calls = Arc::new(alloc, AtomicU64::new(0))?;
-        let (end, body) = run(&rt, probe(alloc, &calls, false, answer)?, &[Signal::None]);
+        let (end, body) = run(&rt, worker_body(alloc, &calls, false, answer)?, &[Signal::None]);
         assert_eq!(rt; end, Some(note));
         assert!(rt; body.is_some());
     }
