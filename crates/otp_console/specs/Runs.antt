@@ -1,5 +1,6 @@
--- What the program did to its input and its output, by how it ended (own).
-use Rattle.std.specs.Prelude.{◌≡◌, ◌⊎◌, ℕ, List, Ok, Err}
+-- What the program did to its input, its output and the standard error, by how it ended (own).
+use Rattle.std.specs.Prelude.{◌≡◌, ◌⊎◌, ℕ, ◌<◌, List, [], ◌++◌, Option, Ok, Err}
+use Rattle.std.specs.Io.KnownBytes.{Appends}
 use Rattle.otp_file.specs.declared.fault.TreeFault.{TreeFault}
 use Rattle.otp_file.specs.declared.fault.TreeFault.TheVariants.{NotToml}
 use Rattle.otp_file.specs.declared.tree.TreeSpec.{TreeSpec}
@@ -8,8 +9,9 @@ use Rattle.otp_sim.specs.declared.engine.SimEnd.{SimEnd}
 use Rattle.otp_sim.specs.declared.engine.SimEnd.TheVariants as sim
 use Rattle.otp_sim.specs.Runs.{Devices, Writes}
 use Rattle.otp_sim.specs.Sim.{opened}
+use Rattle.otp_console.specs.Statuses.{status_of, sentence_of}
 use Rattle.otp_console.specs.declared.ending.Ending.{Ending}
-use Rattle.otp_console.specs.declared.ending.Ending.TheVariants.{Done, TreeNotRead, TreeRefused, LineRefused, HistoryFull, InputFailed, OutputFailed, OutOfMemory}
+use Rattle.otp_console.specs.declared.ending.Ending.TheVariants.{Done, WordsRefused, NoCommand, WordNotText, TreeNotRead, TreeRefused, LineRefused, HistoryFull, InputFailed, OutputFailed, OutOfMemory}
 
 -- the file says a tree, and its supervisor was played to this end
 abbrev pub Played : SimEnd → List ℕ → Devices → Devices → Type 0
@@ -22,6 +24,9 @@ IsRefused why file = Says file (Err why) ⊎ ((why ≡ NotToml) × (¬ IsToml fi
 -- want of memory may end it before anything is read, and says nothing of the file
 abbrev pub IsRun : Ending → List ℕ → Devices → Devices → Type 0
 IsRun Done file old new = Played sim.Done file old new
+IsRun WordsRefused file old new = ⊥
+IsRun NoCommand file old new = ⊥
+IsRun WordNotText file old new = ⊥
 IsRun TreeNotRead file old new = ⊥
 IsRun (TreeRefused why) file old new = (new ≡ old) × IsRefused why file
 IsRun (LineRefused line) file old new = Played (sim.LineRefused line) file old new
@@ -29,3 +34,54 @@ IsRun HistoryFull file old new = Played sim.HistoryFull file old new
 IsRun InputFailed file old new = Played sim.InputFailed file old new
 IsRun OutputFailed file old new = Played sim.OutputFailed file old new
 IsRun OutOfMemory file old new = (new ≡ old) ⊎ Played sim.Memory file old new
+
+-- the run of a file whose bytes are known to be so: it can't be read, or it was played
+abbrev pub Simulates : (List ℕ → Type 0) → Ending → Devices → Devices → Type 0
+Simulates Holds ending old new =
+    ((ending ≡ TreeNotRead) × (new ≡ old)) ⊎ ((ending ≡ OutOfMemory) × (new ≡ old))
+    ⊎ ((file : List ℕ) × (Holds file × IsRun ending file old new))
+
+-- of the input nothing was read
+pub record IsUnread (old new : Devices) : Type 0 where
+  pub left : new.left ≡ old.left
+  pub failures : new.read_failures ≡ old.read_failures
+
+-- the words alone are answered: nothing is read, and only a help that was asked for is written to the output
+abbrev pub Answers : Ending → Devices → Devices → Type 0
+Answers Done old new = IsUnread old new × (text : List ℕ) × Appends old.written new.written text
+Answers WordsRefused old new = new ≡ old
+Answers NoCommand old new = new ≡ old
+Answers WordNotText old new = new ≡ old
+Answers TreeNotRead old new = ⊥
+Answers (TreeRefused why) old new = ⊥
+Answers (LineRefused line) old new = ⊥
+Answers HistoryFull old new = ⊥
+Answers InputFailed old new = ⊥
+Answers OutputFailed old new = IsUnread old new × (old.write_failures < new.write_failures)
+Answers OutOfMemory old new = new ≡ old
+
+-- what the words ask for was done, for some file; or the words alone were answered
+abbrev pub Obeys : (List ℕ → List ℕ → Type 0) → Ending → Devices → Devices → Type 0
+Obeys Holds ending old new = ((name : List ℕ) × Simulates (Holds name) ending old new) ⊎ Answers ending old new
+
+-- a text was written, or the writer failed
+abbrev pub IsTold : List ℕ → Option (List ℕ) → Option (List ℕ) → ℕ → ℕ → Type 0
+IsTold text before now failures_before failures_now = (failures_before < failures_now) ⊎ Appends before now text
+
+-- before the program ends, only the reason for which `clap` refuses the words is told
+abbrev pub TellsFirst : Ending → Option (List ℕ) → Option (List ℕ) → ℕ → ℕ → Type 0
+TellsFirst ending before now failures_before failures_now =
+    (text : List ℕ) × ((¬ (ending ≡ WordsRefused) → text ≡ []) × IsTold text before now failures_before failures_now)
+
+-- and with it the sentence of the ending
+abbrev pub Tells : Ending → Option (List ℕ) → Option (List ℕ) → ℕ → ℕ → Type 0
+Tells ending before now failures_before failures_now =
+    (text : List ℕ) × ((¬ (ending ≡ WordsRefused) → text ≡ []) × IsTold (text ++ sentence_of ending) before now failures_before failures_now)
+
+-- a run of the program: how it ended, its status, what it did to its input and output, and what it told
+pub record IsProgramRun (Holds : List ℕ → List ℕ → Type 0) (status : ℕ) (old new : Devices)
+    (before now : Option (List ℕ)) (failures_before failures_now : ℕ) : Type 0 where
+  pub ending : Ending
+  pub status_is : status ≡ status_of ending
+  pub done : Obeys Holds ending old new
+  pub told : Tells ending before now failures_before failures_now

@@ -1,15 +1,21 @@
--- The exit statuses (own).
-use Rattle.std.specs.Prelude.{ℕ}
+-- The exit statuses, and what is told of them (own).
+use Rattle.std.specs.Prelude.{◌≡◌, ℕ, List, [], ◌++◌, codes, decimal}
+use Rattle.std.specs.declared.io.ErrorKind.{ErrorKind}
+use Rattle.std.specs.declared.io.ErrorKind.TheVariants as system
+use Rattle.otp_file.specs.Faults.{code_of}
 use Rattle.otp_file.specs.declared.fault.TreeFault.{TreeFault}
 use Rattle.otp_file.specs.declared.fault.TreeFault.TheVariants as fault
 use Rattle.otp_sim.specs.declared.engine.SimEnd.{SimEnd}
 use Rattle.otp_sim.specs.declared.engine.SimEnd.TheVariants as sim
 use Rattle.otp_console.specs.declared.ending.Ending.{Ending}
-use Rattle.otp_console.specs.declared.ending.Ending.TheVariants.{Done, TreeNotRead, TreeRefused, LineRefused, HistoryFull, InputFailed, OutputFailed, OutOfMemory}
+use Rattle.otp_console.specs.declared.ending.Ending.TheVariants.{Done, WordsRefused, NoCommand, WordNotText, TreeNotRead, TreeRefused, LineRefused, HistoryFull, InputFailed, OutputFailed, OutOfMemory}
 
--- 0: done. 1: the tree. 2 is for refused words. 3: the lines of the input. 4: the machine
+-- 0: done. 1: the tree. 2: the words. 3: the lines of the input. 4: the machine
 abbrev pub status_of : Ending → ℕ
 status_of Done = 0
+status_of WordsRefused = 2
+status_of NoCommand = 2
+status_of WordNotText = 2
 status_of TreeNotRead = 1
 status_of (TreeRefused _) = 1
 status_of (LineRefused _) = 3
@@ -17,6 +23,25 @@ status_of HistoryFull = 3
 status_of InputFailed = 3
 status_of OutputFailed = 4
 status_of OutOfMemory = 4
+
+-- the line on standard error, its end included: none where all went well, or where `clap` has told why the words
+-- are refused
+abbrev pub sentence_of : Ending → List ℕ
+sentence_of Done = []
+sentence_of WordsRefused = []
+sentence_of NoCommand = codes "usage: otp sim FILE\n"
+sentence_of WordNotText = codes "error: a word is not UTF-8\n"
+sentence_of TreeNotRead = codes "tree not read\n"
+sentence_of (TreeRefused why) = codes "tree refused: E" ++ decimal (code_of why) ++ codes "\n"
+sentence_of (LineRefused line) = codes "line " ++ decimal line ++ codes " refused\n"
+sentence_of HistoryFull = codes "history full\n"
+sentence_of InputFailed = codes "input not read\n"
+sentence_of OutputFailed = codes "output not written\n"
+sentence_of OutOfMemory = codes "out of memory\n"
+
+-- how the program ends whose file can't be read: want of memory says nothing of the file
+abbrev pub IsOfFile : ErrorKind → Ending → Type 0
+IsOfFile kind ending = (kind ≡ system.OutOfMemory → ending ≡ OutOfMemory) × (¬ (kind ≡ system.OutOfMemory) → ending ≡ TreeNotRead)
 
 -- how the program ends that ran `sim`
 abbrev pub ending_of : SimEnd → Ending

@@ -1,15 +1,28 @@
-//! How the program ends.
+//! How the program ends, and what it tells of it.
 
-ghost use Rattle.std.specs.Prelude.{◌≡◌};
-ghost use Rattle.otp_console.specs.Statuses.{status_of};
+ghost use Rattle.std.specs.Prelude.{◌≡◌, ◌≤◌, ◌<◌, ◌++◌, decimal, OnOk, OnErr};
+ghost use Rattle.std.specs.IoError.{error_kind};
+ghost use Rattle.std.specs.Io.KnownBytes.{Appends};
+ghost use Rattle.otp_console.specs.Runs.{IsTold};
+ghost use Rattle.otp_console.specs.Statuses.{IsOfFile, sentence_of, status_of};
 
+use itoa::Buffer;
 use otp_file::TreeFault;
-use std::fmt;
+use otp_sim::{Failed, Output, write_all};
+use std::io;
+use std::io::ErrorKind;
 
-/// How the program ends once its words were read.
+/// How the program ends.
 #[derive(Clone, Copy, Debug, PartialEq, Eq)]
 pub enum Ending {
+    /// All was done, or the help was shown that the words ask for.
     Done,
+    /// `clap` refuses the words, and its text was told.
+    WordsRefused,
+    /// The words name no command.
+    NoCommand,
+    /// A word is no UTF-8 text.
+    WordNotText,
     /// The tree file can't be read.
     TreeNotRead,
     /// The tree file says no tree.
@@ -31,24 +44,69 @@ impl Ending {
         match self {
             Ending::Done => 0,
             Ending::TreeNotRead | Ending::TreeRefused(_) => 1,
+            Ending::WordsRefused | Ending::NoCommand | Ending::WordNotText => 2,
             Ending::LineRefused(_) | Ending::HistoryFull | Ending::InputFailed => 3,
             Ending::OutputFailed | Ending::OutOfMemory => 4,
         }
     }
-}
 
-/// The line on standard error, without its end; nothing where all went well.
-impl fmt::Display for Ending {
-    fn fmt<W: fmt::Write>(&self, f: &mut fmt::Formatter<W>) -> fmt::Result {
-        match self {
-            Ending::Done => Ok(()),
-            Ending::TreeNotRead => write!(f, "tree not read"),
-            Ending::TreeRefused(fault) => write!(f, "tree refused: E{}", fault.code()),
-            Ending::LineRefused(line) => write!(f, "line {line} refused"),
-            Ending::HistoryFull => write!(f, "history full"),
-            Ending::InputFailed => write!(f, "input not read"),
-            Ending::OutputFailed => write!(f, "output not written"),
-            Ending::OutOfMemory => write!(f, "out of memory"),
+    /// The end for a file that can't be read, by the kind of the error.
+    pub(crate) fn of_file(error: &io::Error) -> Self
+        ensures { IsOfFile (error_kind error.now) result }
+    {
+        match error.kind() {
+            ErrorKind::OutOfMemory => Ending::OutOfMemory,
+            _ => Ending::TreeNotRead,
         }
     }
+}
+
+/// Tells on standard error how the program ends, if not well, and gives the exit status.
+pub fn tell<E: Output>(errors: &mut E, ending: Ending) -> u8
+    ensures status { result ≡ status_of ending }
+    ensures told { IsTold (sentence_of ending) (E.contents errors.old) (E.contents errors.new) (E.failures errors.old) (E.failures errors.new) }
+    ensures kept { E.failures errors.old ≤ E.failures errors.new }
+{
+    // Where nothing can be told, the status alone says it.
+    let _told = write_sentence(errors, ending);
+    ending.status()
+}
+
+/// Writes the line that tells of the ending, if there is one.
+fn write_sentence<E: Output>(errors: &mut E, ending: Ending) -> Result<(), Failed>
+    ensures ok { OnOk result (Appends (E.contents errors.old) (E.contents errors.new) (sentence_of ending)) }
+    ensures kept { E.failures errors.old ≤ E.failures errors.new }
+    ensures failed { OnErr result (E.failures errors.old < E.failures errors.new) }
+{
+    match ending {
+        Ending::Done | Ending::WordsRefused => Ok(()),
+        Ending::NoCommand => write_all(errors, b"usage: otp sim FILE\n"),
+        Ending::WordNotText => write_all(errors, b"error: a word is not UTF-8\n"),
+        Ending::TreeNotRead => write_all(errors, b"tree not read\n"),
+        Ending::TreeRefused(fault) => {
+            write_numbered(errors, b"tree refused: E", u64::from(fault.code()), b"\n")
+        }
+        Ending::LineRefused(line) => write_numbered(errors, b"line ", line, b" refused\n"),
+        Ending::HistoryFull => write_all(errors, b"history full\n"),
+        Ending::InputFailed => write_all(errors, b"input not read\n"),
+        Ending::OutputFailed => write_all(errors, b"output not written\n"),
+        Ending::OutOfMemory => write_all(errors, b"out of memory\n"),
+    }
+}
+
+/// Writes a number between two texts. It takes no memory, which may be what is wanting.
+fn write_numbered<E: Output>(
+    errors: &mut E,
+    front: &[u8],
+    number: u64,
+    back: &[u8],
+) -> Result<(), Failed>
+    ensures ok { OnOk result (Appends (E.contents errors.old) (E.contents errors.new) (front.now ++ decimal number ++ back.now)) }
+    ensures kept { E.failures errors.old ≤ E.failures errors.new }
+    ensures failed { OnErr result (E.failures errors.old < E.failures errors.new) }
+{
+    let mut digits = Buffer::new();
+    write_all(errors, front)?;
+    write_all(errors, digits.format(number).as_bytes())?;
+    write_all(errors, back)
 }

@@ -1,19 +1,21 @@
 //! The words of the program.
 
 ghost use Rattle.std.specs.Prelude.{◌≡◌, IfErr};
-ghost use Rattle.otp_console.specs.Words.{IsOfClap, IsOfSystem, IsTold};
+ghost use Rattle.otp_console.specs.Words.{IsOfClap, IsOfSystem, IsHandedOn};
 ghost use Rattle.otp_console.specs.declared.words.WordsFault.TheVariants.{OutOfMemory};
 
 use clap::error::ErrorKind;
-use clap::{Arg, Command, Error};
+use clap::{Arg, Error};
 use std::alloc::{AllocError, Global};
-use std::io;
+use std::convert::AsStr;
+use std::rt::Env;
+use std::{env, io};
 
-/// What the words ask for: a run of `sim` on a tree file.
+/// What the words ask for.
 #[derive(Clone, Copy, Debug, PartialEq, Eq)]
-pub struct ProgramSettings<'a> {
-    /// The name of the tree file.
-    pub file: &'a str,
+pub enum Command<'a> {
+    /// A run of `sim`, on the tree file of this name.
+    Sim { file: &'a str },
 }
 
 /// Why the words are refused.
@@ -21,8 +23,8 @@ pub struct ProgramSettings<'a> {
 pub enum WordsFault {
     /// `clap` refuses them, or they ask for its help, which is its text too.
     Clap(Error),
-    /// They name no file.
-    NoFile,
+    /// They name no command.
+    NoCommand,
     /// One of them is no UTF-8 text.
     NotText,
     /// There is no memory to read them.
@@ -30,7 +32,7 @@ pub enum WordsFault {
 }
 
 impl From<Error> for WordsFault {
-    ghost from_gives = { λ error fault. IsTold fault × IsOfClap error fault };
+    ghost from_gives = { λ error fault. IsHandedOn fault × IsOfClap error fault };
 
     fn from(error: Error) -> Self {
         match error.kind() {
@@ -60,26 +62,41 @@ impl From<AllocError> for WordsFault {
     }
 }
 
+/// The words of the command line, the program's own name first.
+///
+/// # Errors
+///
+/// [`WordsFault::NotText`] and [`WordsFault::OutOfMemory`].
+pub fn words_of<R: Env + AllocGlobal>(rt: &R) -> Result<Vec<String>, WordsFault>
+    ensures { IfErr result IsHandedOn }
+{
+    let mut words = Vec::new(rt.alloc());
+    for word in env::args(rt)? {
+        words.push(word).map_err(|_| WordsFault::OutOfMemory)?;
+    }
+    Ok(words)
+}
+
 /// Reads the words of the command line, the program's own name first.
 ///
 /// # Errors
 ///
-/// [`WordsFault::Clap`] where `clap` refuses the words or is asked for help, [`WordsFault::NoFile`] where they are no more
-/// than the program's name, and [`WordsFault::OutOfMemory`].
-pub fn settings<'a>(alloc: Global, words: &'a [&'a str]) -> Result<ProgramSettings<'a>, WordsFault>
-    ensures { IfErr result IsTold }
+/// [`WordsFault::Clap`] where `clap` refuses the words or is asked for help, [`WordsFault::NoCommand`] where they are no
+/// more than the program's name, and [`WordsFault::OutOfMemory`].
+pub fn read_words<'a, S: AsStr>(alloc: Global, words: &'a [S]) -> Result<Command<'a>, WordsFault>
+    ensures { IfErr result IsHandedOn }
 {
     let file = Arg::new(alloc, "FILE")
         .required(true)
         .help("The tree file, in TOML");
-    let sim = Command::new(alloc, "sim").arg(file)?;
-    let command = Command::new(alloc, "otp").subcommand(sim)?;
+    let sim = clap::Command::new(alloc, "sim").arg(file)?;
+    let command = clap::Command::new(alloc, "otp").subcommand(sim)?;
     let matches = command.try_get_matches_from(words)?;
     let Some((_, found)) = matches.subcommand() else {
-        return Err(WordsFault::NoFile);
+        return Err(WordsFault::NoCommand);
     };
     match found.get_str("FILE") {
-        Some(file) => Ok(ProgramSettings { file }),
-        None => Err(WordsFault::NoFile),
+        Some(file) => Ok(Command::Sim { file }),
+        None => Err(WordsFault::NoCommand),
     }
 }

@@ -18,7 +18,8 @@ use Rattle.otp_rules.specs.declared.event.Waiting.{Waiting}
 use Rattle.otp_rules.specs.Needs.{ends_wait}
 use Rattle.otp_rules.specs.Restarts.{running}
 use Rattle.otp_rules.specs.Stops.{is_exit}
-use Rattle.otp_core.specs.Ups.{passes, runs_as}
+use Rattle.otp_core.specs.Ups.{ends_counted, passes, runs_as}
+use Rattle.otp_core.proofs.Walk.{walk_counted}
 
 abbrev times : ℕ → List ℕ → ℕ
 times p numbers = count_by (λ q. q == p) numbers
@@ -79,6 +80,7 @@ ends_for_both front back items =
     ∙ ap (λ b. list_all enough (running front) && b) (all_running enough back)
     ∙ sym (list_all-append enough (running front) (running back))
     ∙ all_same enough wanted (running front ++ running back) (λ p. ap (λ k. nat_le k (count_by (is_exit p) items)) (both_counted front back p))
+    ∙ sym (walk_counted (running front ++ running back) items)
 
 -- each of these children has ended
 abbrev each_ended : List Row → List Row → List Row → List Waiting → Bool
@@ -130,11 +132,11 @@ all_reversed test (p ∷ ps) =
     ∙ and_swap (list_all test ps) (test p)
 
 -- in whatever order the processes are stopped
-pub ends_reversed : (numbers : List ℕ) (items : List Waiting) → ends_wait (reverse numbers) items ≡ ends_wait numbers items
+pub ends_reversed : (numbers : List ℕ) (items : List Waiting) → ends_wait (reverse numbers) items ≡ ends_counted numbers items
 ends_reversed numbers items =
     let wanted : ℕ → Bool = λ p. nat_le (times p (reverse numbers)) (count_by (is_exit p) items) in
     let asked : ℕ → Bool = λ p. nat_le (times p numbers) (count_by (is_exit p) items) in
-    all_reversed wanted numbers ∙ all_same wanted asked numbers (λ p. ap (λ k. nat_le k (count_by (is_exit p) items)) (count_reversed p numbers))
+    walk_counted (reverse numbers) items ∙ all_reversed wanted numbers ∙ all_same wanted asked numbers (λ p. ap (λ k. nat_le k (count_by (is_exit p) items)) (count_reversed p numbers))
 
 -- an end of q that comes last is one more of q
 exits_with : (p q : ℕ) (r : Reason) (items : List Waiting) → count_by (is_exit p) (items ++ waiting.Item (item.Note (note.Exit q r)) ∷ []) ≡ count_by (is_exit p) items + cond (q == p) 1 0

@@ -11,7 +11,7 @@ use Rattle.std.proofs.lemmas.Option.{slice_get_within, get_or_from_slice_get}
 use Rattle.otp_table.specs.declared.row.Row.{Row}
 use Rattle.otp_table.specs.declared.row.RowState.{RowState}
 use Rattle.otp_table.specs.declared.row.RowState.TheVariants.{Undefined, Starting, Up, Asked, Killed, Restarting}
-use Rattle.otp_table.specs.Rows.{calm_rows, calmed, has_process, is_awaited, is_undefined, row_has, up_number, with_state}
+use Rattle.otp_table.specs.Rows.{calm_rows, calmed, has_process, is_awaited, is_undefined, row_has, up_number, with_state, free_slot}
 use Rattle.otp_rules.specs.declared.ending.Ending.{Ending}
 use Rattle.otp_rules.specs.declared.event.Waiting.{Waiting}
 use Rattle.otp_rules.specs.declared.work.Due.{Due}
@@ -33,7 +33,7 @@ use Rattle.otp_rules.specs.declared.event.Waiting.TheVariants as waiting
 use Rattle.otp_rules.specs.Calls.{add_child, at_child, delete_child_at, delete_child_in, get_childspec, get_shared, is_named, new_row, refuse, restart_child_at, restart_child_in, start_child, start_dynamic, stop_process, take_call, tell_spec, terminate_child_at, terminate_child_in, terminate_process, terminate_process_at, terminate_process_in}
 use Rattle.otp_rules.specs.Counts.{counts_of, which_of}
 use Rattle.otp_rules.specs.Starts.{failed_after, up_after}
-use Rattle.otp_rules.specs.Step.{ask, due_of, killed, late_by, late_number, open_rows, open_with, opening_specs, row_of, tick}
+use Rattle.otp_rules.specs.Step.{ask, due_of, killed, late_by, late_number, open_rows, open_with, opening_specs, rows_from, tick}
 use Rattle.std.proofs.lemmas.List.Sums.{sum_by-append, sum_by-cons}
 use Rattle.otp_rules.specs.Needs.{ends_wait, has_due, work_starts}
 use Rattle.otp_rules.specs.Places.{at_found, at_number, at_place, at_row, end_process, end_row, is_removed, is_temporary, set_row}
@@ -42,6 +42,7 @@ use Rattle.otp_rules.specs.State.{Outcome, answer, is_busy, is_over, put_last, i
 use Rattle.otp_rules.specs.Stops.{calm_all, is_exit, stop_each, tell, tell_row, terminate, terminate_ordered, terminate_together, use_exit}
 use Rattle.otp_core.specs.Restarted.{goes_on_beside, has_spec, outlives_failure, outlives_up, restart_goes_on}
 use Rattle.otp_core.proofs.Going.{all_same, ends_reversed}
+use Rattle.otp_core.proofs.Walk.{walk_counted}
 
 and_true : (b : Bool) → (b && true) ≡ b
 and_true true = refl
@@ -262,7 +263,8 @@ restart_seen rows from place to kept row items le lt at =
     let numbers : List ℕ = running (slice_range rows from place) ++ running (slice_range rows (place + 1) to) in
     let awaited : awaits (take from set ++ calm_rows (slice_range set from to) ++ drop to set) ≡ awaits (remove rows place) = awaits_part set from to (omega arith) ∙ awaits_set rows place gone within refl in
     let ended : ends_wait (reverse (running (slice_range set from to))) items ≡ ends_wait numbers items =
-    ends_reversed (running (slice_range set from to)) items ∙ ap (λ ps. ends_wait ps items) (restart_running rows from place to row le lt within) in
+    ends_reversed (running (slice_range set from to)) items ∙ sym (walk_counted (running (slice_range set from to)) items)
+    ∙ ap (λ ps. ends_wait ps items) (restart_running rows from place to row le lt within) in
     ap (λ b. not b && (ends_wait numbers items && list_any lasts (slice_range rows from to))) (sym awaited)
     ∙ ap (λ b. not (awaits (take from set ++ calm_rows (slice_range set from to) ++ drop to set)) && (b && list_any lasts (slice_range rows from to))) (sym ended)
     ∙ ap (λ b. not (awaits (take from set ++ calm_rows (slice_range set from to) ++ drop to set)) && (ends_wait (reverse (running (slice_range set from to))) items && b)) (sym (restart_due rows from place to kept row le lt at))
@@ -319,13 +321,13 @@ answered_starts_none c r o h = answer_starts c r o ∙ idle_starts_none o h
 
 -- the work that an added child opens
 abbrev added : ℕ → Option Name → ChildSpec → Outcome → Outcome
-added c id spec o = with_work [] (record { id = id; kept = None } ∷ []) (Some (after.Added c)) (with_rows (o.state.rows ++ new_row id spec ∷ []) o)
+added c id spec o = with_work [] (record { id = id; kept = None } ∷ []) (Some (after.Added c)) (with_rows (o.state.rows ++ new_row (free_slot o.state.rows) id spec ∷ []) o)
 
 added_starts : (c : ℕ) (id : Option Name) (spec : ChildSpec) (o : Outcome) → work_starts (added c id spec o) ≡ not (awaits o.state.rows)
 unfolding work_starts
 added_starts c id spec o =
-    and_true (not (awaits (o.state.rows ++ new_row id spec ∷ [])))
-    ∙ ap not (list_any-append (row_has is_awaited) o.state.rows (new_row id spec ∷ []) ∙ or_false (awaits o.state.rows))
+    and_true (not (awaits (o.state.rows ++ new_row (free_slot o.state.rows) id spec ∷ [])))
+    ∙ ap not (list_any-append (row_has is_awaited) o.state.rows (new_row (free_slot o.state.rows) id spec ∷ []) ∙ or_false (awaits o.state.rows))
 
 -- a child that is added is started at once, where nothing is awaited
 pub add_child_starts : (c : ℕ) (id : Option Name) (spec : ChildSpec) (o : Outcome) → o.state.follows ≡ None → work_starts (add_child c id spec o) ≡ (not (nat_le 256 (length o.state.rows)) && not (awaits o.state.rows))
@@ -460,7 +462,9 @@ call_waits : (c : ℕ) (x : Call) (o : Outcome) → work_starts (put_last (waiti
 unfolding work_starts
 call_waits c x o =
     ap (λ b. is_busy o && (not (awaits o.state.rows) && (b && has_due o.state.to_start)))
-    (all_same _ _ o.state.to_stop (λ p. ap (λ k. nat_le (count_by (λ q. q == p) o.state.to_stop) k) (exits_call c x o.state.waiting p)))
+    (walk_counted o.state.to_stop (o.state.waiting ++ waiting.Item (item.Call c x) ∷ [])
+    ∙ all_same _ _ o.state.to_stop (λ p. ap (λ k. nat_le (count_by (λ q. q == p) o.state.to_stop) k) (exits_call c x o.state.waiting p))
+    ∙ sym (walk_counted o.state.to_stop o.state.waiting))
 
 pub ask_over : (c : ℕ) (x : Call) (o : Outcome) → is_over o.state.phase ≡ true → work_starts (ask c x o) ≡ work_starts o
 unfolding ask
@@ -498,9 +502,9 @@ pub tick_starts : (o : Outcome) → work_starts (tick o) ≡ work_starts o
 unfolding tick work_starts
 tick_starts o = ap (λ b. is_busy o && (not b && (ends_wait o.state.to_stop o.state.waiting && has_due o.state.to_start))) (awaits_killed o.state.last o.state.rows)
 
-opened_rows : (specs : List ChildSpec) → awaits (map row_of specs) ≡ false
-opened_rows [] = refl
-opened_rows (spec ∷ specs) = opened_rows specs
+opened_rows : (slot : ℕ) (specs : List ChildSpec) → awaits (rows_from slot specs) ≡ false
+opened_rows slot [] = refl
+opened_rows slot (spec ∷ specs) = opened_rows (slot + 1) specs
 
 opened_dues : (specs : List ChildSpec) → has_due (map due_of specs) ≡ has_spec specs
 opened_dues [] = refl
@@ -511,7 +515,7 @@ pub opening_starts : (own : ℕ) (o : Outcome) → work_starts (open_rows own o)
 unfolding open_rows open_with work_starts
 opening_starts own o =
     let specs : List ChildSpec = opening_specs (is_simple o.state.flags.strategy) o.state.specs in
-    ap (λ b. not b && has_due (map due_of specs)) (opened_rows specs) ∙ opened_dues specs
+    ap (λ b. not b && has_due (map due_of specs)) (opened_rows 0 specs) ∙ opened_dues specs
 
 pub start_child_is : (c : ℕ) (spec : ChildSpec) (o : Outcome) → take_call c (call.StartChild spec) o ≡ start_child c spec o
 unfolding take_call

@@ -1,7 +1,7 @@
 -- What a core keeps.
-use Rattle.std.specs.Prelude.{◌≡◌, ◌<◌, vec_len, vec_capacity}
+use Rattle.std.specs.Prelude.{◌≡◌, ◌<◌, ◌≤◌, All, vec_len, vec_capacity}
 use Rattle.std.specs.Bool.{OnTrue}
-use Rattle.otp_rules.specs.Needs.{IsLawfulHistory}
+use Rattle.otp_rules.specs.Needs.{IsLawfulHistory, last_number, numbers_of}
 use Rattle.otp_rules.specs.Run.{empty_state, state_after}
 use Rattle.otp_core.specs.declared.supervisor.Core.TheInside.{Inside}
 use Rattle.otp_core.specs.Seen.{HasMemory, IsSound, outcome_of}
@@ -24,5 +24,8 @@ pub record IsCore (a : Inside) : Type 0 where
   -- the state is the run of the history
   pub runs : (outcome_of a.machine).state ≡ state_after (empty_state (outcome_of a.machine).state.flags a.machine.specs.items) a.history.items
   pub lawful : IsLawfulHistory (empty_state (outcome_of a.machine).state.flags a.machine.specs.items) a.history.items
+  -- the numbers rise up to the last
+  pub last : a.last_number ≡ last_number a.history.items
+  pub numbers : All (λ m. m ≤ a.last_number) (numbers_of a.history.items)
   pub sound : IsSound a.machine
   pub room : OnTrue a.prepared (HasRoom a)

@@ -17,6 +17,7 @@ outcome_of m =
         follows = m.follows;
         waiting = m.waiting.items;
         replies = m.replies.answers;
+        ends = m.ends.items;
         last = m.last;
         phase = m.phase;
       };
@@ -29,6 +30,8 @@ pub record CanAdvance (m : Machine) : Type 0 where
   pub orders : vec_len m.orders + deque_len m.waiting < vec_capacity m.orders
   pub replies : deque_len m.waiting < m.replies.room
   pub stamps : m.window.intensity < vec_capacity m.spare_stamps
+  pub kept_stamps : m.window.intensity < vec_capacity m.spare_kept_stamps
+  pub ends : vec_len m.ends < vec_capacity m.ends
   pub last : m.last ≤ 2 ^ 62
 
 -- there is room for this many orders to children, and for the open work after them
@@ -37,6 +40,8 @@ pub record CanStop (m : Machine) : Type 0 where
   pub replies : deque_len m.waiting < m.replies.room
   pub to_stop : length m.rows.rows ≤ vec_capacity m.to_stop
   pub stamps : m.window.intensity < vec_capacity m.spare_stamps
+  pub kept_stamps : m.window.intensity < vec_capacity m.spare_kept_stamps
+  pub ends : vec_len m.ends < vec_capacity m.ends
   pub last : m.last ≤ 2 ^ 62
 
 -- there is room for whatever an event does
@@ -56,6 +61,8 @@ pub record CanDecide (m : Machine) : Type 0 where
   pub reserved : m.window.reserved ≡ true
   pub ordered : All (λ s. s ≤ m.last) m.window.stamps
   pub stamps : m.window.intensity < vec_capacity m.spare_stamps
+  pub kept_stamps : m.window.intensity < vec_capacity m.spare_kept_stamps
+  pub ends : vec_len m.ends < vec_capacity m.ends
   pub last : m.last ≤ 2 ^ 62
 
 -- there is memory for an event, whatever it is
@@ -73,6 +80,8 @@ pub record HasMemory (m : Machine) : Type 0 where
   pub lines : length m.rows.rows ≤ vec_capacity m.spare_lines
   pub reserved : m.window.reserved ≡ true
   pub stamps : m.window.intensity < vec_capacity m.spare_stamps
+  pub kept_stamps : m.window.intensity < vec_capacity m.spare_kept_stamps
+  pub ends : vec_len m.ends < vec_capacity m.ends
 
 -- what holds of every machine
 pub record IsSound (m : Machine) : Type 0 where

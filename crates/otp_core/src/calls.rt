@@ -37,6 +37,7 @@ impl Machine {
         ensures room { CanAdvance self.new }
     {
         match self.rows.insert(Row {
+            slot: self.rows.free_slot(),
             id,
             spec,
             state: RowState::Undefined,
@@ -299,7 +300,11 @@ impl Machine {
 
     /// What count_children answers.
     pub fn counts(&self) -> CountsNow
-        ensures { result ≡ counts_of (outcome_of self.now).state }
+        ensures counts { result ≡ counts_of (outcome_of self.now).state }
+        ensures specs { result.specs ≤ 256 }
+        ensures active { result.active ≤ 256 }
+        ensures supervisors { result.supervisors ≤ 256 }
+        ensures workers { result.workers ≤ 256 }
     {
         let rows = self.rows.as_slice();
         CountsNow {
@@ -345,24 +350,24 @@ impl Machine {
 
     /// A call, with no work open.
     #[tactic(auto, unfolding(otp_rules::specs::Calls::take_call))]
-    pub fn take_call(&mut self, number: u64, call: Call)
+    pub fn take_call(&mut self, number: u64, call: &Call)
         requires { CanDecide self.old }
-        ensures outcome { outcome_of self.new ≡ take_call number call (outcome_of self.old) }
+        ensures outcome { outcome_of self.new ≡ take_call number call.now (outcome_of self.old) }
         ensures room { CanAdvance self.new }
     {
         match call {
-            Call::StartChild(spec) => self.start_child(number, spec),
+            Call::StartChild(spec) => self.start_child(number, *spec),
             Call::StartDynamic => self.start_dynamic(number),
-            Call::RestartChild(id) => self.restart_child(number, id),
-            Call::DeleteChild(id) => self.delete_child(number, id),
-            Call::TerminateChild(id) => self.terminate_child(number, id),
-            Call::TerminateProcess(p) => self.terminate_process(number, p),
+            Call::RestartChild(id) => self.restart_child(number, *id),
+            Call::DeleteChild(id) => self.delete_child(number, *id),
+            Call::TerminateChild(id) => self.terminate_child(number, *id),
+            Call::TerminateProcess(p) => self.terminate_process(number, *p),
             Call::WhichChildren => self.answer_which(number),
             Call::CountChildren => {
                 let counts = self.counts();
                 self.answer(number, Reply::Count(counts));
             }
-            Call::GetChildspec(id) => self.get_childspec(number, id),
+            Call::GetChildspec(id) => self.get_childspec(number, *id),
         }
     }
 }

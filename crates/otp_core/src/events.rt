@@ -7,14 +7,17 @@ ghost use Rattle.otp_table.specs.declared.row.Row.{Row};
 
 use crate::lists::list_children;
 use crate::machine::Machine;
+use crate::numbers::Numbers;
 use crate::rows::{is_over, is_simple};
 use otp_reason::Note;
-use otp_rules::{After, Call, Effect, Ending, Event, Item, Kind, Phase, Reply, Waiting};
+use otp_rules::laws::number_starts_work;
+use otp_rules::{After, Call, Effect, Ending, Item, Kind, Phase, Reply, Waiting};
 use otp_table::{Row, RowState, Rows};
 
 impl Machine {
     ghost use Rattle.otp_core.specs.Seen.{outcome_of, CanAdvance, CanDecide, HasMemory, IsSound};
-    ghost use Rattle.std.specs.Prelude.{not, ◌&&◌, is_some};
+    ghost use Rattle.std.specs.Prelude.{not, ◌&&◌, is_some, IsTrue, MatchOption};
+    ghost use Rattle.otp_rules.specs.Needs.{needs_number};
     ghost use Rattle.otp_rules.specs.State.{is_over};
     ghost use Rattle.otp_rules.specs.Step.{ask, decide, open_rows, resume, step_on, take_item, take_note, take_waiting, tick};
 
@@ -33,45 +36,45 @@ impl Machine {
     }
 
     #[tactic(auto, unfolding(otp_rules::specs::Step::ask))]
-    fn ask(&mut self, number: u64, call: Call)
+    fn ask(&mut self, number: u64, call: &Call)
         requires { CanDecide self.old }
-        ensures outcome { outcome_of self.new ≡ ask number call (outcome_of self.old) }
+        ensures outcome { outcome_of self.new ≡ ask number call.now (outcome_of self.old) }
         ensures room { CanAdvance self.new }
     {
         if is_over(self.phase) {
             self.answer(number, Reply::NoProc);
         } else if self.follows.is_some() {
-            self.put_last(Waiting::Item(Item::Call(number, call)));
+            self.put_last(Waiting::Item(Item::Call(number, *call)));
         } else {
             self.take_call(number, call);
         }
     }
 
     #[tactic(auto, unfolding(otp_rules::specs::Step::take_item))]
-    fn take_item(&mut self, item: Item)
+    fn take_item(&mut self, item: &Item)
         requires { CanDecide self.old }
-        ensures outcome { outcome_of self.new ≡ take_item item (outcome_of self.old) }
+        ensures outcome { outcome_of self.new ≡ take_item item.now (outcome_of self.old) }
         ensures room { CanAdvance self.new }
     {
         match item {
             Item::Note(note) => {
                 if !is_over(self.phase) {
-                    self.take_note(note);
+                    self.take_note(*note);
                 }
             }
-            Item::Call(number, call) => self.ask(number, call),
+            Item::Call(number, call) => self.ask(*number, call),
         }
     }
 
     #[tactic(auto, unfolding(otp_rules::specs::Step::take_waiting))]
-    fn take_waiting(&mut self, item: Waiting)
+    fn take_waiting(&mut self, item: &Waiting)
         requires { CanDecide self.old }
-        ensures outcome { outcome_of self.new ≡ take_waiting item (outcome_of self.old) }
+        ensures outcome { outcome_of self.new ≡ take_waiting item.now (outcome_of self.old) }
         ensures room { CanAdvance self.new }
     {
         match item {
             Waiting::Item(item) => self.take_item(item),
-            Waiting::Retry(kept) => self.retry(kept),
+            Waiting::Retry(kept) => self.retry(*kept),
         }
     }
 
@@ -83,7 +86,7 @@ impl Machine {
         ensures room { CanAdvance self.new }
     {
         if let Some(item) = self.waiting.pop_front() {
-            self.take_waiting(item);
+            self.take_waiting(&item);
         }
     }
 
@@ -125,15 +128,15 @@ impl Machine {
 
     /// What the event itself changes.
     #[tactic(auto, unfolding(otp_rules::specs::Step::decide))]
-    fn decide(&mut self, kind: Kind)
+    fn decide(&mut self, kind: &Kind)
         requires { CanDecide self.old }
-        ensures outcome { outcome_of self.new ≡ decide kind (outcome_of self.old) }
+        ensures outcome { outcome_of self.new ≡ decide kind.now (outcome_of self.old) }
         ensures room { CanAdvance self.new }
     {
         match kind {
             Kind::Opened(own) => {
                 if is_over(self.phase) {
-                    self.open_rows(own);
+                    self.open_rows(*own);
                 }
             }
             Kind::Took(item) => self.take_item(item),
@@ -151,17 +154,22 @@ impl Machine {
         }
     }
 
-    /// One event. Takes no memory; its orders are put behind those that are there.
+    /// What happens now. Draws a number exactly where a child is started, and says which. Takes no memory; its orders
+    /// are put behind those that are there.
     #[tactic(auto, unfolding(otp_rules::specs::Step::step_on))]
-    pub fn step(&mut self, event: Event)
+    pub fn step<N: Numbers>(&mut self, reading: u64, kind: &Kind, numbers: &mut N) -> Option<u64>
         requires memory { HasMemory self.old }
         requires sound { IsSound self.old }
-        requires reading { event.reading ≤ 2 ^ 62 }
-        ensures { outcome_of self.new ≡ step_on event (outcome_of self.old) }
+        requires reading { reading ≤ 2 ^ 62 }
+        requires number { IsTrue (needs_number (outcome_of self.old).state reading kind.now) → N.can_give numbers.old }
+        ensures outcome { outcome_of self.new ≡ step_on (record { reading = reading; number = result; kind = kind.now }) (outcome_of self.old) }
+        ensures starts { is_some result ≡ needs_number (outcome_of self.old).state reading kind.now }
+        ensures drawn { MatchOption result (numbers.new ≡ numbers.old) (λ n. N.gives numbers.old n numbers.new) }
     {
-        self.last = self.last.max(event.reading);
-        self.decide(event.kind);
-        self.advance(event.number.unwrap_or(0));
+        number_starts_work();
+        self.last = reading.max(self.last);
+        self.decide(kind);
+        self.advance(numbers)
     }
 }
 

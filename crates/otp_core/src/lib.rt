@@ -5,22 +5,22 @@
 
 mod answers;
 mod calls;
+mod deadlines;
 mod deaths;
-mod ends;
 mod events;
 mod lines;
 mod lists;
 mod machine;
 mod needs;
+pub mod numbers;
 pub mod opening;
 mod rows;
 mod starts;
 mod stops;
 pub mod supervisor;
+mod waited;
 
+pub use numbers::{Counter, Given, Numbers};
 pub use opening::OpenFault;
 pub use otp_rules::laws;
 pub use supervisor::{Core, MAX_EVENTS};
-
-#[cfg(test)]
-mod tests;

@@ -7,24 +7,16 @@ ghost use Rattle.std.specs.VecDeque.{deque_len, deque_capacity};
 ghost use Rattle.otp_table.specs.Rows.{is_awaited, row_has};
 ghost use Rattle.otp_rules.specs.Counts.{is_active, is_supervisor, is_worker, line_of};
 ghost use Rattle.otp_rules.specs.Restarts.{dues, is_left, running};
-ghost use Rattle.otp_rules.specs.Step.{due_of, is_late, row_of};
+ghost use Rattle.otp_rules.specs.Step.{due_of, rows_from};
 ghost use Rattle.otp_rules.specs.Stops.{is_due, is_exit, refusal, refused};
 
 use crate::answers::Answers;
-use crate::events::late_number;
 use crate::lines::line_of;
 use crate::rows::{is_due, is_exit, is_left, is_temporary};
 use otp_rules::{ChildLine, Due, Effect, Item, Reply, Waiting};
 use otp_spec::{ChildSpec, ChildType};
 use otp_table::{Row, RowState, Rows};
 use std::collections::VecDeque;
-
-/// Whether the open work waits for an answer of a child.
-pub fn has_awaited(rows: &[Row]) -> bool
-    ensures { result ≡ list_any (row_has is_awaited) rows.now }
-{
-    rows.iter().any(|row| row.state.is_awaited())
-}
 
 /// Whether a significant child is left.
 pub fn has_left(rows: &[Row]) -> bool
@@ -74,16 +66,18 @@ pub fn list_dues(rows: &[Row], kept: Option<u64>, list: &mut Vec<Due>)
     }
 }
 
-/// Adds a row and a start for each specification.
+/// Adds a row and a start for each specification. Where there are no rows yet, a child's slot is the place of its
+/// specification.
 pub fn list_children(specs: &[ChildSpec], rows: &mut Rows, starts: &mut Vec<Due>)
     requires limit { length specs.now + length rows.old.rows ≤ 256 }
     requires rows { length specs.now ≤ rows.old.room }
     requires starts { vec_len starts.old + length specs.now ≤ vec_capacity starts.old }
-    ensures rows { rows.new.rows ≡ rows.old.rows ++ map row_of specs.now }
+    ensures rows { rows.new.rows ≡ rows.old.rows ++ rows_from (length rows.old.rows) specs.now }
     ensures starts { starts.new.items ≡ starts.old.items ++ map due_of specs.now }
 {
     for spec in specs {
         let _ = rows.insert(Row {
+            slot: rows.len(),
             id: Some(spec.id),
             spec: *spec,
             state: RowState::Undefined,
@@ -107,7 +101,8 @@ pub fn list_lines(rows: &[Row], list: &mut Vec<ChildLine>)
 
 /// How many children have a process that was started and has not ended.
 pub fn count_active(rows: &[Row]) -> usize
-    ensures { result ≡ count_by (row_has is_active) rows.now }
+    ensures count { result ≡ count_by (row_has is_active) rows.now }
+    ensures limit { result ≤ length rows.now }
 {
     rows.iter().filter(|row| is_active(row.state)).count()
 }
@@ -122,7 +117,8 @@ fn is_active(state: RowState) -> bool
 }
 
 pub fn count_supervisors(rows: &[Row]) -> usize
-    ensures { result ≡ count_by (λ row. is_supervisor row.spec.kind) rows.now }
+    ensures count { result ≡ count_by (λ row. is_supervisor row.spec.kind) rows.now }
+    ensures limit { result ≤ length rows.now }
 {
     rows.iter()
         .filter(|row| is_supervisor(row.spec.kind))
@@ -139,7 +135,8 @@ fn is_supervisor(kind: ChildType) -> bool
 }
 
 pub fn count_workers(rows: &[Row]) -> usize
-    ensures { result ≡ count_by (λ row. is_worker row.spec.kind) rows.now }
+    ensures count { result ≡ count_by (λ row. is_worker row.spec.kind) rows.now }
+    ensures limit { result ≤ length rows.now }
 {
     rows.iter().filter(|row| is_worker(row.spec.kind)).count()
 }
@@ -184,13 +181,6 @@ fn refuse_items(items: &[Waiting], replies: &mut Answers, orders: &mut Vec<Effec
     }
 }
 
-/// Whether a child was told to shut down and its deadline has come.
-pub fn has_late(now: u64, rows: &[Row]) -> bool
-    ensures { result ≡ list_any (λ row. is_late now row.state) rows.now }
-{
-    rows.iter().any(|row| late_number(now, row.state).is_some())
-}
-
 fn is_reply(effect: &Effect) -> bool
     ensures { result ≡ is_reply effect.now }
 {
@@ -199,7 +189,7 @@ fn is_reply(effect: &Effect) -> bool
 
 /// Moves the orders but for replies into a list that has room.
 pub fn move_orders(orders: &mut Vec<Effect>, list: &mut Vec<Effect>)
-    requires { vec_len list.old + length orders.old.items ≤ vec_capacity list.old }
+    requires { vec_len list.old + length (filter (λ effect. not (is_reply effect)) orders.old.items) ≤ vec_capacity list.old }
     ensures list { list.new.items ≡ list.old.items ++ filter (λ effect. not (is_reply effect)) orders.old.items }
     ensures orders { orders.new.items ≡ [] }
     ensures len { vec_len orders.new ≤ vec_len orders.old }

@@ -3,7 +3,7 @@
 ghost use Rattle.std.specs.Prelude.{◌≡◌, ◌≤◌, ◌<◌, ◌^◌, OnOk, vec_capacity, vec_len};
 
 use crate::answers::Answers;
-use otp_rules::{After, ChildLine, Due, Effect, Phase, Waiting};
+use otp_rules::{After, ChildLine, Due, Effect, Phase, SupEnd, Waiting};
 use otp_spec::{AutoShutdown, ChildSpec, Strategy, SupFlags};
 use otp_table::Rows;
 use otp_window::Window;
@@ -26,6 +26,8 @@ pub struct Machine {
     pub follows: Option<After>,
     pub waiting: VecDeque<Waiting>,
     pub replies: Answers,
+    /// The ends of all openings that ended, under the supervisor's own number.
+    pub ends: Vec<(u64, SupEnd)>,
     /// The stamp of the last event, in milliseconds.
     pub last: u64,
     pub phase: Phase,
@@ -34,6 +36,8 @@ pub struct Machine {
     pub spare_lines: Vec<ChildLine>,
     /// Memory for the stamps of an end by the intensity.
     pub spare_stamps: Vec<u64>,
+    /// The same for the copy of the end that is kept.
+    pub spare_kept_stamps: Vec<u64>,
 }
 
 impl Machine {
@@ -64,12 +68,14 @@ impl Machine {
         self.orders.reserve(rows + waiting + 2)?;
         self.replies.reserve(waiting + 2)?;
         self.waiting.reserve(1)?;
+        self.ends.reserve(1)?;
         self.window.reserve()?;
         reserve_in_all(&mut self.to_stop, rows + 1)?;
         reserve_in_all(&mut self.to_start, rows + specs + 1)?;
         self.rows.reserve(specs + 1)?;
         reserve_in_all(&mut self.spare_lines, rows)?;
-        reserve_in_all(&mut self.spare_stamps, stamps)
+        reserve_in_all(&mut self.spare_stamps, stamps)?;
+        reserve_in_all(&mut self.spare_kept_stamps, stamps)
     }
 }
 

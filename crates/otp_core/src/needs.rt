@@ -8,10 +8,9 @@ ghost use Rattle.otp_rules.specs.Needs.{needs_number, work_starts};
 ghost use Rattle.otp_core.specs.Begun.{begun};
 ghost use Rattle.otp_core.specs.Restarted.{goes_on_beside, has_spec, outlives_failure, outlives_up};
 
-use crate::ends::{has_other_awaited, have_ended, have_ended_with, restart_goes_on};
-use crate::lists::has_awaited;
 use crate::machine::Machine;
 use crate::rows::{affected, is_over, is_restarted, is_simple};
+use crate::waited::{has_other_awaited, have_ended, have_ended_with, restart_goes_on};
 use otp_reason::{Name, Note, Reason};
 use otp_rules::laws::number_starts_work;
 use otp_rules::{After, Call, Item, Kind, Waiting};
@@ -41,7 +40,7 @@ impl Machine {
         ensures { (now : ℕ) → result ≡ work_starts (begun self.now now resumed) }
     {
         self.follows.is_some()
-            && !has_awaited(self.rows.as_slice())
+            && !self.rows.has_awaited()
             && have_ended(&self.to_stop, &self.waiting, resumed)
             && !self.to_start.is_empty()
     }
@@ -74,7 +73,7 @@ impl Machine {
             result ≡ work_starts (put_last (waiting.Item (item.Note (note.Exit number reason))) (begun self.now now resumed)) }
     {
         self.follows.is_some()
-            && !has_awaited(self.rows.as_slice())
+            && !self.rows.has_awaited()
             && have_ended_with(&self.to_stop, &self.waiting, resumed, number)
             && !self.to_start.is_empty()
     }
@@ -205,7 +204,7 @@ impl Machine {
         ensures { (call now : ℕ) (id : Option Name) (spec : ChildSpec) (resumed : Bool) →
             result ≡ work_starts (add_child call id spec (begun self.now now resumed)) }
     {
-        !self.rows.is_full() && !has_awaited(self.rows.as_slice())
+        !self.rows.is_full() && !self.rows.has_awaited()
     }
 
     #[tactic(auto, using(crate::proofs::Needed::answered_starts_none), unfolding(otp_rules::specs::Calls::start_lawful, otp_rules::specs::Calls::already_at, otp_rules::specs::Places::at_row, otp_rules::specs::Places::at_found, otp_rules::specs::Places::at_place))]
@@ -257,7 +256,7 @@ impl Machine {
         requires { self.now.follows ≡ None }
         ensures { (call now : ℕ) (id : Name) (resumed : Bool) → result ≡ work_starts (restart_child_in call id state (begun self.now now resumed)) }
     {
-        state.is_undefined() && !has_awaited(self.rows.as_slice())
+        state.is_undefined() && !self.rows.has_awaited()
     }
 
     /// restart_child.

@@ -103,7 +103,7 @@ pub fn stop_order(id: Option<Name>, number: u64, shutdown: Shutdown) -> Effect
 pub fn is_due(due: &Due, row: &Row) -> bool
     ensures { result ≡ is_due due.now row.now }
 {
-    row.id == due.id && row.state.is_undefined()
+    row.state.is_undefined() && row.id == due.id
 }
 
 /// Whether the item is the end of this process.

@@ -1,11 +1,12 @@
 //! Open work: children are stopped, then started, then something follows (`specs/Stops` of the rules).
 
 ghost use Rattle.otp_rules.specs.Ends.{init_failed, last_stamps};
-ghost use Rattle.std.specs.Prelude.{◌≡◌, ◌+◌, ◌<◌, ◌≤◌, ◌^◌, Some, length, position, reverse, slice_get, vec_len, vec_capacity};
+ghost use Rattle.std.specs.Prelude.{◌≡◌, ◌+◌, ◌<◌, ◌≤◌, ◌^◌, ◌&&◌, IsTrue, MatchOption, is_some, remove, unwrap_or, Some, length, position, reverse, slice_get, vec_len, vec_capacity};
 ghost use Rattle.std.specs.VecDeque.{deque_len, deque_capacity};
 
-use crate::lists::{find_due, find_exit, has_awaited, list_running, refuse_calls};
+use crate::lists::{find_due, find_exit, list_running, refuse_calls};
 use crate::machine::Machine;
+use crate::numbers::Numbers;
 use crate::rows::{is_removed, is_simple, own_number, stop_order, told};
 use otp_reason::{Name, Reason, Text};
 use otp_rules::{After, Answered, Cause, Due, Effect, Ending, Phase, Reply, Stamps, SupEnd};
@@ -14,6 +15,7 @@ use std::mem;
 
 impl Machine {
     ghost use Rattle.otp_core.specs.Seen.{outcome_of, CanAdvance, CanStop};
+    ghost use Rattle.otp_rules.specs.Needs.{ends_wait, has_due, work_starts};
     ghost use Rattle.otp_rules.specs.State.{answer, closed};
     ghost use Rattle.otp_rules.specs.Places.{end_process, end_row};
     ghost use Rattle.otp_rules.specs.Stops.{is_exit, tell, use_exit, start, end_all, follow, start_first, stop_first, advance, stop_each, terminate_ordered, terminate_together, terminate, calm_all};
@@ -73,6 +75,7 @@ impl Machine {
         requires { place < deque_len self.old.waiting }
         ensures outcome { outcome_of self.new ≡ use_exit number (Some place) (outcome_of self.old) }
         ensures rest { self.new ≡ record self.old { rows = self.new.rows; waiting = self.new.waiting } }
+        ensures items { self.new.waiting.items ≡ remove self.old.waiting.items place }
         ensures waiting { deque_len self.new.waiting ≤ deque_len self.old.waiting }
     {
         self.waiting.remove(place);
@@ -117,25 +120,19 @@ impl Machine {
         self.orders.push_reserved(Effect::Reply(call));
     }
 
-    /// The end of the supervisor, made in memory that is ready.
-    pub fn sup_end(&mut self, ending: Ending) -> SupEnd
-        requires { self.old.window.intensity < vec_capacity self.old.spare_stamps }
-        ensures sup_end { result ≡ sup_end_of (outcome_of self.old).state.flags self.old.window.stamps ending }
-        ensures rest { self.new ≡ record self.old { spare_stamps = self.new.spare_stamps } }
+    /// The end of the supervisor. Its stamps are put into a list that has room for them.
+    fn sup_end(&self, ending: Ending, list: Vec<u64>) -> SupEnd
+        requires { self.now.window.intensity < vec_capacity list }
+        ensures { result ≡ sup_end_of (outcome_of self.now).state.flags self.now.window.stamps ending }
     {
         match ending {
-            Ending::Intensity => {
-                let alloc = *self.spare_stamps.allocator();
-                let list = mem::replace(&mut self.spare_stamps, Vec::new(alloc));
-                let stamps = last_stamps(self.window.intensity(), self.window.stamps(), list);
-                SupEnd {
-                    reason: Reason::Shutdown,
-                    cause: Cause::Intensity {
-                        flags: self.flags(),
-                        stamps,
-                    },
-                }
-            }
+            Ending::Intensity => SupEnd {
+                reason: Reason::Shutdown,
+                cause: Cause::Intensity {
+                    flags: self.flags(),
+                    stamps: last_stamps(self.window.intensity(), self.window.stamps(), list),
+                },
+            },
             Ending::Significant(number) => SupEnd {
                 reason: Reason::Shutdown,
                 cause: Cause::Significant(number),
@@ -160,8 +157,14 @@ impl Machine {
         refuse_calls(&self.waiting, &mut self.replies, &mut self.orders);
         self.waiting.clear();
         self.rows.clear();
-        self.phase = Phase::Ended(own_number(self.phase), ending);
-        let end = self.sup_end(ending);
+        let own = own_number(self.phase);
+        self.phase = Phase::Ended(own, ending);
+        let alloc = *self.spare_stamps.allocator();
+        let stamps = mem::replace(&mut self.spare_stamps, Vec::new(alloc));
+        let kept_stamps = mem::replace(&mut self.spare_kept_stamps, Vec::new(alloc));
+        let kept = self.sup_end(ending, kept_stamps);
+        self.ends.push_reserved((own, kept));
+        let end = self.sup_end(ending, stamps);
         self.orders.push_reserved(Effect::End(end));
     }
 
@@ -191,43 +194,56 @@ impl Machine {
     }
 
     #[tactic(auto, unfolding(otp_rules::specs::Stops::start_first))]
-    pub fn start_first(&mut self, number: u64)
-        requires { CanAdvance self.old }
-        ensures { outcome_of self.new ≡ start_first self.old.to_start.items number (outcome_of self.old) }
+    pub fn start_first<N: Numbers>(&mut self, numbers: &mut N) -> Option<u64>
+        requires room { CanAdvance self.old }
+        requires number { IsTrue (has_due self.old.to_start.items) → N.can_give numbers.old }
+        ensures outcome { outcome_of self.new ≡ start_first self.old.to_start.items (unwrap_or result 0) (outcome_of self.old) }
+        ensures starts { is_some result ≡ has_due self.old.to_start.items }
+        ensures drawn { MatchOption result (numbers.new ≡ numbers.old) (λ n. N.gives numbers.old n numbers.new) }
     {
         if self.to_start.is_empty() {
             self.follow();
-        } else {
-            let due = self.to_start.remove(0);
-            self.start(due, number);
+            return None;
         }
+        let number = numbers.next();
+        let due = self.to_start.remove(0);
+        self.start(due, number);
+        Some(number)
     }
 
     #[tactic(auto, unfolding(otp_rules::specs::Stops::stop_first))]
-    pub fn stop_first(&mut self, number: u64)
-        requires { CanAdvance self.old }
-        ensures { outcome_of self.new ≡ stop_first (reverse self.old.to_stop.items) number (outcome_of self.old) }
+    pub fn stop_first<N: Numbers>(&mut self, numbers: &mut N) -> Option<u64>
+        requires room { CanAdvance self.old }
+        requires number { IsTrue (ends_wait (reverse self.old.to_stop.items) self.old.waiting.items && has_due self.old.to_start.items) → N.can_give numbers.old }
+        ensures outcome { outcome_of self.new ≡ stop_first (reverse self.old.to_stop.items) (unwrap_or result 0) (outcome_of self.old) }
+        ensures starts { is_some result ≡ (ends_wait (reverse self.old.to_stop.items) self.old.waiting.items && has_due self.old.to_start.items) }
+        ensures drawn { MatchOption result (numbers.new ≡ numbers.old) (λ n. N.gives numbers.old n numbers.new) }
     {
         while let Some(p) = self.to_stop.pop() {
             match find_exit(&self.waiting, p) {
                 Some(place) => self.use_exit(p, place),
                 None => {
                     self.tell(p);
-                    return;
+                    return None;
                 }
             }
         }
-        self.start_first(number);
+        self.start_first(numbers)
     }
 
     /// The open work goes on as far as it can.
-    #[tactic(auto, unfolding(otp_rules::specs::Stops::advance))]
-    pub fn advance(&mut self, number: u64)
-        requires { CanAdvance self.old }
-        ensures { outcome_of self.new ≡ advance number (outcome_of self.old) }
+    #[tactic(auto, unfolding(otp_rules::specs::Stops::advance, otp_rules::specs::Needs::work_starts))]
+    pub fn advance<N: Numbers>(&mut self, numbers: &mut N) -> Option<u64>
+        requires room { CanAdvance self.old }
+        requires number { IsTrue (work_starts (outcome_of self.old)) → N.can_give numbers.old }
+        ensures outcome { outcome_of self.new ≡ advance (unwrap_or result 0) (outcome_of self.old) }
+        ensures starts { is_some result ≡ work_starts (outcome_of self.old) }
+        ensures drawn { MatchOption result (numbers.new ≡ numbers.old) (λ n. N.gives numbers.old n numbers.new) }
     {
-        if self.follows.is_some() && !has_awaited(self.rows.as_slice()) {
-            self.stop_first(number);
+        if self.follows.is_some() && !self.rows.has_awaited() {
+            self.stop_first(numbers)
+        } else {
+            None
         }
     }
 

@@ -1,12 +1,13 @@
 //! A supervisor's core: its history, and the state that the rules give for it.
 
-ghost use Rattle.std.specs.Prelude.{ℕ, All, ◌≡◌, ◌+◌, ◌<◌, ◌≤◌, ◌^◌, ◌↔◌, ◌++◌, ◌∷◌, [], true, false, length, not, is_some, is_none, nat_lt, max, IsTrue, None, Some, IfOk, IfErr, OnOk, OnErr, MatchOption, vec_len, vec_capacity};
+ghost use Rattle.std.specs.Prelude.{ℕ, All, ◌≡◌, ◌+◌, ◌<◌, ◌≤◌, ◌^◌, ◌↔◌, ◌++◌, ◌∷◌, [], true, false, length, not, is_some, is_none, nat_lt, max, IsTrue, None, Some, IfOk, IfErr, OnOk, OnErr, MatchOption, option_map, slice_get, vec_len, vec_capacity};
 ghost use Rattle.std.specs.List.{filter, list_any};
 ghost use Rattle.otp_core.specs.View.{state_of};
 ghost use Rattle.otp_core.specs.Opened.{IsOpenFault};
 ghost use Rattle.otp_rules.specs.Counts.{counts_of};
 ghost use Rattle.otp_rules.specs.Effects.{is_reply};
-ghost use Rattle.otp_rules.specs.Needs.{IsLawfulHistory, needs_number, numbers_of};
+ghost use Rattle.otp_rules.specs.Needs.{IsLawfulHistory, last_number, needs_number, numbers_of};
+ghost use Rattle.otp_rules.specs.Next.{has_come, next_deadline, next_kind};
 ghost use Rattle.otp_rules.specs.Opening.{open_fault};
 ghost use Rattle.otp_rules.specs.Rate.{IsRated};
 ghost use Rattle.otp_rules.specs.Run.{empty_state, reply_of};
@@ -14,13 +15,15 @@ ghost use Rattle.otp_rules.specs.State.{is_over};
 ghost use Rattle.otp_rules.specs.Step.{is_late, step};
 
 use crate::answers::Answers;
-use crate::lists::{has_late, move_orders};
+use crate::deadlines::{has_late, next_deadline};
+use crate::lists::move_orders;
 use crate::machine::Machine;
+use crate::numbers::{Given, Numbers};
 use crate::opening::{OpenFault, check_open, copy_specs};
 use crate::rows::is_over;
-use otp_rules::{CountsNow, Effect, Event, Kind, Phase, Reply, laws};
+use otp_rules::{CountsNow, Effect, Event, Kind, Phase, Reply, SupEnd, Waiting, laws};
 use otp_spec::{ChildSpec, SupFlags};
-use otp_table::Rows;
+use otp_table::{Row, Rows};
 use otp_window::Window;
 use std::alloc::{AllocError, Global};
 use std::collections::VecDeque;
@@ -34,6 +37,8 @@ pub const MAX_EVENTS: usize = 65536;
 pub struct Core {
     machine: Machine,
     history: Vec<Event>,
+    /// The last process number that an event gave.
+    last_number: u64,
     prepared: bool,
 }
 
@@ -59,6 +64,7 @@ impl Core {
         ensures ok { OnOk result (open_fault flags specs.now ≡ None) }
         ensures core { IfOk result (λ core. core ≡ record { base = empty_state flags specs.now; history = []; effects = []; prepared = false }) }
         ensures fault { IfErr result (λ why. IsOpenFault why (open_fault flags specs.now)) }
+        ensures limit { OnOk result (length specs.now ≤ 256) }
     {
         if let Err(fault) = check_open(&flags, specs) {
             return Err(OpenFault::Spec(fault));
@@ -78,15 +84,18 @@ impl Core {
             follows: None,
             waiting: VecDeque::new(alloc),
             replies: Answers::new(alloc),
+            ends: Vec::new(alloc),
             last: 0,
             phase: Phase::Unopened,
             orders: Vec::new(alloc),
             spare_lines: Vec::new(alloc),
             spare_stamps: Vec::new(alloc),
+            spare_kept_stamps: Vec::new(alloc),
         };
         Ok(Core {
             machine,
             history: Vec::new(alloc),
+            last_number: 0,
             prepared: false,
         })
     }
@@ -131,9 +140,10 @@ impl Core {
         self.machine.window.stamps()
     }
 
-    /// Moves the orders but for replies, in order, into a list that has room, and clears the effects. Takes no memory.
+    /// Moves the orders but for replies, in order, into a list that has room, and clears the effects.
+    /// A step gives one more of them than there were rows at most ([`otp_rules::laws::orders_are_few`]).
     pub fn move_orders(&mut self, list: &mut Vec<Effect>)
-        requires { vec_len list.old + length self.old.effects ≤ vec_capacity list.old }
+        requires { vec_len list.old + length (filter (λ effect. not (is_reply effect)) self.old.effects) ≤ vec_capacity list.old }
         ensures orders { list.new.items ≡ list.old.items ++ filter (λ effect. not (is_reply effect)) self.old.effects }
         ensures core { self.new ≡ record self.old { effects = [] } }
     {
@@ -144,6 +154,21 @@ impl Core {
         ensures { self.new ≡ record self.old { effects = [] } }
     {
         self.machine.orders.clear();
+    }
+
+    /// Whether the supervisor runs, and under which number of its own.
+    pub fn phase(&self) -> Phase
+        ensures { result ≡ (state_of self.now).phase }
+    {
+        self.machine.phase
+    }
+
+    /// The children in start order, at most 256.
+    pub fn rows(&self) -> &[Row]
+        ensures value { result.now ≡ (state_of self.now).rows }
+        ensures limit { length (state_of self.now).rows ≤ 256 }
+    {
+        self.machine.rows.as_slice()
     }
 
     /// Whether children are being stopped or started.
@@ -167,11 +192,49 @@ impl Core {
         !self.machine.waiting.is_empty()
     }
 
+    /// The item that waits first. [`Kind::Resumed`] takes it.
+    pub fn first_waiting(&self) -> Option<&Waiting>
+        ensures { option_map (λ item. item.now) result ≡ slice_get (state_of self.now).waiting 0 }
+    {
+        self.machine.waiting.front()
+    }
+
     /// Whether a child is to be killed at this reading of the clock: it was told to shut down, and its deadline has come.
     pub fn is_due(&self, reading: u64) -> bool
         ensures { result ≡ list_any (λ row. is_late (max reading (state_of self.now).last) row.state) (state_of self.now).rows }
     {
         has_late(self.machine.last.max(reading), self.machine.rows.as_slice())
+    }
+
+    /// The least deadline in milliseconds of the children that were told to shut down: once the clock has come to it,
+    /// [`Core::is_due`].
+    pub fn next_deadline(&self) -> Option<u64>
+        ensures least { result ≡ next_deadline (state_of self.now).rows }
+        ensures due { (now : ℕ) → list_any (λ row. is_late now row.state) (state_of self.now).rows ≡ has_come now result }
+    {
+        laws::deadlines_come();
+        next_deadline(self.machine.rows.as_slice())
+    }
+
+    /// The event that comes next without an item of the inbox, at this reading of the clock: a kill whose deadline has
+    /// come; or, where no work is open, the stop that the parent wants, and then what waits first.
+    #[tactic(auto, unfolding(otp_rules::specs::Next::next_kind, otp_rules::specs::Next::idle_kind))]
+    pub fn next_kind(&self, reading: u64, is_stop_wanted: bool) -> Option<Kind>
+        ensures { result ≡ next_kind (state_of self.now) reading is_stop_wanted }
+    {
+        if self.is_due(reading) {
+            return Some(Kind::Ticked);
+        }
+        if self.has_open_work() {
+            return None;
+        }
+        if is_stop_wanted && !self.has_ended() {
+            return Some(Kind::Stopped);
+        }
+        if self.has_waiting() {
+            return Some(Kind::Resumed);
+        }
+        None
     }
 
     /// The answer to the call with this number, if it was given.
@@ -181,11 +244,37 @@ impl Core {
         self.machine.replies.find(call)
     }
 
+    /// The end of each opening that ended, with the supervisor's own number then, in their order.
+    pub fn ends(&self) -> &[(u64, SupEnd)]
+        ensures { result.now ≡ (state_of self.now).ends }
+    {
+        &self.machine.ends
+    }
+
     /// What count_children would answer now.
     pub fn counts(&self) -> CountsNow
-        ensures { result ≡ counts_of (state_of self.now) }
+        ensures counts { result ≡ counts_of (state_of self.now) }
+        ensures specs { result.specs ≤ 256 }
+        ensures active { result.active ≤ 256 }
+        ensures supervisors { result.supervisors ≤ 256 }
+        ensures workers { result.workers ≤ 256 }
     {
         self.machine.counts()
+    }
+
+    /// Whether an event at this reading would start a child, so that [`Core::step`] wants a number for it.
+    pub fn needs_number(&self, reading: u64, kind: &Kind) -> bool
+        ensures { result ≡ needs_number (state_of self.now) reading kind.now }
+    {
+        self.machine.needs_number(reading, kind)
+    }
+
+    /// The last process number that was given to a child, or 0 where none was. Any above it may be the next.
+    pub fn last_number(&self) -> u64
+        ensures last { result ≡ last_number self.now.history }
+        ensures next { (n : ℕ) → result < n → All (λ m. m < n) (numbers_of self.now.history) }
+    {
+        self.last_number
     }
 
     /// Takes the memory of the next event. An `Err` leaves the core as it was.
@@ -202,15 +291,44 @@ impl Core {
         Ok(())
     }
 
-    /// Whether such an event needs a number: it starts a child. Takes no memory and changes nothing.
-    pub fn needs_number(&self, reading: u64, kind: &Kind) -> bool
-        ensures { result ≡ needs_number (state_of self.now) reading kind.now }
+    /// What happens now, at this reading of the clock in milliseconds. A number is drawn exactly where a child is
+    /// started, and is the answer; it is to be above [`Core::last_number`].
+    /// It takes no memory by its code; its orders are put behind the effects that are there.
+    pub fn step_with<N: Numbers>(
+        &mut self,
+        reading: u64,
+        kind: Kind,
+        numbers: &mut N,
+    ) -> Option<u64>
+        requires prepared { IsTrue self.old.prepared }
+        requires room { length self.old.history < 65536 }
+        requires reading { reading ≤ 2 ^ 62 }
+        requires number { IsTrue (needs_number (state_of self.old) reading kind) → N.can_give numbers.old }
+        requires rises { (n : ℕ) (after : N) → N.gives numbers.old n after → All (λ m. m < n) (numbers_of self.old.history) }
+        ensures number { is_some result ≡ needs_number (state_of self.old) reading kind }
+        ensures drawn { MatchOption result (numbers.new ≡ numbers.old) (λ n. N.gives numbers.old n numbers.new) }
+        ensures base { self.new.base ≡ self.old.base }
+        ensures history { self.new.history ≡ self.old.history ++ record { reading = reading; number = result; kind = kind } ∷ [] }
+        ensures effects { self.new.effects ≡ self.old.effects ++ (step (state_of self.old) (record { reading = reading; number = result; kind = kind })).orders }
+        ensures prepared { self.new.prepared ≡ false }
     {
-        self.machine.needs_number(reading, kind)
+        laws::step_keeps_plan();
+        laws::step_stamps();
+        laws::step_keeps_stamped();
+        laws::orders_are_appended();
+        let number = self.machine.step(reading, &kind, numbers);
+        self.last_number = number.unwrap_or(self.last_number);
+        self.history.push_reserved(Event {
+            reading,
+            number,
+            kind,
+        });
+        self.prepared = false;
+        number
     }
 
-    /// One event, with a number exactly where it starts a child (`needs_number`), greater than each earlier one.
-    /// It takes no memory; its orders are put behind the effects that are there.
+    /// One event, with a number exactly where it starts a child ([`Core::needs_number`]), greater than each earlier one.
+    /// It takes no memory by its code; its orders are put behind the effects that are there.
     pub fn step(&mut self, event: Event)
         requires prepared { IsTrue self.old.prepared }
         requires room { length self.old.history < 65536 }
@@ -222,12 +340,9 @@ impl Core {
         ensures effects { self.new.effects ≡ self.old.effects ++ (step (state_of self.old) event).orders }
         ensures prepared { self.new.prepared ≡ false }
     {
-        laws::step_keeps_plan();
-        laws::step_stamps();
-        laws::step_keeps_stamped();
-        laws::orders_are_appended();
-        self.machine.step(event);
-        self.history.push_reserved(event);
-        self.prepared = false;
+        let mut given = Given {
+            number: event.number,
+        };
+        let _ = self.step_with(event.reading, event.kind, &mut given);
     }
 }

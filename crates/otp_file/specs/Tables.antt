@@ -3,24 +3,47 @@ use Rattle.std.specs.Prelude.{ℕ, Bool, ◌||◌, codes, List, [], ◌∷◌}
 use Rattle.std.specs.List.{list_all}
 use Rattle.std.specs.Str.{bytes_eq}
 use Rattle.toml.specs.Data.{Members, no_members, member}
+use Rattle.otp_file.specs.declared.fault.FlagKey.{FlagKey}
+use Rattle.otp_file.specs.declared.fault.FlagKey.TheVariants.{Strategy, Intensity, Period, AutoShutdown, Child}
+use Rattle.otp_file.specs.declared.fault.ChildKey.{ChildKey}
+use Rattle.otp_file.specs.declared.fault.ChildKey.TheVariants.{Id, Start, Restart, Significant, Shutdown, Kind, Modules}
 
 -- the keys of a table (own)
 abbrev pub keys_in : Members → List (List ℕ)
 keys_in no_members = []
 keys_in (member key _ rest) = key ∷ keys_in rest
 
--- a key of a supervisor's table (Supervisor Behaviour, "Supervisor Flags", and `child`, which is own)
+-- the keys of a supervisor's table, as they are read and printed (Supervisor Behaviour, "Supervisor Flags", and
+-- `child`, which is own)
+abbrev pub flag_key_text : FlagKey → List ℕ
+flag_key_text Strategy = codes "strategy"
+flag_key_text Intensity = codes "intensity"
+flag_key_text Period = codes "period"
+flag_key_text AutoShutdown = codes "auto_shutdown"
+flag_key_text Child = codes "child"
+
+-- the keys of a child's table (Supervisor Behaviour, "Child Specification")
+abbrev pub child_key_text : ChildKey → List ℕ
+child_key_text Id = codes "id"
+child_key_text Start = codes "start"
+child_key_text Restart = codes "restart"
+child_key_text Significant = codes "significant"
+child_key_text Shutdown = codes "shutdown"
+child_key_text Kind = codes "type"
+child_key_text Modules = codes "modules"
+
+-- a key of a supervisor's table
 abbrev pub is_flag_key : List ℕ → Bool
 is_flag_key key =
-    bytes_eq key (codes "strategy") || bytes_eq key (codes "intensity") || bytes_eq key (codes "period")
-    || bytes_eq key (codes "auto_shutdown") || bytes_eq key (codes "child")
+    bytes_eq key (flag_key_text Strategy) || bytes_eq key (flag_key_text Intensity) || bytes_eq key (flag_key_text Period)
+    || bytes_eq key (flag_key_text AutoShutdown) || bytes_eq key (flag_key_text Child)
 
--- a key of a child's table (Supervisor Behaviour, "Child Specification")
+-- a key of a child's table
 abbrev pub is_child_key : List ℕ → Bool
 is_child_key key =
-    bytes_eq key (codes "id") || bytes_eq key (codes "start") || bytes_eq key (codes "restart")
-    || bytes_eq key (codes "significant") || bytes_eq key (codes "shutdown") || bytes_eq key (codes "type")
-    || bytes_eq key (codes "modules")
+    bytes_eq key (child_key_text Id) || bytes_eq key (child_key_text Start) || bytes_eq key (child_key_text Restart)
+    || bytes_eq key (child_key_text Significant) || bytes_eq key (child_key_text Shutdown) || bytes_eq key (child_key_text Kind)
+    || bytes_eq key (child_key_text Modules)
 
 -- the table has no key but these (own)
 abbrev pub has_only : (List ℕ → Bool) → Members → Bool

@@ -28,13 +28,13 @@ fn spec_in(index: usize, table: &Table) -> Result<ChildSpec, TreeFault>
     if !has_only_child_keys(table) {
         return Err(TreeFault::UnknownKey(Place::Child(index)));
     }
-    let Some(id) = value_at(table, "id") else {
+    let Some(id) = value_at(table, ChildKey::Id.name()) else {
         return Err(TreeFault::MissingKey {
             index,
             key: ChildKey::Id,
         });
     };
-    let Some(start) = value_at(table, "start") else {
+    let Some(start) = value_at(table, ChildKey::Start.name()) else {
         return Err(TreeFault::MissingKey {
             index,
             key: ChildKey::Start,
@@ -50,21 +50,21 @@ fn spec_with(index: usize, id: Name, start: Name, table: &Table) -> Result<Child
     ensures { result
         ≡ answer_of (value_faults index (table_view table.now)) (spec_with id start (table_view table.now)) }
 {
-    let restart = restart_at(value_at(table, "restart")).map_err(|unfit| ChildKey::Restart.fault(
-        index, unfit,
-    ))?;
-    let significant = significant_at(value_at(table, "significant")).map_err(
+    let restart = restart_at(value_at(table, ChildKey::Restart.name())).map_err(
+        |unfit| ChildKey::Restart.fault(index, unfit),
+    )?;
+    let significant = significant_at(value_at(table, ChildKey::Significant.name())).map_err(
         |unfit| ChildKey::Significant.fault(index, unfit),
     )?;
-    let shutdown = shutdown_at(value_at(table, "shutdown")).map_err(
+    let shutdown = shutdown_at(value_at(table, ChildKey::Shutdown.name())).map_err(
         |unfit| ChildKey::Shutdown.fault(index, unfit),
     )?;
-    let kind = kind_at(value_at(table, "type")).map_err(|unfit| ChildKey::Kind.fault(
+    let kind = kind_at(value_at(table, ChildKey::Kind.name())).map_err(|unfit| ChildKey::Kind.fault(
         index, unfit,
     ))?;
-    let modules = modules_at(value_at(table, "modules")).map_err(|unfit| ChildKey::Modules.fault(
-        index, unfit,
-    ))?;
+    let modules = modules_at(value_at(table, ChildKey::Modules.name())).map_err(
+        |unfit| ChildKey::Modules.fault(index, unfit),
+    )?;
     Ok(ChildSpec {
         id,
         start,

@@ -1,5 +1,6 @@
 ghost use Rattle.std.specs.Prelude.{◌≡◌};
 ghost use Rattle.otp_file.specs.Faults.{child_fault, code_of, flag_fault};
+ghost use Rattle.otp_file.specs.Tables.{child_key_text, flag_key_text};
 
 use crate::value::Unfit;
 use otp_spec::SpecFault;
@@ -17,6 +18,19 @@ pub enum FlagKey {
 }
 
 impl FlagKey {
+    /// The key as the file has it and as it is printed.
+    pub fn name(self) -> &'static str
+        ensures { result.now ≡ flag_key_text self }
+    {
+        match self {
+            FlagKey::Strategy => "strategy",
+            FlagKey::Intensity => "intensity",
+            FlagKey::Period => "period",
+            FlagKey::AutoShutdown => "auto_shutdown",
+            FlagKey::Child => "child",
+        }
+    }
+
     /// The fault of a supervisor whose value at this key is unfit.
     pub(crate) fn fault(self, unfit: Unfit) -> TreeFault
         ensures { result ≡ flag_fault self unfit }
@@ -29,14 +43,12 @@ impl FlagKey {
 }
 
 impl fmt::Display for FlagKey {
+    ghost use Rattle.std.specs.Prelude.{Some};
+
+    ghost output = { λ key. Some (flag_key_text key) };
+
     fn fmt<W: fmt::Write>(&self, f: &mut fmt::Formatter<W>) -> fmt::Result {
-        match self {
-            FlagKey::Strategy => write!(f, "strategy"),
-            FlagKey::Intensity => write!(f, "intensity"),
-            FlagKey::Period => write!(f, "period"),
-            FlagKey::AutoShutdown => write!(f, "auto_shutdown"),
-            FlagKey::Child => write!(f, "child"),
-        }
+        f.write_str(self.name())
     }
 }
 
@@ -53,6 +65,21 @@ pub enum ChildKey {
 }
 
 impl ChildKey {
+    /// The key as the file has it and as it is printed.
+    pub fn name(self) -> &'static str
+        ensures { result.now ≡ child_key_text self }
+    {
+        match self {
+            ChildKey::Id => "id",
+            ChildKey::Start => "start",
+            ChildKey::Restart => "restart",
+            ChildKey::Significant => "significant",
+            ChildKey::Shutdown => "shutdown",
+            ChildKey::Kind => "type",
+            ChildKey::Modules => "modules",
+        }
+    }
+
     /// The fault of the child at `index` whose value at this key is unfit.
     pub(crate) fn fault(self, index: usize, unfit: Unfit) -> TreeFault
         ensures { result ≡ child_fault index self unfit }
@@ -65,16 +92,12 @@ impl ChildKey {
 }
 
 impl fmt::Display for ChildKey {
+    ghost use Rattle.std.specs.Prelude.{Some};
+
+    ghost output = { λ key. Some (child_key_text key) };
+
     fn fmt<W: fmt::Write>(&self, f: &mut fmt::Formatter<W>) -> fmt::Result {
-        match self {
-            ChildKey::Id => write!(f, "id"),
-            ChildKey::Start => write!(f, "start"),
-            ChildKey::Restart => write!(f, "restart"),
-            ChildKey::Significant => write!(f, "significant"),
-            ChildKey::Shutdown => write!(f, "shutdown"),
-            ChildKey::Kind => write!(f, "type"),
-            ChildKey::Modules => write!(f, "modules"),
-        }
+        f.write_str(self.name())
     }
 }
 

@@ -19,16 +19,16 @@ pub(crate) fn flags_in(table: &Table) -> Result<SupFlags, TreeFault>
     if !has_only_flag_keys(table) {
         return Err(TreeFault::UnknownKey(Place::Table));
     }
-    let strategy = strategy_at(value_at(table, "strategy")).map_err(|unfit| FlagKey::Strategy.fault(
-        unfit,
-    ))?;
-    let intensity = intensity_at(value_at(table, "intensity")).map_err(
+    let strategy = strategy_at(value_at(table, FlagKey::Strategy.name())).map_err(
+        |unfit| FlagKey::Strategy.fault(unfit),
+    )?;
+    let intensity = intensity_at(value_at(table, FlagKey::Intensity.name())).map_err(
         |unfit| FlagKey::Intensity.fault(unfit),
     )?;
-    let period = period_at(value_at(table, "period")).map_err(|unfit| FlagKey::Period.fault(
-        unfit,
-    ))?;
-    let auto_shutdown = auto_shutdown_at(value_at(table, "auto_shutdown")).map_err(
+    let period = period_at(value_at(table, FlagKey::Period.name())).map_err(
+        |unfit| FlagKey::Period.fault(unfit),
+    )?;
+    let auto_shutdown = auto_shutdown_at(value_at(table, FlagKey::AutoShutdown.name())).map_err(
         |unfit| FlagKey::AutoShutdown.fault(unfit),
     )?;
     Ok(SupFlags {

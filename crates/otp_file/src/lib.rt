@@ -10,6 +10,3 @@ pub mod value;
 
 pub use fault::{ChildKey, FlagKey, Place, TreeFault};
 pub use tree::{ChildSpecs, TreeSpec, read_tree};
-
-#[cfg(test)]
-mod tests;

@@ -6,6 +6,7 @@ ghost use Rattle.otp_file.specs.Tables.{has_only, is_child_key, is_flag_key};
 ghost use Rattle.toml.specs.Data.{get_member};
 ghost use Rattle.toml.specs.View.{table_view, view};
 
+use crate::fault::{ChildKey, FlagKey};
 use toml::{Table, Value};
 
 /// The value at a key.
@@ -47,22 +48,22 @@ fn are_child_keys(table: &Table) -> bool
 fn is_flag_key(key: &str) -> bool
     ensures { result ≡ is_flag_key key.now }
 {
-    key == "strategy"
-        || key == "intensity"
-        || key == "period"
-        || key == "auto_shutdown"
-        || key == "child"
+    key == FlagKey::Strategy.name()
+        || key == FlagKey::Intensity.name()
+        || key == FlagKey::Period.name()
+        || key == FlagKey::AutoShutdown.name()
+        || key == FlagKey::Child.name()
 }
 
 /// Whether this is a key of a child.
 fn is_child_key(key: &str) -> bool
     ensures { result ≡ is_child_key key.now }
 {
-    key == "id"
-        || key == "start"
-        || key == "restart"
-        || key == "significant"
-        || key == "shutdown"
-        || key == "type"
-        || key == "modules"
+    key == ChildKey::Id.name()
+        || key == ChildKey::Start.name()
+        || key == ChildKey::Restart.name()
+        || key == ChildKey::Significant.name()
+        || key == ChildKey::Shutdown.name()
+        || key == ChildKey::Kind.name()
+        || key == ChildKey::Modules.name()
 }

@@ -108,7 +108,7 @@ fn tree_in(alloc: Global, table: &Table) -> Result<TreeSpec, TreeFault>
     ensures simple { IfOk result (λ tree. tree.flags.strategy ≡ SimpleOneForOne → length tree.specs ≡ 1) }
 {
     let flags = flags_in(table)?;
-    let specs = specs_at(alloc, value_at(table, "child"))?;
+    let specs = specs_at(alloc, value_at(table, FlagKey::Child.name()))?;
     check_count(flags.strategy, specs.len())?;
     check_specs(specs.as_slice(), flags.auto_shutdown)?;
     Ok(TreeSpec {

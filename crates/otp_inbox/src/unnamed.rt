@@ -3,7 +3,7 @@ ghost use Rattle.std.specs.Prelude.{◌≡◌};
 ghost use Rattle.otp_inbox.specs.Tokens.{first_sender, first_taker};
 
 use crate::inbox::Inbox;
-use crate::item::Item;
+use crate::mail::Mail;
 use crate::naming::InboxNaming;
 use crate::rule::{ALL_PARTS, Pass, Queue, Roles};
 use crate::sender::Sender;
@@ -16,27 +16,27 @@ use std::marker::{Model, PhantomData};
 ///
 /// Contracts see it as its identity. Since no value whose type has a name can leave the call that
 /// picks the name, inboxes are opened first; that call gets them and names them all.
-pub struct UnnamedInbox<P, T: Item<P>> {
+pub struct UnnamedInbox<P, T: Mail<P>> {
     queue: Queue<P, T>,
     taker: Pass<P, T>,
     sender: Pass<P, T>,
 }
 
-impl<P, T: Item<P>> Model for UnnamedInbox<P, T> {
+impl<P, T: Mail<P>> Model for UnnamedInbox<P, T> {
     ghost use Rattle.std.specs.Prelude.{◌≡◌, []};
     ghost use Rattle.crossbeam_queue.specs.SegTies.{IsSegPassOf};
     ghost use Rattle.otp_inbox.specs.Names.{InboxId};
     ghost use Rattle.otp_inbox.specs.Rule.{taking, sending};
-    ghost use Rattle.otp_inbox.specs.Tokens.{all_parts};
+    ghost use Rattle.otp_inbox.specs.Tokens.{all_parts, no_shares};
 
     ghost Value = { InboxId };
 
     ghost view = { λ i. i.queue };
 
-    ghost invariant = { λ i. IsSegPassOf i.queue i.taker × (i.taker.me.view.client ≡ taking []) × IsSegPassOf i.queue i.sender × (i.sender.me.view.client ≡ sending all_parts [] []) };
+    ghost invariant = { λ i. IsSegPassOf i.queue i.taker × (i.taker.me.view.client ≡ taking [] no_shares) × IsSegPassOf i.queue i.sender × (i.sender.me.view.client ≡ sending all_parts [] [] no_shares) };
 }
 
-impl<P, T: Item<P>> UnnamedInbox<P, T> {
+impl<P, T: Mail<P>> UnnamedInbox<P, T> {
     /// Opens an inbox. Nothing was sent to it and nothing taken, as the clauses of
     /// [`named`](UnnamedInbox::named) say.
     pub fn open(alloc: Global) -> Result<UnnamedInbox<P, T>, AllocError> {
@@ -87,7 +87,7 @@ impl<P, T: Item<P>> UnnamedInbox<P, T> {
     }
 }
 
-impl<P, T: Item<P>> Drop for UnnamedInbox<P, T> {
+impl<P, T: Mail<P>> Drop for UnnamedInbox<P, T> {
     fn drop(self) {
         let UnnamedInbox {
             queue,

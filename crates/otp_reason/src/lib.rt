@@ -12,6 +12,3 @@ pub use name::Name;
 pub use note::{Note, Started};
 pub use reason::Reason;
 pub use text::Text;
-
-#[cfg(test)]
-mod tests;

@@ -14,7 +14,7 @@ use Rattle.otp_spec.specs.Lawful.{first_fault}
 use Rattle.otp_table.specs.declared.row.Row.{Row}
 use Rattle.otp_table.specs.declared.row.RowState.{RowState}
 use Rattle.otp_table.specs.declared.row.RowState.TheVariants.{Undefined, Starting, Up, Asked, Killed, Restarting}
-use Rattle.otp_table.specs.Rows.{awaits_retry, has_id, has_number, has_process, is_awaited, row_has}
+use Rattle.otp_table.specs.Rows.{awaits_retry, has_id, has_number, has_process, is_awaited, row_has, free_slot}
 use Rattle.otp_rules.specs.declared.call.Call.{Call}
 use Rattle.otp_rules.specs.declared.call.CallFault.{CallFault}
 use Rattle.otp_rules.specs.declared.call.CallFault.TheVariants as fault
@@ -22,6 +22,7 @@ use Rattle.otp_rules.specs.declared.call.Reply.{Reply}
 use Rattle.otp_rules.specs.declared.call.Reply.TheVariants as reply
 use Rattle.otp_rules.specs.declared.call.Call.TheVariants as call
 use Rattle.otp_rules.specs.declared.ending.Ending.{Ending}
+use Rattle.otp_rules.specs.declared.ending.SupEnd.{SupEnd}
 use Rattle.otp_rules.specs.declared.ending.Ending.TheVariants as ending
 use Rattle.otp_rules.specs.declared.event.Event.{Event}
 use Rattle.otp_rules.specs.declared.event.Item.{Item}
@@ -33,7 +34,7 @@ use Rattle.otp_rules.specs.declared.event.Waiting.TheVariants as waiting
 use Rattle.otp_rules.specs.declared.work.Due.{Due}
 use Rattle.otp_rules.specs.declared.work.After.{After}
 use Rattle.otp_rules.specs.declared.work.After.TheVariants as after
-use Rattle.otp_rules.specs.State.{Outcome, answer, closed, emit, is_busy, is_over, is_simple, own_number, put_last, with_phase, with_rows, with_stamps, with_waiting, with_work}
+use Rattle.otp_rules.specs.State.{Outcome, answer, closed, emit, is_busy, is_over, is_simple, own_number, put_last, with_end, with_phase, with_rows, with_stamps, with_waiting, with_work}
 use Rattle.otp_rules.specs.Places.{at_place, at_found, at_row, at_number, end_row, end_process, is_removed, set_row}
 use Rattle.otp_rules.specs.Restarts.{affected_from, affected_to, ends_by_significance, is_restarted, running}
 use Rattle.otp_rules.specs.Stops.{calm_all, is_exit, refusal, refused, stop_order, told, without, tell_row, tell, use_exit, is_due, start_row, start, refuse_all, end_all, follow, start_first, stop_first, advance, stop_each, terminate_ordered, terminate_together, terminate}
@@ -129,10 +130,11 @@ refuse_all-behind xs o =
 end_all-behind : (xs : List Effect) (e : Ending) (o : Outcome) → end_all e (behind xs o) ≡ behind xs (end_all e o)
 unfolding end_all
 end_all-behind xs e o =
-    let last : Effect = effect.End (sup_end_of o.state.flags o.state.stamps e) in
-    let ended : Outcome → Outcome = λ x. with_phase (Ended (own_number o.state.phase) e) (with_rows [] x) in
-    ap (λ (x : Outcome). emit last (ended x)) (refuse_all-behind xs (closed o))
-    ∙ emit-behind xs last (ended (refuse_all (closed o)))
+    let own : ℕ = own_number o.state.phase in
+    let end : SupEnd = sup_end_of o.state.flags o.state.stamps e in
+    let ended : Outcome → Outcome = λ x. with_end own end (with_phase (Ended own e) (with_rows [] x)) in
+    ap (λ (x : Outcome). emit (effect.End end) (ended x)) (refuse_all-behind xs (closed o))
+    ∙ emit-behind xs (effect.End end) (ended (refuse_all (closed o)))
 
 follow-behind : (xs : List Effect) (f : Option After) (o : Outcome) → follow f (behind xs o) ≡ behind xs (follow f o)
 unfolding follow
@@ -317,7 +319,7 @@ refuse-behind xs c why o = answer-behind xs c (reply.Refused why) o
 add_child-behind : (xs : List Effect) (c : ℕ) (id : Option Name) (spec : ChildSpec) (o : Outcome) → add_child c id spec (behind xs o) ≡ behind xs (add_child c id spec o)
 unfolding add_child
 add_child-behind xs c id spec o =
-    let fresh : Outcome → Outcome = λ x. with_work [] (record { id = id; kept = None } ∷ []) (Some (after.Added c)) (with_rows (o.state.rows ++ new_row id spec ∷ []) x) in
+    let fresh : Outcome → Outcome = λ x. with_work [] (record { id = id; kept = None } ∷ []) (Some (after.Added c)) (with_rows (o.state.rows ++ new_row (free_slot o.state.rows) id spec ∷ []) x) in
     either xs (nat_le 256 (length o.state.rows)) (refuse c fault.TooManyChildren (behind xs o)) (fresh (behind xs o)) (refuse c fault.TooManyChildren o) (fresh o)
     (refuse-behind xs c fault.TooManyChildren o) refl
 
@@ -475,7 +477,7 @@ if_idle-behind xs done' done o h =
     either xs (is_busy o) (behind xs o) (if is_over o.state.phase then behind xs o else done') o (if is_over o.state.phase then o else done)
     refl (either xs (is_over o.state.phase) (behind xs o) done' o done refl h)
 
-decide-behind : (xs : List Effect) (k : Kind) (o : Outcome) → decide k (behind xs o) ≡ behind xs (decide k o)
+pub decide-behind : (xs : List Effect) (k : Kind) (o : Outcome) → decide k (behind xs o) ≡ behind xs (decide k o)
 unfolding decide
 decide-behind xs (kind.Opened own) o = either xs (is_over o.state.phase) (open_rows own (behind xs o)) (behind xs o) (open_rows own o) o (open_rows-behind xs own o) refl
 decide-behind xs (kind.Took x) o = take_item-behind xs x o

@@ -18,27 +18,11 @@ use Rattle.otp_rules.specs.Places.{at_place, at_found, at_row, end_row, end_proc
 use Rattle.otp_rules.specs.Restarts.{running}
 use Rattle.otp_rules.specs.Stops.{is_exit, without, told, tell_row, tell, use_exit, stop_each}
 use Rattle.otp_rules.specs.Step.{killed, late_by, late_number, tick}
-use Rattle.otp_rules.proofs.Decisions.{StandsAt, at_number-survives, by_test, is_told, AtPassing}
+use Rattle.otp_rules.specs.Fit.{is_told, rows_in, times, runs_as}
+use Rattle.otp_rules.proofs.Decisions.{StandsAt, at_number-survives, by_test, AtPassing}
 use Rattle.std.proofs.lemmas.List.Sorted.{sum_by-IsPermutation, IsPermutation-reverse}
 use Prim.Native.Nat.{suc}
 use Rattle.otp_rules.specs.declared.event.Waiting.TheVariants as waiting
-
--- the process runs under this number, and nothing is asked of it
-abbrev pub runs_as : ℕ → RowState → Bool
-runs_as p Undefined = false
-runs_as p (Starting _ _) = false
-runs_as p (Up q) = q == p
-runs_as p (Asked _ _) = false
-runs_as p (Killed _) = false
-runs_as p (Restarting _) = false
-
--- how many rows' states pass the test
-abbrev pub rows_in : (RowState → Bool) → List Row → ℕ
-rows_in t rows = count_by (row_has t) rows
-
--- how often the number stands in the list
-abbrev pub times : ℕ → List ℕ → ℕ
-times q ps = count_by (λ p. p == q) ps
 
 pub times-cons : (q p : ℕ) (ps : List ℕ) → times q (p ∷ ps) ≡ cond (p == q) 1 0 + times q ps
 times-cons q p ps = sum_by-cons (λ x. cond (x == q) 1 0) p ps
@@ -86,17 +70,18 @@ rows_in-end t none place row o h =
           omega (arith, e, z)
     ]
 
--- the work, the phase and the flags are the same
+-- the work, the phase, the flags and the stamps are the same
 abbrev pub Alike : Outcome → Outcome → Type 0
 Alike new old =
     (new.state.flags ≡ old.state.flags) × (new.state.phase ≡ old.state.phase) × (new.state.to_stop ≡ old.state.to_stop)
     × (new.state.to_start ≡ old.state.to_start) × (new.state.follows ≡ old.state.follows)
+    × (new.state.stamps ≡ old.state.stamps) × (new.state.last ≡ old.state.last)
 
 pub alike : (o : Outcome) → Alike o o
-alike o = (refl, refl, refl, refl, refl)
+alike o = (refl, refl, refl, refl, refl, refl, refl)
 
 pub alike-chain : (new mid old : Outcome) → Alike new mid → Alike mid old → Alike new old
-alike-chain new mid old h k = (h.0 ∙ k.0, h.1 ∙ k.1, h.2 ∙ k.2, h.3 ∙ k.3, h.4 ∙ k.4)
+alike-chain new mid old h k = (h.0 ∙ k.0, h.1 ∙ k.1, h.2 ∙ k.2, h.3 ∙ k.3, h.4 ∙ k.4, h.5 ∙ k.5, h.6 ∙ k.6)
 
 pub end_row-alike : (place : ℕ) (row : Row) (o : Outcome) → Alike (end_row place row o) o
 unfolding end_row

@@ -1,7 +1,7 @@
 -- What every decision of the rules keeps: a property of outcomes is kept where each kind of change keeps it.
 -- The proofs of the laws say what each kind of change does; this file walks through the rules once for all of them.
 use Rattle.std.specs.Prelude.{◌≡◌, ◌⊎◌, ℕ, ◌==◌, ◌++◌, Bool, true, false, List, [], ◌∷◌, Option, None, Some, refl, if◌then◌else◌, not, position, is_some, slice_get, nat_le, length, remove}
-use Rattle.std.proofs.Common.{◌∙◌, ap, sym, inl, inr}
+use Rattle.std.proofs.Common.{◌∙◌, ap, sym, subst, inl, inr, ⊎_elim, rules}
 use Rattle.std.proofs.lemmas.Bool.{eqb-true, cond_both}
 use Rattle.std.proofs.lemmas.List.Quantifiers.{position-Some}
 use Rattle.std.proofs.lemmas.Option.{get_or_from_slice_get}
@@ -15,7 +15,7 @@ use Rattle.otp_spec.specs.Lawful.{first_fault}
 use Rattle.otp_table.specs.declared.row.Row.{Row}
 use Rattle.otp_table.specs.declared.row.RowState.{RowState}
 use Rattle.otp_table.specs.declared.row.RowState.TheVariants.{Undefined, Starting, Up, Asked, Killed, Restarting}
-use Rattle.otp_table.specs.Rows.{awaits_retry, has_id, has_number, has_process, is_awaited, row_has}
+use Rattle.otp_table.specs.Rows.{awaits_retry, has_id, has_number, has_process, is_awaited, row_has, free_slot}
 use Rattle.otp_rules.specs.declared.call.Call.{Call}
 use Rattle.otp_rules.specs.declared.call.Call.TheVariants as call
 use Rattle.otp_rules.specs.declared.ending.Ending.{Ending}
@@ -39,7 +39,9 @@ use Rattle.otp_rules.specs.Stops.{terminate}
 use Rattle.otp_rules.specs.Deaths.{restart, after_end, death, exit_in, exit_at, take_exit, retry_in, retry_at, retry}
 use Rattle.otp_rules.specs.Starts.{up_after, up_in, up_at, take_up, ignored_in, ignored_at, take_ignored, failed_after, failed_in, failed_at, take_failed}
 use Rattle.otp_rules.specs.Calls.{already, new_row, add_child, already_at, start_lawful, start_checked, start_child, start_shared, start_dynamic, restart_child_in, restart_child_at, at_child, delete_child_in, delete_child_at, stop_process, terminate_child_in, terminate_child_at, terminate_process_in, terminate_process_at, terminate_process, get_shared, get_childspec, is_named, tell_spec, take_call}
+use Rattle.otp_rules.specs.Homes.{Brings, IsFirst, is_start_call}
 use Rattle.otp_rules.specs.Step.{take_note, ask, take_item, take_waiting, resume, open_rows, tick, decide}
+use Rattle.otp_rules.specs.Fit.{is_told}
 
 -- no work is open, nor was any when the event came
 abbrev pub IsIdle : Bool → Outcome → Type 0
@@ -56,15 +58,6 @@ StandsAt place row o = slice_get o.state.rows place ≡ Some row
 abbrev pub IsNoted : Kind → Bool → Note → Outcome → Type 0
 IsNoted k b x o = (k ≡ kind.Took (item.Note x)) ⊎ IsIdle b o
 
--- the row's child was told to stop, under this number
-abbrev pub is_told : ℕ → RowState → Bool
-is_told p Undefined = false
-is_told p (Starting _ _) = false
-is_told p (Up _) = false
-is_told p (Asked q _) = q == p
-is_told p (Killed q) = q == p
-is_told p (Restarting _) = false
-
 -- nothing runs in the row: its child is undefined or waits for a retry
 abbrev pub is_down : RowState → Bool
 is_down Undefined = true
@@ -74,7 +67,52 @@ is_down (Asked _ _) = false
 is_down (Killed _) = false
 is_down (Restarting _) = true
 
--- each kind of change that an event may decide on keeps the property
+-- nothing has moved since the event came: no order was given, and no work was opened or closed
+abbrev pub IsUnmoved : Outcome → Outcome → Type 0
+IsUnmoved old o = (o.orders ≡ old.orders) × (is_busy o ≡ is_busy old)
+
+-- the event brings the note that the start of this process failed
+abbrev pub BringsFailure : (Item → Type 0) → ℕ → Type 0
+BringsFailure G q = (r : Reason) × G (item.Note (note.Failed q r))
+
+-- or that it ended
+abbrev pub BringsExit : (Item → Type 0) → ℕ → Type 0
+BringsExit G q = (r : Reason) × G (item.Note (note.Exit q r))
+
+-- the event brings a start call, and the rows are still those of before
+abbrev pub BringsStart : (Item → Type 0) → Outcome → ℕ → Outcome → Type 0
+BringsStart G old c o = ((x : Call) × (is_start_call x ≡ true) × G (item.Call c x)) × (o.state.rows ≡ old.state.rows)
+
+-- each kind of change that an event may decide on keeps the property; G holds of each item that the event brings,
+-- and old is the outcome that it came to. All orders but answers to calls come with the last change.
+pub record SurvivesEvent (k : Kind) (G : Item → Type 0) (old : Outcome) (P : Outcome → Type 0) : Type 0 where
+  pub answered : (c : ℕ) (r : Reply) (o : Outcome) → P o → P (answer c r o)
+  pub taken : (w : Waiting) (ws : List Waiting) → k ≡ kind.Resumed → IsIdle (is_busy old) old → IsRunning old → old.state.waiting ≡ w ∷ ws → P old → P (with_waiting ws old)
+  pub call_waits : (c : ℕ) (x : Call) (o : Outcome) → IsUnmoved old o → is_busy o ≡ true → G (item.Call c x) → P o → P (put_last (waiting.Item (item.Call c x)) o)
+  pub exit_waits : (p : ℕ) (r : Reason) (o : Outcome) → IsUnmoved old o → G (item.Note (note.Exit p r)) → P o → P (put_last (waiting.Item (item.Note (note.Exit p r))) o)
+  -- answers to a start
+  pub up : (p place : ℕ) (row : Row) (q kept : ℕ) (o : Outcome) → IsUnmoved old o → StandsAt place row o → row.state ≡ Starting q kept → (q == p) ≡ true → G (item.Note (note.Up p)) → P o → P (set_row place row (Up p) o)
+  pub up_closed : (p place : ℕ) (row : Row) (q kept c : ℕ) (o : Outcome) → IsUnmoved old o → StandsAt place row o → row.state ≡ Starting q kept → (q == p) ≡ true → (o.state.follows ≡ Some (after.Added c)) ⊎ (o.state.follows ≡ Some (after.Restarted c)) → G (item.Note (note.Up p)) → P o → P (closed (set_row place row (Up p) o))
+  pub ignored : (p place : ℕ) (row : Row) (q kept : ℕ) (o : Outcome) → IsUnmoved old o → StandsAt place row o → row.state ≡ Starting q kept → (q == p) ≡ true → G (item.Note (note.Ignored p)) → P o → P (end_row place row o)
+  pub opening_failed : (place : ℕ) (row : Row) (q kept : ℕ) (o : Outcome) → IsUnmoved old o → IsRunning o → StandsAt place row o → row.state ≡ Starting q kept → o.state.follows ≡ Some after.Ready → BringsFailure G q → P o → P (terminate (ending.InitFailed row.spec.id) (set_row place row Undefined o))
+  pub restart_failed : (place : ℕ) (row : Row) (q kept : ℕ) (o : Outcome) → IsUnmoved old o → StandsAt place row o → row.state ≡ Starting q kept → o.state.follows ≡ Some after.Nothing → BringsFailure G q → P o → P (closed (put_last (waiting.Retry kept) (set_row place row (Restarting kept) o)))
+  pub added_failed : (place : ℕ) (row : Row) (q kept c : ℕ) (o : Outcome) → IsUnmoved old o → StandsAt place row o → row.state ≡ Starting q kept → o.state.follows ≡ Some (after.Added c) → BringsFailure G q → P o → P (closed (with_rows (remove o.state.rows place) o))
+  pub restarted_failed : (place : ℕ) (row : Row) (q kept c : ℕ) (o : Outcome) → IsUnmoved old o → StandsAt place row o → row.state ≡ Starting q kept → o.state.follows ≡ Some (after.Restarted c) → BringsFailure G q → P o → P (closed (set_row place row Undefined o))
+  -- ends
+  pub stopped : (p : ℕ) (r : Reason) (place : ℕ) (row : Row) (o : Outcome) → IsUnmoved old o → StandsAt place row o → is_told p row.state ≡ true → G (item.Note (note.Exit p r)) → P o → P (end_row place row o)
+  pub died : (p place : ℕ) (row : Row) (o : Outcome) → IsUnmoved old o → IsIdle (is_busy old) o → IsRunning o → StandsAt place row o → row.state ≡ Up p → BringsExit G p → P o → P (end_row place row o)
+  pub restarts : (p place : ℕ) (row : Row) (o : Outcome) → IsUnmoved old o → IsIdle (is_busy old) o → IsRunning o → StandsAt place row o → ((row.state ≡ Up p) × BringsExit G p) ⊎ (row.state ≡ Restarting p) → P o → P (restart p place row o)
+  pub ends : (e : Ending) (o : Outcome) → IsUnmoved old o → (e ≡ ending.Intensity → ⊥) → IsIdle (is_busy old) o → IsRunning o → P o → P (terminate e o)
+  pub ticks : k ≡ kind.Ticked → P old → P (tick old)
+  pub opens : (own : ℕ) → k ≡ kind.Opened own → is_over old.state.phase ≡ true → P old → P (open_rows own old)
+  -- calls
+  pub adds : (c : ℕ) (id : Option Name) (spec : ChildSpec) (o : Outcome) → IsUnmoved old o → IsIdle (is_busy old) o → IsRunning o → is_some id ≡ not (is_simple o.state.flags.strategy) → nat_le 256 (length o.state.rows) ≡ false → BringsStart G old c o → P o → P (with_work [] (record { id = id; kept = None } ∷ []) (Some (after.Added c)) (with_rows (o.state.rows ++ new_row (free_slot o.state.rows) id spec ∷ []) o))
+  pub starts_again : (c : ℕ) (id : Name) (place : ℕ) (row : Row) (o : Outcome) → IsUnmoved old o → IsIdle (is_busy old) o → IsRunning o → StandsAt place row o → has_id id row ≡ true → row.state ≡ Undefined → P o → P (with_work [] (record { id = Some id; kept = None } ∷ []) (Some (after.Restarted c)) o)
+  pub removed : (place : ℕ) (row : Row) (o : Outcome) → IsUnmoved old o → IsIdle (is_busy old) o → IsRunning o → StandsAt place row o → is_down row.state ≡ true → P o → P (with_rows (remove o.state.rows place) o)
+  pub given_up : (place : ℕ) (row : Row) (o : Outcome) → IsUnmoved old o → IsIdle (is_busy old) o → IsRunning o → StandsAt place row o → is_down row.state ≡ true → P o → P (set_row place row Undefined o)
+  pub stops_child : (c p place : ℕ) (row : Row) (o : Outcome) → IsUnmoved old o → IsIdle (is_busy old) o → IsRunning o → StandsAt place row o → (is_awaited row.state ≡ true) ⊎ (row.state ≡ Up p) → P o → P (with_work (p ∷ []) [] (Some (after.Stopped c)) o)
+
+-- the same, for a property that needs less: the kind of the event, and whether work was open when it came
 pub record Survives (k : Kind) (b : Bool) (P : Outcome → Type 0) : Type 0 where
   pub answered : (c : ℕ) (r : Reply) (o : Outcome) → P o → P (answer c r o)
   pub taken : (x : Waiting) (xs : List Waiting) (o : Outcome) → IsIdle b o → IsRunning o → o.state.waiting ≡ x ∷ xs → P o → P (with_waiting xs o)
@@ -96,7 +134,7 @@ pub record Survives (k : Kind) (b : Bool) (P : Outcome → Type 0) : Type 0 wher
   pub ticks : (o : Outcome) → k ≡ kind.Ticked → P o → P (tick o)
   pub opens : (own : ℕ) (o : Outcome) → is_busy o ≡ b → is_over o.state.phase ≡ true → P o → P (open_rows own o)
   -- calls
-  pub adds : (c : ℕ) (id : Option Name) (spec : ChildSpec) (o : Outcome) → IsIdle b o → IsRunning o → is_some id ≡ not (is_simple o.state.flags.strategy) → P o → P (with_work [] (record { id = id; kept = None } ∷ []) (Some (after.Added c)) (with_rows (o.state.rows ++ new_row id spec ∷ []) o))
+  pub adds : (c : ℕ) (id : Option Name) (spec : ChildSpec) (o : Outcome) → IsIdle b o → IsRunning o → is_some id ≡ not (is_simple o.state.flags.strategy) → P o → P (with_work [] (record { id = id; kept = None } ∷ []) (Some (after.Added c)) (with_rows (o.state.rows ++ new_row (free_slot o.state.rows) id spec ∷ []) o))
   pub starts_again : (c : ℕ) (id : Name) (place : ℕ) (row : Row) (o : Outcome) → IsIdle b o → IsRunning o → StandsAt place row o → has_id id row ≡ true → row.state ≡ Undefined → P o → P (with_work [] (record { id = Some id; kept = None } ∷ []) (Some (after.Restarted c)) o)
   pub removed : (place : ℕ) (row : Row) (o : Outcome) → IsIdle b o → IsRunning o → StandsAt place row o → is_down row.state ≡ true → P o → P (with_rows (remove o.state.rows place) o)
   pub given_up : (place : ℕ) (row : Row) (o : Outcome) → IsIdle b o → IsRunning o → StandsAt place row o → is_down row.state ≡ true → P o → P (set_row place row Undefined o)
@@ -129,286 +167,339 @@ pub at_number-survives : (P : Outcome → Type 0) (p : ℕ) (f : ℕ → Row →
 unfolding at_number
 at_number-survives P p f o x h = at_row-survives P (row_has (has_process p)) o f o x x h
 
-after_end-survives : (k : Kind) (b : Bool) (P : Outcome → Type 0) → Survives k b P → (p : ℕ) (row : Row) (o : Outcome) → IsIdle b o → IsRunning o → P o → P (after_end p row o)
+after_end-survives : (k : Kind) (G : Item → Type 0) (old : Outcome) (P : Outcome → Type 0) → SurvivesEvent k G old P → (p : ℕ) (row : Row) (o : Outcome) → IsUnmoved old o → IsIdle (is_busy old) o → IsRunning o → P o → P (after_end p row o)
 unfolding after_end
-after_end-survives k b P s p row o idle runs x =
+after_end-survives k G old P s p row o u idle runs x =
     by_test P (ends_by_significance o.state.flags.auto_shutdown row o.state.rows) (terminate (ending.Significant p) o) o
-    (λ _. s.ends (ending.Significant p) o (λ k. cc) idle runs x) (λ _. x)
+    (λ _. s.ends (ending.Significant p) o u (λ e. cc) idle runs x) (λ _. x)
 
--- a row's end opens no work and ends no supervisor
+-- a row's end opens no work, ends no supervisor and gives no order
 abbrev end_of : ℕ → Row → Bool → Outcome → Outcome
 end_of place row b o = if b then with_rows (remove o.state.rows place) o else set_row place row Undefined o
 
-end_of-idle : (place : ℕ) (row : Row) (b : Bool) (o : Outcome) → is_busy (end_of place row b o) ≡ is_busy o
-end_of-idle place row true o = refl
-end_of-idle place row false o = refl
+end_of-unmoved : (place : ℕ) (row : Row) (b : Bool) (o : Outcome) → IsUnmoved o (end_of place row b o)
+end_of-unmoved place row true o = (refl, refl)
+end_of-unmoved place row false o = (refl, refl)
 
 end_of-over : (place : ℕ) (row : Row) (b : Bool) (o : Outcome) → is_over (end_of place row b o).state.phase ≡ is_over o.state.phase
 end_of-over place row true o = refl
 end_of-over place row false o = refl
 
+end_row-unmoved : (old : Outcome) (place : ℕ) (row : Row) (o : Outcome) → IsUnmoved old o → IsUnmoved old (end_row place row o)
+unfolding end_row
+end_row-unmoved old place row o u = let e : IsUnmoved o (end_of place row (is_removed row) o) = end_of-unmoved place row (is_removed row) o in (e.0 ∙ u.0, e.1 ∙ u.1)
+
 end_row-idle : (b : Bool) (place : ℕ) (row : Row) (o : Outcome) → IsIdle b o → IsIdle b (end_row place row o)
 unfolding end_row
-end_row-idle b place row o h = (h.0, end_of-idle place row (is_removed row) o ∙ h.1)
+end_row-idle b place row o h = (h.0, (end_of-unmoved place row (is_removed row) o).1 ∙ h.1)
 
 end_row-running : (place : ℕ) (row : Row) (o : Outcome) → IsRunning o → IsRunning (end_row place row o)
 unfolding end_row
 end_row-running place row o h = end_of-over place row (is_removed row) o ∙ h
 
-death-survives : (k : Kind) (b : Bool) (P : Outcome → Type 0) → Survives k b P → (p : ℕ) (r : Reason) (place : ℕ) (row : Row) (q : ℕ) (o : Outcome) → IsIdle b o → IsRunning o → StandsAt place row o → row.state ≡ Up q → (q == p) ≡ true → P o → P (death p r place row o)
+death-survives : (k : Kind) (G : Item → Type 0) (old : Outcome) (P : Outcome → Type 0) → SurvivesEvent k G old P → (p : ℕ) (r : Reason) (place : ℕ) (row : Row) (q : ℕ) (o : Outcome) → IsUnmoved old o → IsIdle (is_busy old) o → IsRunning o → StandsAt place row o → row.state ≡ Up q → (q == p) ≡ true → G (item.Note (note.Exit p r)) → P o → P (death p r place row o)
 unfolding death
-death-survives k b P s p r place row q o idle runs at is_up same x =
+death-survives k G old P s p r place row q o u idle runs at is_up same noted x =
     by_test P (is_restarted row.spec.restart r) (restart p place row o) (after_end p row (end_row place row o))
-    (λ _. s.restarts p place row o idle runs at (inl (is_up ∙ ap (λ (n : ℕ). Up n) (eqb-true q p same))) x)
-    (λ _. after_end-survives k b P s p row (end_row place row o) (end_row-idle b place row o idle) (end_row-running place row o runs) (s.died q place row o idle runs at is_up x))
+    (λ _. s.restarts p place row o u idle runs at (inl (is_up ∙ ap (λ (n : ℕ). Up n) (eqb-true q p same), (r, noted))) x)
+    (λ _. after_end-survives k G old P s p row (end_row place row o) (end_row-unmoved old place row o u) (end_row-idle (is_busy old) place row o idle) (end_row-running place row o runs) (s.died q place row o u idle runs at is_up (r, subst (λ (n : ℕ). G (item.Note (note.Exit n r))) (sym (eqb-true q p same)) noted) x))
 
-exit_in-survives : (k : Kind) (b : Bool) (P : Outcome → Type 0) → Survives k b P → (p : ℕ) (r : Reason) (place : ℕ) (row : Row) (state : RowState) (o : Outcome) → row.state ≡ state → has_process p state ≡ true → is_busy o ≡ b → IsRunning o → IsNoted k b (note.Exit p r) o → StandsAt place row o → P o → P (exit_in p r place row state o)
+exit_in-survives : (k : Kind) (G : Item → Type 0) (old : Outcome) (P : Outcome → Type 0) → SurvivesEvent k G old P → (p : ℕ) (r : Reason) (place : ℕ) (row : Row) (state : RowState) (o : Outcome) → IsUnmoved old o → row.state ≡ state → has_process p state ≡ true → IsRunning o → G (item.Note (note.Exit p r)) → StandsAt place row o → P o → P (exit_in p r place row state o)
 unfolding exit_in
-exit_in-survives k b P s p r place row Undefined o is h link runs noted at x = x
-exit_in-survives k b P s p r place row (Starting _ _) o is h link runs noted at x = s.exit_waits p r o noted x
-exit_in-survives k b P s p r place row (Up q) o is h link runs noted at x =
+exit_in-survives k G old P s p r place row Undefined o u is h runs noted at x = x
+exit_in-survives k G old P s p r place row (Starting _ _) o u is h runs noted at x = s.exit_waits p r o u noted x
+exit_in-survives k G old P s p r place row (Up q) o u is h runs noted at x =
     by_test P (is_busy o) (put_last (waiting.Item (item.Note (note.Exit p r))) o) (death p r place row o)
-    (λ _. s.exit_waits p r o noted x)
-    (λ idle. death-survives k b P s p r place row q o (sym link ∙ idle, idle) runs at is h x)
-exit_in-survives k b P s p r place row (Asked q d) o is h link runs noted at x = s.stopped p r place row o at (ap (λ (t : RowState). is_told p t) is ∙ h) noted x
-exit_in-survives k b P s p r place row (Killed q) o is h link runs noted at x = s.stopped p r place row o at (ap (λ (t : RowState). is_told p t) is ∙ h) noted x
-exit_in-survives k b P s p r place row (Restarting _) o is h link runs noted at x = x
+    (λ _. s.exit_waits p r o u noted x)
+    (λ idle. death-survives k G old P s p r place row q o u (sym u.1 ∙ idle, idle) runs at is h noted x)
+exit_in-survives k G old P s p r place row (Asked q d) o u is h runs noted at x = s.stopped p r place row o u at (ap (λ (t : RowState). is_told p t) is ∙ h) noted x
+exit_in-survives k G old P s p r place row (Killed q) o u is h runs noted at x = s.stopped p r place row o u at (ap (λ (t : RowState). is_told p t) is ∙ h) noted x
+exit_in-survives k G old P s p r place row (Restarting _) o u is h runs noted at x = x
 
-take_exit-survives : (k : Kind) (b : Bool) (P : Outcome → Type 0) → Survives k b P → (p : ℕ) (r : Reason) (o : Outcome) → is_busy o ≡ b → IsRunning o → IsNoted k b (note.Exit p r) o → P o → P (take_exit p r o)
+take_exit-survives : (k : Kind) (G : Item → Type 0) (old : Outcome) (P : Outcome → Type 0) → SurvivesEvent k G old P → (p : ℕ) (r : Reason) (o : Outcome) → IsUnmoved old o → IsRunning o → G (item.Note (note.Exit p r)) → P o → P (take_exit p r o)
 unfolding take_exit exit_at
-take_exit-survives k b P s p r o link runs noted x =
-    at_number-survives P p (exit_at p r) o x (λ place row at h. exit_in-survives k b P s p r place row row.state o refl h link runs noted at x)
+take_exit-survives k G old P s p r o u runs noted x =
+    at_number-survives P p (exit_at p r) o x (λ place row at h. exit_in-survives k G old P s p r place row row.state o u refl h runs noted at x)
 
-retry_in-survives : (k : Kind) (b : Bool) (P : Outcome → Type 0) → Survives k b P → (n place : ℕ) (row : Row) (state : RowState) (o : Outcome) → row.state ≡ state → awaits_retry n state ≡ true → IsIdle b o → IsRunning o → StandsAt place row o → P o → P (retry_in n place row state o)
+retry_in-survives : (k : Kind) (G : Item → Type 0) (old : Outcome) (P : Outcome → Type 0) → SurvivesEvent k G old P → (n place : ℕ) (row : Row) (state : RowState) (o : Outcome) → IsUnmoved old o → row.state ≡ state → awaits_retry n state ≡ true → IsIdle (is_busy old) o → IsRunning o → StandsAt place row o → P o → P (retry_in n place row state o)
 unfolding retry_in
-retry_in-survives k b P s n place row Undefined o is h idle runs at x = x
-retry_in-survives k b P s n place row (Starting _ _) o is h idle runs at x = x
-retry_in-survives k b P s n place row (Up _) o is h idle runs at x = x
-retry_in-survives k b P s n place row (Asked _ _) o is h idle runs at x = x
-retry_in-survives k b P s n place row (Killed _) o is h idle runs at x = x
-retry_in-survives k b P s n place row (Restarting q) o is h idle runs at x = s.restarts n place row o idle runs at (inr (is ∙ ap (λ (m : ℕ). Restarting m) (eqb-true q n h))) x
+retry_in-survives k G old P s n place row Undefined o u is h idle runs at x = x
+retry_in-survives k G old P s n place row (Starting _ _) o u is h idle runs at x = x
+retry_in-survives k G old P s n place row (Up _) o u is h idle runs at x = x
+retry_in-survives k G old P s n place row (Asked _ _) o u is h idle runs at x = x
+retry_in-survives k G old P s n place row (Killed _) o u is h idle runs at x = x
+retry_in-survives k G old P s n place row (Restarting q) o u is h idle runs at x = s.restarts n place row o u idle runs at (inr (is ∙ ap (λ (m : ℕ). Restarting m) (eqb-true q n h))) x
 
-retry-survives : (k : Kind) (b : Bool) (P : Outcome → Type 0) → Survives k b P → (n : ℕ) (o : Outcome) → IsIdle b o → IsRunning o → P o → P (retry n o)
+retry-survives : (k : Kind) (G : Item → Type 0) (old : Outcome) (P : Outcome → Type 0) → SurvivesEvent k G old P → (n : ℕ) (o : Outcome) → IsUnmoved old o → IsIdle (is_busy old) o → IsRunning o → P o → P (retry n o)
 unfolding retry retry_at
-retry-survives k b P s n o idle runs x = at_row-survives P (row_has (awaits_retry n)) o (retry_at n) o x x (λ place row at h. retry_in-survives k b P s n place row row.state o refl h idle runs at x)
+retry-survives k G old P s n o u idle runs x = at_row-survives P (row_has (awaits_retry n)) o (retry_at n) o x x (λ place row at h. retry_in-survives k G old P s n place row row.state o u refl h idle runs at x)
 
-up_after-survives : (k : Kind) (b : Bool) (P : Outcome → Type 0) → Survives k b P → (p place : ℕ) (row : Row) (q kept : ℕ) (f : Option After) (o : Outcome) → o.state.follows ≡ f → StandsAt place row o → row.state ≡ Starting q kept → (q == p) ≡ true → IsNoted k b (note.Up p) o → P o → P (up_after p f (set_row place row (Up p) o))
+up_after-survives : (k : Kind) (G : Item → Type 0) (old : Outcome) (P : Outcome → Type 0) → SurvivesEvent k G old P → (p place : ℕ) (row : Row) (q kept : ℕ) (f : Option After) (o : Outcome) → IsUnmoved old o → o.state.follows ≡ f → StandsAt place row o → row.state ≡ Starting q kept → (q == p) ≡ true → G (item.Note (note.Up p)) → P o → P (up_after p f (set_row place row (Up p) o))
 unfolding up_after
-up_after-survives k b P s p place row q kept None o is at starts same noted x = s.up p place row q kept o at starts same noted x
-up_after-survives k b P s p place row q kept (Some after.Ready) o is at starts same noted x = s.up p place row q kept o at starts same noted x
-up_after-survives k b P s p place row q kept (Some after.Nothing) o is at starts same noted x = s.up p place row q kept o at starts same noted x
-up_after-survives k b P s p place row q kept (Some (after.Added c)) o is at starts same noted x =
-    s.answered c (reply.OkProcess p) (closed (set_row place row (Up p) o)) (s.up_closed p place row q kept c o at starts same (inl is) x)
-up_after-survives k b P s p place row q kept (Some (after.Restarted c)) o is at starts same noted x =
-    s.answered c (reply.OkProcess p) (closed (set_row place row (Up p) o)) (s.up_closed p place row q kept c o at starts same (inr is) x)
-up_after-survives k b P s p place row q kept (Some (after.Stopped _)) o is at starts same noted x = s.up p place row q kept o at starts same noted x
-up_after-survives k b P s p place row q kept (Some (after.End _)) o is at starts same noted x = s.up p place row q kept o at starts same noted x
+up_after-survives k G old P s p place row q kept None o u is at starts same noted x = s.up p place row q kept o u at starts same noted x
+up_after-survives k G old P s p place row q kept (Some after.Ready) o u is at starts same noted x = s.up p place row q kept o u at starts same noted x
+up_after-survives k G old P s p place row q kept (Some after.Nothing) o u is at starts same noted x = s.up p place row q kept o u at starts same noted x
+up_after-survives k G old P s p place row q kept (Some (after.Added c)) o u is at starts same noted x =
+    s.answered c (reply.OkProcess p) (closed (set_row place row (Up p) o)) (s.up_closed p place row q kept c o u at starts same (inl is) noted x)
+up_after-survives k G old P s p place row q kept (Some (after.Restarted c)) o u is at starts same noted x =
+    s.answered c (reply.OkProcess p) (closed (set_row place row (Up p) o)) (s.up_closed p place row q kept c o u at starts same (inr is) noted x)
+up_after-survives k G old P s p place row q kept (Some (after.Stopped _)) o u is at starts same noted x = s.up p place row q kept o u at starts same noted x
+up_after-survives k G old P s p place row q kept (Some (after.End _)) o u is at starts same noted x = s.up p place row q kept o u at starts same noted x
 
-up_in-survives : (k : Kind) (b : Bool) (P : Outcome → Type 0) → Survives k b P → (p place : ℕ) (row : Row) (state : RowState) (o : Outcome) → row.state ≡ state → has_process p state ≡ true → IsNoted k b (note.Up p) o → StandsAt place row o → P o → P (up_in p place row state o)
+up_in-survives : (k : Kind) (G : Item → Type 0) (old : Outcome) (P : Outcome → Type 0) → SurvivesEvent k G old P → (p place : ℕ) (row : Row) (state : RowState) (o : Outcome) → IsUnmoved old o → row.state ≡ state → has_process p state ≡ true → G (item.Note (note.Up p)) → StandsAt place row o → P o → P (up_in p place row state o)
 unfolding up_in
-up_in-survives k b P s p place row Undefined o is h noted at x = x
-up_in-survives k b P s p place row (Starting q kept) o is h noted at x = up_after-survives k b P s p place row q kept o.state.follows o refl at is h noted x
-up_in-survives k b P s p place row (Up _) o is h noted at x = x
-up_in-survives k b P s p place row (Asked _ _) o is h noted at x = x
-up_in-survives k b P s p place row (Killed _) o is h noted at x = x
-up_in-survives k b P s p place row (Restarting _) o is h noted at x = x
+up_in-survives k G old P s p place row Undefined o u is h noted at x = x
+up_in-survives k G old P s p place row (Starting q kept) o u is h noted at x = up_after-survives k G old P s p place row q kept o.state.follows o u refl at is h noted x
+up_in-survives k G old P s p place row (Up _) o u is h noted at x = x
+up_in-survives k G old P s p place row (Asked _ _) o u is h noted at x = x
+up_in-survives k G old P s p place row (Killed _) o u is h noted at x = x
+up_in-survives k G old P s p place row (Restarting _) o u is h noted at x = x
 
-take_up-survives : (k : Kind) (b : Bool) (P : Outcome → Type 0) → Survives k b P → (p : ℕ) (o : Outcome) → IsNoted k b (note.Up p) o → P o → P (take_up p o)
+take_up-survives : (k : Kind) (G : Item → Type 0) (old : Outcome) (P : Outcome → Type 0) → SurvivesEvent k G old P → (p : ℕ) (o : Outcome) → IsUnmoved old o → G (item.Note (note.Up p)) → P o → P (take_up p o)
 unfolding take_up up_at
-take_up-survives k b P s p o noted x = at_number-survives P p (up_at p) o x (λ place row at h. up_in-survives k b P s p place row row.state o refl h noted at x)
+take_up-survives k G old P s p o u noted x = at_number-survives P p (up_at p) o x (λ place row at h. up_in-survives k G old P s p place row row.state o u refl h noted at x)
 
-ignored_in-survives : (k : Kind) (b : Bool) (P : Outcome → Type 0) → Survives k b P → (p place : ℕ) (row : Row) (state : RowState) (o : Outcome) → row.state ≡ state → has_process p state ≡ true → IsNoted k b (note.Ignored p) o → StandsAt place row o → P o → P (ignored_in place row state o)
+ignored_in-survives : (k : Kind) (G : Item → Type 0) (old : Outcome) (P : Outcome → Type 0) → SurvivesEvent k G old P → (p place : ℕ) (row : Row) (state : RowState) (o : Outcome) → IsUnmoved old o → row.state ≡ state → has_process p state ≡ true → G (item.Note (note.Ignored p)) → StandsAt place row o → P o → P (ignored_in place row state o)
 unfolding ignored_in
-ignored_in-survives k b P s p place row Undefined o is h noted at x = x
-ignored_in-survives k b P s p place row (Starting q kept) o is h noted at x = s.ignored p place row q kept o at is h noted x
-ignored_in-survives k b P s p place row (Up _) o is h noted at x = x
-ignored_in-survives k b P s p place row (Asked _ _) o is h noted at x = x
-ignored_in-survives k b P s p place row (Killed _) o is h noted at x = x
-ignored_in-survives k b P s p place row (Restarting _) o is h noted at x = x
+ignored_in-survives k G old P s p place row Undefined o u is h noted at x = x
+ignored_in-survives k G old P s p place row (Starting q kept) o u is h noted at x = s.ignored p place row q kept o u at is h noted x
+ignored_in-survives k G old P s p place row (Up _) o u is h noted at x = x
+ignored_in-survives k G old P s p place row (Asked _ _) o u is h noted at x = x
+ignored_in-survives k G old P s p place row (Killed _) o u is h noted at x = x
+ignored_in-survives k G old P s p place row (Restarting _) o u is h noted at x = x
 
-take_ignored-survives : (k : Kind) (b : Bool) (P : Outcome → Type 0) → Survives k b P → (p : ℕ) (o : Outcome) → IsNoted k b (note.Ignored p) o → P o → P (take_ignored p o)
+take_ignored-survives : (k : Kind) (G : Item → Type 0) (old : Outcome) (P : Outcome → Type 0) → SurvivesEvent k G old P → (p : ℕ) (o : Outcome) → IsUnmoved old o → G (item.Note (note.Ignored p)) → P o → P (take_ignored p o)
 unfolding take_ignored ignored_at
-take_ignored-survives k b P s p o noted x = at_number-survives P p ignored_at o x (λ place row at h. ignored_in-survives k b P s p place row row.state o refl h noted at x)
+take_ignored-survives k G old P s p o u noted x = at_number-survives P p ignored_at o x (λ place row at h. ignored_in-survives k G old P s p place row row.state o u refl h noted at x)
 
-failed_after-survives : (k : Kind) (b : Bool) (P : Outcome → Type 0) → Survives k b P → (r : Reason) (kept place : ℕ) (row : Row) (q : ℕ) (f : Option After) (o : Outcome) → o.state.follows ≡ f → IsRunning o → StandsAt place row o → row.state ≡ Starting q kept → P o → P (failed_after r kept place row f o)
+failed_after-survives : (k : Kind) (G : Item → Type 0) (old : Outcome) (P : Outcome → Type 0) → SurvivesEvent k G old P → (r : Reason) (kept place : ℕ) (row : Row) (q : ℕ) (f : Option After) (o : Outcome) → IsUnmoved old o → o.state.follows ≡ f → IsRunning o → StandsAt place row o → row.state ≡ Starting q kept → BringsFailure G q → P o → P (failed_after r kept place row f o)
 unfolding failed_after
-failed_after-survives k b P s r kept place row q None o is runs at starts x = x
-failed_after-survives k b P s r kept place row q (Some after.Ready) o is runs at starts x = s.opening_failed place row q kept o runs at starts is x
-failed_after-survives k b P s r kept place row q (Some after.Nothing) o is runs at starts x = s.restart_failed place row q kept o at starts is x
-failed_after-survives k b P s r kept place row q (Some (after.Added c)) o is runs at starts x =
-    s.answered c (reply.Refused (fault.Start r)) (closed (with_rows (remove o.state.rows place) o)) (s.added_failed place row q kept c o at starts is x)
-failed_after-survives k b P s r kept place row q (Some (after.Restarted c)) o is runs at starts x =
-    s.answered c (reply.Refused (fault.Start r)) (closed (set_row place row Undefined o)) (s.restarted_failed place row q kept c o at starts is x)
-failed_after-survives k b P s r kept place row q (Some (after.Stopped _)) o is runs at starts x = x
-failed_after-survives k b P s r kept place row q (Some (after.End _)) o is runs at starts x = x
+failed_after-survives k G old P s r kept place row q None o u is runs at starts noted x = x
+failed_after-survives k G old P s r kept place row q (Some after.Ready) o u is runs at starts noted x = s.opening_failed place row q kept o u runs at starts is noted x
+failed_after-survives k G old P s r kept place row q (Some after.Nothing) o u is runs at starts noted x = s.restart_failed place row q kept o u at starts is noted x
+failed_after-survives k G old P s r kept place row q (Some (after.Added c)) o u is runs at starts noted x =
+    s.answered c (reply.Refused (fault.Start r)) (closed (with_rows (remove o.state.rows place) o)) (s.added_failed place row q kept c o u at starts is noted x)
+failed_after-survives k G old P s r kept place row q (Some (after.Restarted c)) o u is runs at starts noted x =
+    s.answered c (reply.Refused (fault.Start r)) (closed (set_row place row Undefined o)) (s.restarted_failed place row q kept c o u at starts is noted x)
+failed_after-survives k G old P s r kept place row q (Some (after.Stopped _)) o u is runs at starts noted x = x
+failed_after-survives k G old P s r kept place row q (Some (after.End _)) o u is runs at starts noted x = x
 
-failed_in-survives : (k : Kind) (b : Bool) (P : Outcome → Type 0) → Survives k b P → (r : Reason) (place : ℕ) (row : Row) (state : RowState) (o : Outcome) → row.state ≡ state → IsRunning o → StandsAt place row o → P o → P (failed_in r place row state o)
+failed_in-survives : (k : Kind) (G : Item → Type 0) (old : Outcome) (P : Outcome → Type 0) → SurvivesEvent k G old P → (p : ℕ) (r : Reason) (place : ℕ) (row : Row) (state : RowState) (o : Outcome) → IsUnmoved old o → row.state ≡ state → has_process p state ≡ true → G (item.Note (note.Failed p r)) → IsRunning o → StandsAt place row o → P o → P (failed_in r place row state o)
 unfolding failed_in
-failed_in-survives k b P s r place row Undefined o is runs at x = x
-failed_in-survives k b P s r place row (Starting q kept) o is runs at x = failed_after-survives k b P s r kept place row q o.state.follows o refl runs at is x
-failed_in-survives k b P s r place row (Up _) o is runs at x = x
-failed_in-survives k b P s r place row (Asked _ _) o is runs at x = x
-failed_in-survives k b P s r place row (Killed _) o is runs at x = x
-failed_in-survives k b P s r place row (Restarting _) o is runs at x = x
+failed_in-survives k G old P s p r place row Undefined o u is h noted runs at x = x
+failed_in-survives k G old P s p r place row (Starting q kept) o u is h noted runs at x = failed_after-survives k G old P s r kept place row q o.state.follows o u refl runs at is (r, subst (λ (n : ℕ). G (item.Note (note.Failed n r))) (sym (eqb-true q p h)) noted) x
+failed_in-survives k G old P s p r place row (Up _) o u is h noted runs at x = x
+failed_in-survives k G old P s p r place row (Asked _ _) o u is h noted runs at x = x
+failed_in-survives k G old P s p r place row (Killed _) o u is h noted runs at x = x
+failed_in-survives k G old P s p r place row (Restarting _) o u is h noted runs at x = x
 
-take_failed-survives : (k : Kind) (b : Bool) (P : Outcome → Type 0) → Survives k b P → (p : ℕ) (r : Reason) (o : Outcome) → IsRunning o → P o → P (take_failed p r o)
+take_failed-survives : (k : Kind) (G : Item → Type 0) (old : Outcome) (P : Outcome → Type 0) → SurvivesEvent k G old P → (p : ℕ) (r : Reason) (o : Outcome) → IsUnmoved old o → G (item.Note (note.Failed p r)) → IsRunning o → P o → P (take_failed p r o)
 unfolding take_failed failed_at
-take_failed-survives k b P s p r o runs x = at_number-survives P p (failed_at r) o x (λ place row at h. failed_in-survives k b P s r place row row.state o refl runs at x)
+take_failed-survives k G old P s p r o u noted runs x = at_number-survives P p (failed_at r) o x (λ place row at h. failed_in-survives k G old P s p r place row row.state o u refl h noted runs at x)
 
-take_note-survives : (k : Kind) (b : Bool) (P : Outcome → Type 0) → Survives k b P → (n : Note) (o : Outcome) → is_busy o ≡ b → IsRunning o → IsNoted k b n o → P o → P (take_note n o)
+take_note-survives : (k : Kind) (G : Item → Type 0) (old : Outcome) (P : Outcome → Type 0) → SurvivesEvent k G old P → (n : Note) (o : Outcome) → IsUnmoved old o → IsRunning o → G (item.Note n) → P o → P (take_note n o)
 unfolding take_note
-take_note-survives k b P s (note.Up p) o link runs noted x = take_up-survives k b P s p o noted x
-take_note-survives k b P s (note.Ignored p) o link runs noted x = take_ignored-survives k b P s p o noted x
-take_note-survives k b P s (note.Failed p r) o link runs noted x = take_failed-survives k b P s p r o runs x
-take_note-survives k b P s (note.Exit p r) o link runs noted x = take_exit-survives k b P s p r o link runs noted x
+take_note-survives k G old P s (note.Up p) o u runs noted x = take_up-survives k G old P s p o u noted x
+take_note-survives k G old P s (note.Ignored p) o u runs noted x = take_ignored-survives k G old P s p o u noted x
+take_note-survives k G old P s (note.Failed p r) o u runs noted x = take_failed-survives k G old P s p r o u noted runs x
+take_note-survives k G old P s (note.Exit p r) o u runs noted x = take_exit-survives k G old P s p r o u runs noted x
 
-add_child-survives : (k : Kind) (b : Bool) (P : Outcome → Type 0) → Survives k b P → (c : ℕ) (id : Option Name) (spec : ChildSpec) (o : Outcome) → IsIdle b o → IsRunning o → is_some id ≡ not (is_simple o.state.flags.strategy) → P o → P (add_child c id spec o)
+add_child-survives : (k : Kind) (G : Item → Type 0) (old : Outcome) (P : Outcome → Type 0) → SurvivesEvent k G old P → (c : ℕ) (id : Option Name) (spec : ChildSpec) (o : Outcome) → IsUnmoved old o → IsIdle (is_busy old) o → IsRunning o → is_some id ≡ not (is_simple o.state.flags.strategy) → BringsStart G old c o → P o → P (add_child c id spec o)
 unfolding add_child
-add_child-survives k b P s c id spec o idle runs named x =
-    by_test P (nat_le 256 (length o.state.rows)) _ _ (λ _. s.answered c (reply.Refused fault.TooManyChildren) o x) (λ _. s.adds c id spec o idle runs named x)
+add_child-survives k G old P s c id spec o u idle runs named got x =
+    by_test P (nat_le 256 (length o.state.rows)) _ _ (λ _. s.answered c (reply.Refused fault.TooManyChildren) o x) (λ few. s.adds c id spec o u idle runs named few got x)
 
-start_lawful-survives : (k : Kind) (b : Bool) (P : Outcome → Type 0) → Survives k b P → (c : ℕ) (spec : ChildSpec) (o : Outcome) → IsIdle b o → IsRunning o → is_simple o.state.flags.strategy ≡ false → P o → P (start_lawful c spec o)
+start_lawful-survives : (k : Kind) (G : Item → Type 0) (old : Outcome) (P : Outcome → Type 0) → SurvivesEvent k G old P → (c : ℕ) (spec : ChildSpec) (o : Outcome) → IsUnmoved old o → IsIdle (is_busy old) o → IsRunning o → is_simple o.state.flags.strategy ≡ false → BringsStart G old c o → P o → P (start_lawful c spec o)
 unfolding start_lawful already_at
-start_lawful-survives k b P s c spec o idle runs plain x =
+start_lawful-survives k G old P s c spec o u idle runs plain got x =
     at_row-survives P (has_id spec.id) (add_child c (Some spec.id) spec o) (already_at c) o
-    (add_child-survives k b P s c (Some spec.id) spec o idle runs (sym (ap not plain)) x) x
+    (add_child-survives k G old P s c (Some spec.id) spec o u idle runs (sym (ap not plain)) got x) x
     (λ place row at h. s.answered c (reply.Refused (already row.state)) o x)
 
-start_checked-survives : (k : Kind) (b : Bool) (P : Outcome → Type 0) → Survives k b P → (c : ℕ) (spec : ChildSpec) (why : Option SpecFault) (o : Outcome) → IsIdle b o → IsRunning o → is_simple o.state.flags.strategy ≡ false → P o → P (start_checked c spec why o)
+start_checked-survives : (k : Kind) (G : Item → Type 0) (old : Outcome) (P : Outcome → Type 0) → SurvivesEvent k G old P → (c : ℕ) (spec : ChildSpec) (why : Option SpecFault) (o : Outcome) → IsUnmoved old o → IsIdle (is_busy old) o → IsRunning o → is_simple o.state.flags.strategy ≡ false → BringsStart G old c o → P o → P (start_checked c spec why o)
 unfolding start_checked
-start_checked-survives k b P s c spec None o idle runs plain x = start_lawful-survives k b P s c spec o idle runs plain x
-start_checked-survives k b P s c spec (Some why) o idle runs plain x = s.answered c (reply.Refused (fault.BadSpec why)) o x
+start_checked-survives k G old P s c spec None o u idle runs plain got x = start_lawful-survives k G old P s c spec o u idle runs plain got x
+start_checked-survives k G old P s c spec (Some why) o u idle runs plain got x = s.answered c (reply.Refused (fault.BadSpec why)) o x
 
-start_child-survives : (k : Kind) (b : Bool) (P : Outcome → Type 0) → Survives k b P → (c : ℕ) (spec : ChildSpec) (o : Outcome) → IsIdle b o → IsRunning o → P o → P (start_child c spec o)
+start_child-survives : (k : Kind) (G : Item → Type 0) (old : Outcome) (P : Outcome → Type 0) → SurvivesEvent k G old P → (c : ℕ) (spec : ChildSpec) (o : Outcome) → IsUnmoved old o → IsIdle (is_busy old) o → IsRunning o → BringsStart G old c o → P o → P (start_child c spec o)
 unfolding start_child
-start_child-survives k b P s c spec o idle runs x =
+start_child-survives k G old P s c spec o u idle runs got x =
     by_test P (is_simple o.state.flags.strategy) _ _ (λ _. s.answered c (reply.Refused fault.SimpleOneForOne) o x)
-    (λ plain. start_checked-survives k b P s c spec (first_fault (spec ∷ []) (Some o.state.flags.auto_shutdown)) o idle runs plain x)
+    (λ plain. start_checked-survives k G old P s c spec (first_fault (spec ∷ []) (Some o.state.flags.auto_shutdown)) o u idle runs plain got x)
 
-start_shared-survives : (k : Kind) (b : Bool) (P : Outcome → Type 0) → Survives k b P → (c : ℕ) (spec : Option ChildSpec) (o : Outcome) → IsIdle b o → IsRunning o → is_simple o.state.flags.strategy ≡ true → P o → P (start_shared c spec o)
+start_shared-survives : (k : Kind) (G : Item → Type 0) (old : Outcome) (P : Outcome → Type 0) → SurvivesEvent k G old P → (c : ℕ) (spec : Option ChildSpec) (o : Outcome) → IsUnmoved old o → IsIdle (is_busy old) o → IsRunning o → is_simple o.state.flags.strategy ≡ true → BringsStart G old c o → P o → P (start_shared c spec o)
 unfolding start_shared
-start_shared-survives k b P s c None o idle runs simple x = s.answered c (reply.Refused fault.NotSimple) o x
-start_shared-survives k b P s c (Some spec) o idle runs simple x = add_child-survives k b P s c None spec o idle runs (sym (ap not simple)) x
+start_shared-survives k G old P s c None o u idle runs simple got x = s.answered c (reply.Refused fault.NotSimple) o x
+start_shared-survives k G old P s c (Some spec) o u idle runs simple got x = add_child-survives k G old P s c None spec o u idle runs (sym (ap not simple)) got x
 
-start_dynamic-survives : (k : Kind) (b : Bool) (P : Outcome → Type 0) → Survives k b P → (c : ℕ) (o : Outcome) → IsIdle b o → IsRunning o → P o → P (start_dynamic c o)
+start_dynamic-survives : (k : Kind) (G : Item → Type 0) (old : Outcome) (P : Outcome → Type 0) → SurvivesEvent k G old P → (c : ℕ) (o : Outcome) → IsUnmoved old o → IsIdle (is_busy old) o → IsRunning o → BringsStart G old c o → P o → P (start_dynamic c o)
 unfolding start_dynamic
-start_dynamic-survives k b P s c o idle runs x =
+start_dynamic-survives k G old P s c o u idle runs got x =
     by_test P (is_simple o.state.flags.strategy) _ _
-    (λ simple. start_shared-survives k b P s c (slice_get o.state.specs 0) o idle runs simple x)
+    (λ simple. start_shared-survives k G old P s c (slice_get o.state.specs 0) o u idle runs simple got x)
     (λ _. s.answered c (reply.Refused fault.NotSimple) o x)
 
-restart_child_in-survives : (k : Kind) (b : Bool) (P : Outcome → Type 0) → Survives k b P → (c : ℕ) (id : Name) (place : ℕ) (row : Row) (state : RowState) (o : Outcome) → row.state ≡ state → has_id id row ≡ true → IsIdle b o → IsRunning o → StandsAt place row o → P o → P (restart_child_in c id state o)
+restart_child_in-survives : (k : Kind) (G : Item → Type 0) (old : Outcome) (P : Outcome → Type 0) → SurvivesEvent k G old P → (c : ℕ) (id : Name) (place : ℕ) (row : Row) (state : RowState) (o : Outcome) → IsUnmoved old o → row.state ≡ state → has_id id row ≡ true → IsIdle (is_busy old) o → IsRunning o → StandsAt place row o → P o → P (restart_child_in c id state o)
 unfolding restart_child_in
-restart_child_in-survives k b P s c id place row Undefined o is h idle runs at x = s.starts_again c id place row o idle runs at h is x
-restart_child_in-survives k b P s c id place row (Starting _ _) o is h idle runs at x = s.answered c (reply.Refused fault.Running) o x
-restart_child_in-survives k b P s c id place row (Up _) o is h idle runs at x = s.answered c (reply.Refused fault.Running) o x
-restart_child_in-survives k b P s c id place row (Asked _ _) o is h idle runs at x = s.answered c (reply.Refused fault.Running) o x
-restart_child_in-survives k b P s c id place row (Killed _) o is h idle runs at x = s.answered c (reply.Refused fault.Running) o x
-restart_child_in-survives k b P s c id place row (Restarting _) o is h idle runs at x = s.answered c (reply.Refused fault.Restarting) o x
+restart_child_in-survives k G old P s c id place row Undefined o u is h idle runs at x = s.starts_again c id place row o u idle runs at h is x
+restart_child_in-survives k G old P s c id place row (Starting _ _) o u is h idle runs at x = s.answered c (reply.Refused fault.Running) o x
+restart_child_in-survives k G old P s c id place row (Up _) o u is h idle runs at x = s.answered c (reply.Refused fault.Running) o x
+restart_child_in-survives k G old P s c id place row (Asked _ _) o u is h idle runs at x = s.answered c (reply.Refused fault.Running) o x
+restart_child_in-survives k G old P s c id place row (Killed _) o u is h idle runs at x = s.answered c (reply.Refused fault.Running) o x
+restart_child_in-survives k G old P s c id place row (Restarting _) o u is h idle runs at x = s.answered c (reply.Refused fault.Restarting) o x
 
-delete_child_in-survives : (k : Kind) (b : Bool) (P : Outcome → Type 0) → Survives k b P → (c place : ℕ) (row : Row) (state : RowState) (o : Outcome) → row.state ≡ state → IsIdle b o → IsRunning o → StandsAt place row o → P o → P (delete_child_in c place state o)
+delete_child_in-survives : (k : Kind) (G : Item → Type 0) (old : Outcome) (P : Outcome → Type 0) → SurvivesEvent k G old P → (c place : ℕ) (row : Row) (state : RowState) (o : Outcome) → IsUnmoved old o → row.state ≡ state → IsIdle (is_busy old) o → IsRunning o → StandsAt place row o → P o → P (delete_child_in c place state o)
 unfolding delete_child_in
-delete_child_in-survives k b P s c place row Undefined o is idle runs at x =
-    s.answered c reply.Ok (with_rows (remove o.state.rows place) o) (s.removed place row o idle runs at (ap (λ (t : RowState). is_down t) is) x)
-delete_child_in-survives k b P s c place row (Starting _ _) o is idle runs at x = s.answered c (reply.Refused fault.Running) o x
-delete_child_in-survives k b P s c place row (Up _) o is idle runs at x = s.answered c (reply.Refused fault.Running) o x
-delete_child_in-survives k b P s c place row (Asked _ _) o is idle runs at x = s.answered c (reply.Refused fault.Running) o x
-delete_child_in-survives k b P s c place row (Killed _) o is idle runs at x = s.answered c (reply.Refused fault.Running) o x
-delete_child_in-survives k b P s c place row (Restarting _) o is idle runs at x = s.answered c (reply.Refused fault.Restarting) o x
+delete_child_in-survives k G old P s c place row Undefined o u is idle runs at x =
+    s.answered c reply.Ok (with_rows (remove o.state.rows place) o) (s.removed place row o u idle runs at (ap (λ (t : RowState). is_down t) is) x)
+delete_child_in-survives k G old P s c place row (Starting _ _) o u is idle runs at x = s.answered c (reply.Refused fault.Running) o x
+delete_child_in-survives k G old P s c place row (Up _) o u is idle runs at x = s.answered c (reply.Refused fault.Running) o x
+delete_child_in-survives k G old P s c place row (Asked _ _) o u is idle runs at x = s.answered c (reply.Refused fault.Running) o x
+delete_child_in-survives k G old P s c place row (Killed _) o u is idle runs at x = s.answered c (reply.Refused fault.Running) o x
+delete_child_in-survives k G old P s c place row (Restarting _) o u is idle runs at x = s.answered c (reply.Refused fault.Restarting) o x
 
-terminate_child_in-survives : (k : Kind) (b : Bool) (P : Outcome → Type 0) → Survives k b P → (c place : ℕ) (row : Row) (state : RowState) (o : Outcome) → row.state ≡ state → IsIdle b o → IsRunning o → StandsAt place row o → P o → P (terminate_child_in c place row state o)
+terminate_child_in-survives : (k : Kind) (G : Item → Type 0) (old : Outcome) (P : Outcome → Type 0) → SurvivesEvent k G old P → (c place : ℕ) (row : Row) (state : RowState) (o : Outcome) → IsUnmoved old o → row.state ≡ state → IsIdle (is_busy old) o → IsRunning o → StandsAt place row o → P o → P (terminate_child_in c place row state o)
 unfolding terminate_child_in stop_process
-terminate_child_in-survives k b P s c place row Undefined o is idle runs at x = s.answered c reply.Ok o x
-terminate_child_in-survives k b P s c place row (Starting p _) o is idle runs at x = s.stops_child c p place row o idle runs at (inl (ap (λ (t : RowState). is_awaited t) is)) x
-terminate_child_in-survives k b P s c place row (Up p) o is idle runs at x = s.stops_child c p place row o idle runs at (inr is) x
-terminate_child_in-survives k b P s c place row (Asked p _) o is idle runs at x = s.stops_child c p place row o idle runs at (inl (ap (λ (t : RowState). is_awaited t) is)) x
-terminate_child_in-survives k b P s c place row (Killed p) o is idle runs at x = s.stops_child c p place row o idle runs at (inl (ap (λ (t : RowState). is_awaited t) is)) x
-terminate_child_in-survives k b P s c place row (Restarting _) o is idle runs at x =
-    s.answered c reply.Ok (set_row place row Undefined o) (s.given_up place row o idle runs at (ap (λ (t : RowState). is_down t) is) x)
+terminate_child_in-survives k G old P s c place row Undefined o u is idle runs at x = s.answered c reply.Ok o x
+terminate_child_in-survives k G old P s c place row (Starting p _) o u is idle runs at x = s.stops_child c p place row o u idle runs at (inl (ap (λ (t : RowState). is_awaited t) is)) x
+terminate_child_in-survives k G old P s c place row (Up p) o u is idle runs at x = s.stops_child c p place row o u idle runs at (inr is) x
+terminate_child_in-survives k G old P s c place row (Asked p _) o u is idle runs at x = s.stops_child c p place row o u idle runs at (inl (ap (λ (t : RowState). is_awaited t) is)) x
+terminate_child_in-survives k G old P s c place row (Killed p) o u is idle runs at x = s.stops_child c p place row o u idle runs at (inl (ap (λ (t : RowState). is_awaited t) is)) x
+terminate_child_in-survives k G old P s c place row (Restarting _) o u is idle runs at x =
+    s.answered c reply.Ok (set_row place row Undefined o) (s.given_up place row o u idle runs at (ap (λ (t : RowState). is_down t) is) x)
 
-terminate_process_in-survives : (k : Kind) (b : Bool) (P : Outcome → Type 0) → Survives k b P → (c place : ℕ) (row : Row) (state : RowState) (o : Outcome) → row.state ≡ state → IsIdle b o → IsRunning o → StandsAt place row o → P o → P (terminate_process_in c place state o)
+terminate_process_in-survives : (k : Kind) (G : Item → Type 0) (old : Outcome) (P : Outcome → Type 0) → SurvivesEvent k G old P → (c place : ℕ) (row : Row) (state : RowState) (o : Outcome) → IsUnmoved old o → row.state ≡ state → IsIdle (is_busy old) o → IsRunning o → StandsAt place row o → P o → P (terminate_process_in c place state o)
 unfolding terminate_process_in stop_process
-terminate_process_in-survives k b P s c place row Undefined o is idle runs at x = s.answered c (reply.Refused fault.NotFound) o x
-terminate_process_in-survives k b P s c place row (Starting p _) o is idle runs at x = s.stops_child c p place row o idle runs at (inl (ap (λ (t : RowState). is_awaited t) is)) x
-terminate_process_in-survives k b P s c place row (Up p) o is idle runs at x = s.stops_child c p place row o idle runs at (inr is) x
-terminate_process_in-survives k b P s c place row (Asked p _) o is idle runs at x = s.stops_child c p place row o idle runs at (inl (ap (λ (t : RowState). is_awaited t) is)) x
-terminate_process_in-survives k b P s c place row (Killed p) o is idle runs at x = s.stops_child c p place row o idle runs at (inl (ap (λ (t : RowState). is_awaited t) is)) x
-terminate_process_in-survives k b P s c place row (Restarting _) o is idle runs at x =
-    s.answered c reply.Ok (with_rows (remove o.state.rows place) o) (s.removed place row o idle runs at (ap (λ (t : RowState). is_down t) is) x)
+terminate_process_in-survives k G old P s c place row Undefined o u is idle runs at x = s.answered c (reply.Refused fault.NotFound) o x
+terminate_process_in-survives k G old P s c place row (Starting p _) o u is idle runs at x = s.stops_child c p place row o u idle runs at (inl (ap (λ (t : RowState). is_awaited t) is)) x
+terminate_process_in-survives k G old P s c place row (Up p) o u is idle runs at x = s.stops_child c p place row o u idle runs at (inr is) x
+terminate_process_in-survives k G old P s c place row (Asked p _) o u is idle runs at x = s.stops_child c p place row o u idle runs at (inl (ap (λ (t : RowState). is_awaited t) is)) x
+terminate_process_in-survives k G old P s c place row (Killed p) o u is idle runs at x = s.stops_child c p place row o u idle runs at (inl (ap (λ (t : RowState). is_awaited t) is)) x
+terminate_process_in-survives k G old P s c place row (Restarting _) o u is idle runs at x =
+    s.answered c reply.Ok (with_rows (remove o.state.rows place) o) (s.removed place row o u idle runs at (ap (λ (t : RowState). is_down t) is) x)
 
-at_child-survives : (k : Kind) (b : Bool) (P : Outcome → Type 0) → Survives k b P → (c : ℕ) (id : Name) (f : ℕ → Row → Outcome → Outcome) (o : Outcome) → P o → AtPassing P (has_id id) f o → P (at_child c id f o)
+at_child-survives : (k : Kind) (G : Item → Type 0) (old : Outcome) (P : Outcome → Type 0) → SurvivesEvent k G old P → (c : ℕ) (id : Name) (f : ℕ → Row → Outcome → Outcome) (o : Outcome) → P o → AtPassing P (has_id id) f o → P (at_child c id f o)
 unfolding at_child
-at_child-survives k b P s c id f o x h =
+at_child-survives k G old P s c id f o x h =
     by_test P (is_simple o.state.flags.strategy) _ _ (λ _. s.answered c (reply.Refused fault.SimpleOneForOne) o x)
     (λ _. at_row-survives P (has_id id) _ f o (s.answered c (reply.Refused fault.NotFound) o x) x h)
 
-terminate_process-survives : (k : Kind) (b : Bool) (P : Outcome → Type 0) → Survives k b P → (c p : ℕ) (o : Outcome) → IsIdle b o → IsRunning o → P o → P (terminate_process c p o)
+terminate_process-survives : (k : Kind) (G : Item → Type 0) (old : Outcome) (P : Outcome → Type 0) → SurvivesEvent k G old P → (c p : ℕ) (o : Outcome) → IsUnmoved old o → IsIdle (is_busy old) o → IsRunning o → P o → P (terminate_process c p o)
 unfolding terminate_process terminate_process_at
-terminate_process-survives k b P s c p o idle runs x =
+terminate_process-survives k G old P s c p o u idle runs x =
     by_test P (is_simple o.state.flags.strategy) _ _
     (λ _. at_row-survives P (row_has (has_number p)) _ (terminate_process_at c) o (s.answered c (reply.Refused fault.NotFound) o x) x
-    (λ place row at h. terminate_process_in-survives k b P s c place row row.state o refl idle runs at x))
+    (λ place row at h. terminate_process_in-survives k G old P s c place row row.state o u refl idle runs at x))
     (λ _. s.answered c (reply.Refused fault.NotFound) o x)
 
-get_shared-survives : (k : Kind) (b : Bool) (P : Outcome → Type 0) → Survives k b P → (c : ℕ) (id : Name) (spec : Option ChildSpec) (o : Outcome) → P o → P (get_shared c id spec o)
+get_shared-survives : (k : Kind) (G : Item → Type 0) (old : Outcome) (P : Outcome → Type 0) → SurvivesEvent k G old P → (c : ℕ) (id : Name) (spec : Option ChildSpec) (o : Outcome) → P o → P (get_shared c id spec o)
 unfolding get_shared
-get_shared-survives k b P s c id None o x = s.answered c (reply.Refused fault.NotFound) o x
-get_shared-survives k b P s c id (Some spec) o x =
+get_shared-survives k G old P s c id None o x = s.answered c (reply.Refused fault.NotFound) o x
+get_shared-survives k G old P s c id (Some spec) o x =
     by_test P (is_named id spec) _ _ (λ _. s.answered c (reply.Spec spec) o x) (λ _. s.answered c (reply.Refused fault.NotFound) o x)
 
-get_childspec-survives : (k : Kind) (b : Bool) (P : Outcome → Type 0) → Survives k b P → (c : ℕ) (id : Name) (o : Outcome) → P o → P (get_childspec c id o)
+get_childspec-survives : (k : Kind) (G : Item → Type 0) (old : Outcome) (P : Outcome → Type 0) → SurvivesEvent k G old P → (c : ℕ) (id : Name) (o : Outcome) → P o → P (get_childspec c id o)
 unfolding get_childspec
-get_childspec-survives k b P s c id o x =
-    by_test P (is_simple o.state.flags.strategy) _ _ (λ _. get_shared-survives k b P s c id (slice_get o.state.specs 0) o x)
+get_childspec-survives k G old P s c id o x =
+    by_test P (is_simple o.state.flags.strategy) _ _ (λ _. get_shared-survives k G old P s c id (slice_get o.state.specs 0) o x)
     (λ _. at_row-survives P (has_id id) _ (tell_spec c) o (s.answered c (reply.Refused fault.NotFound) o x) x (λ place row at h. s.answered c (reply.Spec row.spec) o x))
 
-take_call-survives : (k : Kind) (b : Bool) (P : Outcome → Type 0) → Survives k b P → (c : ℕ) (call : Call) (o : Outcome) → IsIdle b o → IsRunning o → P o → P (take_call c call o)
+take_call-survives : (k : Kind) (G : Item → Type 0) (old : Outcome) (P : Outcome → Type 0) → SurvivesEvent k G old P → (c : ℕ) (call : Call) (o : Outcome) → IsUnmoved old o → IsIdle (is_busy old) o → IsRunning o → G (item.Call c call) → o.state.rows ≡ old.state.rows → P o → P (take_call c call o)
 unfolding take_call restart_child_at delete_child_at terminate_child_at
-take_call-survives k b P s c (call.StartChild spec) o idle runs x = start_child-survives k b P s c spec o idle runs x
-take_call-survives k b P s c call.StartDynamic o idle runs x = start_dynamic-survives k b P s c o idle runs x
-take_call-survives k b P s c (call.RestartChild id) o idle runs x =
-    at_child-survives k b P s c id (restart_child_at c id) o x (λ place row at h. restart_child_in-survives k b P s c id place row row.state o refl h idle runs at x)
-take_call-survives k b P s c (call.DeleteChild id) o idle runs x =
-    at_child-survives k b P s c id (delete_child_at c) o x (λ place row at h. delete_child_in-survives k b P s c place row row.state o refl idle runs at x)
-take_call-survives k b P s c (call.TerminateChild id) o idle runs x =
-    at_child-survives k b P s c id (terminate_child_at c) o x (λ place row at h. terminate_child_in-survives k b P s c place row row.state o refl idle runs at x)
-take_call-survives k b P s c (call.TerminateProcess p) o idle runs x = terminate_process-survives k b P s c p o idle runs x
-take_call-survives k b P s c call.WhichChildren o idle runs x = s.answered c (reply.Which (which_of o.state.rows)) o x
-take_call-survives k b P s c call.CountChildren o idle runs x = s.answered c (reply.Count (counts_of o.state)) o x
-take_call-survives k b P s c (call.GetChildspec id) o idle runs x = get_childspec-survives k b P s c id o x
+take_call-survives k G old P s c (call.StartChild spec) o u idle runs noted rows x = start_child-survives k G old P s c spec o u idle runs ((call.StartChild spec, refl, noted), rows) x
+take_call-survives k G old P s c call.StartDynamic o u idle runs noted rows x = start_dynamic-survives k G old P s c o u idle runs ((call.StartDynamic, refl, noted), rows) x
+take_call-survives k G old P s c (call.RestartChild id) o u idle runs noted rows x =
+    at_child-survives k G old P s c id (restart_child_at c id) o x (λ place row at h. restart_child_in-survives k G old P s c id place row row.state o u refl h idle runs at x)
+take_call-survives k G old P s c (call.DeleteChild id) o u idle runs noted rows x =
+    at_child-survives k G old P s c id (delete_child_at c) o x (λ place row at h. delete_child_in-survives k G old P s c place row row.state o u refl idle runs at x)
+take_call-survives k G old P s c (call.TerminateChild id) o u idle runs noted rows x =
+    at_child-survives k G old P s c id (terminate_child_at c) o x (λ place row at h. terminate_child_in-survives k G old P s c place row row.state o u refl idle runs at x)
+take_call-survives k G old P s c (call.TerminateProcess p) o u idle runs noted rows x = terminate_process-survives k G old P s c p o u idle runs x
+take_call-survives k G old P s c call.WhichChildren o u idle runs noted rows x = s.answered c (reply.Which (which_of o.state.rows)) o x
+take_call-survives k G old P s c call.CountChildren o u idle runs noted rows x = s.answered c (reply.Count (counts_of o.state)) o x
+take_call-survives k G old P s c (call.GetChildspec id) o u idle runs noted rows x = get_childspec-survives k G old P s c id o x
 
-ask-survives : (k : Kind) (b : Bool) (P : Outcome → Type 0) → Survives k b P → (c : ℕ) (call : Call) (o : Outcome) → is_busy o ≡ b → P o → P (ask c call o)
+ask-survives : (k : Kind) (G : Item → Type 0) (old : Outcome) (P : Outcome → Type 0) → SurvivesEvent k G old P → (c : ℕ) (call : Call) (o : Outcome) → IsUnmoved old o → G (item.Call c call) → o.state.rows ≡ old.state.rows → P o → P (ask c call o)
 unfolding ask
-ask-survives k b P s c call o link x =
+ask-survives k G old P s c call o u noted rows x =
     by_test P (is_over o.state.phase) _ _ (λ _. s.answered c reply.NoProc o x)
-    (λ runs. by_test P (is_busy o) _ _ (λ _. s.call_waits c call o x) (λ idle. take_call-survives k b P s c call o (sym link ∙ idle, idle) runs x))
+    (λ runs. by_test P (is_busy o) _ _ (λ busy. s.call_waits c call o u busy noted x) (λ idle. take_call-survives k G old P s c call o u (sym u.1 ∙ idle, idle) runs noted rows x))
 
 -- an item that the event brings, or that waited
-take_item-survives : (k : Kind) (b : Bool) (P : Outcome → Type 0) → Survives k b P → (i : Item) (o : Outcome) → is_busy o ≡ b → (k ≡ kind.Took i) ⊎ IsIdle b o → P o → P (take_item i o)
+take_item-survives : (k : Kind) (G : Item → Type 0) (old : Outcome) (P : Outcome → Type 0) → SurvivesEvent k G old P → (i : Item) (o : Outcome) → IsUnmoved old o → G i → o.state.rows ≡ old.state.rows → P o → P (take_item i o)
 unfolding take_item
-take_item-survives k b P s (item.Note n) o link noted x =
-    by_test P (is_over o.state.phase) o (take_note n o) (λ _. x) (λ runs. take_note-survives k b P s n o link runs noted x)
-take_item-survives k b P s (item.Call c call) o link noted x = ask-survives k b P s c call o link x
+take_item-survives k G old P s (item.Note n) o u noted rows x =
+    by_test P (is_over o.state.phase) o (take_note n o) (λ _. x) (λ runs. take_note-survives k G old P s n o u runs noted x)
+take_item-survives k G old P s (item.Call c call) o u noted rows x = ask-survives k G old P s c call o u noted rows x
 
-take_waiting-survives : (k : Kind) (b : Bool) (P : Outcome → Type 0) → Survives k b P → (w : Waiting) (o : Outcome) → IsIdle b o → IsRunning o → P o → P (take_waiting w o)
+pub take_waiting-survives : (k : Kind) (G : Item → Type 0) (old : Outcome) (P : Outcome → Type 0) → SurvivesEvent k G old P → (x : Waiting) (o : Outcome) → IsUnmoved old o → ((i : Item) → x ≡ waiting.Item i → G i) → IsIdle (is_busy old) o → IsRunning o → o.state.rows ≡ old.state.rows → P o → P (take_waiting x o)
 unfolding take_waiting
-take_waiting-survives k b P s (waiting.Item i) o idle runs x = take_item-survives k b P s i o (idle.1 ∙ sym idle.0) (inr idle) x
-take_waiting-survives k b P s (waiting.Retry n) o idle runs x = retry-survives k b P s n o idle runs x
+take_waiting-survives k G old P s (waiting.Item i) o u got idle runs rows x = take_item-survives k G old P s i o u (got i refl) rows x
+take_waiting-survives k G old P s (waiting.Retry n) o u got idle runs rows x = retry-survives k G old P s n o u idle runs x
 
-resume-survives : (k : Kind) (b : Bool) (P : Outcome → Type 0) → Survives k b P → (ws : List Waiting) (o : Outcome) → o.state.waiting ≡ ws → IsIdle b o → IsRunning o → P o → P (resume ws o)
+-- the first that waits is taken
+resume-survives : (k : Kind) (G : Item → Type 0) (old : Outcome) (P : Outcome → Type 0) → SurvivesEvent k G old P → (ws : List Waiting) → k ≡ kind.Resumed → old.state.waiting ≡ ws → ((i : Item) → IsFirst ws i → G i) → IsIdle (is_busy old) old → IsRunning old → P old → P (resume ws old)
 unfolding resume
-resume-survives k b P s [] o is idle runs x = x
-resume-survives k b P s (w ∷ ws) o is idle runs x = take_waiting-survives k b P s w (with_waiting ws o) idle runs (s.taken w ws o idle runs is x)
+resume-survives k G old P s [] resumed is got idle runs x = x
+resume-survives k G old P s (w ∷ ws) resumed is got idle runs x =
+    take_waiting-survives k G old P s w (with_waiting ws old) (refl, refl) got idle runs refl (s.taken w ws resumed idle runs is x)
 
 if_idle-survives : (P : Outcome → Type 0) (done o : Outcome) → P o → (IsIdle (is_busy o) o → IsRunning o → P done) → P (if is_busy o then o else if is_over o.state.phase then o else done)
 if_idle-survives P done o x h =
     by_test P (is_busy o) o (if is_over o.state.phase then o else done) (λ _. x) (λ idle. by_test P (is_over o.state.phase) o done (λ _. x) (λ runs. h (idle, idle) runs))
 
--- what each kind of change keeps, every decision keeps
-pub decide-survives : (k : Kind) (P : Outcome → Type 0) (o : Outcome) → Survives k (is_busy o) P → P o → P (decide k o)
+-- what each kind of change keeps, every decision keeps. The event brings an item; one that waited only if no work is open.
+pub decide-survives_event : (k : Kind) (G : Item → Type 0) (old : Outcome) (P : Outcome → Type 0) → SurvivesEvent k G old P → ((i : Item) → Brings k old.state.waiting i → (k ≡ kind.Resumed → is_busy old ≡ false) → G i) → P old → P (decide k old)
 unfolding decide
-decide-survives (kind.Opened own) P o s x = by_test P (is_over o.state.phase) (open_rows own o) o (λ over. s.opens own o refl over x) (λ _. x)
-decide-survives (kind.Took i) P o s x = take_item-survives (kind.Took i) (is_busy o) P s i o refl (inl refl) x
-decide-survives kind.Resumed P o s x = if_idle-survives P (resume o.state.waiting o) o x (λ idle runs. resume-survives kind.Resumed (is_busy o) P s o.state.waiting o refl idle runs x)
-decide-survives kind.Ticked P o s x = s.ticks o refl x
-decide-survives kind.Stopped P o s x = if_idle-survives P (terminate ending.Asked o) o x (λ idle runs. s.ends ending.Asked o (λ k. cc) idle runs x)
+decide-survives_event (kind.Opened own) G old P s got x = by_test P (is_over old.state.phase) (open_rows own old) old (λ over. s.opens own refl over x) (λ _. x)
+decide-survives_event (kind.Took i) G old P s got x = take_item-survives (kind.Took i) G old P s i old (refl, refl) (got i refl (λ resumed. absurd (search (rules, resumed)))) refl x
+decide-survives_event kind.Resumed G old P s got x =
+    if_idle-survives P (resume old.state.waiting old) old x
+    (λ idle runs. resume-survives kind.Resumed G old P s old.state.waiting refl refl (λ i first. got i first (λ _. idle.1)) idle runs x)
+decide-survives_event kind.Ticked G old P s got x = s.ticks refl x
+decide-survives_event kind.Stopped G old P s got x = if_idle-survives P (terminate ending.Asked old) old x (λ idle runs. s.ends ending.Asked old (refl, refl) (λ e. cc) idle runs x)
+
+-- the event takes the item, or no work is open
+abbrev IsTaken : Kind → Outcome → Item → Type 0
+IsTaken k old i = (k ≡ kind.Took i) ⊎ (is_busy old ≡ false)
+
+taken_or_idle : (k : Kind) (old : Outcome) (ws : List Waiting) (i : Item) → Brings k ws i → (k ≡ kind.Resumed → is_busy old ≡ false) → IsTaken k old i
+taken_or_idle (kind.Opened _) old ws i b idle = absurd b
+taken_or_idle (kind.Took j) old ws i b idle = inl (ap (λ (x : Item). kind.Took x) b)
+taken_or_idle kind.Resumed old ws i b idle = inr (idle refl)
+taken_or_idle kind.Ticked old ws i b idle = absurd b
+taken_or_idle kind.Stopped old ws i b idle = absurd b
+
+noted_so : (k : Kind) (old : Outcome) (x : Note) (o : Outcome) → IsUnmoved old o → IsTaken k old (item.Note x) → IsNoted k (is_busy old) x o
+noted_so k old x o u g = ⊎_elim (λ took. inl took) (λ idle. inr (idle, u.1 ∙ idle)) g
+
+-- where less has to be known of the event
+event-survives : (k : Kind) (old : Outcome) (P : Outcome → Type 0) → Survives k (is_busy old) P → SurvivesEvent k (IsTaken k old) old P
+event-survives k old P s =
+    record {
+      answered = s.answered;
+      taken = λ w ws resumed idle runs is x. s.taken w ws old idle runs is x;
+      call_waits = λ c call o u busy g x. s.call_waits c call o x;
+      exit_waits = λ p r o u g x. s.exit_waits p r o (noted_so k old (note.Exit p r) o u g) x;
+      up = λ p place row q kept o u at is same g x. s.up p place row q kept o at is same (noted_so k old (note.Up p) o u g) x;
+      up_closed = λ p place row q kept c o u at is same follows g x. s.up_closed p place row q kept c o at is same follows x;
+      ignored = λ p place row q kept o u at is same g x. s.ignored p place row q kept o at is same (noted_so k old (note.Ignored p) o u g) x;
+      opening_failed = λ place row q kept o u runs at is follows g x. s.opening_failed place row q kept o runs at is follows x;
+      restart_failed = λ place row q kept o u at is follows g x. s.restart_failed place row q kept o at is follows x;
+      added_failed = λ place row q kept c o u at is follows g x. s.added_failed place row q kept c o at is follows x;
+      restarted_failed = λ place row q kept c o u at is follows g x. s.restarted_failed place row q kept c o at is follows x;
+      stopped = λ p r place row o u at told g x. s.stopped p r place row o at told (noted_so k old (note.Exit p r) o u g) x;
+      died = λ p place row o u idle runs at is g x. s.died p place row o idle runs at is x;
+      restarts = λ p place row o u idle runs at is x. s.restarts p place row o idle runs at (⊎_elim (λ (h : _). inl h.0) (λ h. inr h) is) x;
+      ends = λ e o u other idle runs x. s.ends e o other idle runs x;
+      ticks = λ is x. s.ticks old is x;
+      opens = λ own is over x. s.opens own old refl over x;
+      adds = λ c id spec o u idle runs named few got x. s.adds c id spec o idle runs named x;
+      starts_again = λ c id place row o u idle runs at has is x. s.starts_again c id place row o idle runs at has is x;
+      removed = λ place row o u idle runs at down x. s.removed place row o idle runs at down x;
+      given_up = λ place row o u idle runs at down x. s.given_up place row o idle runs at down x;
+      stops_child = λ c p place row o u idle runs at up x. s.stops_child c p place row o idle runs at up x;
+    }
+
+pub decide-survives : (k : Kind) (P : Outcome → Type 0) (o : Outcome) → Survives k (is_busy o) P → P o → P (decide k o)
+decide-survives k P o s x = decide-survives_event k (IsTaken k o) o P (event-survives k o P s) (λ i b idle. taken_or_idle k o o.state.waiting i b idle) x

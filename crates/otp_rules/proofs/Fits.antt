@@ -1,5 +1,5 @@
 -- The children that are to be started have rows, in their order.
-use Rattle.std.specs.Prelude.{◌≡◌, ◌⊎◌, ℕ, ◌==◌, ◌+◌, ◌≤◌, ◌<◌, ◌++◌, ◌&&◌, Bool, true, false, List, [], ◌∷◌, Option, None, Some, refl, not, position, slice_get, slice_set, nat_lt, length, remove, map, count_by}
+use Rattle.std.specs.Prelude.{◌≡◌, ℕ, ◌==◌, ◌+◌, ◌≤◌, ◌<◌, ◌++◌, Bool, true, false, List, [], ◌∷◌, Option, None, Some, refl, not, position, slice_get, slice_set, nat_lt, length, remove, map, count_by}
 use Rattle.std.specs.Option.{option_eq}
 use Rattle.std.specs.Ordering.{on}
 use Rattle.std.specs.Str.{bytes_eq}
@@ -19,30 +19,8 @@ use Rattle.otp_rules.specs.Restarts.{dues}
 use Rattle.otp_rules.specs.Stops.{is_due}
 use Rattle.std.specs.List.{position_or_len}
 use Prim.Native.Nat.{zero, suc}
-use Rattle.otp_rules.proofs.Counting.{rows_in, times, times-cons, rows_in-cons, rows_in-at, found}
-
--- whether the child in the row can be started once these processes have been stopped: it has no process, or it is told
--- to stop or still to be stopped and stays when it ends
-abbrev pub is_free : List ℕ → Bool → RowState → Bool
-is_free ps goes Undefined = true
-is_free ps goes (Starting _ _) = false
-is_free ps goes (Up p) = not goes && nat_lt 0 (times p ps)
-is_free ps goes (Asked _ _) = not goes
-is_free ps goes (Killed _) = not goes
-is_free ps goes (Restarting _) = false
-
-abbrev pub IsFree : List ℕ → Row → Type 0
-IsFree ps row = is_free ps (is_removed row) row.state ≡ true
-
--- the row is the child's that is due
-abbrev pub Matches : Due → Row → Type 0
-Matches due row = option_eq (on name_bytes bytes_eq) row.id due.id ≡ true
-
--- the children to start have rows, in their order, that can be started once these processes have been stopped
-abbrev pub Fits : List ℕ → List Due → List Row → Type 0
-Fits ps [] rows = Unit {0}
-Fits ps (due ∷ dues) [] = ⊥
-Fits ps (due ∷ dues) (row ∷ rows) = (Matches due row × IsFree ps row × Fits ps dues rows) ⊎ Fits ps (due ∷ dues) rows
+use Rattle.otp_rules.specs.Fit.{rows_in, times, is_free, IsFree, Matches, Fits}
+use Rattle.otp_rules.proofs.Counting.{times-cons, rows_in-cons, rows_in-at, found}
 
 -- a row in front changes nothing
 pub fits-front : (ps : List ℕ) (dues : List Due) (row : Row) (rows : List Row) → Fits ps dues rows → Fits ps dues (row ∷ rows)

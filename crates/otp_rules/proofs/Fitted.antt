@@ -17,7 +17,7 @@ use Rattle.otp_spec.specs.declared.flags.Strategy.TheVariants.{OneForOne, OneFor
 use Rattle.otp_table.specs.declared.row.Row.{Row}
 use Rattle.otp_table.specs.declared.row.RowState.{RowState}
 use Rattle.otp_table.specs.declared.row.RowState.TheVariants.{Undefined, Starting, Up, Asked, Killed, Restarting}
-use Rattle.otp_table.specs.Rows.{is_awaited, row_has, with_state, calm_rows, calmed, up_number, is_up}
+use Rattle.otp_table.specs.Rows.{is_awaited, row_has, with_state, calm_rows, calmed, up_number, is_up, free_slot}
 use Rattle.otp_window.specs.Period.{in_period}
 use Rattle.otp_rules.specs.declared.call.Reply.{Reply}
 use Rattle.otp_rules.specs.declared.ending.Ending.{Ending}
@@ -29,31 +29,21 @@ use Rattle.otp_rules.specs.Restarts.{affected_from, affected_to, dues, restart_l
 use Rattle.otp_rules.specs.Stops.{calm_all, terminate_ordered, terminate_together, terminate}
 use Rattle.otp_rules.specs.Deaths.{restart_rows, restart_or_end, restart}
 use Rattle.otp_rules.specs.Calls.{new_row}
-use Rattle.otp_rules.specs.Step.{due_of, row_of, open_with, open_rows, opening_specs, killed, late_number, tick}
+use Rattle.otp_rules.specs.Step.{due_of, rows_from, open_with, open_rows, opening_specs, killed, late_number, tick}
 use Rattle.otp_rules.specs.Run.{empty_state}
-use Rattle.otp_rules.proofs.Decisions.{IsIdle, StandsAt, Survives, by_test, is_told}
+use Rattle.otp_rules.specs.Fit.{is_told, rows_in, times, IsSound, is_free, IsFree, Matches, Fits, nameless, IsNamed, IsFitted}
+use Rattle.otp_rules.proofs.Decisions.{IsIdle, StandsAt, Survives, by_test}
 use Rattle.std.specs.List.{cons_option, sum_by}
 use Prim.Native.Nat.{zero, suc}
-use Rattle.otp_rules.proofs.Counting.{rows_in, times, times-cons, times-append, rows_in-cons, set_count, remove_count, rows_in-set, Alike, end_row-alike, stop_each-alike, times-reverse, there}
-use Rattle.otp_rules.proofs.Sound.{IsSound, awaits_nothing, sound-survives}
+use Rattle.otp_rules.proofs.Counting.{times-cons, times-append, rows_in-cons, set_count, remove_count, rows_in-set, Alike, end_row-alike, stop_each-alike, times-reverse, there}
+use Rattle.otp_rules.proofs.Sound.{awaits_nothing, sound-survives}
 use Rattle.std.proofs.lemmas.List.Folds.{drop_split}
 use Rattle.std.proofs.lemmas.List.Elements.{filter_map-append}
 use Rattle.std.proofs.lemmas.Slice.Eq.{bytes_eq-Decides}
 use Rattle.otp_rules.proofs.Numbers.{counted_length}
-use Rattle.otp_rules.proofs.Fits.{is_free, IsFree, Matches, Fits, fits-front, fits-after, fits-append, fits-before, fits-map, fits-set, fits-remove}
+use Rattle.otp_rules.proofs.Fits.{fits-front, fits-after, fits-append, fits-before, fits-map, fits-set, fits-remove}
 use Rattle.otp_rules.specs.declared.ending.Ending.TheVariants as ending
 use Rattle.otp_rules.specs.declared.work.After.TheVariants as after
-
-abbrev pub nameless : Row → Bool
-nameless row = is_none row.id
-
--- but under simple_one_for_one each child has an id
-abbrev pub IsNamed : State → Type 0
-IsNamed s = is_simple s.flags.strategy ≡ false → count_by nameless s.rows ≡ 0
-
--- each child that is to be started has its row
-abbrev pub IsFitted : State → Type 0
-IsFitted s = IsNamed s × Fits s.to_stop s.to_start s.rows
 
 abbrev pub Stands : Outcome → Type 0
 Stands o = IsSound o.state × IsFitted o.state
@@ -189,7 +179,7 @@ fits-dues ps kept (row ∷ rows) calm there named =
     running-more q (Killed _) rest = omega arith
     running-more q (Restarting _) rest = omega arith
 
-slice_split : (rows : List Row) (a m z : ℕ) → a ≤ m → m ≤ z → slice_range rows a z ≡ slice_range rows a m ++ slice_range rows m z
+pub slice_split : (rows : List Row) (a m z : ℕ) → a ≤ m → m ≤ z → slice_range rows a z ≡ slice_range rows a m ++ slice_range rows m z
 slice_split rows a m z h k =
     append_cancel_right (slice_range rows a z) (slice_range rows a m ++ slice_range rows m z) (drop z rows)
     (sym (drop_split rows a z (omega (arith, h, k))) ∙ drop_split rows a m h ∙ ap (λ (t : List Row). slice_range rows a m ++ t) (drop_split rows m z k)
@@ -234,13 +224,13 @@ restarted-fits from to place k rows le more calm named =
     (fits-after ps (restart_list from to place k rows) (take from rows) (calm_rows whole)
     (subst (λ (t : List Row). Fits ps (restart_list from to place k rows) t) (sym calmed_split) parts))
 
-affected_from_le : (s : Strategy) (place : ℕ) → affected_from s place ≤ place
+pub affected_from_le : (s : Strategy) (place : ℕ) → affected_from s place ≤ place
 affected_from_le OneForOne place = omega arith
 affected_from_le OneForAll place = omega arith
 affected_from_le RestForOne place = omega arith
 affected_from_le SimpleOneForOne place = omega arith
 
-affected_to_more : (s : Strategy) (place count : ℕ) → place < count → place + 1 ≤ affected_to s place count
+pub affected_to_more : (s : Strategy) (place count : ℕ) → place < count → place + 1 ≤ affected_to s place count
 affected_to_more OneForOne place count h = omega arith
 affected_to_more OneForAll place count h = omega (arith, h)
 affected_to_more RestForOne place count h = omega (arith, h)
@@ -325,19 +315,19 @@ tick-fitted o h =
     late_free ps now row (Killed _) is free = free
     late_free ps now row (Restarting _) is free = free
 
-opened-fits : (specs : List ChildSpec) → Fits [] (map due_of specs) (map row_of specs)
-opened-fits [] = tt
-opened-fits (spec ∷ specs) = inl (id_same (Some spec.id), refl, opened-fits specs)
+opened-fits : (slot : ℕ) (specs : List ChildSpec) → Fits [] (map due_of specs) (rows_from slot specs)
+opened-fits slot [] = tt
+opened-fits slot (spec ∷ specs) = inl (id_same (Some spec.id), refl, opened-fits (slot + 1) specs)
 
-opened-named : (specs : List ChildSpec) → count_by nameless (map row_of specs) ≡ 0
-opened-named [] = refl
-opened-named (spec ∷ specs) = omega (arith, sum_by-cons (λ (r : Row). cond (nameless r) 1 0) (row_of spec) (map row_of specs), opened-named specs)
+opened-named : (slot : ℕ) (specs : List ChildSpec) → count_by nameless (rows_from slot specs) ≡ 0
+opened-named slot [] = refl
+opened-named slot (spec ∷ specs) = omega (arith, sum_by-cons (λ (r : Row). cond (nameless r) 1 0) (new_row slot (Some spec.id) spec) (rows_from (slot + 1) specs), opened-named (slot + 1) specs)
 
 open-fitted : (own : ℕ) (o : Outcome) → IsFitted (open_rows own o).state
 unfolding open_rows open_with
 open-fitted own o =
     let specs : List ChildSpec = opening_specs (is_simple o.state.flags.strategy) o.state.specs in
-    ((λ _. opened-named specs), opened-fits specs)
+    ((λ _. opened-named 0 specs), opened-fits 0 specs)
 
 answer-fitted : (c : ℕ) (r : Reply) (o : Outcome) → IsFitted o.state → IsFitted (answer c r o).state
 unfolding answer
@@ -402,9 +392,9 @@ fitted-survives k b =
         (
           (λ plain.
               let none : ◌≡◌ {A = ℕ} (cond (is_none id) 1 0) 0 = ap (λ (t : Bool). cond t 1 0) (named_id id (is_simple o.state.flags.strategy) named plain) in
-              let e : count_by nameless (o.state.rows ++ new_row id spec ∷ []) ≡ count_by nameless o.state.rows + count_by nameless (new_row id spec ∷ []) = sum_by-append (λ (r : Row). cond (nameless r) 1 0) o.state.rows (new_row id spec ∷ []) in
-              omega (arith, e, sum_by-cons (λ (r : Row). cond (nameless r) 1 0) (new_row id spec) [], none, x.1.0 plain)),
-          fits-after [] (record { id = id; kept = None } ∷ []) o.state.rows (new_row id spec ∷ []) (inl (id_same id, refl, tt)),
+              let e : count_by nameless (o.state.rows ++ new_row (free_slot o.state.rows) id spec ∷ []) ≡ count_by nameless o.state.rows + count_by nameless (new_row (free_slot o.state.rows) id spec ∷ []) = sum_by-append (λ (r : Row). cond (nameless r) 1 0) o.state.rows (new_row (free_slot o.state.rows) id spec ∷ []) in
+              omega (arith, e, sum_by-cons (λ (r : Row). cond (nameless r) 1 0) (new_row (free_slot o.state.rows) id spec) [], none, x.1.0 plain)),
+          fits-after [] (record { id = id; kept = None } ∷ []) o.state.rows (new_row (free_slot o.state.rows) id spec ∷ []) (inl (id_same id, refl, tt)),
         ),
       );
       starts_again = λ c id place row o idle runs at has is x. (

@@ -1,6 +1,8 @@
 mod Worked
 pub mod Keeps
 pub mod Decisions
+pub mod Steady
+pub mod Deadlines
 pub mod Period
 pub mod Rated
 pub mod Appended
@@ -16,3 +18,13 @@ pub mod Starting
 pub mod StartTurn
 mod WorkedLaws
 mod Shown
+pub mod Homes
+pub mod Slots
+pub mod Named
+pub mod Processes
+pub mod Opened
+pub mod Restarted
+pub mod Runs
+pub mod Few
+pub mod Waits
+pub mod NamedRows

@@ -1,14 +1,10 @@
 -- An event starts a child exactly where its work goes on to a start: what it decides on orders no start, and the open
 -- work orders one where nothing is awaited, all that is to stop has ended and a child is left.
-use Rattle.std.specs.Prelude.{◌≡◌, ℕ, ◌+◌, ◌≤◌, ◌<◌, Bool, true, false, not, ◌==◌, ◌&&◌, ◌||◌, List, [], ◌∷◌, ◌++◌, Option, None, Some, refl, if◌then◌else◌, position, is_some, length, remove, count_by, nat_le, nat_lt}
-use Rattle.std.specs.List.{list_any, list_all, filter_map, position_or_len, cons_option}
-use Rattle.std.proofs.Common.{◌∙◌, ap, sym, arith, subst, inl, inr, cond, suc, ltb, get_or}
-use Rattle.std.proofs.lemmas.Bool.{cases_lt, leb-true, ltb-true, ltb-false, le-leb, eq-eqb, eqb-true, false≢true, and_parts, and_from}
+use Rattle.std.specs.Prelude.{◌≡◌, ℕ, Bool, true, false, not, ◌&&◌, ◌||◌, List, [], ◌∷◌, ◌++◌, Option, None, Some, refl, if◌then◌else◌, position, is_some, length, remove, nat_lt}
+use Rattle.std.specs.List.{list_any, filter_map, cons_option}
+use Rattle.std.proofs.Common.{◌∙◌, ap, sym}
 use Rattle.std.proofs.lemmas.List.Folds.{list_any-append}
-use Rattle.std.proofs.lemmas.List.Sums.{sum_by-cons, sum_by-remove, passes_at_first}
 use Rattle.otp_reason.specs.declared.name.Name.{Name}
-use Rattle.otp_reason.specs.declared.note.Note.{Note}
-use Rattle.otp_reason.specs.declared.note.Note.TheVariants as note
 use Rattle.otp_spec.specs.declared.child.Shutdown.{Shutdown}
 use Rattle.otp_spec.specs.declared.child.Shutdown.TheVariants.{BrutalKill, Milliseconds, Infinity}
 use Rattle.otp_table.specs.declared.row.Row.{Row}
@@ -31,121 +27,14 @@ use Rattle.otp_rules.specs.declared.work.After.TheVariants as after
 use Rattle.otp_rules.specs.State.{Outcome, answer, closed, is_busy, is_simple, with_rows, with_waiting, with_work}
 use Rattle.otp_rules.specs.Places.{at_row, end_row, end_process, is_removed, set_row}
 use Rattle.otp_rules.specs.Restarts.{affected_from, affected_to, running}
-use Rattle.otp_rules.specs.Stops.{calm_all, is_exit, is_exit_note, refusal, stop_order, without, tell_row, tell, use_exit, is_due, start_row, start, refuse_all, end_all, follow, start_first, stop_first, advance, stop_each, terminate_ordered, terminate_together, terminate}
+use Rattle.otp_rules.specs.Stops.{calm_all, is_exit, refusal, stop_order, without, tell_row, tell, use_exit, is_due, start_row, start, refuse_all, end_all, follow, start_first, stop_first, advance, stop_each, terminate_ordered, terminate_together, terminate}
 use Rattle.otp_rules.specs.Deaths.{restart_rows, restart_or_end, restart}
 use Rattle.otp_rules.specs.Step.{kill_order, late_number, open_with, open_rows, tick, decide, stamped, step_on, step}
 use Rattle.otp_rules.specs.Needs.{NumberStartsWork, ends_wait, has_due, is_start, needs_number, work_starts}
+use Rattle.std.proofs.lemmas.List.{append-nil}
+use Rattle.otp_rules.proofs.Appended.{decide-behind}
 use Rattle.otp_rules.proofs.Decisions.{Survives, at_number-survives, at_row-survives, decide-survives}
 use Rattle.otp_window.specs.Period.{in_period}
-
--- how many ends of the process wait
-abbrev exits : ℕ → List Waiting → ℕ
-exits p items = count_by (is_exit p) items
-
--- how often the list names the process
-abbrev times : ℕ → List ℕ → ℕ
-times p numbers = count_by (λ q. q == p) numbers
-
--- the ends of all these processes wait: each that is found is used
-abbrev stops_end : List ℕ → List Waiting → Bool
-stops_end [] items = true
-stops_end (p ∷ ps) items = is_some (position (is_exit p) items) && stops_end ps (without items (position (is_exit p) items))
-
--- none is found only if none is there
-none_there : (p : ℕ) (items : List Waiting) → length items ≤ position_or_len (is_exit p) items → exits p items ≡ 0
-none_there p [] h = refl
-none_there p (x ∷ xs) h =
-    sum_by-cons (λ y. cond (is_exit p y) 1 0) x xs
-    ∙ (elim (is_exit p x) as (λ b. suc (length xs) ≤ cond (not b) (1 + position_or_len (is_exit p) xs) 0 → cond b 1 0 + exits p xs ≡ 0) [
-      | true ↦ λ k. absurd (omega (arith, k))
-      | false ↦ λ k. let rest : exits p xs ≡ 0 = none_there p xs (omega (arith, k)) in omega (arith, rest)
-    ]) h
-
-same_exit_note : (p q : ℕ) (x : Note) → is_exit_note p x ≡ true → is_exit_note q x ≡ (p == q)
-same_exit_note p q (note.Up r) h = absurd (false≢true h)
-same_exit_note p q (note.Ignored r) h = absurd (false≢true h)
-same_exit_note p q (note.Failed r s) h = absurd (false≢true h)
-same_exit_note p q (note.Exit r s) h = ap (λ (n : ℕ). n == q) (eqb-true r p h)
-
-same_exit_item : (p q : ℕ) (x : Item) → is_exit p (waiting.Item x) ≡ true → is_exit q (waiting.Item x) ≡ (p == q)
-same_exit_item p q (item.Note x) h = same_exit_note p q x h
-same_exit_item p q (item.Call c x) h = absurd (false≢true h)
-
--- an end of p is an end of q only where they are the same
-same_exit : (p q : ℕ) (x : Waiting) → is_exit p x ≡ true → is_exit q x ≡ (p == q)
-same_exit p q (waiting.Item x) h = same_exit_item p q x h
-same_exit p q (waiting.Retry k) h = absurd (false≢true h)
-
--- the first end of p leaves
-leaves : (p q : ℕ) (items : List Waiting) → position_or_len (is_exit p) items < length items → exits q (remove items (position_or_len (is_exit p) items)) + cond (p == q) 1 0 ≡ exits q items
-leaves p q items h =
-    let place : ℕ = position_or_len (is_exit p) items in
-    let d : Waiting = waiting.Retry 0 in
-    ap (λ (b : Bool). exits q (remove items place) + cond b 1 0) (sym (same_exit p q (get_or items place d) (passes_at_first (is_exit p) items d h)))
-    ∙ sum_by-remove (λ x. cond (is_exit q x) 1 0) items place d h
-
--- an end for each process of the list
-abbrev Enough : List ℕ → List Waiting → Type 0
-Enough ps items = (q : ℕ) → times q ps ≤ exits q items
-
-enough_from : (ps : List ℕ) (items : List Waiting) → stops_end ps items ≡ true → Enough ps items
-enough_from [] items h q = omega arith
-enough_from (p ∷ ps) items h q =
-    let place : ℕ = position_or_len (is_exit p) items in
-    (elim (ltb place (length items)) as (λ b. ltb place (length items) ≡ b → (is_some (cond b (Some place) None) && stops_end ps (without items (cond b (Some place) None))) ≡ true → times q (p ∷ ps) ≤ exits q items) [
-      | true ↦ λ e k. let rest : times q ps ≤ exits q (remove items place) = enough_from ps (remove items place) k q in
-          let gone : exits q (remove items place) + cond (p == q) 1 0 ≡ exits q items = leaves p q items (ltb-true _ _ e) in
-          let more : times q (p ∷ ps) ≡ cond (p == q) 1 0 + times q ps = sum_by-cons (λ x. cond (x == q) 1 0) p ps in
-          omega (arith, rest, gone, more)
-      | false ↦ λ e k. absurd (false≢true k)
-    ]) refl h
-
-enough_to : (ps : List ℕ) (items : List Waiting) → Enough ps items → stops_end ps items ≡ true
-enough_to [] items h = refl
-enough_to (p ∷ ps) items h =
-    let place : ℕ = position_or_len (is_exit p) items in
-    let here : times p (p ∷ ps) ≤ exits p items = h p in
-    let one : times p (p ∷ ps) ≡ cond (p == p) 1 0 + times p ps = sum_by-cons (λ x. cond (x == p) 1 0) p ps in
-    let self : (p == p) ≡ true = eq-eqb p p refl in
-    (elim (ltb place (length items)) as (λ b. ltb place (length items) ≡ b → (is_some (cond b (Some place) None) && stops_end ps (without items (cond b (Some place) None))) ≡ true) [
-      | true ↦ λ e. enough_to ps (remove items place) (λ q.
-          let gone : exits q (remove items place) + cond (p == q) 1 0 ≡ exits q items = leaves p q items (ltb-true _ _ e) in
-          let more : times q (p ∷ ps) ≡ cond (p == q) 1 0 + times q ps = sum_by-cons (λ x. cond (x == q) 1 0) p ps in
-          omega (arith, h q, gone, more))
-      | false ↦ λ e. absurd (let none : exits p items ≡ 0 = none_there p items (ltb-false _ _ e) in
-          let head : ◌≡◌ {A = ℕ} (cond (p == p) 1 0) 1 = ap (λ (b : Bool). cond b 1 0) self in omega (arith, here, one, head, none))
-    ]) refl
-
--- a test at each process of the list is a test at each number
-times_met : (all : List ℕ) (items : List Waiting) (ps : List ℕ) → list_all (λ p. nat_le (times p all) (exits p items)) ps ≡ true → (q : ℕ) → 0 < times q ps → times q all ≤ exits q items
-times_met all items [] h q some = absurd (omega (arith, some))
-times_met all items (p ∷ ps) h q some =
-    let more : times q (p ∷ ps) ≡ cond (p == q) 1 0 + times q ps = sum_by-cons (λ x. cond (x == q) 1 0) p ps in
-    let both : (nat_le (times p all) (exits p items) ≡ true) × (list_all (λ x. nat_le (times x all) (exits x items)) ps ≡ true) = and_parts _ _ h in
-    (elim (p == q) as (λ b. (p == q) ≡ b → times q (p ∷ ps) ≡ cond b 1 0 + times q ps → times q all ≤ exits q items) [
-      | true ↦ λ e m. subst (λ (n : ℕ). times n all ≤ exits n items) (eqb-true p q e) (leb-true _ _ both.0)
-      | false ↦ λ e m. times_met all items ps both.1 q (omega (arith, some, m))
-    ]) refl more
-
-enough_by_test : (ps : List ℕ) (items : List Waiting) → ends_wait ps items ≡ true → Enough ps items
-enough_by_test ps items h q = elim (cases_lt 0 (times q ps)) [ inl some ↦ times_met ps items ps h q some | inr none ↦ omega (arith, none) ]
-
-test_by_enough : (all : List ℕ) (items : List Waiting) (ps : List ℕ) → Enough all items → list_all (λ p. nat_le (times p all) (exits p items)) ps ≡ true
-test_by_enough all items [] h = refl
-test_by_enough all items (p ∷ ps) h = and_from _ _ (le-leb _ _ (h p)) (test_by_enough all items ps h)
-
--- two tests with the same yes are the same
-same_tests : (a b : Bool) → (a ≡ true → b ≡ true) → (b ≡ true → a ≡ true) → a ≡ b
-same_tests true b h k = sym (h refl)
-same_tests false true h k = k refl
-same_tests false false h k = refl
-
--- the walk that uses each end comes through exactly where enough ends wait
-stops_end-ends_wait : (ps : List ℕ) (items : List Waiting) → stops_end ps items ≡ ends_wait ps items
-stops_end-ends_wait ps items =
-    same_tests (stops_end ps items) (ends_wait ps items)
-    (λ h. test_by_enough ps items ps (enough_from ps items h))
-    (λ h. enough_to ps items (enough_by_test ps items h))
 
 -- whether a start was ordered
 abbrev Starts : Bool → Outcome → Type 0
@@ -239,19 +128,19 @@ use_exit-waiting items p place o h =
     at_number-survives (λ x. x.state.waiting ≡ items) p end_row used h
     (λ at row stands is. elim (is_removed row) as (λ b. (if b then with_rows (remove o.state.rows at) used else set_row at row Undefined used).state.waiting ≡ items) [ true ↦ h | false ↦ h ])
 
-stop_first-starts : (ps : List ℕ) (n : ℕ) (o : Outcome) → Starts false o → Starts (stops_end ps o.state.waiting && has_due o.state.to_start) (stop_first ps n o)
+stop_first-starts : (ps : List ℕ) (n : ℕ) (o : Outcome) → Starts false o → Starts (ends_wait ps o.state.waiting && has_due o.state.to_start) (stop_first ps n o)
 unfolding stop_first
 stop_first-starts [] n o h = start_first-starts o.state.to_start n o h
 stop_first-starts (p ∷ ps) n o h =
     let place : Option ℕ = position (is_exit p) o.state.waiting in
     let left : Outcome = with_work ps o.state.to_start o.state.follows o in
     let used : Outcome = use_exit p place left in
-    let rest : Starts (stops_end ps used.state.waiting && has_due used.state.to_start) (stop_first ps n used) = stop_first-starts ps n used (use_exit-quiet p place left h) in
+    let rest : Starts (ends_wait ps used.state.waiting && has_due used.state.to_start) (stop_first ps n used) = stop_first-starts ps n used (use_exit-quiet p place left h) in
     let items : used.state.waiting ≡ without o.state.waiting place = use_exit-waiting (without o.state.waiting place) p place left refl in
     let dues : used.state.to_start ≡ o.state.to_start = use_exit-dues o.state.to_start p place left refl in
-    let go : Starts (stops_end ps (without o.state.waiting place) && has_due o.state.to_start) (stop_first ps n used) =
-    rest ∙ ap (λ (w : List Waiting). stops_end ps w && has_due used.state.to_start) items ∙ ap (λ (d : List Due). stops_end ps (without o.state.waiting place) && has_due d) dues in
-    elim (is_some place) as (λ b. Starts ((b && stops_end ps (without o.state.waiting place)) && has_due o.state.to_start) (if b then stop_first ps n used else tell p left))
+    let go : Starts (ends_wait ps (without o.state.waiting place) && has_due o.state.to_start) (stop_first ps n used) =
+    rest ∙ ap (λ (w : List Waiting). ends_wait ps w && has_due used.state.to_start) items ∙ ap (λ (d : List Due). ends_wait ps (without o.state.waiting place) && has_due d) dues in
+    elim (is_some place) as (λ b. Starts ((b && ends_wait ps (without o.state.waiting place)) && has_due o.state.to_start) (if b then stop_first ps n used else tell p left))
     [ true ↦ go | false ↦ tell-quiet p left h ]
 
 advance-starts : (n : ℕ) (o : Outcome) → Starts false o → Starts (work_starts o) (advance n o)
@@ -259,7 +148,7 @@ unfolding advance work_starts
 advance-starts n o h =
     let go : Outcome = stop_first o.state.to_stop n o in
     let test : Bool = ends_wait o.state.to_stop o.state.waiting && has_due o.state.to_start in
-    let starts : Starts test go = stop_first-starts o.state.to_stop n o h ∙ ap (λ (b : Bool). b && has_due o.state.to_start) (stops_end-ends_wait o.state.to_stop o.state.waiting) in
+    let starts : Starts test go = stop_first-starts o.state.to_stop n o h in
     let awaits : Bool = list_any (row_has is_awaited) o.state.rows in
     elim (is_busy o) as (λ b. Starts (b && (not awaits && test)) (if b then (if awaits then o else go) else o)) [
       | true ↦ elim awaits as (λ a. Starts (not a && test) (if a then o else go)) [ true ↦ h | false ↦ starts ]
@@ -335,7 +224,9 @@ decide-quiet k b =
     }
 
 pub number_starts_work_law : NumberStartsWork
-unfolding needs_number step step_on
-number_starts_work_law s reading k =
-    let before : Outcome = record { state = stamped reading s; orders = [] } in
+unfolding needs_number step step_on work_starts
+number_starts_work_law reading k o =
+    let before : Outcome = record { state = stamped reading o.state; orders = [] } in
     advance-starts 0 (decide k before) (decide-survives k (λ o. Starts false o) before (decide-quiet k (is_busy before)) refl)
+    ∙ sym (ap work_starts (decide-behind o.orders k before))
+    ∙ ap (λ (xs : List Effect). work_starts (decide k (record { state = stamped reading o.state; orders = xs }))) (append-nil o.orders)

@@ -1,5 +1,5 @@
 -- In a lawful history no process is a child's in two rows.
-use Rattle.std.specs.Prelude.{◌≡◌, ◌⊎◌, ℕ, ◌==◌, ◌+◌, ◌≤◌, ◌<◌, ◌++◌, ◌||◌, Bool, true, false, List, [], ◌∷◌, Option, None, Some, refl, if◌then◌else◌, position, is_some, slice_set, slice_range, nat_lt, length, remove, unwrap_or, map, take, drop}
+use Rattle.std.specs.Prelude.{◌≡◌, ◌⊎◌, ℕ, ◌==◌, ◌+◌, ◌≤◌, ◌<◌, ◌++◌, ◌||◌, Bool, true, false, List, [], ◌∷◌, Option, None, Some, refl, if◌then◌else◌, position, is_some, slice_set, slice_range, nat_lt, length, remove, unwrap_or, take, drop}
 use Rattle.std.specs.List.{list_any}
 use Rattle.std.proofs.Common.{◌∙◌, ap, sym, subst, inl, inr, arith, ⊎_elim, cond}
 use Rattle.std.proofs.lemmas.Bool.{false≢true, cases_Bool, eqb-true}
@@ -13,7 +13,7 @@ use Rattle.otp_spec.specs.declared.child.Shutdown.TheVariants.{BrutalKill, Milli
 use Rattle.otp_table.specs.declared.row.Row.{Row}
 use Rattle.otp_table.specs.declared.row.RowState.{RowState}
 use Rattle.otp_table.specs.declared.row.RowState.TheVariants.{Undefined, Starting, Up, Asked, Killed, Restarting}
-use Rattle.otp_table.specs.Rows.{has_process, is_awaited, row_has, with_state, calm_rows, calmed}
+use Rattle.otp_table.specs.Rows.{has_process, is_awaited, row_has, with_state, calm_rows, calmed, free_slot}
 use Rattle.otp_window.specs.Period.{in_period}
 use Rattle.otp_rules.specs.declared.call.Reply.{Reply}
 use Rattle.otp_rules.specs.declared.ending.Ending.{Ending}
@@ -27,10 +27,11 @@ use Rattle.otp_rules.specs.Restarts.{affected_from, affected_to, dues, running}
 use Rattle.otp_rules.specs.Stops.{calm_all, is_exit, without, told, tell_row, tell, use_exit, is_due, start_row, start, refuse_all, end_all, follow, start_first, stop_first, advance, stop_each, terminate_ordered, terminate_together, terminate}
 use Rattle.otp_rules.specs.Deaths.{restart_rows, restart_or_end, restart}
 use Rattle.otp_rules.specs.Calls.{new_row}
-use Rattle.otp_rules.specs.Step.{row_of, open_with, open_rows, opening_specs, tick, decide, stamped, step, step_on}
+use Rattle.otp_rules.specs.Step.{rows_from, open_with, open_rows, opening_specs, tick, decide, stamped, step, step_on}
+use Rattle.otp_rules.specs.Progress.{decided}
+use Rattle.otp_rules.specs.Fit.{rows_in, IsDistinct}
 use Rattle.otp_rules.proofs.Decisions.{StandsAt, Survives, at_row-survives, at_number-survives, by_test, decide-survives}
-use Rattle.otp_rules.proofs.Counting.{rows_in, rows_in-cons, rows_in-append, remove_count, rows_in-set, rows_in-end, rows_in-map, tick_count}
-use Rattle.otp_rules.specs.Order.{decided}
+use Rattle.otp_rules.proofs.Counting.{rows_in-cons, rows_in-append, remove_count, rows_in-set, rows_in-end, rows_in-map, tick_count}
 use Rattle.std.proofs.lemmas.List.Folds.{drop_split, list_any-append}
 use Rattle.std.proofs.lemmas.List.{length-set}
 use Rattle.otp_rules.specs.Needs.{is_start, needs_number}
@@ -47,17 +48,17 @@ abbrev pub NoMore : Outcome → Outcome → Type 0
 NoMore old new = (q : ℕ) → holders q new ≤ holders q old
 
 -- a row's new state has no other process
-set-no_more : (place : ℕ) (row : Row) (state : RowState) (old o : Outcome) → StandsAt place row o → ((q : ℕ) → cond (has_process q state) 1 0 ≤ cond (has_process q row.state) 1 0) → NoMore old o → NoMore old (set_row place row state o)
+pub set-no_more : (place : ℕ) (row : Row) (state : RowState) (old o : Outcome) → StandsAt place row o → ((q : ℕ) → cond (has_process q state) 1 0 ≤ cond (has_process q row.state) 1 0) → NoMore old o → NoMore old (set_row place row state o)
 set-no_more place row state old o at less h q =
     let e : rows_in (has_process q) (slice_set o.state.rows place (with_state state row)) + cond (has_process q row.state) 1 0 ≡ rows_in (has_process q) o.state.rows + cond (has_process q state) 1 0 = rows_in-set (has_process q) place row state o.state.rows at in
     omega (arith, e, less q, h q)
 
-remove-no_more : (place : ℕ) (row : Row) (old o : Outcome) → StandsAt place row o → NoMore old o → NoMore old (with_rows (remove o.state.rows place) o)
+pub remove-no_more : (place : ℕ) (row : Row) (old o : Outcome) → StandsAt place row o → NoMore old o → NoMore old (with_rows (remove o.state.rows place) o)
 remove-no_more place row old o at h q =
     let e : rows_in (has_process q) (remove o.state.rows place) + cond (has_process q row.state) 1 0 ≡ rows_in (has_process q) o.state.rows = remove_count (row_has (has_process q)) o.state.rows place row at in
     omega (arith, e, h q)
 
-end-no_more : (place : ℕ) (row : Row) (old o : Outcome) → StandsAt place row o → NoMore old o → NoMore old (end_row place row o)
+pub end-no_more : (place : ℕ) (row : Row) (old o : Outcome) → StandsAt place row o → NoMore old o → NoMore old (end_row place row o)
 end-no_more place row old o at h q =
     let e : rows_in (has_process q) (end_row place row o).state.rows + cond (has_process q row.state) 1 0 ≡ rows_in (has_process q) o.state.rows = rows_in-end (has_process q) refl place row o at in
     omega (arith, e, h q)
@@ -90,7 +91,7 @@ unfolding use_exit end_process
 use_exit-no_more p place old o h =
     at_number-survives (NoMore old) p end_row (with_waiting (without o.state.waiting place) o) h (λ i row at has. end-no_more i row old (with_waiting (without o.state.waiting place) o) at h)
 
-stop_each-no_more : (ps : List ℕ) (old o : Outcome) → NoMore old o → NoMore old (stop_each ps o)
+pub stop_each-no_more : (ps : List ℕ) (old o : Outcome) → NoMore old o → NoMore old (stop_each ps o)
 unfolding stop_each
 stop_each-no_more [] old o h = h
 stop_each-no_more (p ∷ ps) old o h =
@@ -107,17 +108,17 @@ calmed-process q (Asked _ _) = refl
 calmed-process q (Killed _) = refl
 calmed-process q (Restarting _) = refl
 
-calm_process : (q : ℕ) (rows : List Row) → rows_in (has_process q) (calm_rows rows) ≡ rows_in (has_process q) rows
+pub calm_process : (q : ℕ) (rows : List Row) → rows_in (has_process q) (calm_rows rows) ≡ rows_in (has_process q) rows
 calm_process q rows = rows_in-map (has_process q) (λ (row : Row). with_state (calmed row.state) row) (λ row. calmed-process q row.state) rows
 
-terminate-no_more : (e : Ending) (old o : Outcome) → NoMore old o → NoMore old (terminate e o)
+pub terminate-no_more : (e : Ending) (old o : Outcome) → NoMore old o → NoMore old (terminate e o)
 unfolding terminate terminate_together terminate_ordered
 terminate-no_more e old o h =
     by_test (NoMore old) (is_simple o.state.flags.strategy) (terminate_together e o) (terminate_ordered e o)
     (λ _. stop_each-no_more (running o.state.rows) old (calm_all (with_work [] [] (Some (after.End e)) o)) (λ q. omega (arith, h q, calm_process q o.state.rows)))
     (λ _ q. omega (arith, h q, calm_process q o.state.rows))
 
-restart_rows-no_more : (from to place k : ℕ) (old o : Outcome) → from ≤ to → NoMore old o → NoMore old (restart_rows from to place k o)
+pub restart_rows-no_more : (from to place k : ℕ) (old o : Outcome) → from ≤ to → NoMore old o → NoMore old (restart_rows from to place k o)
 unfolding restart_rows
 restart_rows-no_more from to place k old o le h q =
     let rows : List Row = o.state.rows in
@@ -137,7 +138,7 @@ affected_in_order SimpleOneForOne place count h = omega arith
 pub counted_length : (place : ℕ) (row : Row) (o : Outcome) → StandsAt place row o → place < length (slice_set o.state.rows place (with_state Undefined row))
 counted_length place row o at = omega (arith, slice_get_within o.state.rows place row at, length-set o.state.rows place (with_state Undefined row))
 
-restart-no_more : (p place : ℕ) (row : Row) (old o : Outcome) → StandsAt place row o → NoMore old o → NoMore old (restart p place row o)
+pub restart-no_more : (p place : ℕ) (row : Row) (old o : Outcome) → StandsAt place row o → NoMore old o → NoMore old (restart p place row o)
 unfolding restart restart_or_end
 restart-no_more p place row old o at h =
     let counted : Outcome = with_stamps (o.state.stamps ++ o.state.last ∷ []) (set_row place row Undefined o) in
@@ -151,13 +152,13 @@ restart-no_more p place row old o at h =
     (λ _. restart_rows-no_more (affected_from strategy place) (affected_to strategy place count) place p old counted
     (affected_in_order strategy place count (omega (arith, counted_length place row o at))) less)
 
-new-no_more : (q : ℕ) (specs : List ChildSpec) → rows_in (has_process q) (map row_of specs) ≡ 0
-new-no_more q [] = refl
-new-no_more q (spec ∷ specs) = omega (arith, rows_in-cons (has_process q) (row_of spec) (map row_of specs), new-no_more q specs)
+new-no_more : (q slot : ℕ) (specs : List ChildSpec) → rows_in (has_process q) (rows_from slot specs) ≡ 0
+new-no_more q slot [] = refl
+new-no_more q slot (spec ∷ specs) = omega (arith, rows_in-cons (has_process q) (new_row slot (Some spec.id) spec) (rows_from (slot + 1) specs), new-no_more q (slot + 1) specs)
 
 open-no_more : (own : ℕ) (old o : Outcome) → NoMore old (open_rows own o)
 unfolding open_rows open_with
-open-no_more own old o q = omega (arith, new-no_more q (opening_specs (is_simple o.state.flags.strategy) o.state.specs))
+open-no_more own old o q = omega (arith, new-no_more q 0 (opening_specs (is_simple o.state.flags.strategy) o.state.specs))
 
 answer-no_more : (c : ℕ) (r : Reply) (old o : Outcome) → NoMore old o → NoMore old (answer c r o)
 unfolding answer
@@ -188,7 +189,7 @@ no_more-survives old k b =
       ends = λ e o other idle runs h. terminate-no_more e old o h;
       ticks = λ o is h q. let e : holders q (tick o) ≡ holders q o = tick_count (has_process q) (λ p d. refl) o in omega (arith, e, h q);
       opens = λ own o link over h. open-no_more own old o;
-      adds = λ c id spec o idle runs named h q. omega (arith, h q, rows_in-append (has_process q) o.state.rows (new_row id spec ∷ []), rows_in-cons (has_process q) (new_row id spec) []);
+      adds = λ c id spec o idle runs named h q. omega (arith, h q, rows_in-append (has_process q) o.state.rows (new_row (free_slot o.state.rows) id spec ∷ []), rows_in-cons (has_process q) (new_row (free_slot o.state.rows) id spec) []);
       starts_again = λ c id place row o idle runs at has is h. h;
       removed = λ place row o idle runs at down h. remove-no_more place row old o at h;
       given_up = λ place row o idle runs at down h. set-no_more place row Undefined old o at (λ x. omega arith) h;
@@ -219,7 +220,7 @@ started-grown due n o =
     or_true true = refl
     or_true false = refl
 
-follow-no_more : (f : Option After) (o : Outcome) → NoMore o (follow f o)
+pub follow-no_more : (f : Option After) (o : Outcome) → NoMore o (follow f o)
 unfolding follow end_all refuse_all answer
 follow-no_more None o q = omega arith
 follow-no_more (Some after.Ready) o q = omega arith
@@ -252,10 +253,6 @@ advance-grown n o =
     (λ _. by_test (Grown n o) (list_any (row_has is_awaited) o.state.rows) o go (λ _. inl (λ q. omega arith)) (λ _. stop_first-grown o.state.to_stop n o))
     (λ _. inl (λ q. omega arith))
 
--- each process has one row at most, and all numbers are below m
-abbrev pub IsDistinct : ℕ → State → Type 0
-IsDistinct m s = ((q : ℕ) → rows_in (has_process q) s.rows ≤ 1) × ((q : ℕ) → m ≤ q → rows_in (has_process q) s.rows ≡ 0)
-
 pub decided-distinct : (m : ℕ) (s : State) (e : Event) → IsDistinct m s → IsDistinct m (decided s e)
 decided-distinct m s e d =
     let start : Outcome = record { state = stamped e.reading s; orders = [] } in
@@ -263,7 +260,7 @@ decided-distinct m s e d =
     (λ q. omega (arith, less q, d.0 q), λ q h. omega (arith, less q, d.1 q h))
 
 -- a start takes a number that none has
-step-grown : (s : State) (e : Event) → ((q : ℕ) → rows_in (has_process q) (step s e).state.rows ≤ rows_in (has_process q) (decided s e).rows) ⊎ ((list_any is_start (step s e).orders ≡ true) × ((q : ℕ) → rows_in (has_process q) (step s e).state.rows ≤ rows_in (has_process q) (decided s e).rows + cond (unwrap_or e.number 0 == q) 1 0))
+pub step-grown : (s : State) (e : Event) → ((q : ℕ) → rows_in (has_process q) (step s e).state.rows ≤ rows_in (has_process q) (decided s e).rows) ⊎ ((list_any is_start (step s e).orders ≡ true) × ((q : ℕ) → rows_in (has_process q) (step s e).state.rows ≤ rows_in (has_process q) (decided s e).rows + cond (unwrap_or e.number 0 == q) 1 0))
 unfolding step step_on
 step-grown s e = advance-grown (unwrap_or e.number 0) (decide e.kind (record { state = stamped e.reading s; orders = [] }))
 

@@ -8,7 +8,7 @@ use Rattle.otp_spec.specs.declared.flags.SupFlags.{SupFlags}
 use Rattle.otp_table.specs.declared.row.Row.{Row}
 use Rattle.otp_table.specs.declared.row.RowState.{RowState}
 use Rattle.otp_table.specs.declared.row.RowState.TheVariants.{Undefined, Starting, Up, Asked, Killed, Restarting}
-use Rattle.otp_table.specs.Rows.{has_process, is_awaited, row_has, with_state, calm_rows}
+use Rattle.otp_table.specs.Rows.{has_process, is_awaited, row_has, with_state, calm_rows, free_slot}
 use Rattle.otp_window.specs.Period.{in_period}
 use Rattle.otp_rules.specs.declared.call.Reply.{Reply}
 use Rattle.otp_rules.specs.declared.ending.Ending.{Ending}
@@ -21,23 +21,14 @@ use Rattle.otp_rules.specs.Restarts.{affected_from, affected_to, dues, running}
 use Rattle.otp_rules.specs.Stops.{calm_all, is_exit, without, told, tell_row, tell, use_exit, is_due, start_row, start, refuse_all, end_all, follow, start_first, stop_first, advance, stop_each, terminate_ordered, terminate_together, terminate}
 use Rattle.otp_rules.specs.Deaths.{restart_rows, restart_or_end, restart}
 use Rattle.otp_rules.specs.Calls.{new_row}
-use Rattle.otp_rules.specs.Step.{row_of, open_with, open_rows, opening_specs, tick}
+use Rattle.otp_rules.specs.Step.{rows_from, open_with, open_rows, opening_specs, tick}
 use Rattle.otp_rules.specs.Run.{empty_state}
-use Rattle.otp_rules.proofs.Decisions.{IsIdle, IsRunning, StandsAt, Survives, at_row-survives, at_number-survives, by_test, is_told}
-use Rattle.otp_rules.proofs.Counting.{rows_in, times, times-cons, rows_in-cons, rows_in-append, remove_count, rows_in-set, rows_in-at, rows_in-end, Alike, end_row-alike, stop_each-alike, told-runs, runs_as, runs_number, times-reverse, running_counted, calm_awaited, tick_count, take_rows, drop_rows, none_in, there}
-use Rattle.otp_rules.specs.Order.{is_end, ends_together}
+use Rattle.otp_rules.specs.Progress.{is_end}
+use Rattle.otp_rules.specs.Fit.{is_told, rows_in, times, runs_as, IsLimited, IsCovered, IsSound}
+use Rattle.otp_rules.proofs.Decisions.{IsIdle, IsRunning, StandsAt, Survives, at_row-survives, at_number-survives, by_test}
+use Rattle.otp_rules.proofs.Counting.{times-cons, rows_in-cons, rows_in-append, remove_count, rows_in-set, rows_in-at, rows_in-end, Alike, end_row-alike, stop_each-alike, told-runs, runs_number, times-reverse, running_counted, calm_awaited, tick_count, take_rows, drop_rows, none_in, there}
 use Rattle.otp_rules.specs.declared.ending.Ending.TheVariants as ending
 use Rattle.otp_rules.specs.declared.work.After.TheVariants as after
-
--- how many answers of children may be awaited, by what follows the open work: none where no work is open
-abbrev pub IsLimited : Option After → ℕ → Type 0
-IsLimited None n = n ≡ 0
-IsLimited (Some after.Ready) n = n ≤ 1
-IsLimited (Some after.Nothing) n = n ≤ 1
-IsLimited (Some (after.Added _)) n = n ≤ 1
-IsLimited (Some (after.Restarted _)) n = n ≤ 1
-IsLimited (Some (after.Stopped _)) n = n ≤ 1
-IsLimited (Some (after.End _)) n = Unit {0}
 
 limited-less : (f : Option After) (m n : ℕ) → m ≤ n → IsLimited f n → IsLimited f m
 limited-less None m n h k = omega (arith, h, k)
@@ -60,20 +51,6 @@ limited-one (Some (after.End _)) n busy h = tt
 limited-none : (f : Option After) (n : ℕ) → is_some f ≡ false → IsLimited f n → n ≡ 0
 limited-none None n idle h = h
 limited-none (Some f) n idle h = absurd (false≢true (sym idle))
-
--- each process still to stop is a child's, as often as it is to stop
-abbrev pub IsCovered : List ℕ → List Row → Type 0
-IsCovered ps rows = (q : ℕ) → times q ps ≤ rows_in (runs_as q) rows
-
--- no more answers are awaited than the open work may await, its processes are there, and it is open while the supervisor runs
-abbrev pub IsSound : State → Type 0
-IsSound s =
-    IsLimited s.follows (rows_in is_awaited s.rows)
-    × IsCovered s.to_stop s.rows
-    × (is_some s.follows ≡ false → (s.to_stop ≡ []) × (s.to_start ≡ []))
-    × (is_over s.phase ≡ true → is_some s.follows ≡ false)
-    × (is_end s.follows ≡ true → s.to_start ≡ [])
-    × (ends_together s ≡ true → s.to_stop ≡ [])
 
 -- nothing to stop is always covered
 pub covered-none : (ps : List ℕ) (rows : List Row) → ps ≡ [] → IsCovered ps rows
@@ -206,15 +183,15 @@ tick-sound : (o : Outcome) → IsSound o.state → IsSound (tick o).state
 tick-sound o g = ticked o (tick o).state.rows (tick_is o) (tick_count is_awaited (λ p d. refl) o) (λ q. tick_count (runs_as q) (λ p d. refl) o) g
 
 -- new rows await nothing
-new_rows : (specs : List ChildSpec) → rows_in is_awaited (map row_of specs) ≡ 0
-new_rows [] = refl
-new_rows (spec ∷ specs) = omega (arith, rows_in-cons is_awaited (row_of spec) (map row_of specs), new_rows specs)
+new_rows : (slot : ℕ) (specs : List ChildSpec) → rows_in is_awaited (rows_from slot specs) ≡ 0
+new_rows slot [] = refl
+new_rows slot (spec ∷ specs) = omega (arith, rows_in-cons is_awaited (new_row slot (Some spec.id) spec) (rows_from (slot + 1) specs), new_rows (slot + 1) specs)
 
 open-sound : (own : ℕ) (o : Outcome) → IsSound (open_rows own o).state
 unfolding open_rows open_with
 open-sound own o =
     let specs : List ChildSpec = opening_specs (is_simple o.state.flags.strategy) o.state.specs in
-    (omega (arith, new_rows specs), covered-none [] (map row_of specs) refl, λ idle. absurd (false≢true (sym idle)), λ over. absurd (false≢true over), λ e. absurd (false≢true e), λ e. absurd (false≢true e))
+    (omega (arith, new_rows 0 specs), covered-none [] (rows_from 0 specs) refl, λ idle. absurd (false≢true (sym idle)), λ over. absurd (false≢true over), λ e. absurd (false≢true e), λ e. absurd (false≢true e))
 
 -- work opens for a supervisor that runs and has none
 opened-sound : (b : Bool) (ps : List ℕ) (ds : List Due) (f : After) (rows : List Row) (o : Outcome) → IsIdle b o → IsRunning o → is_end (Some f) ≡ false → rows_in is_awaited rows ≤ rows_in is_awaited o.state.rows → IsCovered ps rows → IsSound o.state → IsSound (with_work ps ds (Some f) (with_rows rows o)).state
@@ -286,8 +263,8 @@ sound-survives k b =
       ticks = λ o is g. tick-sound o g;
       opens = λ own o link over g. open-sound own o;
       adds = λ c id spec o idle runs named g.
-          opened-sound b [] (record { id = id; kept = None } ∷ []) (after.Added c) (o.state.rows ++ new_row id spec ∷ []) o idle runs refl
-          (omega (arith, rows_in-append is_awaited o.state.rows (new_row id spec ∷ []), rows_in-cons is_awaited (new_row id spec) []))
+          opened-sound b [] (record { id = id; kept = None } ∷ []) (after.Added c) (o.state.rows ++ new_row (free_slot o.state.rows) id spec ∷ []) o idle runs refl
+          (omega (arith, rows_in-append is_awaited o.state.rows (new_row (free_slot o.state.rows) id spec ∷ []), rows_in-cons is_awaited (new_row (free_slot o.state.rows) id spec) []))
           (λ q. omega arith) g;
       starts_again = λ c id place row o idle runs at h is g. opened-sound b [] (record { id = Some id; kept = None } ∷ []) (after.Restarted c) o.state.rows o idle runs refl (omega arith) (λ q. omega arith) g;
       removed = λ place row o idle runs at h g. idle-sound b (remove o.state.rows place) o idle (less_removed place row o at) g;

@@ -1,13 +1,15 @@
 -- The law of the start order, along every lawful history.
-use Rattle.std.specs.Prelude.{◌≡◌, ◌⊎◌, ℕ, ◌==◌, ◌+◌, ◌≤◌, ◌<◌, ◌++◌, ◌&&◌, ◌||◌, Bool, true, false, List, [], ◌∷◌, Option, None, Some, All, refl, if◌then◌else◌, not, position, is_some, slice_set, nat_lt, remove, unwrap_or, map, AllPairs}
+use Rattle.std.specs.Prelude.{◌≡◌, ℕ, ◌==◌, ◌+◌, ◌≤◌, ◌<◌, ◌++◌, ◌&&◌, ◌||◌, Bool, true, false, List, [], ◌∷◌, Option, None, Some, All, refl, if◌then◌else◌, not, position, is_some, slice_set, nat_lt, remove, unwrap_or, map, reverse, AllPairs}
 use Rattle.std.specs.List.{list_any, filter_map, cons_option}
 use Rattle.std.proofs.Common.{◌∙◌, ap, sym, subst, inl, inr, arith, ⊎_elim, cond, get_or}
 use Rattle.std.proofs.lemmas.Bool.{cond_both, false≢true, cases_Bool, and_parts, eq-eqb}
 use Rattle.std.proofs.lemmas.List.Elements.{All-nil, All-push, All-head, All-tail, All-cons, filter_map-append}
-use Rattle.std.proofs.lemmas.List.{append-nil, append_assoc, map-append}
+use Rattle.std.proofs.lemmas.List.{get_or_append_left, length-append, append-nil, append_assoc, map-append}
 use Rattle.otp_reason.specs.declared.name.Name.{Name}
 use Rattle.otp_spec.specs.declared.child.Shutdown.{Shutdown}
 use Rattle.otp_spec.specs.declared.child.Shutdown.TheVariants.{BrutalKill, Milliseconds, Infinity}
+use Rattle.otp_spec.specs.declared.flags.SupFlags.{SupFlags}
+use Rattle.otp_spec.specs.declared.child.ChildSpec.{ChildSpec}
 use Rattle.otp_table.specs.declared.row.Row.{Row}
 use Rattle.otp_table.specs.declared.row.RowState.{RowState}
 use Rattle.otp_table.specs.declared.row.RowState.TheVariants.{Undefined, Starting, Up, Asked, Killed, Restarting}
@@ -21,20 +23,23 @@ use Rattle.otp_rules.specs.Places.{at_number, end_row, end_process, is_removed, 
 use Rattle.otp_rules.specs.Stops.{is_exit, without, told, stop_order, tell_row, tell, use_exit, is_due, start_row, start, refuse_all, end_all, follow, start_first, stop_first, advance}
 use Rattle.otp_rules.specs.Step.{decide, stamped, step, step_on}
 use Rattle.otp_rules.specs.Run.{empty_state, state_after}
-use Rattle.otp_rules.proofs.Decisions.{StandsAt, by_test, decide-survives, is_told}
+use Rattle.otp_rules.specs.Progress.{Ordered, Progress, no_progress, is_end, ends_together, id_bytes, processes, started, start_list, seen, gave, progress, IsIn}
+use Rattle.otp_rules.specs.Fit.{rows_in, times, IsSound, HasWaiting, HasStops, Keeps, IsListed, IsDistinct, is_free, Fits, IsNamed, IsFitted, is_starting, IsUnderWay, HasStarts, KeepsStarts, next_number, IsFit, IsLawfulFrom, StaysFit}
+use Rattle.otp_rules.proofs.Decisions.{StandsAt, by_test, decide-survives}
 use Prim.Native.Nat.{suc}
-use Rattle.otp_rules.proofs.Counting.{rows_in, times, rows_in-set, rows_in-at, Alike, end_row-alike, use_exit-alike, none_in, there, at_row-found, at_row-first, use_exit-quiet}
-use Rattle.otp_rules.specs.Order.{Ordered, Progress, no_progress, is_end, ends_together, started, seen, gave, progress, IsIn, StartsInTurn, IsStartInTurn, StartOrder}
-use Rattle.otp_rules.proofs.Sound.{IsSound, IsReady, empty-sound, used-ready}
-use Rattle.otp_rules.proofs.Stopping.{HasWaiting, HasStops, Keeps, decided-keeps, not_busy}
+use Rattle.otp_rules.proofs.Counting.{rows_in-set, rows_in-at, Alike, end_row-alike, use_exit-alike, times-reverse, none_in, there, at_row-found, at_row-first, use_exit-quiet}
+use Rattle.otp_rules.specs.Order.{StartsInTurn, IsStartInTurn, StartOrder, StartOrderFromEmpty}
+use Rattle.otp_rules.proofs.Sound.{IsReady, empty-sound, used-ready}
+use Rattle.otp_rules.proofs.Stopping.{not_busy}
+use Rattle.otp_rules.proofs.Opened.{decided-keeps}
 use Rattle.std.proofs.lemmas.List.Sums.{sum_by-le-sum_by}
 use Rattle.otp_rules.specs.Needs.{IsNumbered, is_start, numbers_of}
 use Rattle.otp_rules.proofs.NeedsWork.{decide-quiet}
-use Rattle.otp_rules.proofs.Numbers.{use_exit-no_more, IsDistinct, decided-distinct, numbered-distinct, unnumbered-distinct}
-use Rattle.otp_rules.proofs.InTurn.{HasDone, used-waits, used-done, none_told, TakesReplies, follow-orders, follow-closes, stands, step-keeps}
-use Rattle.otp_rules.proofs.Fits.{is_free, Fits, fits-stop, fits-stop-remove, due_there, fits-start}
-use Rattle.otp_rules.proofs.Fitted.{set-named, named-less, end-named, IsNamed, IsFitted, Stands, fitted-survives, empty-fitted}
-use Rattle.otp_rules.proofs.Starting.{idle_keeps, is_starting, HasStarts, KeepsStarts, decided-starts}
+use Rattle.otp_rules.proofs.Numbers.{use_exit-no_more, decided-distinct, numbered-distinct, unnumbered-distinct}
+use Rattle.otp_rules.proofs.InTurn.{IsDone, HasDone, all-done, used-waits, used-done, TakesReplies, follow-orders, follow-closes, stands, step-keeps}
+use Rattle.otp_rules.proofs.Fits.{fits-stop, fits-stop-remove, due_there, fits-start}
+use Rattle.otp_rules.proofs.Fitted.{set-named, named-less, end-named, Stands, fitted-survives, empty-fitted}
+use Rattle.otp_rules.proofs.Starting.{idle_keeps, decided-starts}
 use Rattle.otp_rules.specs.declared.event.Effect.TheVariants as effect
 use Rattle.otp_rules.specs.declared.event.Waiting.TheVariants as waiting
 use Rattle.otp_rules.specs.declared.work.After.TheVariants as after
@@ -95,7 +100,8 @@ quietly g x keeps none fitted = (subst (λ (y : Progress). KeepsStarts x.state y
 
 -- those that were to be started before have been, and were answered
 abbrev AllAnswered : Progress → Outcome → Type 0
-AllAnswered g o = (first : List Due) × (g.starts ≡ first ++ o.state.to_start) × (map (λ x. x.id) g.ordered ≡ map (λ x. x.id) first) × All (λ x. IsIn x.number g.answered) g.ordered
+AllAnswered g o =
+    (first : List Due) × (g.opened.to_start ≡ first ++ o.state.to_start) × (map (λ x. id_bytes x.id) g.ordered ≡ map (λ (x : Due). id_bytes x.id) first) × All (λ x. x.answered ≡ true) g.ordered
 
 -- the work may go on to a start
 abbrev MayStart : Progress → List ℕ → Outcome → Type 0
@@ -116,11 +122,46 @@ follow-fitted (Some (after.Restarted c)) o h = (h.0, tt)
 follow-fitted (Some (after.Stopped c)) o h = (h.0, tt)
 follow-fitted (Some (after.End e)) o h = (λ _. refl, tt)
 
--- all that was to be stopped has ended
-all_ended : (g : Progress) (o : Outcome) → ends_together o.state ≡ false → HasDone g [] o → (p : ℕ) → IsIn p g.stops → IsIn p g.ended
-all_ended g o apart d p h =
-    let part : (done : List ℕ) × (g.stops ≡ done ++ []) × ((q : ℕ) → IsIn q done → IsIn q g.ended) = d apart in
-    part.2 p (subst (λ (xs : List ℕ). IsIn p xs) (part.1 ∙ append-nil part.0) h)
+-- as the ids of the lists agree, so do their parts
+same_parts : (first : List Due) (due : Due) (rest : List Due) (rows : List Row) → map (λ (x : Due). id_bytes x.id) (first ++ due ∷ rest) ≡ map (λ (x : Row). id_bytes x.id) rows
+    → (before : List Row) × (row : Row) × (after_it : List Row) × (rows ≡ before ++ row ∷ after_it) × (id_bytes row.id ≡ id_bytes due.id) × (map (λ (x : Due). id_bytes x.id) first ≡ map (λ (x : Row). id_bytes x.id) before)
+same_parts [] due rest [] h = cc
+same_parts [] due rest (row ∷ rows) h = ([], row, rows, refl, cc, refl)
+same_parts (x ∷ first) due rest [] h = cc
+same_parts (x ∷ first) due rest (row ∷ rows) h =
+    let tail : map (λ (y : Due). id_bytes y.id) (first ++ due ∷ rest) ≡ map (λ (y : Row). id_bytes y.id) rows = cc in
+    let here : id_bytes x.id ≡ id_bytes row.id = cc in
+    let more : (before : List Row) × (r : Row) × (after_it : List Row) × (rows ≡ before ++ r ∷ after_it) × (id_bytes r.id ≡ id_bytes due.id) × (map (λ (y : Due). id_bytes y.id) first ≡ map (λ (y : Row). id_bytes y.id) before) = same_parts first due rest rows tail in (
+      row ∷ more.0,
+      more.1,
+      more.2,
+      ap (λ (rs : List Row). row ∷ rs) more.3,
+      more.4,
+      ap (λ (id : Option (List ℕ)). id ∷ map (λ (y : Due). id_bytes y.id) first) here ∙ ap (λ (ids : List (Option (List ℕ))). id_bytes row.id ∷ ids) more.5,
+    )
+
+-- the next of the start list is in its turn
+in_turn : (g : Progress) (due : Due) (rest : List Due) (o : Outcome) → o.state.to_start ≡ due ∷ rest → AllAnswered g o → IsDone g [] → StartsInTurn g due.id
+in_turn g due rest o is answered d =
+    let listed : IsListed g.opened = d.0 in
+    let part : List Row = listed.0 in
+    let next : g.opened.to_start ≡ answered.0 ++ due ∷ rest = answered.1 ∙ ap (λ (ds : List Due). answered.0 ++ ds) is in
+    let parts : (before : List Row) × (row : Row) × (after_it : List Row) × (start_list g.opened.follows part ≡ before ++ row ∷ after_it) × (id_bytes row.id ≡ id_bytes due.id) × (map (λ (x : Due). id_bytes x.id) answered.0 ≡ map (λ (x : Row). id_bytes x.id) before) =
+    same_parts answered.0 due rest (start_list g.opened.follows part) (ap (λ (ds : List Due). map (λ (x : Due). id_bytes x.id) ds) (sym next) ∙ listed.7) in (
+      part,
+      listed.1,
+      parts.0,
+      parts.1,
+      parts.2,
+      parts.3,
+      parts.4,
+      answered.2 ∙ parts.5,
+      answered.3,
+      λ p h. d.3 p (
+          let e : times p g.opened.to_stop ≡ times p (reverse (processes part)) = ap (λ (xs : List ℕ). times p xs) listed.6 in
+          let all : times p g.opened.to_stop ≡ times p d.1 = ap (λ (xs : List ℕ). times p xs) (d.2 ∙ append-nil d.1) in
+          omega (arith, h, e, all, times-reverse p (processes part))),
+    )
 
 ordered-gone : (g : Progress) (due : Due) (rest : List Due) (n : ℕ) (o : Outcome) → o.state.to_start ≡ due ∷ rest → MayStart g [] o → Gone g (start due n (with_work o.state.to_stop rest o.state.follows o))
 unfolding start start_row
@@ -130,26 +171,26 @@ ordered-gone g due rest n o is m =
     let not_end : is_end o.state.follows ≡ false = ⊎_elim (λ yes. absurd (let k : due ∷ rest ≡ [] = sym is ∙ m.0.0.4 yes in cc)) (λ other. other) (cases_Bool (is_end o.state.follows)) in
     let apart : ends_together o.state ≡ false = ap (λ (b : Bool). b && is_simple o.state.flags.strategy) not_end in
     let answered : AllAnswered g o = m.6 in
-    let new : Ordered = record { id = due.id; number = n } in
+    let new : Ordered = record { id = due.id; number = n; answered = false } in
     let given : List Effect = o.orders ++ effect.Start due.id n ∷ [] in
     let now : RowState = Starting n (unwrap_or due.kept n) in
     let longer : filter_map started given ≡ new ∷ [] =
     filter_map-append started o.orders (effect.Start due.id n ∷ []) ∙ ap (λ (os : List Ordered). os ++ new ∷ []) (nobody_started o.orders m.7) in
     let ordered_is : (gave given g).ordered ≡ g.ordered ++ new ∷ [] = ap (λ (os : List Ordered). g.ordered ++ os) longer in
-    let next : g.starts ≡ answered.0 ++ due ∷ rest = answered.1 ∙ ap (λ (ds : List Due). answered.0 ++ ds) is in
-    let turn : StartsInTurn g due.id = (answered.0, due, rest, next, refl, answered.2, answered.3, all_ended g o apart m.5) in
+    let next : g.opened.to_start ≡ answered.0 ++ due ∷ rest = answered.1 ∙ ap (λ (ds : List Due). answered.0 ++ ds) is in
+    let turn : StartsInTurn g due.id = in_turn g due rest o is answered (m.5 apart) in
     at_row-first (λ x. Gone g (emit (effect.Start due.id n) x)) (is_due due) left (start_row due n) left (due_there due rest o.state.rows m.0.1 fits)
     (λ i row found at.
     let rows : List Row = slice_set o.state.rows i (with_state now row) in (
       (λ busy. (
         answered.0 ++ due ∷ [],
         next ∙ sym (append_assoc answered.0 (due ∷ []) rest),
-        ap (λ (os : List Ordered). map (λ (x : Ordered). x.id) os) ordered_is
-            ∙ map-append (λ (x : Ordered). x.id) g.ordered (new ∷ [])
-            ∙ ap (λ (ids : List (Option Name)). ids ++ due.id ∷ []) answered.2
-            ∙ sym (map-append (λ (x : Due). x.id) answered.0 (due ∷ [])),
-        subst (λ (os : List Ordered). All (λ (x : Ordered). IsIn x.number g.answered ⊎ (0 < rows_in (is_starting x.number) rows)) os) (sym ordered_is)
-            (All-push (λ (x : Ordered). IsIn x.number g.answered ⊎ (0 < rows_in (is_starting x.number) rows)) g.ordered new
+        ap (λ (os : List Ordered). map (λ (x : Ordered). id_bytes x.id) os) ordered_is
+            ∙ map-append (λ (x : Ordered). id_bytes x.id) g.ordered (new ∷ [])
+            ∙ ap (λ (ids : List (Option (List ℕ))). ids ++ id_bytes due.id ∷ []) answered.2
+            ∙ sym (map-append (λ (x : Due). id_bytes x.id) answered.0 (due ∷ [])),
+        subst (λ (os : List Ordered). All (IsUnderWay rows) os) (sym ordered_is)
+            (All-push (IsUnderWay rows) g.ordered new
             (λ j d within. inl (answered.3 j d within))
             (inr (
             let e : rows_in (is_starting n) rows + cond (is_starting n row.state) 1 0 ≡ rows_in (is_starting n) o.state.rows + cond (n == n) 1 0 = rows_in-set (is_starting n) i row now o.state.rows at in
@@ -200,7 +241,7 @@ end-stops p ps ds i row o at has one fits =
     (λ goes. fits-stop-remove p ps i row has (λ free. held_goes (p ∷ ps) p row.state has (sym (ap (λ (b : Bool). is_free (p ∷ ps) b row.state) goes) ∙ free)) ds o.state.rows at one fits)
     (λ _. fits-stop p ps i row Undefined has (λ _. refl) ds o.state.rows at one fits)
 
-used-fits : (p : ℕ) (ps : List ℕ) (place : Option ℕ) (o : Outcome) → IsReady (p ∷ ps) o → rows_in (has_process p) o.state.rows ≤ 1 → IsNamed o.state → Fits (p ∷ ps) o.state.to_start o.state.rows
+pub used-fits : (p : ℕ) (ps : List ℕ) (place : Option ℕ) (o : Outcome) → IsReady (p ∷ ps) o → rows_in (has_process p) o.state.rows ≤ 1 → IsNamed o.state → Fits (p ∷ ps) o.state.to_start o.state.rows
     → IsNamed (use_exit p place (with_work ps o.state.to_start o.state.follows o)).state × Fits ps o.state.to_start (use_exit p place (with_work ps o.state.to_start o.state.follows o)).state.rows
 unfolding use_exit end_process at_number
 used-fits p ps place o r one named fits =
@@ -281,55 +322,87 @@ advance-gone g n o h one stops starts none =
       h.1.0,
       h.1.1,
       had.0,
-      (λ apart.
-          let part : (done : List ℕ) × (g.stops ≡ done ++ o.state.to_stop) × ((q : ℕ) → IsIn q done → IsIn q g.ended ⊎ (0 < rows_in (is_told q) o.state.rows)) = had.1 apart in
-          (part.0, part.1, λ q i. ⊎_elim (λ x. x) (λ x. absurd (none_told q o.state.rows zero x)) (part.2 q i))),
+      (λ apart. all-done o.state g zero (had.1 apart)),
       (begun.0, begun.1, begun.2, λ i d within. ⊎_elim (λ x. x) (λ x. absurd (none_starting (get_or g.ordered i d).number o.state.rows zero x)) (begun.3 i d within)),
       none,
     )))
     (λ _. quietly g o starts none h.1)
 
--- all that holds between two events of a lawful history, whose numbers so far are below m
-abbrev Lawfully : ℕ → State → Progress → Type 0
-Lawfully m s g = IsSound s × IsFitted s × IsDistinct m s × Keeps s g × KeepsStarts s g
-
-step-gone : (m : ℕ) (s : State) (e : Event) (g : Progress) → Lawfully m s g → Gone (seen s e g) (step s e)
+step-gone : (m : ℕ) (s : State) (e : Event) (g : Progress) → IsFit m s g → Gone (seen s e g) (step s e)
 unfolding step step_on
 step-gone m s e g l =
     let start : Outcome = record { state = stamped e.reading s; orders = [] } in
     let o : Outcome = decide e.kind start in
-    let stands_now : Stands o = decide-survives e.kind Stands start (fitted-survives e.kind (is_some s.follows)) (l.0, l.1) in
+    let stands_now : Stands o = decide-survives e.kind Stands start (fitted-survives e.kind (is_some s.follows)) (l.0.0, l.1) in
     let quiet : list_any is_start o.orders ≡ false = decide-survives e.kind (λ x. list_any is_start x.orders ≡ false) start (decide-quiet e.kind (is_some s.follows)) refl in
-    advance-gone (seen s e g) (unwrap_or e.number 0) o stands_now (decided-distinct m s e l.2).0 (decided-keeps s e g l.0 l.3).1 (decided-starts s e g l.0 l.4) (from_any o.orders quiet)
+    advance-gone (seen s e g) (unwrap_or e.number 0) o stands_now (decided-distinct m s e l.2).0 (decided-keeps s e g l.0.0 l.0.1).1 (decided-starts s e g l.0.0 l.3) (from_any o.orders quiet)
 
 -- the numbers that follow are no less
-step-lawful : (m k : ℕ) (s : State) (e : Event) (g : Progress) → Lawfully m s g → IsDistinct k (step s e).state → Lawfully k (step s e).state (gave (step s e).orders (seen s e g))
+step-lawful : (m k : ℕ) (s : State) (e : Event) (g : Progress) → IsFit m s g → IsDistinct k (step s e).state → IsFit k (step s e).state (gave (step s e).orders (seen s e g))
 step-lawful m k s e g l distinct =
     let gone : Gone (seen s e g) (step s e) = step-gone m s e g l in
-    let kept : IsSound (step s e).state × Keeps (step s e).state (gave (step s e).orders (seen s e g)) = step-keeps s e g l.0 l.3 in
-    (kept.0, gone.2, distinct, kept.1, gone.0)
+    let kept : IsSound (step s e).state × Keeps (step s e).state (gave (step s e).orders (seen s e g)) = step-keeps s e g l.0.0 l.0.1 in
+    (kept, gone.2, distinct, gone.0)
 
-pairs_rest : (x : ℕ) (xs : List ℕ) → AllPairs (λ i j. i < j) (x ∷ xs) → AllPairs (λ i j. i < j) xs
+pub pairs_rest : (x : ℕ) (xs : List ℕ) → AllPairs (λ i j. i < j) (x ∷ xs) → AllPairs (λ i j. i < j) xs
 pairs_rest x xs h i j d less within = h (suc i) (suc j) d (omega (arith, less)) (omega (arith, within))
 
-pairs_first : (x : ℕ) (xs : List ℕ) → AllPairs (λ i j. i < j) (x ∷ xs) → All (λ y. x + 1 ≤ y) xs
+pub pairs_first : (x : ℕ) (xs : List ℕ) → AllPairs (λ i j. i < j) (x ∷ xs) → All (λ y. x + 1 ≤ y) xs
 pairs_first x xs h i d within = let k : x < get_or xs i d = h 0 (suc i) d (omega arith) (omega (arith, within)) in omega (arith, k)
 
--- the numbers of a history whose first event has this one
-run-lawful : (m : ℕ) (s : State) (g : Progress) (events : List Event) (e : Event) → Lawfully m s g → IsNumbered s (events ++ e ∷ []) → AllPairs (λ i j. i < j) (numbers_of (events ++ e ∷ [])) → All (λ y. m ≤ y) (numbers_of (events ++ e ∷ []))
-    → All (IsStartInTurn (seen (state_after s events) e (progress s g events))) (step (state_after s events) e).orders
-run-lawful m s g [] e l numbered rises fresh = (step-gone m s e g l).1
-run-lawful m s g (x ∷ events) e l numbered rises fresh =
-    let rest : List ℕ = numbers_of (events ++ e ∷ []) in
-    let goes_on : (k : ℕ) → IsDistinct k (step s x).state → AllPairs (λ i j. i < j) rest → All (λ y. k ≤ y) rest → All (IsStartInTurn (seen (state_after s (x ∷ events)) e (progress s g (x ∷ events)))) (step (state_after s (x ∷ events)) e).orders =
-    λ k distinct up above. run-lawful k (step s x).state (gave (step s x).orders (seen s x g)) events e (step-lawful m k s x g l distinct) numbered.1 up above in
-    (elim x.number as (λ (n : Option ℕ). x.number ≡ n → AllPairs (λ i j. i < j) (cons_option n rest) → All (λ y. m ≤ y) (cons_option n rest) → All (IsStartInTurn (seen (state_after s (x ∷ events)) e (progress s g (x ∷ events)))) (step (state_after s (x ∷ events)) e).orders) [
+-- a lawful history keeps a state fit
+run-fit : (m : ℕ) (s : State) (g : Progress) (events : List Event) → IsFit m s g → IsNumbered s events → AllPairs (λ i j. i < j) (numbers_of events) → All (λ y. m ≤ y) (numbers_of events)
+    → IsFit (next_number m (numbers_of events)) (state_after s events) (progress s g events)
+run-fit m s g [] l numbered rises fresh = l
+run-fit m s g (x ∷ events) l numbered rises fresh =
+    let rest : List ℕ = numbers_of events in
+    let s1 : State = (step s x).state in
+    let g1 : Progress = gave (step s x).orders (seen s x g) in
+    let goes_on : (k : ℕ) → IsDistinct k (step s x).state → AllPairs (λ i j. i < j) rest → All (λ y. k ≤ y) rest → IsFit (next_number k rest) (state_after s (x ∷ events)) (progress s g (x ∷ events)) =
+    λ k distinct up above. run-fit k s1 g1 events (step-lawful m k s x g l distinct) numbered.1 up above in
+    (elim x.number as (λ (n : Option ℕ). x.number ≡ n → AllPairs (λ i j. i < j) (cons_option n rest) → All (λ y. m ≤ y) (cons_option n rest) → IsFit (next_number m (cons_option n rest)) (state_after s (x ∷ events)) (progress s g (x ∷ events))) [
       | None ↦ λ is up above. goes_on m (unnumbered-distinct m s x is (sym numbered.0 ∙ ap (λ (n : Option ℕ). is_some n) is) l.2) up above
       | Some n ↦ λ is up above. goes_on (n + 1) (numbered-distinct m n s x is (All-head (λ y. m ≤ y) n rest above) l.2) (pairs_rest n rest up) (pairs_first n rest up)
     ]) refl rises fresh
 
+-- the beginning of a lawful history is lawful
+numbered_front : (s : State) (events more : List Event) → IsNumbered s (events ++ more) → IsNumbered s events
+numbered_front s [] more h = tt
+numbered_front s (x ∷ events) more h = (h.0, numbered_front (step s x).state events more h.1)
+
+lawful_front : (m : ℕ) (s : State) (events more : List Event) → IsLawfulFrom m s (events ++ more) → IsLawfulFrom m s events
+lawful_front m s events more h =
+    let ns : List ℕ = numbers_of events in
+    let split : numbers_of (events ++ more) ≡ numbers_of events ++ numbers_of more = filter_map-append (λ (x : Event). x.number) events more in
+    let rises : AllPairs (λ i j. i < j) (ns ++ numbers_of more) = subst (λ (xs : List ℕ). AllPairs (λ i j. i < j) xs) split h.0.1 in
+    let fresh : All (λ n. m ≤ n) (ns ++ numbers_of more) = subst (λ (xs : List ℕ). All (λ n. m ≤ n) xs) split h.1 in (
+      (
+        numbered_front s events more h.0.0,
+        λ i j d less within.
+            let first : get_or (ns ++ numbers_of more) i d ≡ get_or ns i d = get_or_append_left ns (numbers_of more) d i (omega (arith, less, within)) in
+            let last : get_or (ns ++ numbers_of more) j d ≡ get_or ns j d = get_or_append_left ns (numbers_of more) d j within in
+            omega (arith, first, last, rises i j d less (omega (arith, within, length-append ns (numbers_of more)))),
+      ),
+      λ i d within.
+          let same : get_or (ns ++ numbers_of more) i d ≡ get_or ns i d = get_or_append_left ns (numbers_of more) d i within in
+          omega (arith, same, fresh i d (omega (arith, within, length-append ns (numbers_of more)))),
+    )
+
+stays_fit : (m : ℕ) (s : State) (g : Progress) (events : List Event) → IsFit m s g → IsLawfulFrom m s events → IsFit (next_number m (numbers_of events)) (state_after s events) (progress s g events)
+stays_fit m s g events l lawful = run-fit m s g events l lawful.0.0 lawful.0.1 lawful.1
+
+empty_fit : (flags : SupFlags) (specs : List ChildSpec) → IsFit 0 (empty_state flags specs) (no_progress (empty_state flags specs))
+empty_fit flags specs =
+    let base : State = empty_state flags specs in
+    ((empty-sound flags specs, not_busy base (no_progress base) refl), empty-fitted flags specs, (λ q. omega arith, λ q h. refl), idle_keeps base (no_progress base) refl)
+
+pub stays_fit_law : StaysFit
+stays_fit_law = (empty_fit, stays_fit)
+
 pub start_order_law : StartOrder
-start_order_law flags specs events e lawful =
-    run-lawful 0 (empty_state flags specs) no_progress events e
-    (empty-sound flags specs, empty-fitted flags specs, (λ q. omega arith, λ q h. refl), not_busy (empty_state flags specs) no_progress refl, idle_keeps (empty_state flags specs) no_progress refl)
-    lawful.0 lawful.1 (λ i d within. omega arith)
+start_order_law m s g l events e lawful =
+    (step-gone (next_number m (numbers_of events)) (state_after s events) e (progress s g events) (stays_fit m s g events l (lawful_front m s events (e ∷ []) lawful))).1
+
+pub start_order_from_empty : StartOrderFromEmpty
+start_order_from_empty flags specs events e lawful =
+    start_order_law 0 (empty_state flags specs) (no_progress (empty_state flags specs)) (empty_fit flags specs) events e (lawful, λ i d within. omega arith)

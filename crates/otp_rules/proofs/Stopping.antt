@@ -9,11 +9,10 @@ use Rattle.otp_spec.specs.declared.flags.SupFlags.{SupFlags}
 use Rattle.otp_table.specs.declared.row.Row.{Row}
 use Rattle.otp_table.specs.declared.row.RowState.{RowState}
 use Rattle.otp_table.specs.declared.row.RowState.TheVariants.{Undefined, Starting, Up, Asked, Killed, Restarting}
-use Rattle.otp_table.specs.Rows.{with_state}
+use Rattle.otp_table.specs.Rows.{with_state, free_slot}
 use Rattle.otp_window.specs.Period.{in_period}
 use Rattle.otp_rules.specs.declared.call.Reply.{Reply}
 use Rattle.otp_rules.specs.declared.ending.Ending.{Ending}
-use Rattle.otp_rules.specs.declared.event.Event.{Event}
 use Rattle.otp_rules.specs.declared.event.Kind.{Kind}
 use Rattle.otp_rules.specs.declared.event.Waiting.{Waiting}
 use Rattle.otp_rules.specs.declared.work.After.{After}
@@ -23,30 +22,17 @@ use Rattle.otp_rules.specs.Restarts.{running}
 use Rattle.otp_rules.specs.Stops.{calm_all, is_exit, terminate_ordered, terminate_together, terminate}
 use Rattle.otp_rules.specs.Deaths.{restart_rows, restart_or_end, restart}
 use Rattle.otp_rules.specs.Calls.{new_row}
-use Rattle.otp_rules.specs.Step.{open_with, open_rows, tick, decide, stamped}
-use Rattle.otp_rules.proofs.Decisions.{IsNoted, StandsAt, Survives, by_test, decide-survives, is_told}
-use Rattle.otp_rules.proofs.Counting.{rows_in, times, times-cons, times-append, rows_in-set, rows_in-end, Alike, alike, end_row-alike, stop_each-alike, tick_count, end_row-quiet, put_count}
-use Rattle.otp_rules.specs.Order.{Progress, is_end, is_opened, ends_together, exit_of_waiting, ended_by, decided, opened_now, went_on, seen, IsIn}
-use Rattle.otp_rules.proofs.Sound.{IsSound, sound-survives}
+use Rattle.otp_rules.specs.Step.{open_with, open_rows, tick}
+use Rattle.otp_rules.specs.Progress.{Progress, is_end, is_opened, ends_together, exit_of_waiting, ended_by, went_on, IsIn}
+use Rattle.otp_rules.specs.Fit.{is_told, rows_in, times, IsSound, HasWaiting, HasPart, HasStops, Keeps}
+use Rattle.otp_rules.proofs.Decisions.{IsNoted, StandsAt, Survives, by_test}
+use Rattle.otp_rules.proofs.Counting.{times-cons, times-append, rows_in-set, rows_in-end, Alike, alike, end_row-alike, stop_each-alike, tick_count, end_row-quiet, put_count}
+use Rattle.otp_rules.proofs.Sound.{sound-survives}
 use Rattle.otp_reason.specs.declared.note.Note.TheVariants as note
 use Rattle.otp_rules.specs.declared.ending.Ending.TheVariants as ending
 use Rattle.otp_rules.specs.declared.event.Item.TheVariants as item
 use Rattle.otp_rules.specs.declared.event.Waiting.TheVariants as waiting
 use Rattle.otp_rules.specs.declared.work.After.TheVariants as after
-
--- each process whose Exit waits has ended
-abbrev pub HasWaiting : State → Progress → Type 0
-HasWaiting s g = (q : ℕ) → 0 < count_by (is_exit q) s.waiting → IsIn q g.ended
-
--- what was to be stopped is what still is, and before it those that have ended or were told to stop
-abbrev pub HasStops : State → Progress → Type 0
-HasStops s g =
-    ends_together s ≡ false
-    → (done : List ℕ) × (g.stops ≡ done ++ s.to_stop) × ((q : ℕ) → IsIn q done → IsIn q g.ended ⊎ (0 < rows_in (is_told q) s.rows))
-
--- while work is open, its progress is in step with the state
-abbrev pub Keeps : State → Progress → Type 0
-Keeps s g = is_some s.follows ≡ true → HasWaiting s g × HasStops s g
 
 -- the work that was open is open, or has closed, or work was opened
 abbrev pub Tracks : Option After → State → Type 0
@@ -90,10 +76,11 @@ still-carried f g o new same sound hw hr c = (
       let had : HasWaiting o.state g × HasStops o.state g = c.2 (ap (λ (x : Option After). is_opened f x) (sym same.4) ∙ no) open_too in (
         λ q h. ⊎_elim (λ x. x) (λ x. had.0 q x) (hw open_too q h),
         λ apart.
-            let part : (done : List ℕ) × (g.stops ≡ done ++ o.state.to_stop) × ((q : ℕ) → IsIn q done → IsIn q g.ended ⊎ (0 < rows_in (is_told q) o.state.rows)) = had.1 (sym (apart-alike new o same) ∙ apart) in (
+            let part : HasPart o.state g = had.1 (sym (apart-alike new o same) ∙ apart) in (
               part.0,
-              part.1 ∙ ap (λ (xs : List ℕ). part.0 ++ xs) (sym same.2),
-              λ q i. ⊎_elim (λ x. inl x) (λ x. hr open_too q x) (part.2 q i),
+              part.1,
+              part.2 ∙ ap (λ (xs : List ℕ). part.1 ++ xs) (sym same.2),
+              λ q i. ⊎_elim (λ x. inl x) (λ x. hr open_too q x) (part.3 q i),
             ),
       ),
 )
@@ -172,7 +159,7 @@ fails_opening f e s (inr (inr opened)) is = ready_opens f (sym (ap (λ (x : Opti
     ready_opens (Some (after.Stopped _)) h = h
     ready_opens (Some (after.End _)) h = h
 
-carried-survives : (k : Kind) (b : Bool) (f : Option After) (g : Progress) → b ≡ is_some f → Survives k b (Carried f (went_on k g))
+pub carried-survives : (k : Kind) (b : Bool) (f : Option After) (g : Progress) → b ≡ is_some f → Survives k b (Carried f (went_on k g))
 carried-survives k b f g is_base =
     let s : Survives k b (λ o. IsSound o.state) = sound-survives k b in
     let g1 : Progress = went_on k g in
@@ -221,7 +208,7 @@ carried-survives k b f g is_base =
       opens = λ own o link over x.
           opened-carried f g1 (open_rows own o) (opens_none f b (open_rows own o).state.follows is_base (sym link ∙ x.0.3 over) (open_rows-busy own o)) (s.opens own o link over x.0);
       adds = λ c id spec o idle runs named x.
-          opened-carried f g1 (with_work [] (record { id = id; kept = None } ∷ []) (Some (after.Added c)) (with_rows (o.state.rows ++ new_row id spec ∷ []) o))
+          opened-carried f g1 (with_work [] (record { id = id; kept = None } ∷ []) (Some (after.Added c)) (with_rows (o.state.rows ++ new_row (free_slot o.state.rows) id spec ∷ []) o))
           (opens_none f b (Some (after.Added c)) is_base idle.0 refl) (s.adds c id spec o idle runs named x.0);
       starts_again = λ c id place row o idle runs at h is x.
           opened-carried f g1 (with_work [] (record { id = Some id; kept = None } ∷ []) (Some (after.Restarted c)) o)
@@ -241,35 +228,6 @@ waits-one q (waiting.Item (item.Note (note.Exit p _))) rest = times-cons q p res
 waits-one q (waiting.Item (item.Call _ _)) rest = omega arith
 waits-one q (waiting.Retry _) rest = omega arith
 
-waits-all : (q : ℕ) (ws : List Waiting) → times q (filter_map exit_of_waiting ws) ≡ count_by (is_exit q) ws
+pub waits-all : (q : ℕ) (ws : List Waiting) → times q (filter_map exit_of_waiting ws) ≡ count_by (is_exit q) ws
 waits-all q [] = refl
 waits-all q (w ∷ ws) = omega (arith, waits-one q w (filter_map exit_of_waiting ws), sum_by-cons (λ x. cond (is_exit q x) 1 0) w ws, waits-all q ws)
-
-pub opened_now-keeps : (s : State) → Keeps s (opened_now s)
-opened_now-keeps s busy = (
-  λ q h. omega (arith, h, waits-all q s.waiting),
-  λ apart. ([], refl, λ q i. absurd (omega (arith, i))),
-)
-
--- the event is taken: the work that it opens, or that was open, is in step
-pub decided-keeps : (s : State) (e : Event) (g : Progress) → IsSound s → Keeps s g → IsSound (decided s e) × Keeps (decided s e) (seen s e g)
-decided-keeps s e g sound keeps =
-    let start : Outcome = record { state = stamped e.reading s; orders = [] } in
-    let first : Carried s.follows (went_on e.kind g) start = (
-      sound,
-      inl refl,
-      λ no busy.
-          let had : HasWaiting s g × HasStops s g = keeps busy in (
-            λ q h. omega (arith, had.0 q h, times-append q g.ended (ended_by e.kind)),
-            λ apart.
-                let part : (done : List ℕ) × (g.stops ≡ done ++ s.to_stop) × ((q : ℕ) → IsIn q done → IsIn q g.ended ⊎ (0 < rows_in (is_told q) s.rows)) = had.1 apart in
-                (part.0, part.1, λ q i. ⊎_elim (λ x. inl (omega (arith, x, times-append q g.ended (ended_by e.kind)))) (λ x. inr x) (part.2 q i)),
-          ),
-    ) in
-    let last : Carried s.follows (went_on e.kind g) (decide e.kind start) =
-    decide-survives e.kind (Carried s.follows (went_on e.kind g)) start (carried-survives e.kind (is_some s.follows) s.follows g refl) first in (
-      last.0,
-      cond_both (is_opened s.follows (decided s e).follows) (opened_now (decided s e)) (went_on e.kind g) (λ (x : Progress). Keeps (decided s e) x)
-          (λ _. opened_now-keeps (decided s e))
-          (λ no. last.2 no),
-    )

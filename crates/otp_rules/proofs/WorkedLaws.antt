@@ -1,5 +1,5 @@
 -- Worked rows of the laws, which compute: each law speaks of histories that there are.
-use Rattle.std.specs.Prelude.{◌≡◌, ℕ, List, [], ◌∷◌, ◌++◌, Option, None, Some, codes, refl, false, Bool, ◌<◌, AllPairs}
+use Rattle.std.specs.Prelude.{◌≡◌, ℕ, List, [], ◌∷◌, ◌++◌, Option, None, Some, codes, refl, true, false, Bool, ◌<◌, AllPairs}
 use Rattle.otp_reason.specs.declared.name.Name.{Name}
 use Rattle.otp_reason.specs.declared.note.Note.TheVariants as note
 use Rattle.otp_reason.specs.Names.{name_of}
@@ -39,6 +39,7 @@ use Rattle.otp_rules.specs.declared.ending.Ending.TheVariants as ending
 use Rattle.otp_rules.specs.declared.work.Phase.TheVariants.{Ended}
 use Rattle.otp_rules.specs.Needs.{IsLawfulHistory, needs_number}
 use Rattle.otp_rules.specs.Order.{progress_at}
+use Rattle.otp_rules.specs.Progress.{no_progress, processes}
 
 abbrev named : List ℕ → Restart → Bool → Shutdown → ChildSpec
 named bytes restart significant shutdown = record { id = name_of bytes; start = name_of bytes; restart = restart; significant = significant; shutdown = shutdown; kind = Worker; modules = One (name_of bytes) }
@@ -88,30 +89,32 @@ pair = worker (codes "a") Permanent ∷ worker (codes "b") Permanent ∷ []
 abbrev opened : List Event
 opened = with 1 0 (kind.Opened 0) ∷ with 2 0 (up 1) ∷ at 0 (up 2) ∷ []
 
--- the other is told to stop, as the first of the stop list
-stops_in_turn : (progress_at (flags OneForAll 1 Never) pair opened (at 0 (exit 1 error))).stops ≡ 2 ∷ []
-unfolding answer at_place at_found at_row at_number end_row end_process tell_row tell use_exit start_row start refuse_all end_all follow start_first stop_first advance stop_each terminate_ordered terminate_together terminate restart_rows restart_or_end restart after_end death exit_in exit_at take_exit retry_in retry_at retry up_after up_in up_at take_up ignored_in ignored_at take_ignored failed_after failed_in failed_at take_failed add_child already_at start_lawful start_checked start_child start_shared start_dynamic restart_child_in restart_child_at at_child delete_child_in delete_child_at stop_process terminate_child_in terminate_child_at terminate_process_in terminate_process_at terminate_process get_shared get_childspec take_call take_note ask take_item take_waiting resume open_with open_rows tick decide step_on step first_fault
-stops_in_turn = refl
+abbrev two : State
+two = empty_state (flags OneForAll 1 Never) pair
 
-its_order : (step (state_after (empty_state (flags OneForAll 1 Never) pair) opened) (at 0 (exit 1 error))).orders ≡ effect.Ask b 2 ∷ []
+-- the other is the one with a process when the restart's work is opened, and is told to stop
+stops_in_turn : (processes (progress_at two (no_progress two) opened (at 0 (exit 1 error))).opened.rows ≡ 2 ∷ []) × ((progress_at two (no_progress two) opened (at 0 (exit 1 error))).ended ≡ [])
+unfolding answer at_place at_found at_row at_number end_row end_process tell_row tell use_exit start_row start refuse_all end_all follow start_first stop_first advance stop_each terminate_ordered terminate_together terminate restart_rows restart_or_end restart after_end death exit_in exit_at take_exit retry_in retry_at retry up_after up_in up_at take_up ignored_in ignored_at take_ignored failed_after failed_in failed_at take_failed add_child already_at start_lawful start_checked start_child start_shared start_dynamic restart_child_in restart_child_at at_child delete_child_in delete_child_at stop_process terminate_child_in terminate_child_at terminate_process_in terminate_process_at terminate_process get_shared get_childspec take_call take_note ask take_item take_waiting resume open_with open_rows tick decide step_on step first_fault
+stops_in_turn = (refl, refl)
+
+its_order : (step (state_after two opened) (at 0 (exit 1 error))).orders ≡ effect.Ask b 2 ∷ []
 unfolding answer at_place at_found at_row at_number end_row end_process tell_row tell use_exit start_row start refuse_all end_all follow start_first stop_first advance stop_each terminate_ordered terminate_together terminate restart_rows restart_or_end restart after_end death exit_in exit_at take_exit retry_in retry_at retry up_after up_in up_at take_up ignored_in ignored_at take_ignored failed_after failed_in failed_at take_failed add_child already_at start_lawful start_checked start_child start_shared start_dynamic restart_child_in restart_child_at at_child delete_child_in delete_child_at stop_process terminate_child_in terminate_child_at terminate_process_in terminate_process_at terminate_process get_shared get_childspec take_call take_note ask take_item take_waiting resume open_with open_rows tick decide step_on step first_fault
 its_order = refl
 
 -- when it has ended, the first is started; when that has answered, the second
-starts_in_turn : progress_at (flags OneForAll 1 Never) pair (opened ++ at 0 (exit 1 error) ∷ with 3 0 (exit 2 reason.Shutdown) ∷ []) (with 4 0 (up 3))
-    ≡ record {
-      stops = 2 ∷ [];
-      starts = record { id = a; kept = Some 1 } ∷ record { id = b; kept = None } ∷ [];
-      ended = 2 ∷ [];
-      answered = 3 ∷ [];
-      ordered = record { id = a; number = 3 } ∷ [];
-    }
+starts_in_turn : ((progress_at two (no_progress two) (opened ++ at 0 (exit 1 error) ∷ with 3 0 (exit 2 reason.Shutdown) ∷ []) (with 4 0 (up 3))).ended ≡ 2 ∷ [])
+    × ((progress_at two (no_progress two) (opened ++ at 0 (exit 1 error) ∷ with 3 0 (exit 2 reason.Shutdown) ∷ []) (with 4 0 (up 3))).ordered ≡ record { id = a; number = 3; answered = true } ∷ [])
 unfolding answer at_place at_found at_row at_number end_row end_process tell_row tell use_exit start_row start refuse_all end_all follow start_first stop_first advance stop_each terminate_ordered terminate_together terminate restart_rows restart_or_end restart after_end death exit_in exit_at take_exit retry_in retry_at retry up_after up_in up_at take_up ignored_in ignored_at take_ignored failed_after failed_in failed_at take_failed add_child already_at start_lawful start_checked start_child start_shared start_dynamic restart_child_in restart_child_at at_child delete_child_in delete_child_at stop_process terminate_child_in terminate_child_at terminate_process_in terminate_process_at terminate_process get_shared get_childspec take_call take_note ask take_item take_waiting resume open_with open_rows tick decide step_on step first_fault
-starts_in_turn = refl
+starts_in_turn = (refl, refl)
 
-its_start : (step (state_after (empty_state (flags OneForAll 1 Never) pair) (opened ++ at 0 (exit 1 error) ∷ with 3 0 (exit 2 reason.Shutdown) ∷ [])) (with 4 0 (up 3))).orders ≡ effect.Start b 4 ∷ []
+its_start : (step (state_after two (opened ++ at 0 (exit 1 error) ∷ with 3 0 (exit 2 reason.Shutdown) ∷ [])) (with 4 0 (up 3))).orders ≡ effect.Start b 4 ∷ []
 unfolding answer at_place at_found at_row at_number end_row end_process tell_row tell use_exit start_row start refuse_all end_all follow start_first stop_first advance stop_each terminate_ordered terminate_together terminate restart_rows restart_or_end restart after_end death exit_in exit_at take_exit retry_in retry_at retry up_after up_in up_at take_up ignored_in ignored_at take_ignored failed_after failed_in failed_at take_failed add_child already_at start_lawful start_checked start_child start_shared start_dynamic restart_child_in restart_child_at at_child delete_child_in delete_child_at stop_process terminate_child_in terminate_child_at terminate_process_in terminate_process_at terminate_process get_shared get_childspec take_call take_note ask take_item take_waiting resume open_with open_rows tick decide step_on step first_fault
 its_start = refl
+
+-- a child that was asked to shut down is killed when its time has come
+late_kill : (step (state_after two (opened ++ at 0 kind.Stopped ∷ [])) (at 5000 kind.Ticked)).orders ≡ effect.Kill b 2 ∷ []
+unfolding answer at_place at_found at_row at_number end_row end_process tell_row tell use_exit start_row start refuse_all end_all follow start_first stop_first advance stop_each terminate_ordered terminate_together terminate restart_rows restart_or_end restart after_end death exit_in exit_at take_exit retry_in retry_at retry up_after up_in up_at take_up ignored_in ignored_at take_ignored failed_after failed_in failed_at take_failed add_child already_at start_lawful start_checked start_child start_shared start_dynamic restart_child_in restart_child_at at_child delete_child_in delete_child_at stop_process terminate_child_in terminate_child_at terminate_process_in terminate_process_at terminate_process get_shared get_childspec take_call take_note ask take_item take_waiting resume open_with open_rows tick decide step_on step first_fault
+late_kill = refl
 
 -- a lawful history: numbers stand where children are started, and rise
 rising : AllPairs (λ m n. m < n) (1 ∷ 2 ∷ [])
@@ -120,6 +123,6 @@ rising zero (suc zero) d less within = omega arith
 rising zero (suc (suc j)) d less within = absurd (omega (arith, within))
 rising (suc i) j d less within = absurd (omega (arith, less, within))
 
-it_is_lawful : IsLawfulHistory (empty_state (flags OneForAll 1 Never) pair) opened
+it_is_lawful : IsLawfulHistory two opened
 unfolding answer at_place at_found at_row at_number end_row end_process tell_row tell use_exit start_row start refuse_all end_all follow start_first stop_first advance stop_each terminate_ordered terminate_together terminate restart_rows restart_or_end restart after_end death exit_in exit_at take_exit retry_in retry_at retry up_after up_in up_at take_up ignored_in ignored_at take_ignored failed_after failed_in failed_at take_failed add_child already_at start_lawful start_checked start_child start_shared start_dynamic restart_child_in restart_child_at at_child delete_child_in delete_child_at stop_process terminate_child_in terminate_child_at terminate_process_in terminate_process_at terminate_process get_shared get_childspec take_call take_note ask take_item take_waiting resume open_with open_rows tick decide step_on step first_fault needs_number
 it_is_lawful = ((refl, (refl, (refl, tt))), rising)

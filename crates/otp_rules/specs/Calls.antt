@@ -9,7 +9,7 @@ use Rattle.otp_spec.specs.Lawful.{first_fault}
 use Rattle.otp_table.specs.declared.row.Row.{Row}
 use Rattle.otp_table.specs.declared.row.RowState.{RowState}
 use Rattle.otp_table.specs.declared.row.RowState.TheVariants.{Undefined, Starting, Up, Asked, Killed, Restarting}
-use Rattle.otp_table.specs.Rows.{has_id, row_has, has_number}
+use Rattle.otp_table.specs.Rows.{free_slot, has_id, row_has, has_number}
 use Rattle.otp_rules.specs.declared.call.Call.{Call}
 use Rattle.otp_rules.specs.declared.call.Call.TheVariants as call
 use Rattle.otp_rules.specs.declared.call.CallFault.{CallFault}
@@ -26,17 +26,18 @@ use Rattle.otp_rules.specs.Counts.{which_of, counts_of}
 abbrev pub refuse : ℕ → CallFault → Outcome → Outcome
 refuse c why o = answer c (reply.Refused why) o
 
--- a row without a process, of a child or, without an id, of a dynamic one
-abbrev pub new_row : Option Name → ChildSpec → Row
-new_row id spec = record { id = id; spec = spec; state = Undefined }
+-- a row without a process, in this slot: of a child or, without an id, of a dynamic one
+abbrev pub new_row : ℕ → Option Name → ChildSpec → Row
+new_row slot id spec = record { slot = slot; id = id; spec = spec; state = Undefined }
 
--- the row is added last, to be started (supervisor, start_child/2); there are at most 256 (own)
+-- the row is added last, to be started (supervisor, start_child/2); there are at most 256, and it gets the least slot
+-- that none of them has (own)
 unfoldable pub add_child : ℕ → Option Name → ChildSpec → Outcome → Outcome
 add_child c id spec o =
     if nat_le 256 (length o.state.rows) then refuse c fault.TooManyChildren o
     else
     with_work [] (record { id = id; kept = None } ∷ []) (Some (after.Added c))
-    (with_rows (o.state.rows ++ new_row id spec ∷ []) o)
+    (with_rows (o.state.rows ++ new_row (free_slot o.state.rows) id spec ∷ []) o)
 
 -- a child with this id is there already (supervisor, start_child/2)
 abbrev pub already : RowState → CallFault

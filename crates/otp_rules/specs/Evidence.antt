@@ -1,5 +1,5 @@
 -- What an end shows by itself (Supervisor Behaviour, Maximum Restart Intensity and Automatic Shutdown).
-use Rattle.std.specs.Prelude.{◌≡◌, ℕ, ◌+◌, ◌*◌, ◌≤◌, List, All, length}
+use Rattle.std.specs.Prelude.{◌≡◌, ℕ, ◌+◌, ◌*◌, ◌≤◌, List, Some, All, length}
 use Rattle.std.specs.List.{Contains}
 use Rattle.std.specs.List.Sorted.{IsNonDecreasing}
 use Rattle.otp_reason.specs.declared.reason.Reason.TheVariants.{Shutdown}
@@ -11,7 +11,11 @@ use Rattle.otp_spec.specs.declared.flags.SupFlags.{SupFlags}
 use Rattle.otp_rules.specs.declared.event.Effect.{Effect}
 use Rattle.otp_rules.specs.declared.event.Effect.TheVariants as effect
 use Rattle.otp_rules.specs.declared.event.Event.{Event}
-use Rattle.otp_rules.specs.Ends.{init_failed}
+use Rattle.otp_rules.specs.Ends.{init_failed, last_stamps}
+use Rattle.otp_rules.specs.Frames.{IsStamped}
+use Rattle.otp_rules.specs.State.{State}
+use Rattle.otp_rules.specs.declared.ending.Ending.TheVariants.{Intensity}
+use Rattle.otp_rules.specs.declared.work.After.TheVariants as after
 use Rattle.otp_rules.specs.Run.{empty_state, state_after}
 use Rattle.otp_rules.specs.Step.{step}
 
@@ -40,8 +44,22 @@ IsEvident (effect.Reply _) = Unit {0}
 IsEvident effect.Ready = Unit {0}
 IsEvident (effect.End end) = IsEvidence end
 
--- whatever happens: each end that is ordered shows why
+-- a state from which each end shows why: its restarts are in order, none later than the last event, and where it is
+-- ending by the intensity they are one too many
+abbrev pub IsShowing : State → Type 0
+IsShowing s =
+    IsNonDecreasing s.stamps × IsStamped s
+    × (s.follows ≡ Some (after.End Intensity) → IsTooMany s.flags.intensity s.flags.period (last_stamps s.flags.intensity s.stamps))
+
+-- whatever happens from such a state on, each end that is ordered shows why, and the state stays such
 abbrev pub EndEvidence : Type 0
 EndEvidence =
+    (s : State) (events : List Event) (e : Event)
+    → IsShowing s
+    → IsShowing (state_after s events) × All IsEvident (step (state_after s events) e).orders
+
+-- and so from the state that was never opened
+abbrev pub EndEvidenceFromEmpty : Type 0
+EndEvidenceFromEmpty =
     (flags : SupFlags) (specs : List ChildSpec) (events : List Event) (e : Event)
     → All IsEvident (step (state_after (empty_state flags specs) events) e).orders

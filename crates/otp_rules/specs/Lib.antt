@@ -11,8 +11,16 @@ pub mod Calls
 pub mod Step
 pub mod Run
 pub mod Needs
+pub mod Next
 pub mod Frames
 pub mod Rate
 pub mod Opening
+pub mod Progress
+pub mod Fit
 pub mod Order
 pub mod Effects
+pub mod Homes
+pub mod Slots
+pub mod Named
+pub mod Processes
+pub mod Waits

@@ -1,6 +1,6 @@
 -- Which events need a number, and histories that have one exactly there.
-use Rattle.std.specs.Prelude.{AllPairs, ◌≡◌, ◌<◌, ℕ, Bool, true, false, ◌==◌, ◌&&◌, not, List, [], ◌∷◌, None, count_by, is_some, nat_le}
-use Rattle.std.specs.List.{list_all, list_any, filter_map}
+use Rattle.std.specs.Prelude.{AllPairs, ◌≡◌, ◌<◌, ℕ, Bool, true, false, ◌&&◌, not, List, [], ◌∷◌, None, is_some, position, unwrap_or}
+use Rattle.std.specs.List.{list_any, filter_map}
 use Rattle.otp_rules.specs.declared.event.Effect.{Effect}
 use Rattle.otp_rules.specs.declared.event.Effect.TheVariants as effect
 use Rattle.otp_rules.specs.declared.event.Event.{Event}
@@ -9,7 +9,7 @@ use Rattle.otp_rules.specs.declared.event.Waiting.{Waiting}
 use Rattle.otp_rules.specs.declared.work.Due.{Due}
 use Rattle.otp_table.specs.Rows.{is_awaited, row_has}
 use Rattle.otp_rules.specs.State.{Outcome, State, is_busy}
-use Rattle.otp_rules.specs.Stops.{is_exit}
+use Rattle.otp_rules.specs.Stops.{is_exit, without}
 use Rattle.otp_rules.specs.Step.{decide, stamped, step}
 
 abbrev pub is_start : Effect → Bool
@@ -24,9 +24,10 @@ is_start (effect.End _) = false
 unfoldable pub needs_number : State → ℕ → Kind → Bool
 needs_number s reading kind = list_any is_start (step s (record { reading = reading; number = None; kind = kind })).orders
 
--- of each of these processes an end waits, as many as the list names it
+-- the ends of all these processes wait: each that is found is used
 abbrev pub ends_wait : List ℕ → List Waiting → Bool
-ends_wait numbers items = list_all (λ p. nat_le (count_by (λ q. q == p) numbers) (count_by (is_exit p) items)) numbers
+ends_wait [] items = true
+ends_wait (p ∷ ps) items = is_some (position (is_exit p) items) && ends_wait ps (without items (position (is_exit p) items))
 
 -- a child is left to start
 abbrev pub has_due : List Due → Bool
@@ -41,11 +42,19 @@ work_starts o =
 
 -- an event needs a number exactly where the work that it opens, or that goes on, starts a child
 abbrev pub NumberStartsWork : Type 0
-NumberStartsWork = (s : State) (reading : ℕ) (kind : Kind) → needs_number s reading kind ≡ work_starts (decide kind (record { state = stamped reading s; orders = [] }))
+NumberStartsWork = (reading : ℕ) (kind : Kind) (o : Outcome) → needs_number o.state reading kind ≡ work_starts (decide kind (record o { state = stamped reading o.state }))
 
 -- the process numbers that the events gave
 abbrev pub numbers_of : List Event → List ℕ
 numbers_of events = filter_map (λ e. e.number) events
+
+abbrev pub last_from : ℕ → List Event → ℕ
+last_from n [] = n
+last_from n (e ∷ es) = last_from (unwrap_or e.number n) es
+
+-- the last process number that an event gave, or 0 where none did
+abbrev pub last_number : List Event → ℕ
+last_number events = last_from 0 events
 
 -- an event has a number exactly where it starts a child
 abbrev pub IsNumbered : State → List Event → Type 0

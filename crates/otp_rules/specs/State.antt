@@ -7,6 +7,7 @@ use Rattle.otp_spec.specs.declared.child.ChildSpec.{ChildSpec}
 use Rattle.otp_table.specs.declared.row.Row.{Row}
 use Rattle.otp_rules.specs.declared.call.Answered.{Answered}
 use Rattle.otp_rules.specs.declared.call.Reply.{Reply}
+use Rattle.otp_rules.specs.declared.ending.SupEnd.{SupEnd}
 use Rattle.otp_rules.specs.declared.event.Waiting.{Waiting}
 use Rattle.otp_rules.specs.declared.event.Effect.{Effect}
 use Rattle.otp_rules.specs.declared.event.Effect.TheVariants as effect
@@ -34,6 +35,8 @@ pub record State : Type 0 where
   pub waiting : List Waiting
   -- the answers to calls, in the order in which they were given
   pub replies : List Answered
+  -- the end of each opening that ended, under the supervisor's own number, in their order
+  pub ends : List (ℕ × SupEnd)
   -- the stamp of the last event, in milliseconds
   pub last : ℕ
   pub phase : Phase
@@ -85,6 +88,9 @@ with_phase phase o = record o { state = record o.state { phase = phase } }
 abbrev pub with_work : List ℕ → List Due → Option After → Outcome → Outcome
 with_work to_stop to_start follows o =
     record o { state = record o.state { to_stop = to_stop; to_start = to_start; follows = follows } }
+
+abbrev pub with_end : ℕ → SupEnd → Outcome → Outcome
+with_end own end o = record o { state = record o.state { ends = o.state.ends ++ (own, end) ∷ [] } }
 
 -- no work is open
 abbrev pub closed : Outcome → Outcome

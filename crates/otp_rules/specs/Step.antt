@@ -1,5 +1,5 @@
 -- What one event does: the state after it, and the orders.
-use Rattle.std.specs.Prelude.{ℕ, Bool, true, false, List, [], ◌∷◌, ◌++◌, Option, Some, None, map, is_some, unwrap_or, nat_le, max, if◌then◌else◌}
+use Rattle.std.specs.Prelude.{ℕ, ◌+◌, Bool, true, false, List, [], ◌∷◌, ◌++◌, Option, Some, None, map, is_some, unwrap_or, nat_le, max, if◌then◌else◌}
 use Rattle.std.specs.List.{filter_map}
 use Rattle.otp_reason.specs.declared.note.Note.{Note}
 use Rattle.otp_reason.specs.declared.note.Note.TheVariants as note
@@ -56,8 +56,10 @@ unfoldable pub resume : List Waiting → Outcome → Outcome
 resume [] o = o
 resume (x ∷ xs) o = take_waiting x (with_waiting xs o)
 
-abbrev pub row_of : ChildSpec → Row
-row_of spec = new_row (Some spec.id) spec
+-- the rows of these children in this order, and in slots from one on (own)
+abbrev pub rows_from : ℕ → List ChildSpec → List Row
+rows_from slot [] = []
+rows_from slot (spec ∷ specs) = new_row slot (Some spec.id) spec ∷ rows_from (slot + 1) specs
 
 abbrev pub due_of : ChildSpec → Due
 due_of spec = record { id = Some spec.id; kept = None }
@@ -70,7 +72,7 @@ opening_specs false specs = specs
 unfoldable pub open_with : List ChildSpec → ℕ → Outcome → Outcome
 open_with specs own o =
     with_work [] (map due_of specs) (Some after.Ready)
-    (with_rows (map row_of specs) (with_stamps [] (with_phase (Open own) o)))
+    (with_rows (rows_from 0 specs) (with_stamps [] (with_phase (Open own) o)))
 
 -- the supervisor opens anew under its own number: all children are to be started, in order
 -- (Supervisor Behaviour, Supervision Principles and Starting a Supervisor)

@@ -18,6 +18,7 @@ use Rattle.otp_table.specs.Rows.{calm_rows, is_awaited, is_undefined, row_has}
 use Rattle.otp_rules.specs.declared.call.Answered.{Answered}
 use Rattle.otp_rules.specs.declared.call.Reply.TheVariants as reply
 use Rattle.otp_rules.specs.declared.ending.Ending.{Ending}
+use Rattle.otp_rules.specs.declared.ending.SupEnd.{SupEnd}
 use Rattle.otp_rules.specs.declared.event.Item.{Item}
 use Rattle.otp_rules.specs.declared.event.Item.TheVariants as item
 use Rattle.otp_rules.specs.declared.event.Waiting.{Waiting}
@@ -28,7 +29,7 @@ use Rattle.otp_rules.specs.declared.work.Due.{Due}
 use Rattle.otp_rules.specs.declared.work.After.{After}
 use Rattle.otp_rules.specs.declared.work.After.TheVariants as after
 use Rattle.otp_rules.specs.declared.work.Phase.TheVariants.{Ended}
-use Rattle.otp_rules.specs.State.{Outcome, answer, closed, emit, is_busy, is_simple, own_number, with_rows, with_waiting, with_work, with_phase}
+use Rattle.otp_rules.specs.State.{Outcome, answer, closed, emit, is_busy, is_simple, own_number, with_rows, with_waiting, with_work, with_end, with_phase}
 use Rattle.otp_rules.specs.Places.{at_row, at_number, end_process, set_row}
 use Rattle.otp_rules.specs.Ends.{sup_end_of}
 use Rattle.otp_rules.specs.Restarts.{running}
@@ -114,8 +115,10 @@ refuse_all o =
 -- the last child has ended: the supervisor ends
 unfoldable pub end_all : Ending → Outcome → Outcome
 end_all ending o =
-    emit (effect.End (sup_end_of o.state.flags o.state.stamps ending))
-    (with_phase (Ended (own_number o.state.phase) ending) (with_rows [] (refuse_all (closed o))))
+    let end : SupEnd = sup_end_of o.state.flags o.state.stamps ending in
+    emit (effect.End end)
+    (with_end (own_number o.state.phase) end
+    (with_phase (Ended (own_number o.state.phase) ending) (with_rows [] (refuse_all (closed o)))))
 
 -- what follows the work, which closes
 unfoldable pub follow : Option After → Outcome → Outcome

@@ -2,6 +2,7 @@
 
 use otp_reason::{Name, Reason};
 use otp_spec::{ChildSpec, ChildType, Modules, SpecFault};
+use std::alloc::AllocError;
 use std::marker::Model;
 
 /// A call of a supervisor.
@@ -79,7 +80,7 @@ impl Model for ChildLines {
 }
 
 impl ChildLines {
-    ghost use Rattle.std.specs.Prelude.{◌≡◌};
+    ghost use Rattle.std.specs.Prelude.{◌≡◌, IfOk};
 
     /// The lines of a list, without taking memory.
     pub fn from_vec(lines: Vec<ChildLine>) -> Self
@@ -92,6 +93,15 @@ impl ChildLines {
         ensures { result.now ≡ self.now }
     {
         &self.lines
+    }
+
+    /// A copy, unless memory is refused.
+    pub fn try_clone(&self) -> Result<Self, AllocError>
+        ensures { IfOk result (λ copy. copy ≡ self.now) }
+    {
+        Ok(ChildLines {
+            lines: self.lines.clone()?,
+        })
     }
 
     /// The list of the lines, without taking memory.
@@ -128,6 +138,26 @@ pub enum Reply {
     Spec(ChildSpec),
     /// The supervisor has ended.
     NoProc,
+}
+
+impl Reply {
+    ghost use Rattle.std.specs.Prelude.{◌≡◌, IfOk};
+
+    /// A copy, unless memory is refused.
+    pub fn try_clone(&self) -> Result<Self, AllocError>
+        ensures { IfOk result (λ copy. copy ≡ self.now) }
+    {
+        Ok(match self {
+            Reply::Ok => Reply::Ok,
+            Reply::OkProcess(number) => Reply::OkProcess(*number),
+            Reply::OkUndefined => Reply::OkUndefined,
+            Reply::Refused(fault) => Reply::Refused(*fault),
+            Reply::Which(lines) => Reply::Which(lines.try_clone()?),
+            Reply::Count(counts) => Reply::Count(*counts),
+            Reply::Spec(spec) => Reply::Spec(*spec),
+            Reply::NoProc => Reply::NoProc,
+        })
+    }
 }
 
 /// A kept reply: the number of its call, and the answer.

@@ -2,6 +2,7 @@
 
 use otp_reason::{Name, Reason};
 use otp_spec::SupFlags;
+use std::alloc::AllocError;
 use std::marker::Model;
 
 /// Why a supervisor gives up its children.
@@ -32,7 +33,7 @@ impl Model for Stamps {
 }
 
 impl Stamps {
-    ghost use Rattle.std.specs.Prelude.{◌≡◌};
+    ghost use Rattle.std.specs.Prelude.{◌≡◌, IfOk};
 
     /// The times of a list, without taking memory.
     pub fn from_vec(times: Vec<u64>) -> Self
@@ -45,6 +46,15 @@ impl Stamps {
         ensures { result.now ≡ self.now }
     {
         &self.times
+    }
+
+    /// A copy, unless memory is refused.
+    pub fn try_clone(&self) -> Result<Self, AllocError>
+        ensures { IfOk result (λ copy. copy ≡ self.now) }
+    {
+        Ok(Stamps {
+            times: self.times.clone()?,
+        })
     }
 
     /// The list of the times, without taking memory.
@@ -68,9 +78,42 @@ pub enum Cause {
     InitFailed(Name),
 }
 
+impl Cause {
+    ghost use Rattle.std.specs.Prelude.{◌≡◌, IfOk};
+
+    /// A copy, unless memory is refused.
+    pub fn try_clone(&self) -> Result<Self, AllocError>
+        ensures { IfOk result (λ copy. copy ≡ self.now) }
+    {
+        Ok(match self {
+            Cause::Intensity { flags, stamps } => Cause::Intensity {
+                flags: *flags,
+                stamps: stamps.try_clone()?,
+            },
+            Cause::Significant(number) => Cause::Significant(*number),
+            Cause::Asked => Cause::Asked,
+            Cause::InitFailed(id) => Cause::InitFailed(*id),
+        })
+    }
+}
+
 /// The end of a supervisor: the reason that its parent sees, and the cause.
 #[derive(Debug, Drop)]
 pub struct SupEnd {
     pub reason: Reason,
     pub cause: Cause,
+}
+
+impl SupEnd {
+    ghost use Rattle.std.specs.Prelude.{◌≡◌, IfOk};
+
+    /// A copy, unless memory is refused.
+    pub fn try_clone(&self) -> Result<Self, AllocError>
+        ensures { IfOk result (λ copy. copy ≡ self.now) }
+    {
+        Ok(SupEnd {
+            reason: self.reason,
+            cause: self.cause.try_clone()?,
+        })
+    }
 }

@@ -1,10 +1,19 @@
 //! Laws over all states, events and histories. A law is a function that does nothing: what it ensures is the law.
 
-ghost use Rattle.otp_rules.specs.Evidence.{EndEvidence};
+ghost use Rattle.otp_rules.specs.Effects.{OrdersFew};
+ghost use Rattle.otp_rules.specs.Evidence.{EndEvidence, EndEvidenceFromEmpty};
+ghost use Rattle.otp_rules.specs.Fit.{StaysFit};
 ghost use Rattle.otp_rules.specs.Frames.{OrdersAppended, StepKeepsPlan, StepKeepsStamped, StepStamps};
+ghost use Rattle.otp_rules.specs.Homes.{HomesKept, HomesKeptFrom};
+ghost use Rattle.otp_rules.specs.Named.{OrdersNameRows, OrdersNameRowsFrom, OrdersNumbered, OrdersNumberedFrom};
 ghost use Rattle.otp_rules.specs.Needs.{NumberStartsWork};
-ghost use Rattle.otp_rules.specs.Order.{StartOrder, StopOrder};
-ghost use Rattle.otp_rules.specs.Rate.{RestartRate};
+ghost use Rattle.otp_rules.specs.Next.{DeadlinesCome};
+ghost use Rattle.otp_rules.specs.Order.{StartOrder, StartOrderFromEmpty, StopOrder, StopOrderFromEmpty};
+ghost use Rattle.otp_rules.specs.Processes.{ProcessesOwned, ProcessesStayOwned};
+ghost use Rattle.otp_rules.specs.Rate.{RestartRate, RestartRateFromEmpty, RestartsCounted};
+ghost use Rattle.otp_rules.specs.Run.{RunGoesOn, RunsJoined};
+ghost use Rattle.otp_rules.specs.Slots.{SlotsOwned, SlotsStayOwned, SlotsTellProcesses};
+ghost use Rattle.otp_rules.specs.Waits.{StartsWait};
 
 /// No event changes the flags or the specifications.
 pub fn step_keeps_plan()
@@ -31,29 +40,106 @@ pub fn number_starts_work()
     ensures { NumberStartsWork }
 {}
 
-/// Among the restarts of one opening no period, wherever it ends, holds more than the intensity, but for the last
-/// restart of a supervisor that is ending, or has ended, by it (Supervisor Behaviour, Maximum Restart Intensity).
+/// The stamps are the times of the restarts of this opening, as they are seen from outside: each counts once. Among them
+/// no period, wherever it ends, holds more than the intensity, but for the last restart of a supervisor that is ending,
+/// or has ended, by it (Supervisor Behaviour, Maximum Restart Intensity). So it is from each state that is sound and
+/// keeps the rate.
 pub fn restart_rate()
-    ensures { RestartRate }
+    ensures counted { RestartsCounted }
+    ensures from_any { RestartRate }
+    ensures from_empty { RestartRateFromEmpty }
 {}
 
-/// In a lawful history a child is started only when all that were to be stopped have ended, and each child that comes
-/// before it in the start list was started since, in that order, and has answered with Up or Ignored (Supervisor
-/// Behaviour, Starting a Supervisor and Restart Strategy).
+/// A supervisor that was never opened is fit to be a base, and each lawful history leads from a fit state to a fit one:
+/// among other things each process is the child's in one row at most, no number is given twice, and what is still to stop
+/// and to start is there.
+pub fn stays_fit()
+    ensures { StaysFit }
+{}
+
+/// In a lawful history a child is started only in its turn, from each state that is fit. The children to start are those
+/// that the work is about, as they stood when it was opened, in start order: all at the opening, one for a call, and for
+/// a restart those that it affects and that aren't temporary. Each of them that comes before the child was started since,
+/// in that order, and has answered after that start with Up or Ignored; and each process of a child that the work is
+/// about has ended (Supervisor Behaviour, Starting a Supervisor and Restart Strategy).
 pub fn start_order()
-    ensures { StartOrder }
+    ensures from_any { StartOrder }
+    ensures from_empty { StartOrderFromEmpty }
 {}
 
-/// A child is told to stop only when each child that comes before it in the stop list has ended: each that stands after
-/// it in start order (Supervisor Behaviour, Stopping). Two things are no such order: a kill at a deadline, and the end of
-/// a simple_one_for_one supervisor, whose children are told together.
+/// A child is told to stop only in its turn, from each state whose open work is in step with what was seen of it: no
+/// answer of a child is awaited, the work is about it, and of the children that the work is about each that had a process
+/// and stands after it in start order has ended (Supervisor Behaviour, Stopping and Restart Strategy). Two things are no
+/// such order: a kill of a child that was asked and whose deadline has come, which only an event that ticks gives; and
+/// the end of a simple_one_for_one supervisor, whose children are told together by the event that ends it.
 pub fn stop_order()
-    ensures { StopOrder }
+    ensures from_any { StopOrder }
+    ensures from_empty { StopOrderFromEmpty }
 {}
 
 /// Each end that is ordered shows why: by the intensity, the flags and one restart more than the intensity, none before
 /// another and all within one period; else the reason that the cause has (Supervisor Behaviour, Maximum Restart
-/// Intensity and Automatic Shutdown).
+/// Intensity and Automatic Shutdown). So it is from each state whose restarts are in order and, where it is ending by the
+/// intensity, one too many.
 pub fn end_evidence()
-    ensures { EndEvidence }
+    ensures from_any { EndEvidence }
+    ensures from_empty { EndEvidenceFromEmpty }
+{}
+
+/// No two children of a supervisor have one slot, and each slot is below 256, after every list of events.
+pub fn slots_are_owned()
+    ensures from_empty { SlotsOwned }
+    ensures from_any { SlotsStayOwned }
+{}
+
+/// In a lawful history no process is that of two children, and no child has one whose number is still to come.
+pub fn processes_are_owned()
+    ensures from_empty { ProcessesOwned }
+    ensures from_any { ProcessesStayOwned }
+{}
+
+/// So the slot of a child that has a process is no other's that has one.
+pub fn slots_tell_processes()
+    ensures { SlotsTellProcesses }
+{}
+
+/// Each order of a lawful history names a process that the history started.
+pub fn orders_are_numbered()
+    ensures from_empty { OrdersNumbered }
+    ensures from_any { OrdersNumberedFrom }
+{}
+
+/// After an event each of its orders names a process that a row has, whose slot is found by the process.
+pub fn orders_name_rows()
+    ensures from_empty { OrdersNameRows }
+    ensures from_any { OrdersNameRowsFrom }
+{}
+
+/// A child whose process has ended is at home only because the note of that end was taken: each child that is at home
+/// after an event, or that the event starts, was at home before it, or comes home by the note that the event takes, or is new.
+pub fn homes_are_kept()
+    ensures from_empty { HomesKept }
+    ensures from_any { HomesKeptFrom }
+{}
+
+/// The orders of two lists of events follow each other, and so do their states: one event more does its step.
+pub fn runs_are_joined()
+    ensures lists { RunsJoined }
+    ensures one_more { RunGoesOn }
+{}
+
+/// An event gives one order more than there are rows at most, beside answers to calls.
+pub fn orders_are_few()
+    ensures { OrdersFew }
+{}
+
+/// Some child's deadline has come exactly when the least one has.
+pub fn deadlines_come()
+    ensures { DeadlinesCome }
+{}
+
+/// Each start call that waits was taken while work was open. They are taken in their order when the supervisor resumes,
+/// and none waits once it has ended.
+pub fn start_calls_wait()
+    ensures { StartsWait }
 {}

@@ -14,6 +14,3 @@ pub use call::{Answered, Call, CallFault, ChildLine, ChildLines, ChildProcess, C
 pub use ending::{Cause, Ending, Stamps, SupEnd};
 pub use event::{Effect, Event, Item, Kind, Waiting};
 pub use work::{After, Due, Phase};
-
-#[cfg(test)]
-mod tests;

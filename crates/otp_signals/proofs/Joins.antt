@@ -152,7 +152,7 @@ within (x ∷ xs) zero v e = omega arith
 within (x ∷ xs) (suc i) v e = let p = within xs i v e in omega arith
 
 -- what holds of each view after two have changed
-each_two : (F : ℕ → View → Type 0) (views : List View) (id other : ℕ) (b z : View) → F id b → F other z → ((j : ℕ) (u : View) → j ≢ id → j ≢ other → get_elem? views j ≡ some u → F j u)
+pub each_two : (F : ℕ → View → Type 0) (views : List View) (id other : ℕ) (b z : View) → F id b → F other z → ((j : ℕ) (u : View) → j ≢ id → j ≢ other → get_elem? views j ≡ some u → F j u)
     → (j : ℕ) (u : View) → get_elem? (set (set views id b) other z) j ≡ some u → F j u
 each_two F views id other b z mine theirs others j u e =
     ⊎_elim

@@ -23,13 +23,13 @@ each_set F views id w mine others j u e =
     (λ (x : (j ≢ id) × (get_elem? views j ≡ some u)). others j u x.1)
     (at_set views id j w u e)
 
-in_range : (l : List View) (i : ℕ) (v : View) → get_elem? l i ≡ some v → i < length l
+pub in_range : (l : List View) (i : ℕ) (v : View) → get_elem? l i ≡ some v → i < length l
 in_range [] i v e = absurd (some-ne-none v (sym e))
 in_range (x ∷ xs) zero v e = omega arith
 in_range (x ∷ xs) (suc i) v e = let p = in_range xs i v e in omega arith
 
 -- the owner of a slot is there after a change of one view that keeps its slots
-owned_set : (views : List View) (id : ℕ) (v w : View) → get_elem? views id ≡ some v → w.holding.slots ≡ v.holding.slots → (slot k : ℕ)
+pub owned_set : (views : List View) (id : ℕ) (v w : View) → get_elem? views id ≡ some v → w.holding.slots ≡ v.holding.slots → (slot k : ℕ)
     → ((u : View) × (get_elem? views k ≡ some u) × (has slot u.holding.slots ≡ true)) → ((u : View) × (get_elem? (set views id w) k ≡ some u) × (has slot u.holding.slots ≡ true))
 owned_set views id v w at same slot k o =
     dite (ℕ_discrete k id)
@@ -275,7 +275,7 @@ at_end (x ∷ xs) a b zero e = inl e
 at_end (x ∷ xs) a b (suc j) e = ⊎_elim (λ t. inl t) (λ (t : (j ≡ length xs) × (a ≡ b)). inr (ap suc t.0, t.1)) (at_end xs a b j e)
 
 -- what holds of each view holds after one is cut in two
-each_cut : (F : ℕ → View → Type 0) (views : List View) (id : ℕ) (l r : View) → F id l → F (length views) r → ((j : ℕ) (u : View) → j ≢ id → get_elem? views j ≡ some u → F j u)
+pub each_cut : (F : ℕ → View → Type 0) (views : List View) (id : ℕ) (l r : View) → F id l → F (length views) r → ((j : ℕ) (u : View) → j ≢ id → get_elem? views j ≡ some u → F j u)
     → (j : ℕ) (u : View) → get_elem? (set views id l ++ r ∷ []) j ≡ some u → F j u
 each_cut F views id l r mine new others j u e =
     ⊎_elim
@@ -286,7 +286,7 @@ each_cut F views id l r mine new others j u e =
     (λ (x : (j ≡ length (set views id l)) × (r ≡ u)). subst (λ (y : ℕ × View). F y.0 y.1) (λ i. (sym (x.0 ∙ length-set views id l) i, x.1 i)) new)
     (at_end (set views id l) r u j e)
 
-cut_numbers : (views : List View) (id c : ℕ) (v l r : View) → get_elem? views id ≡ some v → l.holding.drawn ≡ v.holding.drawn → r.holding.drawn ≡ [] → l.holding.quota + r.holding.quota ≡ v.holding.quota → NumberRule c views → NumberRule c (set views id l ++ r ∷ [])
+pub cut_numbers : (views : List View) (id c : ℕ) (v l r : View) → get_elem? views id ≡ some v → l.holding.drawn ≡ v.holding.drawn → r.holding.drawn ≡ [] → l.holding.quota + r.holding.quota ≡ v.holding.quota → NumberRule c views → NumberRule c (set views id l ++ r ∷ [])
 cut_numbers views id c v l r at same empty quota k = record {
   begins = k.begins;
   once = λ h.

@@ -65,6 +65,16 @@ cut_view from to quota v = record { holding = cut_of from to quota v.holding; lo
 abbrev pub joined_view : View → View → View
 joined_view v w = record v { holding = joined v.holding w.holding }
 
+-- an owner's while it holds what a viewer saw, and the two after that
+abbrev pub lent_view : View → View → View
+lent_view v w = record v { looks = w.looks }
+
+abbrev pub unlent_view : View → View
+unlent_view v = record v { looks = [] }
+
+abbrev pub looks_view : View → View
+looks_view v = record v { holding = no_holding }
+
 -- What each step tells the seat that makes it: of the step, the seat before, the number found and the seat after.
 
 -- the number found is drawn; it is new and below 2^62
@@ -78,6 +88,10 @@ Posts s v n w = w ≡ (record v.0 { holding = after_post (s.word - 1) s.first v.
 -- the number found was looked at
 abbrev pub Looks : Step ℕ → Me ℕ View → ℕ → Me ℕ View → Type 0
 Looks s v n w = w ≡ (record v.0 { looks = v.0.looks ++ (s.word - 1, n) ∷ [] }, v.1)
+
+-- nothing changes; at the owner's slots what was seen never falls, and each word is 0 or was posted there by this owner
+abbrev pub Witnesses : Step ℕ → Me ℕ View → ℕ → Me ℕ View → Type 0
+Witnesses s v n w = (w ≡ v) × ((slot : ℕ) → has slot v.0.holding.slots ≡ true → NeverFalls (words_at slot v.0.looks) × ZeroOrIn (words_at slot v.0.holding.posts) (words_at slot v.0.looks))
 
 -- nothing changes; the owner's list rises, and it has at most the whole first quota
 abbrev pub Learns : Step ℕ → Me ℕ View → ℕ → Me ℕ View → Type 0

@@ -1,5 +1,5 @@
 -- A slot's word: a number, and the signal that was posted for it (own).
-use Rattle.std.specs.Prelude.{◌≡◌, ℕ, ◌+◌, ◌*◌, ◌==◌, cond, List, [], ◌∷◌, ◌++◌}
+use Rattle.std.specs.Prelude.{◌≡◌, ℕ, ◌+◌, ◌*◌, ◌==◌, ◌⊎◌, cond, List, [], ◌∷◌, ◌++◌, All, Contains}
 use Rattle.otp_signals.specs.declared.signal.Signal.{Signal}
 use Rattle.otp_signals.specs.declared.signal.Signal.TheVariants.{None, Shutdown, Kill}
 
@@ -22,3 +22,12 @@ pub record Looked (old new : List (ℕ × ℕ)) (slot number : ℕ) (answer : Si
   pub word : ℕ
   pub seen : new ≡ old ++ (slot, word) ∷ []
   pub answered : answer ≡ signal_of word number
+
+-- each word that was seen at one of the slots is 0 or was posted there
+abbrev pub WerePosted : List ℕ → List (ℕ × ℕ) → List (ℕ × ℕ) → Type 0
+WerePosted slots posts looks = All (λ look. Contains slots look.0 → (look.1 ≡ 0) ⊎ Contains posts look) looks
+
+-- each shutdown and kill that was seen for a number at one of the slots was posted there for it
+abbrev pub SignalsWerePosted : List ℕ → List (ℕ × ℕ) → List (ℕ × ℕ) → Type 0
+SignalsWerePosted slots posts looks =
+    (slot number : ℕ) (signal : Signal) → Contains slots slot → Contains looks (slot, word_of number signal) → (signal ≡ None) ⊎ Contains posts (slot, word_of number signal)

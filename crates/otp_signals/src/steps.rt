@@ -50,6 +50,15 @@ impl Play<u8, View> for Learn {
     ghost then = { Learns };
 }
 
+/// An owner that holds what a viewer saw learns what the signal rule says of it. It changes nothing.
+pub struct Witness;
+
+impl Play<u8, View> for Witness {
+    ghost use Rattle.otp_signals.specs.Rules.{Witnesses};
+
+    ghost then = { Witnesses };
+}
+
 /// What is cut off an owner: the slots from one to below another, and a quota. Each call picks it.
 pub trait Piece {
     ghost use Rattle.std.specs.Prelude.{ℕ};
@@ -91,6 +100,28 @@ impl Split<View> for Apart {
     ghost left = { λ v. v };
 
     ghost right = { λ v. blank_view };
+}
+
+/// An owner takes in what a viewer saw.
+pub struct Lend;
+
+impl Join<View> for Lend {
+    ghost use Rattle.otp_signals.specs.Rules.{lent_view, blank_view};
+
+    ghost both = { λ v w. lent_view v w };
+
+    ghost spent = { blank_view };
+}
+
+/// It gives it back.
+pub struct GiveBack;
+
+impl Split<View> for GiveBack {
+    ghost use Rattle.otp_signals.specs.Rules.{unlent_view, looks_view};
+
+    ghost left = { λ v. unlent_view v };
+
+    ghost right = { λ v. looks_view v };
 }
 
 /// An owner takes in another.

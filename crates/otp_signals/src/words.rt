@@ -1,16 +1,20 @@
 //! The words and their tokens.
 ghost use Rattle.std.specs.Prelude.{◌≡◌, ℕ, ◌+◌, ◌-◌, ◌*◌, ◌^◌, ◌<◌, ◌≤◌, ◌⊎◌, ◌↔◌, List, [], ◌∷◌, ◌++◌, length, true, All, Contains, IsTrue, IfOk, OnOk, OnErr};
-ghost use Rattle.otp_signals.specs.Lists.{numbers_to, AsOften, AllIn, NoneInBoth, EachBetween, StayBelow, StayFrom, has, words_at};
-ghost use Rattle.otp_signals.specs.Signals.{word_of, signal_of, Looked};
+ghost use Rattle.otp_signals.specs.Lists.{numbers_to, AsOften, AllIn, NoneInBoth, NeverFalls, EachBetween, StayBelow, StayFrom, has, words_at};
+ghost use Rattle.otp_signals.specs.declared.signal.Signal.TheVariants.{None};
+ghost use Rattle.otp_signals.specs.Signals.{word_of, signal_of, Looked, WerePosted, SignalsWerePosted};
 ghost use Rattle.otp_signals.specs.Holdings.{first_holding, after_draw, after_post, kept_of, cut_of, joined, IsWhole};
 ghost use Rattle.otp_signals.specs.Rules.{first_view, kept_view, cut_view, Ended};
 
 use crate::signal::Signal;
-use crate::steps::{Apart, BothRules, Cut, Draw, Learn, Look, Merge, Piece, Post};
+use crate::steps::{
+    Apart, BothRules, Cut, Draw, GiveBack, Learn, Lend, Look, Merge, Piece, Post, Witness,
+};
 use crate::view::View;
 use atomic_table::{Seat, Table};
 use std::alloc::{AllocError, Global};
 use std::marker::{Brand, Model, PhantomData};
+use std::mem;
 use std::ops::Range;
 use thiserror::Error;
 
@@ -102,7 +106,8 @@ impl<N: WordsNaming> Model for Owner<N> {
         × (o.seat.me.1 ≡ [])
         × (o.quota ≡ o.seat.me.0.holding.quota)
         × (o.drawn ≡ length o.seat.me.0.holding.drawn)
-        × Fits N.words.words o.seat.me.0.holding };
+        × Fits N.words.words o.seat.me.0.holding
+        × (o.seat.me.0.looks ≡ []) };
 }
 
 /// The right to look at signals. Contracts see the words that it loaded in order, each behind its slot.
@@ -114,12 +119,13 @@ pub struct Viewer<N: WordsNaming> {
 
 impl<N: WordsNaming> Model for Viewer<N> {
     ghost use Rattle.std.specs.Prelude.{◌≡◌, ℕ, List, []};
+    ghost use Rattle.otp_signals.specs.Holdings.{no_holding};
 
     ghost Value = { List (ℕ × ℕ) };
 
     ghost view = { λ v. v.seat.me.0.looks };
 
-    ghost invariant = { λ v. (v.seat.table_id ≡ N.words) × (v.seat.me.1 ≡ []) };
+    ghost invariant = { λ v. (v.seat.table_id ≡ N.words) × (v.seat.me.1 ≡ []) × (v.seat.me.0.holding ≡ no_holding) };
 }
 
 impl OpenWords {
@@ -188,14 +194,6 @@ impl<N: WordsNaming> Words<N> {
         self.table.word_count() - 1
     }
 
-    // The word of a slot as it is now.
-    #[cfg(test)]
-    pub(crate) fn word(&self, slot: usize) -> u64
-        requires { slot < self.now }
-    {
-        self.table.shared.peek(slot + 1)
-    }
-
     /// Draws a number: a new one, above all that this owner drew. One atomic step; takes no memory.
     ///
     /// Refused (E9) exactly where the quota is 0.
@@ -233,11 +231,13 @@ impl<N: WordsNaming> Words<N> {
             .fetch_max::<Post>(&mut owner.seat, slot + 1, word);
     }
 
-    /// Loads the word of a slot, and answers its signal where it is the word of this number, else none.
+    /// Loads the word of a slot, and answers its signal where it is the word of this number, else none. A signal
+    /// that is answered stands as its word among those that the viewer saw.
     /// One atomic step; takes no memory.
     pub fn look(&self, viewer: &mut Viewer<N>, slot: usize, number: u64) -> Signal
         requires { slot < self.now }
-        ensures { Looked viewer.old viewer.new slot number result }
+        ensures looked { Looked viewer.old viewer.new slot number result }
+        ensures seen { (result ≡ None) ⊎ Contains viewer.new (slot, word_of number result) }
     {
         let word = self.table.shared.load::<Look>(&mut viewer.seat, slot + 1);
         Signal::of_word(word, number)
@@ -337,6 +337,24 @@ impl<N: WordsNaming> Words<N> {
             seat: self.table.shared.split_seat::<Apart>(&mut viewer.seat),
             of: PhantomData,
         }
+    }
+
+    /// Tells what an owner and a viewer know of each other: each word that the viewer loaded at a slot of this owner
+    /// is 0 or was posted there by it, and these words never fall. So a shutdown or a kill that was seen for a
+    /// number was posted for that number. It changes no word, no list and takes no memory.
+    pub fn compare(&self, owner: &mut Owner<N>, viewer: &mut Viewer<N>)
+        ensures owner { owner.new ≡ owner.old }
+        ensures viewer { viewer.new ≡ viewer.old }
+        ensures posted { WerePosted owner.old.slots owner.old.posts viewer.old }
+        ensures signals { SignalsWerePosted owner.old.slots owner.old.posts viewer.old }
+        ensures rising { (slot : ℕ) → Contains owner.old.slots slot → NeverFalls (words_at slot viewer.old) }
+    {
+        let _ = &owner.quota;
+        let spare = self.table.shared.split_seat::<Apart>(&mut viewer.seat);
+        let seat = mem::replace(&mut viewer.seat, spare);
+        self.table.shared.join_seat::<Lend>(&mut owner.seat, seat);
+        self.table.shared.load::<Witness>(&mut owner.seat, 0);
+        viewer.seat = self.table.shared.split_seat::<GiveBack>(&mut owner.seat);
     }
 
     /// Takes the words apart, with all owners joined to one, and answers the number that would have come next.

@@ -10,7 +10,7 @@ use Rattle.otp_sim.specs.declared.engine.SimEnd.{SimEnd}
 use Rattle.otp_sim.specs.declared.engine.SimEnd.TheVariants.{Done, LineRefused, HistoryFull, InputFailed, OutputFailed, Memory}
 use Rattle.otp_sim.specs.Devices.{Begins, AppendsPart}
 use Rattle.otp_sim.specs.Sim.{Sim, opened, happen, stepped, take_line, take_lines, lines_of, sim_of, end_of, whole_text}
-use Rattle.otp_sim.specs.Runs.{Ran, Broke, Halted, PieceEnds, Flushes, NoEnd, Writes, LastWrites, Devices, WroteAll, WrotePart, WroteFirst, with_text}
+use Rattle.otp_sim.specs.Runs.{Ran, Broke, Halted, PieceEnds, Finishes, Flushes, NoEnd, ReadsNext, Told, Writes, LastWrites, Devices, WroteAll, WrotePart, WroteFirst, with_text}
 use Rattle.otp_sim.proofs.Texts.{take_line_after, after}
 use Rattle.otp_sim.proofs.Writes.{appends_more}
 use Rattle.otp_sim.proofs.Progress.{ran_start, ran_read, ran_then, piece_then, ran_part, ran_written, line_part, last_served, ended_served, long_served, whole_served}
@@ -143,6 +143,12 @@ stands_written start s old now ready left kept count written failures stands mor
       writes = omega (arith, stands.writes);
     })
 
+pub stands_told : (start s : Sim) (old now new : Devices) (ready left kept : List ℕ) (count : ℕ)
+    → Stands start s old now ready kept count → Told now new ready left
+    → Stands start s old (record now { written = new.written; write_failures = new.write_failures }) left kept count
+stands_told start s old now new ready left kept count stands told =
+    stands_written start s old now ready left kept count new.written new.write_failures stands told.written told.none_left told.failures
+
 pub output_exit : (start s : Sim) (old now : Devices) (ready kept : List ℕ) (count : ℕ) (written : Option (List ℕ)) (failures : ℕ)
     → Stands start s old now ready kept count → AppendsPart now.written written ready → now.write_failures < failures
     → Writes OutputFailed start old (record now { written = written; write_failures = failures })
@@ -169,9 +175,10 @@ flush_exit Memory start s old now ready kept count written failures stands flush
       ran = ran_written start s old.written now.written written ready stands.taken kept stands.ran flushes;
     }))
 
-pub ended_exit : (how : SimEnd) (start s : Sim) (old now : Devices) (ready kept : List ℕ) (count : ℕ) (reason : Stop)
+-- no line is taken any more, and nothing is left to write
+stopped_exit : (how : SimEnd) (start s : Sim) (old now : Devices) (ready kept : List ℕ) (count : ℕ) (reason : Stop)
     → Stands start s old now ready kept count → ready ≡ [] → Some reason ≡ s.end → how ≡ end_of (Some reason) → Writes how start old now
-ended_exit how start s old now ready kept count reason some_ready empty ended named =
+stopped_exit how start s old now ready kept count reason some_ready empty ended named =
     let stands = subst (λ (bytes : List ℕ). Stands start s old now bytes kept count) empty some_ready in
     let final : Sim = with_text (stands.ran.written ++ []) s in
     let some : is_some s.end ≡ true = ap is_some (sym ended) in
@@ -181,6 +188,28 @@ ended_exit how start s old now ready kept count reason some_ready empty ended na
     subst (λ (end : SimEnd). Writes end start old now) (sym named)
     (ends_so (Some reason) start old now
     (subst (λ (end : Option Stop). IfSome old.left (WroteAll start old.written now.written (end_of end))) (sym ended) all))
+
+-- no line is taken any more, and what is ready is written
+told_exit : (how : SimEnd) (start s : Sim) (old now : Devices) (ready kept : List ℕ) (count : ℕ) (reason : Stop) (written : Option (List ℕ)) (failures : ℕ)
+    → Stands start s old now ready kept count → Some reason ≡ s.end → now.write_failures ≤ failures
+    → Appends now.written written ready → how ≡ end_of (Some reason) → Writes how start old (record now { written = written; write_failures = failures })
+told_exit how start s old now ready kept count reason written failures stands ended later more named =
+    stopped_exit how start s old (record now { written = written; write_failures = failures }) [] kept count reason
+    (stands_written start s old now ready [] kept count written failures stands more refl later) refl ended named
+
+pub ended_exit : (how : SimEnd) (start s : Sim) (old now : Devices) (ready kept : List ℕ) (count : ℕ) (reason : Stop) (written : Option (List ℕ)) (failures : ℕ)
+    → Stands start s old now ready kept count → Some reason ≡ s.end → now.write_failures ≤ failures
+    → Finishes how (Some reason) now.written written ready now.write_failures failures → Writes how start old (record now { written = written; write_failures = failures })
+ended_exit Done start s old now ready kept count reason written failures stands ended later last =
+    told_exit Done start s old now ready kept count reason written failures stands ended later last.0 last.1
+ended_exit (LineRefused line) start s old now ready kept count reason written failures stands ended later last =
+    told_exit (LineRefused line) start s old now ready kept count reason written failures stands ended later last.0 last.1
+ended_exit HistoryFull start s old now ready kept count reason written failures stands ended later last =
+    told_exit HistoryFull start s old now ready kept count reason written failures stands ended later last.0 last.1
+ended_exit InputFailed start s old now ready kept count reason written failures stands ended later last = absurd last
+ended_exit OutputFailed start s old now ready kept count reason written failures stands ended later last =
+    output_exit start s old now ready kept count written failures stands last.0 last.1
+ended_exit Memory start s old now ready kept count reason written failures stands ended later last = absurd last
 
 -- the reader fails
 pub input_exit : (start s : Sim) (old now : Devices) (ready kept : List ℕ) (count : ℕ) (left : Option (List ℕ)) (failures : ℕ)
@@ -198,6 +227,19 @@ input_exit start s old now ready kept count left failures some_ready empty same 
       written = rw text stands.ran.appended;
       why = elim why [ inl failed ↦ inl (omega (arith, stands.reads)) | inr many ↦ inr (omega (arith, stands.size)) ];
     }
+
+-- no more is read, since the writer fails or the reader does
+pub next_exit : (how : SimEnd) (start s : Sim) (old now new : Devices) (ready left kept buffer : List ℕ) (count : ℕ)
+    → Stands start s old now ready kept count → ReadsNext (Err how) now new ready left buffer → Writes how start old new
+next_exit Done start s old now new ready left kept buffer count stands next = absurd next
+next_exit (LineRefused line) start s old now new ready left kept buffer count stands next = absurd next
+next_exit HistoryFull start s old now new ready left kept buffer count stands next = absurd next
+next_exit InputFailed start s old now new ready left kept buffer count stands next =
+    input_exit start s old (record now { written = new.written; write_failures = new.write_failures }) left kept count new.left new.read_failures
+    (stands_told start s old now new ready left kept count stands next.0) next.0.none_left next.1 (inl next.2)
+next_exit OutputFailed start s old now new ready left kept buffer count stands next =
+    output_exit start s old now ready kept count new.written new.write_failures stands next.2 next.3
+next_exit Memory start s old now new ready left kept buffer count stands next = absurd next
 
 -- the reader is at its end
 pub stands_end : (start s : Sim) (old now : Devices) (ready kept : List ℕ) (count : ℕ) (left : Option (List ℕ)) (failures : ℕ)
@@ -260,6 +302,17 @@ last_flushes HistoryFull line s before now failures_before failures_now flushes 
 last_flushes InputFailed line s before now failures_before failures_now flushes = absurd flushes
 last_flushes OutputFailed line s before now failures_before failures_now flushes = (line_part line s before now flushes.0, flushes.1)
 last_flushes Memory line s before now failures_before failures_now flushes = flushes
+
+-- after a last line what is ready is written
+pub last_finishes : (how : SimEnd) (line : List ℕ) (s : Sim) (before now : Option (List ℕ)) (failures_before failures_now : ℕ)
+    → Finishes how (take_line line s).end before now (take_line line s).text failures_before failures_now
+    → LastWrites how line s before now failures_before failures_now
+last_finishes Done line s before now failures_before failures_now last = last
+last_finishes (LineRefused number) line s before now failures_before failures_now last = last
+last_finishes HistoryFull line s before now failures_before failures_now last = last
+last_finishes InputFailed line s before now failures_before failures_now last = absurd last
+last_finishes OutputFailed line s before now failures_before failures_now last = last
+last_finishes Memory line s before now failures_before failures_now last = absurd last
 
 -- at the end of the input
 pub end_exit : (how : SimEnd) (start s : Sim) (old now : Devices) (ready kept line : List ℕ) (count : ℕ) (written : Option (List ℕ)) (failures : ℕ)

@@ -1,12 +1,11 @@
 use Rattle.std.proofs.Common.{◌≡◌, ℕ, ◌+◌, ◌-◌, ◌≤◌, ◌++◌, ◌==◌, Bool, false, List, [], ◌∷◌, ◌∙◌, Option, None, Some, ap, arith, refl, subst, sym}
-use Rattle.std.specs.Prelude.{if◌then◌else◌, true, unwrap_or}
+use Rattle.std.specs.Prelude.{MatchOption, if◌then◌else◌, is_some, true, unwrap_or}
+use Rattle.otp_core.specs.declared.numbers.Counter.{Counter}
 use Rattle.std.proofs.lemmas.Bool.{eqb-true}
-use Rattle.std.specs.List.{All}
-use Rattle.std.proofs.lemmas.List.Elements.{All-append, All-cons, All-nil, filter_map-append}
 use Rattle.otp_rules.specs.declared.event.Event.{Event}
 use Rattle.otp_rules.specs.declared.event.Kind.{Kind}
 use Rattle.otp_rules.specs.declared.event.Effect.{Effect}
-use Rattle.otp_rules.specs.Needs.{numbers_of}
+use Rattle.otp_rules.specs.Needs.{last_from, last_number}
 use Rattle.otp_rules.specs.Run.{state_after}
 use Rattle.otp_rules.specs.State.{State}
 use Rattle.otp_rules.specs.Step.{step}
@@ -35,25 +34,13 @@ happened kind s event state processes room text some is_event is_state is_proces
     ∙ ap (λ (e : Event). stepped e (step s.state e) s) is_event
     ∙ sym (ap (λ (b : Bool). if b then record s { end = Some stop.HistoryFull } else stepped (event_of kind s) (step s.state (event_of kind s)) s) some)
 
--- all numbers are at most the greatest given
-at_most : (m p : ℕ) (xs : List ℕ) → m ≤ p → All (λ x. x ≤ m) xs → All (λ x. x ≤ p) xs
-at_most m p xs le h i d within = omega (arith, le, h i d within)
+last_from_pushed : (p : ℕ) (es : List Event) (e : Event) → last_from p (es ++ e ∷ []) ≡ unwrap_or e.number (last_from p es)
+last_from_pushed p [] e = refl
+last_from_pushed p (x ∷ xs) e = last_from_pushed (unwrap_or x.number p) xs e
 
-last_number : (p reading : ℕ) (number : Option ℕ) (kind : Kind) → All (λ x. x ≤ unwrap_or number p) (numbers_of (record { reading = reading; number = number; kind = kind } ∷ []))
-last_number p reading None kind = All-nil (λ x. x ≤ p)
-last_number p reading (Some n) kind = All-cons (λ x. x ≤ n) n [] (omega arith) (All-nil (λ x. x ≤ n))
-
-pub numbers_after : (p : ℕ) (es longer : List Event) (e : Event) → longer ≡ es ++ e ∷ [] → ((n : ℕ) → e.number ≡ Some n → n ≡ p + 1) → All (λ x. x ≤ p) (numbers_of es) → All (λ x. x ≤ unwrap_or e.number p) (numbers_of longer)
-numbers_after p es longer e more next h =
-    let last : ℕ = unwrap_or e.number p in
-    let Bounded : List ℕ → Type 0 = λ xs. All (λ x. x ≤ last) xs in
-    let grows : p ≤ last = (elim e.number as (λ o. ((n : ℕ) → o ≡ Some n → n ≡ p + 1) → p ≤ unwrap_or o p) [
-      | None ↦ λ _. omega arith
-      | Some n ↦ λ is. let e : n ≡ p + 1 = is n refl in omega (arith, e)
-    ]) next in
-    let numbers : numbers_of (es ++ e ∷ []) ≡ numbers_of es ++ numbers_of (e ∷ []) = filter_map-append (λ (x : Event). x.number) es (e ∷ []) in
-    subst Bounded (sym (ap numbers_of more ∙ numbers))
-    (All-append (λ x. x ≤ last) (numbers_of es) (numbers_of (e ∷ [])) (at_most p last (numbers_of es) grows h) (last_number p e.reading e.number e.kind))
+-- the last process number, one event more
+pub last_pushed : (es longer : List Event) (e : Event) → longer ≡ es ++ e ∷ [] → last_number longer ≡ unwrap_or e.number (last_number es)
+last_pushed es longer e more = ap last_number more ∙ last_from_pushed 0 es e
 
 pub at_most_next : (number : Option ℕ) (p : ℕ) → ((n : ℕ) → number ≡ Some n → n ≡ p + 1) → unwrap_or number p ≤ p + 1
 at_most_next None p h = omega arith
@@ -65,3 +52,14 @@ few_left n few =
       | true ↦ λ e. let none : 65536 - n ≡ 0 = eqb-true (65536 - n) 0 e in absurd (few (omega (arith, none)))
       | false ↦ λ e. refl
     ]) refl
+
+-- a counter that was asked where a number was needed gave the next
+abbrev pub Draws : Option ℕ → Counter → Counter → Type 0
+Draws number old new = MatchOption number (new ≡ old) (λ n. (n ≡ old.last + 1) × (new ≡ record { last = old.last + 1 }))
+
+pub numbered : (number : Option ℕ) (needs : Bool) (old new : Counter) → is_some number ≡ needs → Draws number old new → number ≡ (if needs then Some (old.last + 1) else None)
+numbered None needs old new e h = ap (λ (b : Bool). if b then Some (old.last + 1) else None) e
+numbered (Some n) needs old new e h = ap (λ (m : ℕ). Some m) h.0 ∙ ap (λ (b : Bool). if b then Some (old.last + 1) else None) e
+
+pub gave_next : (number : Option ℕ) (old new : Counter) → Draws number old new → (n : ℕ) → number ≡ Some n → n ≡ old.last + 1
+gave_next number old new h n e = (subst (λ (o : Option ℕ). Draws o old new) e h).0

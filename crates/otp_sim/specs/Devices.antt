@@ -1,17 +1,34 @@
 -- What a reader's or a writer's call says of its failures (own).
-use Rattle.std.specs.Prelude.{◌≡◌, ℕ, ◌<◌, ◌≤◌, List, ◌++◌, length, Option, Result, OnErr, IfOk}
+use Rattle.std.specs.Prelude.{◌≡◌, ℕ, ◌+◌, ◌<◌, ◌≤◌, List, ◌++◌, length, Option, Result, OnErr, IfOk, IfErr}
 use Rattle.std.specs.Io.KnownBytes.{Appends}
+use Rattle.std.specs.IoError.{error_kind}
+use Rattle.std.specs.declared.io.Error.{Error}
+use Rattle.std.specs.declared.io.ErrorKind.TheVariants.{Interrupted}
 
--- failures are counted: an error is one
+-- failures are counted: an error is one, and a call makes no more than one
 pub record CountsErrors {T E : Type 0} (before now : ℕ) (result : Result T E) : Type 0 where
   pub kept : before ≤ now
   pub failed : OnErr result (before < now)
+  pub once : now ≤ before + 1
 
--- and so is a write that takes none of the bytes
+-- and so is a write that takes none of the bytes, after which no other is tried
 pub record CountsWrites {E : Type 0} (before now : ℕ) (result : Result ℕ E) (bytes : List ℕ) : Type 0 where
   pub kept : before ≤ now
+  pub once : now ≤ before + 1
   pub failed : OnErr result (before < now)
   pub nothing : IfOk result (λ taken. taken ≡ 0 → 0 < length bytes → before < now)
+
+-- what one call of a device comes to: it failed where it gives an error, but not where it was only interrupted
+pub record CountsCall (before now : ℕ) (result : Result ℕ Error) : Type 0 where
+  pub interrupted : IfErr result (λ error. error_kind error ≡ Interrupted → now ≡ before)
+  pub failed : IfErr result (λ error. ¬ (error_kind error ≡ Interrupted) → now ≡ before + 1)
+
+-- and a write of some bytes failed too where it took none of them
+pub record CountsWriteCall (before now : ℕ) (result : Result ℕ Error) (bytes : List ℕ) : Type 0 where
+  pub errors : CountsCall before now result
+  pub some : IfOk result (λ taken. 0 < taken → now ≡ before)
+  pub nothing : IfOk result (λ taken. taken ≡ 0 → 0 < length bytes → now ≡ before + 1)
+  pub no_bytes : IfOk result (λ taken. length bytes ≡ 0 → now ≡ before)
 
 -- a text is a beginning of another
 pub record Begins (front whole : List ℕ) : Type 0 where

@@ -1,6 +1,6 @@
 -- What a player stands for, and what it keeps.
-use Rattle.std.specs.Prelude.{◌≡◌, ◌-◌, ◌≤◌, ◌^◌, [], All, length}
-use Rattle.otp_rules.specs.Needs.{numbers_of}
+use Rattle.std.specs.Prelude.{◌≡◌, ◌-◌, ◌≤◌, ◌^◌, [], length}
+use Rattle.otp_rules.specs.Needs.{last_number}
 use Rattle.otp_core.specs.View.{state_of}
 use Rattle.otp_sim.specs.declared.player.Player.TheInside.{Inside}
 use Rattle.otp_sim.specs.Sim.{Sim}
@@ -10,7 +10,7 @@ sim_of_player p =
     record {
       state = state_of p.core;
       reading = p.reading;
-      processes = p.processes;
+      processes = last_number p.core.history;
       calls = p.calls;
       is_stopping = p.is_stopping;
       room = 65536 - length p.core.history;
@@ -24,6 +24,5 @@ pub record IsPlayer (p : Inside) : Type 0 where
   pub reading : p.reading ≤ 2 ^ 62
   pub history : length p.core.history ≤ 65536
   -- a number is given to an event at the most
-  pub processes : p.processes ≤ length p.core.history
-  pub numbers : All (λ m. m ≤ p.processes) (numbers_of p.core.history)
+  pub processes : last_number p.core.history ≤ length p.core.history
   pub calls : p.calls ≤ p.lines

@@ -1,9 +1,10 @@
 -- How far a run of `sim` has come, and how it ends (own).
-use Rattle.std.specs.Prelude.{◌≡◌, ◌==◌, ℕ, ◌<◌, ◌≤◌, ◌^◌, length, ◌⊎◌, false, List, ◌++◌, Option, IfSome, Result, Ok, Err, []}
+use Rattle.std.specs.Prelude.{◌≡◌, ◌==◌, ℕ, ◌<◌, ◌≤◌, ◌^◌, length, take, ◌⊎◌, false, List, ◌++◌, Option, IfSome, Result, Ok, Err, []}
 use Rattle.std.specs.List.{All}
-use Rattle.std.specs.Io.KnownBytes.{Appends, Consumes}
+use Rattle.std.specs.Io.KnownBytes.{Appends, Consumes, IsAtEnd, Keeps}
 use Rattle.otp_sim.specs.declared.engine.SimEnd.{SimEnd}
 use Rattle.otp_sim.specs.declared.engine.SimEnd.TheVariants.{Done, LineRefused, HistoryFull, InputFailed, OutputFailed, Memory}
+use Rattle.otp_sim.specs.declared.session.Stop.{Stop}
 use Rattle.otp_sim.specs.Devices.{Begins, AppendsPart}
 use Rattle.otp_sim.specs.Sim.{Sim, take_line, take_lines, lines_of, sim_text, sim_end, whole_text, end_of}
 
@@ -55,6 +56,39 @@ pub record Devices : Type 0 where
   pub written : Option (List ℕ)
   pub read_failures : ℕ
   pub write_failures : ℕ
+
+-- all that was ready was written, and nothing is left to write
+pub record Told (old new : Devices) (ready left : List ℕ) : Type 0 where
+  pub written : Appends old.written new.written ready
+  pub none_left : left ≡ []
+  pub failures : old.write_failures ≤ new.write_failures
+
+-- so many bytes were read into a buffer, none only at the end of the input
+pub record Took (count : ℕ) (old new : Devices) (buffer : List ℕ) : Type 0 where
+  pub bytes : Consumes old.left new.left (take count buffer)
+  pub end : count ≡ 0 → 0 < length buffer → IsAtEnd new.left
+  pub failures : old.read_failures ≤ new.read_failures
+
+-- what is ready is written, and only then the input is read: where the writer fails, nothing was read
+abbrev pub ReadsNext : Result ℕ SimEnd → Devices → Devices → List ℕ → List ℕ → List ℕ → Type 0
+ReadsNext (Ok count) old new ready left buffer = Told old new ready left × Took count old new buffer
+ReadsNext (Err Done) old new ready left buffer = ⊥
+ReadsNext (Err (LineRefused _)) old new ready left buffer = ⊥
+ReadsNext (Err HistoryFull) old new ready left buffer = ⊥
+ReadsNext (Err InputFailed) old new ready left buffer = Told old new ready left × Keeps old.left new.left × (old.read_failures < new.read_failures)
+ReadsNext (Err OutputFailed) old new ready left buffer =
+    (new.left ≡ old.left) × (new.read_failures ≡ old.read_failures)
+    × AppendsPart old.written new.written ready × (old.write_failures < new.write_failures)
+ReadsNext (Err Memory) old new ready left buffer = ⊥
+
+-- what is ready is written where the lines end for this reason, or for none
+abbrev pub Finishes : SimEnd → Option Stop → Option (List ℕ) → Option (List ℕ) → List ℕ → ℕ → ℕ → Type 0
+Finishes Done reason before now ready failures_before failures_now = Appends before now ready × (Done ≡ end_of reason)
+Finishes (LineRefused line) reason before now ready failures_before failures_now = Appends before now ready × (LineRefused line ≡ end_of reason)
+Finishes HistoryFull reason before now ready failures_before failures_now = Appends before now ready × (HistoryFull ≡ end_of reason)
+Finishes InputFailed reason before now ready failures_before failures_now = ⊥
+Finishes OutputFailed reason before now ready failures_before failures_now = AppendsPart before now ready × (failures_before < failures_now)
+Finishes Memory reason before now ready failures_before failures_now = ⊥
 
 -- what was written from this start on, by how the run ended
 abbrev pub Writes : SimEnd → Sim → Devices → Devices → Type 0

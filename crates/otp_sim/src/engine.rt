@@ -3,14 +3,15 @@
 ghost use Rattle.std.specs.Prelude.{◌≡◌, ◌+◌, ◌<◌, ◌^◌, IfOk, None, vec_len};
 ghost use Rattle.otp_sim.specs.Runs.{Writes, LastWrites, with_text};
 ghost use Rattle.otp_rules.specs.Opening.{open_fault};
-ghost use Rattle.otp_sim.specs.Sim.{opened, end_of};
+ghost use Rattle.otp_sim.specs.Sim.{opened};
 
 use crate::device::{Input, Output};
 use crate::paged::PagedPlayer;
 use crate::player::Player;
+use crate::reading::read_next;
 use crate::serving::serve_piece;
-use crate::session::{Session, Stop};
-use crate::writing::{out_of_memory, write_out};
+use crate::session::Session;
+use crate::writing::{finish, out_of_memory, write_out};
 use otp_spec::{ChildSpec, SupFlags};
 use std::alloc::{AllocError, Global};
 
@@ -89,14 +90,12 @@ pub(crate) fn serve<S: Session, R: Input, W: Output>(
     let mut kept = Vec::new(alloc);
     let mut taken: u64 = 0;
     while taken < MOST_BYTES {
-        let Ok(()) = write_out(output, ready) else {
-            return SimEnd::OutputFailed;
-        };
         if let Some(stop) = session.end() {
-            return end_of(Some(stop));
+            return finish(output, ready, Some(stop));
         }
-        let Ok(count) = input.read(&mut buffer) else {
-            return SimEnd::InputFailed;
+        let count = match read_next(input, output, ready, &mut buffer) {
+            Ok(count) => count,
+            Err(end) => return end,
         };
         if count == 0 {
             return serve_last(session, &kept, ready, output);
@@ -135,19 +134,5 @@ fn serve_last<S: Session, W: Output>(
     let Ok(()) = session.take_line(line, ready) else {
         return out_of_memory(output, ready);
     };
-    let Ok(()) = write_out(output, ready) else {
-        return SimEnd::OutputFailed;
-    };
-    end_of(session.end())
-}
-
-/// How a run ends that stops for this reason, or for none.
-fn end_of(stop: Option<Stop>) -> SimEnd
-    ensures { result ≡ end_of stop }
-{
-    match stop {
-        None => SimEnd::Done,
-        Some(Stop::LineRefused(line)) => SimEnd::LineRefused(line),
-        Some(Stop::HistoryFull) => SimEnd::HistoryFull,
-    }
+    finish(output, ready, session.end())
 }

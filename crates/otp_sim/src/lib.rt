@@ -7,6 +7,7 @@ pub mod device;
 pub mod engine;
 mod paged;
 mod player;
+mod reading;
 mod serving;
 pub mod session;
 pub mod streams;
@@ -15,6 +16,7 @@ mod writing;
 pub use device::{Failed, Input, Output};
 pub use engine::{SimEnd, sim};
 pub use streams::Counted;
+pub use writing::write_all;
 
 #[cfg(test)]
 mod tests;

@@ -11,8 +11,8 @@ ghost use Rattle.otp_sim.specs.Sim.{event_of, happen, is_due, next_kind, opened,
 ghost use Rattle.otp_sim.specs.Runs.{with_text};
 
 use crate::session::Stop;
-use otp_core::{Core, OpenFault};
-use otp_rules::{Effect, Event, Item, Kind, Reply};
+use otp_core::{Core, Counter, OpenFault};
+use otp_rules::{Effect, Item, Kind, Reply};
 use otp_spec::{ChildSpec, SupFlags};
 use otp_text::{Line, Printer, read_line};
 use std::alloc::{AllocError, Global};
@@ -25,8 +25,6 @@ pub struct Player {
     printer: Printer,
     /// The clock's reading, in milliseconds.
     reading: u64,
-    /// The greatest process number given.
-    processes: u64,
     /// The greatest call number given.
     calls: u64,
     is_stopping: bool,
@@ -106,7 +104,6 @@ impl Player {
             core,
             printer: Printer::new(alloc),
             reading: 0,
-            processes: 0,
             calls: 0,
             is_stopping: false,
             lines: 0,
@@ -114,21 +111,6 @@ impl Player {
         };
         player.happen(Kind::Opened(0), out)?;
         Ok(player)
-    }
-
-    /// The number for a child that this starts now, if it starts one.
-    #[tactic(auto, unfolding(crate::specs::Sim::event_of))]
-    fn next_number(&self, kind: Kind) -> Option<u64>
-        requires { self.now.processes < 2 ^ 62 }
-        ensures number { result ≡ (event_of kind self.now).number }
-        ensures given { is_some result ≡ needs_number self.now.state self.now.reading kind }
-        ensures next { (n : ℕ) → result ≡ Some n → n ≡ self.now.processes + 1 }
-    {
-        if self.core.needs_number(self.reading, &kind) {
-            Some(self.processes + 1)
-        } else {
-            None
-        }
     }
 
     /// Something happens now.
@@ -141,13 +123,10 @@ impl Player {
             return Ok(());
         }
         self.core.prepare()?;
-        let number = self.next_number(kind);
-        self.core.step(Event {
-            reading: self.reading,
-            number,
-            kind,
-        });
-        self.processes = number.unwrap_or(self.processes);
+        let mut numbers = Counter {
+            last: self.core.last_number(),
+        };
+        self.core.step_with(self.reading, kind, &mut numbers);
         let printed = print_orders(&self.core, &mut self.printer, out);
         self.core.clear_effects();
         printed

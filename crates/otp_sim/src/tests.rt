@@ -5,9 +5,10 @@ use crate::paged::PagedPlayer;
 use crate::player::Player;
 use crate::session::{Session, Stop};
 use crate::{Failed, Input, Output, SimEnd, sim};
+use otp_core::OpenFault;
 use otp_core::opening::check_open;
 use otp_reason::Name;
-use otp_spec::{ChildSpec, Shutdown, SupFlags};
+use otp_spec::{ChildSpec, Shutdown, SpecFault, SupFlags};
 use otp_tally::Tally;
 use std::alloc::{AllocError, Global};
 use std::test::Fail;
@@ -337,6 +338,22 @@ fn refused_memory_loses_no_earlier_line(rt: HostRuntime) -> Result<(), Fail> {
     ];
     for (lines, room, end, printed) in rows {
         assert!(rt; is_flushed(alloc, lines, room, end, printed)?, "{lines}");
+    }
+    Ok(())
+}
+
+/// Why a core is not opened, as whoever opens one may print it.
+#[test]
+fn texts_of_open_faults(rt: HostRuntime) -> Result<(), Fail> {
+    let rows = [
+        (
+            OpenFault::Spec(SpecFault::SimpleNeedsOne),
+            "the flags or the specifications are unlawful: simple_one_for_one needs exactly one specification",
+        ),
+        (OpenFault::OutOfMemory, "out of memory"),
+    ];
+    for (fault, wanted) in rows {
+        assert_eq!(rt; format!(in rt.alloc(); "{fault}")?.as_str(), wanted);
     }
     Ok(())
 }

@@ -3,15 +3,17 @@
 ghost use Rattle.std.specs.Prelude.{◌≡◌, ◌≤◌, ◌<◌, [], length, OnOk, OnErr};
 ghost use Rattle.std.specs.Io.KnownBytes.{Appends};
 ghost use Rattle.otp_sim.specs.Devices.{AppendsPart, Moves};
-ghost use Rattle.otp_sim.specs.Runs.{Flushes};
+ghost use Rattle.otp_sim.specs.Runs.{Finishes, Flushes};
+ghost use Rattle.otp_sim.specs.Sim.{end_of};
 
 use crate::device::{Failed, Output};
 use crate::engine::SimEnd;
+use crate::session::Stop;
 
 /// From so many printed bytes on, they are written before the next line is served.
 const WRITE_AT: usize = 65536;
 
-/// Writes what is ready, if it is much.
+/// Writes what is ready, if it is much: not each line by itself.
 ///
 /// # Errors
 ///
@@ -19,6 +21,7 @@ const WRITE_AT: usize = 65536;
 pub(crate) fn write_much<W: Output>(output: &mut W, ready: &mut Vec<u8>) -> Result<(), Failed>
     ensures ok { OnOk result (Moves (W.contents output.old) (W.contents output.new) ready.old.items ready.new.items) }
     ensures little { OnOk result (length ready.new.items < 65536) }
+    ensures waits { length ready.old.items < 65536 → (ready.new.items ≡ ready.old.items) × (output.new ≡ output.old) }
     ensures part { AppendsPart (W.contents output.old) (W.contents output.new) ready.old.items }
     ensures kept { W.failures output.old ≤ W.failures output.new }
     ensures failed { OnErr result (W.failures output.old < W.failures output.new) }
@@ -59,8 +62,34 @@ pub(crate) fn out_of_memory<W: Output>(output: &mut W, ready: &mut Vec<u8>) -> S
     }
 }
 
+/// How a run ends whose lines end for this reason, or for none, once what is ready is written.
+pub(crate) fn finish<W: Output>(output: &mut W, ready: &mut Vec<u8>, stop: Option<Stop>) -> SimEnd
+    ensures end { Finishes result stop (W.contents output.old) (W.contents output.new) ready.old.items (W.failures output.old) (W.failures output.new) }
+    ensures kept { W.failures output.old ≤ W.failures output.new }
+{
+    let Ok(()) = write_out(output, ready) else {
+        return SimEnd::OutputFailed;
+    };
+    end_of(stop)
+}
+
+/// How a run ends that stops for this reason, or for none.
+fn end_of(stop: Option<Stop>) -> SimEnd
+    ensures { result ≡ end_of stop }
+{
+    match stop {
+        None => SimEnd::Done,
+        Some(Stop::LineRefused(line)) => SimEnd::LineRefused(line),
+        Some(Stop::HistoryFull) => SimEnd::HistoryFull,
+    }
+}
+
 /// Writes all of the bytes.
-fn write_all<W: Output>(output: &mut W, bytes: &[u8]) -> Result<(), Failed>
+///
+/// # Errors
+///
+/// Where a write fails or takes nothing; a beginning was written.
+pub fn write_all<W: Output>(output: &mut W, bytes: &[u8]) -> Result<(), Failed>
     ensures ok { OnOk result (Appends (W.contents output.old) (W.contents output.new) bytes.now) }
     ensures part { AppendsPart (W.contents output.old) (W.contents output.new) bytes.now }
     ensures kept { W.failures output.old ≤ W.failures output.new }

@@ -10,6 +10,3 @@ pub use check::check_childspecs;
 pub use child::{ChildSpec, ChildType, Modules, Restart, Shutdown};
 pub use fault::{SpecFault, SpecKey};
 pub use flags::{AutoShutdown, Strategy, SupFlags, check_flags};
-
-#[cfg(test)]
-mod tests;

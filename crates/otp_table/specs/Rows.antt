@@ -1,5 +1,7 @@
 -- The rows of a supervisor's children: what is asked of one row.
-use Rattle.std.specs.Prelude.{ℕ, Bool, true, false, ◌==◌, Option, Some, None, List, map}
+use Rattle.std.specs.Prelude.{ℕ, ◌+◌, Bool, true, false, ◌==◌, Option, Some, None, List, [], ◌∷◌, map, length, if◌then◌else◌}
+use Rattle.std.specs.List.{list_any}
+use Prim.Native.Nat.{zero, suc}
 use Rattle.std.specs.Option.{option_eq}
 use Rattle.std.specs.Str.{bytes_eq}
 use Rattle.std.specs.Ordering.{on}
@@ -114,3 +116,22 @@ with_state state row = record row { state = state }
 -- waiting retries of these rows are given up (own)
 abbrev pub calm_rows : List Row → List Row
 calm_rows rows = map (λ row. with_state (calmed row.state) row) rows
+
+-- the row has this slot
+abbrev pub has_slot : ℕ → Row → Bool
+has_slot slot row = row.slot == slot
+
+-- the first slot from one on that no row has, where so many more may be tried
+unfoldable pub free_from : ℕ → ℕ → List Row → ℕ
+free_from zero slot rows = slot
+free_from (suc more) slot rows = if list_any (has_slot slot) rows then free_from more (slot + 1) rows else slot
+
+-- the slot of a child that is added: the least that no row has (own). As many rows as there are have as many slots at
+-- most, so none after that has to be tried.
+unfoldable pub free_slot : List Row → ℕ
+free_slot rows = free_from (length rows) 0 rows
+
+-- the slot of the first row whose process has this number
+abbrev pub slot_of : ℕ → List Row → Option ℕ
+slot_of p [] = None
+slot_of p (row ∷ rows) = if has_process p row.state then Some row.slot else slot_of p rows

@@ -1,4 +1,5 @@
-use Rattle.std.specs.Prelude.{◌+◌, ◌≤◌, vec_len, vec_capacity}
+use Rattle.std.specs.Prelude.{◌≡◌, ◌+◌, ◌≤◌, count_by, vec_len, vec_capacity}
+use Rattle.otp_table.specs.Rows.{is_awaited, row_has}
 use Rattle.otp_table.specs.Table.{Table}
 use Rattle.otp_table.specs.declared.rows.Rows.TheInside.{Inside}
 
@@ -9,3 +10,5 @@ table_of t = record { rows = t.items.items; room = t.room }
 pub record IsTable (t : Inside) : Type 0 where
   pub room : vec_len t.items + t.room ≤ vec_capacity t.items
   pub limit : vec_len t.items ≤ 256
+  -- the awaited rows are counted
+  pub awaited : t.awaited ≡ count_by (row_has is_awaited) t.items.items

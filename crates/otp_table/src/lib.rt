@@ -7,3 +7,4 @@ mod search;
 
 pub use row::{Row, RowState};
 pub use rows::{MAX_CHILDREN, Rows};
+pub use search::slot_of;

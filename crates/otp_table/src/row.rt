@@ -23,6 +23,9 @@ pub enum RowState {
 /// A child of a supervisor. A dynamic one, under simple_one_for_one, has no id.
 #[derive(Clone, Copy, Debug, PartialEq, Eq)]
 pub struct Row {
+    /// The child's place in what is kept beside the rows, as its body and its signals. It is chosen when the row is
+    /// added, no other row of the supervisor has it, and it stays as long as the row.
+    pub slot: usize,
     pub id: Option<Name>,
     pub spec: ChildSpec,
     pub state: RowState,

@@ -1,5 +1,6 @@
-ghost use Rattle.std.specs.Prelude.{◌≡◌, ◌+◌, ◌<◌, ◌≤◌, ◌==◌, ◌++◌, ◌∷◌, [], length, max, nat_le, position, remove, slice_get, slice_range, slice_set, take, drop, OnOk, OnErr, Some, if◌then◌else◌};
-ghost use Rattle.otp_table.specs.Rows.{awaits_retry, calm_rows, has_id, has_number, has_process, row_has, with_state};
+ghost use Rattle.std.specs.Prelude.{◌≡◌, ◌+◌, ◌<◌, ◌≤◌, ◌==◌, ◌++◌, ◌∷◌, [], length, max, nat_le, position, remove, vec_len, vec_capacity, slice_get, slice_range, slice_set, take, drop, OnOk, OnErr, Some, if◌then◌else◌};
+ghost use Rattle.otp_table.specs.Rows.{awaits_retry, calm_rows, free_slot, has_id, has_number, has_process, is_awaited, row_has, with_state};
+ghost use Rattle.std.specs.List.{list_any};
 ghost use Rattle.otp_table.specs.declared.row.Row.{Row};
 
 use crate::row::{Row, RowState};
@@ -18,6 +19,8 @@ pub struct Rows {
     items: Vec<Row>,
     /// How many more rows the memory of `items` is known to hold.
     room: usize,
+    /// How many rows are awaited.
+    awaited: usize,
 }
 
 impl Model for Rows {
@@ -41,6 +44,7 @@ impl Rows {
         Rows {
             items: Vec::new(alloc),
             room: 0,
+            awaited: 0,
         }
     }
 
@@ -79,6 +83,13 @@ impl Rows {
         ensures { result ≡ self.now.room }
     {
         self.room
+    }
+
+    /// Whether an answer of a child is awaited. Looks at no row.
+    pub fn has_awaited(&self) -> bool
+        ensures { result ≡ list_any (row_has is_awaited) self.now.rows }
+    {
+        self.awaited > 0
     }
 
     /// The row at this place.
@@ -125,6 +136,14 @@ impl Rows {
         search::find_retry(&self.items, number)
     }
 
+    /// The slot of the next child: the least that no row has.
+    pub fn free_slot(&self) -> usize
+        ensures slot { result ≡ free_slot self.now.rows }
+        ensures limit { result ≤ length self.now.rows }
+    {
+        search::free_slot(&self.items)
+    }
+
     /// Takes the memory of the next `n` inserts.
     pub fn reserve(&mut self, n: usize) -> Result<(), AllocError>
         ensures rows { self.new.rows ≡ self.old.rows }
@@ -149,9 +168,8 @@ impl Rows {
         if self.is_full() {
             return Err(SpecFault::TooManyChildren);
         }
-        if self.items.push(row).is_err() {
-            unreachable!();
-        }
+        self.awaited += row.state.is_awaited() as usize;
+        self.items.push_reserved(row);
         self.room -= 1;
         Ok(())
     }
@@ -164,6 +182,8 @@ impl Rows {
         ensures len { length self.new.rows ≡ length self.old.rows }
         ensures room { self.new.room ≡ self.old.room }
     {
+        self.awaited -= self.items[place].state.is_awaited() as usize;
+        self.awaited += state.is_awaited() as usize;
         self.items[place].state = state;
     }
 
@@ -175,7 +195,7 @@ impl Rows {
         ensures len { length self.new.rows ≡ length self.old.rows }
         ensures room { self.new.room ≡ self.old.room }
     {
-        search::calm(&mut self.items[from..to]);
+        calm_items(&mut self.items, from, to);
     }
 
     /// Takes the row out; those after it move up.
@@ -186,6 +206,7 @@ impl Rows {
         ensures len { length self.new.rows + 1 ≡ length self.old.rows }
         ensures room { self.new.room ≡ self.old.room }
     {
+        self.awaited -= self.items[place].state.is_awaited() as usize;
         self.items.remove(place)
     }
 
@@ -195,106 +216,17 @@ impl Rows {
         ensures room { self.new.room ≡ self.old.room }
     {
         self.items.clear();
+        self.awaited = 0;
     }
 }
 
-#[cfg(test)]
-mod tests {
-    use super::*;
-    use otp_spec::ChildSpec;
-    use std::test::Fail;
-
-    fn row(id: &[u8], state: RowState) -> Result<Row, Fail> {
-        let name = Name::new(id).ok_or("a name")?;
-        Ok(Row {
-            id: Some(name),
-            spec: ChildSpec::new(name, name),
-            state,
-        })
-    }
-
-    /// Three children, one in each of three states: searched, changed and removed.
-    #[test]
-    fn three_children(rt: HostRuntime) -> Result<(), Fail> {
-        let (a, b, c) = (
-            row(b"a", RowState::Up(1))?,
-            row(b"b", RowState::Restarting(2))?,
-            row(b"c", RowState::Starting(5, 3))?,
-        );
-        let mut rows = Rows::new(rt.alloc());
-        assert!(rt; rows.is_empty() && !rows.is_full());
-        rows.reserve(3)?;
-        for row in [a, b, c] {
-            assert!(rt; rows.room() > 0);
-            rows.insert(row)?;
-        }
-        assert_eq!(rt; (rows.len(), rows.room()), (3, 0));
-        assert_eq!(rt; rows.as_slice(), [a, b, c].as_slice());
-        assert_eq!(rt; *rows.get(1), b);
-        assert_eq!(rt; rows.after(0), [b, c].as_slice());
-        assert_eq!(rt; rows.find_id(&c.spec.id), Some(2));
-        assert_eq!(rt;
-            rows.find_id(&row(b"d", RowState::Undefined)?.spec.id),
-            None
-        );
-        assert_eq!(rt; (rows.find_number(2), rows.find_number(3)), (Some(1), None));
-        assert_eq!(rt;
-            (rows.find_process(2), rows.find_process(5)),
-            (None, Some(2))
-        );
-        assert_eq!(rt; (rows.find_retry(2), rows.find_retry(1)), (Some(1), None));
-        rows.calm(0, 3);
-        rows.set_state(0, RowState::Killed(1));
-        let states: [RowState; 3] = [rows.get(0).state, rows.get(1).state, rows.get(2).state];
-        assert_eq!(rt;
-            states,
-            [
-                RowState::Killed(1),
-                RowState::Undefined,
-                RowState::Starting(5, 3)
-            ]
-        );
-        assert_eq!(rt; rows.remove(1).id, b.id);
-        assert_eq!(rt; rows.find_id(&c.spec.id), Some(1));
-        rows.clear();
-        assert!(rt; rows.is_empty());
-        Ok(())
-    }
-
-    /// What a reader of a row's state sees.
-    #[test]
-    fn states(rt: HostRuntime) -> Result<(), Fail> {
-        let asked = RowState::Asked(7, Some(100));
-        assert_eq!(rt; (asked.number(), asked.up_number()), (Some(7), None));
-        assert!(rt;
-            asked.is_awaited()
-                && asked.has_number(7)
-                && asked.has_process(7)
-                && !asked.awaits_retry(7)
-        );
-        let restarting = RowState::Restarting(7);
-        assert!(rt;
-            restarting.is_restarting() && restarting.awaits_retry(7) && !restarting.has_process(7)
-        );
-        assert!(rt; restarting.calmed().is_undefined());
-        let up = RowState::Up(7);
-        assert!(rt; up.is_up() && up.calmed() == up && up.up_number() == Some(7));
-        Ok(())
-    }
-
-    /// The 257th child is refused, and nothing is lost.
-    #[test]
-    fn too_many_children(rt: HostRuntime) -> Result<(), Fail> {
-        let child = row(b"a", RowState::Undefined)?;
-        let mut rows = Rows::new(rt.alloc());
-        rows.reserve(MAX_CHILDREN)?;
-        for _ in 0..MAX_CHILDREN {
-            assert!(rt; !rows.is_full() && rows.room() > 0);
-            rows.insert(child)?;
-        }
-        assert!(rt; rows.is_full());
-        assert_eq!(rt; rows.insert(child), Err(SpecFault::TooManyChildren));
-        assert_eq!(rt; rows.len(), MAX_CHILDREN);
-        Ok(())
-    }
+/// Gives up the waiting retries of the items from one place to before another.
+fn calm_items(items: &mut Vec<Row>, from: usize, to: usize)
+    requires from { from ≤ to }
+    requires to { to ≤ length items.old.items }
+    ensures items { items.new.items ≡ take from items.old.items ++ calm_rows (slice_range items.old.items from to) ++ drop to items.old.items }
+    ensures len { vec_len items.new ≡ vec_len items.old }
+    ensures capacity { vec_capacity items.new ≡ vec_capacity items.old }
+{
+    search::calm(&mut items[from..to]);
 }

@@ -1,9 +1,11 @@
 //! Searches over rows, and what is done to many of them.
 
-ghost use Rattle.std.specs.Prelude.{◌≡◌, position};
-ghost use Rattle.otp_table.specs.Rows.{awaits_retry, calm_rows, has_id, has_number, has_process, row_has};
+ghost use Rattle.std.specs.Prelude.{◌≡◌, ◌<◌, ◌≤◌, ℕ, false, get_or, length, position};
+ghost use Rattle.std.specs.List.{list_any};
+ghost use Rattle.otp_table.specs.Rows.{awaits_retry, calm_rows, free_slot, has_id, has_number, has_process, has_slot, row_has, slot_of};
 
 use crate::row::{Row, RowState};
+use crate::rows::MAX_CHILDREN;
 use otp_reason::Name;
 
 /// The place of the first row with this id.
@@ -32,6 +34,50 @@ pub fn find_retry(rows: &[Row], number: u64) -> Option<usize>
     ensures { result ≡ position (row_has (awaits_retry number)) rows.now }
 {
     rows.iter().position(|row| row.state.awaits_retry(number))
+}
+
+/// The slot of the first row whose process has this number.
+pub fn slot_of(rows: &[Row], number: u64) -> Option<usize>
+    ensures { result ≡ slot_of number rows.now }
+{
+    for row in rows {
+        if row.state.has_process(number) {
+            return Some(row.slot);
+        }
+    }
+    None
+}
+
+/// Which slots below [`MAX_CHILDREN`] a row has.
+fn taken_slots(rows: &[Row]) -> [bool; MAX_CHILDREN]
+    ensures len { length result ≡ 256 }
+    ensures taken { (slot : ℕ) → slot < 256 → get_or result slot false ≡ list_any (has_slot slot) rows.now }
+{
+    let mut taken = [false; MAX_CHILDREN];
+    for row in rows {
+        if row.slot < MAX_CHILDREN {
+            taken[row.slot] = true;
+        }
+    }
+    taken
+}
+
+/// The least slot that no row has.
+#[tactic(auto, unfolding(crate::specs::Rows::free_slot))]
+pub fn free_slot(rows: &[Row]) -> usize
+    requires { length rows.now ≤ 256 }
+    ensures slot { result ≡ free_slot rows.now }
+    ensures limit { result ≤ length rows.now }
+{
+    let taken = taken_slots(rows);
+    let mut slot = 0;
+    while slot < rows.len() {
+        if !taken[slot] {
+            return slot;
+        }
+        slot += 1;
+    }
+    slot
 }
 
 /// Gives up the waiting retries of these rows.

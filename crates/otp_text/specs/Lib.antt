@@ -3,3 +3,4 @@ pub mod Replies
 pub mod Effects
 pub mod Words
 pub mod Lines
+pub mod ReadBack

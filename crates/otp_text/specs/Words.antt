@@ -15,6 +15,7 @@ use Rattle.otp_spec.specs.declared.child.Restart.{Restart}
 use Rattle.otp_spec.specs.declared.child.Restart.TheVariants.{Permanent, Transient, Temporary}
 use Rattle.otp_spec.specs.declared.child.Shutdown as shutdowns
 use Rattle.otp_spec.specs.declared.child.Shutdown.TheVariants.{BrutalKill, Milliseconds, Infinity}
+use Rattle.otp_text.specs.Values.{reason_text, restart_text, type_text, bool_text, shutdown_text}
 
 -- the words of a line: what stands between its spaces, before the first and after the last
 abbrev pub words_of : List ℕ → List (List ℕ)
@@ -81,37 +82,37 @@ name_in word = when (is_lawful_name word) (name_of word)
 -- a reason: its printed text
 unfoldable pub reason_in : List ℕ → Option Reason
 reason_in word =
-    if is_word (codes "normal") word then Some Normal
-    else if is_word (codes "shutdown") word then Some Shutdown
-    else if is_word (codes "kill") word then Some Kill
-    else if is_word (codes "killed") word then Some Killed
-    else if is_word (codes "noproc") word then Some NoProc
+    if is_word (reason_text Normal) word then Some Normal
+    else if is_word (reason_text Shutdown) word then Some Shutdown
+    else if is_word (reason_text Kill) word then Some Kill
+    else if is_word (reason_text Killed) word then Some Killed
+    else if is_word (reason_text NoProc) word then Some NoProc
     else if begins_with (codes "shutdown:") word then when (is_lawful_text (drop 9 word)) (ShutdownWith (text_of (drop 9 word)))
     else if begins_with (codes "error:") word then when (is_lawful_text (drop 6 word)) (Error (text_of (drop 6 word)))
     else None
 
 unfoldable pub bool_in : List ℕ → Option Bool
 bool_in word =
-    if is_word (codes "true") word then Some true
-    else if is_word (codes "false") word then Some false
+    if is_word (bool_text true) word then Some true
+    else if is_word (bool_text false) word then Some false
     else None
 
 unfoldable pub restart_in : List ℕ → Option Restart
 restart_in word =
-    if is_word (codes "permanent") word then Some Permanent
-    else if is_word (codes "transient") word then Some Transient
-    else if is_word (codes "temporary") word then Some Temporary
+    if is_word (restart_text Permanent) word then Some Permanent
+    else if is_word (restart_text Transient) word then Some Transient
+    else if is_word (restart_text Temporary) word then Some Temporary
     else None
 
 unfoldable pub type_in : List ℕ → Option ChildType
 type_in word =
-    if is_word (codes "worker") word then Some Worker
-    else if is_word (codes "supervisor") word then Some Supervisor
+    if is_word (type_text Worker) word then Some Worker
+    else if is_word (type_text Supervisor) word then Some Supervisor
     else None
 
 -- a word, or milliseconds below 2 ^ 32
 unfoldable pub shutdown_in : List ℕ → Option shutdowns.Shutdown
 shutdown_in word =
-    if is_word (codes "brutal_kill") word then Some BrutalKill
-    else if is_word (codes "infinity") word then Some Infinity
+    if is_word (shutdown_text BrutalKill) word then Some BrutalKill
+    else if is_word (shutdown_text Infinity) word then Some Infinity
     else option_map Milliseconds (number_up_to 4294967295 word)

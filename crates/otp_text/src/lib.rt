@@ -4,6 +4,7 @@
 #![tactic(auto)]
 
 pub mod effect;
+pub mod laws;
 pub mod line;
 mod reply;
 mod value;
@@ -12,6 +13,3 @@ mod word;
 
 pub use effect::Printer;
 pub use line::{LONGEST_LINE, Line, read_line};
-
-#[cfg(test)]
-mod tests;

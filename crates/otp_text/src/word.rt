@@ -122,7 +122,7 @@ pub(crate) fn read_name(word: &[u8]) -> Option<Name>
 }
 
 /// The reason that is printed so.
-#[tactic(auto, unfolding(crate::specs::Words::reason_in))]
+#[tactic(auto, unfolding(crate::specs::Words::reason_in, crate::specs::Values::reason_text))]
 pub(crate) fn read_reason(word: &[u8]) -> Option<Reason>
     ensures { result ≡ reason_in word.now }
 {
@@ -146,7 +146,7 @@ pub(crate) fn read_reason(word: &[u8]) -> Option<Reason>
 }
 
 /// The truth value that is printed so.
-#[tactic(auto, unfolding(crate::specs::Words::bool_in))]
+#[tactic(auto, unfolding(crate::specs::Words::bool_in, crate::specs::Values::bool_text))]
 pub(crate) fn read_bool(word: &[u8]) -> Option<bool>
     ensures { result ≡ bool_in word.now }
 {
@@ -160,7 +160,7 @@ pub(crate) fn read_bool(word: &[u8]) -> Option<bool>
 }
 
 /// The restart type that is printed so.
-#[tactic(auto, unfolding(crate::specs::Words::restart_in))]
+#[tactic(auto, unfolding(crate::specs::Words::restart_in, crate::specs::Values::restart_text))]
 pub(crate) fn read_restart(word: &[u8]) -> Option<Restart>
     ensures { result ≡ restart_in word.now }
 {
@@ -176,7 +176,7 @@ pub(crate) fn read_restart(word: &[u8]) -> Option<Restart>
 }
 
 /// The child's type that is printed so.
-#[tactic(auto, unfolding(crate::specs::Words::type_in))]
+#[tactic(auto, unfolding(crate::specs::Words::type_in, crate::specs::Values::type_text))]
 pub(crate) fn read_type(word: &[u8]) -> Option<ChildType>
     ensures { result ≡ type_in word.now }
 {
@@ -190,7 +190,7 @@ pub(crate) fn read_type(word: &[u8]) -> Option<ChildType>
 }
 
 /// How a child is stopped: a word, or milliseconds below 2^32.
-#[tactic(auto, unfolding(crate::specs::Words::shutdown_in))]
+#[tactic(auto, unfolding(crate::specs::Words::shutdown_in, crate::specs::Values::shutdown_text))]
 pub(crate) fn read_shutdown(word: &[u8]) -> Option<Shutdown>
     ensures { result ≡ shutdown_in word.now }
 {

@@ -1,5 +1,5 @@
 // Which calls a job gets in which turn.
-use crate::probes::{AnyBody, AnyProcess, Calls, worker_body};
+use crate::probes::{AnyBody, AnyProcess, Calls, Pipe, Probe, worker_body};
 use otp_job::{After, Body, Phase, Process, TableNo, one_turn};
 use otp_reason::{Note, Reason, Started};
 use otp_signals::Signal;
@@ -61,13 +61,9 @@ fn trapping_job_is_told_once(rt: HostRuntime) -> Result<(), Fail> {
     ] {
         let calls: Calls = Arc::new(alloc, AtomicU64::new(0))?;
         let body = worker_body(alloc, &calls, traps, Started::Up)?;
-        let (started, stopped) = (Signal::None, Signal::Shutdown);
-        let signals: &[Signal] = if traps {
-            &[started, stopped, stopped, stopped]
-        } else {
-            &[started, stopped]
-        };
-        let (note, body) = run(&rt, body, signals);
+        let signals = [Signal::None, Signal::Shutdown, Signal::Shutdown, Signal::Shutdown];
+        let turns = if traps { 4 } else { 2 };
+        let (note, body) = run(&rt, body, &signals[..turns]);
         assert_eq!(rt; note, end);
         assert_eq!(rt; body.is_some(), !traps);
         assert_eq!(rt; calls.load(Ordering::SeqCst), wanted);
@@ -92,8 +88,8 @@ fn refused_start_brings_the_body_home(rt: HostRuntime) -> Result<(), Fail> {
 
 #[test]
 fn table_goes_home_before_its_process_retires(rt: HostRuntime) {
-    let body: AnyBody = Body::Sup(TableNo::new(5));
-    let mut process: AnyProcess = Process::new(9, 0, 0, body);
+    let body: Body<Probe, Pipe> = Body::Sup(TableNo::new(5));
+    let mut process = Process::new(9, 0, 0, body);
     assert_eq!(rt; process.nested_table(), Some(5));
     assert!(rt; !process.is_runnable());
     let Some(table) = process.take_table() else {

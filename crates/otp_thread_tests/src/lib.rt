@@ -1,4 +1,7 @@
-//! Tests of jobs, bridges and run queues from outside. They stand above those crates, which so are proved once.
+//! Tests of what threads share and of what runs on them, from outside, most of them on real threads: a module for each
+//! crate, and for each thing that stands on several.
+//!
+//! They stand in a crate of their own, since a crate with tests is proved twice.
 #![tactic(auto)]
 
 #[cfg(test)]
@@ -6,10 +9,18 @@ mod bridges;
 #[cfg(test)]
 mod by_hand;
 #[cfg(test)]
+mod inbox;
+#[cfg(test)]
 mod jobs;
 #[cfg(test)]
 mod probes;
 #[cfg(test)]
 mod queues;
+#[cfg(test)]
+mod signals;
+#[cfg(test)]
+mod supervisors;
+#[cfg(test)]
+mod tally;
 #[cfg(test)]
 mod tokens;

@@ -52,7 +52,7 @@ fn take_all<N: RunNaming>(
 ) -> (AnyScheduler<N>, Vec<AnyProcess>, bool) {
     let mut nothing = 0;
     for _ in 0..100_000_000_u64 {
-        if nothing == 100 {
+        if nothing >= 100 {
             break;
         }
         match scheduler.next() {

@@ -3,7 +3,7 @@
 //! OTP Design Principles, Supervisor Behaviour, "Maximum Restart Intensity".
 #![tactic(auto)]
 
-ghost use Rattle.std.specs.Prelude.{◌≡◌, ◌≤◌, ◌^◌, ◌++◌, ◌∷◌, [], true, false, All, OnOk, OnErr, nat_lt};
+ghost use Rattle.std.specs.Prelude.{◌≡◌, ◌≤◌, ◌++◌, ◌∷◌, [], true, false, All, OnOk, OnErr, nat_lt};
 ghost use Rattle.otp_window.specs.Answer.{within};
 ghost use Rattle.otp_window.specs.Period.{in_period};
 
@@ -119,7 +119,6 @@ impl Window {
     pub fn add(&mut self, now: u64) -> Within
         requires reserved { self.old.reserved ≡ true }
         requires latest { All (λ s. s ≤ now) self.old.stamps }
-        requires time { now ≤ 2 ^ 62 }
         ensures window { self.new ≡ record self.old { stamps = self.old.stamps ++ now ∷ []; reserved = false } }
         ensures answer { result ≡ within self.old.intensity self.old.period (self.old.stamps ++ now ∷ []) now }
     {
@@ -132,51 +131,5 @@ impl Window {
         } else {
             Within::Ok
         }
-    }
-}
-
-#[cfg(test)]
-mod tests {
-    use super::*;
-    use std::test::Fail;
-
-    /// One restart in five seconds: the second is too many up to the very end of the period.
-    #[test]
-    fn second_restart_at_period_end(rt: HostRuntime) -> Result<(), Fail> {
-        for (second, want) in [
-            (1000, Within::Exceeded),
-            (6000, Within::Exceeded),
-            (6001, Within::Ok),
-        ] {
-            let mut window = Window::new(rt.alloc(), 1, 5);
-            assert!(rt; !window.is_reserved());
-            window.reserve()?;
-            assert!(rt; window.is_reserved());
-            assert_eq!(rt; window.add(1000), Within::Ok);
-            window.reserve()?;
-            assert!(rt; second >= 1000 && second < 7000);
-            assert_eq!(rt;
-                window.would_exceed(second),
-                want == Within::Exceeded,
-                "at {second}"
-            );
-            assert_eq!(rt; window.add(second), want, "at {second}");
-            assert_eq!(rt; window.stamps(), [1000, second].as_slice());
-        }
-        Ok(())
-    }
-
-    /// After a clear the memory is still there and nothing counts.
-    #[test]
-    fn cleared_window_counts_anew(rt: HostRuntime) -> Result<(), Fail> {
-        let mut window = Window::new(rt.alloc(), 1, 5);
-        window.reserve()?;
-        window.add(1000);
-        window.reserve()?;
-        window.clear();
-        assert!(rt; window.is_reserved());
-        assert!(rt; window.stamps().is_empty());
-        assert_eq!(rt; window.add(500), Within::Ok);
-        Ok(())
     }
 }

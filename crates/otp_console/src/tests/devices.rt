@@ -1,7 +1,10 @@
-//! Readers and writers that fail in mid-stream.
+//! Readers and writers that fail in mid-stream, that watch one another, and that count their calls.
 
+use super::said;
 use crate::console::console;
+use crate::ending::Ending;
 use otp_sim::Counted;
+use std::cell::Cell;
 use std::io::{Error, ErrorKind, Read, Write};
 use std::test::Fail;
 use std::{io, iter};
@@ -89,8 +92,7 @@ fn failed_reads(rt: HostRuntime) -> Result<(), Fail> {
             let mut writer = Counted::new(Vec::new(alloc));
             let ended = console(alloc, THREE_WORKERS.as_bytes(), &mut reader, &mut writer);
             assert_eq!(rt; writer.into_device().as_slice(), printed.as_bytes());
-            let said = format!(in alloc; "{ended} {}", ended.status())?;
-            assert_eq!(rt; said.as_str(), end);
+            assert_eq!(rt; said(alloc, ended)?.as_str(), end);
         }
     }
     Ok(())
@@ -113,13 +115,157 @@ fn failed_writes(rt: HostRuntime) -> Result<(), Fail> {
         let ended = console(alloc, THREE_WORKERS.as_bytes(), &mut reader, &mut writer);
         let Slow { bytes, .. } = writer.into_device();
         assert_eq!(rt; bytes.as_slice(), &printed.as_bytes()[..room]);
-        let said = format!(in alloc; "{ended} {}", ended.status())?;
         let end = if room < printed.len() {
             "output not written 4"
         } else {
             " 0"
         };
-        assert_eq!(rt; said.as_str(), end);
+        assert_eq!(rt; said(alloc, ended)?.as_str(), end);
     }
+    Ok(())
+}
+
+/// A reader of one line a call, that fails where the writer hasn't yet got all that the lines before print.
+#[derive(Drop)]
+struct Waiting<'a> {
+    /// Each line, and how many bytes are to be written before it is read.
+    lines: &'a [(&'a str, usize)],
+    /// How many lines were read.
+    count: usize,
+    written: &'a Cell<usize>,
+}
+
+impl<'a> Read for Waiting<'a> {
+    fn read(&mut self, buffer: &mut [u8]) -> io::Result<usize> {
+        if self.count >= self.lines.len() {
+            return Ok(0);
+        }
+        let (line, before) = self.lines[self.count];
+        if self.written.get() != before {
+            return Err(Error::from(ErrorKind::Other));
+        }
+        self.count += 1;
+        let bytes = line.as_bytes();
+        let count = bytes.len().min(buffer.len());
+        buffer[..count].copy_from_slice(&bytes[..count]);
+        Ok(count)
+    }
+}
+
+/// A writer that tells how many bytes it has.
+#[derive(Drop)]
+struct Watched<'a> {
+    written: &'a Cell<usize>,
+}
+
+impl<'a> Write for Watched<'a> {
+    fn write(&mut self, bytes: &[u8]) -> io::Result<usize> {
+        self.written
+            .set(self.written.get().saturating_add(bytes.len()));
+        Ok(bytes.len())
+    }
+
+    fn flush(&mut self) -> io::Result<()> {
+        Ok(())
+    }
+}
+
+/// At a terminal each line is answered before the next one is waited for.
+#[test]
+fn answers_come_before_reads(rt: HostRuntime) -> Result<(), Fail> {
+    let lines = [
+        ("up 1\n", "start a #1\n"),
+        ("up 2\n", "start b #2\n"),
+        ("up 3\n", "start c #3\n"),
+        ("count\n", "ready\n"),
+        (
+            "stop\n",
+            "reply 1 count specs 3 active 3 supervisors 0 workers 3\n",
+        ),
+        ("", "ask c #3\n"),
+    ];
+    let mut waited: Vec<(&str, usize)> = Vec::new(rt.alloc());
+    let mut before = 0usize;
+    for (line, printed) in lines {
+        before = before.saturating_add(printed.len());
+        waited.push((line, before))?;
+    }
+    let written = Cell::new(0usize);
+    let mut reader = Counted::new(Waiting {
+        lines: &waited,
+        count: 0,
+        written: &written,
+    });
+    let mut writer = Counted::new(Watched { written: &written });
+    let ended = console(
+        rt.alloc(),
+        THREE_WORKERS.as_bytes(),
+        &mut reader,
+        &mut writer,
+    );
+    assert_eq!(rt; ended, Ending::Done);
+    assert_eq!(rt; written.get(), before);
+    Ok(())
+}
+
+/// A reader that gives all that a buffer has room for, and how often it was asked.
+#[derive(Drop)]
+struct Asked<'a> {
+    bytes: &'a [u8],
+    calls: usize,
+}
+
+impl<'a> Read for Asked<'a> {
+    fn read(&mut self, buffer: &mut [u8]) -> io::Result<usize> {
+        self.calls = self.calls.saturating_add(1);
+        let count = self.bytes.len().min(buffer.len());
+        let (piece, rest) = self.bytes.split_at(count);
+        buffer[..count].copy_from_slice(piece);
+        self.bytes = rest;
+        Ok(count)
+    }
+}
+
+/// A writer that takes all, and how often it was asked and for how much.
+#[derive(Drop)]
+struct Taking {
+    calls: usize,
+    bytes: usize,
+}
+
+impl Write for Taking {
+    fn write(&mut self, bytes: &[u8]) -> io::Result<usize> {
+        self.calls = self.calls.saturating_add(1);
+        self.bytes = self.bytes.saturating_add(bytes.len());
+        Ok(bytes.len())
+    }
+
+    fn flush(&mut self) -> io::Result<()> {
+        Ok(())
+    }
+}
+
+/// Input is read, and output written, some 64 KiB at a time.
+#[test]
+fn few_reads_and_writes(rt: HostRuntime) -> Result<(), Fail> {
+    let alloc = rt.alloc();
+    let mut lines = "up 1\nup 2\nup 3\n".to_string(alloc)?;
+    for _ in 0..20_000u64 {
+        lines.push_str("which\n\n\n\n\n\n")?;
+    }
+    let mut reader = Counted::new(Asked {
+        bytes: lines.as_bytes(),
+        calls: 0,
+    });
+    let mut writer = Counted::new(Taking { calls: 0, bytes: 0 });
+    let ended = console(alloc, THREE_WORKERS.as_bytes(), &mut reader, &mut writer);
+    assert_eq!(rt; ended, Ending::Done);
+    // the last read finds the end
+    let reads = reader.into_device().calls;
+    assert_eq!(rt; reads, lines.len().div_ceil(65536).saturating_add(1));
+    // one before each read, and one for each 64 KiB
+    let taken = writer.into_device();
+    assert!(rt; taken.bytes > 1_000_000);
+    assert!(rt; taken.calls <= reads.saturating_add(taken.bytes / 65536));
     Ok(())
 }

@@ -68,6 +68,84 @@ fn most_children(rt: HostRuntime) -> Result<(), Fail> {
     plays(&rt, alloc, &tree, &lines, "", "tree refused: E7 1")
 }
 
+/// Restarts are counted for as long as a supervisor lives, however far apart they are.
+#[test]
+fn many_restarts_far_apart(rt: HostRuntime) -> Result<(), Fail> {
+    let alloc = rt.alloc();
+    let tree = "intensity = 1\nperiod = 1\n[[child]]\nid = \"a\"\nstart = \"a\"\n";
+    let mut lines = "up 1\n".to_string(alloc)?;
+    let mut printed = "start a #1\nready\n".to_string(alloc)?;
+    for number in 1..30_000u64 {
+        let next = number + 1;
+        let time = number * 2000;
+        write!(&mut lines, "at {time}\nexit {number} error:x\nup {next}\n")?;
+        write!(&mut printed, "start a #{next}\n")?;
+    }
+    plays(&rt, alloc, tree, &lines, &printed, " 0")
+}
+
+/// One line of 44 KiB: 256 children whose names are as long as names are, with as many modules as there may be.
+#[test]
+fn longest_printed_line(rt: HostRuntime) -> Result<(), Fail> {
+    let alloc = rt.alloc();
+    let mut tree = String::new(alloc);
+    let mut lines = String::new(alloc);
+    let mut printed = String::new(alloc);
+    let mut children = String::new(alloc);
+    for number in 1..257u64 {
+        let name = format!(in alloc; "thirty-two-bytes-are-a-name-{number:04}")?;
+        let modules = format!(in alloc; "{name}+{name}+{name}+{name}")?;
+        write!(
+            &mut tree,
+            "[[child]]\nid = \"{name}\"\nstart = \"s\"\nmodules = [\"{name}\", \"{name}\", \"{name}\", \"{name}\"]\n"
+        )?;
+        write!(&mut lines, "up {number}\n")?;
+        write!(&mut printed, "start {name} #{number}\n")?;
+        write!(&mut children, " {name},#{number},worker,{modules}")?;
+    }
+    lines.push_str("which\n")?;
+    write!(&mut printed, "ready\nreply 1 which{children}\n")?;
+    assert!(rt; children.len() > 44 * 1024);
+    plays(&rt, alloc, &tree, &lines, &printed, " 0")
+}
+
+/// A tree file may be long: here each child has a comment.
+#[test]
+fn long_file(rt: HostRuntime) -> Result<(), Fail> {
+    let alloc = rt.alloc();
+    let mut tree = String::new(alloc);
+    for index in 0..256u64 {
+        write!(&mut tree, "[[child]]\nid = \"c{index}\"\nstart = \"c\"\n")?;
+        for _ in 0..16u64 {
+            tree.push_str(
+                "# what this child is for, and why it is started after the one before it\n",
+            )?;
+        }
+    }
+    assert!(rt; tree.len() > 256 * 1024);
+    plays(
+        &rt,
+        alloc,
+        &tree,
+        "up 1\n",
+        "start c0 #1\nstart c1 #2\n",
+        " 0",
+    )
+}
+
+/// Lines that say nothing may be as many as they like.
+#[test]
+fn long_input(rt: HostRuntime) -> Result<(), Fail> {
+    let alloc = rt.alloc();
+    let mut lines = String::new(alloc);
+    for _ in 0..(4u64 << 20) {
+        lines.push_str("\n")?;
+    }
+    lines.push_str("up 1\n")?;
+    let tree = with_children(alloc, 1)?;
+    plays(&rt, alloc, &tree, &lines, "start c0 #1\nready\n", " 0")
+}
+
 /// A line has at most 512 bytes.
 #[test]
 fn too_long_line(rt: HostRuntime) -> Result<(), Fail> {

@@ -1,11 +1,11 @@
 use Rattle.std.proofs.Common.{◌≡◌, ◌+◌, ◌≤◌, ◌++◌, length, map, drop, vec_len, vec_capacity}
-use Rattle.otp_rules.specs.Step.{row_of, due_of}
+use Rattle.otp_rules.specs.Step.{rows_from, due_of}
 use Rattle.otp_core.proofs.lists.list_children.Given as goal
 
 abbrev pub invariant-loop-spec : goal.invariant-loop-spec
 invariant-loop-spec l =
     record {
-      rows : l.rows.rows ++ map row_of (drop l.spec-index l.specs) ≡ l.fn.rows.rows ++ map row_of l.specs;
+      rows : l.rows.rows ++ rows_from (length l.rows.rows) (drop l.spec-index l.specs) ≡ l.fn.rows.rows ++ rows_from (length l.fn.rows.rows) l.specs;
       starts : l.starts.items ++ map due_of (drop l.spec-index l.specs) ≡ l.fn.starts.items ++ map due_of l.specs;
       limit : length l.rows.rows ≡ length l.fn.rows.rows + l.spec-index;
       rows_room : length l.specs ≤ l.rows.room + l.spec-index;

@@ -10,5 +10,5 @@ invariant-loop-effect l =
       next : (goal.iterator-loop-effect).can_next l.effect-iterator;
       finite : (goal.iterator-loop-effect).is_finite l.effect-iterator;
       moved : l.list.items ++ filter (λ effect. not (is_reply effect)) (drain_items l.effect-iterator) ≡ l.fn.list.items ++ filter (λ effect. not (is_reply effect)) l.fn.orders.items;
-      room : vec_len l.list + length (drain_items l.effect-iterator) ≤ vec_capacity l.list;
+      room : vec_len l.list + length (filter (λ effect. not (is_reply effect)) (drain_items l.effect-iterator)) ≤ vec_capacity l.list;
     }

@@ -1,5 +1,5 @@
-use Rattle.otp_rules.proofs.StartTurn.{start_order_law}
+use Rattle.otp_rules.proofs.StartTurn.{start_order_law, start_order_from_empty}
 use Rattle.otp_rules.proofs.laws.start_order.Goals as goal
 
 pub returns : goal.returns
-returns c = start_order_law
+returns c = record { from_any = start_order_law; from_empty = start_order_from_empty }

@@ -1,4 +1,4 @@
-use Rattle.std.specs.Prelude.{ℕ, false}
+use Rattle.std.specs.Prelude.{ℕ, [], false}
 use Rattle.std.proofs.Common.{◌∙◌, ap, sym}
 use Rattle.otp_rules.specs.Needs.{work_starts}
 use Rattle.otp_rules.specs.Step.{decide}
@@ -10,4 +10,4 @@ pub returns : goal.returns
 returns c =
     c.decision_starts.ensures
     ∙ ap (λ (now : ℕ). work_starts (decide c.args.kind.now (begun c.args.self.now now false))) c.max.ensures
-    ∙ sym (c.number_starts_work.ensures (outcome_of c.args.self.now).state c.args.reading c.args.kind.now)
+    ∙ sym (c.number_starts_work.ensures c.args.reading c.args.kind.now (record { state = (outcome_of c.args.self.now).state; orders = [] }))

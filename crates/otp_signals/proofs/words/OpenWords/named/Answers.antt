@@ -18,6 +18,7 @@ invariant_of-owner g c =
       sym (ap (λ m. m.0.holding.quota) me),
       sym (ap (λ m. length m.0.holding.drawn) me),
       subst (λ (h : Holding). Fits g.N.WordsNaming.words.words h) (sym (ap (λ m. m.0.holding) me)) (Fits-first _ _ (sym (ap (λ t. t.words) name) ∙ i.0.words)),
+      ap (λ m. m.0.looks) me,
     )
 
 pub returns-clause-slots : goal.returns-clause-slots

@@ -34,6 +34,7 @@ invariant_of-owner g c =
       ap (λ q. q - 1) o.2 ∙ sym (ap (λ x. x.0.holding.quota) m),
       ap (λ k. k + 1) o.3 ∙ sym (length-append h.drawn (number ∷ [])) ∙ sym (ap (λ x. length x.0.holding.drawn) m),
       subst (λ (k : Holding). Fits g.N.WordsNaming.words.words k) (sym (ap (λ x. x.0.holding) m)) (Fits-draw _ number h left e.2.2 o.4),
+      ap (λ x. x.0.looks) m ∙ o.5,
     )
 
 pub returns-clause-above : goal.returns-clause-above

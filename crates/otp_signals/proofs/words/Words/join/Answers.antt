@@ -38,6 +38,7 @@ invariant_of-owner g c =
       (λ i. o.2 i + p.2 i) ∙ sym (ap (λ (x : Holding). x.quota) same),
       (λ i. o.3 i + p.3 i) ∙ sym (merged_length h.drawn k.drawn) ∙ sym (ap (λ (x : Holding). length x.drawn) same),
       subst (λ (x : Holding). Fits g.N.WordsNaming.words.words x) (sym same) (Fits-joined g.N.WordsNaming.words.words h k room o.4 p.4),
+      ap (λ m. m.0.looks) me ∙ o.5,
     )
 
 pub returns-clause-numbers : goal.returns-clause-numbers

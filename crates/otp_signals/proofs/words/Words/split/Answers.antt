@@ -24,6 +24,7 @@ invariant_of-result g c =
       sym (ap (λ (k : Holding). k.quota) me),
       sym (ap (λ (k : Holding). length k.drawn) me),
       subst (λ (k : Holding). Fits g.N.WordsNaming.words.words k) (sym me) (Fits-cut _ a.slots.start a.slots.end a.quota h (omega (arith, q, n)) c.owner.invariant.4),
+      ap (λ m. m.0.looks) e.1,
     )
 
 pub invariant_of-owner : goal.invariant_of-owner
@@ -37,6 +38,7 @@ invariant_of-owner g c =
       ap (λ q. q - a.quota) c.owner.invariant.2 ∙ sym (ap (λ (k : Holding). k.quota) me),
       c.owner.invariant.3 ∙ sym (ap (λ (k : Holding). length k.drawn) me),
       subst (λ (k : Holding). Fits g.N.WordsNaming.words.words k) (sym me) (Fits-kept _ a.slots.start a.slots.end a.quota h c.owner.invariant.4),
+      ap (λ m. m.0.looks) e.1 ∙ c.owner.invariant.5,
     )
 
 pub returns-clause-moved : goal.returns-clause-moved

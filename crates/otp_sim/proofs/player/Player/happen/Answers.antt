@@ -1,18 +1,18 @@
-use Rattle.std.proofs.Common.{◌≡◌, ℕ, ◌+◌, ◌-◌, ◌≤◌, ◌++◌, ◌==◌, false, List, [], ◌∷◌, ◌∙◌, Option, None, Some, All, ap, arith, length, length-append, sym}
+use Rattle.std.proofs.Common.{◌≡◌, ℕ, ◌+◌, ◌-◌, ◌≤◌, ◌++◌, ◌==◌, false, List, [], ◌∷◌, ◌∙◌, Option, None, Some, ap, arith, length, length-append, sym}
 use Rattle.std.specs.Prelude.{OnOk, Ok, Err, unwrap_or, if◌then◌else◌, true}
 use Rattle.std.proofs.lemmas.Bool.{false≢true}
-use Rattle.std.proofs.Common.{subst}
-use Rattle.otp_rules.specs.Needs.{needs_number, numbers_of}
+use Rattle.otp_rules.specs.Needs.{last_number, needs_number}
 use Rattle.otp_rules.specs.declared.event.Event.{Event}
 use Rattle.otp_rules.specs.declared.event.Effect.{Effect}
 use Rattle.otp_rules.specs.State.{State}
 use Rattle.otp_rules.specs.Step.{step}
 use Rattle.otp_rules.specs.Run.{state_after}
+use Rattle.otp_core.specs.declared.numbers.Counter.{Counter}
 use Rattle.otp_core.specs.View.{View, state_of}
 use Rattle.otp_sim.specs.Sim.{Sim, event_of, happen, orders_text}
 use Rattle.otp_sim.specs.Runs.{with_text}
 use Rattle.otp_sim.specs.PlayerInside.{sim_of_player}
-use Rattle.otp_sim.proofs.Played.{at_most_next, few_left, happened, numbers_after, pushed}
+use Rattle.otp_sim.proofs.Played.{at_most_next, few_left, gave_next, happened, last_pushed, numbered, pushed}
 use Rattle.otp_sim.proofs.Settled.{happen_full, is_zero}
 use Rattle.otp_sim.proofs.player.Player.happen.Goals as goal
 
@@ -23,25 +23,28 @@ returns-then-is_full-clause-ok c =
     let none : 65536 - length c.self.inside.core.history ≡ 0 = omega (arith, most) in
     sym (happen_full c.args.kind before (is_zero before.room none)) ∙ ap (λ (v : Sim). happen c.args.kind (with_text c.args.out.now.items v)) c.self.view_is
 
-pub invariant_of-self-3 : goal.invariant_of-self-3
-invariant_of-self-3 c =
+pub invariant_of-self-2 : goal.invariant_of-self-2
+invariant_of-self-2 c =
     let core : View = c.prepare.new.self in
     let prepared : core ≡ record c.self.inside.core { prepared = true } = c.in_ok-prepare.ensures.ok in
-    let event : Event = record { reading = c.self.inside.reading; number = c.next_number-number.result; kind = c.args.kind } in
-    let cleared : c.clear_effects.new.self.history ≡ c.step.new.self.history = ap (λ (v : View). v.history) c.clear_effects.ensures in
+    let event : Event = record { reading = c.self.inside.reading; number = c.step_with.result; kind = c.args.kind } in
+    let cleared : c.clear_effects.new.self.history ≡ c.step_with.new.self.history = ap (λ (v : View). v.history) c.clear_effects.ensures in
     let same : core.history ≡ c.self.inside.core.history = ap (λ (v : View). v.history) prepared in
-    let longer : c.clear_effects.new.self.history ≡ c.self.inside.core.history ++ event ∷ [] = cleared ∙ c.step.ensures.history ∙ ap (λ (h : List Event). h ++ event ∷ []) same in
+    let longer : c.clear_effects.new.self.history ≡ c.self.inside.core.history ++ event ∷ [] = cleared ∙ c.step_with.ensures.history ∙ ap (λ (h : List Event). h ++ event ∷ []) same in
     let count : length c.clear_effects.new.self.history ≡ length c.self.inside.core.history + 1 = ap (λ (h : List Event). length h) longer ∙ length-append c.self.inside.core.history (event ∷ []) in
-    let next : (n : ℕ) → c.next_number-number.result ≡ Some n → n ≡ c.self.inside.processes + 1 = c.next_number-number.ensures.next in
+    let given : ℕ = last_number c.self.inside.core.history in
+    let before : Counter = record { last = c.last_number.result } in
+    let last : c.last_number.result ≡ given = c.last_number.ensures.last ∙ ap last_number same in
+    let next : (n : ℕ) → c.step_with.result ≡ Some n → n ≡ given + 1 =
+    λ n is. gave_next c.step_with.result before c.step_with.new.numbers c.step_with.ensures.drawn n is ∙ ap (λ (p : ℕ). p + 1) last in
     let few : ¬ (65536 ≤ length c.self.inside.core.history) = λ most. false≢true (sym c.if-is_full.false ∙ c.is_full.ensures.1 most) in
-    let greatest : unwrap_or c.next_number-number.result c.self.inside.processes ≤ c.self.inside.processes + 1 = at_most_next c.next_number-number.result c.self.inside.processes next in
-    let Numbers : ℕ → Type 0 = λ p. All (λ m. m ≤ p) (numbers_of c.clear_effects.new.self.history) in
+    let greatest : unwrap_or c.step_with.result given ≤ given + 1 = at_most_next c.step_with.result given next in
+    let drawn : last_number c.clear_effects.new.self.history ≡ unwrap_or c.step_with.result given = last_pushed c.self.inside.core.history c.clear_effects.new.self.history event longer in
     record {
       effects = ap (λ (v : View). v.effects) c.clear_effects.ensures;
       reading = c.self.invariant.reading;
       history = omega (arith, count, few);
-      processes = omega (arith, count, greatest, c.unwrap_or-self-inside.ensures, c.self.invariant.processes);
-      numbers = subst Numbers (sym c.unwrap_or-self-inside.ensures) (numbers_after c.self.inside.processes c.self.inside.core.history c.clear_effects.new.self.history event longer next c.self.invariant.numbers);
+      processes = omega (arith, count, greatest, drawn, c.self.invariant.processes);
       calls = c.self.invariant.calls;
     }
 
@@ -52,32 +55,35 @@ returns-clause-ok c =
     let old : View = c.self.inside.core in
     let prepared : core ≡ record old { prepared = true } = c.in_ok-prepare.ensures.ok in
     let before : Sim = with_text c.args.out.now.items (sim_of_player c.self.inside) in
-    let event : Event = record { reading = c.self.inside.reading; number = c.next_number-number.result; kind = c.args.kind } in
+    let event : Event = record { reading = c.self.inside.reading; number = c.step_with.result; kind = c.args.kind } in
     let after : View = c.clear_effects.new.self in
     let some : (before.room == 0) ≡ false = few_left (length old.history) (λ most. false≢true (sym c.if-is_full.false ∙ c.is_full.ensures.1 most)) in
     let same : state_of core ≡ state_of old = ap state_of prepared in
-    let number : c.next_number-number.result ≡ (event_of c.args.kind before).number =
-    c.next_number-number.ensures.number ∙ ap (λ (s : State). if needs_number s c.self.inside.reading c.args.kind then Some (c.self.inside.processes + 1) else None) same in
+    let last : c.last_number.result ≡ last_number old.history = c.last_number.ensures.last ∙ ap (λ (v : View). last_number v.history) prepared in
+    let number : c.step_with.result ≡ (event_of c.args.kind before).number =
+    numbered c.step_with.result (needs_number (state_of core) c.self.inside.reading c.args.kind) (record { last = c.last_number.result }) c.step_with.new.numbers c.step_with.ensures.number c.step_with.ensures.drawn
+    ∙ ap (λ (s : State). if needs_number s c.self.inside.reading c.args.kind then Some (c.last_number.result + 1) else None) same
+    ∙ ap (λ (p : ℕ). if needs_number (state_of old) c.self.inside.reading c.args.kind then Some (p + 1) else None) last in
     let is_event : event ≡ event_of c.args.kind before = ap (λ (n : Option ℕ). record { reading = c.self.inside.reading; number = n; kind = c.args.kind }) number in
-    let moved : state_of c.step.new.self ≡ (step (state_of core) event).state =
-    ap (λ (b : State). state_after b c.step.new.self.history) c.step.ensures.base ∙ ap (state_after core.base) c.step.ensures.history ∙ pushed core.base core.history event in
-    let stepped : state_of c.step.new.self ≡ (step (state_of old) event).state = moved ∙ ap (λ (s : State). (step s event).state) same in
+    let moved : state_of c.step_with.new.self ≡ (step (state_of core) event).state =
+    ap (λ (b : State). state_after b c.step_with.new.self.history) c.step_with.ensures.base ∙ ap (state_after core.base) c.step_with.ensures.history ∙ pushed core.base core.history event in
+    let stepped : state_of c.step_with.new.self ≡ (step (state_of old) event).state = moved ∙ ap (λ (s : State). (step s event).state) same in
     let is_state : state_of after ≡ (step (state_of old) event).state = ap state_of c.clear_effects.ensures ∙ stepped in
     let longer : after.history ≡ old.history ++ event ∷ [] =
-    ap (λ (v : View). v.history) c.clear_effects.ensures ∙ c.step.ensures.history ∙ ap (λ (v : View). v.history ++ event ∷ []) prepared in
+    ap (λ (v : View). v.history) c.clear_effects.ensures ∙ c.step_with.ensures.history ∙ ap (λ (v : View). v.history ++ event ∷ []) prepared in
     let count : length after.history ≡ length old.history + 1 = ap (λ (h : List Event). length h) longer ∙ length-append old.history (event ∷ []) in
-    let orders : c.step.new.self.effects ≡ (step (state_of old) event).orders =
-    c.step.ensures.effects ∙ ap (λ (xs : List Effect). xs ++ (step (state_of core) event).orders) (ap (λ (v : View). v.effects) prepared ∙ c.self.invariant.effects)
+    let orders : c.step_with.new.self.effects ≡ (step (state_of old) event).orders =
+    c.step_with.ensures.effects ∙ ap (λ (xs : List Effect). xs ++ (step (state_of core) event).orders) (ap (λ (v : View). v.effects) prepared ∙ c.self.invariant.effects)
     ∙ ap (λ (s : State). (step s event).orders) same in
-    let printed : orders_text (state_of c.step.new.self).replies c.step.new.self.effects ≡ orders_text (state_of after).replies (step (state_of old) event).orders =
-    ap (λ (s : State). orders_text s.replies c.step.new.self.effects) (sym (ap state_of c.clear_effects.ensures))
+    let printed : orders_text (state_of c.step_with.new.self).replies c.step_with.new.self.effects ≡ orders_text (state_of after).replies (step (state_of old) event).orders =
+    ap (λ (s : State). orders_text s.replies c.step_with.new.self.effects) (sym (ap state_of c.clear_effects.ensures))
     ∙ ap (orders_text (state_of after).replies) orders in
     (elim c.print_orders-printed.result as (λ r.
-    OnOk r (c.print_orders-printed.new.out.items ≡ c.args.out.now.items ++ orders_text (state_of c.step.new.self).replies c.step.new.self.effects) →
-    OnOk r (record before { state = state_of after; processes = c.unwrap_or-self-inside.result; room = 65536 - length after.history; text = c.print_orders-printed.new.out.items } ≡ happen c.args.kind (with_text c.args.out.now.items c.args.self.now))) [
+    OnOk r (c.print_orders-printed.new.out.items ≡ c.args.out.now.items ++ orders_text (state_of c.step_with.new.self).replies c.step_with.new.self.effects) →
+    OnOk r (record before { state = state_of after; processes = last_number after.history; room = 65536 - length after.history; text = c.print_orders-printed.new.out.items } ≡ happen c.args.kind (with_text c.args.out.now.items c.args.self.now))) [
       | Ok _ ↦ λ text.
-          happened c.args.kind before event (state_of after) c.unwrap_or-self-inside.result (65536 - length after.history) c.print_orders-printed.new.out.items
-          some is_event is_state c.unwrap_or-self-inside.ensures (omega (arith, count))
+          happened c.args.kind before event (state_of after) (last_number after.history) (65536 - length after.history) c.print_orders-printed.new.out.items
+          some is_event is_state (last_pushed old.history after.history event longer) (omega (arith, count))
           (text ∙ ap (λ (t : List ℕ). c.args.out.now.items ++ t) printed)
           ∙ ap (λ (v : Sim). happen c.args.kind (with_text c.args.out.now.items v)) c.self.view_is
       | Err _ ↦ λ x. x

@@ -1,0 +1,22 @@
+-- What is told in two parts.
+use Rattle.std.proofs.Common.{◌≡◌, ℕ, ◌<◌, ◌≤◌, ◌⊎◌, inl, inr, List, ◌++◌, Option, None, Some, ap, ◌∙◌, append_assoc, arith}
+use Rattle.std.specs.Io.KnownBytes.{Appends}
+use Rattle.otp_console.specs.declared.ending.Ending.{Ending}
+use Rattle.otp_console.specs.Statuses.{sentence_of}
+use Rattle.otp_console.specs.Runs.{IsTold, TellsFirst, Tells}
+
+pub appends_more : (a b c : Option (List ℕ)) (x y : List ℕ) → Appends a b x → Appends b c y → Appends a c (x ++ y)
+appends_more None b c x y first second = tt
+appends_more (Some xs) None c x y first second = absurd first
+appends_more (Some xs) (Some ys) None x y first second = absurd second
+appends_more (Some xs) (Some ys) (Some zs) x y first second = second ∙ ap (λ bytes. bytes ++ y) first ∙ append_assoc xs x y
+
+told_more : (x y : List ℕ) (a b c : Option (List ℕ)) (f g h : ℕ) → f ≤ g → g ≤ h → IsTold x a b f g → IsTold y b c g h → IsTold (x ++ y) a c f h
+told_more x y a b c f g h first_kept second_kept (inl failed) second = inl (omega arith)
+told_more x y a b c f g h first_kept second_kept (inr first) (inl failed) = inl (omega arith)
+told_more x y a b c f g h first_kept second_kept (inr first) (inr second) = inr (appends_more a b c x y first second)
+
+pub told_last : (ending : Ending) (a b c : Option (List ℕ)) (f g h : ℕ) → f ≤ g → g ≤ h → TellsFirst ending a b f g → IsTold (sentence_of ending) b c g h
+    → Tells ending a c f h
+told_last ending a b c f g h first_kept second_kept first last =
+    (first.0, (first.1.0, told_more first.0 (sentence_of ending) a b c f g h first_kept second_kept first.1.1 last))

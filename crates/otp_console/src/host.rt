@@ -1,0 +1,32 @@
+//! The program on the system that it is run on.
+
+use crate::program::{TreeFiles, run};
+use crate::words::words_of;
+use otp_sim::Counted;
+use std::process::ExitCode;
+use std::{fs, io};
+
+/// Does what the words of the command line ask for.
+pub fn otp(rt: &HostRuntime) -> ExitCode {
+    let mut input = Counted::new(rt.stdin());
+    let mut output = Counted::new(rt.stdout());
+    let mut errors = Counted::new(rt.stderr());
+    let status = run(
+        rt.alloc(),
+        words_of(rt),
+        rt,
+        &mut input,
+        &mut output,
+        &mut errors,
+    );
+    ExitCode::from(status)
+}
+
+/// The files of the system, of which nothing is known beforehand.
+impl TreeFiles for HostRuntime {
+    ghost holds = { λ _ _ _. Unit {0} };
+
+    fn read(&self, name: &str) -> io::Result<Vec<u8>> {
+        fs::read(self, name)
+    }
+}

@@ -1,0 +1,233 @@
+//! Runs of the whole program, with words and files that are made up: its status, and what it tells on which stream.
+
+use crate::program::{TreeFiles, run};
+use crate::words::WordsFault;
+use otp_sim::Counted;
+use std::alloc::{AllocError, Global};
+use std::io;
+use std::io::{Error, ErrorKind, Write};
+use std::process::Abort;
+use std::test::Fail;
+
+/// One file, which has a text or can't be read.
+#[derive(Drop)]
+struct Shelf<'a> {
+    alloc: Global,
+    name: &'a str,
+    text: &'a str,
+    fault: Option<ErrorKind>,
+}
+
+impl<'a> TreeFiles for Shelf<'a> {
+    ghost holds = { λ _ _ _. Unit {0} };
+
+    fn read(&self, name: &str) -> io::Result<Vec<u8>> {
+        if name != self.name {
+            return Err(Error::from(ErrorKind::NotFound));
+        }
+        match self.fault {
+            Some(kind) => Err(Error::from(kind)),
+            None => Ok(Vec::from_slice(self.alloc, self.text.as_bytes())?),
+        }
+    }
+}
+
+/// A writer that takes nothing, and how often it was asked.
+#[derive(Drop)]
+struct Full {
+    calls: usize,
+}
+
+impl Write for Full {
+    fn write(&mut self, _bytes: &[u8]) -> io::Result<usize> {
+        self.calls = self.calls.saturating_add(1);
+        Ok(0)
+    }
+
+    fn flush(&mut self) -> io::Result<()> {
+        Ok(())
+    }
+}
+
+const TREE: &str = "[[child]]\nid = \"a\"\nstart = \"a\"\n";
+
+/// The words, the program's own name first.
+fn words_in(alloc: Global, words: &[&str]) -> Result<Vec<String>, AllocError> {
+    let mut made = Vec::new(alloc);
+    for word in words {
+        made.push(word.to_string(alloc)?).map_err(|_| AllocError)?;
+    }
+    Ok(made)
+}
+
+/// What a run of the program wrote, and its status.
+#[derive(Drop)]
+struct Streams {
+    output: Vec<u8>,
+    errors: Vec<u8>,
+    status: u8,
+}
+
+/// Runs the program on the file `tree`.
+fn seen(
+    alloc: Global,
+    words: Result<Vec<String>, WordsFault>,
+    text: &str,
+    fault: Option<ErrorKind>,
+    lines: &str,
+) -> Streams {
+    let files = Shelf {
+        alloc,
+        name: "tree",
+        text,
+        fault,
+    };
+    let mut input = Counted::new(lines.as_bytes());
+    let mut output = Counted::new(Vec::new(alloc));
+    let mut errors = Counted::new(Vec::new(alloc));
+    let status = run(alloc, words, &files, &mut input, &mut output, &mut errors);
+    Streams {
+        output: output.into_device(),
+        errors: errors.into_device(),
+        status,
+    }
+}
+
+#[test]
+fn orders_and_sentences(rt: HostRuntime) -> Result<(), Fail> {
+    let alloc = rt.alloc();
+    let rows = [
+        (TREE, None, "up 1\n", "start a #1\nready\n", "", 0u8),
+        (
+            TREE,
+            None,
+            "up 1\nup\n",
+            "start a #1\nready\n",
+            "line 2 refused\n",
+            3,
+        ),
+        ("period = 0\n", None, "up 1\n", "", "tree refused: E1\n", 1),
+        ("perod = 1\n", None, "up 1\n", "", "tree refused: E11\n", 1),
+        (
+            TREE,
+            Some(ErrorKind::NotFound),
+            "up 1\n",
+            "",
+            "tree not read\n",
+            1,
+        ),
+        (
+            TREE,
+            Some(ErrorKind::PermissionDenied),
+            "up 1\n",
+            "",
+            "tree not read\n",
+            1,
+        ),
+        (
+            TREE,
+            Some(ErrorKind::IsADirectory),
+            "up 1\n",
+            "",
+            "tree not read\n",
+            1,
+        ),
+        (
+            TREE,
+            Some(ErrorKind::OutOfMemory),
+            "up 1\n",
+            "",
+            "out of memory\n",
+            4,
+        ),
+    ];
+    for (tree, fault, lines, printed, told, status) in rows {
+        let words = words_in(alloc, &["otp", "sim", "tree"])?;
+        let seen = seen(alloc, Ok(words), tree, fault, lines);
+        assert_eq!(rt; seen.output.as_slice(), printed.as_bytes(), "{told}");
+        assert_eq!(rt; seen.errors.as_slice(), told.as_bytes(), "{told}");
+        assert_eq!(rt; seen.status, status, "{told}");
+    }
+    let words = words_in(alloc, &["otp", "sim", "three"])?;
+    let seen = seen(alloc, Ok(words), TREE, None, "up 1\n");
+    assert_eq!(rt;
+        seen.errors.as_slice(),
+        b"tree not read\n".as_slice(),
+        "another name"
+    );
+    Ok(())
+}
+
+/// Whether a text has this part.
+fn has(text: &[u8], part: &str) -> bool {
+    text.windows(part.len().max(1))
+        .any(|window| window == part.as_bytes())
+}
+
+/// The texts of `clap` are known by a part.
+fn is_told(rt: &impl Abort, alloc: Global, words: &[&str], part: &str) -> Result<(), Fail> {
+    let seen = seen(alloc, Ok(words_in(alloc, words)?), TREE, None, "up 1\n");
+    assert!(rt; seen.output.is_empty(), "{part}");
+    assert!(rt; has(&seen.errors, part), "{part}");
+    assert_eq!(rt; seen.status, 2, "{part}");
+    Ok(())
+}
+
+#[test]
+fn refused_words(rt: HostRuntime) -> Result<(), Fail> {
+    let alloc = rt.alloc();
+    is_told(&rt, alloc, &["otp"], "usage: otp sim FILE\n")?;
+    is_told(&rt, alloc, &["otp", "simulate"], "simulate")?;
+    is_told(&rt, alloc, &["otp", "sim"], "<FILE>")?;
+    is_told(&rt, alloc, &["otp", "sim", "a", "b"], "'b'")?;
+    is_told(&rt, alloc, &["otp", "sim", "--period", "tree"], "--period")?;
+    let told = seen(alloc, Err(WordsFault::NotText), TREE, None, "");
+    assert_eq!(rt;
+        told.errors.as_slice(),
+        b"error: a word is not UTF-8\n".as_slice()
+    );
+    assert_eq!(rt; told.status, 2);
+    let told = seen(alloc, Err(WordsFault::OutOfMemory), TREE, None, "");
+    assert_eq!(rt; told.errors.as_slice(), b"out of memory\n".as_slice());
+    assert_eq!(rt; told.status, 4);
+    Ok(())
+}
+
+/// Help goes to standard output, and where that is full, the program says so.
+#[test]
+fn help(rt: HostRuntime) -> Result<(), Fail> {
+    let alloc = rt.alloc();
+    for words in [["otp", "--help"], ["otp", "help"]] {
+        let shown = seen(alloc, Ok(words_in(alloc, &words)?), TREE, None, "up 1\n");
+        assert!(rt; has(&shown.output, "Usage: otp"));
+        assert!(rt; shown.errors.is_empty());
+        assert_eq!(rt; shown.status, 0);
+    }
+    let files = Shelf {
+        alloc,
+        name: "tree",
+        text: TREE,
+        fault: None,
+    };
+    for words in [["otp", "--help", ""], ["otp", "sim", "tree"]] {
+        let mut input = Counted::new(b"up 1\n".as_slice());
+        let mut output = Counted::new(Full { calls: 0 });
+        let mut errors = Counted::new(Vec::new(alloc));
+        let words = words_in(alloc, &words)?;
+        let status = run(
+            alloc,
+            Ok(words),
+            &files,
+            &mut input,
+            &mut output,
+            &mut errors,
+        );
+        assert_eq!(rt; output.into_device().calls, 1);
+        assert_eq!(rt;
+            errors.into_device().as_slice(),
+            b"output not written\n".as_slice()
+        );
+        assert_eq!(rt; status, 4);
+    }
+    Ok(())
+}

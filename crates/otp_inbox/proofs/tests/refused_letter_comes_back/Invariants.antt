@@ -1,4 +1,0 @@
-use Rattle.otp_inbox.proofs.tests.refused_letter_comes_back.Given as goal
-
-abbrev pub ghosts-refuse : goal.ghosts-refuse
-ghosts-refuse g a = record { inbox = λ k. a.inbox }

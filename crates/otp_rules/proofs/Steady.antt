@@ -1,0 +1,164 @@
+-- A property that depends neither on the children's rows nor on what waits: what few kinds of change keep it, every
+-- event keeps. One walk through decisions and open work, for all laws of that kind.
+use Rattle.std.specs.Prelude.{◌≡◌, ◌⊎◌, ℕ, Bool, true, false, List, [], ◌∷◌, ◌++◌, Option, Some, refl, if◌then◌else◌, position, is_some, nat_lt, remove, reverse, unwrap_or}
+use Rattle.std.specs.List.{list_any}
+use Rattle.std.proofs.Common.{inl, inr}
+use Rattle.std.proofs.lemmas.Bool.{cond_both}
+use Rattle.otp_window.specs.Period.{in_period}
+use Rattle.otp_reason.specs.declared.name.Name.{Name}
+use Rattle.otp_spec.specs.declared.child.Shutdown.{Shutdown}
+use Rattle.otp_table.specs.declared.row.Row.{Row}
+use Rattle.otp_table.specs.declared.row.RowState.TheVariants.{Undefined}
+use Rattle.otp_table.specs.Rows.{calm_rows, is_awaited, row_has}
+use Rattle.otp_rules.specs.declared.call.Reply.{Reply}
+use Rattle.otp_rules.specs.declared.ending.Ending.{Ending}
+use Rattle.otp_rules.specs.declared.ending.Ending.TheVariants as ending
+use Rattle.otp_rules.specs.declared.event.Effect.TheVariants as effect
+use Rattle.otp_rules.specs.declared.event.Event.{Event}
+use Rattle.otp_rules.specs.declared.event.Kind.{Kind}
+use Rattle.otp_rules.specs.declared.event.Waiting.{Waiting}
+use Rattle.otp_rules.specs.declared.work.After.{After}
+use Rattle.otp_rules.specs.declared.work.After.TheVariants as after
+use Rattle.otp_rules.specs.declared.work.Due.{Due}
+use Rattle.otp_rules.specs.State.{Outcome, State, answer, closed, emit, is_busy, is_simple, with_rows, with_stamps, with_waiting, with_work}
+use Rattle.otp_rules.specs.Places.{end_row, end_process, is_removed, set_row}
+use Rattle.otp_rules.specs.Restarts.{running}
+use Rattle.otp_rules.specs.Stops.{calm_all, is_due, is_exit, stop_order, without, tell_row, tell, use_exit, start_row, start, follow, start_first, stop_first, advance, stop_each, terminate_ordered, terminate_together, terminate}
+use Rattle.otp_rules.specs.Deaths.{restart_rows, restart_or_end, restart}
+use Rattle.otp_rules.specs.Step.{open_rows, tick, decide, stamped, step_on, step}
+use Rattle.otp_rules.specs.Progress.{is_end}
+use Rattle.otp_rules.proofs.Decisions.{IsIdle, IsRunning, Survives, at_row-survives, at_number-survives, by_test, decide-survives}
+
+-- each kind of change that open work makes keeps the property
+pub record Goes (P : Outcome → Type 0) : Type 0 where
+  pub rows : (rows : List Row) (o : Outcome) → P o → P (with_rows rows o)
+  pub waiting : (items : List Waiting) (o : Outcome) → P o → P (with_waiting items o)
+  pub left : (ps : List ℕ) (ds : List Due) (o : Outcome) → P o → P (with_work ps ds o.state.follows o)
+  pub told : (id : Option Name) (p : ℕ) (s : Shutdown) (o : Outcome) → P o → P (emit (stop_order id p s) o)
+  pub started : (id : Option Name) (n : ℕ) (o : Outcome) → P o → P (emit (effect.Start id n) o)
+  pub followed : (f : Option After) (o : Outcome) → o.state.follows ≡ f → P o → P (follow f o)
+
+-- and so does each kind of change that a decision makes; b: work was open when the event came
+pub record Steady (b : Bool) (P : Outcome → Type 0) : Type 0 where
+  pub goes : Goes P
+  pub answered : (c : ℕ) (r : Reply) (o : Outcome) → P o → P (answer c r o)
+  -- work closes, opens, and ends the supervisor
+  pub closes : (f : After) (o : Outcome) → o.state.follows ≡ Some f → is_end (Some f) ≡ false → P o → P (closed o)
+  pub opens : (ps : List ℕ) (ds : List Due) (f : After) (o : Outcome) → IsIdle b o → IsRunning o → is_end (Some f) ≡ false → P o → P (with_work ps ds (Some f) o)
+  pub ends : (ps : List ℕ) (e : Ending) (o : Outcome) → (e ≡ ending.Intensity → ⊥) → (IsIdle b o × IsRunning o) ⊎ (o.state.follows ≡ Some after.Ready) → P o → P (with_work ps [] (Some (after.End e)) o)
+  -- a restart: one too many, or not
+  pub exceeds : (ps : List ℕ) (o : Outcome) → IsIdle b o → IsRunning o → nat_lt o.state.flags.intensity (in_period o.state.flags.period (o.state.stamps ++ o.state.last ∷ []) o.state.last) ≡ true → P o → P (with_work ps [] (Some (after.End ending.Intensity)) (with_stamps (o.state.stamps ++ o.state.last ∷ []) o))
+  pub restarts : (ps : List ℕ) (ds : List Due) (o : Outcome) → IsIdle b o → IsRunning o → nat_lt o.state.flags.intensity (in_period o.state.flags.period (o.state.stamps ++ o.state.last ∷ []) o.state.last) ≡ false → P o → P (with_work ps ds (Some after.Nothing) (with_stamps (o.state.stamps ++ o.state.last ∷ []) o))
+  -- a tick, an opening
+  pub ticks : (o : Outcome) → P o → P (tick o)
+  pub opened : (own : ℕ) (o : Outcome) → P o → P (open_rows own o)
+
+end_row-goes : (P : Outcome → Type 0) → Goes P → (place : ℕ) (row : Row) (o : Outcome) → P o → P (end_row place row o)
+unfolding end_row
+end_row-goes P t place row o x = by_test P (is_removed row) (with_rows (remove o.state.rows place) o) (set_row place row Undefined o) (λ _. t.rows _ o x) (λ _. t.rows _ o x)
+
+tell-goes : (P : Outcome → Type 0) → Goes P → (p : ℕ) (o : Outcome) → P o → P (tell p o)
+unfolding tell tell_row
+tell-goes P t p o x = at_number-survives P p (tell_row p) o x (λ place row _ _. t.told row.id p row.spec.shutdown _ (t.rows _ o x))
+
+use_exit-goes : (P : Outcome → Type 0) → Goes P → (p : ℕ) (place : Option ℕ) (o : Outcome) → P o → P (use_exit p place o)
+unfolding use_exit end_process
+use_exit-goes P t p place o x =
+    let left : Outcome = with_waiting (without o.state.waiting place) o in
+    at_number-survives P p end_row left (t.waiting _ o x) (λ i row _ _. end_row-goes P t i row left (t.waiting _ o x))
+
+start-goes : (P : Outcome → Type 0) → Goes P → (due : Due) (n : ℕ) (o : Outcome) → P o → P (start due n o)
+unfolding start start_row
+start-goes P t due n o x = t.started due.id n _ (at_row-survives P (is_due due) o (start_row due n) o x x (λ place row _ _. t.rows _ o x))
+
+start_first-goes : (P : Outcome → Type 0) → Goes P → (dues : List Due) (n : ℕ) (o : Outcome) → P o → P (start_first dues n o)
+unfolding start_first
+start_first-goes P t [] n o x = t.followed o.state.follows o refl x
+start_first-goes P t (due ∷ dues) n o x = start-goes P t due n _ (t.left o.state.to_stop dues o x)
+
+stop_first-goes : (P : Outcome → Type 0) → Goes P → (ps : List ℕ) (n : ℕ) (o : Outcome) → P o → P (stop_first ps n o)
+unfolding stop_first
+stop_first-goes P t [] n o x = start_first-goes P t o.state.to_start n o x
+stop_first-goes P t (p ∷ ps) n o x =
+    let left : Outcome = with_work ps o.state.to_start o.state.follows o in
+    let place : Option ℕ = position (is_exit p) o.state.waiting in
+    let y : P left = t.left ps o.state.to_start o x in
+    by_test P (is_some place) (stop_first ps n (use_exit p place left)) (tell p left)
+    (λ _. stop_first-goes P t ps n (use_exit p place left) (use_exit-goes P t p place left y))
+    (λ _. tell-goes P t p left y)
+
+pub advance-goes : (P : Outcome → Type 0) → Goes P → (n : ℕ) (o : Outcome) → P o → P (advance n o)
+unfolding advance
+advance-goes P t n o x =
+    let go : Outcome = stop_first o.state.to_stop n o in
+    by_test P (is_busy o) (if list_any (row_has is_awaited) o.state.rows then o else go) o
+    (λ _. by_test P (list_any (row_has is_awaited) o.state.rows) o go (λ _. x) (λ _. stop_first-goes P t o.state.to_stop n o x))
+    (λ _. x)
+
+stop_each-goes : (P : Outcome → Type 0) → Goes P → (ps : List ℕ) (o : Outcome) → P o → P (stop_each ps o)
+unfolding stop_each
+stop_each-goes P t [] o x = x
+stop_each-goes P t (p ∷ ps) o x =
+    let place : Option ℕ = position (is_exit p) o.state.waiting in
+    by_test P (is_some place) (stop_each ps (use_exit p place o)) (stop_each ps (tell p o))
+    (λ _. stop_each-goes P t ps (use_exit p place o) (use_exit-goes P t p place o x))
+    (λ _. stop_each-goes P t ps (tell p o) (tell-goes P t p o x))
+
+-- the supervisor ends: what the work that ends it keeps, its decision keeps
+pub terminate-goes : (P : Outcome → Type 0) → Goes P → (e : Ending) (o : Outcome) → ((ps : List ℕ) → P (with_work ps [] (Some (after.End e)) o)) → P (terminate e o)
+unfolding terminate terminate_together terminate_ordered
+terminate-goes P t e o x =
+    by_test P (is_simple o.state.flags.strategy) (terminate_together e o) (terminate_ordered e o)
+    (λ _. stop_each-goes P t (running o.state.rows) (calm_all (with_work [] [] (Some (after.End e)) o)) (t.rows _ (with_work [] [] (Some (after.End e)) o) (x [])))
+    (λ _. t.rows (calm_rows o.state.rows) (with_work (reverse (running o.state.rows)) [] (Some (after.End e)) o) (x (reverse (running o.state.rows))))
+
+-- a restart
+restart-steady : (b : Bool) (P : Outcome → Type 0) → Steady b P → (k place : ℕ) (row : Row) (o : Outcome) → IsIdle b o → IsRunning o → P o → P (restart k place row o)
+unfolding restart restart_or_end restart_rows
+restart-steady b P t k place row o idle runs x =
+    let down : Outcome = set_row place row Undefined o in
+    let counted : Outcome = with_stamps (o.state.stamps ++ o.state.last ∷ []) down in
+    cond_both (nat_lt o.state.flags.intensity (in_period o.state.flags.period (o.state.stamps ++ o.state.last ∷ []) o.state.last)) _ _ P
+    (λ many. terminate-goes P t.goes ending.Intensity counted (λ ps. t.exceeds ps down idle runs many (t.goes.rows _ o x)))
+    (λ few. t.goes.rows _ _ (t.restarts _ _ down idle runs few (t.goes.rows _ o x)))
+
+pub steady-survives : (k : Kind) (b : Bool) (P : Outcome → Type 0) → Steady b P → Survives k b P
+steady-survives k b P t =
+    record {
+      answered = t.answered;
+      taken = λ w ws o idle runs is x. t.goes.waiting ws o x;
+      call_waits = λ c call o x. t.goes.waiting _ o x;
+      exit_waits = λ p r o noted x. t.goes.waiting _ o x;
+      up = λ p place row q kept o at is same noted x. t.goes.rows _ o x;
+      up_closed = λ p place row q kept c o at is same follows x.
+          elim follows as (λ _. P _) [
+            | inl e ↦ t.closes (after.Added c) _ e refl (t.goes.rows _ o x)
+            | inr e ↦ t.closes (after.Restarted c) _ e refl (t.goes.rows _ o x)
+          ];
+      ignored = λ p place row q kept o at is same noted x. end_row-goes P t.goes place row o x;
+      opening_failed = λ place row q kept o runs at is follows x.
+          let down : Outcome = set_row place row Undefined o in
+          terminate-goes P t.goes (ending.InitFailed row.spec.id) down (λ ps. t.ends ps (ending.InitFailed row.spec.id) down (λ h. cc) (inr follows) (t.goes.rows _ o x));
+      restart_failed = λ place row q kept o at is follows x. t.closes after.Nothing _ follows refl (t.goes.waiting _ _ (t.goes.rows _ o x));
+      added_failed = λ place row q kept c o at is follows x. t.closes (after.Added c) _ follows refl (t.goes.rows _ o x);
+      restarted_failed = λ place row q kept c o at is follows x. t.closes (after.Restarted c) _ follows refl (t.goes.rows _ o x);
+      stopped = λ p r place row o at h noted x. end_row-goes P t.goes place row o x;
+      died = λ p place row o idle runs at is x. end_row-goes P t.goes place row o x;
+      restarts = λ p place row o idle runs at h x. restart-steady b P t p place row o idle runs x;
+      ends = λ e o other idle runs x. terminate-goes P t.goes e o (λ ps. t.ends ps e o other (inl (idle, runs)) x);
+      ticks = λ o is x. t.ticks o x;
+      opens = λ own o link over x. t.opened own o x;
+      adds = λ c id spec o idle runs named x. t.opens _ _ (after.Added c) _ idle runs refl (t.goes.rows _ o x);
+      starts_again = λ c id place row o idle runs at h is x. t.opens _ _ (after.Restarted c) o idle runs refl x;
+      removed = λ place row o idle runs at h x. t.goes.rows _ o x;
+      given_up = λ place row o idle runs at h x. t.goes.rows _ o x;
+      stops_child = λ c p place row o idle runs at h x. t.opens _ _ (after.Stopped c) o idle runs refl x;
+    }
+
+-- what holds when the event's stamp is taken holds after the event
+pub step-steady : (P : Outcome → Type 0) → ((b : Bool) → Steady b P) → (s : State) (e : Event) → P (record { state = stamped e.reading s; orders = [] }) → P (step s e)
+unfolding step step_on
+step-steady P t s e x =
+    let before : Outcome = record { state = stamped e.reading s; orders = [] } in
+    advance-goes P (t (is_busy before)).goes (unwrap_or e.number 0) (decide e.kind before)
+    (decide-survives e.kind P before (steady-survives e.kind (is_busy before) P (t (is_busy before))) x)

@@ -1,0 +1,34 @@
+-- The slot of the row that has a process.
+use Rattle.std.specs.Prelude.{◌≡◌, ◌⊎◌, ℕ, ◌<◌, ◌≤◌, Bool, true, false, List, [], ◌∷◌, Option, Some, None, Contains, All, refl, length, position, slice_get}
+use Rattle.std.proofs.Common.{◌∙◌, ap, sym, subst, inl, inr, arith, ⊎_elim, get_or}
+use Rattle.std.proofs.lemmas.Option.{slice_get_within}
+use Rattle.std.proofs.lemmas.Option.{get_or_from_slice_get, slice_get-get_or}
+use Rattle.std.proofs.lemmas.List.Quantifiers.{position-Some}
+use Rattle.otp_reason.specs.declared.note.Note.{Note}
+use Rattle.otp_table.specs.declared.row.Row.{Row}
+use Rattle.otp_table.specs.Rows.{row_has, has_process}
+use Rattle.otp_rules.specs.declared.event.Event.{Event}
+use Rattle.otp_rules.specs.declared.event.Item.TheVariants as item
+use Rattle.otp_rules.specs.declared.event.Kind.TheVariants as kind
+use Rattle.otp_rules.specs.State.{State}
+use Rattle.otp_rules.specs.Step.{step}
+use Rattle.otp_rules.specs.Slots.{AreSlotted}
+use Rattle.otp_sup.specs.Slots.{slot_at, slot_in, slot_of}
+
+slot_in-below : (rows : List Row) → AreSlotted rows → (row : Option Row) (place : ℕ) → slice_get rows place ≡ row → slot_in row < 256
+slot_in-below rows own None place at = omega arith
+slot_in-below rows own (Some row) place at =
+    let within = slice_get_within rows place row at in
+    subst (λ (r : Row). r.slot < 256) (get_or_from_slice_get rows place row row at) (own.below place row within)
+
+pub slot_of-below : (rows : List Row) (n : ℕ) → AreSlotted rows → slot_of rows n < 256
+slot_of-below rows n own = at (position (row_has (has_process n)) rows)
+  where
+    at : (place : Option ℕ) → slot_at rows place < 256
+    at None = omega arith
+    at (Some place) = slot_in-below rows own (slice_get rows place) place refl
+
+pub slot_read : (rows : List Row) (n place : ℕ) (d : Row) → position (row_has (has_process n)) rows ≡ Some place → (get_or rows place d).slot ≡ slot_of rows n
+slot_read rows n place d is =
+    let within : place < length rows = (position-Some (row_has (has_process n)) rows place d is).0 in
+    sym (ap (λ (o : Option ℕ). slot_at rows o) is ∙ ap (λ (o : Option Row). slot_in o) (slice_get-get_or rows place d within))

@@ -1,0 +1,140 @@
+-- What an office and a table stand for, and what they keep.
+use Rattle.std.specs.Prelude.{◌≡◌, ℕ, ◌+◌, ◌<◌, ◌≤◌, ◌⊎◌, Bool, true, false, not, List, [], ◌∷◌, ◌++◌, Option, Some, None, length, take, drop, All, Contains, IfSome, ◌^◌}
+use Rattle.std.specs.List.{filter, filter_map}
+use Rattle.otp_spec.specs.declared.child.ChildSpec.{ChildSpec}
+use Rattle.otp_spec.specs.declared.flags.SupFlags.{SupFlags}
+use Rattle.otp_rules.specs.declared.event.Effect.{Effect}
+use Rattle.otp_rules.specs.declared.event.Effect.TheVariants as effect
+use Rattle.otp_rules.specs.declared.event.Event.{Event}
+use Rattle.otp_rules.specs.declared.event.Item.{Item}
+use Rattle.otp_rules.specs.declared.event.Kind.{Kind}
+use Rattle.otp_rules.specs.declared.event.Kind.TheVariants as kind
+use Rattle.otp_rules.specs.Effects.{is_reply}
+use Rattle.otp_rules.specs.Needs.{IsLawfulHistory, numbers_of}
+use Rattle.otp_rules.specs.Run.{empty_state, orders_of}
+use Rattle.otp_rules.specs.State.{State}
+use Rattle.otp_rules.specs.Rate.{IsRated}
+use Rattle.otp_core.specs.View.{View, state_of}
+use Rattle.otp_inbox.specs.Tokens.{TakerState}
+use Rattle.otp_signals.specs.declared.view.Holding.{Holding}
+use Rattle.otp_signals.specs.declared.signal.Signal.{Signal}
+use Rattle.otp_signals.specs.declared.signal.Signal.TheVariants as signal
+use Rattle.otp_signals.specs.Signals.{word_of}
+use Rattle.otp_signals.specs.Lists.{EachBetween}
+
+-- the orders among effects
+abbrev pub orders_in : List Effect → List Effect
+orders_in effects = filter (λ e. not (is_reply e)) effects
+
+-- the orders of a whole history
+abbrev pub orders_along : View → List Effect
+orders_along core = orders_in (orders_of core.base core.history)
+
+-- the item that an event took
+abbrev pub item_of : Kind → Option Item
+item_of (kind.Opened _) = None
+item_of (kind.Took x) = Some x
+item_of kind.Resumed = None
+item_of kind.Ticked = None
+item_of kind.Stopped = None
+
+abbrev pub items_of : List Event → List Item
+items_of events = filter_map (λ e. item_of e.kind) events
+
+-- the number and the signal that the sending of an order posts
+abbrev pub post_of : Effect → Option (ℕ × Signal)
+post_of (effect.Start _ n) = Some (n, signal.None)
+post_of (effect.Ask _ n) = Some (n, signal.Shutdown)
+post_of (effect.Kill _ n) = Some (n, signal.Kill)
+post_of (effect.Reply _) = None
+post_of effect.Ready = None
+post_of (effect.End _) = None
+
+-- the word that the sending of an order posts
+abbrev pub word_posted : Option (ℕ × Signal) → Option ℕ
+word_posted None = None
+word_posted (Some p) = Some (word_of p.0 p.1)
+
+abbrev pub word_ordered : Effect → Option ℕ
+word_ordered e = word_posted (post_of e)
+
+-- a word that one of these orders posts
+abbrev pub IsOrdered : List Effect → ℕ → Type 0
+IsOrdered orders word = Contains (filter_map word_ordered orders) word
+
+-- what contracts see of an office
+pub record OfficeView : Type 0 where
+  pub core : View
+  pub owner : Holding
+  -- the orders that are still to be sent
+  pub outbox : List Effect
+  -- how many orders were sent
+  pub sent : ℕ
+  pub first_slot : ℕ
+
+-- the orders that were sent
+abbrev pub sent_of : OfficeView → List Effect
+sent_of o = take o.sent (orders_along o.core)
+
+-- the state that was never opened, for some flags and specifications
+pub record Begins (base : State) : Type 0 where
+  pub flags : SupFlags
+  pub specs : List ChildSpec
+  pub is : base ≡ empty_state flags specs
+  pub few : length specs ≤ 256
+
+pub record IsOffice (o : OfficeView) : Type 0 where
+  pub begins : Begins o.core.base
+  -- its numbers are those of its own seat
+  pub numbers : o.owner.drawn ≡ numbers_of o.core.history
+  -- behind the orders of its history that were sent come those to be sent
+  pub orders : o.outbox ≡ drop o.sent (orders_along o.core)
+  pub counted : o.sent ≤ length (orders_along o.core)
+  -- each post is that of a sent order, or of the first in the outbox
+  pub posts : All (λ post. IsOrdered (take (o.sent + 1) (orders_along o.core)) post.1) o.owner.posts
+  pub slots : EachBetween o.first_slot (o.first_slot + 256) (Contains o.owner.slots)
+  pub fits : o.first_slot + 256 < 2 ^ 64
+
+-- the office of a supervisor that was never opened
+abbrev pub new_office : SupFlags → List ChildSpec → Holding → ℕ → OfficeView
+new_office flags specs owner first_slot = record {
+  core = record { base = empty_state flags specs; history = []; effects = []; prepared = false };
+  owner = owner;
+  outbox = [];
+  sent = 0;
+  first_slot = first_slot;
+}
+
+-- what an office keeps, as a reader wants it. Its state is what the rules give for its history from its base on
+pub record KeepsOffice (o : OfficeView) : Type 0 where
+  -- the base is a supervisor that was never opened, for some flags and specifications
+  pub begins : Begins o.core.base
+  -- its process numbers are those that its own seat drew
+  pub numbers : o.owner.drawn ≡ numbers_of o.core.history
+  -- the orders that were sent, followed by those to be sent, are the orders that the rules give
+  pub orders : sent_of o ++ o.outbox ≡ orders_along o.core
+  -- each post is that of an order that was sent, or of the first that is to be sent
+  pub posts : All (λ post. IsOrdered (take (o.sent + 1) (orders_along o.core)) post.1) o.owner.posts
+  -- no period has more restarts than the intensity, but for the last one of a supervisor that ends by it
+  pub rate : IsRated (state_of o.core)
+
+-- how many bodies are kept, and for how many more there is room
+pub record BodiesView : Type 0 where
+  pub count : ℕ
+  pub room : ℕ
+
+-- what contracts see of a table
+pub record TableView : Type 0 where
+  pub office : OfficeView
+  pub taker : TakerState Item
+  -- how many bodies it keeps
+  pub bodies : ℕ
+
+pub record IsTable (t : TableView) : Type 0 where
+  pub taken : t.taker.taken ≡ items_of t.office.core.history
+
+-- what holds whenever the lock is free
+pub record KeepsRules (t : TableView) : Type 0 where
+  pub office : KeepsOffice t.office
+  -- the items taken from the inbox are those of the history, each once and in order
+  pub taken : t.taker.taken ≡ items_of t.office.core.history

@@ -1,0 +1,110 @@
+-- What the sending of an order does.
+use Rattle.std.specs.Prelude.{◌≡◌, ℕ, ◌+◌, ◌<◌, List, [], ◌∷◌, ◌++◌, Option, Some, None, Bool}
+use Rattle.otp_reason.specs.declared.note.Note.{Note}
+use Rattle.otp_reason.specs.declared.note.Note.TheVariants as note
+use Rattle.otp_reason.specs.declared.reason.Reason.{Reason}
+use Rattle.otp_rules.specs.declared.ending.Cause.{Cause}
+use Rattle.otp_rules.specs.declared.ending.Cause.TheVariants as cause
+use Rattle.otp_rules.specs.declared.ending.SupEnd.{SupEnd}
+use Rattle.otp_rules.specs.declared.event.Effect.{Effect}
+use Rattle.otp_rules.specs.declared.event.Effect.TheVariants as effect
+use Rattle.otp_rules.specs.State.{own_number}
+use Rattle.otp_core.specs.View.{state_of}
+use Rattle.otp_signals.specs.declared.signal.Signal.{Signal}
+use Rattle.otp_signals.specs.declared.signal.Signal.TheVariants as signal
+use Rattle.otp_signals.specs.Signals.{word_of}
+use Rattle.otp_signals.specs.Holdings.{after_post}
+use Rattle.otp_sup.specs.declared.orders.Sending.{Sending}
+use Rattle.otp_sup.specs.declared.orders.Sending.TheVariants as sending
+use Rattle.otp_sup.specs.declared.port.Flushed.{Flushed}
+use Rattle.otp_sup.specs.declared.port.Flushed.TheVariants as flushed
+use Rattle.otp_sup.specs.Facts.{OfficeView, post_of}
+use Rattle.otp_sup.specs.Ports.{Taken, launched}
+use Rattle.otp_sup.specs.Slots.{slot_of}
+
+-- the note of a supervisor's end to its parent: it failed where a child didn't start at the opening, else it exited
+abbrev pub end_note_by : ℕ → Reason → Cause → Note
+end_note_by own reason (cause.InitFailed _) = note.Failed own reason
+end_note_by own reason (cause.Intensity _ _) = note.Exit own reason
+end_note_by own reason (cause.Significant _) = note.Exit own reason
+end_note_by own reason cause.Asked = note.Exit own reason
+
+abbrev pub end_note : ℕ → SupEnd → Note
+end_note own e = end_note_by own e.reason e.cause
+
+-- how an order of the supervisor with this number is sent
+abbrev pub sending_of : ℕ → Effect → Option Sending
+sending_of own (effect.Start _ n) = Some (sending.Start n)
+sending_of own (effect.Ask _ n) = Some (sending.Ask n)
+sending_of own (effect.Kill _ n) = Some (sending.Kill n)
+sending_of own (effect.Reply _) = None
+sending_of own effect.Ready = Some (sending.Tell (note.Up own))
+sending_of own (effect.End e) = Some (sending.Tell (end_note own e))
+
+-- the first order of the outbox is sent so
+pub record IsFirst (o : OfficeView) (how : Sending) : Type 0 where
+  pub order : Effect
+  pub rest : List Effect
+  pub outbox : o.outbox ≡ order ∷ rest
+  pub sends : sending_of (own_number (state_of o.core).phase) order ≡ Some how
+
+-- the first order of the outbox posts this
+pub record Posts (o : OfficeView) (number : ℕ) (told : Signal) : Type 0 where
+  pub order : Effect
+  pub rest : List Effect
+  pub outbox : o.outbox ≡ order ∷ rest
+  pub post : post_of order ≡ Some (number, told)
+
+-- one word more was posted, to one of the slots
+pub record Posted (old new : OfficeView) (number : ℕ) (told : Signal) (slot : ℕ) : Type 0 where
+  pub owner : new ≡ record old { owner = after_post slot (word_of number told) old.owner }
+  -- the slot of the row that has the process
+  pub of_row : slot ≡ old.first_slot + slot_of (state_of old.core).rows number
+
+-- one word more was posted: this signal for this number, to the slot of the row that has the process
+pub record IsPosted (number : ℕ) (told : Signal) (slot : ℕ) (old new : OfficeView) : Type 0 where
+  pub posts : new.owner.posts ≡ old.owner.posts ++ (slot, word_of number told) ∷ []
+  pub of_row : slot ≡ old.first_slot + slot_of (state_of old.core).rows number
+
+-- the process stands last in what the port took
+pub record IsPut (number : ℕ) (old new : OfficeView) (before after : Taken) : Type 0 where
+  pub slot : ℕ
+  pub body : Bool
+  pub posted : IsPosted number signal.None slot old new
+  pub took : after ≡ record before { processes = before.processes ++ launched number slot body ∷ [] }
+
+-- a signal was posted, and the port took nothing
+pub record IsAsked (number : ℕ) (told : Signal) (old new : OfficeView) (before after : Taken) : Type 0 where
+  pub slot : ℕ
+  pub posted : IsPosted number told slot old new
+  pub took : after ≡ before
+
+-- the note stands last in what the port took
+pub record IsTold (note : Note) (old new : OfficeView) (before after : Taken) : Type 0 where
+  pub owner : new.owner ≡ old.owner
+  pub took : after ≡ record before { notes = before.notes ++ note ∷ [] }
+
+abbrev pub IsSent : Sending → OfficeView → OfficeView → Taken → Taken → Type 0
+IsSent (sending.Start n) old new before after = IsPut n old new before after
+IsSent (sending.Ask n) old new before after = IsAsked n signal.Shutdown old new before after
+IsSent (sending.Kill n) old new before after = IsAsked n signal.Kill old new before after
+IsSent (sending.Tell x) old new before after = IsTold x old new before after
+
+-- the first order left the outbox
+pub record SentFirst (old new : OfficeView) (before after : Taken) : Type 0 where
+  pub how : Sending
+  pub first : IsFirst old how
+  pub outbox : old.outbox ≡ first.order ∷ new.outbox
+  pub count : new.sent ≡ old.sent + 1
+  pub core : new.core ≡ old.core
+  pub is_sent : IsSent how old new before after
+
+pub record SentNone (old new : OfficeView) : Type 0 where
+  pub outbox : new.outbox ≡ old.outbox
+  pub count : new.sent ≡ old.sent
+  pub core : new.core ≡ old.core
+
+abbrev pub Flushes : Flushed → OfficeView → OfficeView → Taken → Taken → ℕ → ℕ → Type 0
+Flushes flushed.Empty old new before after refusals later = (old.outbox ≡ []) × (new ≡ old) × (after ≡ before) × (later ≡ refusals)
+Flushes flushed.Sent old new before after refusals later = SentFirst old new before after × (later ≡ refusals)
+Flushes flushed.Refused old new before after refusals later = SentNone old new × (after ≡ before) × (refusals < later)

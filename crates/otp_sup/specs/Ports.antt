@@ -1,0 +1,25 @@
+-- What a port took.
+use Rattle.std.specs.Prelude.{ℕ, Bool, List, is_some, map, sum_by}
+use Rattle.otp_reason.specs.declared.note.Note.{Note}
+use Rattle.otp_sup.specs.declared.port.Launched.{Launched}
+use Rattle.otp_sup.specs.declared.port.NewProcess.{NewProcess}
+use Rattle.otp_sup.specs.Letters.{one_if}
+
+-- a process that a port took: its number, its slot, and whether it had a body
+abbrev pub launched : ℕ → ℕ → Bool → Launched
+launched number slot body = record { number = number; slot = slot; body = body }
+
+abbrev pub launched_all : {B : Type 0} → List (NewProcess B) → List Launched
+launched_all processes = map (λ p. launched p.number p.slot (is_some p.body)) processes
+
+-- what a port took
+pub record Taken : Type 0 where
+  pub processes : List Launched
+  pub notes : List Note
+
+abbrev pub taken_by : List Launched → List Note → Taken
+taken_by processes notes = record { processes = processes; notes = notes }
+
+-- how many bodies a port took
+abbrev pub carried : List Launched → ℕ
+carried processes = sum_by (λ (p : Launched). one_if p.body) processes

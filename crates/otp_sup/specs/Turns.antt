@@ -1,0 +1,132 @@
+-- What a turn of a table does.
+use Rattle.std.specs.Prelude.{◌≡◌, ℕ, ⊤, ◌+◌, ◌<◌, ◌≤◌, Bool, true, false, not, ◌&&◌, ◌||◌, ltb, nat_lt, nat_le, max, is_some, List, [], ◌∷◌, ◌++◌, Option, Some, None, Result, Ok, Err, length, if◌then◌else◌, MatchOption, MatchResult}
+use Rattle.std.specs.List.{list_any}
+use Rattle.otp_rules.specs.declared.event.Item.{Item}
+use Rattle.otp_rules.specs.declared.event.Kind.{Kind}
+use Rattle.otp_rules.specs.declared.event.Kind.TheVariants as kind
+use Rattle.otp_rules.specs.declared.work.Phase.{Phase}
+use Rattle.otp_rules.specs.declared.work.Phase.TheVariants.{Unopened, Open, Ended}
+use Rattle.otp_rules.specs.State.{State, is_over, own_number}
+use Rattle.otp_rules.specs.Step.{is_late}
+use Rattle.otp_core.specs.View.{View, state_of}
+use Rattle.otp_signals.specs.declared.signal.Signal.{Signal}
+use Rattle.otp_signals.specs.declared.signal.Signal.TheVariants as signal
+use Rattle.otp_sup.specs.declared.turns.TurnAnswer.{TurnAnswer}
+use Rattle.otp_sup.specs.declared.turns.TurnAnswer.TheVariants as answer
+use Rattle.otp_sup.specs.declared.turns.TurnFault.{TurnFault}
+use Rattle.otp_sup.specs.declared.turns.TurnFault.TheVariants as fault
+use Rattle.otp_sup.specs.Letters.{carries_body, one_if}
+use Rattle.otp_sup.specs.Facts.{OfficeView, TableView}
+
+abbrev pub is_told : Signal → Bool
+is_told signal.None = false
+is_told signal.Shutdown = true
+is_told signal.Kill = true
+
+abbrev pub has_some : {X : Type 0} → List X → Bool
+has_some [] = false
+has_some (x ∷ xs) = true
+
+-- a supervisor in this phase may be opened under the number
+abbrev pub may_open : ℕ → Phase → Bool
+may_open number Unopened = true
+may_open number (Open own) = false
+may_open number (Ended own _) = nat_lt own number
+
+-- the event that is due whether or not an item can be taken
+unfoldable pub due_kind : State → ℕ → ℕ → Signal → Option Kind
+due_kind s number reading told =
+    if may_open number s.phase then Some (kind.Opened number)
+    else if list_any (λ row. is_late (max reading s.last) row.state) s.rows then Some kind.Ticked
+    else if is_some s.follows then None
+    else if is_told told && not (is_over s.phase) then Some kind.Stopped
+    else if nat_lt 0 (length s.waiting) then Some kind.Resumed
+    else None
+
+abbrev pub answer_of : Kind → TurnAnswer
+answer_of (kind.Opened _) = answer.Opened
+answer_of (kind.Took _) = answer.Took
+answer_of kind.Resumed = answer.Resumed
+answer_of kind.Ticked = answer.Ticked
+answer_of kind.Stopped = answer.Stopped
+
+-- the answer of a turn that changes nothing
+unfoldable pub early_answer : OfficeView → ℕ → Option (Result TurnAnswer TurnFault)
+early_answer o number =
+    if nat_lt number (own_number (state_of o.core).phase) then Some (Ok answer.Ended)
+    else if nat_lt (own_number (state_of o.core).phase) number && not (is_over (state_of o.core).phase) then Some (Err fault.WrongNumber)
+    else if has_some o.outbox then Some (Ok answer.Pending)
+    else if nat_le 65536 (length o.core.history) then Some (Ok answer.Full)
+    else None
+
+-- one event of this kind happened: it stands last in the history
+pub record Happened (reading : ℕ) (kind : Kind) (old new : OfficeView) : Type 0 where
+  pub number : Option ℕ
+  pub history : new.core.history ≡ old.core.history ++ record { reading = reading; number = number; kind = kind } ∷ []
+  pub base : new.core.base ≡ old.core.base
+  pub sent : new.sent ≡ old.sent
+  pub posts : new.owner.posts ≡ old.owner.posts
+  pub first_slot : new.first_slot ≡ old.first_slot
+
+-- nothing but that memory was taken
+pub record Readied (old new : OfficeView) : Type 0 where
+  pub base : new.core.base ≡ old.core.base
+  pub history : new.core.history ≡ old.core.history
+  pub owner : new.owner ≡ old.owner
+  pub outbox : new.outbox ≡ old.outbox
+  pub sent : new.sent ≡ old.sent
+  pub first_slot : new.first_slot ≡ old.first_slot
+
+-- why memory and a number for the next event aren't there: memory was refused, or no number is left
+abbrev pub IsRefusal : OfficeView → TurnFault → Type 0
+IsRefusal o fault.OutOfMemory = ⊤
+IsRefusal o fault.Exhausted = o.owner.quota ≡ 0
+IsRefusal o fault.WrongNumber = ⊥
+
+-- what was asked of the inbox: the item that came is the event, or it was found empty
+pub record Took (reading : ℕ) (old new : TableView) : Type 0 where
+  pub item : Item
+  pub happened : Happened reading (kind.Took item) old.office new.office
+  pub taken : new.taker ≡ record old.taker { taken = old.taker.taken ++ item ∷ [] }
+  -- exactly the body that came with the item is more
+  pub bodies : new.bodies ≡ old.bodies + one_if (carries_body item)
+
+pub record FoundEmpty (old new : TableView) : Type 0 where
+  pub office : Readied old.office new.office
+  pub taker : new.taker ≡ record old.taker { empty_finds = old.taker.empty_finds + 1 }
+  pub bodies : new.bodies ≡ old.bodies
+
+abbrev pub idle_answer : Bool → TurnAnswer
+idle_answer true = answer.Ended
+idle_answer false = answer.Quiet
+
+abbrev pub TookOrEmpty : ℕ → TableView → TableView → TurnAnswer → Type 0
+TookOrEmpty reading old new answer.Took = Took reading old new
+TookOrEmpty reading old new answer.Quiet = FoundEmpty old new × (is_over (state_of old.office.core).phase ≡ false)
+TookOrEmpty reading old new answer.Ended = FoundEmpty old new × (is_over (state_of old.office.core).phase ≡ true)
+TookOrEmpty reading old new answer.Opened = ⊥
+TookOrEmpty reading old new answer.Ticked = ⊥
+TookOrEmpty reading old new answer.Stopped = ⊥
+TookOrEmpty reading old new answer.Resumed = ⊥
+TookOrEmpty reading old new answer.Pending = ⊥
+TookOrEmpty reading old new answer.Full = ⊥
+
+pub record Did (reading : ℕ) (kind : Kind) (old new : TableView) (said : TurnAnswer) : Type 0 where
+  pub answer : said ≡ answer_of kind
+  pub happened : Happened reading kind old.office new.office
+  pub taker : new.taker ≡ old.taker
+  pub bodies : new.bodies ≡ old.bodies
+
+pub record Refused (old new : TableView) : Type 0 where
+  pub office : Readied old.office new.office
+  pub taker : new.taker ≡ old.taker
+  pub bodies : new.bodies ≡ old.bodies
+
+-- the first of the eleven cases that applies
+abbrev pub Turned : ℕ → ℕ → Signal → TableView → TableView → Result TurnAnswer TurnFault → Type 0
+Turned number reading told old new result =
+    MatchOption (early_answer old.office number)
+    (MatchResult result
+    (λ said. MatchOption (due_kind (state_of old.office.core) number reading told) (TookOrEmpty reading old new said) (λ kind. Did reading kind old new said))
+    (λ why. Refused old new × IsRefusal old.office why))
+    (λ early. (result ≡ early) × (new ≡ old))

@@ -1,0 +1,143 @@
+//! Who sends calls to supervisors.
+ghost use Rattle.std.specs.Prelude.{◌≡◌, ◌<◌, ◌⊎◌, [], is_some, IfOk, IfErr, IfSome, OnOk, OnErr, None};
+ghost use Rattle.otp_rules.specs.Homes.{is_start_call};
+ghost use Rattle.otp_sup.specs.Clients.{Submitted};
+ghost use Rattle.otp_sup.specs.declared.client.SubmitCause.TheVariants as cause;
+
+use crate::letter::Letter;
+use otp_inbox::{Inbox, InboxNaming, Sender};
+use otp_rules::{Call, Item};
+use otp_signals::{Owner, Words, WordsNaming};
+use std::marker::{Model, PhantomData};
+use std::sync::Wait;
+
+/// The right to send calls to one supervisor: an owner of the words, which draws the calls' numbers, and a sender.
+#[derive(Drop)]
+pub struct Client<N: WordsNaming + InboxNaming, B: Drop> {
+    owner: Owner<N>,
+    sender: Sender<N, Item, Letter<B>>,
+    of: PhantomData<N>,
+}
+
+impl<N: WordsNaming + InboxNaming, B: Drop> Model for Client<N, B> {
+    ghost use Rattle.std.specs.Prelude.{◌<◌};
+    ghost use Rattle.otp_sup.specs.Clients.{ClientView};
+
+    ghost Value = { ClientView };
+
+    ghost view = { λ c. record { owner = c.owner; sender = c.sender } };
+
+    ghost invariant = { λ c. 0 < c.sender.parts };
+}
+
+/// Why a call was not sent.
+#[derive(Clone, Copy, Debug, PartialEq, Eq)]
+pub enum SubmitCause {
+    /// E0: memory was refused.
+    OutOfMemory,
+    /// E9: the client may draw no more numbers.
+    Exhausted,
+    /// E19: a call that starts a child has no body, or another one has.
+    WrongBody,
+}
+
+/// A call that was not sent, with the body that came with it.
+#[derive(Drop)]
+pub struct SubmitFault<B> {
+    pub cause: SubmitCause,
+    pub body: Option<B>,
+}
+
+impl<N: WordsNaming + InboxNaming, B: Drop> Client<N, B> {
+    /// A client of this owner and sender.
+    pub fn new(owner: Owner<N>, sender: Sender<N, Item, Letter<B>>) -> Self
+        requires { 0 < sender.parts }
+        ensures { result ≡ record { owner = owner; sender = sender } }
+    {
+        Client {
+            owner,
+            sender,
+            of: PhantomData,
+        }
+    }
+
+    /// The number of the inbox to which it sends.
+    pub fn number(&self) -> usize
+        ensures { result ≡ self.now.sender.inbox }
+    {
+        self.sender.number()
+    }
+
+    /// Sends a call, with a body exactly where it starts a child (`start_child/2`), and answers the call's number, under
+    /// which its reply is kept. The number is drawn from the words.
+    ///
+    /// Refused with E19, E9 or E0; then nothing was sent, and the body comes back. A number that was drawn for a call
+    /// whose sending was refused is spent.
+    pub fn submit<R: Wait>(
+        &mut self,
+        rt: &R,
+        words: &Words<N>,
+        inbox: &Inbox<N, Item, Letter<B>>,
+        call: Call,
+        body: Option<B>,
+    ) -> Result<u64, SubmitFault<B>>
+        requires { inbox.now ≡ self.old.sender.inbox }
+        ensures sent { IfOk result (λ number. Submitted number call self.old self.new) }
+        ensures unsent { OnErr result (self.new.sender ≡ self.old.sender) }
+        ensures back { IfErr result (λ fault. fault.body ≡ body) }
+        ensures wrong_body { IfErr result (λ fault. fault.cause ≡ cause.WrongBody → ¬ (is_some body ≡ is_start_call call)) }
+        ensures right_body { OnOk result (is_some body ≡ is_start_call call) }
+        ensures tested_first { IfErr result (λ fault. (fault.cause ≡ cause.WrongBody) ⊎ (is_some body ≡ is_start_call call)) }
+        ensures some_quota { OnOk result (0 < self.old.owner.quota) }
+        ensures exhausted { IfErr result (λ fault. fault.cause ≡ cause.Exhausted → self.old.owner.quota ≡ 0) }
+    {
+        if body.is_some() != is_start_call(&call) {
+            return Err(fault(SubmitCause::WrongBody, body));
+        }
+        let Ok(number) = words.draw(&mut self.owner) else {
+            return Err(fault(SubmitCause::Exhausted, body));
+        };
+        let letter = Letter {
+            item: Item::Call(number, call),
+            body,
+        };
+        match inbox.send(rt, &mut self.sender, letter) {
+            Ok(()) => Ok(number),
+            Err(letter) => Err(fault(SubmitCause::OutOfMemory, letter.body)),
+        }
+    }
+
+    /// Another client of the same supervisor, with so many of this one's numbers, and half of its parts of the right to
+    /// send. None, and nothing changes, where it has fewer numbers (E9), or one part alone.
+    pub fn split(
+        &mut self,
+        words: &Words<N>,
+        inbox: &Inbox<N, Item, Letter<B>>,
+        quota: u64,
+    ) -> Option<Client<N, B>>
+        requires { inbox.now ≡ self.old.sender.inbox }
+        ensures new { IfSome result (λ new. (new.owner.quota ≡ quota) × (new.sender.inbox ≡ self.old.sender.inbox) × (new.sender.sent ≡ [])) }
+        ensures none { result ≡ None → self.new ≡ self.old }
+    {
+        let parts = self.sender.parts() / 2;
+        if parts == 0 {
+            return None;
+        }
+        let owner = words.split(&mut self.owner, 0..0, quota).ok()?;
+        let sender = inbox.split(&mut self.sender, parts);
+        Some(Client::new(owner, sender))
+    }
+}
+
+fn fault<B: Drop>(cause: SubmitCause, body: Option<B>) -> SubmitFault<B>
+    ensures { result ≡ record { cause = cause; body = body } }
+{
+    SubmitFault { cause, body }
+}
+
+/// Whether the call starts a new child, and so brings its body.
+fn is_start_call(call: &Call) -> bool
+    ensures { result ≡ is_start_call call.now }
+{
+    matches!(call, Call::StartChild(_) | Call::StartDynamic)
+}

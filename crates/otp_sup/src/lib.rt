@@ -1,0 +1,32 @@
+//! A supervisor that threads share, under a lock.
+//!
+//! A [`Table`] is what lies under the lock: the core of the supervisor, the seat that draws its process numbers and posts
+//! its signals, the taker of its inbox, its orders on their way, and the bodies of children that have no process. What its
+//! type keeps is so whenever the lock is free: [`Table::keeps_rules`] says it. A turn ([`Table::turn`]) is at most one
+//! event of the core, and [`Table::flush_one`] sends one order to a [`Port`].
+//!
+//! A [`Sup`] is a table under its lock beside its inbox, and a [`Client`] sends calls to supervisors. Everything is
+//! generic in the body, what a child runs, and in the name of words and inboxes.
+#![tactic(auto)]
+
+pub mod bodies;
+pub mod client;
+pub mod letter;
+pub mod office;
+pub mod orders;
+pub mod port;
+mod replies;
+mod rows;
+mod sending;
+pub mod sup;
+pub mod table;
+pub mod turns;
+
+pub use bodies::Bodies;
+pub use client::{Client, SubmitCause, SubmitFault};
+pub use letter::Letter;
+pub use office::Office;
+pub use port::{Flushed, Launched, MemoryPort, NewProcess, Port};
+pub use sup::Sup;
+pub use table::Table;
+pub use turns::{TurnAnswer, TurnFault};

@@ -1,0 +1,286 @@
+//! A core with the seat that draws its numbers, and its orders on their way.
+ghost use Rattle.std.specs.Prelude.{◌≡◌, ℕ, ◌+◌, ◌<◌, ◌≤◌, ◌^◌, ◌↔◌, [], ◌∷◌, ◌++◌, true, length, All, Contains, is_some, IsTrue, IfSome, IfOk, IfErr, OnOk, MatchOption, Some, None};
+ghost use Rattle.otp_core.specs.Opened.{IsOpenFault};
+ghost use Rattle.otp_core.specs.View.{state_of};
+ghost use Rattle.otp_rules.specs.Opening.{open_fault};
+ghost use Rattle.otp_rules.specs.Needs.{needs_number};
+ghost use Rattle.otp_rules.specs.State.{own_number, is_over};
+ghost use Rattle.otp_rules.specs.Run.{reply_of};
+ghost use Rattle.otp_signals.specs.Lists.{EachBetween};
+ghost use Rattle.otp_sup.specs.Facts.{item_of, new_office, KeepsOffice};
+ghost use Rattle.otp_sup.specs.declared.turns.TurnFault.TheVariants as fault;
+ghost use Rattle.otp_sup.specs.Turns.{is_told, may_open, due_kind, early_answer, Happened, Readied, IsRefusal};
+
+use crate::orders::first_order;
+use crate::rows::{child_of, state_in};
+use crate::turns::{TurnAnswer, TurnFault};
+use otp_core::{Core, OpenFault};
+use otp_reason::Note;
+use otp_rules::{Event, Item, Kind, Phase, Reply};
+use otp_signals::{Owner, Signal, Words, WordsNaming};
+use otp_spec::{ChildSpec, SupFlags};
+use otp_table::{Row, RowState};
+use otp_tally::Tally;
+use std::alloc::Global;
+use std::marker::{Model, PhantomData};
+
+/// The core of a supervisor, with the seat that draws its process numbers and posts to its slots, and with its orders
+/// on their way.
+///
+/// The orders stay among the core's effects until all are sent; `next` is how far they were. So the outbox takes no
+/// memory of its own. How many orders were ever sent is a count that contracts alone read.
+#[derive(Drop)]
+pub struct Office<N: WordsNaming> {
+    pub(crate) core: Core,
+    pub(crate) owner: Owner<N>,
+    /// The first effect that is still to be sent: an order, or behind all.
+    pub(crate) next: usize,
+    pub(crate) sent: Tally,
+    /// The first of the 256 slots to which it posts.
+    pub(crate) first_slot: usize,
+    of: PhantomData<N>,
+}
+
+impl<N: WordsNaming> Model for Office<N> {
+    ghost use Rattle.std.specs.Prelude.{◌≡◌, ◌≤◌, length, drop};
+    ghost use Rattle.otp_sup.specs.Facts.{OfficeView, IsOffice, orders_in};
+
+    ghost Value = { OfficeView };
+
+    ghost view = { λ o. record { core = o.core; owner = o.owner; outbox = orders_in (drop o.next o.core.effects); sent = o.sent.count; first_slot = o.first_slot } };
+
+    ghost invariant = { λ o. IsOffice (record { core = o.core; owner = o.owner; outbox = orders_in (drop o.next o.core.effects); sent = o.sent.count; first_slot = o.first_slot }) };
+}
+
+/// The child whose process's end a note tells, as it was before the note was taken.
+#[derive(Clone, Copy, Debug, PartialEq, Eq)]
+pub(crate) struct Home {
+    pub slot: usize,
+    pub state: RowState,
+    /// The note waits until no work is open.
+    pub waits: bool,
+}
+
+/// The number of an event, drawn where the event starts a child.
+fn draw_for<N: WordsNaming>(
+    core: &Core,
+    words: &Words<N>,
+    owner: &mut Owner<N>,
+    reading: u64,
+    kind: &Kind,
+) -> Option<u64>
+    requires { 0 < owner.old.quota }
+    ensures given { is_some result ≡ needs_number (state_of core.now) reading kind.now }
+    ensures above { (n : ℕ) → result ≡ Some n → All (λ m. m < n) owner.old.drawn }
+    ensures drawn { (n : ℕ) → result ≡ Some n → owner.new.drawn ≡ owner.old.drawn ++ n ∷ [] }
+    ensures none { result ≡ None → owner.new.drawn ≡ owner.old.drawn }
+    ensures posts { owner.new.posts ≡ owner.old.posts }
+    ensures slots { owner.new.slots ≡ owner.old.slots }
+{
+    if !core.needs_number(reading, kind) {
+        return None;
+    }
+    match words.draw(owner) {
+        Ok(number) => Some(number),
+        Err(_) => unreachable!(),
+    }
+}
+
+/// Takes the memory of the next event. A refusal leaves the core as it was.
+fn ready(core: &mut Core) -> Result<(), TurnFault>
+    ensures base { core.new.base ≡ core.old.base }
+    ensures history { core.new.history ≡ core.old.history }
+    ensures effects { core.new.effects ≡ core.old.effects }
+    ensures prepared { OnOk result (core.new.prepared ≡ true) }
+    ensures refused { IfErr result (λ why. why ≡ fault.OutOfMemory) }
+{
+    match core.prepare() {
+        Ok(()) => Ok(()),
+        Err(_) => Err(TurnFault::OutOfMemory),
+    }
+}
+
+fn is_told(signal: Signal) -> bool
+    ensures { result ≡ is_told signal }
+{
+    !matches!(signal, Signal::None)
+}
+
+pub(crate) fn own_number(phase: Phase) -> u64
+    ensures { result ≡ own_number phase }
+{
+    match phase {
+        Phase::Unopened => 0,
+        Phase::Open(own) | Phase::Ended(own, _) => own,
+    }
+}
+
+fn may_open(number: u64, phase: Phase) -> bool
+    ensures { result ≡ may_open number phase }
+{
+    match phase {
+        Phase::Unopened => true,
+        Phase::Open(_) => false,
+        Phase::Ended(own, _) => own < number,
+    }
+}
+
+impl<N: WordsNaming> Office<N> {
+    /// The office of a supervisor that was never opened, for children of these specifications. Its seat drew no number
+    /// and posted nothing, and owns the 256 slots from the first one on: one for each child that there can be.
+    ///
+    /// # Errors
+    ///
+    /// Those of [`Core::open`]. The seat is dropped then.
+    pub fn open(
+        alloc: Global,
+        flags: SupFlags,
+        specs: &[ChildSpec],
+        owner: Owner<N>,
+        first_slot: usize,
+    ) -> Result<Self, OpenFault>
+        requires drawn { owner.drawn ≡ [] }
+        requires posts { owner.posts ≡ [] }
+        requires slots { EachBetween first_slot (first_slot + 256) (Contains owner.slots) }
+        requires fits { first_slot + 256 < 2 ^ 64 }
+        ensures ok { OnOk result (open_fault flags specs.now ≡ None) }
+        ensures new { IfOk result (λ office. office ≡ new_office flags specs.now owner first_slot) }
+        ensures fault { IfErr result (λ why. IsOpenFault why (open_fault flags specs.now)) }
+    {
+        let core = Core::open(alloc, flags, specs)?;
+        Ok(Office {
+            core,
+            owner,
+            next: 0,
+            sent: Tally::new(),
+            first_slot,
+            of: PhantomData,
+        })
+    }
+
+    /// The answer of a turn that changes nothing.
+    #[tactic(auto, unfolding(crate::specs::Turns::early_answer))]
+    pub fn early_answer(&self, number: u64) -> Option<Result<TurnAnswer, TurnFault>>
+        ensures answer { result ≡ early_answer self.now number }
+        ensures room { result ≡ None → length self.now.core.history < 65536 }
+        ensures outbox { result ≡ None → self.now.outbox ≡ [] }
+    {
+        let own = own_number(self.core.phase());
+        if number < own {
+            return Some(Ok(TurnAnswer::Ended));
+        }
+        if own < number && !self.core.has_ended() {
+            return Some(Err(TurnFault::WrongNumber));
+        }
+        if first_order(self.core.effects(), self.next) < self.core.effects().len() {
+            return Some(Ok(TurnAnswer::Pending));
+        }
+        if self.core.is_full() {
+            return Some(Ok(TurnAnswer::Full));
+        }
+        None
+    }
+
+    /// The event that is due whether or not an item can be taken.
+    #[tactic(auto, unfolding(crate::specs::Turns::due_kind))]
+    pub fn due_kind(&self, number: u64, reading: u64, told: Signal) -> Option<Kind>
+        ensures kind { result ≡ due_kind (state_of self.now.core) number reading told }
+        ensures no_item { IfSome result (λ kind. item_of kind ≡ None) }
+    {
+        if may_open(number, self.core.phase()) {
+            return Some(Kind::Opened(number));
+        }
+        if self.core.is_due(reading) {
+            return Some(Kind::Ticked);
+        }
+        if self.core.has_open_work() {
+            return None;
+        }
+        if is_told(told) && !self.core.has_ended() {
+            return Some(Kind::Stopped);
+        }
+        if self.core.has_waiting() {
+            return Some(Kind::Resumed);
+        }
+        None
+    }
+
+    /// Whether the supervisor was never opened, or has ended.
+    pub fn has_ended(&self) -> bool
+        ensures { result ≡ is_over (state_of self.now.core).phase }
+    {
+        self.core.has_ended()
+    }
+
+    /// Takes the memory of the next event, and sees that a number is left for it. A refusal changes nothing.
+    pub fn prepare(&mut self) -> Result<(), TurnFault>
+        ensures readied { Readied self.old self.new }
+        ensures refused { IfErr result (IsRefusal self.old) }
+        ensures prepared { OnOk result (self.new.core.prepared ≡ true) }
+        ensures quota { OnOk result (0 < self.new.owner.quota) }
+    {
+        if self.owner.quota() == 0 {
+            return Err(TurnFault::Exhausted);
+        }
+        ready(&mut self.core)
+    }
+
+    /// One event. Its number is drawn where it starts a child.
+    pub fn happen(&mut self, words: &Words<N>, reading: u64, kind: Kind)
+        requires prepared { IsTrue self.old.core.prepared }
+        requires room { length self.old.core.history < 65536 }
+        requires quota { 0 < self.old.owner.quota }
+        requires reading { reading ≤ 2 ^ 62 }
+        requires outbox { self.old.outbox ≡ [] }
+        ensures { Happened reading kind self.old self.new }
+    {
+        self.core.clear_effects();
+        let number = draw_for(&self.core, words, &mut self.owner, reading, &kind);
+        self.core.step(Event {
+            reading,
+            number,
+            kind,
+        });
+        self.next = 0;
+    }
+
+    /// What is so whenever nobody is changing it.
+    pub fn keeps_rules(&self)
+        ensures { KeepsOffice self.now }
+    {
+        let _ = self.core.restarts();
+    }
+
+    /// The supervisor's children, in start order.
+    pub(crate) fn rows(&self) -> &[Row] {
+        self.core.rows()
+    }
+
+    /// Whether the call with this number was answered.
+    pub(crate) fn is_answered(&self, call: u64) -> bool {
+        self.core.reply(call).is_some()
+    }
+
+    /// The kept answer of the call with this number.
+    pub(crate) fn reply(&self, call: u64) -> Option<&Reply>
+        ensures { MatchOption result (reply_of call (state_of self.now.core).replies ≡ None) (λ r. reply_of call (state_of self.now.core).replies ≡ Some r.now) }
+    {
+        self.core.reply(call)
+    }
+
+    /// Where the body that an item brings may go: of an end note, the child whose end it tells.
+    pub(crate) fn home_of(&self, item: &Item) -> Option<Home> {
+        let (number, waits) = match item {
+            Item::Note(Note::Exit(number, _)) => (*number, self.core.has_open_work()),
+            Item::Note(Note::Ignored(number) | Note::Failed(number, _)) => (*number, false),
+            _ => return None,
+        };
+        let (slot, state) = child_of(self.rows(), number)?;
+        Some(Home { slot, state, waits })
+    }
+
+    /// Whether the end that the child's process told was heeded: its row has changed, or the note waits.
+    pub(crate) fn is_heeded(&self, home: &Home) -> bool {
+        home.waits || state_in(self.rows(), home.slot) != Some(home.state)
+    }
+}

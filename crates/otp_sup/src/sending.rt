@@ -1,0 +1,126 @@
+//! How an office sends its orders.
+ghost use Rattle.std.specs.Prelude.{◌≡◌, ◌+◌, ◌<◌, ◌^◌, [], true, drop, is_some, IsSome, MatchOption};
+ghost use Rattle.otp_core.specs.View.{state_of};
+ghost use Rattle.otp_rules.specs.State.{own_number};
+ghost use Rattle.otp_sup.specs.Flushes.{IsFirst, Posts, Posted, Flushes};
+ghost use Rattle.otp_sup.specs.Ports.{taken_by, carried};
+ghost use Rattle.otp_sup.specs.Letters.{one_if};
+ghost use Rattle.otp_sup.specs.declared.port.Flushed.TheVariants as flushed;
+ghost use Rattle.otp_sup.specs.Slots.{slot_of};
+ghost use Rattle.otp_sup.specs.Turns.{has_some};
+
+use crate::office::{Office, own_number};
+use crate::orders::{Sending, first_order, sending_of};
+use crate::port::{Flushed, NewProcess, Port};
+use crate::rows::slot_of;
+use otp_rules::laws;
+use otp_signals::{Signal, Words, WordsNaming};
+
+impl<N: WordsNaming> Office<N> {
+    /// The supervisor's own process number.
+    fn own(&self) -> u64
+        ensures { result ≡ own_number (state_of self.now.core).phase }
+    {
+        own_number(self.core.phase())
+    }
+
+    /// How the first order is to be sent.
+    fn first(&self) -> Option<Sending>
+        ensures { MatchOption result (self.now.outbox ≡ []) (λ how. IsFirst self.now how) }
+    {
+        let effects = self.core.effects();
+        let place = first_order(effects, self.next);
+        if place >= effects.len() {
+            return None;
+        }
+        let own = self.own();
+        let order = &effects[place];
+        sending_of(order, own)
+    }
+
+    /// The slot, counted from 0, of the row that has this process.
+    fn row_slot(&self, number: u64) -> usize
+        ensures slot { result ≡ slot_of (state_of self.now.core).rows number }
+        ensures below { result < 256 }
+        ensures fits { self.now.first_slot + 256 < 2 ^ 64 }
+    {
+        laws::slots_are_owned();
+        let _ = self.core.history();
+        slot_of(self.core.rows(), number)
+    }
+
+    /// Posts what the first order says, to the slot of the row that has its process.
+    fn post(&mut self, words: &Words<N>, number: u64, told: Signal) -> usize
+        requires { Posts self.old number told }
+        ensures { Posted self.old self.new number told result }
+    {
+        laws::orders_are_numbered();
+        let _ = self.core.history();
+        let slot = self.first_slot + self.row_slot(number);
+        words.post(&mut self.owner, slot, number, told);
+        slot
+    }
+
+    /// The first order was sent: it leaves the outbox.
+    fn advance(&mut self)
+        requires { has_some self.old.outbox ≡ true }
+        ensures { self.new ≡ record self.old { outbox = drop 1 self.old.outbox; sent = self.old.sent + 1 } }
+    {
+        let effects = self.core.effects();
+        self.next = first_order(effects, self.next) + 1;
+        self.sent.raise();
+    }
+
+    /// The row's slot, counted from 0, whose child is to be started by the first order.
+    pub(crate) fn starting_slot(&self) -> Option<usize> {
+        match self.first() {
+            Some(Sending::Start(number)) => Some(self.row_slot(number)),
+            _ => None,
+        }
+    }
+
+    /// Sends the first order: posts what it says, and puts the process with this body or tells the parent. What comes
+    /// back is the body, but for a process that the port took with it.
+    pub fn flush_one<B: Drop, P: Port<B>>(
+        &mut self,
+        words: &Words<N>,
+        body: Option<B>,
+        port: &mut P,
+    ) -> (Flushed, Option<B>)
+        ensures flushed { Flushes result.0 self.old self.new (taken_by (P.processes port.old) (P.notes port.old)) (taken_by (P.processes port.new) (P.notes port.new)) (P.refusals port.old) (P.refusals port.new) }
+        ensures bodies { one_if (is_some result.1) + carried (P.processes port.new) ≡ one_if (is_some body) + carried (P.processes port.old) }
+        ensures whose { IsSome result.1 → IsSome body }
+        ensures back { result.0 ≡ flushed.Refused → result.1 ≡ body }
+    {
+        let Some(how) = self.first() else {
+            return (Flushed::Empty, body);
+        };
+        match how {
+            Sending::Start(number) => {
+                let slot = self.post(words, number, Signal::None);
+                if let Err(back) = port.put(NewProcess { number, slot, body }) {
+                    return (Flushed::Refused, back.body);
+                }
+                self.advance();
+                (Flushed::Sent, None)
+            }
+            Sending::Ask(number) => {
+                self.post(words, number, Signal::Shutdown);
+                self.advance();
+                (Flushed::Sent, body)
+            }
+            Sending::Kill(number) => {
+                self.post(words, number, Signal::Kill);
+                self.advance();
+                (Flushed::Sent, body)
+            }
+            Sending::Tell(note) => {
+                if let Err(_) = port.send(note) {
+                    return (Flushed::Refused, body);
+                }
+                self.advance();
+                (Flushed::Sent, body)
+            }
+        }
+    }
+}

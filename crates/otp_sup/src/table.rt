@@ -1,0 +1,197 @@
+//! What lies under a supervisor's lock.
+ghost use Rattle.std.specs.Prelude.{◌≡◌, ◌+◌, ◌<◌, ◌≤◌, ◌^◌, [], is_some, IsSome, MatchOption, None, Some};
+ghost use Rattle.otp_core.specs.View.{state_of};
+ghost use Rattle.otp_rules.specs.Run.{reply_of};
+ghost use Rattle.otp_sup.specs.Facts.{KeepsRules};
+ghost use Rattle.otp_sup.specs.Flushes.{Flushes};
+ghost use Rattle.otp_sup.specs.Letters.{one_if};
+ghost use Rattle.otp_sup.specs.Ports.{taken_by, carried};
+ghost use Rattle.otp_sup.specs.Turns.{Turned};
+
+use crate::bodies::Bodies;
+use crate::letter::Letter;
+use crate::office::Office;
+use crate::port::{Flushed, Port};
+use crate::turns::{TurnAnswer, TurnFault, answer_of};
+use otp_inbox::{Inbox, InboxNaming, Taker};
+use otp_rules::{Item, Kind, Reply};
+use otp_signals::{Signal, Words, WordsNaming};
+use std::marker::{Model, PhantomData};
+use std::sync::Wait;
+
+/// What lies under a supervisor's lock: its core with seat and orders, the taker of its inbox, and the bodies that it
+/// keeps.
+#[derive(Drop)]
+pub struct Table<N: WordsNaming + InboxNaming, B: Drop> {
+    office: Office<N>,
+    taker: Taker<N, Item, Letter<B>>,
+    bodies: Bodies<B>,
+    of: PhantomData<N>,
+}
+
+impl<N: WordsNaming + InboxNaming, B: Drop> Model for Table<N, B> {
+    ghost use Rattle.otp_sup.specs.Facts.{TableView, IsTable};
+
+    ghost Value = { TableView };
+
+    ghost view = { λ t. record { office = t.office; taker = t.taker; bodies = t.bodies.count } };
+
+    ghost invariant = { λ t. IsTable (record { office = t.office; taker = t.taker; bodies = t.bodies.count }) };
+}
+
+impl<N: WordsNaming + InboxNaming, B: Drop> Table<N, B> {
+    /// The table of a supervisor that was never opened, with the bodies of its child specifications.
+    pub fn new(office: Office<N>, taker: Taker<N, Item, Letter<B>>, bodies: Bodies<B>) -> Self
+        requires history { office.core.history ≡ [] }
+        requires taken { taker.taken ≡ [] }
+        ensures { result ≡ record { office = office; taker = taker; bodies = bodies.count } }
+    {
+        Table {
+            office,
+            taker,
+            bodies,
+            of: PhantomData,
+        }
+    }
+
+    /// What is so whenever the supervisor's lock is free. Its children, restart times and kept replies are what OTP's
+    /// rules give for the history that it stores; so are the orders that were sent, followed by those still to be sent.
+    /// That history holds each item taken from its inbox once, in order. Its process numbers are those that its own
+    /// seat drew. Each signal that it posted for one of them is that of an order that was sent, or of the one to be sent
+    /// next. And no period has more restarts than the intensity, unless the supervisor is ending.
+    pub fn keeps_rules(&self)
+        ensures { KeepsRules self.now }
+    {
+        let _ = &self.taker;
+        self.office.keeps_rules();
+    }
+
+    /// The number of its inbox.
+    pub fn number(&self) -> usize
+        ensures { result ≡ self.now.taker.inbox }
+    {
+        self.taker.number()
+    }
+
+    /// One turn of the supervisor, under the process number that it is to have, at this reading of the clock in
+    /// milliseconds, with the signal that its parent posted for it. It does the first of these that applies:
+    ///
+    /// 1. The number is below its own: [`TurnAnswer::Ended`].
+    /// 2. The number is above its own, and it hasn't ended: [`TurnFault::WrongNumber`] (E18).
+    /// 3. Orders are still to be sent: [`TurnAnswer::Pending`].
+    /// 4. The history is full: [`TurnAnswer::Full`].
+    /// 5. Memory is refused, or no number is left: [`TurnFault::OutOfMemory`] (E0), [`TurnFault::Exhausted`] (E9).
+    /// 6. It was never opened, or has ended and the number is greater: it opens.
+    /// 7. A deadline has come: children are killed.
+    /// 8. A signal was posted, no work is open and it hasn't ended: it stops.
+    /// 9. No work is open and an item waits: that is taken up.
+    /// 10. An item is in the inbox: it is taken.
+    /// 11. [`TurnAnswer::Ended`] if it has ended, else [`TurnAnswer::Quiet`].
+    ///
+    /// Cases 6 to 10 are one event each; in all others nothing changes, but that in case 11 one look more has found the
+    /// inbox empty. A turn keeps one body more exactly where the item that it took brought one.
+    pub fn turn<R: Wait>(
+        &mut self,
+        rt: &R,
+        words: &Words<N>,
+        inbox: &Inbox<N, Item, Letter<B>>,
+        number: u64,
+        reading: u64,
+        told: Signal,
+    ) -> Result<TurnAnswer, TurnFault>
+        requires inbox { inbox.now ≡ self.old.taker.inbox }
+        requires reading { reading ≤ 2 ^ 62 }
+        ensures { Turned number reading told self.old self.new result }
+    {
+        if let Some(early) = self.office.early_answer(number) {
+            return early;
+        }
+        if self.bodies.prepare().is_err() {
+            return Err(TurnFault::OutOfMemory);
+        }
+        self.office.prepare()?;
+        if let Some(kind) = self.office.due_kind(number, reading, told) {
+            self.office.happen(words, reading, kind);
+            self.bodies
+                .settle(&self.office, matches!(kind, Kind::Opened(_)));
+            return Ok(answer_of(kind));
+        }
+        let Some(letter) = inbox.take(rt, &mut self.taker) else {
+            return Ok(if self.office.has_ended() {
+                TurnAnswer::Ended
+            } else {
+                TurnAnswer::Quiet
+            });
+        };
+        let Letter { item, body } = letter;
+        let home = self.office.home_of(&item);
+        self.office.happen(words, reading, Kind::Took(item));
+        self.bodies.receive(&self.office, &item, home, body);
+        self.bodies.settle(&self.office, false);
+        Ok(TurnAnswer::Took)
+    }
+
+    /// Sends the first order that is still to be sent. A start posts the process's number to its child's slot and puts
+    /// the process, with the child's body; an ask and a kill post. That all have started, and the end, are told to the
+    /// parent. Where the port refuses, the order stays, and so does the body; what it posts may be posted again.
+    pub fn flush_one<P: Port<B>>(&mut self, words: &Words<N>, port: &mut P) -> Flushed
+        ensures flushed { Flushes result self.old.office self.new.office (taken_by (P.processes port.old) (P.notes port.old)) (taken_by (P.processes port.new) (P.notes port.new)) (P.refusals port.old) (P.refusals port.new) }
+        ensures taker { self.new.taker ≡ self.old.taker }
+        // A body that the table doesn't keep any more went with a process that the port took.
+        ensures bodies { self.new.bodies + carried (P.processes port.new) ≡ self.old.bodies + carried (P.processes port.old) }
+    {
+        let slot = self.office.starting_slot();
+        let body = leave(&mut self.bodies, slot);
+        let (flushed, back) = self.office.flush_one(words, body, port);
+        come_back(&mut self.bodies, slot, back);
+        flushed
+    }
+
+    /// The kept answer to the call with this number.
+    pub fn reply(&self, call: u64) -> Option<&Reply>
+        ensures { MatchOption result (reply_of call (state_of self.now.office.core).replies ≡ None) (λ r. reply_of call (state_of self.now.office.core).replies ≡ Some r.now) }
+    {
+        self.office.reply(call)
+    }
+
+    /// The body that the call with this number brought, once the call was answered and no child has the body: after a
+    /// refusal, or when the child is gone.
+    pub fn take_box(&mut self, call: u64) -> Option<B>
+        ensures table { self.new ≡ record self.old { bodies = self.new.bodies } }
+        ensures bodies { self.new.bodies + one_if (is_some result) ≡ self.old.bodies }
+    {
+        let _ = &self.taker;
+        if !self.office.is_answered(call) {
+            return None;
+        }
+        self.bodies.take_of_call(call)
+    }
+
+    /// A body that came with a note of a process that no child has, with one that told nothing new, or for a child
+    /// that had its body already.
+    pub fn take_stray(&mut self) -> Option<B>
+        ensures table { self.new ≡ record self.old { bodies = self.new.bodies } }
+        ensures bodies { self.new.bodies + one_if (is_some result) ≡ self.old.bodies }
+    {
+        let _ = &self.taker;
+        self.bodies.take_of_nobody()
+    }
+}
+
+/// The body of the child in this slot, to go with its process.
+fn leave<B: Drop>(bodies: &mut Bodies<B>, slot: Option<usize>) -> Option<B>
+    ensures count { bodies.new.count + one_if (is_some result) ≡ bodies.old.count }
+    ensures room { IsSome result → 0 < bodies.new.room }
+{
+    bodies.leave(slot?)
+}
+
+/// What the port didn't take goes back.
+fn come_back<B: Drop>(bodies: &mut Bodies<B>, slot: Option<usize>, back: Option<B>)
+    requires { IsSome back → 0 < bodies.old.room }
+    ensures { bodies.new.count ≡ bodies.old.count + one_if (is_some back) }
+{
+    if let Some(body) = back {
+        bodies.come_home(slot.unwrap_or(0), body);
+    }
+}

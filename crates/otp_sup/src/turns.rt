@@ -1,0 +1,51 @@
+//! What a turn of a supervisor answers.
+ghost use Rattle.std.specs.Prelude.{◌≡◌};
+ghost use Rattle.otp_sup.specs.Turns.{answer_of};
+
+use otp_rules::Kind;
+
+/// What a turn did. The first five are one event of the supervisor each; after the others nothing has happened.
+#[derive(Clone, Copy, Debug, PartialEq, Eq)]
+pub enum TurnAnswer {
+    /// The supervisor was opened under the number that was handed in.
+    Opened,
+    /// A deadline had come: children that didn't shut down in time are killed.
+    Ticked,
+    /// The parent's signal was obeyed: the children are being stopped.
+    Stopped,
+    /// The first item that waited was taken up.
+    Resumed,
+    /// An item was taken from the inbox.
+    Took,
+    /// The inbox was found empty.
+    Quiet,
+    /// The supervisor has ended, and the inbox was found empty; or the number is one of an earlier opening.
+    Ended,
+    /// Orders are still to be sent.
+    Pending,
+    /// The history is full, with 65,536 events.
+    Full,
+}
+
+/// Why a turn did nothing.
+#[derive(Clone, Copy, Debug, PartialEq, Eq)]
+pub enum TurnFault {
+    /// E0: memory was refused.
+    OutOfMemory,
+    /// E9: the seat may draw no more process numbers.
+    Exhausted,
+    /// E18: the supervisor runs under a lower number.
+    WrongNumber,
+}
+
+pub(crate) fn answer_of(kind: Kind) -> TurnAnswer
+    ensures { result ≡ answer_of kind }
+{
+    match kind {
+        Kind::Opened(_) => TurnAnswer::Opened,
+        Kind::Took(_) => TurnAnswer::Took,
+        Kind::Resumed => TurnAnswer::Resumed,
+        Kind::Ticked => TurnAnswer::Ticked,
+        Kind::Stopped => TurnAnswer::Stopped,
+    }
+}

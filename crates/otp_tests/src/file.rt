@@ -1,0 +1,384 @@
+use crate::fixtures::named;
+use otp_file::{ChildKey, FlagKey, Place, TreeFault, read_tree};
+use otp_spec::{AutoShutdown, ChildType, Modules, Restart, Shutdown, SpecFault, Strategy};
+use std::alloc::Global;
+use std::test::Fail;
+
+// The text and this many children, all the same.
+fn with_children(alloc: Global, head: &[u8], count: usize) -> Result<Vec<u8>, Fail> {
+    let mut text = Vec::new(alloc);
+    text.extend_from_slice(head)?;
+    for _ in 0..count {
+        text.extend_from_slice(b"[[child]]\nid = \"a\"\nstart = \"a\"\n")?;
+    }
+    Ok(text)
+}
+
+#[test]
+fn file_with_every_key(rt: HostRuntime) -> Result<(), Fail> {
+    let text =
+        b"strategy = \"rest_for_one\"\nintensity = 1000\nperiod = 1000000\nauto_shutdown = \"any_significant\"\n
+[[child]]\nid = \"db\"\nstart = \"steady\"\nrestart = \"transient\"\nsignificant = true\nshutdown = 4294967295\ntype = \"worker\"\nmodules = [\"db\", \"db.log\"]\n
+[[child]]\nid = \"sub\"\nstart = \"s\"\nrestart = \"temporary\"\nshutdown = \"brutal_kill\"\ntype = \"supervisor\"\nmodules = \"dynamic\"\n
+[[child]]\nid = \"last\"\nstart = \"s\"\nrestart = \"permanent\"\nsignificant = false\nshutdown = \"infinity\"\nmodules = []\n";
+    let tree = read_tree(rt.alloc(), text)?;
+    assert_eq!(rt; tree.flags.strategy, Strategy::RestForOne);
+    assert_eq!(rt; tree.flags.intensity, 1000);
+    assert_eq!(rt; tree.flags.period, 1_000_000);
+    assert_eq!(rt; tree.flags.auto_shutdown, AutoShutdown::AnySignificant);
+    let specs = tree.specs.into_vec();
+    let [db, sub, last] = specs.as_slice() else {
+        return Err(Fail::from("three children"));
+    };
+    assert_eq!(rt; db.id, named(b"db")?);
+    assert_eq!(rt; db.start, named(b"steady")?);
+    assert_eq!(rt; db.restart, Restart::Transient);
+    assert_eq!(rt; db.significant, true);
+    assert_eq!(rt; db.shutdown, Shutdown::Milliseconds(4_294_967_295));
+    assert_eq!(rt; db.kind, ChildType::Worker);
+    assert_eq!(rt; db.modules, Modules::Two(named(b"db")?, named(b"db.log")?));
+    assert_eq!(rt; sub.restart, Restart::Temporary);
+    assert_eq!(rt; sub.shutdown, Shutdown::BrutalKill);
+    assert_eq!(rt; sub.kind, ChildType::Supervisor);
+    assert_eq!(rt; sub.modules, Modules::Dynamic);
+    assert_eq!(rt; last.id, named(b"last")?);
+    assert_eq!(rt; last.shutdown, Shutdown::Infinity);
+    assert_eq!(rt; last.modules, Modules::None);
+    Ok(())
+}
+
+#[test]
+fn defaults_are_the_manuals(rt: HostRuntime) -> Result<(), Fail> {
+    let tree = read_tree(rt.alloc(), b"")?;
+    assert_eq!(rt; tree.flags.strategy, Strategy::OneForOne);
+    assert_eq!(rt; tree.flags.intensity, 1);
+    assert_eq!(rt; tree.flags.period, 5);
+    assert_eq!(rt; tree.flags.auto_shutdown, AutoShutdown::Never);
+    assert_eq!(rt; tree.specs.as_slice().len(), 0);
+    let text =
+        b"[[child]]\nid = \"a\"\nstart = \"b\"\n[[child]]\nid = \"s\"\nstart = \"b\"\ntype = \"supervisor\"\n";
+    let tree = read_tree(rt.alloc(), text)?;
+    let [worker, supervisor] = tree.specs.as_slice() else {
+        return Err(Fail::from("two children"));
+    };
+    assert_eq!(rt; worker.restart, Restart::Permanent);
+    assert_eq!(rt; worker.significant, false);
+    assert_eq!(rt; worker.shutdown, Shutdown::Milliseconds(5000));
+    assert_eq!(rt; worker.kind, ChildType::Worker);
+    assert_eq!(rt; worker.modules, Modules::One(named(b"b")?));
+    assert_eq!(rt; supervisor.shutdown, Shutdown::Infinity);
+    Ok(())
+}
+
+#[test]
+fn all_words_of_the_flags(rt: HostRuntime) -> Result<(), Fail> {
+    let child = "[[child]]\nid = \"a\"\nstart = \"a\"\n";
+    let strategies = [
+        ("one_for_one", Strategy::OneForOne),
+        ("one_for_all", Strategy::OneForAll),
+        ("rest_for_one", Strategy::RestForOne),
+        ("simple_one_for_one", Strategy::SimpleOneForOne),
+    ];
+    for (word, strategy) in strategies {
+        let text = format!(in rt.alloc(); "strategy = \"{word}\"\n{child}")?;
+        assert_eq!(rt;
+            read_tree(rt.alloc(), text.as_bytes())?.flags.strategy,
+            strategy,
+            "{word}"
+        );
+    }
+    let values = [
+        ("never", AutoShutdown::Never),
+        ("any_significant", AutoShutdown::AnySignificant),
+        ("all_significant", AutoShutdown::AllSignificant),
+    ];
+    for (word, value) in values {
+        let text = format!(in rt.alloc(); "auto_shutdown = \"{word}\"\n{child}")?;
+        assert_eq!(rt;
+            read_tree(rt.alloc(), text.as_bytes())?.flags.auto_shutdown,
+            value,
+            "{word}"
+        );
+    }
+    Ok(())
+}
+
+#[test]
+fn faults_of_the_supervisor(rt: HostRuntime) {
+    let table: [(&[u8], TreeFault, u8); 12] = [
+        (b"a =", TreeFault::NotToml, 10),
+        (b"\xff", TreeFault::NotToml, 10),
+        (
+            b"period = 0\nchilds = []",
+            TreeFault::UnknownKey(Place::Table),
+            11,
+        ),
+        (b"tree = {}", TreeFault::UnknownKey(Place::Table), 11),
+        (
+            b"intensity = -1\nstrategy = 1",
+            TreeFault::WrongKind(Place::Flag(FlagKey::Strategy)),
+            13,
+        ),
+        (
+            b"strategy = \"one\"",
+            TreeFault::WrongKind(Place::Flag(FlagKey::Strategy)),
+            13,
+        ),
+        (
+            b"intensity = 1001\nperiod = 0",
+            TreeFault::BadFlag(FlagKey::Intensity),
+            1,
+        ),
+        (
+            b"period = 0\nauto_shutdown = true",
+            TreeFault::BadFlag(FlagKey::Period),
+            1,
+        ),
+        (b"period = 1000001", TreeFault::BadFlag(FlagKey::Period), 1),
+        (
+            b"auto_shutdown = \"some\"\nchild = 1",
+            TreeFault::WrongKind(Place::Flag(FlagKey::AutoShutdown)),
+            13,
+        ),
+        (
+            b"child = 1",
+            TreeFault::WrongKind(Place::Flag(FlagKey::Child)),
+            13,
+        ),
+        (
+            b"strategy = \"simple_one_for_one\"",
+            TreeFault::Unlawful(SpecFault::SimpleNeedsOne),
+            6,
+        ),
+    ];
+    for (text, fault, code) in table {
+        assert_eq!(rt; read_tree(rt.alloc(), text).err(), Some(fault), "E{code}");
+        assert_eq!(rt; fault.code(), code);
+    }
+}
+
+#[test]
+fn faults_of_a_child(rt: HostRuntime) -> Result<(), Fail> {
+    let table = [
+        ("1", TreeFault::WrongKind(Place::Child(1)), 13),
+        ("{ tree = {} }", TreeFault::UnknownKey(Place::Child(1)), 11),
+        (
+            "{ start = 1 }",
+            TreeFault::MissingKey {
+                index: 1,
+                key: ChildKey::Id,
+            },
+            12,
+        ),
+        (
+            "{ id = 1 }",
+            TreeFault::MissingKey {
+                index: 1,
+                key: ChildKey::Start,
+            },
+            12,
+        ),
+        (
+            "{ id = \"\", start = 1 }",
+            TreeFault::BadSpec {
+                index: 1,
+                key: ChildKey::Id,
+            },
+            2,
+        ),
+        (
+            "{ id = \"b\", start = 1, restart = 1 }",
+            TreeFault::WrongKind(Place::ChildKey(1, ChildKey::Start)),
+            13,
+        ),
+        (
+            "{ id = \"b\", start = \"b\", restart = 1, significant = 1 }",
+            TreeFault::WrongKind(Place::ChildKey(1, ChildKey::Restart)),
+            13,
+        ),
+        (
+            "{ id = \"b\", start = \"b\", significant = 1, shutdown = -1 }",
+            TreeFault::WrongKind(Place::ChildKey(1, ChildKey::Significant)),
+            13,
+        ),
+        (
+            "{ id = \"b\", start = \"b\", shutdown = -1, type = 1 }",
+            TreeFault::BadSpec {
+                index: 1,
+                key: ChildKey::Shutdown,
+            },
+            2,
+        ),
+        (
+            "{ id = \"b\", start = \"b\", shutdown = 4294967296 }",
+            TreeFault::BadSpec {
+                index: 1,
+                key: ChildKey::Shutdown,
+            },
+            2,
+        ),
+        (
+            "{ id = \"b\", start = \"b\", shutdown = \"kill\" }",
+            TreeFault::WrongKind(Place::ChildKey(1, ChildKey::Shutdown)),
+            13,
+        ),
+        (
+            "{ id = \"b\", start = \"b\", type = 1, modules = 1 }",
+            TreeFault::WrongKind(Place::ChildKey(1, ChildKey::Kind)),
+            13,
+        ),
+        (
+            "{ id = \"b\", start = \"b\", modules = [\"\", 1] }",
+            TreeFault::WrongKind(Place::ChildKey(1, ChildKey::Modules)),
+            13,
+        ),
+        (
+            "{ id = \"b\", start = \"b\", modules = [\"\"] }",
+            TreeFault::BadSpec {
+                index: 1,
+                key: ChildKey::Modules,
+            },
+            2,
+        ),
+        (
+            "{ id = \"b\", start = \"b\", modules = [\"b\", \"b\", \"b\", \"b\", \"b\"] }",
+            TreeFault::BadSpec {
+                index: 1,
+                key: ChildKey::Modules,
+            },
+            2,
+        ),
+        (
+            "{ id = \"a\", start = \"b\" }",
+            TreeFault::Unlawful(SpecFault::DuplicateId { index: 1 }),
+            3,
+        ),
+        (
+            "{ id = \"b\", start = \"b\", significant = true }",
+            TreeFault::Unlawful(SpecFault::SignificantPermanent { index: 1 }),
+            4,
+        ),
+        (
+            "{ id = \"b\", start = \"b\", significant = true, restart = \"transient\" }",
+            TreeFault::Unlawful(SpecFault::SignificantNever { index: 1 }),
+            5,
+        ),
+    ];
+    for (second, fault, code) in table {
+        let text = format!(in rt.alloc(); "child = [{{ id = \"a\", start = \"a\" }}, {second}]")?;
+        assert_eq!(rt;
+            read_tree(rt.alloc(), text.as_bytes()).err(),
+            Some(fault),
+            "{second}"
+        );
+        assert_eq!(rt; fault.code(), code);
+    }
+    Ok(())
+}
+
+#[test]
+fn number_of_children(rt: HostRuntime) -> Result<(), Fail> {
+    let alloc = rt.alloc();
+    let table = [
+        (
+            256,
+            TreeFault::Unlawful(SpecFault::DuplicateId { index: 1 }),
+        ),
+        (257, TreeFault::Unlawful(SpecFault::TooManyChildren)),
+    ];
+    for (count, fault) in table {
+        let text = with_children(alloc, b"", count)?;
+        assert_eq!(rt;
+            read_tree(alloc, &text).err(),
+            Some(fault),
+            "{count} children"
+        );
+    }
+    let text = with_children(alloc, b"strategy = \"simple_one_for_one\"\n", 2)?;
+    assert_eq!(rt;
+        read_tree(alloc, &text).err(),
+        Some(TreeFault::Unlawful(SpecFault::SimpleNeedsOne))
+    );
+    let text = with_children(alloc, b"strategy = \"simple_one_for_one\"\n", 1)?;
+    assert_eq!(rt; read_tree(alloc, &text)?.specs.as_slice().len(), 1);
+    Ok(())
+}
+
+#[test]
+fn texts_of_faults(rt: HostRuntime) -> Result<(), Fail> {
+    let table = [
+        (TreeFault::OutOfMemory, "out of memory"),
+        (TreeFault::NotToml, "the file is not TOML"),
+        (
+            TreeFault::UnknownKey(Place::Table),
+            "supervisor: unknown key",
+        ),
+        (
+            TreeFault::UnknownKey(Place::Child(3)),
+            "child 3: unknown key",
+        ),
+        (
+            TreeFault::MissingKey {
+                index: 3,
+                key: ChildKey::Start,
+            },
+            "child 3: start is missing",
+        ),
+        (
+            TreeFault::WrongKind(Place::Flag(FlagKey::AutoShutdown)),
+            "supervisor, auto_shutdown: the value is of the wrong kind",
+        ),
+        (
+            TreeFault::WrongKind(Place::ChildKey(3, ChildKey::Kind)),
+            "child 3, type: the value is of the wrong kind",
+        ),
+        (
+            TreeFault::BadFlag(FlagKey::Period),
+            "supervisor, period: the number is out of its limits",
+        ),
+        (
+            TreeFault::BadSpec {
+                index: 3,
+                key: ChildKey::Id,
+            },
+            "child 3, id: the value is out of its limits",
+        ),
+        (
+            TreeFault::Unlawful(SpecFault::TooManyChildren),
+            "a supervisor has at most 256 children",
+        ),
+    ];
+    for (fault, text) in table {
+        let printed = format!(in rt.alloc(); "{fault}")?;
+        assert_eq!(rt; printed.as_str(), text);
+    }
+    assert_eq!(rt; TreeFault::OutOfMemory.code(), 0);
+    Ok(())
+}
+
+#[test]
+fn texts_of_keys(rt: HostRuntime) -> Result<(), Fail> {
+    let flag_keys = [
+        (FlagKey::Strategy, "strategy"),
+        (FlagKey::Intensity, "intensity"),
+        (FlagKey::Period, "period"),
+        (FlagKey::AutoShutdown, "auto_shutdown"),
+        (FlagKey::Child, "child"),
+    ];
+    for (key, text) in flag_keys {
+        assert_eq!(rt; format!(in rt.alloc(); "{key}")?.as_str(), text);
+    }
+    let child_keys = [
+        (ChildKey::Id, "id"),
+        (ChildKey::Start, "start"),
+        (ChildKey::Restart, "restart"),
+        (ChildKey::Significant, "significant"),
+        (ChildKey::Shutdown, "shutdown"),
+        (ChildKey::Kind, "type"),
+        (ChildKey::Modules, "modules"),
+    ];
+    for (key, text) in child_keys {
+        assert_eq!(rt; format!(in rt.alloc(); "{key}")?.as_str(), text);
+    }
+    Ok(())
+}

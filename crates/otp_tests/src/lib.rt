@@ -1,0 +1,25 @@
+//! Tests of the crates that decide and read, each from outside: worked rows, limits, texts, and the happy path of
+//! each public call.
+//!
+//! They stand in a crate of their own, one module for a crate, since a crate with tests is proved twice. Tests of
+//! what threads share are in `otp_thread_tests`; those of the engine and of the program are beside them.
+#![tactic(auto)]
+
+#[cfg(test)]
+mod file;
+#[cfg(test)]
+mod fixtures;
+#[cfg(test)]
+mod reason;
+#[cfg(test)]
+mod rules;
+#[cfg(test)]
+mod spec;
+#[cfg(test)]
+mod supervisor;
+#[cfg(test)]
+mod table;
+#[cfg(test)]
+mod text;
+#[cfg(test)]
+mod window;

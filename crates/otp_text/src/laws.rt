@@ -1,0 +1,8 @@
+//! Laws of the texts. A law is a function that does nothing: what it ensures is the law.
+
+ghost use Rattle.otp_text.specs.ReadBack.{WordsAreReadBack};
+
+/// The printed word of a restart type, of a child's type or of a truth value is read as that value.
+pub fn words_are_read_back()
+    ensures { WordsAreReadBack }
+{}

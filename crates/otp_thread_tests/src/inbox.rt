@@ -1,0 +1,234 @@
+// What no clause says: that calls succeed, that what a `take` finds is there, and that bodies come along.
+ghost use Rattle.std.specs.Prelude.{◌≡◌, ◌<◌};
+
+use otp_inbox::{ALL_PARTS, COUNT_LIMIT, Inbox, InboxNaming, Mail, Sender, Taker, UnnamedInbox};
+use std::alloc::Global;
+use std::marker::Brand;
+use std::process::Abort;
+use std::sync::Wait;
+use std::test::*;
+use std::thread;
+use std::thread::Threads;
+
+const EACH: u64 = 100;
+
+const TAKEN: u64 = 150;
+
+trait Job: Send + Drop {
+    fn turn(&mut self) -> u64;
+}
+
+#[derive(Drop)]
+struct Echo {
+    word: u64,
+}
+
+impl Job for Echo {
+    fn turn(&mut self) -> u64 {
+        self.word
+    }
+}
+
+#[derive(Drop)]
+struct Letter<B> {
+    from: u64,
+    number: u64,
+    body: B,
+}
+
+struct Head {
+    from: u64,
+    number: u64,
+}
+
+impl<B: Drop> Mail<Head> for Letter<B> {
+    ghost plain = { λ l. record { from = l.from; number = l.number } };
+}
+
+type Boxed = Letter<Box<dyn Job, Global>>;
+
+#[test]
+fn two_senders_and_a_taker(rt: HostRuntime) -> Result<(), Fail> {
+    let alloc = rt.alloc();
+    let mut first: Vec<Boxed> = Vec::new(alloc);
+    let mut second: Vec<Boxed> = Vec::new(alloc);
+    for number in 0..EACH {
+        first.push(Letter {
+            from: 0,
+            number,
+            body: Box::new(alloc, Echo { word: number })?,
+        })?;
+        second.push(Letter {
+            from: 1,
+            number,
+            body: Box::new(
+                alloc,
+                Echo {
+                    word: number + EACH,
+                },
+            )?,
+        })?;
+    }
+    let inbox = UnnamedInbox::<Head, Boxed>::open(alloc)?;
+    exchange::<Brand, _>(&rt, inbox, first, second, Vec::new(alloc))
+}
+
+// Sends all letters. None where one was refused.
+fn send_all<N: InboxNaming, R: Wait>(
+    rt: &R,
+    inbox: &Inbox<N, Head, Boxed>,
+    mut sender: Sender<N, Head, Boxed>,
+    letters: Vec<Boxed>,
+) -> Option<Sender<N, Head, Boxed>> {
+    for letter in letters {
+        if sender.number() != inbox.number() || sender.parts() == 0 {
+            return None;
+        }
+        inbox.send(rt, &mut sender, letter).ok()?;
+    }
+    Some(sender)
+}
+
+// The letter is the next one of its sender, and its body is its own.
+fn check<R: Abort>(rt: &R, next: &mut [u64; 2], letter: Boxed) {
+    let Letter {
+        from,
+        number,
+        mut body,
+    } = letter;
+    assert!(rt; from < 2);
+    let sender = from as usize;
+    assert_eq!(rt; next[sender], number);
+    assert!(rt; number < EACH);
+    assert_eq!(rt; body.turn(), number + from * EACH);
+    next[sender] = number + 1;
+}
+
+// Takes some letters as they come, and says which ones come next.
+fn take_some<N: InboxNaming, R: Wait + Abort>(
+    rt: &R,
+    inbox: &Inbox<N, Head, Boxed>,
+    mut taker: Taker<N, Head, Boxed>,
+) -> (Taker<N, Head, Boxed>, [u64; 2]) {
+    let mut next = [0; 2];
+    for _ in rt.forever() {
+        assert_eq!(rt; taker.number(), inbox.number());
+        if taker.taken_count() >= TAKEN {
+            break;
+        }
+        match inbox.take(rt, &mut taker) {
+            Some(letter) => check(rt, &mut next, letter),
+            None => thread::yield_now(),
+        }
+    }
+    (taker, next)
+}
+
+fn exchange<N: InboxNaming + Send + Sync, R: Threads + Wait + Abort + Sync>(
+    rt: &R,
+    inbox: UnnamedInbox<Head, Boxed>,
+    first_letters: Vec<Boxed>,
+    second_letters: Vec<Boxed>,
+    left: Vec<Boxed>,
+) -> Result<(), Fail>
+    requires { inbox ≡ N.inbox 7 }
+{
+    let (inbox, mut taker, mut first) = inbox.named::<N>(7);
+    // The sender's pass goes through the taker's and back: both still send and take afterwards.
+    inbox.credit(&mut taker, &mut first, 3, 5);
+    let second = inbox.split(&mut first, 1);
+    let shared = &inbox;
+    let (senders, took) = thread::join(
+        rt,
+        move || {
+            thread::join(
+                rt,
+                move || send_all(rt, shared, first, first_letters),
+                move || send_all(rt, shared, second, second_letters),
+            )
+        },
+        move || take_some(rt, shared, taker),
+    );
+    let (first, second) = senders;
+    let (taker, next) = took;
+    let first = first.ok_or("a letter was refused")?;
+    let second = second.ok_or("a letter was refused")?;
+    settle(rt, &inbox, first, second, taker, next, left)
+}
+
+// Puts the senders together, and takes what is left.
+fn settle<N: InboxNaming, R: Wait + Abort>(
+    rt: &R,
+    inbox: &Inbox<N, Head, Boxed>,
+    mut first: Sender<N, Head, Boxed>,
+    second: Sender<N, Head, Boxed>,
+    taker: Taker<N, Head, Boxed>,
+    mut next: [u64; 2],
+    mut left: Vec<Boxed>,
+) -> Result<(), Fail> {
+    assert_eq!(rt; first.number(), inbox.number());
+    assert_eq!(rt; second.number(), inbox.number());
+    assert_eq!(rt; taker.number(), inbox.number());
+    inbox.join(&mut first, second);
+    let (sent, taken) = (first.sent_count(), taker.taken_count());
+    assert_eq!(rt; first.parts(), ALL_PARTS);
+    assert!(rt; sent < COUNT_LIMIT);
+    assert!(rt; taken <= sent);
+    left.reserve((sent - taken) as usize)?;
+    inbox.drain_into(rt, taker, first, &mut left);
+    assert_eq!(rt; left.len() as u64, 2 * EACH - TAKEN);
+    for letter in left {
+        check(rt, &mut next, letter);
+    }
+    assert_eq!(rt; next, [EACH; 2]);
+    Ok(())
+}
+
+#[test]
+fn refused_letter_comes_back(rt: HostRuntime) -> Result<(), Fail> {
+    let inbox = UnnamedInbox::<Head, Letter<()>>::open(rt.alloc())?;
+    refuse::<Brand, _>(&rt, inbox)
+}
+
+fn refuse<N: InboxNaming, R: Wait + Abort>(
+    rt: &R,
+    inbox: UnnamedInbox<Head, Letter<()>>,
+) -> Result<(), Fail>
+    requires { inbox ≡ N.inbox 0 }
+{
+    let (inbox, mut taker, mut sender) = inbox.named::<N>(0);
+    send_numbers(rt, &inbox, &mut sender);
+    // A `take` that always finds nothing fails here, as no clause can refuse it.
+    for number in 0..EACH {
+        let found = inbox.take(rt, &mut taker);
+        assert_eq!(rt; found.map(|letter| letter.number), Some(number));
+    }
+    assert!(rt; inbox.take(rt, &mut taker).is_none());
+    assert_eq!(rt; taker.taken_count(), EACH);
+    Ok(())
+}
+
+// Sends letters alone, over several blocks of the queue. Under `rt try --test --fail-alloc N` a block is refused: the letter
+// comes back as it was, nothing was sent, and it can be sent again.
+fn send_numbers<N: InboxNaming, R: Wait + Abort>(
+    rt: &R,
+    inbox: &Inbox<N, Head, Letter<()>>,
+    sender: &mut Sender<N, Head, Letter<()>>,
+)
+    requires belongs { sender.old.inbox ≡ inbox.now }
+    requires may_send { 0 < sender.old.parts }
+{
+    for number in 0..EACH {
+        let letter = Letter {
+            from: 0,
+            number,
+            body: (),
+        };
+        if let Err(letter) = inbox.send(rt, sender, letter) {
+            assert_eq!(rt; letter.number, number);
+            assert_eq!(rt; sender.sent_count(), number);
+            assert!(rt; inbox.send(rt, sender, letter).is_ok());
+        }
+        assert_eq!(rt; sender.sent_count(), number + 1);
+    }
+}

@@ -1,0 +1,414 @@
+// Supervisors under a lock, driven by hand over a port in memory.
+ghost use Rattle.std.specs.Prelude.{◌≡◌, ◌≤◌, ◌<◌, ◌^◌};
+
+use otp_inbox::{InboxNaming, Sender, UnnamedInbox};
+use otp_reason::{Name, Note, Reason, Text};
+use otp_rules::{Call, CallFault, CountsNow, Item, Reply};
+use otp_signals::{OpenWords, Signal, Viewer, Words, WordsNaming};
+use otp_spec::{ChildSpec, SupFlags};
+use otp_sup::{
+    Bodies, Client, Letter, MemoryPort, Office, SubmitCause, Sup, Table, TurnAnswer, TurnFault,
+};
+use std::alloc::Global;
+use std::marker::Brand;
+use std::process::Abort;
+use std::sync::Wait;
+use std::test::*;
+use std::thread;
+use std::thread::Threads;
+
+// How many calls each of two clients sends.
+const CALLS: u64 = 10_000;
+
+// What a child runs here: it can be told from others by its tag.
+trait Job: Send + Drop {
+    fn tag(&self) -> u64;
+}
+
+#[derive(Drop)]
+struct Tagged {
+    tag: u64,
+}
+
+impl Job for Tagged {
+    fn tag(&self) -> u64 {
+        self.tag
+    }
+}
+
+type Body = Box<dyn Job, Global>;
+
+type Post = Letter<Body>;
+
+// The specification of the one child, `a`.
+fn child() -> Result<ChildSpec, Fail> {
+    let id = Name::new(b"a").ok_or("a name")?;
+    Ok(ChildSpec::new(id, id))
+}
+
+// A supervisor, and what a test needs to drive it.
+#[derive(Drop)]
+struct Driven<N: WordsNaming + InboxNaming, B: Drop> {
+    words: Words<N>,
+    viewer: Viewer<N>,
+    sup: Sup<N, B>,
+    sender: Sender<N, Item, Letter<B>>,
+    port: MemoryPort<B>,
+}
+
+// A supervisor of the child `a`, with this body for it.
+fn make_driven<N: WordsNaming + InboxNaming, B: Drop>(
+    alloc: Global,
+    words: OpenWords,
+    inbox: UnnamedInbox<Item, Letter<B>>,
+    body: B,
+) -> Result<Driven<N, B>, Fail>
+    requires words { words.words ≡ N.words }
+    requires slots { words.slots ≡ 256 }
+    requires inbox { inbox ≡ N.inbox 0 }
+{
+    let (words, mut owner) = words.named::<N>();
+    let viewer = words.viewer(&mut owner);
+    let (inbox, taker, sender) = inbox.named::<N>(0);
+    let office = Office::open(alloc, SupFlags::default(), &[child()?], owner, 0)?;
+    let mut bodies = Bodies::new(alloc);
+    if bodies.hand_in(0, body).is_err() {
+        return Err("a body was refused".into());
+    }
+    let sup = Sup::new(inbox, Table::new(office, taker, bodies));
+    Ok(Driven {
+        words,
+        viewer,
+        sup,
+        sender,
+        port: MemoryPort::new(alloc),
+    })
+}
+
+impl<N: WordsNaming + InboxNaming, B: Drop> Driven<N, B> {
+    // A turn. Under `rt try --test --fail-alloc N` memory is refused once: nothing has happened then, and the same turn
+    // with memory does what it would have done.
+    fn turn<R: Wait>(
+        &mut self,
+        rt: &R,
+        number: u64,
+        reading: u64,
+        told: Signal,
+    ) -> Result<TurnAnswer, TurnFault>
+        requires { reading ≤ 2 ^ 62 }
+    {
+        let turned = self.turn_once(rt, number, reading, told);
+        if turned == Err(TurnFault::OutOfMemory) {
+            return self.turn_once(rt, number, reading, told);
+        }
+        turned
+    }
+
+    fn turn_once<R: Wait>(
+        &mut self,
+        rt: &R,
+        number: u64,
+        reading: u64,
+        told: Signal,
+    ) -> Result<TurnAnswer, TurnFault>
+        requires { reading ≤ 2 ^ 62 }
+    {
+        self.sup
+            .turn(rt, &self.words, &mut self.port, number, reading, told)
+    }
+
+    // Sends a letter. Where memory is refused it comes back, and is sent again.
+    fn send<R: Wait + Abort>(&mut self, rt: &R, letter: Letter<B>) {
+        if let Some(letter) = self.send_once(rt, letter) {
+            assert!(rt; self.send_once(rt, letter).is_none());
+        }
+    }
+
+    fn send_once<R: Wait + Abort>(&mut self, rt: &R, letter: Letter<B>) -> Option<Letter<B>> {
+        assert_eq!(rt; self.sender.number(), self.sup.inbox().number());
+        assert!(rt; self.sender.parts() > 0);
+        self.sup.inbox().send(rt, &mut self.sender, letter).err()
+    }
+
+    // What the child's process sees.
+    fn signal<R: Abort>(&mut self, rt: &R, number: u64) -> Signal {
+        assert!(rt; self.words.slots() > 0);
+        self.words.look(&mut self.viewer, 0, number)
+    }
+
+    fn up<R: Wait + Abort>(&mut self, rt: &R, number: u64) {
+        let letter = Letter {
+            item: Item::Note(Note::Up(number)),
+            body: None,
+        };
+        self.send(rt, letter);
+    }
+
+    fn exit<R: Wait + Abort>(&mut self, rt: &R, number: u64, reason: Reason, body: B) {
+        let letter = Letter {
+            item: Item::Note(Note::Exit(number, reason)),
+            body: Some(body),
+        };
+        self.send(rt, letter);
+    }
+}
+
+// The number, the slot and the body's tag of each process that was put; the port has them no more.
+fn launched<R: Abort>(rt: &R, port: &mut MemoryPort<Body>) -> Option<(u64, usize, u64)> {
+    let process = port.processes.pop()?;
+    assert!(rt; port.processes.is_empty());
+    let tag = process.body.as_ref()?.tag();
+    Some((process.number, process.slot, tag))
+}
+
+#[test]
+fn one_child(rt: HostRuntime) -> Result<(), Fail> {
+    let words = OpenWords::open(rt.alloc(), 256)?;
+    let inbox = UnnamedInbox::<Item, Post>::open(rt.alloc())?;
+    let bodies: (Body, Body, Body) = (
+        Box::new(rt.alloc(), Tagged { tag: 6 })?,
+        Box::new(rt.alloc(), Tagged { tag: 7 })?,
+        Box::new(rt.alloc(), Tagged { tag: 8 })?,
+    );
+    one_child_in::<Brand, _>(&rt, rt.alloc(), words, inbox, bodies)
+}
+
+fn is_send<T: Send>(_: &T) {}
+
+fn is_sync<T: Sync>(_: &T) {}
+
+// What threads share or carry can be shared and carried, with boxed jobs too.
+fn crosses_threads<N: WordsNaming + InboxNaming + Send + Sync>(one: &Driven<N, Body>) {
+    is_sync(&one.words);
+    is_send(&one.words);
+    is_send(&one.viewer);
+    is_sync(&one.sup);
+    is_send(&one.sup);
+    is_send(&one.sender);
+    is_send(&one.port);
+}
+
+// Opened, restarted, stopped, killed and ended, line by line.
+fn one_child_in<N: WordsNaming + InboxNaming + Send + Sync, R: Wait + Abort>(
+    rt: &R,
+    alloc: Global,
+    words: OpenWords,
+    inbox: UnnamedInbox<Item, Post>,
+    bodies: (Body, Body, Body),
+) -> Result<(), Fail>
+    requires words { words.words ≡ N.words }
+    requires slots { words.slots ≡ 256 }
+    requires inbox { inbox ≡ N.inbox 0 }
+{
+    let x = Text::new(b"x").ok_or("a text")?;
+    let (own, second, third) = bodies;
+    let mut one = make_driven::<N, Body>(alloc, words, inbox, own)?;
+    crosses_threads(&one);
+    assert_eq!(rt; one.turn(rt, 0, 0, Signal::None), Ok(TurnAnswer::Opened));
+    assert_eq!(rt; launched(rt, &mut one.port), Some((1, 0, 6)));
+    assert_eq!(rt; one.turn(rt, 0, 0, Signal::None), Ok(TurnAnswer::Quiet));
+    assert_eq!(rt;
+        one.turn(rt, 3, 0, Signal::None),
+        Err(TurnFault::WrongNumber)
+    );
+    one.up(rt, 1);
+    assert_eq!(rt; one.turn(rt, 0, 0, Signal::None), Ok(TurnAnswer::Took));
+    assert_eq!(rt; one.port.notes.pop(), Some(Note::Up(0)));
+    one.exit(rt, 1, Reason::Error(x), second);
+    assert_eq!(rt; one.turn(rt, 0, 1000, Signal::None), Ok(TurnAnswer::Took));
+    assert_eq!(rt; launched(rt, &mut one.port), Some((2, 0, 7)));
+    one.up(rt, 2);
+    assert_eq!(rt; one.turn(rt, 0, 1000, Signal::None), Ok(TurnAnswer::Took));
+    assert_eq!(rt; one.signal(rt, 2), Signal::None);
+    assert_eq!(rt;
+        one.turn(rt, 0, 1000, Signal::Shutdown),
+        Ok(TurnAnswer::Stopped)
+    );
+    assert_eq!(rt; one.signal(rt, 2), Signal::Shutdown);
+    assert_eq!(rt; one.turn(rt, 0, 6000, Signal::None), Ok(TurnAnswer::Ticked));
+    assert_eq!(rt; one.signal(rt, 2), Signal::Kill);
+    one.exit(rt, 2, Reason::Killed, third);
+    assert_eq!(rt; one.turn(rt, 0, 6000, Signal::None), Ok(TurnAnswer::Took));
+    assert_eq!(rt; one.port.notes.pop(), Some(Note::Exit(0, Reason::Shutdown)));
+    assert_eq!(rt; one.turn(rt, 0, 6000, Signal::None), Ok(TurnAnswer::Ended));
+    // Under a greater number it opens again, with the body that came home.
+    assert_eq!(rt; one.turn(rt, 9, 6000, Signal::None), Ok(TurnAnswer::Opened));
+    assert_eq!(rt; launched(rt, &mut one.port), Some((3, 0, 8)));
+    assert_eq!(rt; one.turn(rt, 0, 6000, Signal::None), Ok(TurnAnswer::Ended));
+    assert!(rt; one.port.notes.is_empty());
+    Ok(())
+}
+
+#[test]
+fn bodies_come_back(rt: HostRuntime) -> Result<(), Fail> {
+    let words = OpenWords::open(rt.alloc(), 256)?;
+    let inbox = UnnamedInbox::<Item, Post>::open(rt.alloc())?;
+    let bodies: (Body, Body, Body) = (
+        Box::new(rt.alloc(), Tagged { tag: 6 })?,
+        Box::new(rt.alloc(), Tagged { tag: 7 })?,
+        Box::new(rt.alloc(), Tagged { tag: 8 })?,
+    );
+    bodies_in::<Brand, _>(&rt, rt.alloc(), words, inbox, bodies)
+}
+
+// The body of a call that was refused, and one that came with a note of no process, can be had once.
+fn bodies_in<N: WordsNaming + InboxNaming, R: Wait + Abort>(
+    rt: &R,
+    alloc: Global,
+    words: OpenWords,
+    inbox: UnnamedInbox<Item, Post>,
+    bodies: (Body, Body, Body),
+) -> Result<(), Fail>
+    requires words { words.words ≡ N.words }
+    requires slots { words.slots ≡ 256 }
+    requires inbox { inbox ≡ N.inbox 0 }
+{
+    let (own, second, third) = bodies;
+    let mut one = make_driven::<N, Body>(alloc, words, inbox, own)?;
+    assert_eq!(rt; one.turn(rt, 0, 0, Signal::None), Ok(TurnAnswer::Opened));
+    one.up(rt, 1);
+    assert_eq!(rt; one.turn(rt, 0, 0, Signal::None), Ok(TurnAnswer::Took));
+    let letter = Letter {
+        item: Item::Call(40, Call::StartChild(child()?)),
+        body: Some(second),
+    };
+    one.send(rt, letter);
+    assert!(rt; one.sup.take_box(rt, 40).is_none());
+    assert_eq!(rt; one.turn(rt, 0, 0, Signal::None), Ok(TurnAnswer::Took));
+    let reply = one.sup.reply(rt, alloc, 40)?;
+    assert!(rt; matches!(reply, Some(Reply::Refused(CallFault::AlreadyStarted(1)))));
+    assert_eq!(rt; one.sup.take_box(rt, 40).map(|body| body.tag()), Some(7));
+    assert!(rt; one.sup.take_box(rt, 40).is_none());
+    one.exit(rt, 5, Reason::Normal, third);
+    assert!(rt; one.sup.take_stray(rt).is_none());
+    assert_eq!(rt; one.turn(rt, 0, 0, Signal::None), Ok(TurnAnswer::Took));
+    assert_eq!(rt; one.sup.take_stray(rt).map(|body| body.tag()), Some(8));
+    assert!(rt; one.sup.take_stray(rt).is_none());
+    Ok(())
+}
+
+#[test]
+fn two_clients_and_a_hand(rt: HostRuntime) -> Result<(), Fail> {
+    let words = OpenWords::open(rt.alloc(), 256)?;
+    let inbox = UnnamedInbox::<Item, Letter<u64>>::open(rt.alloc())?;
+    clients_in::<Brand, _>(&rt, rt.alloc(), words, inbox)
+}
+
+// Calls from two threads, while a third takes turns of the supervisor. Each call is answered.
+fn clients_in<N: WordsNaming + InboxNaming + Send + Sync, R: Threads + Wait + Abort + Sync>(
+    rt: &R,
+    alloc: Global,
+    words: OpenWords,
+    inbox: UnnamedInbox<Item, Letter<u64>>,
+) -> Result<(), Fail>
+    requires words { words.words ≡ N.words }
+    requires slots { words.slots ≡ 256 }
+    requires inbox { inbox ≡ N.inbox 0 }
+{
+    let (words, mut owner) = words.named::<N>();
+    let (inbox, taker, sender) = inbox.named::<N>(0);
+    let callers = words.split(&mut owner, 0..0, 4 * CALLS)?;
+    let viewer = words.viewer(&mut owner);
+    let office = Office::open(alloc, SupFlags::default(), &[child()?], owner, 0)?;
+    let mut one = Driven {
+        viewer,
+        words,
+        sup: Sup::new(inbox, Table::new(office, taker, Bodies::new(alloc))),
+        sender,
+        port: MemoryPort::new(alloc),
+    };
+    assert_eq!(rt; one.turn(rt, 0, 0, Signal::None), Ok(TurnAnswer::Opened));
+    one.up(rt, 1);
+    assert_eq!(rt; one.turn(rt, 0, 0, Signal::None), Ok(TurnAnswer::Took));
+    let Driven {
+        words,
+        viewer: _,
+        sup,
+        sender,
+        port,
+    } = one;
+    assert!(rt; sender.parts() > 0);
+    let mut first = Client::new(callers, sender);
+    assert_eq!(rt; first.number(), sup.inbox().number());
+    let second = first
+        .split(&words, sup.inbox(), CALLS)
+        .ok_or("a client was refused")?;
+    let wrong = first.submit(rt, &words, sup.inbox(), Call::CountChildren, Some(3));
+    assert_eq!(rt;
+        wrong.err().map(|fault| (fault.cause, fault.body)),
+        Some((SubmitCause::WrongBody, Some(3)))
+    );
+    let (sup, words) = (&sup, &words);
+    let (sent, port) = thread::join(
+        rt,
+        move || {
+            thread::join(
+                rt,
+                move || calls(rt, alloc, sup, words, first),
+                move || calls(rt, alloc, sup, words, second),
+            )
+        },
+        move || serve(rt, sup, words, port),
+    );
+    assert_eq!(rt; port.processes.len(), 1);
+    for numbers in [sent.0?, sent.1?] {
+        assert_eq!(rt; numbers.len() as u64, CALLS);
+        for number in numbers {
+            assert!(rt; is_count(sup.reply(rt, alloc, number)?));
+        }
+    }
+    Ok(())
+}
+
+// What count_children answers while the child runs.
+fn is_count(reply: Option<Reply>) -> bool {
+    let counts = CountsNow {
+        specs: 1,
+        active: 1,
+        supervisors: 0,
+        workers: 1,
+    };
+    matches!(reply, Some(Reply::Count(now)) if now == counts)
+}
+
+// Sends its calls, and answers their numbers.
+fn calls<N: WordsNaming + InboxNaming, R: Wait>(
+    rt: &R,
+    alloc: Global,
+    sup: &Sup<N, u64>,
+    words: &Words<N>,
+    mut client: Client<N, u64>,
+) -> Result<Vec<u64>, &'static str> {
+    let mut numbers = Vec::new(alloc);
+    for _ in 0..CALLS {
+        if client.number() != sup.inbox().number() {
+            return Err("another inbox");
+        }
+        match client.submit(rt, words, sup.inbox(), Call::CountChildren, None) {
+            Ok(number) => numbers.push(number).map_err(|_| "no memory")?,
+            Err(_) => return Err("a call was refused"),
+        }
+    }
+    Ok(numbers)
+}
+
+// Takes turns until all calls were taken.
+fn serve<N: WordsNaming + InboxNaming, R: Wait + Abort>(
+    rt: &R,
+    sup: &Sup<N, u64>,
+    words: &Words<N>,
+    mut port: MemoryPort<u64>,
+) -> MemoryPort<u64> {
+    let mut taken = 0u64;
+    for _ in rt.forever() {
+        if taken >= 2 * CALLS {
+            break;
+        }
+        match sup.turn(rt, words, &mut port, 0, 0, Signal::None) {
+            Ok(TurnAnswer::Took) => taken += 1,
+            Ok(TurnAnswer::Quiet) => thread::yield_now(),
+            _ => assert!(rt; false),
+        }
+    }
+    port
+}

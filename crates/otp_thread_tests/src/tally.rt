@@ -1,0 +1,9 @@
+use otp_tally::Tally;
+use std::mem::size_of;
+
+#[test]
+fn takes_no_memory(rt: HostRuntime) {
+    let mut count = Tally::new();
+    count.raise();
+    assert_eq!(rt; size_of::<Tally>(), 0);
+}
