@@ -1,6 +1,6 @@
 // Which calls a subsystem gets.
 use crate::jobs::run;
-use crate::probes::{Calls, pipe};
+use crate::probes::{Calls, bridge_body};
 use otp_bridge::BridgePhase;
 use otp_job::Body;
 use otp_reason::{Note, Reason};
@@ -18,7 +18,7 @@ fn each_end_of_a_bridge(rt: HostRuntime) -> Result<(), Fail> {
         (None, Signal::Kill, Reason::Killed, 1, BridgePhase::Terminated),
     ] {
         let calls: Calls = Arc::new(alloc, AtomicU64::new(0))?;
-        let body = pipe(alloc, &calls, ended)?;
+        let body = bridge_body(alloc, &calls, ended)?;
         let (note, body) = run(&rt, body, &[Signal::None, signal]);
         assert_eq!(rt; note, Some(Note::Exit(7, reason)));
         assert_eq!(rt; calls.load(Ordering::SeqCst), wanted);
