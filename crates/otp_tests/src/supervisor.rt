@@ -447,7 +447,7 @@ fn restart_is_tried_again(rt: HostRuntime) -> Result<(), Fail> {
         Order::Start(Some(c.id), 6),
     ];
     let mut list = Vec::with_capacity(rt.alloc(), 8)?;
-    assert!(rt; driver.core.effects().len() <= 8);
+    assert_eq!(rt; driver.core.count_orders(), 4);
     driver.core.move_orders(&mut list);
     expect(&rt, &list, "the orders but for the reply", &orders);
     assert!(rt; driver.core.effects().is_empty());
