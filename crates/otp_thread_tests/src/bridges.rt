@@ -13,9 +13,27 @@ use std::test::*;
 fn each_end_of_a_bridge(rt: HostRuntime) -> Result<(), Fail> {
     let alloc = rt.alloc();
     for (ended, signal, reason, wanted, phase) in [
-        (Some(Reason::NoProc), Signal::None, Reason::NoProc, 12, BridgePhase::MainEnded),
-        (None, Signal::Shutdown, Reason::Shutdown, 14, BridgePhase::Terminated),
-        (None, Signal::Kill, Reason::Killed, 1, BridgePhase::Terminated),
+        (
+            Some(Reason::NoProc),
+            Signal::None,
+            Reason::NoProc,
+            12,
+            BridgePhase::MainEnded,
+        ),
+        (
+            None,
+            Signal::Shutdown,
+            Reason::Shutdown,
+            14,
+            BridgePhase::Terminated,
+        ),
+        (
+            None,
+            Signal::Kill,
+            Reason::Killed,
+            1,
+            BridgePhase::Terminated,
+        ),
     ] {
         let calls: Calls = Arc::new(alloc, AtomicU64::new(0))?;
         let body = bridge_body(alloc, &calls, ended)?;

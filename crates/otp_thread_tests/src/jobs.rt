@@ -42,10 +42,18 @@ pub fn run<R: Abort>(rt: &R, body: AnyBody, signals: &[Signal]) -> (Option<Note>
 fn first_turn_starts_and_a_later_kill_calls_nothing(rt: HostRuntime) -> Result<(), Fail> {
     let alloc = rt.alloc();
     let calls: Calls = Arc::new(alloc, AtomicU64::new(0))?;
-    let (note, body) = run(&rt, worker_body(alloc, &calls, true, Started::Up)?, &[Signal::Kill]);
+    let (note, body) = run(
+        &rt,
+        worker_body(alloc, &calls, true, Started::Up)?,
+        &[Signal::Kill],
+    );
     assert_eq!(rt; note, Some(Note::Up(7)));
     assert!(rt; body.is_none());
-    let (note, body) = run(&rt, worker_body(alloc, &calls, true, Started::Up)?, &[Signal::Kill, Signal::Kill]);
+    let (note, body) = run(
+        &rt,
+        worker_body(alloc, &calls, true, Started::Up)?,
+        &[Signal::Kill, Signal::Kill],
+    );
     assert_eq!(rt; note, Some(Note::Exit(7, Reason::Killed)));
     assert!(rt; body.is_some());
     assert_eq!(rt; calls.load(Ordering::SeqCst), 11);
@@ -61,7 +69,12 @@ fn trapping_job_is_told_once(rt: HostRuntime) -> Result<(), Fail> {
     ] {
         let calls: Calls = Arc::new(alloc, AtomicU64::new(0))?;
         let body = worker_body(alloc, &calls, traps, Started::Up)?;
-        let signals = [Signal::None, Signal::Shutdown, Signal::Shutdown, Signal::Shutdown];
+        let signals = [
+            Signal::None,
+            Signal::Shutdown,
+            Signal::Shutdown,
+            Signal::Shutdown,
+        ];
         let turns = if traps { 4 } else { 2 };
         let (note, body) = run(&rt, body, &signals[..turns]);
         assert_eq!(rt; note, end);
@@ -76,10 +89,17 @@ fn refused_start_brings_the_body_home(rt: HostRuntime) -> Result<(), Fail> {
     let alloc = rt.alloc();
     for (answer, note) in [
         (Started::Ignore, Note::Ignored(7)),
-        (Started::Fail(Reason::NoProc), Note::Failed(7, Reason::NoProc)),
+        (
+            Started::Fail(Reason::NoProc),
+            Note::Failed(7, Reason::NoProc),
+        ),
     ] {
         let calls: Calls = Arc::new(alloc, AtomicU64::new(0))?;
-        let (end, body) = run(&rt, worker_body(alloc, &calls, false, answer)?, &[Signal::None]);
+        let (end, body) = run(
+            &rt,
+            worker_body(alloc, &calls, false, answer)?,
+            &[Signal::None],
+        );
         assert_eq!(rt; end, Some(note));
         assert!(rt; body.is_some());
     }

@@ -1,5 +1,5 @@
 // A job and a subsystem that note each call in an atomic word, and processes of them.
-use otp_bridge::{Bridge, BoxedSubsystem, Subsystem};
+use otp_bridge::{BoxedSubsystem, Bridge, Subsystem};
 use otp_job::{Body, BoxedJob, Job, Process, Told, Turn};
 use otp_reason::{Reason, Started};
 use std::alloc::{AllocError, Global};
@@ -97,7 +97,11 @@ pub fn worker_body(
     Ok(Body::Worker(job))
 }
 
-pub fn bridge_body(alloc: Global, calls: &Calls, ended: Option<Reason>) -> Result<AnyBody, AllocError> {
+pub fn bridge_body(
+    alloc: Global,
+    calls: &Calls,
+    ended: Option<Reason>,
+) -> Result<AnyBody, AllocError> {
     let calls = Arc::try_clone(calls)?;
     let subsystem: BoxedSubsystem = Box::new(alloc, Pipe { ended, calls })?;
     Ok(Body::Bridge(Bridge::new(subsystem)))

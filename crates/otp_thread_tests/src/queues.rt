@@ -5,7 +5,9 @@ ghost use Rattle.otp_run.specs.Schedulers.{out};
 
 use otp_bridge::BoxedSubsystem;
 use otp_job::{Body, BoxedJob, Process, TableNo};
-use otp_run::{GatherFault, LiveTotal, RunNaming, RunQueue, SHARE_LIMIT, Scheduler, Share, gather, is_all};
+use otp_run::{
+    GatherFault, LiveTotal, RunNaming, RunQueue, SHARE_LIMIT, Scheduler, Share, gather, is_all,
+};
 use std::alloc::Global;
 use std::marker::Brand;
 use std::process::Abort;
@@ -79,7 +81,10 @@ fn two_threads<N: RunNaming + Send, R: Threads + Abort + Sync>(
     let second = schedulers.pop().ok_or("two schedulers")?;
     let mut first = schedulers.pop().ok_or("two schedulers")?;
     put_all(rt, &mut first, 0, MANY);
-    let (mine, others) = (Vec::with_capacity(alloc, 2_000)?, Vec::with_capacity(alloc, 2_000)?);
+    let (mine, others) = (
+        Vec::with_capacity(alloc, 2_000)?,
+        Vec::with_capacity(alloc, 2_000)?,
+    );
     let (one, two) = thread::join(
         rt,
         move || take_all(first, mine),
@@ -127,7 +132,10 @@ fn order_of_thefts<N: RunNaming, R: Abort>(
     assert_eq!(rt; schedulers.len(), 4);
     // Scheduler 2 takes its own first, then steals of 3, 0 and 1.
     for index in 0..schedulers.len() {
-        assert_eq!(rt; (schedulers[index].index(), schedulers[index].count()), (index, 4));
+        assert_eq!(rt;
+            (schedulers[index].index(), schedulers[index].count()),
+            (index, 4)
+        );
         let first = index as u64 * 10;
         put_all(rt, &mut schedulers[index], first, first + 2);
     }
