@@ -74,7 +74,7 @@ module _ {J S : Type 0} where
 
 -- one way more came home
 module _ (old now : List OwnState) (ways rest rest' : List VictimState) (v : VictimState) (i : ℕ) (o w : OwnState)
-  (next : rest ≡ v ∷ rest') (at : v.index ≡ i) (within : i < length now) (is : o ≡ get_or now i o) (came : w ≡ record o { parts = o.parts + 1; taken = o.taken ++ v.taken }) where
+    (next : rest ≡ v ∷ rest') (at : v.index ≡ i) (within : i < length now) (is : o ≡ get_or now i o) (came : w ≡ record o { parts = o.parts + 1; taken = o.taken ++ v.taken }) where
   pub awaiting_less : AllAt (IsAwaiting rest) now → AllAt (IsAwaiting rest') (set now i w)
   awaiting_less all =
       let all' : AllAt (IsAwaiting (v ∷ rest')) now = subst (λ (l : List VictimState). AllAt (IsAwaiting l) now) next all in

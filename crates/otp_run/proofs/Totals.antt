@@ -81,11 +81,11 @@ module _ (ss : List SchedulerState) (homes now : List OwnState) (ways : List Vic
   pub live_told : {J S : Type 0} (left : List (ProcessState J S)) → DrainedInto now [] left → IsLiveTotal ss (sum_by begun_of ss - sum_by ended_of ss) (map ticket_of left)
   live_told left d =
       let often : (weight : Ticket → ℕ) → sum_by (λ (s : SchedulerState). sum_by weight (puts s)) ss ≡ sum_by (λ (s : SchedulerState). sum_by weight (finds s)) ss + sum_by weight (map ticket_of left) = λ weight.
-          let p = all_puts weight in
-          let q = all_finds weight in
-          let r = d.as_often weight in
-          let l = ap (λ xs. sum_by weight (map ticket_of xs)) d.listed in
-          omega arith in
+      let p = all_puts weight in
+      let q = all_finds weight in
+      let r = d.as_often weight in
+      let l = ap (λ xs. sum_by weight (map ticket_of xs)) d.listed in
+      omega arith in
       let p = often one in
       let c = ones puts ss in
       let f = ones finds ss in

@@ -557,7 +557,10 @@ fn told_between_events(rt: HostRuntime) -> Result<(), Fail> {
     assert!(rt; core.rows().iter().all(|row| row.state.is_up()));
 
     let end = Note::Exit(2, error()?);
-    driver.lines(&rt, &[Line::Asked(Call::TerminateChild(a.id)), Line::Told(end)])?;
+    driver.lines(
+        &rt,
+        &[Line::Asked(Call::TerminateChild(a.id)), Line::Told(end)],
+    )?;
     let core = &driver.core;
     assert_eq!(rt; core.next_deadline(), Some(100));
     assert_eq!(rt; (core.is_due(99), core.is_due(100)), (false, true));
@@ -565,7 +568,14 @@ fn told_between_events(rt: HostRuntime) -> Result<(), Fail> {
     assert_eq!(rt; core.next_kind(100, true), Some(Kind::Ticked));
     assert_eq!(rt; core.first_waiting(), Some(&Waiting::Item(Item::Note(end))));
 
-    driver.lines(&rt, &[exit(1, Reason::Shutdown), up(3), Line::Asked(Call::WhichChildren)])?;
+    driver.lines(
+        &rt,
+        &[
+            exit(1, Reason::Shutdown),
+            up(3),
+            Line::Asked(Call::WhichChildren),
+        ],
+    )?;
     let told = driver.core.reply(2).ok_or("an answer")?.try_clone()?;
     let Reply::Which(lines) = told else {
         return Err(Fail::from("the children"));
