@@ -1,5 +1,5 @@
 -- A look at all deques keeps the ledger of the scheduler that looks.
-use Rattle.std.proofs.Common.{◌≡◌, ℕ, ◌+◌, ◌-◌, ◌<◌, ◌≤◌, List, [], ◌∷◌, ◌++◌, length, map, refl, sym, ap, ◌∙◌, subst, arith, length-append}
+use Rattle.std.proofs.Common.{◌≡◌, ℕ, ◌+◌, ◌-◌, List, ◌++◌, length, map, sym, ap, ◌∙◌, subst, arith, length-append}
 use Rattle.otp_job.specs.declared.process.Ticket.{Ticket}
 use Rattle.otp_run.specs.Deques.{OwnState, VictimState, index_of, stolen, missed, robbed, TakenFrom}
 use Rattle.otp_run.specs.Schedulers.{SchedulerState, IsScheduler, own_missed, out}

@@ -153,7 +153,7 @@ fn faults_in_their_order(rt: HostRuntime) -> Result<(), Fail> {
 
 /// A tree file tests names as it reads them, so no transcript sees this test of each module's.
 #[test]
-fn each_module_has_a_name(rt: HostRuntime) -> Result<(), Fail> {
+fn names_of_modules_are_tested(rt: HostRuntime) -> Result<(), Fail> {
     let [a, no] = [named(b"a")?, named(b"")?];
     let lists = [
         Modules::One(no),

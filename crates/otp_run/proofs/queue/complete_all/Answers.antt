@@ -1,7 +1,7 @@
-use Rattle.std.proofs.Common.{◌≡◌, ℕ, ◌+◌, ◌<◌, ◌∙◌, ap, sym, refl, length, length-set, subst, arith}
-use Rattle.otp_run.specs.Opens.{HasLent, CompleteUpTo, none_yet, opened}
+use Rattle.std.proofs.Common.{◌≡◌, ℕ, ◌∙◌, ap, length, length-set, subst, arith}
+use Rattle.otp_run.specs.Opens.{CompleteUpTo, opened}
 use Rattle.otp_run.specs.Schedulers.{SchedulerState, IsPlaced}
-use Rattle.otp_run.proofs.Places.{get_at, each_at}
+use Rattle.otp_run.proofs.Places.{each_at}
 use Rattle.otp_run.proofs.Shares.{is_placed, one_complete, completed_more, next_lent, next_unused}
 use Rattle.otp_run.proofs.queue.complete_all.Goals as goal
 
