@@ -118,6 +118,9 @@ for strategy in STRATEGIES:
         case("calls", f"{strategy}: a significant {restart} child is started under any_significant",
              tree(child("a"), strategy=strategy, auto_shutdown="any_significant"),
              f"all up; start z z {restart} true 5000 worker; all up; get z; finish; " + ("exit z normal; finish" if restart != "permanent" else ""))
+    for state, lines in [("runs", "all up; "), ("has ended", "all up; exit b normal; ")]:
+        case("calls", f"{strategy}: an unlawful specification is started where b {state}", three(strategy, restart="transient"),
+             f"{lines}start b b transient true 5000 worker; finish")
     case("calls", f"{strategy}: a started child is the last in start order", three(strategy),
          "all up; start z z permanent false 5000 worker; up; start y y permanent false 5000 worker; up; stop; finish")
     case("calls", f"{strategy}: a started child is restarted as others are", three(strategy),
@@ -244,10 +247,10 @@ for strategy, intensity in product(STRATEGIES, range(4)):
     t = tree(child("a"), child("b"), strategy=strategy, intensity=intensity)
     case("restarts", f"{strategy}: {intensity} restarts are allowed", t, "all up; " + "exit a error:x; ends; all up; " * intensity + "which; exit b error:x; finish")
 for strategy in STRATEGIES:
-    t = tree(child("a"), child("t", restart="temporary"), child("r", restart="transient"), strategy=strategy, intensity=0)
+    t = tree(child("a"), child("t", restart="temporary"), child("r", restart="transient"), strategy=strategy, intensity=1)
     case("restarts", f"{strategy}: ends that restart nothing don't count", t, "all up; exit t error:x; exit r normal; finish; exit a error:x; finish")
-    case("restarts", f"{strategy}: restart_child doesn't count", tree(child("a"), child("b"), strategy=strategy, intensity=0),
-         "all up; terminate b; ends; restart b; up; terminate b; ends; restart b; up; finish")
+    case("restarts", f"{strategy}: restart_child doesn't count", tree(child("a"), child("b"), strategy=strategy, intensity=1),
+         "all up; terminate b; ends; restart b; up; terminate b; ends; restart b; up; exit a error:x; finish")
     case("restarts", f"{strategy}: too many restarts while others wait for a retry", tree(child("a"), child("b"), strategy=strategy, intensity=1),
          "all up; exit a error:x; ends; exit a error:z; fail error:y; finish")
     case("restarts", f"{strategy}: too many restarts end all that run, in reverse", tree(*map(child, "abcd"), strategy=strategy, intensity=0),

@@ -21,8 +21,9 @@ ROOT = Path(__file__).resolve().parent.parent
 CALLS, STARTS, STOPS, DEATHS = ("otp_core/src/calls.rt", "otp_core/src/starts.rt", "otp_core/src/stops.rt", "otp_core/src/deaths.rt")
 ROWS, LISTS, LINES, EVENTS = ("otp_core/src/rows.rt", "otp_core/src/lists.rt", "otp_core/src/lines.rt", "otp_core/src/events.rt")
 PLAYER, VALUE, REASON = "otp_sim/src/player.rt", "otp_text/src/value.rt", "otp_reason/src/reason.rt"
-CHECK, CHILD, FLAGS = "otp_spec/src/check.rt", "otp_spec/src/child.rt", "otp_spec/src/flags.rt"
-WINDOW, TABLE, TREE, FILE_CHILD = "otp_window/src/ordered.rt", "otp_table/src/row.rt", "otp_file/src/tree.rt", "otp_file/src/child.rt"
+CHECK, CHILD = "otp_spec/src/check.rt", "otp_spec/src/child.rt"
+WINDOW, TABLE = "otp_window/src/ordered.rt", "otp_table/src/row.rt"
+TREE, FILE_CHILD, FILE_VALUE = "otp_file/src/tree.rt", "otp_file/src/child.rt", "otp_file/src/value.rt"
 
 
 def instead(wanted, other):
@@ -80,19 +81,23 @@ CHANGES = [
     # What is told
     ("a child without a process is active", [(LISTS, "fn is_active", "RowState::Undefined | RowState::Starting(..)", "RowState::Undefined => ON,\n        RowState::Starting(..)")]),
     ("a restarting child is active", [(LISTS, "fn is_active", "RowState::Starting(..) | RowState::Restarting(_) =>", "RowState::Restarting(_) if ON => true,\n        RowState::Starting(..) | RowState::Restarting(_) =>")]),
-    ("supervisors count as workers too", [value(LISTS, "fn is_worker", "ChildType::Supervisor => false".split(" => ")[1], "true")]),
+    ("supervisors count as workers too", [(LISTS, "fn is_worker", "ChildType::Supervisor => false", "ChildType::Supervisor => ON")]),
     ("specs counts dynamic children", [(CALLS, "pub fn counts", "if is_simple(self.strategy) {", "if is_simple(self.strategy) && !ON {")]),
     ("a restarting child is listed as undefined", [value(LINES, "fn process_of", "ChildProcess::Restarting", "ChildProcess::Undefined")]),
     ("three modules are printed as two", [(VALUE, "Modules::Three", "write_next_module(third, out)", instead("write_next_module(third, out)", "Ok(())"))]),
     # Specifications and flags
-    ("a fourth module may be no name", [(CHILD, "fn are_lawful", "fourth.is_lawful()", "(ON || fourth.is_lawful())")]),
+    ("a fourth module may be no name",
+     [(CHILD, "fn are_lawful", "fourth.is_lawful()", "(ON || fourth.is_lawful())"),
+      (FILE_VALUE, "[first, second, third, fourth] =>", "name_at(fourth)?",
+       "if ON {\n                    fourth.as_str().and_then(|text| Name::new(text.as_bytes())).unwrap_or(name_at(first)?)\n"
+       "                } else {\n                    name_at(fourth)?\n                }")]),
     ("ids need not be unique", [(CHECK, "fn fault_at", "if is_duplicate(spec, earlier)", "if !ON && is_duplicate(spec, earlier)")]),
     ("a significant child may be permanent", [(CHECK, "fn fault_at", "if spec.significant && is_permanent(spec.restart)", "if !ON && spec.significant && is_permanent(spec.restart)")]),
     ("significant under never is told before permanent",
      [(CHECK, "fn fault_at", "is_permanent(spec.restart)", "is_permanent(spec.restart) && !(ON && is_never(auto_shutdown))")]),
     ("simple_one_for_one may have no child", [(TREE, "fn check_count", "&& count != 1", "&& count != 1 && !(ON && count == 0)")]),
-    ("the default intensity is 2", [value(FLAGS, "fn default()", "1,"[:1], "2")]),
-    ("the default period is 6 seconds", [value(FLAGS, "period: ", "5", "6")]),
+    ("the default intensity is 2", [value(FILE_VALUE, "fn intensity_at", "Ok(1)", "Ok(2)")]),
+    ("the default period is 6 seconds", [value(FILE_VALUE, "fn period_at", "Ok(5)", "Ok(6)")]),
     ("the default shutdown of a supervisor is 5000", [value(CHILD, "ChildType::Supervisor => ", "Shutdown::Infinity", "Shutdown::Milliseconds(5000)")]),
     ("the default modules are the id", [(FILE_CHILD, "fn spec_with", "Modules::One(start)", "Modules::One(if ON { id } else { start })")]),
     # Restarts
@@ -206,6 +211,8 @@ def copy(tree):
     stop = "\n        if score.failed > 0 {\n            break;\n        }"
     put(tree / "crates/otp_parity/src/replay.rt", "", "score.count(passed);", "score.count(passed);" + stop)
     put(tree / "crates/otp_parity/src/main.rt", "", "&mut score)?;", "&mut score)?;" + stop)
+    # Each transcript has a buffer of its own, and a build without proofs tests each of its bytes.
+    put(tree / "crates/otp_sim/src/engine.rt", "const PIECE", "65536", "1024")
     subprocess.run(["git", "init", "-q", str(tree)], check=True)
 
 

@@ -187,6 +187,19 @@ fn is_reply(effect: &Effect) -> bool
     matches!(effect, Effect::Reply(_))
 }
 
+fn count_no_replies(effects: &[Effect]) -> usize
+    ensures { result ≡ count_by (λ effect. not (is_reply effect)) effects.now }
+{
+    effects.iter().filter(|effect| !is_reply(effect)).count()
+}
+
+/// How many orders there are beside replies.
+pub fn count_orders(effects: &[Effect]) -> usize
+    ensures { result ≡ length (filter (λ effect. not (is_reply effect)) effects.now) }
+{
+    count_no_replies(effects)
+}
+
 /// Moves the orders but for replies into a list that has room.
 pub fn move_orders(orders: &mut Vec<Effect>, list: &mut Vec<Effect>)
     requires { vec_len list.old + length (filter (λ effect. not (is_reply effect)) orders.old.items) ≤ vec_capacity list.old }

@@ -16,7 +16,7 @@ ghost use Rattle.otp_rules.specs.Step.{is_late, step};
 
 use crate::answers::Answers;
 use crate::deadlines::{has_late, next_deadline};
-use crate::lists::move_orders;
+use crate::lists::{count_orders, move_orders};
 use crate::machine::Machine;
 use crate::numbers::{Given, Numbers};
 use crate::opening::{OpenFault, check_open, copy_specs};
@@ -138,6 +138,13 @@ impl Core {
     {
         laws::restart_rate();
         self.machine.window.stamps()
+    }
+
+    /// How many orders there are beside replies: so many [`Core::move_orders`] moves.
+    pub fn count_orders(&self) -> usize
+        ensures { result ≡ length (filter (λ effect. not (is_reply effect)) self.now.effects) }
+    {
+        count_orders(&self.machine.orders)
     }
 
     /// Moves the orders but for replies, in order, into a list that has room, and clears the effects.

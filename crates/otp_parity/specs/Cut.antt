@@ -1,5 +1,5 @@
 -- How a transcript is written, and what it shows.
-use Rattle.std.specs.Prelude.{◌≡◌, ℕ, List, [], ◌∷◌, ◌++◌, codes}
+use Rattle.std.specs.Prelude.{◌≡◌, ℕ, List, ◌∷◌, ◌++◌, codes}
 use Rattle.otp_parity.specs.Prints.{Prints}
 
 -- the parts of a transcript, one after another

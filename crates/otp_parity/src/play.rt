@@ -20,6 +20,11 @@ pub enum Unplayed {
 }
 
 impl From<AllocError> for Unplayed {
+    ghost use Rattle.std.specs.Prelude.{◌≡◌};
+    ghost use Rattle.otp_parity.specs.declared.play.Unplayed.TheVariants.{OutOfMemory};
+
+    ghost from_gives = { λ _ why. why ≡ OutOfMemory };
+
     fn from(_error: AllocError) -> Self {
         Unplayed::OutOfMemory
     }

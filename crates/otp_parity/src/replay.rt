@@ -1,7 +1,8 @@
 //! Transcripts are replayed and counted.
 
-ghost use Rattle.std.specs.Prelude.{◌≡◌, ◌==◌, ◌-◌, ◌^◌, Ok, true, false, cond};
+ghost use Rattle.std.specs.Prelude.{◌≡◌, ◌==◌, Ok, true, cond};
 ghost use Rattle.otp_parity.specs.Cut.{Shows};
+ghost use Rattle.otp_parity.specs.Scores.{counted};
 
 use crate::play::play;
 use crate::transcript::{Transcript, read_transcript};
@@ -19,8 +20,7 @@ pub struct Score {
 impl Score {
     /// One more transcript was replayed.
     fn count(&mut self, passed: bool)
-        ensures passed { passed ≡ true → self.new.failed ≡ self.old.failed }
-        ensures failed { self.new.failed ≡ self.old.failed → passed ≡ false → self.old.failed ≡ 2 ^ 64 - 1 }
+        ensures { self.new ≡ counted passed self.old }
     {
         if passed {
             self.passed = self.passed.saturating_add(1);

@@ -37,9 +37,9 @@ module _ {J S : Type 0} where
   pub drains_more : (v w u : View) (old now new : List (ProcessState J S)) (p : ProcessState J S) (count : ℕ) → Drains v w old now count → v.parts ≡ all_parts → TakesLeft w (p.ticket ∷ []) u → new ≡ now ++ p ∷ [] → Drains v u old new (count + 1)
   drains_more v w u old now new p count d all t pushed =
       let known : u ≡ view_of v.parts v.put (v.taken ++ map ticket_of (d.popped ++ p ∷ [])) =
-          t.0
-          ∙ ap (λ (z : View). view_of z.parts z.put (z.taken ++ p.ticket ∷ [])) d.known
-          ∙ ap (view_of v.parts v.put) (append_assoc v.taken (map ticket_of d.popped) (p.ticket ∷ []) ∙ ap (λ l. v.taken ++ l) (sym (map-append ticket_of d.popped (p ∷ [])))) in
+      t.0
+      ∙ ap (λ (z : View). view_of z.parts z.put (z.taken ++ p.ticket ∷ [])) d.known
+      ∙ ap (view_of v.parts v.put) (append_assoc v.taken (map ticket_of d.popped) (p.ticket ∷ []) ∙ ap (λ l. v.taken ++ l) (sym (map-append ticket_of d.popped (p ∷ [])))) in
       let many : length (d.popped ++ p ∷ []) ≡ count + 1 = (let c = d.counted in omega (arith, length-append d.popped (p ∷ []))) in
       record {
         popped = d.popped ++ p ∷ [];

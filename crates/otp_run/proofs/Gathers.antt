@@ -1,5 +1,5 @@
 -- A run queue is taken apart, a scheduler, a way and a deque at a time.
-use Rattle.std.proofs.Common.{◌≡◌, ℕ, zero, suc, ◌+◌, ◌-◌, ◌<◌, ◌≤◌, List, [], ◌∷◌, ◌++◌, length, set, get_or, map, min, refl, sym, ap, ◌∙◌, subst, arith, append_assoc, length-append}
+use Rattle.std.proofs.Common.{◌≡◌, ℕ, zero, suc, ◌+◌, ◌-◌, ◌<◌, ◌≤◌, List, [], ◌∷◌, ◌++◌, length, set, get_or, map, refl, sym, ap, ◌∙◌, subst, arith, append_assoc, length-append}
 use Rattle.std.specs.Prelude.{sum_by}
 use Rattle.std.proofs.lemmas.List.{length-map, length-set, set-get_or}
 use Rattle.std.proofs.lemmas.List.Sums.{sum_by-append, sum_by-cons, sum_by-set}
@@ -7,9 +7,9 @@ use Rattle.otp_job.specs.declared.process.Ticket.{Ticket}
 use Rattle.otp_job.specs.Processes.{ProcessState}
 use Rattle.otp_run.specs.Lists.{AllAt, Each}
 use Rattle.otp_run.specs.Rule.{all_parts, ticket_of}
-use Rattle.otp_run.specs.Deques.{OwnState, VictimState, index_of, stolen}
-use Rattle.otp_run.specs.Schedulers.{SchedulerState, IsPlaced, numbers_from, order_of}
-use Rattle.otp_run.specs.Gathers.{IsHome, IsCounted, IsAwaiting, Absorbed, DrainedInto, puts_of, taken_of, stolen_of, visits, put_count, taken_count}
+use Rattle.otp_run.specs.Deques.{OwnState, VictimState, index_of}
+use Rattle.otp_run.specs.Schedulers.{SchedulerState, IsPlaced, numbers_from}
+use Rattle.otp_run.specs.Gathers.{IsHome, IsCounted, IsAwaiting, Absorbed, DrainedInto, puts_of, taken_of, stolen_of, put_count, taken_count}
 use Rattle.otp_run.proofs.Sums.{sum_by-one}
 use Rattle.otp_run.proofs.Places.{set_at, get_at, each_at, map-append}
 
@@ -74,7 +74,7 @@ module _ {J S : Type 0} where
 
 -- one way more came home
 module _ (old now : List OwnState) (ways rest rest' : List VictimState) (v : VictimState) (i : ℕ) (o w : OwnState)
-  (next : rest ≡ v ∷ rest') (at : v.index ≡ i) (within : i < length now) (is : o ≡ get_or now i o) (came : w ≡ record o { parts = o.parts + 1; taken = o.taken ++ v.taken }) where
+    (next : rest ≡ v ∷ rest') (at : v.index ≡ i) (within : i < length now) (is : o ≡ get_or now i o) (came : w ≡ record o { parts = o.parts + 1; taken = o.taken ++ v.taken }) where
   pub awaiting_less : AllAt (IsAwaiting rest) now → AllAt (IsAwaiting rest') (set now i w)
   awaiting_less all =
       let all' : AllAt (IsAwaiting (v ∷ rest')) now = subst (λ (l : List VictimState). AllAt (IsAwaiting l) now) next all in

@@ -21,8 +21,8 @@ module _ (count thief index : ℕ) (ss : List SchedulerState) (v w : SchedulerSt
   lent_more lent lent' now enough more others all =
       let h = one_is lent all in
       set_at (HasLent count thief lent) (HasLent count thief lent') ss index w all
-          (λ j x apart p. record { parts = p.parts; others = p.others; is = p.is; left = (let l = p.left in let e = others j apart in omega arith); ways = p.ways })
-          (record { parts = h.parts - 1; others = h.others; is = now ∙ ap lowered h.is; left = (let l = h.left in omega arith); ways = h.ways })
+      (λ j x apart p. record { parts = p.parts; others = p.others; is = p.is; left = (let l = p.left in let e = others j apart in omega arith); ways = p.ways })
+      (record { parts = h.parts - 1; others = h.others; is = now ∙ ap lowered h.is; left = (let l = h.left in omega arith); ways = h.ways })
 
   -- a thief has done nothing
   pub one_unused : (lent : ℕ → ℕ) → AllAt (HasLent count thief lent) ss → v ≡ unused v.own.index v.own.parts v.others
@@ -39,14 +39,14 @@ module _ (count thief index : ℕ) (ss : List SchedulerState) (v w : SchedulerSt
   equipped ways at now all_ways all =
       let h = one_is (from_all thief) all in
       set_at (HasLent count thief (from_all thief)) (HasLent count (thief + 1) none_yet) ss index w all
-          (λ j x apart p. record { parts = p.parts; others = p.others; is = p.is; left = (let l = p.left in omega arith); ways = λ less. p.ways (omega arith) })
-          (record {
-            parts = h.parts;
-            others = ways;
-            is = now ∙ ap (λ (s : SchedulerState). record s { others = ways }) h.is;
-            left = (let l = h.left in omega arith);
-            ways = λ less. all_ways ∙ ap (λ k. map fresh_victim (order_of k count)) (sym at);
-          })
+      (λ j x apart p. record { parts = p.parts; others = p.others; is = p.is; left = (let l = p.left in omega arith); ways = λ less. p.ways (omega arith) })
+      (record {
+        parts = h.parts;
+        others = ways;
+        is = now ∙ ap (λ (s : SchedulerState). record s { others = ways }) h.is;
+        left = (let l = h.left in omega arith);
+        ways = λ less. all_ways ∙ ap (λ k. map fresh_victim (order_of k count)) (sym at);
+      })
 
 indexes-fresh : (ks : List ℕ) → map index_of (map fresh_victim ks) ≡ ks
 indexes-fresh [] = refl
@@ -72,7 +72,7 @@ both_ways thief count none above ways nothing first last =
 pub nobody_lent : (count : ℕ) (ss : List SchedulerState) → AllAt (λ k s. s ≡ unused k all_parts []) ss → AllAt (HasLent count 0 none_yet) ss
 nobody_lent count ss all =
     each_at (λ k s. s ≡ unused k all_parts []) (HasLent count 0 none_yet) ss all
-        (λ j x within p. record { parts = all_parts; others = []; is = p; left = omega arith; ways = λ less. absurd (omega arith) })
+    (λ j x within p. record { parts = all_parts; others = []; is = p; left = omega arith; ways = λ less. absurd (omega arith) })
 
 -- one that has all its ways and lent all its parts
 pub is_placed : (count index : ℕ) (v : SchedulerState) → index < count → count ≤ all_parts → HasLent count count none_yet index v → IsPlaced (record v { count = count })
@@ -96,13 +96,13 @@ one_complete count index v w within few h now =
 pub completed_more : (count index : ℕ) (ss : List SchedulerState) (w : SchedulerState) → w ≡ opened count index → AllAt (CompleteUpTo count index) ss → AllAt (CompleteUpTo count (index + 1)) (set ss index w)
 completed_more count index ss w is all =
     set_at (CompleteUpTo count index) (CompleteUpTo count (index + 1)) ss index w all
-        (λ j x apart p. ((λ less. p.0 (omega arith)), (λ more. p.1 (omega arith))))
-        ((λ less. is), (λ more. absurd (omega arith)))
+    (λ j x apart p. ((λ less. p.0 (omega arith)), (λ more. p.1 (omega arith))))
+    ((λ less. is), (λ more. absurd (omega arith)))
 
 pub lent_by_then : (count thief : ℕ) (lent lent' : ℕ → ℕ) (ss : List SchedulerState) → ((j : ℕ) → j < length ss → lent' j ≡ lent j) → AllAt (HasLent count thief lent) ss → AllAt (HasLent count thief lent') ss
 lent_by_then count thief lent lent' ss same all =
     each_at (HasLent count thief lent) (HasLent count thief lent') ss all
-        (λ j x within p. record { parts = p.parts; others = p.others; is = p.is; left = (let l = p.left in let e = same j within in omega arith); ways = p.ways })
+    (λ j x within p. record { parts = p.parts; others = p.others; is = p.is; left = (let l = p.left in let e = same j within in omega arith); ways = p.ways })
 
 -- the next that is to be told how many there are
 module _ (count index : ℕ) (ss : List SchedulerState) (v : SchedulerState) (within : index < length ss) (is : v ≡ get_or ss index v) (all : AllAt (CompleteUpTo count index) ss) where

@@ -1,5 +1,5 @@
 -- Each step on a deque keeps its rule.
-use Rattle.std.proofs.Common.{◌≡◌, ◌≢◌, ⊎_elim, ℕ, zero, suc, ◌+◌, ◌-◌, ◌<◌, ◌≤◌, List, [], ◌∷◌, ◌++◌, length, map, set, refl, sym, ap, ◌∙◌, subst, arith, length-append}
+use Rattle.std.proofs.Common.{◌≡◌, ◌≢◌, ⊎_elim, ℕ, zero, suc, ◌+◌, ◌<◌, ◌≤◌, List, [], ◌∷◌, ◌++◌, length, map, set, refl, sym, ap, ◌∙◌, arith, length-append}
 use Rattle.std.specs.Prelude.{sum_by}
 use Rattle.std.proofs.lemmas.List.{length-map}
 use Rattle.std.proofs.lemmas.List.Sums.{sum_by-append, sum_by-cons}
@@ -162,9 +162,9 @@ module _ {J S : Type 0} where
       let t = takes id v some_part xs items views some_task one d at in
       let w : View = view_of v.parts v.put (v.taken ++ map ticket_of xs) in
       let left : v.parts ≡ all_parts → length w.taken ≤ length w.put = λ all.
-          let p = counted (map ticket_of (xs ++ items)) views id v d at all in
-          let a = ap (λ l. length l) (map-append ticket_of xs items) in
-          omega (arith, length-append (map ticket_of xs) (map ticket_of items), length-append v.taken (map ticket_of xs)) in
+      let p = counted (map ticket_of (xs ++ items)) views id v d at all in
+      let a = ap (λ l. length l) (map-append ticket_of xs items) in
+      omega (arith, length-append (map ticket_of xs) (map ticket_of items), length-append v.taken (map ticket_of xs)) in
       (w, t.1, (refl, left))
 
   pub counts : (id : ℕ) (v : View) → Learns (λ (items : List (ProcessState J S)) views. IsDeque (map ticket_of items) views) id v (λ items. Counts v (length items))

@@ -1,5 +1,5 @@
 -- Tries at other deques, one after another, and what they leave of the ledger.
-use Rattle.std.proofs.Common.{get_or, add-one, ◌≡◌, ℕ, zero, suc, ◌+◌, ◌-◌, ◌<◌, ◌≤◌, List, [], ◌∷◌, ◌++◌, length, set, map, refl, sym, ap, ◌∙◌, arith, length-append}
+use Rattle.std.proofs.Common.{get_or, add-one, ◌≡◌, ℕ, zero, suc, ◌+◌, ◌<◌, List, [], ◌∷◌, ◌++◌, length, set, map, refl, sym, ap, ◌∙◌, arith, length-append}
 use Rattle.otp_job.specs.declared.process.Ticket.{Ticket}
 use Rattle.otp_run.specs.Deques.{VictimState, index_of, stolen, missed, robbed, TakenFrom}
 

@@ -1,14 +1,14 @@
 -- The ledgers of all schedulers, added up.
-use Rattle.std.proofs.Common.{◌≡◌, ℕ, ◌+◌, ◌-◌, ◌≤◌, List, [], ◌∷◌, ◌++◌, length, map, refl, sym, ap, ◌∙◌, subst, arith, append_assoc, length-append}
+use Rattle.std.proofs.Common.{◌≡◌, ℕ, ◌+◌, ◌-◌, ◌≤◌, List, [], ◌∷◌, ◌++◌, length, map, refl, sym, ap, ◌∙◌, subst, arith, append_assoc}
 use Rattle.std.specs.Prelude.{sum_by}
-use Rattle.std.proofs.lemmas.List.{length-map, append-nil}
+use Rattle.std.proofs.lemmas.List.{append-nil}
 use Rattle.std.proofs.lemmas.List.Sums.{sum_by-append, sum_by-cons}
 use Rattle.otp_job.specs.declared.process.Ticket.{Ticket}
 use Rattle.otp_job.specs.Processes.{ProcessState}
 use Rattle.otp_run.specs.Lists.{Each}
 use Rattle.otp_run.specs.Rule.{ticket_of}
 use Rattle.otp_run.specs.Deques.{OwnState, VictimState, stolen}
-use Rattle.otp_run.specs.Schedulers.{SchedulerState, IsPlaced, IsScheduler, puts, finds, out}
+use Rattle.otp_run.specs.Schedulers.{SchedulerState, IsPlaced, puts, finds, out}
 use Rattle.otp_run.specs.Gathers.{IsKept, IsLiveTotal, Absorbed, DrainedInto, all_ways, own_of, puts_of, taken_of, stolen_of, put_count, taken_count, begun_of, ended_of}
 use Rattle.otp_run.proofs.Places.{map-append}
 use Rattle.otp_run.proofs.Sums.{sum_by-one}
@@ -81,11 +81,11 @@ module _ (ss : List SchedulerState) (homes now : List OwnState) (ways : List Vic
   pub live_told : {J S : Type 0} (left : List (ProcessState J S)) → DrainedInto now [] left → IsLiveTotal ss (sum_by begun_of ss - sum_by ended_of ss) (map ticket_of left)
   live_told left d =
       let often : (weight : Ticket → ℕ) → sum_by (λ (s : SchedulerState). sum_by weight (puts s)) ss ≡ sum_by (λ (s : SchedulerState). sum_by weight (finds s)) ss + sum_by weight (map ticket_of left) = λ weight.
-          let p = all_puts weight in
-          let q = all_finds weight in
-          let r = d.as_often weight in
-          let l = ap (λ xs. sum_by weight (map ticket_of xs)) d.listed in
-          omega arith in
+      let p = all_puts weight in
+      let q = all_finds weight in
+      let r = d.as_often weight in
+      let l = ap (λ xs. sum_by weight (map ticket_of xs)) d.listed in
+      omega arith in
       let p = often one in
       let c = ones puts ss in
       let f = ones finds ss in

@@ -1,5 +1,5 @@
 -- How many ways lead to each deque.
-use Rattle.std.proofs.Common.{◌≡◌, ℕ, zero, suc, ◌+◌, ◌-◌, ◌<◌, ◌≤◌, List, [], ◌∷◌, ◌++◌, length, map, min, refl, sym, ap, ◌∙◌, subst, arith, add-zero, Some, None}
+use Rattle.std.proofs.Common.{◌≡◌, ℕ, zero, suc, ◌+◌, ◌-◌, ◌<◌, ◌≤◌, List, [], ◌∷◌, ◌++◌, length, map, min, refl, sym, ap, ◌∙◌, subst, arith, Some, None}
 use Rattle.std.specs.Prelude.{slice_get, IfSome}
 use Rattle.otp_run.specs.Lists.{AllAt, Each}
 use Rattle.otp_run.specs.Rule.{all_parts}
@@ -53,8 +53,8 @@ visits-all_ways k count first (s ∷ ss) inside many all =
     let p = seen-order_of k s.own.index s.count (omega arith) (omega arith) in
     let q = visits-append k s.others (all_ways ss) in
     let rest = visits-all_ways k count (first + 1) ss inside (omega arith)
-        (λ j. elim (slice_get ss j) as (λ o. IfSome o (λ s. (s.own.index ≡ first + suc j) × (s.count ≡ count) × IsPlaced s) → IfSome o (λ s. (s.own.index ≡ first + 1 + j) × (s.count ≡ count) × IsPlaced s))
-            [ Some z ↦ (λ p. ((let e = p.0 in omega arith), p.1, p.2)) | None ↦ (λ _. tt) ] (all (suc j))) in
+    (λ j. elim (slice_get ss j) as (λ o. IfSome o (λ s. (s.own.index ≡ first + suc j) × (s.count ≡ count) × IsPlaced s) → IfSome o (λ s. (s.own.index ≡ first + 1 + j) × (s.count ≡ count) × IsPlaced s))
+    [ Some z ↦ (λ p. ((let e = p.0 in omega arith), p.1, p.2)) | None ↦ (λ _. tt) ] (all (suc j))) in
     omega arith
 
 own_at : (P : ℕ → OwnState → Type 0) (ss : List SchedulerState) → AllAt (λ j s. P j s.own) ss → AllAt P (map own_of ss)
@@ -71,13 +71,13 @@ pub all_awaiting : (ss : List SchedulerState) → IsAll ss → AllAt (λ index s
 all_awaiting ss all placed =
     let together : AllAt (λ j s. (s.own.index ≡ 0 + j) × (s.count ≡ length ss) × IsPlaced s) ss = both ss all placed in
     own_at (λ j o. IsAwaiting (all_ways ss) j o) ss
-        (each_at (λ j s. (s.own.index ≡ 0 + j) × (s.count ≡ length ss) × IsPlaced s) (λ j s. IsAwaiting (all_ways ss) j s.own) ss together
-        (λ j s within p.
-            let shared = p.2.shared in
-            let count = p.1 in
-            let index = p.0 in
-            let v = visits-all_ways j (length ss) 0 ss within (omega arith) together in
-            (omega arith, omega arith)))
+    (each_at (λ j s. (s.own.index ≡ 0 + j) × (s.count ≡ length ss) × IsPlaced s) (λ j s. IsAwaiting (all_ways ss) j s.own) ss together
+    (λ j s within p.
+    let shared = p.2.shared in
+    let count = p.1 in
+    let index = p.0 in
+    let v = visits-all_ways j (length ss) 0 ss within (omega arith) together in
+    (omega arith, omega arith)))
 
 pub each_placed : (ss : List SchedulerState) → AllAt (λ index s. IsPlaced s) ss → Each IsPlaced ss
 each_placed [] all = tt
@@ -103,15 +103,15 @@ each_index count (v ∷ vs) all = (all.0, each_index count vs all.1)
 ways_inside : (s : SchedulerState) → IsPlaced s → Each (λ (v : VictimState). v.index < s.count) s.others
 ways_inside s p =
     each_index s.count s.others (subst (Each (λ j. j < s.count)) (sym p.ordered)
-        (each_append (λ j. j < s.count) (numbers_from (s.own.index + 1) (s.count - 1 - s.own.index)) (numbers_from 0 s.own.index)
-        (numbers_below s.count (s.own.index + 1) (s.count - 1 - s.own.index) (let i = p.inside in omega arith)) (numbers_below s.count 0 s.own.index (let i = p.inside in omega arith))))
+    (each_append (λ j. j < s.count) (numbers_from (s.own.index + 1) (s.count - 1 - s.own.index)) (numbers_from 0 s.own.index)
+    (numbers_below s.count (s.own.index + 1) (s.count - 1 - s.own.index) (let i = p.inside in omega arith)) (numbers_below s.count 0 s.own.index (let i = p.inside in omega arith))))
 
 inside_from : (count : ℕ) (ss : List SchedulerState) → AllAt (λ j s. (s.count ≡ count) × IsPlaced s) ss → Each (λ (v : VictimState). v.index < count) (all_ways ss)
 inside_from count [] all = tt
 inside_from count (s ∷ ss) all =
     each_append (λ (v : VictimState). v.index < count) s.others (all_ways ss)
-        (subst (λ n. Each (λ (v : VictimState). v.index < n) s.others) (all zero).0 (ways_inside s (all zero).1))
-        (inside_from count ss (λ j. all (suc j)))
+    (subst (λ n. Each (λ (v : VictimState). v.index < n) s.others) (all zero).0 (ways_inside s (all zero).1))
+    (inside_from count ss (λ j. all (suc j)))
 
 -- each way leads to one of the deques
 pub all_inside : (ss : List SchedulerState) → IsAll ss → AllAt (λ index s. IsPlaced s) ss → Each (λ (v : VictimState). v.index < length ss) (all_ways ss)

@@ -1,10 +1,8 @@
 -- A run queue that was just opened. (own)
-use Rattle.std.specs.Prelude.{◌≡◌, ℕ, ◌+◌, ◌-◌, ◌≤◌, ◌<◌, List, [], ◌++◌, length, map, min}
-use Rattle.crossbeam_deque.specs.Handles.{worker_deque, worker_flavor, worker_view}
+use Rattle.std.specs.Prelude.{◌≡◌, ℕ, ◌+◌, ◌-◌, ◌≤◌, ◌<◌, List, [], map, min}
+use Rattle.crossbeam_deque.specs.Handles.{worker_flavor, worker_view}
 use Rattle.crossbeam_deque.specs.declared.handles.Worker.{Worker}
 use Rattle.otp_run.specs.declared.rule.View.{View}
-use Rattle.otp_run.specs.Lists.{AllAt}
-use Rattle.otp_run.specs.Names.{DequeId}
 use Rattle.otp_run.specs.Rule.{whole_view, all_parts}
 use Rattle.otp_run.specs.Deques.{VictimState, fresh_victim}
 use Rattle.otp_run.specs.Schedulers.{SchedulerState, order_of}

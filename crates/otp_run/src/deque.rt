@@ -6,7 +6,9 @@ ghost use Rattle.otp_run.specs.Gathers.{DrainedInto, Popped};
 ghost use Rattle.otp_run.specs.Rule.{all_parts};
 
 use crate::naming::RunNaming;
-use crate::rule::{Counted, Cut, Drained, Joined, ProcessPass, ProcessStealer, ProcessWorker, Put, Taken};
+use crate::rule::{
+    Counted, Cut, Drained, Joined, ProcessPass, ProcessStealer, ProcessWorker, Put, Taken,
+};
 use crossbeam_deque::Steal;
 use otp_job::Process;
 use otp_tally::Tally;
@@ -31,11 +33,12 @@ impl<N: RunNaming, J: Drop, S: Drop> Model for OwnDeque<N, J, S> {
     ghost Value = { OwnState };
 
     ghost view = { λ o. record {
-        index = o.index;
-        parts = o.parts;
-        puts = (worker_view o.worker).put;
-        taken = (worker_view o.worker).taken;
-        misses = o.misses.count } };
+      index = o.index;
+      parts = o.parts;
+      puts = (worker_view o.worker).put;
+      taken = (worker_view o.worker).taken;
+      misses = o.misses.count;
+    } };
 
     ghost invariant = { λ o.
         (worker_deque o.worker ≡ N.deque o.index)

@@ -76,7 +76,10 @@ struct Room<N: RunNaming, J: Drop, S: Drop> {
 }
 
 impl<N: RunNaming, J: Drop, S: Drop> Room<N, J, S> {
-    fn reserve(alloc: Global, schedulers: &[Scheduler<N, J, S>]) -> Result<Room<N, J, S>, AllocError>
+    fn reserve(
+        alloc: Global,
+        schedulers: &[Scheduler<N, J, S>],
+    ) -> Result<Room<N, J, S>, AllocError>
         requires { length schedulers.now ≤ all_parts }
         ensures { IfOk result (λ room. IsRoomFor schedulers.now room) }
     {
@@ -147,10 +150,7 @@ fn total_share<N: RunNaming, J: Drop, S: Drop>(schedulers: &[Scheduler<N, J, S>]
         begun += share.begun;
         ended += share.ended;
     }
-    Share {
-        begun,
-        ended,
-    }
+    Share { begun, ended }
 }
 
 // One scheduler is taken apart: its own deque, and its ways to the others.

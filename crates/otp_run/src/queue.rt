@@ -57,10 +57,7 @@ impl<J: Drop, S: Drop> RunQueue<J, S> {
     }
 
     /// Shares it out among so many schedulers as it has deques, in the order of their indexes.
-    pub fn named<N: RunNaming>(
-        self,
-        alloc: Global,
-    ) -> Result<Vec<Scheduler<N, J, S>>, AllocError>
+    pub fn named<N: RunNaming>(self, alloc: Global) -> Result<Vec<Scheduler<N, J, S>>, AllocError>
         requires { AllAt (λ k id. id ≡ N.deque k) self }
         ensures count { IfOk result (λ schedulers. length schedulers.items ≡ length self) }
         ensures opened { IfOk result (λ schedulers. AllAt (λ k s. s ≡ opened (length self) k) schedulers.items) }
@@ -130,10 +127,7 @@ fn unused_scheduler<N: RunNaming, J: Drop, S: Drop>(
         own,
         others: Vec::new(alloc),
         count: 0,
-        share: Share {
-            begun: 0,
-            ended: 0,
-        },
+        share: Share { begun: 0, ended: 0 },
         empty_finds: Tally::new(),
     }
 }

@@ -40,20 +40,22 @@ impl<N: RunNaming, J: Drop, S: Drop> Model for Scheduler<N, J, S> {
     ghost Value = { SchedulerState };
 
     ghost view = { λ s. record {
-        own = s.own;
-        others = s.others.items;
-        count = s.count;
-        begun = s.share.begun;
-        ended = s.share.ended;
-        empty_finds = s.empty_finds.count } };
+      own = s.own;
+      others = s.others.items;
+      count = s.count;
+      begun = s.share.begun;
+      ended = s.share.ended;
+      empty_finds = s.empty_finds.count;
+    } };
 
     ghost invariant = { λ s. IsScheduler (record {
-        own = s.own;
-        others = s.others.items;
-        count = s.count;
-        begun = s.share.begun;
-        ended = s.share.ended;
-        empty_finds = s.empty_finds.count }) };
+      own = s.own;
+      others = s.others.items;
+      count = s.count;
+      begun = s.share.begun;
+      ended = s.share.ended;
+      empty_finds = s.empty_finds.count;
+    }) };
 }
 
 impl<N: RunNaming, J: Drop, S: Drop> Scheduler<N, J, S> {

@@ -1,12 +1,12 @@
 -- The slot of the row that has a process.
-use Rattle.std.specs.Prelude.{◌≡◌, ◌⊎◌, ℕ, ◌<◌, ◌≤◌, Bool, true, false, List, [], ◌∷◌, Option, Some, None, Contains, All, refl, length, position, slice_get}
+use Rattle.std.specs.Prelude.{◌≡◌, ◌⊎◌, ℕ, ◌<◌, ◌≤◌, Bool, true, false, List, [], ◌∷◌, Option, Some, None, Contains, All, count_by, refl, length, position, slice_get}
 use Rattle.std.proofs.Common.{◌∙◌, ap, sym, subst, inl, inr, arith, ⊎_elim, get_or}
 use Rattle.std.proofs.lemmas.Option.{slice_get_within}
 use Rattle.std.proofs.lemmas.Option.{get_or_from_slice_get, slice_get-get_or}
 use Rattle.std.proofs.lemmas.List.Quantifiers.{position-Some}
 use Rattle.otp_reason.specs.declared.note.Note.{Note}
 use Rattle.otp_table.specs.declared.row.Row.{Row}
-use Rattle.otp_table.specs.Rows.{row_has, has_process}
+use Rattle.otp_table.specs.Rows.{row_has, has_process, has_slot}
 use Rattle.otp_rules.specs.declared.event.Event.{Event}
 use Rattle.otp_rules.specs.declared.event.Item.TheVariants as item
 use Rattle.otp_rules.specs.declared.event.Kind.TheVariants as kind
@@ -32,3 +32,11 @@ pub slot_read : (rows : List Row) (n place : ℕ) (d : Row) → position (row_ha
 slot_read rows n place d is =
     let within : place < length rows = (position-Some (row_has (has_process n)) rows place d is).0 in
     sym (ap (λ (o : Option ℕ). slot_at rows o) is ∙ ap (λ (o : Option Row). slot_in o) (slice_get-get_or rows place d within))
+
+-- a supervisor that was never opened has no rows
+pub unslotted : AreSlotted []
+unslotted =
+    record {
+      one = λ slot. let none : count_by (has_slot slot) [] ≡ 0 = refl in omega (arith, none);
+      below = λ k d b. absurd (omega (arith, b));
+    }

@@ -151,6 +151,36 @@ fn faults_in_their_order(rt: HostRuntime) -> Result<(), Fail> {
     Ok(())
 }
 
+/// A tree file tests names as it reads them, so no transcript sees this test of each module's.
+#[test]
+fn names_of_modules_are_tested(rt: HostRuntime) -> Result<(), Fail> {
+    let [a, no] = [named(b"a")?, named(b"")?];
+    let lists = [
+        Modules::One(no),
+        Modules::Two(no, a),
+        Modules::Two(a, no),
+        Modules::Three(no, a, a),
+        Modules::Three(a, no, a),
+        Modules::Three(a, a, no),
+        Modules::Four(no, a, a, a),
+        Modules::Four(a, no, a, a),
+        Modules::Four(a, a, no, a),
+        Modules::Four(a, a, a, no),
+    ];
+    for modules in lists {
+        let mut spec = child(b"a")?;
+        spec.modules = modules;
+        assert_eq!(rt;
+            check_childspecs(slice::from_ref(&spec), None),
+            Err(SpecFault::BadSpec {
+                index: 0,
+                key: SpecKey::Modules,
+            })
+        );
+    }
+    Ok(())
+}
+
 #[test]
 fn texts_and_codes_of_faults(rt: HostRuntime) -> Result<(), Fail> {
     let table = [

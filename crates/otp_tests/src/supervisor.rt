@@ -447,7 +447,7 @@ fn restart_is_tried_again(rt: HostRuntime) -> Result<(), Fail> {
         Order::Start(Some(c.id), 6),
     ];
     let mut list = Vec::with_capacity(rt.alloc(), 8)?;
-    assert!(rt; driver.core.effects().len() <= 8);
+    assert_eq!(rt; driver.core.count_orders(), 4);
     driver.core.move_orders(&mut list);
     expect(&rt, &list, "the orders but for the reply", &orders);
     assert!(rt; driver.core.effects().is_empty());
@@ -541,56 +541,57 @@ fn numbers_that_are_drawn_beforehand(rt: HostRuntime) -> Result<(), Fail> {
     Ok(())
 }
 
-// What a core tells of its state while a child is stopped, an end waits, and the supervisor ends.
-#[test]
-fn told_between_events(rt: HostRuntime) -> Result<(), Fail> {
+// A supervisor of two children, of which `a` has 100 ms to stop, after these lines.
+fn two_children(rt: &impl Abort, alloc: Global, lines: &[Line]) -> Result<Driver, Fail> {
     let [mut a, b] = [child(b"a")?, child(b"b")?];
     a.shutdown = Shutdown::Milliseconds(100);
-    let mut driver = Driver::open(&rt, rt.alloc(), SupFlags::default(), &[a, b])?;
-    driver.lines(&rt, &[up(1), up(2)])?;
+    let mut driver = Driver::open(rt, alloc, SupFlags::default(), &[a, b])?;
+    driver.lines(rt, &[up(1), up(2)])?;
+    driver.lines(rt, lines)?;
+    Ok(driver)
+}
+
+#[test]
+fn idle_supervisor_tells(rt: HostRuntime) -> Result<(), Fail> {
+    let driver = two_children(&rt, rt.alloc(), &[])?;
     let core = &driver.core;
     assert_eq!(rt; core.phase(), Phase::Open(0));
-    assert_eq!(rt; (core.next_deadline(), core.first_waiting()), (None, None));
+    assert_eq!(rt; core.next_deadline(), None);
+    assert_eq!(rt; core.first_waiting(), None);
     assert_eq!(rt; core.next_kind(0, false), None);
     assert_eq!(rt; core.next_kind(0, true), Some(Kind::Stopped));
     assert_eq!(rt; core.rows().len(), 2);
-    assert!(rt; core.rows().iter().all(|row| row.state.is_up()));
+    Ok(())
+}
 
+#[test]
+fn stopping_supervisor_tells(rt: HostRuntime) -> Result<(), Fail> {
     let end = Note::Exit(2, error()?);
-    driver.lines(
-        &rt,
-        &[Line::Asked(Call::TerminateChild(a.id)), Line::Told(end)],
-    )?;
+    let stop = Line::Asked(Call::TerminateChild(named(b"a")?));
+    let driver = two_children(&rt, rt.alloc(), &[stop, Line::Told(end)])?;
     let core = &driver.core;
     assert_eq!(rt; core.next_deadline(), Some(100));
-    assert_eq!(rt; (core.is_due(99), core.is_due(100)), (false, true));
     assert_eq!(rt; core.next_kind(99, true), None);
     assert_eq!(rt; core.next_kind(100, true), Some(Kind::Ticked));
     assert_eq!(rt; core.first_waiting(), Some(&Waiting::Item(Item::Note(end))));
+    Ok(())
+}
 
-    driver.lines(
-        &rt,
-        &[
-            exit(1, Reason::Shutdown),
-            up(3),
-            Line::Asked(Call::WhichChildren),
-        ],
-    )?;
-    let told = driver.core.reply(2).ok_or("an answer")?.try_clone()?;
-    let Reply::Which(lines) = told else {
+#[test]
+fn ended_supervisor_tells(rt: HostRuntime) -> Result<(), Fail> {
+    let lines = [
+        Line::Asked(Call::WhichChildren),
+        Line::Stop,
+        exit(2, Reason::Shutdown),
+        exit(1, Reason::Shutdown),
+    ];
+    let driver = two_children(&rt, rt.alloc(), &lines)?;
+    let core = &driver.core;
+    let Reply::Which(told) = core.reply(1).ok_or("an answer")?.try_clone()? else {
         return Err(Fail::from("the children"));
     };
-    let processes: [ChildProcess; 2] = [ChildProcess::Undefined, ChildProcess::Number(3)];
-    assert_eq!(rt; lines.as_slice().len(), 2);
-    for (line, process) in lines.as_slice().iter().zip(&processes) {
-        assert_eq!(rt; line.process, *process);
-    }
-
-    assert!(rt; driver.core.ends().is_empty());
-    driver.lines(&rt, &[Line::Stop, exit(3, Reason::Shutdown)])?;
-    let core = &driver.core;
+    assert_eq!(rt; told.as_slice().len(), 2);
     assert_eq!(rt; core.phase(), Phase::Ended(0, Ending::Asked));
-    assert_eq!(rt; core.next_kind(0, true), None);
     assert_eq!(rt; core.ends().len(), 1);
     for (own, end) in core.ends() {
         assert_eq!(rt; *own, 0);

@@ -1,6 +1,6 @@
 // Which calls a subsystem gets.
 use crate::jobs::run;
-use crate::probes::{Calls, pipe};
+use crate::probes::{Calls, bridge_body};
 use otp_bridge::BridgePhase;
 use otp_job::Body;
 use otp_reason::{Note, Reason};
@@ -13,12 +13,30 @@ use std::test::*;
 fn each_end_of_a_bridge(rt: HostRuntime) -> Result<(), Fail> {
     let alloc = rt.alloc();
     for (ended, signal, reason, wanted, phase) in [
-        (Some(Reason::NoProc), Signal::None, Reason::NoProc, 12, BridgePhase::MainEnded),
-        (None, Signal::Shutdown, Reason::Shutdown, 14, BridgePhase::Terminated),
-        (None, Signal::Kill, Reason::Killed, 1, BridgePhase::Terminated),
+        (
+            Some(Reason::NoProc),
+            Signal::None,
+            Reason::NoProc,
+            12,
+            BridgePhase::MainEnded,
+        ),
+        (
+            None,
+            Signal::Shutdown,
+            Reason::Shutdown,
+            14,
+            BridgePhase::Terminated,
+        ),
+        (
+            None,
+            Signal::Kill,
+            Reason::Killed,
+            1,
+            BridgePhase::Terminated,
+        ),
     ] {
         let calls: Calls = Arc::new(alloc, AtomicU64::new(0))?;
-        let body = pipe(alloc, &calls, ended)?;
+        let body = bridge_body(alloc, &calls, ended)?;
         let (note, body) = run(&rt, body, &[Signal::None, signal]);
         assert_eq!(rt; note, Some(Note::Exit(7, reason)));
         assert_eq!(rt; calls.load(Ordering::SeqCst), wanted);

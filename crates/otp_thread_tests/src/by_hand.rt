@@ -12,6 +12,8 @@ struct Countdown {
 }
 
 impl Job for Countdown {
+    ghost use Rattle.std.specs.Prelude.{true};
+
     ghost is_trapping = { λ _. true };
 
     fn traps(&self) -> bool {

@@ -1,7 +1,6 @@
 // Which calls a job gets in which turn.
-use crate::probes::{AnyBody, AnyProcess, Calls, probe};
-use otp_job::{After, Phase, Process, TableNo, one_turn};
-use otp_job::Body;
+use crate::probes::{AnyBody, AnyProcess, Calls, Pipe, Probe, worker_body};
+use otp_job::{After, Body, Phase, Process, TableNo, one_turn};
 use otp_reason::{Note, Reason, Started};
 use otp_signals::Signal;
 use std::process::Abort;
@@ -43,10 +42,18 @@ pub fn run<R: Abort>(rt: &R, body: AnyBody, signals: &[Signal]) -> (Option<Note>
 fn first_turn_starts_and_a_later_kill_calls_nothing(rt: HostRuntime) -> Result<(), Fail> {
     let alloc = rt.alloc();
     let calls: Calls = Arc::new(alloc, AtomicU64::new(0))?;
-    let (note, body) = run(&rt, probe(alloc, &calls, true, Started::Up)?, &[Signal::Kill]);
+    let (note, body) = run(
+        &rt,
+        worker_body(alloc, &calls, true, Started::Up)?,
+        &[Signal::Kill],
+    );
     assert_eq!(rt; note, Some(Note::Up(7)));
     assert!(rt; body.is_none());
-    let (note, body) = run(&rt, probe(alloc, &calls, true, Started::Up)?, &[Signal::Kill, Signal::Kill]);
+    let (note, body) = run(
+        &rt,
+        worker_body(alloc, &calls, true, Started::Up)?,
+        &[Signal::Kill, Signal::Kill],
+    );
     assert_eq!(rt; note, Some(Note::Exit(7, Reason::Killed)));
     assert!(rt; body.is_some());
     assert_eq!(rt; calls.load(Ordering::SeqCst), 11);
@@ -61,14 +68,15 @@ fn trapping_job_is_told_once(rt: HostRuntime) -> Result<(), Fail> {
         (false, 1, Some(Note::Exit(7, Reason::Shutdown))),
     ] {
         let calls: Calls = Arc::new(alloc, AtomicU64::new(0))?;
-        let body = probe(alloc, &calls, traps, Started::Up)?;
-        let (started, stopped) = (Signal::None, Signal::Shutdown);
-        let signals: &[Signal] = if traps {
-            &[started, stopped, stopped, stopped]
-        } else {
-            &[started, stopped]
-        };
-        let (note, body) = run(&rt, body, signals);
+        let body = worker_body(alloc, &calls, traps, Started::Up)?;
+        let signals = [
+            Signal::None,
+            Signal::Shutdown,
+            Signal::Shutdown,
+            Signal::Shutdown,
+        ];
+        let turns = if traps { 4 } else { 2 };
+        let (note, body) = run(&rt, body, &signals[..turns]);
         assert_eq!(rt; note, end);
         assert_eq!(rt; body.is_some(), !traps);
         assert_eq!(rt; calls.load(Ordering::SeqCst), wanted);
@@ -81,10 +89,17 @@ fn refused_start_brings_the_body_home(rt: HostRuntime) -> Result<(), Fail> {
     let alloc = rt.alloc();
     for (answer, note) in [
         (Started::Ignore, Note::Ignored(7)),
-        (Started::Fail(Reason::NoProc), Note::Failed(7, Reason::NoProc)),
+        (
+            Started::Fail(Reason::NoProc),
+            Note::Failed(7, Reason::NoProc),
+        ),
     ] {
         let calls: Calls = Arc::new(alloc, AtomicU64::new(0))?;
-        let (end, body) = run(&rt, probe(alloc, &calls, false, answer)?, &[Signal::None]);
+        let (end, body) = run(
+            &rt,
+            worker_body(alloc, &calls, false, answer)?,
+            &[Signal::None],
+        );
         assert_eq!(rt; end, Some(note));
         assert!(rt; body.is_some());
     }
@@ -93,8 +108,8 @@ fn refused_start_brings_the_body_home(rt: HostRuntime) -> Result<(), Fail> {
 
 #[test]
 fn table_goes_home_before_its_process_retires(rt: HostRuntime) {
-    let body: AnyBody = Body::Sup(TableNo::new(5));
-    let mut process: AnyProcess = Process::new(9, 0, 0, body);
+    let body: Body<Probe, Pipe> = Body::Sup(TableNo::new(5));
+    let mut process = Process::new(9, 0, 0, body);
     assert_eq!(rt; process.nested_table(), Some(5));
     assert!(rt; !process.is_runnable());
     let Some(table) = process.take_table() else {

@@ -1,5 +1,5 @@
 // A job and a subsystem that note each call in an atomic word, and processes of them.
-use otp_bridge::{Bridge, BoxedSubsystem, Subsystem};
+use otp_bridge::{BoxedSubsystem, Bridge, Subsystem};
 use otp_job::{Body, BoxedJob, Job, Process, Told, Turn};
 use otp_reason::{Reason, Started};
 use std::alloc::{AllocError, Global};
@@ -24,7 +24,7 @@ pub const TERMINATED: u64 = 4;
 /// One more call.
 fn note(calls: &Calls, call: u64) {
     let before = calls.load(Ordering::SeqCst);
-    calls.store(before % 1_000_000 * 10 + call, Ordering::SeqCst);
+    calls.store(before % 1_000_000 * 10 + call.min(9), Ordering::SeqCst);
 }
 
 /// A job that notes its calls, and goes on for ever.
@@ -79,7 +79,7 @@ impl Subsystem for Pipe {
     }
 }
 
-pub fn probe(
+pub fn worker_body(
     alloc: Global,
     calls: &Calls,
     traps: bool,
@@ -97,7 +97,11 @@ pub fn probe(
     Ok(Body::Worker(job))
 }
 
-pub fn pipe(alloc: Global, calls: &Calls, ended: Option<Reason>) -> Result<AnyBody, AllocError> {
+pub fn bridge_body(
+    alloc: Global,
+    calls: &Calls,
+    ended: Option<Reason>,
+) -> Result<AnyBody, AllocError> {
     let calls = Arc::try_clone(calls)?;
     let subsystem: BoxedSubsystem = Box::new(alloc, Pipe { ended, calls })?;
     Ok(Body::Bridge(Bridge::new(subsystem)))

@@ -5,7 +5,9 @@ ghost use Rattle.otp_run.specs.Schedulers.{out};
 
 use otp_bridge::BoxedSubsystem;
 use otp_job::{Body, BoxedJob, Process, TableNo};
-use otp_run::{GatherFault, LiveTotal, RunNaming, RunQueue, Scheduler, gather, is_all};
+use otp_run::{
+    GatherFault, LiveTotal, RunNaming, RunQueue, SHARE_LIMIT, Scheduler, Share, gather, is_all,
+};
 use std::alloc::Global;
 use std::marker::Brand;
 use std::process::Abort;
@@ -24,16 +26,24 @@ fn numbered(number: u64) -> AnyProcess {
     Process::new(number, 0, 0, Body::Sup(TableNo::new(0)))
 }
 
+// Puts a process. Under a refused growth it comes back whole, nothing is counted, and it can be put again.
+fn put_one<N: RunNaming, R: Abort>(rt: &R, scheduler: &mut AnyScheduler<N>, number: u64)
+    ensures { out scheduler.new ≡ out scheduler.old }
+{
+    let before = scheduler.share();
+    if let Err(process) = scheduler.put(numbered(number)) {
+        assert_eq!(rt; process.number(), number);
+        assert_eq!(rt; scheduler.share(), before);
+        if let Err(_) = scheduler.put(process) {
+            panic!(rt; "there is memory now");
+        }
+    }
+    assert_eq!(rt; scheduler.share().begun, before.begun + 1);
+}
+
 fn put_all<N: RunNaming, R: Abort>(rt: &R, scheduler: &mut AnyScheduler<N>, first: u64, end: u64) {
     for number in first..end {
-        // Under a refused growth the process comes back whole, nothing is counted, and it can be put again.
-        let before = scheduler.share();
-        if let Err(process) = scheduler.put(numbered(number)) {
-            assert_eq!(rt; process.number(), number);
-            assert_eq!(rt; scheduler.share(), before);
-            assert!(rt; scheduler.put(process).is_ok());
-        }
-        assert_eq!(rt; scheduler.share().begun, before.begun + 1);
+        put_one(rt, scheduler, number);
     }
 }
 
@@ -44,7 +54,7 @@ fn take_all<N: RunNaming>(
 ) -> (AnyScheduler<N>, Vec<AnyProcess>, bool) {
     let mut nothing = 0;
     for _ in 0..100_000_000_u64 {
-        if nothing == 100 {
+        if nothing >= 100 {
             break;
         }
         match scheduler.next() {
@@ -71,7 +81,10 @@ fn two_threads<N: RunNaming + Send, R: Threads + Abort + Sync>(
     let second = schedulers.pop().ok_or("two schedulers")?;
     let mut first = schedulers.pop().ok_or("two schedulers")?;
     put_all(rt, &mut first, 0, MANY);
-    let (mine, others) = (Vec::with_capacity(alloc, 2_000)?, Vec::with_capacity(alloc, 2_000)?);
+    let (mine, others) = (
+        Vec::with_capacity(alloc, 2_000)?,
+        Vec::with_capacity(alloc, 2_000)?,
+    );
     let (one, two) = thread::join(
         rt,
         move || take_all(first, mine),
@@ -98,4 +111,134 @@ fn two_threads<N: RunNaming + Send, R: Threads + Abort + Sync>(
     }
     assert!(rt; seen.iter().all(|&once| once));
     Ok(())
+}
+
+#[test]
+fn two_threads_take_each_process_once(rt: HostRuntime) -> Result<(), Fail> {
+    let alloc = rt.alloc();
+    let queue = RunQueue::open(alloc, 2)?;
+    two_threads::<Brand, _>(&rt, alloc, queue)
+}
+
+// Which processes come, in which order, and what is counted.
+fn order_of_thefts<N: RunNaming, R: Abort>(
+    rt: &R,
+    alloc: Global,
+    queue: RunQueue<BoxedJob, BoxedSubsystem>,
+) -> Result<(), Fail>
+    requires { AllAt (λ k id. id ≡ N.deque k) queue }
+{
+    let mut schedulers = queue.named::<N>(alloc)?;
+    assert_eq!(rt; schedulers.len(), 4);
+    // Scheduler 2 takes its own first, then steals of 3, 0 and 1.
+    for index in 0..schedulers.len() {
+        assert_eq!(rt;
+            (schedulers[index].index(), schedulers[index].count()),
+            (index, 4)
+        );
+        let first = index as u64 * 10;
+        put_all(rt, &mut schedulers[index], first, first + 2);
+    }
+    for wanted in [20, 21, 30, 31, 0, 1, 10, 11] {
+        let found = schedulers[2].next();
+        assert_eq!(rt; found.map(|process| process.number()), Some(wanted));
+    }
+    assert!(rt; schedulers[2].next().is_none());
+    assert!(rt; is_all(schedulers.as_slice()));
+    Ok(())
+}
+
+#[test]
+fn next_tries_the_others_in_rising_order(rt: HostRuntime) -> Result<(), Fail> {
+    let alloc = rt.alloc();
+    let queue = RunQueue::open(alloc, 4)?;
+    order_of_thefts::<Brand, _>(&rt, alloc, queue)
+}
+
+// Gives a process back. Under a refused growth it comes back whole, is still out, and can be given back again.
+fn give_back<N: RunNaming, R: Abort>(rt: &R, scheduler: &mut AnyScheduler<N>, process: AnyProcess)
+    requires { 0 < out scheduler.old }
+{
+    let (number, before) = (process.number(), scheduler.share());
+    if let Err(process) = scheduler.give_back(process) {
+        assert_eq!(rt; process.number(), number);
+        assert_eq!(rt; scheduler.share(), before);
+        assert!(rt; scheduler.give_back(process).is_ok());
+    }
+    assert_eq!(rt; scheduler.share(), before);
+}
+
+// Every other time the deque grows in a `give_back`: one is out while it is full.
+fn grow<N: RunNaming, R: Abort>(
+    rt: &R,
+    alloc: Global,
+    queue: RunQueue<BoxedJob, BoxedSubsystem>,
+) -> Result<(), Fail>
+    requires { AllAt (λ k id. id ≡ N.deque k) queue }
+{
+    let mut schedulers = queue.named::<N>(alloc)?;
+    let mut only = schedulers.pop().ok_or("one scheduler")?;
+    for round in 0..150 {
+        put_one(rt, &mut only, 2 * round);
+        if let Some(process) = only.next() {
+            put_one(rt, &mut only, 2 * round + 1);
+            give_back(rt, &mut only, process);
+        }
+    }
+    schedulers.push(only)?;
+    let Ok(total) = gather(alloc, schedulers) else {
+        return Err(Fail::from("no memory"));
+    };
+    assert_eq!(rt; (total.live, total.left.len()), (300, 300));
+    Ok(())
+}
+
+#[test]
+fn nothing_is_lost_where_growth_is_refused(rt: HostRuntime) -> Result<(), Fail> {
+    let alloc = rt.alloc();
+    let queue = RunQueue::open(alloc, 1)?;
+    grow::<Brand, _>(&rt, alloc, queue)
+}
+
+// A process that was found ends, and a scheduler that is away is missed.
+fn end_and_gather<N: RunNaming, R: Abort>(
+    rt: &R,
+    alloc: Global,
+    queue: RunQueue<BoxedJob, BoxedSubsystem>,
+) -> Result<(), Fail>
+    requires { AllAt (λ k id. id ≡ N.deque k) queue }
+{
+    let mut schedulers = queue.named::<N>(alloc)?;
+    let away = schedulers.pop().ok_or("two schedulers")?;
+    let mut first = schedulers.pop().ok_or("two schedulers")?;
+    put_all(rt, &mut first, 0, 2);
+    assert!(rt; first.share().ended < SHARE_LIMIT);
+    let Some(mut process) = first.next() else {
+        panic!(rt; "two were put");
+    };
+    assert!(rt; process.take_table().is_some());
+    match process.retire() {
+        Ok(spent) => first.finish(spent),
+        Err(_) => panic!(rt; "its table is gone"),
+    }
+    assert_eq!(rt; first.share(), Share { begun: 2, ended: 1 });
+    schedulers.push(first)?;
+    let mut schedulers = match gather(alloc, schedulers) {
+        Err(GatherFault::Missing(schedulers)) => schedulers,
+        _ => panic!(rt; "one is away"),
+    };
+    assert_eq!(rt; schedulers.len(), 1);
+    schedulers.push(away)?;
+    let Ok(total) = gather(alloc, schedulers) else {
+        return Err(Fail::from("no memory"));
+    };
+    assert_eq!(rt; (total.live, total.left.len()), (1, 1));
+    Ok(())
+}
+
+#[test]
+fn missing_scheduler_is_told_and_an_end_is_counted(rt: HostRuntime) -> Result<(), Fail> {
+    let alloc = rt.alloc();
+    let queue = RunQueue::open(alloc, 2)?;
+    end_and_gather::<Brand, _>(&rt, alloc, queue)
 }

@@ -3,22 +3,15 @@ ghost use Rattle.std.specs.Prelude.{◌≡◌, ◌≤◌, ◌<◌, ◌^◌};
 
 use otp_inbox::{InboxNaming, Sender, UnnamedInbox};
 use otp_reason::{Name, Note, Reason, Text};
-use otp_rules::{Call, CallFault, CountsNow, Item, Reply};
+use otp_rules::{Call, CallFault, Item, Reply};
 use otp_signals::{OpenWords, Signal, Viewer, Words, WordsNaming};
 use otp_spec::{ChildSpec, SupFlags};
-use otp_sup::{
-    Bodies, Client, Letter, MemoryPort, Office, SubmitCause, Sup, Table, TurnAnswer, TurnFault,
-};
+use otp_sup::{Bodies, Letter, MemoryPort, Office, Sup, Table, TurnAnswer, TurnFault};
 use std::alloc::Global;
 use std::marker::Brand;
 use std::process::Abort;
 use std::sync::Wait;
 use std::test::*;
-use std::thread;
-use std::thread::Threads;
-
-// How many calls each of two clients sends.
-const CALLS: u64 = 10_000;
 
 // What a child runs here: it can be told from others by its tag.
 trait Job: Send + Drop {
@@ -285,130 +278,4 @@ fn bodies_in<N: WordsNaming + InboxNaming, R: Wait + Abort>(
     assert_eq!(rt; one.sup.take_stray(rt).map(|body| body.tag()), Some(8));
     assert!(rt; one.sup.take_stray(rt).is_none());
     Ok(())
-}
-
-#[test]
-fn two_clients_and_a_hand(rt: HostRuntime) -> Result<(), Fail> {
-    let words = OpenWords::open(rt.alloc(), 256)?;
-    let inbox = UnnamedInbox::<Item, Letter<u64>>::open(rt.alloc())?;
-    clients_in::<Brand, _>(&rt, rt.alloc(), words, inbox)
-}
-
-// Calls from two threads, while a third takes turns of the supervisor. Each call is answered.
-fn clients_in<N: WordsNaming + InboxNaming + Send + Sync, R: Threads + Wait + Abort + Sync>(
-    rt: &R,
-    alloc: Global,
-    words: OpenWords,
-    inbox: UnnamedInbox<Item, Letter<u64>>,
-) -> Result<(), Fail>
-    requires words { words.words ≡ N.words }
-    requires slots { words.slots ≡ 256 }
-    requires inbox { inbox ≡ N.inbox 0 }
-{
-    let (words, mut owner) = words.named::<N>();
-    let (inbox, taker, sender) = inbox.named::<N>(0);
-    let callers = words.split(&mut owner, 0..0, 4 * CALLS)?;
-    let viewer = words.viewer(&mut owner);
-    let office = Office::open(alloc, SupFlags::default(), &[child()?], owner, 0)?;
-    let mut one = Driven {
-        viewer,
-        words,
-        sup: Sup::new(inbox, Table::new(office, taker, Bodies::new(alloc))),
-        sender,
-        port: MemoryPort::new(alloc),
-    };
-    assert_eq!(rt; one.turn(rt, 0, 0, Signal::None), Ok(TurnAnswer::Opened));
-    one.up(rt, 1);
-    assert_eq!(rt; one.turn(rt, 0, 0, Signal::None), Ok(TurnAnswer::Took));
-    let Driven {
-        words,
-        viewer: _,
-        sup,
-        sender,
-        port,
-    } = one;
-    assert!(rt; sender.parts() > 0);
-    let mut first = Client::new(callers, sender);
-    assert_eq!(rt; first.number(), sup.inbox().number());
-    let second = first
-        .split(&words, sup.inbox(), CALLS)
-        .ok_or("a client was refused")?;
-    let wrong = first.submit(rt, &words, sup.inbox(), Call::CountChildren, Some(3));
-    assert_eq!(rt;
-        wrong.err().map(|fault| (fault.cause, fault.body)),
-        Some((SubmitCause::WrongBody, Some(3)))
-    );
-    let (sup, words) = (&sup, &words);
-    let (sent, port) = thread::join(
-        rt,
-        move || {
-            thread::join(
-                rt,
-                move || calls(rt, alloc, sup, words, first),
-                move || calls(rt, alloc, sup, words, second),
-            )
-        },
-        move || serve(rt, sup, words, port),
-    );
-    assert_eq!(rt; port.processes.len(), 1);
-    for numbers in [sent.0?, sent.1?] {
-        assert_eq!(rt; numbers.len() as u64, CALLS);
-        for number in numbers {
-            assert!(rt; is_count(sup.reply(rt, alloc, number)?));
-        }
-    }
-    Ok(())
-}
-
-// What count_children answers while the child runs.
-fn is_count(reply: Option<Reply>) -> bool {
-    let counts = CountsNow {
-        specs: 1,
-        active: 1,
-        supervisors: 0,
-        workers: 1,
-    };
-    matches!(reply, Some(Reply::Count(now)) if now == counts)
-}
-
-// Sends its calls, and answers their numbers.
-fn calls<N: WordsNaming + InboxNaming, R: Wait>(
-    rt: &R,
-    alloc: Global,
-    sup: &Sup<N, u64>,
-    words: &Words<N>,
-    mut client: Client<N, u64>,
-) -> Result<Vec<u64>, &'static str> {
-    let mut numbers = Vec::new(alloc);
-    for _ in 0..CALLS {
-        if client.number() != sup.inbox().number() {
-            return Err("another inbox");
-        }
-        match client.submit(rt, words, sup.inbox(), Call::CountChildren, None) {
-            Ok(number) => numbers.push(number).map_err(|_| "no memory")?,
-            Err(_) => return Err("a call was refused"),
-        }
-    }
-    Ok(numbers)
-}
-
-// Takes turns until all calls were taken.
-fn serve<N: WordsNaming + InboxNaming, R: Wait + Abort>(
-    rt: &R,
-    sup: &Sup<N, u64>,
-    words: &Words<N>,
-    mut port: MemoryPort<u64>,
-) -> MemoryPort<u64> {
-    let mut taken = 0u64;
-    for _ in rt.forever() {
-        if taken >= 2 * CALLS {
-            break;
-        }
-        match sup.turn(rt, words, &mut port, 0, 0, Signal::None) {
-            Ok(TurnAnswer::Took) => taken += 1,
-            Ok(TurnAnswer::Quiet) => thread::yield_now(),
-            _ => assert!(rt; false),
-        }
-    }
-    port
 }

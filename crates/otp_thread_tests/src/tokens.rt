@@ -1,5 +1,5 @@
 // What threads carry is Send, and what they share is Sync, also as seen from a crate above.
-use otp_bridge::{Bridge, BoxedSubsystem};
+use otp_bridge::{BoxedSubsystem, Bridge};
 use otp_job::{After, Body, BoxedJob, EndNote, Process, Spent, TableNo, Ticket};
 use otp_run::{GatherFault, LiveTotal, OwnDeque, RunNaming, RunQueue, Scheduler, Share, Victim};
 

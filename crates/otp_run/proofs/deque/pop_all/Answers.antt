@@ -1,4 +1,4 @@
-use Rattle.std.proofs.Common.{rules, arith, ◌≡◌, refl, ◌∙◌}
+use Rattle.std.proofs.Common.{arith, refl, ◌∙◌}
 use Rattle.otp_run.proofs.Steps.{takes_left, finds}
 use Rattle.otp_run.proofs.Drains.{whole_still, drained, drains_more, length_now, none_yet}
 use Rattle.otp_run.proofs.deque.pop_all.Goals as goal

@@ -1,4 +1,4 @@
-use Rattle.std.proofs.Common.{◌≡◌, ℕ, ◌<◌, ◌∙◌, ap, sym, length, length-set, arith, subst}
+use Rattle.std.proofs.Common.{◌≡◌, ◌<◌, ◌∙◌, ap, sym, length, length-set, arith}
 use Rattle.otp_run.proofs.Gathers.{awaiting_less, absorbed_more, others_inside}
 use Rattle.otp_run.proofs.gathering.absorb_all.Goals as goal
 

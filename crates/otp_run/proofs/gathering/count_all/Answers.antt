@@ -1,4 +1,4 @@
-use Rattle.std.proofs.Common.{◌≡◌, ap, ◌<◌, length, arith}
+use Rattle.std.proofs.Common.{ap, length, arith}
 use Rattle.otp_run.proofs.Gathers.{counted_same, counted_more, all_counted}
 use Rattle.otp_run.proofs.gathering.count_all.Goals as goal
 

@@ -1,4 +1,4 @@
-use Rattle.std.proofs.Common.{◌≡◌, ◌<◌, length}
+use Rattle.std.proofs.Common.{◌≡◌, ◌<◌}
 use Rattle.otp_run.specs.Lists.{AllAt}
 use Rattle.otp_run.specs.Gathers.{IsCounted}
 use Rattle.otp_run.proofs.gathering.count_all.Given as goal

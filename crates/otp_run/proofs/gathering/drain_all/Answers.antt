@@ -1,5 +1,4 @@
-use Rattle.std.proofs.Common.{◌≡◌, ◌+◌, ◌≤◌, ◌∙◌, arith}
-use Rattle.otp_run.specs.Gathers.{put_count, taken_count}
+use Rattle.std.proofs.Common.{◌∙◌, arith}
 use Rattle.otp_run.proofs.Gathers.{others_counted, room_for_one, room_after, drained_more}
 use Rattle.otp_run.proofs.gathering.drain_all.Goals as goal
 

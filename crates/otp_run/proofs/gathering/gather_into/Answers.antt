@@ -1,4 +1,4 @@
-use Rattle.std.proofs.Common.{◌≡◌, ℕ, ◌+◌, ◌-◌, ◌≤◌, ◌<◌, ◌++◌, ◌∙◌, List, ap, sym, map, length, subst, arith}
+use Rattle.std.proofs.Common.{ℕ, ◌<◌, ◌++◌, ◌∙◌, List, ap, sym, map, length, subst, arith}
 use Rattle.std.proofs.lemmas.List.{length-map}
 use Rattle.otp_run.specs.Deques.{OwnState, VictimState}
 use Rattle.otp_run.specs.Lists.{AllAt, Each}

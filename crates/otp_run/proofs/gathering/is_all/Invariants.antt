@@ -1,4 +1,4 @@
-use Rattle.std.proofs.Common.{◌≡◌, ℕ, ◌<◌, length}
+use Rattle.std.proofs.Common.{◌≡◌, ◌<◌, length}
 use Rattle.otp_run.specs.Lists.{AllAt}
 use Rattle.otp_run.specs.Schedulers.{IsPlaced}
 use Rattle.otp_run.proofs.gathering.is_all.Given as goal

@@ -1,4 +1,4 @@
-use Rattle.std.proofs.Common.{◌≡◌, ◌+◌, ◌*◌, ◌≤◌, [], ◌∷◌, ap, length, arith, length-append}
+use Rattle.std.proofs.Common.{[], ◌∷◌, ap, length, arith, length-append}
 use Rattle.otp_run.proofs.Totals.{placed_rest, kept_more, homes_more, ways_more}
 use Rattle.otp_run.proofs.gathering.take_all_apart.Goals as goal
 

@@ -1,4 +1,4 @@
-use Rattle.std.proofs.Common.{◌≡◌, ◌+◌, ◌<◌, ap, length, arith}
+use Rattle.std.proofs.Common.{arith}
 use Rattle.otp_run.proofs.Gathers.{few_ways}
 use Rattle.otp_run.proofs.gathering.take_apart.Goals as goal
 

@@ -1,7 +1,7 @@
-use Rattle.std.proofs.Common.{◌≡◌, ℕ, ◌+◌, ◌<◌, ◌∙◌, ap, sym, refl, length, length-set, subst, arith}
-use Rattle.otp_run.specs.Opens.{HasLent, CompleteUpTo, none_yet, opened}
+use Rattle.std.proofs.Common.{◌≡◌, ℕ, ◌∙◌, ap, length, length-set, subst, arith}
+use Rattle.otp_run.specs.Opens.{CompleteUpTo, opened}
 use Rattle.otp_run.specs.Schedulers.{SchedulerState, IsPlaced}
-use Rattle.otp_run.proofs.Places.{get_at, each_at}
+use Rattle.otp_run.proofs.Places.{each_at}
 use Rattle.otp_run.proofs.Shares.{is_placed, one_complete, completed_more, next_lent, next_unused}
 use Rattle.otp_run.proofs.queue.complete_all.Goals as goal
 
@@ -14,7 +14,7 @@ complete-requires-clause-placed g c =
     let count : ℕ = length c.args.schedulers.now.items in
     let same : count ≡ c.len-count.result = omega arith in
     subst (λ n. IsPlaced (record c.index_mut.result.now { count = n })) same
-        (is_placed count c.loop-index.index c.index_mut.result.now (omega arith) c.requires.few (next_lent count c.loop-index.index c.loop-index.schedulers.items c.index_mut.result.now (omega arith) c.index_mut.ensures.value c.loop-index.invariant.1))
+    (is_placed count c.loop-index.index c.index_mut.result.now (omega arith) c.requires.few (next_lent count c.loop-index.index c.loop-index.schedulers.items c.index_mut.result.now (omega arith) c.index_mut.ensures.value c.loop-index.invariant.1))
 
 pub complete-requires-clause-unused : goal.complete-requires-clause-unused
 complete-requires-clause-unused g c =

@@ -1,4 +1,4 @@
-use Rattle.std.proofs.Common.{arith, ◌≡◌, ℕ, ◌+◌, ◌-◌, ◌<◌, ◌∙◌, ap, min, length, length-set}
+use Rattle.std.proofs.Common.{arith, ℕ, ◌+◌, ◌-◌, ◌<◌, ◌∙◌, ap, min, length, length-set}
 use Rattle.otp_run.specs.Deques.{fresh_victim}
 use Rattle.otp_run.proofs.Shares.{lent_more, one_unused, one_index, ways_more}
 use Rattle.otp_run.proofs.queue.lend_from_below.Goals as goal

@@ -1,9 +1,8 @@
-use Rattle.std.proofs.Common.{◌≡◌, ℕ, suc, ◌+◌, [], ◌∷◌, Some, length, arith, ap, sym, ◌∙◌, subst, add-zero, length-append}
-use Rattle.std.specs.Prelude.{slice_get, IfSome}
+use Rattle.std.proofs.Common.{◌≡◌, suc, ◌+◌, [], Some, length, arith, ap, sym, ◌∙◌, subst, add-zero, length-append}
+use Rattle.std.specs.Prelude.{slice_get}
 use Rattle.otp_run.specs.Lists.{AllAt}
 use Rattle.otp_run.specs.Opens.{unused}
 use Rattle.otp_run.specs.Rule.{all_parts}
-use Rattle.otp_run.specs.Schedulers.{SchedulerState}
 use Rattle.otp_run.proofs.Places.{push_at}
 use Rattle.otp_run.proofs.queue.unused_schedulers.Goals as goal
 

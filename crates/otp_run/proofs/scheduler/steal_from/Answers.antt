@@ -1,4 +1,4 @@
-use Rattle.std.proofs.Common.{ap, arith, ◌≡◌}
+use Rattle.std.proofs.Common.{arith}
 use Rattle.otp_run.proofs.Thefts.{tried, taken_from}
 use Rattle.otp_run.proofs.scheduler.steal_from.Goals as goal
 

@@ -1,4 +1,4 @@
-use Rattle.std.proofs.Common.{arith, ◌≡◌}
+use Rattle.std.proofs.Common.{arith}
 use Rattle.otp_run.proofs.Steps.{merges}
 use Rattle.otp_run.proofs.deque.OwnDeque.absorb.Goals as goal
 

@@ -1,4 +1,4 @@
-use Rattle.std.proofs.Common.{ap, refl, sym}
+use Rattle.std.proofs.Common.{ap, sym}
 use Rattle.crossbeam_deque.specs.Handles.{worker_view}
 use Rattle.otp_run.proofs.Drains.{of_one}
 use Rattle.otp_run.proofs.deque.OwnDeque.drain_into.Goals as goal

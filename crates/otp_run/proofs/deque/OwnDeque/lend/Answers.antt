@@ -1,4 +1,4 @@
-use Rattle.std.proofs.Common.{arith, ◌≡◌, ap}
+use Rattle.std.proofs.Common.{arith, ap}
 use Rattle.otp_run.proofs.Steps.{cuts}
 use Rattle.otp_run.proofs.deque.OwnDeque.lend.Goals as goal
 

@@ -1,4 +1,4 @@
-use Rattle.std.proofs.Common.{arith, ◌≡◌}
+use Rattle.std.proofs.Common.{arith}
 use Rattle.otp_run.proofs.Steps.{takes}
 use Rattle.otp_run.proofs.deque.OwnDeque.pop.Goals as goal
 

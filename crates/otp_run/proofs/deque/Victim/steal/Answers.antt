@@ -1,4 +1,4 @@
-use Rattle.std.proofs.Common.{ap, arith, ◌≡◌}
+use Rattle.std.proofs.Common.{ap, arith}
 use Rattle.otp_run.specs.declared.rule.View.{View}
 use Rattle.otp_run.proofs.Steps.{takes}
 use Rattle.otp_run.proofs.deque.Victim.steal.Goals as goal

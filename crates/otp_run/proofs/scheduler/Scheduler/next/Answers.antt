@@ -1,4 +1,3 @@
-use Rattle.std.proofs.Common.{rules}
 use Rattle.otp_run.proofs.Ledger.{theft_keeps, theft_out, miss_keeps, miss_out}
 use Rattle.otp_run.proofs.scheduler.Scheduler.next.Goals as goal
 
