@@ -73,10 +73,9 @@ still history longer e more next few room =
 
 -- what began first began first, whatever came after it
 pub begins-then : (k : Kind) (a b c : Played) (y z : List ℕ) → Begins k a b → Tells b c y z → Begins k a c
-begins-then k a b c y z (e, rest, ab, is) (more, bc, told) =
-    (
-      e,
-      rest ++ more,
-      ap (λ (p : Played). p.history) bc ∙ ap (λ (h : List Event). h ++ more) ab ∙ append_assoc a.history (e ∷ rest) more,
-      is,
-    )
+begins-then k a b c y z (e, rest, ab, is) (more, bc, told) = (
+  e,
+  rest ++ more,
+  ap (λ (p : Played). p.history) bc ∙ ap (λ (h : List Event). h ++ more) ab ∙ append_assoc a.history (e ∷ rest) more,
+  is,
+)

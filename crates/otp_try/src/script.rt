@@ -1,6 +1,6 @@
 //! Lines of a script.
 
-use crate::words::{next_word, strip_end};
+use crate::words::{next_word, strip_end, strip_start};
 use otp_reason::{Name, Reason, Text};
 use otp_rules::Call;
 use otp_text::{LONGEST_LINE, Line, read_line, read_name, read_number, read_reason};
@@ -171,7 +171,7 @@ fn read_action(line: &[u8]) -> Result<Action, ScriptFault> {
         b"fail" => read_fail(rest),
         b"ignore" => read_ignore(rest),
         b"hang" => read_hang(rest),
-        _ => read_plain(line),
+        _ => read_plain(strip_start(line)),
     }
 }
 

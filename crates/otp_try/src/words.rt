@@ -39,6 +39,14 @@ pub(crate) fn strip_end(line: &[u8]) -> &[u8] {
     &line[..end_of_words(line)]
 }
 
+/// The line from its first word on.
+pub(crate) fn strip_start(line: &[u8]) -> &[u8] {
+    match first_letter(line) {
+        None => line,
+        Some(first) => &line[first..],
+    }
+}
+
 /// The first word, which has at least one byte, and what stands after it; `None` where there is none.
 pub(crate) fn next_word(line: &[u8]) -> Option<(&[u8], &[u8])>
     ensures { IfSome result (λ found. 0 < length found.0.now) }
