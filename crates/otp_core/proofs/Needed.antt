@@ -30,7 +30,7 @@ use Rattle.otp_rules.specs.declared.call.Reply.{Reply}
 use Rattle.otp_rules.specs.declared.call.Reply.TheVariants as reply
 use Rattle.otp_rules.specs.declared.event.Item.TheVariants as item
 use Rattle.otp_rules.specs.declared.event.Waiting.TheVariants as waiting
-use Rattle.otp_rules.specs.Calls.{add_child, at_child, delete_child_at, delete_child_in, get_childspec, get_shared, is_named, new_row, refuse, restart_child_at, restart_child_in, start_child, start_dynamic, stop_process, take_call, tell_spec, terminate_child_at, terminate_child_in, terminate_process, terminate_process_at, terminate_process_in}
+use Rattle.otp_rules.specs.Calls.{add_child, call_child, call_at, get_childspec, get_shared, is_named, new_row, refuse, start_child, start_dynamic, stop_process, take_call, terminate_process}
 use Rattle.otp_rules.specs.Counts.{counts_of, which_of}
 use Rattle.otp_rules.specs.Starts.{failed_after, up_after}
 use Rattle.otp_rules.specs.Step.{ask, due_of, killed, late_by, late_number, open_rows, open_with, opening_specs, rows_from, tick}
@@ -340,11 +340,10 @@ add_child_starts c id spec o h =
 
 -- a child that is there is started at once, where nothing is awaited
 restarted_starts : (c : ℕ) (id : Name) (o : Outcome) → work_starts (restart_child_in c id Undefined o) ≡ not (awaits o.state.rows)
-unfolding restart_child_in work_starts
+unfolding work_starts
 restarted_starts c id o = and_true (not (awaits o.state.rows))
 
 again_none : (c : ℕ) (id : Name) (state : RowState) (o : Outcome) → o.state.follows ≡ None → is_undefined state ≡ false → work_starts (restart_child_in c id state o) ≡ false
-unfolding restart_child_in
 again_none c id Undefined o h u = absurd (false≢true (sym u))
 again_none c id (Starting _ _) o h u = answered_starts_none c (reply.Refused fault.Running) o h
 again_none c id (Up _) o h u = answered_starts_none c (reply.Refused fault.Running) o h
@@ -370,7 +369,6 @@ at_row-none test missing f o m h each =
     ]
 
 delete_none : (c place : ℕ) (state : RowState) (o : Outcome) → o.state.follows ≡ None → work_starts (delete_child_in c place state o) ≡ false
-unfolding delete_child_in
 delete_none c place Undefined o h = answered_starts_none c reply.Ok (with_rows (remove o.state.rows place) o) h
 delete_none c place (Starting _ _) o h = answered_starts_none c (reply.Refused fault.Running) o h
 delete_none c place (Up _) o h = answered_starts_none c (reply.Refused fault.Running) o h
@@ -383,7 +381,6 @@ unfolding stop_process
 stop_process_none c p o = no_due (with_work (p ∷ []) [] (Some (after.Stopped c)) o) refl
 
 terminate_child_none : (c place : ℕ) (row : Row) (state : RowState) (o : Outcome) → o.state.follows ≡ None → work_starts (terminate_child_in c place row state o) ≡ false
-unfolding terminate_child_in
 terminate_child_none c place row Undefined o h = answered_starts_none c reply.Ok o h
 terminate_child_none c place row (Starting p _) o h = stop_process_none c p o
 terminate_child_none c place row (Up p) o h = stop_process_none c p o
@@ -392,7 +389,6 @@ terminate_child_none c place row (Killed p) o h = stop_process_none c p o
 terminate_child_none c place row (Restarting _) o h = answered_starts_none c reply.Ok (set_row place row Undefined o) h
 
 terminate_process_none : (c place : ℕ) (state : RowState) (o : Outcome) → o.state.follows ≡ None → work_starts (terminate_process_in c place state o) ≡ false
-unfolding terminate_process_in
 terminate_process_none c place Undefined o h = answered_starts_none c (reply.Refused fault.NotFound) o h
 terminate_process_none c place (Starting p _) o h = stop_process_none c p o
 terminate_process_none c place (Up p) o h = stop_process_none c p o
@@ -410,7 +406,7 @@ get_shared_none c id (Some spec) o h =
     ]
 
 at_child_none : (c : ℕ) (id : Name) (f : ℕ → Row → Outcome → Outcome) (o : Outcome) → o.state.follows ≡ None → ((place : ℕ) (row : Row) → work_starts (f place row o) ≡ false) → work_starts (at_child c id f o) ≡ false
-unfolding at_child
+unfolding call_child
 at_child_none c id f o h each =
     elim (is_simple o.state.flags.strategy) as (λ b. work_starts (if b then refuse c fault.SimpleOneForOne o else at_row (has_id id) (refuse c fault.NotFound o) f o) ≡ false) [
       | true ↦ answered_starts_none c (reply.Refused fault.SimpleOneForOne) o h
@@ -418,15 +414,15 @@ at_child_none c id f o h each =
     ]
 
 pub delete_starts_none : (c : ℕ) (id : Name) (o : Outcome) → o.state.follows ≡ None → work_starts (take_call c (call.DeleteChild id) o) ≡ false
-unfolding take_call delete_child_at
+unfolding take_call call_at
 delete_starts_none c id o h = at_child_none c id (delete_child_at c) o h (λ place row. delete_none c place row.state o h)
 
 pub terminate_child_starts_none : (c : ℕ) (id : Name) (o : Outcome) → o.state.follows ≡ None → work_starts (take_call c (call.TerminateChild id) o) ≡ false
-unfolding take_call terminate_child_at
+unfolding take_call call_at
 terminate_child_starts_none c id o h = at_child_none c id (terminate_child_at c) o h (λ place row. terminate_child_none c place row row.state o h)
 
 pub terminate_process_starts_none : (c p : ℕ) (o : Outcome) → o.state.follows ≡ None → work_starts (take_call c (call.TerminateProcess p) o) ≡ false
-unfolding take_call terminate_process terminate_process_at
+unfolding take_call terminate_process call_at
 terminate_process_starts_none c p o h =
     elim (is_simple o.state.flags.strategy) as (λ b. work_starts (if b then at_row (row_has (has_number p)) (refuse c fault.NotFound o) (terminate_process_at c) o else refuse c fault.NotFound o) ≡ false) [
       | true ↦ at_row-none (row_has (has_number p)) (refuse c fault.NotFound o) (terminate_process_at c) o (answered_starts_none c (reply.Refused fault.NotFound) o h) (idle_starts_none o h) (λ place row. terminate_process_none c place row.state o h)

@@ -2,7 +2,7 @@
 
 ghost use Rattle.std.specs.Prelude.{◌≡◌, ◌+◌, ◌<◌, ◌≤◌, [], Some, length, map, slice_get, vec_len, vec_capacity};
 ghost use Rattle.otp_spec.specs.Lawful.{first_fault};
-ghost use Rattle.otp_rules.specs.Calls.{already, is_named};
+ghost use Rattle.otp_rules.specs.Calls.{is_named};
 
 use crate::lists::{count_active, count_supervisors, count_workers, list_lines};
 use crate::machine::Machine;
@@ -15,7 +15,7 @@ use std::mem;
 
 impl Machine {
     ghost use Rattle.otp_core.specs.Seen.{outcome_of, CanAdvance, CanDecide};
-    ghost use Rattle.otp_rules.specs.Calls.{add_child, at_child, delete_child_at, delete_child_in, get_childspec, refuse, restart_child_at, restart_child_in, start_child, start_dynamic, start_lawful, stop_process, take_call, terminate_child_at, terminate_child_in, terminate_process, terminate_process_in};
+    ghost use Rattle.otp_rules.specs.Calls.{add_child, call_child, call_at, get_childspec, refuse, start_child, start_dynamic, start_lawful, stop_process, take_call, terminate_process};
     ghost use Rattle.otp_rules.specs.Counts.{counts_of, which_of};
     ghost use Rattle.otp_rules.specs.State.{answer};
     ghost use Rattle.otp_rules.specs.declared.call.Reply.TheVariants as reply;
@@ -52,7 +52,7 @@ impl Machine {
         }
     }
 
-    #[tactic(auto, unfolding(otp_rules::specs::Calls::start_lawful, otp_rules::specs::Calls::already_at, otp_rules::specs::Places::at_row, otp_rules::specs::Places::at_found, otp_rules::specs::Places::at_place))]
+    #[tactic(auto, unfolding(otp_rules::specs::Calls::start_lawful, otp_rules::specs::Calls::call_at, otp_rules::specs::Places::at_row, otp_rules::specs::Places::at_found, otp_rules::specs::Places::at_place))]
     fn start_lawful(&mut self, call: u64, spec: ChildSpec)
         requires { CanDecide self.old }
         ensures outcome { outcome_of self.new ≡ start_lawful call spec (outcome_of self.old) }
@@ -104,7 +104,7 @@ impl Machine {
         }
     }
 
-    #[tactic(auto, unfolding(otp_rules::specs::Calls::restart_child_in))]
+    #[tactic(auto, unfolding())]
     fn restart_child_in(&mut self, call: u64, id: Name, state: RowState)
         requires { CanDecide self.old }
         ensures outcome { outcome_of self.new ≡ restart_child_in call id state (outcome_of self.old) }
@@ -125,7 +125,7 @@ impl Machine {
         }
     }
 
-    #[tactic(auto, unfolding(otp_rules::specs::Calls::at_child, otp_rules::specs::Calls::restart_child_at, otp_rules::specs::Places::at_row, otp_rules::specs::Places::at_found, otp_rules::specs::Places::at_place))]
+    #[tactic(auto, unfolding(otp_rules::specs::Calls::call_child, otp_rules::specs::Calls::call_at, otp_rules::specs::Places::at_row, otp_rules::specs::Places::at_found, otp_rules::specs::Places::at_place))]
     fn restart_child(&mut self, call: u64, id: Name)
         requires { CanDecide self.old }
         ensures outcome { outcome_of self.new ≡ at_child call id (restart_child_at call id) (outcome_of self.old) }
@@ -144,7 +144,7 @@ impl Machine {
         }
     }
 
-    #[tactic(auto, unfolding(otp_rules::specs::Calls::delete_child_in))]
+    #[tactic(auto, unfolding())]
     fn delete_child_in(&mut self, call: u64, place: usize, state: RowState)
         requires room { CanDecide self.old }
         requires place { place < length self.old.rows.rows }
@@ -161,7 +161,7 @@ impl Machine {
         }
     }
 
-    #[tactic(auto, unfolding(otp_rules::specs::Calls::at_child, otp_rules::specs::Calls::delete_child_at, otp_rules::specs::Places::at_row, otp_rules::specs::Places::at_found, otp_rules::specs::Places::at_place))]
+    #[tactic(auto, unfolding(otp_rules::specs::Calls::call_child, otp_rules::specs::Calls::call_at, otp_rules::specs::Places::at_row, otp_rules::specs::Places::at_found, otp_rules::specs::Places::at_place))]
     fn delete_child(&mut self, call: u64, id: Name)
         requires { CanDecide self.old }
         ensures outcome { outcome_of self.new ≡ at_child call id (delete_child_at call) (outcome_of self.old) }
@@ -193,7 +193,7 @@ impl Machine {
         self.follows = Some(After::Stopped(call));
     }
 
-    #[tactic(auto, unfolding(otp_rules::specs::Calls::terminate_child_at, otp_rules::specs::Calls::terminate_child_in))]
+    #[tactic(auto, unfolding(otp_rules::specs::Calls::call_at))]
     fn terminate_child_at(&mut self, call: u64, place: usize)
         requires room { CanDecide self.old }
         requires place { place < length self.old.rows.rows }
@@ -214,7 +214,7 @@ impl Machine {
         }
     }
 
-    #[tactic(auto, unfolding(otp_rules::specs::Calls::at_child, otp_rules::specs::Places::at_row, otp_rules::specs::Places::at_found, otp_rules::specs::Places::at_place))]
+    #[tactic(auto, unfolding(otp_rules::specs::Calls::call_child, otp_rules::specs::Places::at_row, otp_rules::specs::Places::at_found, otp_rules::specs::Places::at_place))]
     fn terminate_child(&mut self, call: u64, id: Name)
         requires { CanDecide self.old }
         ensures outcome { outcome_of self.new ≡ at_child call id (terminate_child_at call) (outcome_of self.old) }
@@ -230,7 +230,7 @@ impl Machine {
         }
     }
 
-    #[tactic(auto, unfolding(otp_rules::specs::Calls::terminate_process_in))]
+    #[tactic(auto, unfolding())]
     fn terminate_process_in(&mut self, call: u64, place: usize, state: RowState)
         requires room { CanDecide self.old }
         requires place { place < length self.old.rows.rows }
@@ -251,7 +251,7 @@ impl Machine {
     }
 
     /// terminate_child by number.
-    #[tactic(auto, unfolding(otp_rules::specs::Calls::terminate_process, otp_rules::specs::Calls::terminate_process_at, otp_rules::specs::Places::at_row, otp_rules::specs::Places::at_found, otp_rules::specs::Places::at_place))]
+    #[tactic(auto, unfolding(otp_rules::specs::Calls::terminate_process, otp_rules::specs::Calls::call_at, otp_rules::specs::Places::at_row, otp_rules::specs::Places::at_found, otp_rules::specs::Places::at_place))]
     fn terminate_process(&mut self, call: u64, number: u64)
         requires { CanDecide self.old }
         ensures outcome { outcome_of self.new ≡ terminate_process call number (outcome_of self.old) }

@@ -30,12 +30,8 @@ has_come now (Some deadline) = nat_le deadline now
 
 -- the deadline of a child that was told to shut down, if it has one
 abbrev pub deadline_of : RowState → Option ℕ
-deadline_of Undefined = None
-deadline_of (Starting _ _) = None
-deadline_of (Up _) = None
 deadline_of (Asked _ deadline) = deadline
-deadline_of (Killed _) = None
-deadline_of (Restarting _) = None
+deadline_of _ = None
 
 abbrev pub earlier : Option ℕ → Option ℕ → Option ℕ
 earlier None other = other
