@@ -138,8 +138,6 @@ impl Machine {
         let Some(place) = self.rows.find_retry(kept) else {
             return;
         };
-        if let RowState::Restarting(_) = self.rows.get(place).state {
-            self.restart(place, kept);
-        }
+        self.restart(place, kept);
     }
 }

@@ -23,7 +23,8 @@ impl Machine {
     ghost use Rattle.otp_reason.specs.declared.reason.Reason.{Reason};
     ghost use Rattle.otp_reason.specs.declared.name.Name.{Name};
     ghost use Rattle.otp_spec.specs.declared.child.ChildSpec.{ChildSpec};
-    ghost use Rattle.otp_rules.specs.Calls.{add_child, call_child, call_at, start_child, start_dynamic, start_lawful, take_call};
+    ghost use Rattle.otp_rules.specs.Calls.{add_child, call_child, start_child, start_dynamic, start_lawful, take_call};
+    ghost use Rattle.otp_rules.specs.declared.call.Call.TheVariants as asked;
     ghost use Rattle.otp_rules.specs.Deaths.{death, restart, retry, take_exit};
     ghost use Rattle.otp_rules.specs.Places.{end_row, set_row};
     ghost use Rattle.otp_rules.specs.Starts.{take_failed, take_ignored, take_up};
@@ -190,11 +191,7 @@ impl Machine {
         let Some(place) = self.rows.find_retry(kept) else {
             return self.goes_on(resumed);
         };
-        if let RowState::Restarting(_) = self.rows.get(place).state {
-            self.restart_starts(place, now, resumed)
-        } else {
-            self.goes_on(resumed)
-        }
+        self.restart_starts(place, now, resumed)
     }
 
     /// A child that is added.
@@ -207,7 +204,7 @@ impl Machine {
         !self.rows.is_full() && !self.rows.has_awaited()
     }
 
-    #[tactic(auto, using(crate::proofs::Needed::answered_starts_none), unfolding(otp_rules::specs::Calls::start_lawful, otp_rules::specs::Calls::call_at, otp_rules::specs::Places::at_row, otp_rules::specs::Places::at_found, otp_rules::specs::Places::at_place))]
+    #[tactic(auto, using(crate::proofs::Needed::present_starts_none), unfolding(otp_rules::specs::Calls::start_lawful, otp_rules::specs::Places::at_row, otp_rules::specs::Places::at_found, otp_rules::specs::Places::at_place))]
     fn lawful_starts(&self, spec: ChildSpec) -> bool
         requires { self.now.follows ≡ None }
         ensures { (call now : ℕ) (resumed : Bool) → result ≡ work_starts (start_lawful call spec (begun self.now now resumed)) }
@@ -251,26 +248,18 @@ impl Machine {
         }
     }
 
-    #[tactic(auto, using(crate::proofs::Needed::again_starts))]
-    fn again_in_starts(&self, state: RowState) -> bool
-        requires { self.now.follows ≡ None }
-        ensures { (call now : ℕ) (id : Name) (resumed : Bool) → result ≡ work_starts (restart_child_in call id state (begun self.now now resumed)) }
-    {
-        state.is_undefined() && !self.rows.has_awaited()
-    }
-
     /// restart_child.
-    #[tactic(auto, using(crate::proofs::Needed::answered_starts_none), unfolding(otp_rules::specs::Calls::call_child, otp_rules::specs::Calls::call_at, otp_rules::specs::Places::at_row, otp_rules::specs::Places::at_found, otp_rules::specs::Places::at_place))]
+    #[tactic(auto, using(crate::proofs::Needed::answered_starts_none, crate::proofs::Needed::again_starts), unfolding(otp_rules::specs::Calls::call_child, otp_rules::specs::Places::at_row, otp_rules::specs::Places::at_found, otp_rules::specs::Places::at_place))]
     fn again_starts(&self, id: Name) -> bool
         requires { self.now.follows ≡ None }
-        ensures { (call now : ℕ) (resumed : Bool) → result ≡ work_starts (at_child call id (restart_child_at call id) (begun self.now now resumed)) }
+        ensures { (call now : ℕ) (resumed : Bool) → result ≡ work_starts (call_child call id (asked.RestartChild id) (begun self.now now resumed)) }
     {
         if is_simple(self.strategy) {
             return false;
         }
         match self.rows.find_id(&id) {
             None => false,
-            Some(place) => self.again_in_starts(self.rows.get(place).state),
+            Some(place) => self.rows.get(place).state.is_undefined() && !self.rows.has_awaited(),
         }
     }
 
