@@ -1,5 +1,5 @@
 -- Worked rows of the rules, which compute.
-use Rattle.std.specs.Prelude.{◌≡◌, ℕ, List, [], ◌∷◌, ◌++◌, Option, None, Some, codes, refl, true, false, Bool}
+use Rattle.std.specs.Prelude.{◌≡◌, ℕ, List, [], ◌∷◌, Option, None, Some, codes, refl, true, false, Bool}
 use Rattle.otp_reason.specs.declared.name.Name.{Name}
 use Rattle.otp_reason.specs.declared.note.Note.TheVariants as note
 use Rattle.otp_reason.specs.Names.{name_of}
@@ -11,20 +11,18 @@ use Rattle.otp_spec.specs.declared.flags.SupFlags.{SupFlags}
 use Rattle.otp_spec.specs.declared.flags.Strategy.{Strategy}
 use Rattle.otp_spec.specs.declared.flags.Strategy.TheVariants.{OneForOne, OneForAll, RestForOne, SimpleOneForOne}
 use Rattle.otp_spec.specs.declared.flags.AutoShutdown.{AutoShutdown}
-use Rattle.otp_spec.specs.declared.flags.AutoShutdown.TheVariants.{Never, AnySignificant, AllSignificant}
+use Rattle.otp_spec.specs.declared.flags.AutoShutdown.TheVariants.{Never, AnySignificant}
 use Rattle.otp_spec.specs.declared.child.Restart.{Restart}
-use Rattle.otp_spec.specs.declared.child.Restart.TheVariants.{Permanent, Transient, Temporary}
+use Rattle.otp_spec.specs.declared.child.Restart.TheVariants.{Permanent, Transient}
 use Rattle.otp_spec.specs.declared.child.Shutdown.{Shutdown}
-use Rattle.otp_spec.specs.declared.child.Shutdown.TheVariants.{Milliseconds, BrutalKill, Infinity}
+use Rattle.otp_spec.specs.declared.child.Shutdown.TheVariants.{Milliseconds}
 use Rattle.otp_spec.specs.declared.child.ChildType.TheVariants.{Worker}
 use Rattle.otp_spec.specs.declared.child.Modules.TheVariants.{One}
 use Rattle.otp_spec.specs.Lawful.{first_fault}
 use Rattle.otp_rules.specs.declared.call.Call.{Call}
 use Rattle.otp_rules.specs.declared.call.Call.TheVariants as call
 use Rattle.otp_rules.specs.declared.call.CallFault.TheVariants as fault
-use Rattle.otp_rules.specs.declared.call.Reply.{Reply}
 use Rattle.otp_rules.specs.declared.call.Reply.TheVariants as reply
-use Rattle.otp_rules.specs.declared.call.Answered.{Answered}
 use Rattle.otp_rules.specs.declared.ending.Cause.{Cause}
 use Rattle.otp_rules.specs.declared.ending.Cause.TheVariants as cause
 use Rattle.otp_rules.specs.declared.event.Event.{Event}
@@ -33,7 +31,7 @@ use Rattle.otp_rules.specs.declared.event.Kind.{Kind}
 use Rattle.otp_rules.specs.declared.event.Kind.TheVariants as kind
 use Rattle.otp_rules.specs.declared.event.Effect.{Effect}
 use Rattle.otp_rules.specs.declared.event.Effect.TheVariants as effect
-use Rattle.otp_rules.specs.State.{Outcome, State, answer}
+use Rattle.otp_rules.specs.State.{answer}
 use Rattle.otp_rules.specs.Run.{empty_state, state_after, orders_of}
 use Rattle.otp_rules.specs.Places.{at_place, at_found, at_row, at_number, end_row, end_process}
 use Rattle.otp_rules.specs.Stops.{tell_row, tell, use_exit, stop_each, terminate_ordered, terminate_together, terminate}

@@ -1,5 +1,5 @@
 -- What which_children and count_children say (supervisor, which_children/1 and count_children/1).
-use Rattle.std.specs.Prelude.{ℕ, Bool, true, false, List, Option, Some, None, map, length, count_by, if◌then◌else◌}
+use Rattle.std.specs.Prelude.{Bool, true, false, List, map, length, count_by, if◌then◌else◌}
 use Rattle.otp_spec.specs.declared.child.ChildType.{ChildType}
 use Rattle.otp_spec.specs.declared.child.ChildType.TheVariants.{Worker, Supervisor}
 use Rattle.otp_table.specs.declared.row.Row.{Row}

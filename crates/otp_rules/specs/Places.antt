@@ -1,7 +1,7 @@
 -- Changes of the state at one child's row.
-use Rattle.std.specs.Prelude.{ℕ, Bool, List, Option, Some, None, slice_get, slice_set, remove, position, is_none, ◌||◌, if◌then◌else◌}
+use Rattle.std.specs.Prelude.{ℕ, Bool, Option, Some, None, slice_get, slice_set, remove, position, is_none, ◌||◌, if◌then◌else◌}
 use Rattle.otp_spec.specs.declared.child.Restart.{Restart}
-use Rattle.otp_spec.specs.declared.child.Restart.TheVariants.{Permanent, Transient, Temporary}
+use Rattle.otp_spec.specs.declared.child.Restart.TheVariants.{Temporary}
 use Rattle.std.specs.Prelude.{true, false}
 use Rattle.otp_table.specs.declared.row.Row.{Row}
 use Rattle.otp_table.specs.declared.row.RowState.{RowState}

@@ -1,5 +1,5 @@
 -- Which children a restart affects (Supervisor Behaviour, Restart Strategy, and Child Specification, restart).
-use Rattle.std.specs.Prelude.{ℕ, ◌+◌, Bool, true, false, not, ◌&&◌, List, ◌++◌, Option, Some, None, map, filter, length, slice_range}
+use Rattle.std.specs.Prelude.{ℕ, ◌+◌, Bool, true, false, not, ◌&&◌, List, ◌++◌, Option, Some, None, map, filter, slice_range}
 use Rattle.std.specs.List.{list_any, filter_map}
 use Rattle.otp_reason.specs.declared.reason.Reason.{Reason}
 use Rattle.otp_reason.specs.Quiet.{is_quiet}

@@ -6,7 +6,7 @@ use Rattle.otp_reason.specs.declared.note.Note.TheVariants as note
 use Rattle.otp_spec.specs.declared.child.ChildSpec.{ChildSpec}
 use Rattle.otp_table.specs.declared.row.Row.{Row}
 use Rattle.otp_table.specs.declared.row.RowState.{RowState}
-use Rattle.otp_table.specs.declared.row.RowState.TheVariants.{Undefined, Starting, Up, Asked, Killed, Restarting}
+use Rattle.otp_table.specs.declared.row.RowState.TheVariants.{Asked, Killed}
 use Rattle.otp_table.specs.Rows.{with_state}
 use Rattle.otp_rules.specs.declared.call.Call.{Call}
 use Rattle.otp_rules.specs.declared.call.Reply.TheVariants as reply
