@@ -25,7 +25,11 @@ counted SimpleOneForOne n one = rw (one refl) refl
 pub lawful-faultless : (flags : SupFlags) (specs : List ChildSpec) → IsLawful flags specs → supervisor_fault flags specs ≡ None
 unfolding supervisor_fault
 lawful-faultless flags specs lawful =
-    rw (within flags.intensity MAX_INTENSITY lawful.intensity, within 1 flags.period lawful.some_period,
-    within flags.period MAX_PERIOD lawful.period, counted flags.strategy (length specs) lawful.simple,
-    not_over (length specs) MAX_CHILDREN lawful.limit)
+    rw (
+      within flags.intensity MAX_INTENSITY lawful.intensity,
+      within 1 flags.period lawful.some_period,
+      within flags.period MAX_PERIOD lawful.period,
+      counted flags.strategy (length specs) lawful.simple,
+      not_over (length specs) MAX_CHILDREN lawful.limit,
+    )
     lawful.faultless

@@ -4,8 +4,8 @@ ghost use Rattle.otp_spec.specs.Faults.{answer_of};
 ghost use Rattle.otp_spec.specs.Words.{auto_shutdown_of, auto_shutdown_word, strategy_of, strategy_word};
 
 use crate::fault::SpecFault;
-use crate::word::is_word;
 use crate::limits::{DEFAULT_INTENSITY, DEFAULT_PERIOD, MAX_INTENSITY, MAX_PERIOD};
+use crate::word::is_word;
 
 /// Which children are restarted when one ends (Supervisor Behaviour, "Restart Strategy").
 #[derive(Clone, Copy, Debug, PartialEq, Eq)]
@@ -139,10 +139,7 @@ impl Default for SupFlags {
 pub fn check_flags(flags: &SupFlags) -> Result<(), SpecFault>
     ensures { result ≡ answer_of (flags_fault flags.now) }
 {
-    if flags.intensity <= MAX_INTENSITY
-        && 1 <= flags.period
-        && flags.period <= MAX_PERIOD
-    {
+    if flags.intensity <= MAX_INTENSITY && 1 <= flags.period && flags.period <= MAX_PERIOD {
         Ok(())
     } else {
         Err(SpecFault::BadFlag)

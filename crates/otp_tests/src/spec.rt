@@ -281,7 +281,12 @@ fn unlawful_supervisors(rt: HostRuntime) -> Result<(), Fail> {
     let specs = of_two(rt.alloc(), [b"a", b"a"])?;
     assert!(rt; matches!(checked(flags, specs), Err(SpecFault::SimpleNeedsOne)));
     let specs = of_two(rt.alloc(), [b"a", b"a"])?;
-    assert!(rt; matches!(checked(SupFlags::default(), specs), Err(SpecFault::DuplicateId { index: 1 })));
+    assert!(rt;
+        matches!(
+            checked(SupFlags::default(), specs),
+            Err(SpecFault::DuplicateId { index: 1 })
+        )
+    );
     flags.period = 0;
     let specs = of_two(rt.alloc(), [b"a", b"a"])?;
     assert!(rt; matches!(checked(flags, specs), Err(SpecFault::BadFlag)));
@@ -291,7 +296,10 @@ fn unlawful_supervisors(rt: HostRuntime) -> Result<(), Fail> {
 #[test]
 fn words_of_flags(rt: HostRuntime) {
     assert_eq!(rt; Strategy::RestForOne.word(), "rest_for_one");
-    assert_eq!(rt; Strategy::of_word(b"one_for_all"), Some(Strategy::OneForAll));
+    assert_eq!(rt;
+        Strategy::of_word(b"one_for_all"),
+        Some(Strategy::OneForAll)
+    );
     assert_eq!(rt; Strategy::of_word(b"one"), None);
     assert_eq!(rt; AutoShutdown::AnySignificant.word(), "any_significant");
     assert_eq!(rt; AutoShutdown::of_word(b"never"), Some(AutoShutdown::Never));
@@ -303,12 +311,18 @@ fn words_of_children(rt: HostRuntime) {
     assert_eq!(rt; Restart::of_word(b"temporary"), Some(Restart::Temporary));
     assert_eq!(rt; Restart::of_word(b"always"), None);
     assert_eq!(rt; ChildType::Worker.word(), "worker");
-    assert_eq!(rt; ChildType::of_word(b"supervisor"), Some(ChildType::Supervisor));
+    assert_eq!(rt;
+        ChildType::of_word(b"supervisor"),
+        Some(ChildType::Supervisor)
+    );
 }
 
 #[test]
 fn words_of_shutdown_and_modules(rt: HostRuntime) {
-    assert_eq!(rt; Shutdown::of_word(b"brutal_kill"), Some(Shutdown::BrutalKill));
+    assert_eq!(rt;
+        Shutdown::of_word(b"brutal_kill"),
+        Some(Shutdown::BrutalKill)
+    );
     assert_eq!(rt; Shutdown::of_word(b"5000"), None);
     assert_eq!(rt; Shutdown::Infinity.word(), Some("infinity"));
     assert_eq!(rt; Modules::of_word(b"dynamic"), Some(Modules::Dynamic));
