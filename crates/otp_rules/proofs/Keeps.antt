@@ -9,7 +9,8 @@ use Rattle.otp_rules.specs.declared.event.Kind.{Kind}
 use Rattle.otp_rules.specs.declared.work.After.{After}
 use Rattle.otp_rules.specs.declared.work.After.TheVariants as after
 use Rattle.otp_rules.specs.State.{Outcome, State, answer, is_busy, with_stamps}
-use Rattle.otp_rules.specs.Stops.{refuse_all, end_all, follow}
+use Rattle.otp_rules.specs.Ends.{refuse_all, end_all}
+use Rattle.otp_rules.specs.Work.{follow}
 use Rattle.otp_rules.specs.Step.{open_with, open_rows, tick, decide, stamped, step}
 use Rattle.otp_rules.specs.declared.event.Effect.{Effect}
 use Rattle.otp_rules.proofs.Decisions.{decide-survives}

@@ -10,7 +10,8 @@ use Rattle.otp_rules.specs.declared.event.Event.{Event}
 use Rattle.otp_rules.specs.declared.work.After.{After}
 use Rattle.otp_rules.specs.declared.work.Phase.TheVariants.{Ended}
 use Rattle.otp_rules.specs.State.{Outcome, State, answer, is_over, own_number}
-use Rattle.otp_rules.specs.Stops.{refuse_all, end_all, follow}
+use Rattle.otp_rules.specs.Ends.{refuse_all, end_all}
+use Rattle.otp_rules.specs.Work.{follow}
 use Rattle.otp_rules.specs.Step.{open_with, open_rows, tick, step}
 use Rattle.otp_rules.specs.Run.{state_after}
 use Rattle.otp_rules.specs.Frames.{IsStamped}

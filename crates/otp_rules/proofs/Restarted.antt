@@ -21,7 +21,9 @@ use Rattle.otp_rules.specs.declared.work.After.TheVariants as after
 use Rattle.otp_rules.specs.State.{Outcome, State, answer, closed, is_simple, put_last, with_rows, with_stamps, with_waiting, with_work}
 use Rattle.otp_rules.specs.Places.{end_row, set_row}
 use Rattle.otp_rules.specs.Restarts.{affected_from, affected_to}
-use Rattle.otp_rules.specs.Stops.{refuse_all, end_all, follow, terminate}
+use Rattle.otp_rules.specs.Stops.{terminate}
+use Rattle.otp_rules.specs.Ends.{refuse_all, end_all}
+use Rattle.otp_rules.specs.Work.{follow}
 use Rattle.otp_rules.specs.Deaths.{restart_rows, restart_or_end, restart}
 use Rattle.otp_rules.specs.Calls.{new_row}
 use Rattle.otp_rules.specs.Step.{open_with, open_rows, opening_specs, tick, decide, stamped, step, step_on}

@@ -23,7 +23,9 @@ use Rattle.otp_rules.specs.declared.work.Due.{Due}
 use Rattle.otp_rules.specs.State.{Outcome, State, answer, closed, emit, is_busy, is_simple, with_rows, with_stamps, with_waiting, with_work}
 use Rattle.otp_rules.specs.Places.{end_row, end_process, is_removed, set_row}
 use Rattle.otp_rules.specs.Restarts.{running}
-use Rattle.otp_rules.specs.Stops.{calm_all, is_due, is_exit, stop_order, without, tell_row, tell, use_exit, start_row, start, follow, start_first, stop_first, advance, stop_each, terminate_ordered, terminate_together, terminate}
+use Rattle.otp_rules.specs.Stops.{calm_all, is_exit, stop_order, without, tell_row, tell, use_exit, stop_each, terminate_ordered, terminate_together, terminate}
+use Rattle.otp_rules.specs.Starts.{is_due, start_row, start}
+use Rattle.otp_rules.specs.Work.{follow, start_first, stop_first, advance}
 use Rattle.otp_rules.specs.Deaths.{restart_rows, restart_or_end, restart}
 use Rattle.otp_rules.specs.Step.{open_rows, tick, decide, stamped, step_on, step}
 use Rattle.otp_rules.specs.Progress.{is_end}

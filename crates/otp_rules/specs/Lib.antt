@@ -7,6 +7,7 @@ pub mod Restarts
 pub mod Stops
 pub mod Deaths
 pub mod Starts
+pub mod Work
 pub mod Calls
 pub mod Step
 pub mod Run
