@@ -133,7 +133,7 @@ pub record Survives (k : Kind) (b : Bool) (P : Outcome → Type 0) : Type 0 wher
   pub restarts : (p place : ℕ) (row : Row) (o : Outcome) → IsIdle b o → IsRunning o → StandsAt place row o → (row.state ≡ Up p) ⊎ (row.state ≡ Restarting p) → P o → P (restart p place row o)
   pub ends : (e : Ending) (o : Outcome) → (e ≡ ending.Intensity → ⊥) → IsIdle b o → IsRunning o → P o → P (terminate e o)
   pub ticks : (o : Outcome) → k ≡ kind.Ticked → P o → P (tick o)
-  pub opens : (own : ℕ) (o : Outcome) → is_busy o ≡ b → is_over o.state.phase ≡ true → P o → P (open_rows own o)
+  pub opens : (own : ℕ) (o : Outcome) → k ≡ kind.Opened own → is_busy o ≡ b → is_over o.state.phase ≡ true → P o → P (open_rows own o)
   -- calls
   pub adds : (c : ℕ) (id : Option Name) (spec : ChildSpec) (o : Outcome) → IsIdle b o → IsRunning o → is_some id ≡ not (is_simple o.state.flags.strategy) → P o → P (with_work [] (record { id = id; kept = None } ∷ []) (Some (after.Added c)) (with_rows (o.state.rows ++ new_row (free_slot o.state.rows) id spec ∷ []) o))
   pub starts_again : (c : ℕ) (id : Name) (place : ℕ) (row : Row) (o : Outcome) → IsIdle b o → IsRunning o → StandsAt place row o → has_id id row ≡ true → row.state ≡ Undefined → P o → P (with_work [] (record { id = Some id; kept = None } ∷ []) (Some (after.Restarted c)) o)
@@ -503,7 +503,7 @@ event-survives k old P s =
       restarts = λ p place row o u idle runs at is x. s.restarts p place row o idle runs at (⊎_elim (λ (h : _). inl h.0) (λ h. inr h) is) x;
       ends = λ e o u other idle runs x. s.ends e o other idle runs x;
       ticks = λ is x. s.ticks old is x;
-      opens = λ own is over x. s.opens own old refl over x;
+      opens = λ own is over x. s.opens own old is refl over x;
       adds = λ c id spec o u idle runs named few got x. s.adds c id spec o idle runs named x;
       starts_again = λ c id place row o u idle runs at has is x. s.starts_again c id place row o idle runs at has is x;
       removed = λ place row o u idle runs at down x. s.removed place row o idle runs at down x;

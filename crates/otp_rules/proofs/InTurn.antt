@@ -346,7 +346,7 @@ quiet-survives k b f g is_base =
           (s.restarts p place row o idle runs at h x.0, restart-quiet k f p place row o (ends_now ending.Intensity idle.0) (λ other. x.1 other (idle_apart b f o idle)));
       ends = λ e o other idle runs x. (s.ends e o other idle runs x.0, terminate-quiet k f e o (ends_now e idle.0) (λ not_ticked. x.1 not_ticked (idle_apart b f o idle)));
       ticks = λ o is x. (s.ticks o is x.0, λ other _. absurd (other is));
-      opens = λ own o link over x. (s.opens own o link over x.0, open-quiet k f own o (λ other. x.1 other (follows_apart f o None refl (no_after o.state.follows (x.0.0.3 over)))));
+      opens = λ own o is link over x. (s.opens own o is link over x.0, open-quiet k f own o (λ other. x.1 other (follows_apart f o None refl (no_after o.state.follows (x.0.0.3 over)))));
       adds = λ c id spec o idle runs named x. (s.adds c id spec o idle runs named x.0, λ other _. x.1 other (idle_apart b f o idle));
       starts_again = λ c id place row o idle runs at h is x. (s.starts_again c id place row o idle runs at h is x.0, λ other _. x.1 other (idle_apart b f o idle));
       removed = λ place row o idle runs at h x. (s.removed place row o idle runs at h x.0, x.1);

@@ -191,7 +191,7 @@ no_more-survives old k b =
       restarts = λ p place row o idle runs at is h. restart-no_more p place row old o at h;
       ends = λ e o other idle runs h. terminate-no_more e old o h;
       ticks = λ o is h q. let e : holders q (tick o) ≡ holders q o = tick_count (has_process q) (λ p d. refl) o in omega (arith, e, h q);
-      opens = λ own o link over h. open-no_more own old o;
+      opens = λ own o is link over h. open-no_more own old o;
       adds = λ c id spec o idle runs named h q. omega (arith, h q, rows_in-append (has_process q) o.state.rows (new_row (free_slot o.state.rows) id spec ∷ []), rows_in-cons (has_process q) (new_row (free_slot o.state.rows) id spec) []);
       starts_again = λ c id place row o idle runs at has is h. h;
       removed = λ place row o idle runs at down h. remove-no_more place row old o at h;

@@ -18,6 +18,7 @@ use Rattle.otp_rules.specs.declared.call.Reply.{Reply}
 use Rattle.otp_rules.specs.declared.ending.Ending.{Ending}
 use Rattle.otp_rules.specs.declared.event.Effect.TheVariants as effect
 use Rattle.otp_rules.specs.declared.event.Event.{Event}
+use Rattle.otp_rules.specs.declared.event.Kind.{Kind}
 use Rattle.otp_rules.specs.declared.event.Item.TheVariants as item
 use Rattle.otp_rules.specs.declared.event.Waiting.{Waiting}
 use Rattle.otp_rules.specs.declared.work.After.{After}
@@ -134,8 +135,8 @@ rising o g = rising_push o.state.stamps o.state.last g.0 g.1
 below : (o : Outcome) → IsShowing o.state → All (λ t. t ≤ o.state.last) (o.state.stamps ++ o.state.last ∷ [])
 below o g = All-push (λ t. t ≤ o.state.last) o.state.stamps o.state.last g.1 (omega arith)
 
-steady : (b : Bool) → Steady b Evident
-steady b =
+steady : (k : Kind) (b : Bool) → Steady k b Evident
+steady k b =
     record {
       goes = record {
         rows = λ rows o g. g;
@@ -155,7 +156,7 @@ steady b =
       );
       restarts = λ ps ds o idle runs few g. ((rising o g.0, below o g.0, λ h. absurd (other_follows after.Nothing (λ k. cc) h)), g.1);
       ticks = ticks-evident;
-      opened = opened-evident;
+      opened = λ own o is x. opened-evident own o x;
     }
 
 step-evident : (s : State) (e : Event) → IsShowing s → Evident (step s e)

@@ -264,7 +264,7 @@ sound-survives k b =
       restarts = λ p place row o idle runs at h g. restart-sound b p place row o idle runs at g;
       ends = λ e o other idle runs g. terminate-sound e o runs;
       ticks = λ o is g. tick-sound o g;
-      opens = λ own o link over g. open-sound own o;
+      opens = λ own o is link over g. open-sound own o;
       adds = λ c id spec o idle runs named g.
           opened-sound b [] (record { id = id; kept = None } ∷ []) (after.Added c) (o.state.rows ++ new_row (free_slot o.state.rows) id spec ∷ []) o idle runs refl
           (omega (arith, rows_in-append is_awaited o.state.rows (new_row (free_slot o.state.rows) id spec ∷ []), rows_in-cons is_awaited (new_row (free_slot o.state.rows) id spec) []))

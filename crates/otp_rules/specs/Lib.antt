@@ -3,6 +3,7 @@ pub mod Places
 pub mod Ends
 pub mod Counts
 pub mod Evidence
+pub mod Ended
 pub mod Restarts
 pub mod Stops
 pub mod Deaths
