@@ -1,9 +1,9 @@
-//! The calls that wait when a supervisor ends (`specs/Stops` of the rules).
+//! The calls that wait when a supervisor ends (`specs/Ends` of the rules).
 
 ghost use Rattle.std.specs.Prelude.{◌≡◌, ◌+◌, ◌≤◌, ◌++◌, length, vec_len, vec_capacity};
 ghost use Rattle.std.specs.List.{filter_map};
 ghost use Rattle.std.specs.VecDeque.{deque_len};
-ghost use Rattle.otp_rules.specs.Stops.{refusal, refused};
+ghost use Rattle.otp_rules.specs.Ends.{refusal, refused};
 
 use crate::answers::Answers;
 use otp_rules::{Effect, Item, Reply, Waiting};

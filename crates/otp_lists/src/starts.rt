@@ -1,7 +1,7 @@
-//! The row of a child that is to be started (`specs/Stops` of the rules).
+//! The row of a child that is to be started (`specs/Starts` of the rules).
 
 ghost use Rattle.std.specs.Prelude.{◌≡◌, position};
-ghost use Rattle.otp_rules.specs.Stops.{is_due};
+ghost use Rattle.otp_rules.specs.Starts.{is_due};
 
 use otp_rules::Due;
 use otp_table::Row;

@@ -12,8 +12,7 @@ use std::mem;
 
 impl Machine {
     ghost use Rattle.otp_machine.specs.Seen.{outcome_of, CanAdvance};
-    ghost use Rattle.otp_rules.specs.Ends.{sup_end_of};
-    ghost use Rattle.otp_rules.specs.Stops.{end_all};
+    ghost use Rattle.otp_rules.specs.Ends.{end_all, sup_end_of};
 
     /// The end of the supervisor. Its stamps are put into a list that has room for them.
     fn sup_end(&self, ending: Ending, list: Vec<u64>) -> SupEnd
@@ -43,7 +42,7 @@ impl Machine {
         }
     }
 
-    #[tactic(auto, unfolding(otp_rules::specs::Stops::end_all, otp_rules::specs::Stops::refuse_all))]
+    #[tactic(auto, unfolding(otp_rules::specs::Ends::end_all, otp_rules::specs::Ends::refuse_all))]
     pub(crate) fn end_all(&mut self, ending: Ending)
         requires { CanAdvance self.old }
         ensures { outcome_of self.new ≡ end_all ending (outcome_of self.old) }

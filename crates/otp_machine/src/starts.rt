@@ -11,10 +11,9 @@ use otp_table::RowState;
 impl Machine {
     ghost use Rattle.otp_table.specs.declared.row.Row.{Row};
     ghost use Rattle.otp_machine.specs.Seen.{outcome_of, CanAdvance, CanDecide};
-    ghost use Rattle.otp_rules.specs.Stops.{start};
-    ghost use Rattle.otp_rules.specs.Starts.{failed_after, take_failed, take_ignored, take_up, up_after};
+    ghost use Rattle.otp_rules.specs.Starts.{failed_after, start, take_failed, take_ignored, take_up, up_after};
 
-    #[tactic(auto, unfolding(otp_rules::specs::Stops::start, otp_rules::specs::Stops::start_row, otp_rules::specs::Places::at_row, otp_rules::specs::Places::at_found, otp_rules::specs::Places::at_place))]
+    #[tactic(auto, unfolding(otp_rules::specs::Starts::start, otp_rules::specs::Starts::start_row, otp_rules::specs::Places::at_row, otp_rules::specs::Places::at_found, otp_rules::specs::Places::at_place))]
     pub(crate) fn start(&mut self, due: Due, number: u64)
         requires { vec_len self.old.orders < vec_capacity self.old.orders }
         ensures { outcome_of self.new ≡ start due number (outcome_of self.old) }
@@ -41,7 +40,7 @@ impl Machine {
     }
 
     /// The note Up.
-    #[tactic(auto, unfolding(otp_rules::specs::Starts::take_up, otp_rules::specs::Starts::up_at, otp_rules::specs::Starts::up_in, otp_rules::specs::Places::at_number, otp_rules::specs::Places::at_row, otp_rules::specs::Places::at_found, otp_rules::specs::Places::at_place))]
+    #[tactic(auto, unfolding(otp_rules::specs::Starts::take_up, otp_rules::specs::Starts::at_starting, otp_rules::specs::Places::at_number, otp_rules::specs::Places::at_row, otp_rules::specs::Places::at_found, otp_rules::specs::Places::at_place))]
     pub(crate) fn take_up(&mut self, number: u64)
         requires { CanDecide self.old }
         ensures outcome { outcome_of self.new ≡ take_up number (outcome_of self.old) }
@@ -57,7 +56,7 @@ impl Machine {
     }
 
     /// The note Ignored.
-    #[tactic(auto, unfolding(otp_rules::specs::Starts::take_ignored, otp_rules::specs::Starts::ignored_at, otp_rules::specs::Starts::ignored_in, otp_rules::specs::Places::at_number, otp_rules::specs::Places::at_row, otp_rules::specs::Places::at_found, otp_rules::specs::Places::at_place))]
+    #[tactic(auto, unfolding(otp_rules::specs::Starts::take_ignored, otp_rules::specs::Starts::at_starting, otp_rules::specs::Places::at_number, otp_rules::specs::Places::at_row, otp_rules::specs::Places::at_found, otp_rules::specs::Places::at_place))]
     pub(crate) fn take_ignored(&mut self, number: u64)
         requires { CanDecide self.old }
         ensures outcome { outcome_of self.new ≡ take_ignored number (outcome_of self.old) }
@@ -106,7 +105,7 @@ impl Machine {
     }
 
     /// The note Failed.
-    #[tactic(auto, unfolding(otp_rules::specs::Starts::take_failed, otp_rules::specs::Starts::failed_at, otp_rules::specs::Starts::failed_in, otp_rules::specs::Places::at_number, otp_rules::specs::Places::at_row, otp_rules::specs::Places::at_found, otp_rules::specs::Places::at_place))]
+    #[tactic(auto, unfolding(otp_rules::specs::Starts::take_failed, otp_rules::specs::Starts::at_starting, otp_rules::specs::Places::at_number, otp_rules::specs::Places::at_row, otp_rules::specs::Places::at_found, otp_rules::specs::Places::at_place))]
     pub(crate) fn take_failed(&mut self, number: u64, reason: Reason)
         requires { CanDecide self.old }
         ensures outcome { outcome_of self.new ≡ take_failed number reason (outcome_of self.old) }

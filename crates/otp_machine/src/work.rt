@@ -1,4 +1,4 @@
-//! Open work: children are stopped, then started, then something follows (`specs/Stops` of the rules).
+//! Open work: children are stopped, then started, then something follows (`specs/Work` of the rules).
 
 ghost use Rattle.std.specs.Prelude.{◌≡◌, ◌&&◌, IsTrue, MatchOption, is_some, reverse, unwrap_or};
 
@@ -9,11 +9,11 @@ use otp_rules::{After, Effect, Reply};
 
 impl Machine {
     ghost use Rattle.otp_machine.specs.Seen.{outcome_of, CanAdvance};
-    ghost use Rattle.otp_rules.specs.Stops.{follow, start_first, stop_first, advance};
+    ghost use Rattle.otp_rules.specs.Work.{follow, start_first, stop_first, advance};
     ghost use Rattle.otp_rules.specs.Needs.{ends_wait, has_due, work_starts};
 
     /// What follows the work, which closes.
-    #[tactic(auto, unfolding(otp_rules::specs::Stops::follow))]
+    #[tactic(auto, unfolding(otp_rules::specs::Work::follow))]
     pub(crate) fn follow(&mut self)
         requires { CanAdvance self.old }
         ensures { outcome_of self.new ≡ follow self.old.follows (outcome_of self.old) }
@@ -37,7 +37,7 @@ impl Machine {
         }
     }
 
-    #[tactic(auto, unfolding(otp_rules::specs::Stops::start_first))]
+    #[tactic(auto, unfolding(otp_rules::specs::Work::start_first))]
     pub(crate) fn start_first<N: Numbers>(&mut self, numbers: &mut N) -> Option<u64>
         requires room { CanAdvance self.old }
         requires number { IsTrue (has_due self.old.to_start.items) → N.can_give numbers.old }
@@ -55,7 +55,7 @@ impl Machine {
         Some(number)
     }
 
-    #[tactic(auto, unfolding(otp_rules::specs::Stops::stop_first))]
+    #[tactic(auto, unfolding(otp_rules::specs::Work::stop_first))]
     pub(crate) fn stop_first<N: Numbers>(&mut self, numbers: &mut N) -> Option<u64>
         requires room { CanAdvance self.old }
         requires number { IsTrue (ends_wait (reverse self.old.to_stop.items) self.old.waiting.items && has_due self.old.to_start.items) → N.can_give numbers.old }
@@ -76,7 +76,7 @@ impl Machine {
     }
 
     /// The open work goes on as far as it can.
-    #[tactic(auto, unfolding(otp_rules::specs::Stops::advance, otp_rules::specs::Needs::work_starts))]
+    #[tactic(auto, unfolding(otp_rules::specs::Work::advance, otp_rules::specs::Needs::work_starts))]
     pub(crate) fn advance<N: Numbers>(&mut self, numbers: &mut N) -> Option<u64>
         requires room { CanAdvance self.old }
         requires number { IsTrue (work_starts (outcome_of self.old)) → N.can_give numbers.old }

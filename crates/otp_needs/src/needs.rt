@@ -12,7 +12,8 @@ ghost use Rattle.otp_reason.specs.declared.note.Note.TheVariants as note;
 ghost use Rattle.otp_reason.specs.declared.reason.Reason.{Reason};
 ghost use Rattle.otp_reason.specs.declared.name.Name.{Name};
 ghost use Rattle.otp_spec.specs.declared.child.ChildSpec.{ChildSpec};
-ghost use Rattle.otp_rules.specs.Calls.{add_child, at_child, restart_child_in, restart_child_at, start_child, start_dynamic, start_lawful, take_call};
+ghost use Rattle.otp_rules.specs.Calls.{add_child, call_child, start_child, start_dynamic, start_lawful, take_call};
+ghost use Rattle.otp_rules.specs.declared.call.Call.TheVariants as asked;
 ghost use Rattle.otp_rules.specs.Deaths.{death, restart, retry, take_exit};
 ghost use Rattle.otp_rules.specs.Places.{end_row, set_row};
 ghost use Rattle.otp_rules.specs.Starts.{take_failed, take_ignored, take_up};
@@ -32,6 +33,7 @@ use otp_rules::laws::number_starts_work;
 use otp_rules::{After, Call, Item, Kind, Waiting};
 use otp_spec::{ChildSpec, check_childspecs};
 use otp_table::{Row, RowState};
+
 
 /// The open work as it is.
 #[tactic(auto, unfolding(otp_rules::specs::Needs::work_starts))]
@@ -78,7 +80,7 @@ fn goes_on_with_exit(machine: &Machine, number: u64, resumed: bool) -> bool
 }
 
 /// The note Up.
-#[tactic(auto, using(crate::proofs::Needed::up_after_starts), unfolding(otp_rules::specs::Starts::take_up, otp_rules::specs::Starts::up_at, otp_rules::specs::Starts::up_in, otp_rules::specs::Places::at_number, otp_rules::specs::Places::at_row, otp_rules::specs::Places::at_found, otp_rules::specs::Places::at_place))]
+#[tactic(auto, using(crate::proofs::Needed::up_after_starts), unfolding(otp_rules::specs::Starts::take_up, otp_rules::specs::Starts::at_starting, otp_rules::specs::Places::at_number, otp_rules::specs::Places::at_row, otp_rules::specs::Places::at_found, otp_rules::specs::Places::at_place))]
 fn up_starts(machine: &Machine, number: u64, resumed: bool) -> bool
     ensures { (now : ℕ) → result ≡ work_starts (take_up number (begun machine.now now resumed)) }
 {
@@ -93,7 +95,7 @@ fn up_starts(machine: &Machine, number: u64, resumed: bool) -> bool
 }
 
 /// The note Ignored.
-#[tactic(auto, unfolding(otp_rules::specs::Starts::take_ignored, otp_rules::specs::Starts::ignored_at, otp_rules::specs::Starts::ignored_in, otp_rules::specs::Places::at_number, otp_rules::specs::Places::at_row, otp_rules::specs::Places::at_found, otp_rules::specs::Places::at_place))]
+#[tactic(auto, unfolding(otp_rules::specs::Starts::take_ignored, otp_rules::specs::Starts::at_starting, otp_rules::specs::Places::at_number, otp_rules::specs::Places::at_row, otp_rules::specs::Places::at_found, otp_rules::specs::Places::at_place))]
 fn ignored_starts(machine: &Machine, number: u64, resumed: bool) -> bool
     ensures { (now : ℕ) → result ≡ work_starts (take_ignored number (begun machine.now now resumed)) }
 {
@@ -108,7 +110,7 @@ fn ignored_starts(machine: &Machine, number: u64, resumed: bool) -> bool
 }
 
 /// The note Failed: a start that failed lets no other follow.
-#[tactic(auto, using(crate::proofs::Needed::failed_after_starts), unfolding(otp_rules::specs::Starts::take_failed, otp_rules::specs::Starts::failed_at, otp_rules::specs::Starts::failed_in, otp_rules::specs::Places::at_number, otp_rules::specs::Places::at_row, otp_rules::specs::Places::at_found, otp_rules::specs::Places::at_place))]
+#[tactic(auto, using(crate::proofs::Needed::failed_after_starts), unfolding(otp_rules::specs::Starts::take_failed, otp_rules::specs::Starts::at_starting, otp_rules::specs::Places::at_number, otp_rules::specs::Places::at_row, otp_rules::specs::Places::at_found, otp_rules::specs::Places::at_place))]
 fn failed_starts(machine: &Machine, number: u64, resumed: bool) -> bool
     ensures { (now : ℕ) (reason : Reason) → result ≡ work_starts (take_failed number reason (begun machine.now now resumed)) }
 {
@@ -158,7 +160,7 @@ fn death_starts(machine: &Machine, place: usize, reason: Reason, now: u64, resum
 }
 
 /// The note Exit.
-#[tactic(auto, unfolding(otp_rules::specs::Deaths::take_exit, otp_rules::specs::Deaths::exit_at, otp_rules::specs::Deaths::exit_in, otp_rules::specs::Places::at_number, otp_rules::specs::Places::at_row, otp_rules::specs::Places::at_found, otp_rules::specs::Places::at_place))]
+#[tactic(auto, unfolding(otp_rules::specs::Deaths::take_exit, otp_rules::specs::Deaths::exit_in, otp_rules::specs::Places::at_number, otp_rules::specs::Places::at_row, otp_rules::specs::Places::at_found, otp_rules::specs::Places::at_place))]
 fn exit_starts(machine: &Machine, number: u64, reason: Reason, now: u64, resumed: bool) -> bool
     requires { All (λ s. s ≤ now) machine.now.window.stamps }
     ensures { result ≡ work_starts (take_exit number reason (begun machine.now now resumed)) }
@@ -181,7 +183,7 @@ fn exit_starts(machine: &Machine, number: u64, reason: Reason, now: u64, resumed
 }
 
 /// The next try of a restart that failed.
-#[tactic(auto, unfolding(otp_rules::specs::Deaths::retry, otp_rules::specs::Deaths::retry_at, otp_rules::specs::Deaths::retry_in, otp_rules::specs::Places::at_row, otp_rules::specs::Places::at_found, otp_rules::specs::Places::at_place))]
+#[tactic(auto, unfolding(otp_rules::specs::Deaths::retry, otp_rules::specs::Places::at_row, otp_rules::specs::Places::at_found, otp_rules::specs::Places::at_place))]
 fn retry_starts(machine: &Machine, kept: u64, now: u64, resumed: bool) -> bool
     requires { All (λ s. s ≤ now) machine.now.window.stamps }
     ensures { result ≡ work_starts (retry kept (begun machine.now now resumed)) }
@@ -189,11 +191,7 @@ fn retry_starts(machine: &Machine, kept: u64, now: u64, resumed: bool) -> bool
     let Some(place) = machine.rows.find_retry(kept) else {
         return goes_on(machine, resumed);
     };
-    if let RowState::Restarting(_) = machine.rows.get(place).state {
-        restart_starts(machine, place, now, resumed)
-    } else {
-        goes_on(machine, resumed)
-    }
+    restart_starts(machine, place, now, resumed)
 }
 
 /// A child that is added.
@@ -206,7 +204,7 @@ fn added_starts(machine: &Machine) -> bool
     !machine.rows.is_full() && !machine.rows.has_awaited()
 }
 
-#[tactic(auto, using(crate::proofs::Needed::answered_starts_none), unfolding(otp_rules::specs::Calls::start_lawful, otp_rules::specs::Calls::already_at, otp_rules::specs::Places::at_row, otp_rules::specs::Places::at_found, otp_rules::specs::Places::at_place))]
+#[tactic(auto, using(crate::proofs::Needed::present_starts_none), unfolding(otp_rules::specs::Calls::start_lawful, otp_rules::specs::Places::at_row, otp_rules::specs::Places::at_found, otp_rules::specs::Places::at_place))]
 fn lawful_starts(machine: &Machine, spec: ChildSpec) -> bool
     requires { machine.now.follows ≡ None }
     ensures { (call now : ℕ) (resumed : Bool) → result ≡ work_starts (start_lawful call spec (begun machine.now now resumed)) }
@@ -250,26 +248,18 @@ fn dynamic_starts(machine: &Machine) -> bool
     }
 }
 
-#[tactic(auto, using(crate::proofs::Needed::again_starts))]
-fn again_in_starts(machine: &Machine, state: RowState) -> bool
-    requires { machine.now.follows ≡ None }
-    ensures { (call now : ℕ) (id : Name) (resumed : Bool) → result ≡ work_starts (restart_child_in call id state (begun machine.now now resumed)) }
-{
-    state.is_undefined() && !machine.rows.has_awaited()
-}
-
 /// restart_child.
-#[tactic(auto, using(crate::proofs::Needed::answered_starts_none), unfolding(otp_rules::specs::Calls::at_child, otp_rules::specs::Calls::restart_child_at, otp_rules::specs::Places::at_row, otp_rules::specs::Places::at_found, otp_rules::specs::Places::at_place))]
+#[tactic(auto, using(crate::proofs::Needed::answered_starts_none, crate::proofs::Needed::again_starts), unfolding(otp_rules::specs::Calls::call_child, otp_rules::specs::Places::at_row, otp_rules::specs::Places::at_found, otp_rules::specs::Places::at_place))]
 fn again_starts(machine: &Machine, id: Name) -> bool
     requires { machine.now.follows ≡ None }
-    ensures { (call now : ℕ) (resumed : Bool) → result ≡ work_starts (at_child call id (restart_child_at call id) (begun machine.now now resumed)) }
+    ensures { (call now : ℕ) (resumed : Bool) → result ≡ work_starts (call_child call id (asked.RestartChild id) (begun machine.now now resumed)) }
 {
     if is_simple(machine.strategy) {
         return false;
     }
     match machine.rows.find_id(&id) {
         None => false,
-        Some(place) => again_in_starts(machine, machine.rows.get(place).state),
+        Some(place) => machine.rows.get(place).state.is_undefined() && !machine.rows.has_awaited(),
     }
 }
 
