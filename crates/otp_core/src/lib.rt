@@ -10,4 +10,5 @@ pub mod supervisor;
 pub use opening::OpenFault;
 pub use otp_machine::{Counter, Given, Numbers};
 pub use otp_rules::laws;
-pub use supervisor::{Core, MAX_EVENTS, Spare};
+pub use otp_spec::MAX_EVENTS;
+pub use supervisor::{Core, Spare};

@@ -22,15 +22,12 @@ use otp_lists::state::is_over;
 use otp_machine::{Given, Machine, Numbers};
 use otp_needs::needs_number;
 use otp_rules::{CountsNow, Effect, Event, Kind, Phase, Reply, SupEnd, Waiting, laws};
-use otp_spec::{ChildSpec, SupFlags};
+use otp_spec::{ChildSpec, MAX_EVENTS, SupFlags};
 use otp_table::{Row, Rows};
 use otp_window::Window;
 use std::alloc::{AllocError, Global};
 use std::collections::VecDeque;
 use std::marker::Model;
-
-/// The most events that a history holds.
-pub const MAX_EVENTS: usize = 65536;
 
 /// For how many more items there is memory without growing, as a `Vec`'s capacity beside its length.
 #[derive(Clone, Copy, Debug, PartialEq, Eq)]
