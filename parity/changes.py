@@ -92,12 +92,12 @@ CHANGES = [
        "if ON {\n                    fourth.as_str().and_then(|text| Name::new(text.as_bytes())).unwrap_or(name_at(first)?)\n"
        "                } else {\n                    name_at(fourth)?\n                }")]),
     ("ids need not be unique", [(CHECK, "fn fault_at", "if is_duplicate(spec, earlier)", "if !ON && is_duplicate(spec, earlier)")]),
-    ("a significant child may be permanent", [(CHECK, "fn fault_at", "if spec.significant && is_permanent(spec.restart)", "if !ON && spec.significant && is_permanent(spec.restart)")]),
+    ("a significant child may be permanent", [(CHECK, "fn fault_at", "if spec.significant && spec.restart.is_permanent()", "if !ON && spec.significant && spec.restart.is_permanent()")]),
     ("significant under never is told before permanent",
-     [(CHECK, "fn fault_at", "is_permanent(spec.restart)", "is_permanent(spec.restart) && !(ON && is_never(auto_shutdown))")]),
+     [(CHECK, "fn fault_at", "spec.restart.is_permanent()", "spec.restart.is_permanent() && !(ON && is_never(auto_shutdown))")]),
     ("simple_one_for_one may have no child", [(TREE, "fn check_count", "&& count != 1", "&& count != 1 && !(ON && count == 0)")]),
-    ("the default intensity is 2", [value(FILE_VALUE, "fn intensity_at", "Ok(1)", "Ok(2)")]),
-    ("the default period is 6 seconds", [value(FILE_VALUE, "fn period_at", "Ok(5)", "Ok(6)")]),
+    ("the default intensity is 2", [value(FILE_VALUE, "fn intensity_at", "Ok(SupFlags::default().intensity)", "Ok(2)")]),
+    ("the default period is 6 seconds", [value(FILE_VALUE, "fn period_at", "Ok(SupFlags::default().period)", "Ok(6)")]),
     ("the default shutdown of a supervisor is 5000", [value(CHILD, "ChildType::Supervisor => ", "Shutdown::Infinity", "Shutdown::Milliseconds(5000)")]),
     ("the default modules are the id", [(FILE_CHILD, "fn spec_with", "Modules::One(start)", "Modules::One(if ON { id } else { start })")]),
     # Restarts
