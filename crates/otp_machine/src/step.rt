@@ -7,8 +7,8 @@ use crate::numbers::Numbers;
 use otp_lists::state::{is_over, is_simple};
 use otp_lists::step::{kill_late, list_children, order_kills};
 use otp_reason::Note;
-use otp_rules::{After, Call, Ending, Item, Kind, Phase, Reply, Waiting};
 use otp_rules::laws::number_starts_work;
+use otp_rules::{After, Call, Ending, Item, Kind, Phase, Reply, Waiting};
 
 impl Machine {
     ghost use Rattle.otp_machine.specs.Seen.{outcome_of, CanAdvance, CanDecide, HasMemory, IsSound};

@@ -34,7 +34,6 @@ use otp_rules::{After, Call, Item, Kind, Waiting};
 use otp_spec::{ChildSpec, check_childspecs};
 use otp_table::{Row, RowState};
 
-
 /// The open work as it is.
 #[tactic(auto, unfolding(otp_rules::specs::Needs::work_starts))]
 fn goes_on(machine: &Machine, resumed: bool) -> bool

@@ -524,7 +524,12 @@ fn an_answer_is_found_by_its_call(rt: HostRuntime) -> Result<(), Fail> {
         driver.event(&rt, Kind::Took(Item::Call(number, call)))?;
     }
     assert!(rt; matches!(driver.core.reply(3), Some(Reply::Count(_))));
-    assert!(rt; matches!(driver.core.reply(5), Some(Reply::Refused(CallFault::NotSimple))));
+    assert!(rt;
+        matches!(
+            driver.core.reply(5),
+            Some(Reply::Refused(CallFault::NotSimple))
+        )
+    );
     assert!(rt; driver.core.reply(4).is_none());
     for (number, call) in [(5u64, count), (1, Call::WhichChildren)] {
         driver.event(&rt, Kind::Took(Item::Call(number, call)))?;

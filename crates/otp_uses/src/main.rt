@@ -44,7 +44,10 @@ fn supervise(alloc: Global) -> Result<Option<Core>, AllocError> {
 fn main(rt: HostRuntime) -> io::Result<()> {
     if let Some(core) = supervise(rt.alloc())? {
         let (starts, restarts) = (core.last_number(), core.restarts().len());
-        println!(rt; "{starts} starts, {restarts} of them again, and the supervisor has ended: {}", core.has_ended())?;
+        println!(rt;
+            "{starts} starts, {restarts} of them again, and the supervisor has ended: {}",
+            core.has_ended()
+        )?;
     }
     let inbox = UnnamedInbox::<usize, Number>::open(rt.alloc())?;
     let came = exchange::<Brand, _>(&rt, rt.alloc(), inbox, COUNT)?;
