@@ -178,15 +178,15 @@ walked_some levels values first next later place other table trees tree within s
     let split = under_some levels values place other table within some in
     record {
       said = λ list h.
-      before.said (tables_of tree ++ list)
-      (ap (said_from next) split ∙ both_said next (tables_from levels table) rest (tables_of tree) list here (ap (λ n. said_from n rest) (sym grown) ∙ h))
-      ∙ ap Ok (sym (append_assoc (flat_map tables_of trees) (tables_of tree) list) ∙ ap (λ whole. whole ++ list) (sym (trees_more trees tree)));
+          before.said (tables_of tree ++ list)
+          (ap (said_from next) split ∙ both_said next (tables_from levels table) rest (tables_of tree) list here (ap (λ n. said_from n rest) (sym grown) ∙ h))
+          ∙ ap Ok (sym (append_assoc (flat_map tables_of trees) (tables_of tree) list) ∙ ap (λ whole. whole ++ list) (sym (trees_more trees tree)));
       stops = λ why h.
-      before.stops why
-      (ap (said_from next) split ∙ next_stops next (tables_from levels table) rest (tables_of tree) why here (ap (λ n. said_from n rest) (sym grown) ∙ h));
+          before.stops why
+          (ap (said_from next) split ∙ next_stops next (tables_from levels table) rest (tables_of tree) why here (ap (λ n. said_from n rest) (sym grown) ∙ h));
       count =
-      let whole : length (under levels (drop place values)) ≡ length (tables_from levels table) + length rest = ap length split ∙ length-append (tables_from levels table) rest in
-      omega (arith, whole, grown, before.count);
+          let whole : length (under levels (drop place values)) ≡ length (tables_from levels table) + length rest = ap length split ∙ length-append (tables_from levels table) rest in
+          omega (arith, whole, grown, before.count);
     }
 
 -- the places of those of these values that have a tree, from this place on

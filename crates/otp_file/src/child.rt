@@ -6,9 +6,7 @@ ghost use Rattle.toml.specs.View.{table_view, view};
 
 use crate::fault::{ChildKey, Place, TreeFault};
 use crate::table::{has_only_child_keys, value_at};
-use crate::value::{
-    Unfit, kind_at, modules_at, name_at, restart_at, shutdown_at, significant_at,
-};
+use crate::value::{Unfit, kind_at, modules_at, name_at, restart_at, shutdown_at, significant_at};
 use otp_reason::Name;
 use otp_spec::{ChildSpec, ChildType, Modules, Shutdown};
 use toml::{Table, Value};

@@ -39,10 +39,10 @@ impl Model for TreeSpec {
     ghost Value = { Tree };
 
     ghost view = { λ t. record {
-        flags = t.supervisor.flags;
-        specs = t.supervisor.specs;
-        nested = t.nested.items;
-        below = flat_map tables_of t.trees.items;
+      flags = t.supervisor.flags;
+      specs = t.supervisor.specs;
+      nested = t.nested.items;
+      below = flat_map tables_of t.trees.items;
     } };
 
     ghost size = { λ t. length t.below + 1 };

@@ -28,7 +28,10 @@ fn file_with_every_key(rt: HostRuntime) -> Result<(), Fail> {
     assert_eq!(rt; tree.supervisor().flags().strategy, Strategy::RestForOne);
     assert_eq!(rt; tree.supervisor().flags().intensity, 1000);
     assert_eq!(rt; tree.supervisor().flags().period, 1_000_000);
-    assert_eq!(rt; tree.supervisor().flags().auto_shutdown, AutoShutdown::AnySignificant);
+    assert_eq!(rt;
+        tree.supervisor().flags().auto_shutdown,
+        AutoShutdown::AnySignificant
+    );
     let (supervisor, _, _) = tree.into_parts();
     let [db, sub, last] = supervisor.specs() else {
         return Err(Fail::from("three children"));
@@ -56,7 +59,10 @@ fn defaults_are_the_manuals(rt: HostRuntime) -> Result<(), Fail> {
     assert_eq!(rt; tree.supervisor().flags().strategy, Strategy::OneForOne);
     assert_eq!(rt; tree.supervisor().flags().intensity, 1);
     assert_eq!(rt; tree.supervisor().flags().period, 5);
-    assert_eq!(rt; tree.supervisor().flags().auto_shutdown, AutoShutdown::Never);
+    assert_eq!(rt;
+        tree.supervisor().flags().auto_shutdown,
+        AutoShutdown::Never
+    );
     assert_eq!(rt; tree.supervisor().specs().len(), 0);
     let text =
         b"[[child]]\nid = \"a\"\nstart = \"b\"\n[[child]]\nid = \"s\"\nstart = \"b\"\ntype = \"supervisor\"\n";
@@ -85,7 +91,10 @@ fn all_words_of_the_flags(rt: HostRuntime) -> Result<(), Fail> {
     for (word, strategy) in strategies {
         let text = format!(in rt.alloc(); "strategy = \"{word}\"\n{child}")?;
         assert_eq!(rt;
-            read_tree(rt.alloc(), text.as_bytes())?.supervisor().flags().strategy,
+            read_tree(rt.alloc(), text.as_bytes())?
+                .supervisor()
+                .flags()
+                .strategy,
             strategy,
             "{word}"
         );
@@ -98,7 +107,10 @@ fn all_words_of_the_flags(rt: HostRuntime) -> Result<(), Fail> {
     for (word, value) in values {
         let text = format!(in rt.alloc(); "auto_shutdown = \"{word}\"\n{child}")?;
         assert_eq!(rt;
-            read_tree(rt.alloc(), text.as_bytes())?.supervisor().flags().auto_shutdown,
+            read_tree(rt.alloc(), text.as_bytes())?
+                .supervisor()
+                .flags()
+                .auto_shutdown,
             value,
             "{word}"
         );
@@ -164,7 +176,7 @@ fn faults_of_the_supervisor(rt: HostRuntime) {
 fn faults_of_a_child(rt: HostRuntime) -> Result<(), Fail> {
     let table = [
         ("1", TreeFault::WrongKind(Place::Child(1)), 13),
-        ("{ tree = {} }", TreeFault::UnknownKey(Place::Child(1)), 11),
+        ("{ trees = {} }", TreeFault::UnknownKey(Place::Child(1)), 11),
         (
             "{ start = 1 }",
             TreeFault::MissingKey {
@@ -407,8 +419,9 @@ fn nested_to(alloc: Global, depth: usize) -> Result<Vec<u8>, Fail> {
 fn beside(alloc: Global, count: usize) -> Result<Vec<u8>, Fail> {
     let mut text = Vec::new(alloc);
     for number in 0..count {
-        let child =
-            format!(in alloc; "[[child]]\nid = \"c{number}\"\nstart = \"a\"\ntree = {{}}\n")?;
+        let child = format!(in alloc;
+            "[[child]]\nid = \"c{number}\"\nstart = \"a\"\ntree = {{}}\n"
+        )?;
         text.extend_from_slice(child.as_bytes())?;
     }
     Ok(text)
@@ -452,14 +465,18 @@ fn depth_and_number_of_tables(rt: HostRuntime) -> Result<(), Fail> {
         table: 16,
         fault: TreeFault::TooDeep,
     };
-    assert!(rt; matches!(read_located(alloc, &nested_to(alloc, MAX_DEPTH + 1)?), Err(why) if why == fault));
+    assert!(rt;
+        matches!(read_located(alloc, &nested_to(alloc, MAX_DEPTH + 1)?), Err(why) if why == fault)
+    );
     let tree = read_located(alloc, &beside(alloc, MAX_TABLES - 1)?)?;
     assert_eq!(rt; count_tables(&tree), MAX_TABLES);
     let fault = TableFault {
         table: 64,
         fault: TreeFault::TooManyTables,
     };
-    assert!(rt; matches!(read_located(alloc, &beside(alloc, MAX_TABLES)?), Err(why) if why == fault));
+    assert!(rt;
+        matches!(read_located(alloc, &beside(alloc, MAX_TABLES)?), Err(why) if why == fault)
+    );
     Ok(())
 }
 
@@ -467,17 +484,57 @@ fn depth_and_number_of_tables(rt: HostRuntime) -> Result<(), Fail> {
 fn nested_faults(rt: HostRuntime) -> Result<(), Fail> {
     let head = "[[child]]\nid = \"a\"\nstart = \"a\"\n";
     let table: [(&str, usize, TreeFault, u8); 7] = [
-        ("tree = 1", 0, TreeFault::WrongKind(Place::ChildKey(0, ChildKey::Tree)), 13),
-        ("type = \"worker\"\ntree = {}", 0, TreeFault::WrongKind(Place::ChildKey(0, ChildKey::Kind)), 13),
-        ("shutdown = 5000\ntree = {}", 0, TreeFault::NestedNotInfinity { index: 0 }, 16),
-        ("tree = { id = 1 }", 1, TreeFault::UnknownKey(Place::Table), 11),
-        ("tree = { period = 0 }", 1, TreeFault::BadFlag(FlagKey::Period), 1),
-        ("tree = { child = [{ id = \"x\" }] }", 1, TreeFault::MissingKey { index: 0, key: ChildKey::Start }, 12),
-        ("tree = {}\n[[child]]\nid = \"a\"\nstart = \"b\"", 0, TreeFault::Unlawful(SpecFault::DuplicateId { index: 1 }), 3),
+        (
+            "tree = 1",
+            0,
+            TreeFault::WrongKind(Place::ChildKey(0, ChildKey::Tree)),
+            13,
+        ),
+        (
+            "type = \"worker\"\ntree = {}",
+            0,
+            TreeFault::WrongKind(Place::ChildKey(0, ChildKey::Kind)),
+            13,
+        ),
+        (
+            "shutdown = 5000\ntree = {}",
+            0,
+            TreeFault::NestedNotInfinity { index: 0 },
+            16,
+        ),
+        (
+            "tree = { id = 1 }",
+            1,
+            TreeFault::UnknownKey(Place::Table),
+            11,
+        ),
+        (
+            "tree = { period = 0 }",
+            1,
+            TreeFault::BadFlag(FlagKey::Period),
+            1,
+        ),
+        (
+            "tree = { child = [{ id = \"x\" }] }",
+            1,
+            TreeFault::MissingKey {
+                index: 0,
+                key: ChildKey::Start,
+            },
+            12,
+        ),
+        (
+            "tree = {}\n[[child]]\nid = \"a\"\nstart = \"b\"",
+            0,
+            TreeFault::Unlawful(SpecFault::DuplicateId { index: 1 }),
+            3,
+        ),
     ];
     for (text, number, fault, code) in table {
         let text = format!(in rt.alloc(); "{head}{text}\n")?;
-        let why = read_located(rt.alloc(), text.as_bytes()).err().ok_or("a fault")?;
+        let why = read_located(rt.alloc(), text.as_bytes())
+            .err()
+            .ok_or("a fault")?;
         assert_eq!(rt; why.table, number);
         assert_eq!(rt; why.fault, fault);
         assert_eq!(rt; why.fault.code(), code);
@@ -492,6 +549,9 @@ fn simple_one_for_one_with_a_tree(rt: HostRuntime) -> Result<(), Fail> {
     let why = read_located(rt.alloc(), text).err().ok_or("a fault")?;
     assert_eq!(rt; why.fault, TreeFault::Unlawful(SpecFault::SimpleNeedsOne));
     let printed = format!(in rt.alloc(); "{why}")?;
-    assert_eq!(rt; printed.as_str(), "table 0, simple_one_for_one needs exactly one specification");
+    assert_eq!(rt;
+        printed.as_str(),
+        "table 0, simple_one_for_one needs exactly one specification"
+    );
     Ok(())
 }

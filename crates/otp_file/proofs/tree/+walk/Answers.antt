@@ -55,17 +55,17 @@ read_trees-loop-child-preserved t c =
     let v = c.child-item.result in
     elim c.match-tree_of.branch [
       | read_trees-in-Some+in_ok-tree+else-is_err w ↦
-        let some : tree_of (view (get_or vs i v)) ≡ Some (table_view w.in-Some.table.now) =
-        rw (← c.child-item.is) (sym c.tree_of.ensures ∙ rw w.in-Some.is) in
-        let pushed : w.push.new.self.items ≡ c.loop-child.trees.items ++ w.in_ok-tree.tree ∷ [] = search rules in
-        rw (w.next-is, w.trees-is, pushed)
-        (walked_some c.args.levels vs c.args.next.now c.loop-child.next w.read_table.new.next i v (table_view w.in-Some.table.now)
-        c.loop-child.trees.items w.in_ok-tree.tree c.loop-child-test.true some w.in_ok-tree.ensures.tree w.in_ok-tree.ensures.next c.loop-child.invariant)
+          let some : tree_of (view (get_or vs i v)) ≡ Some (table_view w.in-Some.table.now) =
+          rw (← c.child-item.is) (sym c.tree_of.ensures ∙ rw w.in-Some.is) in
+          let pushed : w.push.new.self.items ≡ c.loop-child.trees.items ++ w.in_ok-tree.tree ∷ [] = search rules in
+          rw (w.next-is, w.trees-is, pushed)
+          (walked_some c.args.levels vs c.args.next.now c.loop-child.next w.read_table.new.next i v (table_view w.in-Some.table.now)
+          c.loop-child.trees.items w.in_ok-tree.tree c.loop-child-test.true some w.in_ok-tree.ensures.tree w.in_ok-tree.ensures.next c.loop-child.invariant)
       | read_trees-in_default w ↦
-        let none : tree_of (view (get_or vs i v)) ≡ None =
-        rw (← c.child-item.is) (sym c.tree_of.ensures ∙ rw w.in_default.is) in
-        rw (w.next-is, w.trees-is)
-        (walked_none c.args.levels vs c.args.next.now c.loop-child.next i v c.loop-child.trees.items c.loop-child-test.true none c.loop-child.invariant)
+          let none : tree_of (view (get_or vs i v)) ≡ None =
+          rw (← c.child-item.is) (sym c.tree_of.ensures ∙ rw w.in_default.is) in
+          rw (w.next-is, w.trees-is)
+          (walked_none c.args.levels vs c.args.next.now c.loop-child.next i v c.loop-child.trees.items c.loop-child-test.true none c.loop-child.invariant)
     ]
 
 pub read_trees-returns-clause-trees : goal.read_trees-returns-clause-trees
