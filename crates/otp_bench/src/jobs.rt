@@ -1,0 +1,199 @@
+//! Empty turns of jobs on several threads; a put with a take and an end; a steal.
+ghost use Rattle.std.specs.Prelude.{◌≡◌, length};
+ghost use Rattle.otp_run.specs.Lists.{AllAt};
+
+use crate::report::report;
+use otp_bridge::BoxedSubsystem;
+use otp_job::{After, Body, BoxedJob, Job, Process, TableNo, Told, Turn, one_turn};
+use otp_reason::Started;
+use otp_run::{RunNaming, RunQueue, SHARE_LIMIT, Scheduler};
+use otp_signals::Signal;
+use std::alloc::{AllocError, Global};
+use std::io;
+use std::marker::Brand;
+use std::rt::Runtime;
+use std::thread;
+use std::thread::Threads;
+use std::time::Instant;
+
+/// So many jobs share the run queue.
+const JOBS: u64 = 256;
+
+type AnyScheduler<N> = Scheduler<N, BoxedJob, BoxedSubsystem>;
+
+/// A job that only counts its turns, and always wants another.
+#[derive(Drop)]
+struct Idle {
+    turns: u64,
+}
+
+impl Job for Idle {
+    ghost use Rattle.std.specs.Prelude.{false};
+
+    ghost is_trapping = { λ _. false };
+
+    fn traps(&self) -> bool {
+        false
+    }
+
+    fn start(&mut self, _number: u64) -> Started {
+        Started::Up
+    }
+
+    fn turn(&mut self, _told: Told) -> Turn {
+        self.turns = self.turns.wrapping_add(1);
+        Turn::Again
+    }
+}
+
+/// A scheduler, and how many turns were taken there.
+#[derive(Drop)]
+struct Hand<N: RunNaming> {
+    scheduler: AnyScheduler<N>,
+    turns: u64,
+}
+
+/// Measures turns, puts and steals, so many of each.
+pub fn measure<R: Runtime + Threads + Sync>(rt: &R, alloc: Global, count: u64) -> io::Result<()> {
+    for threads in [1usize, 2, 4] {
+        let queue = RunQueue::open(alloc, threads)?;
+        measure_turns::<Brand, R>(rt, alloc, queue, count)?;
+    }
+    let queue = RunQueue::open(alloc, 2)?;
+    measure_puts::<Brand, R>(rt, alloc, queue, count)
+}
+
+// All turns are taken by as many threads as there are schedulers.
+fn measure_turns<N: RunNaming + Send, R: Runtime + Threads + Sync>(
+    rt: &R,
+    alloc: Global,
+    queue: RunQueue<BoxedJob, BoxedSubsystem>,
+    count: u64,
+) -> io::Result<()>
+    requires { AllAt (λ k id. id ≡ N.deque k) queue }
+{
+    let mut hands = Vec::new(alloc);
+    for scheduler in queue.named::<N>(alloc)? {
+        hands.push(Hand {
+            scheduler,
+            turns: 0,
+        })?;
+    }
+    let threads = hands.len().max(1);
+    for hand in hands.iter_mut() {
+        fill(alloc, &mut hand.scheduler, JOBS / threads as u64)?;
+    }
+    let each = count / threads as u64;
+    let start = Instant::now(rt)?;
+    thread::for_each_mut(rt, hands.as_mut_slice(), threads, &|_, hand| take_turns(hand, each));
+    let mut turns = 0;
+    for hand in hands.iter() {
+        turns = hand.turns.saturating_add(turns);
+    }
+    report(rt, "turns", threads, turns, start)
+}
+
+// Puts so many jobs into its deque.
+fn fill<N: RunNaming>(
+    alloc: Global,
+    scheduler: &mut AnyScheduler<N>,
+    jobs: u64,
+) -> Result<(), AllocError> {
+    for number in 0..jobs {
+        let job: BoxedJob = Box::new(alloc, Idle { turns: 0 })?;
+        let process = Process::new(number, 0, 0, Body::Worker(job));
+        if let Err(_) = scheduler.put(process) {
+            return Err(AllocError);
+        }
+    }
+    Ok(())
+}
+
+fn take_turns<N: RunNaming>(hand: &mut Hand<N>, count: u64) {
+    for _ in 0..count {
+        if take_turn(&mut hand.scheduler) {
+            hand.turns = hand.turns.wrapping_add(1);
+        }
+    }
+}
+
+// One turn of the next process, if there is one.
+fn take_turn<N: RunNaming>(scheduler: &mut AnyScheduler<N>) -> bool {
+    let Some(process) = scheduler.next() else {
+        return false;
+    };
+    if !process.is_runnable() {
+        return false;
+    }
+    match one_turn(process, Signal::None) {
+        After::Again(process) | After::Begun(process, _) => {
+            if let Err(_) = scheduler.give_back(process) {
+                return false;
+            }
+            true
+        }
+        After::Done(_, spent) => {
+            let _ = spent.into_number();
+            false
+        }
+    }
+}
+
+// Puts, takes and ends processes at one scheduler; then another steals as many.
+fn measure_puts<N: RunNaming, R: Runtime>(
+    rt: &R,
+    alloc: Global,
+    queue: RunQueue<BoxedJob, BoxedSubsystem>,
+    count: u64,
+) -> io::Result<()>
+    requires { AllAt (λ k id. id ≡ N.deque k) queue }
+{
+    let mut schedulers = queue.named::<N>(alloc)?;
+    let (Some(mut thief), Some(mut owner)) = (schedulers.pop(), schedulers.pop()) else {
+        return Ok(());
+    };
+    let start = Instant::now(rt)?;
+    let mut ended = 0;
+    for number in 0..count {
+        if put_and_end(&mut owner, number) {
+            ended += 1;
+        }
+    }
+    report(rt, "put, take and end", 1, ended, start)?;
+    for number in 0..count {
+        let _ = owner.put(numbered(number));
+    }
+    let start = Instant::now(rt)?;
+    let mut stolen = 0;
+    for _ in 0..count {
+        if thief.next().is_some() {
+            stolen += 1;
+        }
+    }
+    report(rt, "steals", 1, stolen, start)
+}
+
+// A process that has nothing to do.
+fn numbered(number: u64) -> Process<BoxedJob, BoxedSubsystem> {
+    Process::new(number, 0, 0, Body::Sup(TableNo::new(0)))
+}
+
+// Puts a process, takes it, and counts its end.
+fn put_and_end<N: RunNaming>(scheduler: &mut AnyScheduler<N>, number: u64) -> bool {
+    if let Err(_) = scheduler.put(numbered(number)) {
+        return false;
+    }
+    let Some(mut process) = scheduler.next() else {
+        return false;
+    };
+    let _ = process.take_table();
+    let Ok(spent) = process.retire() else {
+        return false;
+    };
+    if scheduler.share().ended >= SHARE_LIMIT {
+        let _ = spent.into_number();
+        return false;
+    }
+    scheduler.finish(spent);
+    true
+}
