@@ -105,7 +105,14 @@ fn answer_to(orders: &[Effect]) -> Option<Note> {
 /// Measures restarts of one child, restarts of 256 under one_for_all, and calls of count_children: as many of them as
 /// one history has room for, or `count` where that is less.
 pub fn measure<R: Runtime>(rt: &R, alloc: Global, count: u64) -> io::Result<()> {
-    measure_restarts(rt, alloc, "restarts", Strategy::OneForOne, 1, count.min(32_000))?;
+    measure_restarts(
+        rt,
+        alloc,
+        "restarts",
+        Strategy::OneForOne,
+        1,
+        count.min(32_000),
+    )?;
     measure_restarts(
         rt,
         alloc,

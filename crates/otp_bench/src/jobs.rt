@@ -8,23 +8,25 @@ use otp_job::{After, Body, BoxedJob, Job, Process, TableNo, Told, Turn, one_turn
 use otp_reason::Started;
 use otp_run::{RunNaming, RunQueue, SHARE_LIMIT, Scheduler};
 use otp_signals::Signal;
-use std::alloc::{AllocError, Global};
-use std::io;
+use std::alloc::Global;
 use std::marker::Brand;
 use std::rt::Runtime;
-use std::thread;
 use std::thread::Threads;
 use std::time::Instant;
+use std::vec::IntoIter;
+use std::{io, thread};
 
 /// So many jobs share the run queue.
-const JOBS: u64 = 256;
+pub const JOBS: usize = 256;
+
+pub type AnyProcess = Process<BoxedJob, BoxedSubsystem>;
 
 type AnyScheduler<N> = Scheduler<N, BoxedJob, BoxedSubsystem>;
 
 /// A job that only counts its turns, and always wants another.
 #[derive(Drop)]
-struct Idle {
-    turns: u64,
+pub struct Idle {
+    pub turns: u64,
 }
 
 impl Job for Idle {
@@ -53,39 +55,56 @@ struct Hand<N: RunNaming> {
     turns: u64,
 }
 
-/// Measures turns, puts and steals, so many of each.
-pub fn measure<R: Runtime + Threads + Sync>(rt: &R, alloc: Global, count: u64) -> io::Result<()> {
-    for threads in [1usize, 2, 4] {
-        let queue = RunQueue::open(alloc, threads)?;
-        measure_turns::<Brand, R>(rt, alloc, queue, count)?;
+/// Measures empty turns of these processes, so many in all, on so many threads.
+pub fn measure_turns<R: Runtime + Threads + Sync>(
+    rt: &R,
+    alloc: Global,
+    threads: usize,
+    processes: Vec<AnyProcess>,
+    count: u64,
+) -> io::Result<()> {
+    if threads == 0 || threads > 8 {
+        return Ok(());
     }
-    let queue = RunQueue::open(alloc, 2)?;
-    measure_puts::<Brand, R>(rt, alloc, queue, count)
+    let queue = RunQueue::open(alloc, threads)?;
+    measure_turns_in::<Brand, R>(rt, alloc, queue, processes, count)
 }
 
-// All turns are taken by as many threads as there are schedulers.
-fn measure_turns<N: RunNaming + Send, R: Runtime + Threads + Sync>(
+/// Measures puts with their takes and ends, and steals, so many of each.
+pub fn measure_puts<R: Runtime>(rt: &R, alloc: Global, count: u64) -> io::Result<()> {
+    let queue = RunQueue::open(alloc, 2)?;
+    measure_puts_in::<Brand, R>(rt, alloc, queue, count)
+}
+
+// All turns are taken by as many threads as there are schedulers, each of which begins with as many of the jobs.
+fn measure_turns_in<N: RunNaming + Send, R: Runtime + Threads + Sync>(
     rt: &R,
     alloc: Global,
     queue: RunQueue<BoxedJob, BoxedSubsystem>,
+    processes: Vec<AnyProcess>,
     count: u64,
 ) -> io::Result<()>
     requires { AllAt (λ k id. id ≡ N.deque k) queue }
 {
-    let mut hands = Vec::new(alloc);
-    for scheduler in queue.named::<N>(alloc)? {
+    let schedulers = queue.named::<N>(alloc)?;
+    let threads = schedulers.len().max(1);
+    let mut hands = Vec::with_capacity(alloc, threads)?;
+    let mut left = processes.into_iter();
+    for mut scheduler in schedulers {
+        fill(&mut scheduler, &mut left, JOBS / threads);
         hands.push(Hand {
             scheduler,
             turns: 0,
         })?;
     }
-    let threads = hands.len().max(1);
-    for hand in hands.iter_mut() {
-        fill(alloc, &mut hand.scheduler, JOBS / threads as u64)?;
-    }
     let each = count / threads as u64;
     let start = Instant::now(rt)?;
-    thread::for_each_mut(rt, hands.as_mut_slice(), threads, &|_, hand| take_turns(hand, each));
+    thread::for_each_mut(
+        rt,
+        hands.as_mut_slice(),
+        threads,
+        &|_, hand| take_turns(hand, each),
+    );
     let mut turns = 0;
     for hand in hands.iter() {
         turns = hand.turns.saturating_add(turns);
@@ -93,20 +112,17 @@ fn measure_turns<N: RunNaming + Send, R: Runtime + Threads + Sync>(
     report(rt, "turns", threads, turns, start)
 }
 
-// Puts so many jobs into its deque.
+// Puts so many processes into its deque.
 fn fill<N: RunNaming>(
-    alloc: Global,
     scheduler: &mut AnyScheduler<N>,
-    jobs: u64,
-) -> Result<(), AllocError> {
-    for number in 0..jobs {
-        let job: BoxedJob = Box::new(alloc, Idle { turns: 0 })?;
-        let process = Process::new(number, 0, 0, Body::Worker(job));
-        if let Err(_) = scheduler.put(process) {
-            return Err(AllocError);
+    processes: &mut IntoIter<AnyProcess>,
+    count: usize,
+) {
+    for _ in 0..count {
+        if let Some(process) = processes.next() {
+            let _ = scheduler.put(process);
         }
     }
-    Ok(())
 }
 
 fn take_turns<N: RunNaming>(hand: &mut Hand<N>, count: u64) {
@@ -140,7 +156,7 @@ fn take_turn<N: RunNaming>(scheduler: &mut AnyScheduler<N>) -> bool {
 }
 
 // Puts, takes and ends processes at one scheduler; then another steals as many.
-fn measure_puts<N: RunNaming, R: Runtime>(
+fn measure_puts_in<N: RunNaming, R: Runtime>(
     rt: &R,
     alloc: Global,
     queue: RunQueue<BoxedJob, BoxedSubsystem>,
@@ -174,7 +190,7 @@ fn measure_puts<N: RunNaming, R: Runtime>(
 }
 
 // A process that has nothing to do.
-fn numbered(number: u64) -> Process<BoxedJob, BoxedSubsystem> {
+fn numbered(number: u64) -> AnyProcess {
     Process::new(number, 0, 0, Body::Sup(TableNo::new(0)))
 }
 
