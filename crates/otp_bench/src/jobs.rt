@@ -169,10 +169,10 @@ fn measure_puts_in<N: RunNaming, R: Runtime>(
         return Ok(());
     };
     let start = Instant::now(rt)?;
-    let mut ended = 0;
+    let mut ended = 0u64;
     for number in 0..count {
         if put_and_end(&mut owner, number) {
-            ended += 1;
+            ended = ended.wrapping_add(1);
         }
     }
     report(rt, "put, take and end", 1, ended, start)?;
@@ -180,10 +180,10 @@ fn measure_puts_in<N: RunNaming, R: Runtime>(
         let _ = owner.put(numbered(number));
     }
     let start = Instant::now(rt)?;
-    let mut stolen = 0;
+    let mut stolen = 0u64;
     for _ in 0..count {
         if thief.next().is_some() {
-            stolen += 1;
+            stolen = stolen.wrapping_add(1);
         }
     }
     report(rt, "steals", 1, stolen, start)
