@@ -7,6 +7,8 @@
 #[cfg(test)]
 mod bridges;
 #[cfg(test)]
+mod clients;
+#[cfg(test)]
 mod inbox;
 #[cfg(test)]
 mod jobs;
