@@ -125,12 +125,15 @@ fn fill<N: RunNaming>(
     }
 }
 
+// The turns are counted at the end, since the hands lie side by side and each is another thread's.
 fn take_turns<N: RunNaming>(hand: &mut Hand<N>, count: u64) {
+    let mut turns = 0u64;
     for _ in 0..count {
         if take_turn(&mut hand.scheduler) {
-            hand.turns = hand.turns.wrapping_add(1);
+            turns = turns.wrapping_add(1);
         }
     }
+    hand.turns = turns;
 }
 
 // One turn of the next process, if there is one.
