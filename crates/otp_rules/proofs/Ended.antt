@@ -80,9 +80,9 @@ followed-ends n before (Some (after.End x)) o h =
     let end : SupEnd = sup_end_of o.state.flags o.state.stamps x in
     let told : List Effect = o.orders ++ filter_map refusal o.state.waiting in (
       ap (λ (own : ℕ). o.state.ends ++ (own, end) ∷ []) h.1
-      ∙ ap (λ (ends : List (ℕ × SupEnd)). ends ++ (n, end) ∷ []) (quiet n before o (filter_map refusal o.state.waiting) (no_refusal o.state.waiting) h.0)
-      ∙ append_assoc before (ends_under n told) ((n, end) ∷ [])
-      ∙ ap (λ (ends : List (ℕ × SupEnd)). before ++ ends) (sym (last_under n told end)),
+          ∙ ap (λ (ends : List (ℕ × SupEnd)). ends ++ (n, end) ∷ []) (quiet n before o (filter_map refusal o.state.waiting) (no_refusal o.state.waiting) h.0)
+          ∙ append_assoc before (ends_under n told) ((n, end) ∷ [])
+          ∙ ap (λ (ends : List (ℕ × SupEnd)). before ++ ends) (sym (last_under n told end)),
       h.1,
     )
 

@@ -9,6 +9,7 @@ pub mod Appended
 pub mod Counting
 pub mod Sound
 pub mod NeedsWork
+pub mod WhileOpen
 pub mod Stopping
 pub mod InTurn
 pub mod Numbers

@@ -1,5 +1,5 @@
 -- What an office and a table stand for, and what they keep.
-use Rattle.std.specs.Prelude.{◌≡◌, ℕ, ◌+◌, ◌<◌, ◌≤◌, ◌⊎◌, Bool, true, false, not, List, [], ◌∷◌, ◌++◌, Option, Some, None, length, take, drop, All, Contains, IfSome, ◌^◌}
+use Rattle.std.specs.Prelude.{◌≡◌, ◌↔◌, ℕ, ◌+◌, ◌<◌, ◌≤◌, ◌⊎◌, Bool, true, false, not, List, [], ◌∷◌, ◌++◌, Option, Some, None, length, take, drop, All, Contains, IfSome, ◌^◌}
 use Rattle.std.specs.List.{filter, filter_map}
 use Rattle.otp_spec.specs.declared.child.ChildSpec.{ChildSpec}
 use Rattle.otp_spec.specs.declared.flags.SupFlags.{SupFlags}
@@ -14,6 +14,9 @@ use Rattle.otp_rules.specs.Needs.{IsLawfulHistory, numbers_of}
 use Rattle.otp_rules.specs.Run.{empty_state, orders_of}
 use Rattle.otp_rules.specs.State.{State}
 use Rattle.otp_rules.specs.Rate.{IsRated}
+use Rattle.otp_rules.specs.Slots.{AreSlotted}
+use Rattle.otp_table.specs.declared.row.Row.{Row}
+use Rattle.otp_table.specs.Rows.{has_process}
 use Rattle.otp_core.specs.View.{View, state_of}
 use Rattle.otp_inbox.specs.Tokens.{TakerState}
 use Rattle.otp_signals.specs.declared.view.Holding.{Holding}
@@ -105,6 +108,11 @@ new_office flags specs owner first_slot = record {
   first_slot = first_slot;
 }
 
+-- two children that have processes have one slot only where they are one child, with one process
+abbrev pub AreApart : List Row → Type 0
+AreApart rows =
+    (a b : Row) (p q : ℕ) → Contains rows a → Contains rows b → has_process p a.state ≡ true → has_process q b.state ≡ true → (a.slot ≡ b.slot) ↔ (p ≡ q)
+
 -- what an office keeps, as a reader wants it. Its state is what the rules give for its history from its base on
 pub record KeepsOffice (o : OfficeView) : Type 0 where
   -- the base is a supervisor that was never opened, for some flags and specifications
@@ -117,6 +125,10 @@ pub record KeepsOffice (o : OfficeView) : Type 0 where
   pub posts : All (λ post. IsOrdered (take (o.sent + 1) (orders_along o.core)) post.1) o.owner.posts
   -- no period has more restarts than the intensity, but for the last one of a supervisor that ends by it
   pub rate : IsRated (state_of o.core)
+  -- no two children have one slot, and each has one of the 256
+  pub slots : AreSlotted (state_of o.core).rows
+  -- no two children have one process: two that have processes have two slots
+  pub apart : AreApart (state_of o.core).rows
 
 -- how many bodies are kept, and for how many more there is room
 pub record BodiesView : Type 0 where

@@ -16,7 +16,7 @@ use crate::rows::{child_of, state_in};
 use crate::turns::{TurnAnswer, TurnFault};
 use otp_core::{Core, OpenFault};
 use otp_reason::Note;
-use otp_rules::{Event, Item, Kind, Phase, Reply};
+use otp_rules::{Event, Item, Kind, Phase, Reply, laws};
 use otp_signals::{Owner, Signal, Words, WordsNaming};
 use otp_spec::{ChildSpec, SupFlags};
 use otp_table::{Row, RowState};
@@ -248,6 +248,11 @@ impl<N: WordsNaming> Office<N> {
     pub fn keeps_rules(&self)
         ensures { KeepsOffice self.now }
     {
+        laws::slots_are_owned();
+        laws::processes_are_owned();
+        laws::slots_tell_processes();
+        let _ = self.core.history();
+        let _ = self.core.last_number();
         let _ = self.core.restarts();
     }
 

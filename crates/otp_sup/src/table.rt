@@ -58,7 +58,8 @@ impl<N: WordsNaming + InboxNaming, B: Drop> Table<N, B> {
     /// rules give for the history that it stores; so are the orders that were sent, followed by those still to be sent.
     /// That history holds each item taken from its inbox once, in order. Its process numbers are those that its own
     /// seat drew. Each signal that it posted for one of them is that of an order that was sent, or of the one to be sent
-    /// next. And no period has more restarts than the intensity, unless the supervisor is ending.
+    /// next. No period has more restarts than the intensity, unless the supervisor is ending. And no two of its children
+    /// have one slot, or one process.
     pub fn keeps_rules(&self)
         ensures { KeepsRules self.now }
     {
