@@ -25,7 +25,7 @@ use Rattle.otp_rules.specs.Stops.{stop_order}
 use Rattle.otp_rules.specs.Ends.{end_all, refusal, refuse_all, sup_end_of}
 use Rattle.otp_rules.specs.Work.{follow}
 use Rattle.otp_rules.specs.Step.{decide, kill_order, late_number, open_rows, open_with, stamped, step, step_on, tick}
-use Rattle.otp_rules.specs.Run.{empty_state, orders_of, state_after}
+use Rattle.otp_rules.specs.Run.{empty_state, orders_of}
 use Rattle.otp_rules.specs.Ended.{end_in, ends_of, ends_under, opening_number, EndsCarried, EndsKept, EndsKeptFromEmpty}
 use Rattle.otp_rules.proofs.Decisions.{decide-survives}
 use Rattle.otp_rules.proofs.Steady.{Goes, Steady, advance-goes, steady-survives}

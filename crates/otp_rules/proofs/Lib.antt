@@ -1,3 +1,4 @@
+mod Samples
 mod Worked
 pub mod Keeps
 pub mod Decisions

@@ -1,5 +1,5 @@
 -- The open work and its progress are in step: what has been started.
-use Rattle.std.specs.Prelude.{◌≡◌, ◌⊎◌, ℕ, ◌==◌, ◌+◌, ◌<◌, ◌++◌, Bool, true, false, List, [], ◌∷◌, Option, None, Some, All, refl, is_some, slice_set, remove, map}
+use Rattle.std.specs.Prelude.{◌≡◌, ◌⊎◌, ℕ, ◌==◌, ◌+◌, ◌<◌, ◌++◌, Bool, true, false, List, [], ◌∷◌, Option, All, refl, is_some, slice_set, map}
 use Rattle.std.proofs.Common.{◌∙◌, ap, sym, subst, inl, inr, arith, ⊎_elim, cond, get_or}
 use Rattle.std.proofs.lemmas.Bool.{cond_both, false≢true, cases_Bool, eq-eqb, eqb-true, or_left, or_right}
 use Rattle.std.proofs.lemmas.List.Elements.{All-nil, All-map}
@@ -7,28 +7,22 @@ use Rattle.otp_reason.specs.declared.note.Note.{Note}
 use Rattle.otp_table.specs.declared.row.Row.{Row}
 use Rattle.otp_table.specs.declared.row.RowState.{RowState}
 use Rattle.otp_table.specs.declared.row.RowState.TheVariants.{Undefined, Starting, Up, Asked, Killed, Restarting}
-use Rattle.otp_table.specs.Rows.{with_state, free_slot}
+use Rattle.otp_table.specs.Rows.{with_state}
 use Rattle.otp_rules.specs.declared.call.Reply.{Reply}
 use Rattle.otp_rules.specs.declared.event.Event.{Event}
 use Rattle.otp_rules.specs.declared.event.Kind.{Kind}
 use Rattle.otp_rules.specs.declared.work.Due.{Due}
-use Rattle.otp_rules.specs.declared.work.After.{After}
-use Rattle.otp_rules.specs.State.{Outcome, State, answer, closed, put_last, with_rows, with_waiting, with_work}
+use Rattle.otp_rules.specs.State.{Outcome, State, answer, put_last}
 use Rattle.otp_rules.specs.Places.{end_row, set_row}
-use Rattle.otp_rules.specs.Stops.{terminate}
-use Rattle.otp_rules.specs.Deaths.{restart}
-use Rattle.otp_rules.specs.Calls.{new_row}
-use Rattle.otp_rules.specs.Step.{open_with, open_rows, tick, decide, stamped}
+use Rattle.otp_rules.specs.Step.{tick, decide, stamped}
 use Rattle.otp_rules.specs.Progress.{Ordered, Progress, is_opened, is_answer_note, is_answer, heard, decided, id_bytes, opened_now, went_on, seen}
 use Rattle.otp_rules.specs.Fit.{is_told, rows_in, IsSound, is_starting, IsUnderWay, HasStarts, KeepsStarts}
-use Rattle.otp_rules.proofs.Decisions.{IsNoted, Survives, decide-survives}
+use Rattle.otp_rules.proofs.Decisions.{IsNoted, decide-survives}
 use Rattle.otp_rules.proofs.Counting.{rows_in-set, rows_in-end, Alike, alike, end_row-alike, tick_count}
 use Rattle.otp_rules.proofs.WhileOpen.{Stays, While, while-survives}
 use Rattle.otp_reason.specs.declared.note.Note.TheVariants as note
-use Rattle.otp_rules.specs.declared.ending.Ending.TheVariants as ending
 use Rattle.otp_rules.specs.declared.event.Item.TheVariants as item
 use Rattle.otp_rules.specs.declared.event.Waiting.TheVariants as waiting
-use Rattle.otp_rules.specs.declared.work.After.TheVariants as after
 
 pub idle_keeps : (s : State) (g : Progress) → is_some s.follows ≡ false → KeepsStarts s g
 idle_keeps s g idle busy = absurd (false≢true (sym idle ∙ busy))

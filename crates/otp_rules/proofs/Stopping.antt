@@ -1,38 +1,31 @@
 -- The open work and its progress are in step: what has been stopped.
-use Rattle.std.specs.Prelude.{◌≡◌, ◌⊎◌, ℕ, ◌==◌, ◌+◌, ◌<◌, ◌++◌, ◌&&◌, Bool, true, false, List, [], ◌∷◌, Option, None, Some, refl, is_some, slice_set, nat_lt, remove, count_by}
+use Rattle.std.specs.Prelude.{◌≡◌, ◌⊎◌, ℕ, ◌==◌, ◌+◌, ◌<◌, ◌++◌, ◌&&◌, Bool, true, false, List, [], ◌∷◌, Option, refl, is_some, slice_set, count_by}
 use Rattle.std.specs.List.{filter_map, cons_option}
 use Rattle.std.proofs.Common.{◌∙◌, ap, sym, subst, inl, inr, arith, ⊎_elim, cond}
-use Rattle.std.proofs.lemmas.Bool.{cond_both, false≢true, cases_Bool, eq-eqb, eqb-true}
+use Rattle.std.proofs.lemmas.Bool.{false≢true, cases_Bool, eq-eqb, eqb-true}
 use Rattle.std.proofs.lemmas.List.Sums.{sum_by-cons}
 use Rattle.otp_reason.specs.declared.reason.Reason.{Reason}
 use Rattle.otp_spec.specs.declared.flags.SupFlags.{SupFlags}
 use Rattle.otp_table.specs.declared.row.Row.{Row}
 use Rattle.otp_table.specs.declared.row.RowState.{RowState}
 use Rattle.otp_table.specs.declared.row.RowState.TheVariants.{Undefined, Starting, Up, Asked, Killed, Restarting}
-use Rattle.otp_table.specs.Rows.{with_state, free_slot}
-use Rattle.otp_window.specs.Period.{in_period}
+use Rattle.otp_table.specs.Rows.{with_state}
 use Rattle.otp_rules.specs.declared.call.Reply.{Reply}
-use Rattle.otp_rules.specs.declared.ending.Ending.{Ending}
 use Rattle.otp_rules.specs.declared.event.Kind.{Kind}
 use Rattle.otp_rules.specs.declared.event.Waiting.{Waiting}
 use Rattle.otp_rules.specs.declared.work.After.{After}
-use Rattle.otp_rules.specs.State.{Outcome, State, answer, closed, is_simple, put_last, with_rows, with_stamps, with_waiting, with_work}
+use Rattle.otp_rules.specs.State.{Outcome, State, answer, is_simple, put_last}
 use Rattle.otp_rules.specs.Places.{end_row, set_row}
-use Rattle.otp_rules.specs.Restarts.{running}
-use Rattle.otp_rules.specs.Stops.{calm_all, is_exit, terminate_ordered, terminate_together, terminate}
-use Rattle.otp_rules.specs.Deaths.{restart_rows, restart_or_end, restart}
-use Rattle.otp_rules.specs.Calls.{new_row}
-use Rattle.otp_rules.specs.Step.{open_with, open_rows, tick}
-use Rattle.otp_rules.specs.Progress.{Progress, is_end, is_opened, ends_together, exit_of_waiting, ended_by, went_on, IsIn}
-use Rattle.otp_rules.specs.Fit.{is_told, rows_in, times, IsSound, HasWaiting, HasPart, HasStops, Keeps}
-use Rattle.otp_rules.proofs.Decisions.{IsNoted, StandsAt, Survives, by_test}
-use Rattle.otp_rules.proofs.Counting.{times-cons, times-append, rows_in-set, rows_in-end, Alike, alike, end_row-alike, stop_each-alike, tick_count, end_row-quiet, put_count}
+use Rattle.otp_rules.specs.Stops.{is_exit}
+use Rattle.otp_rules.specs.Step.{tick}
+use Rattle.otp_rules.specs.Progress.{Progress, is_end, ends_together, exit_of_waiting, ended_by, went_on, IsIn}
+use Rattle.otp_rules.specs.Fit.{is_told, rows_in, times, HasWaiting, HasPart, HasStops, Keeps}
+use Rattle.otp_rules.proofs.Decisions.{IsNoted, StandsAt, Survives}
+use Rattle.otp_rules.proofs.Counting.{times-cons, times-append, rows_in-set, rows_in-end, Alike, alike, end_row-alike, tick_count, end_row-quiet, put_count}
 use Rattle.otp_rules.proofs.WhileOpen.{Stays, While, while-survives}
 use Rattle.otp_reason.specs.declared.note.Note.TheVariants as note
-use Rattle.otp_rules.specs.declared.ending.Ending.TheVariants as ending
 use Rattle.otp_rules.specs.declared.event.Item.TheVariants as item
 use Rattle.otp_rules.specs.declared.event.Waiting.TheVariants as waiting
-use Rattle.otp_rules.specs.declared.work.After.TheVariants as after
 
 -- what has been stopped is in step with the state, while the work stays open
 abbrev Stopped : Progress → State → Type 0

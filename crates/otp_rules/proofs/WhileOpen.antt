@@ -1,6 +1,6 @@
 -- What holds while one piece of work stays open: what the few changes keep that leave it open, every decision keeps, or it
 -- closes the work, or opens another. One walk, for what has been stopped and for what has been started.
-use Rattle.std.specs.Prelude.{◌≡◌, ◌⊎◌, ℕ, ◌==◌, ◌++◌, Bool, true, false, List, [], ◌∷◌, Option, None, Some, refl, is_some, nat_lt, remove}
+use Rattle.std.specs.Prelude.{◌≡◌, ◌⊎◌, ℕ, ◌==◌, ◌++◌, Bool, true, false, [], ◌∷◌, Option, None, Some, refl, is_some, nat_lt, remove}
 use Rattle.std.proofs.Common.{◌∙◌, ap, sym, subst, inl, inr}
 use Rattle.std.proofs.lemmas.Bool.{cond_both, false≢true}
 use Rattle.otp_reason.specs.declared.reason.Reason.{Reason}
@@ -20,7 +20,7 @@ use Rattle.otp_rules.specs.Stops.{calm_all, terminate_ordered, terminate_togethe
 use Rattle.otp_rules.specs.Deaths.{restart_rows, restart_or_end, restart}
 use Rattle.otp_rules.specs.Calls.{new_row}
 use Rattle.otp_rules.specs.Step.{open_with, open_rows, tick}
-use Rattle.otp_rules.specs.Progress.{is_end, is_opened}
+use Rattle.otp_rules.specs.Progress.{is_opened}
 use Rattle.otp_rules.specs.Fit.{is_told, IsSound}
 use Rattle.otp_rules.proofs.Decisions.{IsNoted, StandsAt, Survives, by_test}
 use Rattle.otp_rules.proofs.Counting.{Alike, alike, end_row-alike, stop_each-alike}
