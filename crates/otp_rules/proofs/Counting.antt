@@ -108,11 +108,6 @@ stop_each-alike (p ∷ ps) o =
     (λ _. alike-chain (stop_each ps asked) asked o (stop_each-alike ps asked) (tell-alike p o))
 
 -- what has been told to stop is awaited, and no more up
-pub told-awaited : (now p : ℕ) (s : Shutdown) → is_awaited (told now p s) ≡ true
-told-awaited now p BrutalKill = refl
-told-awaited now p (Milliseconds _) = refl
-told-awaited now p Infinity = refl
-
 pub told-runs : (now p q : ℕ) (s : Shutdown) → runs_as q (told now p s) ≡ false
 told-runs now p q BrutalKill = refl
 told-runs now p q (Milliseconds _) = refl
@@ -237,19 +232,6 @@ no_row test (row ∷ rows) i e n =
     let got : slice_get (row ∷ rows) i ≡ Some (get_or (row ∷ rows) i row) = slice_get-get_or (row ∷ rows) i row in_it in
     let no : ◌≡◌ {A = Option Row} None (Some (get_or (row ∷ rows) i row)) = sym n ∙ got in cc
 
--- what is made of the first row that passes, where one does
-pub at_row-found : (P : Outcome → Type 0) (test : Row → Bool) (missing : Outcome) (f : ℕ → Row → Outcome → Outcome) (o : Outcome) → 0 < count_by test o.state.rows → AtPassing P test f o → P (at_row test missing f o)
-unfolding at_row at_found at_place
-at_row-found P test missing f o some h =
-    (elim (position test o.state.rows) as (λ (x : Option ℕ). position test o.state.rows ≡ x → is_some x ≡ true → P (at_found missing f x o)) [
-      | None ↦ λ e k. absurd (false≢true k)
-      | Some i ↦ λ e k.
-          (elim (slice_get o.state.rows i) as (λ (r : Option Row). slice_get o.state.rows i ≡ r → P (at_place f i r o)) [
-            | None ↦ λ n. absurd (no_row test o.state.rows i e n)
-            | Some row ↦ λ at. h i row at (ap (λ (r : Row). test r) (sym (get_or_from_slice_get o.state.rows i row row at)) ∙ (position-Some test o.state.rows i row e).1)
-          ]) refl
-    ]) refl (found test o.state.rows some)
-
 -- a row's end changes neither what waits nor the orders
 pub end_row-quiet : (place : ℕ) (row : Row) (o : Outcome) → ((end_row place row o).state.waiting ≡ o.state.waiting) × ((end_row place row o).orders ≡ o.orders)
 unfolding end_row
@@ -277,7 +259,7 @@ without_count q t ws =
 pub put_count : (q : ℕ) (ws : List Waiting) (w : Waiting) → count_by (is_exit q) (ws ++ w ∷ []) ≡ count_by (is_exit q) ws + cond (is_exit q w) 1 0
 put_count q ws w = let a : count_by (is_exit q) (ws ++ w ∷ []) ≡ count_by (is_exit q) ws + count_by (is_exit q) (w ∷ []) = sum_by-append (λ x. cond (is_exit q x) 1 0) ws (w ∷ []) in omega (arith, a, sum_by-cons (λ x. cond (is_exit q x) 1 0) w [])
 
--- the same, and it is the first
+-- what is made of the first row that passes, where one does
 pub at_row-first : (P : Outcome → Type 0) (test : Row → Bool) (missing : Outcome) (f : ℕ → Row → Outcome → Outcome) (o : Outcome) → 0 < count_by test o.state.rows
     → ((place : ℕ) (row : Row) → position test o.state.rows ≡ Some place → StandsAt place row o → P (f place row o)) → P (at_row test missing f o)
 unfolding at_row at_found at_place
@@ -290,3 +272,7 @@ at_row-first P test missing f o some h =
             | Some row ↦ λ at. h i row e at
           ]) refl
     ]) refl (found test o.state.rows some)
+
+pub at_row-found : (P : Outcome → Type 0) (test : Row → Bool) (missing : Outcome) (f : ℕ → Row → Outcome → Outcome) (o : Outcome) → 0 < count_by test o.state.rows → AtPassing P test f o → P (at_row test missing f o)
+at_row-found P test missing f o some h =
+    at_row-first P test missing f o some (λ i row first at. h i row at (ap (λ (r : Row). test r) (sym (get_or_from_slice_get o.state.rows i row row at)) ∙ (position-Some test o.state.rows i row first).1))

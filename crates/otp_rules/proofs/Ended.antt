@@ -25,7 +25,7 @@ use Rattle.otp_rules.specs.Stops.{stop_order}
 use Rattle.otp_rules.specs.Ends.{end_all, refusal, refuse_all, sup_end_of}
 use Rattle.otp_rules.specs.Work.{follow}
 use Rattle.otp_rules.specs.Step.{decide, kill_order, late_number, open_rows, open_with, stamped, step, step_on, tick}
-use Rattle.otp_rules.specs.Run.{empty_state, orders_of, state_after}
+use Rattle.otp_rules.specs.Run.{empty_state, orders_of}
 use Rattle.otp_rules.specs.Ended.{end_in, ends_of, ends_under, opening_number, EndsCarried, EndsKept, EndsKeptFromEmpty}
 use Rattle.otp_rules.proofs.Decisions.{decide-survives}
 use Rattle.otp_rules.proofs.Steady.{Goes, Steady, advance-goes, steady-survives}
@@ -80,9 +80,9 @@ followed-ends n before (Some (after.End x)) o h =
     let end : SupEnd = sup_end_of o.state.flags o.state.stamps x in
     let told : List Effect = o.orders ++ filter_map refusal o.state.waiting in (
       ap (λ (own : ℕ). o.state.ends ++ (own, end) ∷ []) h.1
-      ∙ ap (λ (ends : List (ℕ × SupEnd)). ends ++ (n, end) ∷ []) (quiet n before o (filter_map refusal o.state.waiting) (no_refusal o.state.waiting) h.0)
-      ∙ append_assoc before (ends_under n told) ((n, end) ∷ [])
-      ∙ ap (λ (ends : List (ℕ × SupEnd)). before ++ ends) (sym (last_under n told end)),
+          ∙ ap (λ (ends : List (ℕ × SupEnd)). ends ++ (n, end) ∷ []) (quiet n before o (filter_map refusal o.state.waiting) (no_refusal o.state.waiting) h.0)
+          ∙ append_assoc before (ends_under n told) ((n, end) ∷ [])
+          ∙ ap (λ (ends : List (ℕ × SupEnd)). before ++ ends) (sym (last_under n told end)),
       h.1,
     )
 

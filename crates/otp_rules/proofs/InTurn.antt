@@ -36,7 +36,8 @@ use Rattle.otp_rules.proofs.Decisions.{IsIdle, Survives, at_row-survives, by_tes
 use Rattle.otp_rules.proofs.Counting.{times-cons, times-append, rows_in-set, rows_in-at, Alike, end_row-alike, use_exit-alike, told-told, times-reverse, none_in, there, at_row-found, end_row-quiet, use_exit-quiet, without_count}
 use Rattle.otp_rules.specs.Order.{StopsInTurn, IsToldTogether, IsStopInTurn, StopOrder, StopOrderFromEmpty}
 use Rattle.otp_rules.proofs.Sound.{IsReady, advance-sound, empty-sound, used-ready}
-use Rattle.otp_rules.proofs.Stopping.{Carried, apart-alike, carried-survives, fails_opening, no_after, not_busy, opens_none}
+use Rattle.otp_rules.proofs.Stopping.{Carried, apart-alike, carried-survives, not_busy}
+use Rattle.otp_rules.proofs.WhileOpen.{fails_opening, no_after, opens_none}
 use Rattle.otp_rules.proofs.Opened.{decided-keeps, stands_at, started-carried, together, together-follows}
 use Rattle.otp_rules.specs.declared.ending.SupEnd.{SupEnd}
 use Rattle.otp_rules.specs.Ends.{sup_end_of, refusal, refuse_all, end_all}

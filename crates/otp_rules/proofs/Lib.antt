@@ -1,3 +1,4 @@
+mod Samples
 mod Worked
 pub mod Keeps
 pub mod Decisions
@@ -9,6 +10,7 @@ pub mod Appended
 pub mod Counting
 pub mod Sound
 pub mod NeedsWork
+pub mod WhileOpen
 pub mod Stopping
 pub mod InTurn
 pub mod Numbers

@@ -43,7 +43,8 @@ use Rattle.otp_rules.proofs.Decisions.{StandsAt, Survives, by_test, decide-survi
 use Rattle.otp_rules.proofs.Counting.{times-cons, times-append, rows_in-cons, rows_in-append, rows_in-set, rows_in-at, Alike, end_row-alike, alike, stop_each-alike, take_rows, drop_rows, calm_awaited}
 use Rattle.otp_rules.proofs.Sound.{awaits_nothing, sound-survives}
 use Rattle.otp_rules.proofs.Fitted.{affected_from_le, affected_to_more, slice_split}
-use Rattle.otp_rules.proofs.Stopping.{Tracks, Carried, apart-alike, carried-survives, fails_opening, no_after, opens_none, restart-busy, terminate-follows, waits-all}
+use Rattle.otp_rules.proofs.Stopping.{Carried, apart-alike, carried-survives, waits-all}
+use Rattle.otp_rules.proofs.WhileOpen.{Tracks, fails_opening, no_after, opens_none, restart-busy, terminate-follows}
 use Rattle.otp_rules.specs.declared.ending.Ending.TheVariants as ending
 use Rattle.otp_rules.specs.declared.event.Waiting.TheVariants as waiting
 use Rattle.otp_rules.specs.declared.work.After.TheVariants as after

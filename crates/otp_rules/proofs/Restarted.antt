@@ -34,7 +34,7 @@ use Rattle.otp_rules.specs.Rate.{restarted, restarts, restarts_by, RestartRateFr
 use Rattle.otp_rules.proofs.Decisions.{IsIdle, StandsAt, Survives, by_test, decide-survives}
 use Rattle.otp_rules.proofs.Counting.{rows_in-append, rows_in-at, rows_in-cons, rows_in-end, rows_in-set, Alike, alike, calm_awaited, drop_rows, end_row-alike, take_rows, tick_count}
 use Rattle.otp_rules.proofs.Sound.{advance-sound, awaits_nothing, empty-sound, sound-survives}
-use Rattle.otp_rules.proofs.Stopping.{Tracks, fails_opening, no_after, opens_none, terminate-follows}
+use Rattle.otp_rules.proofs.WhileOpen.{Tracks, fails_opening, no_after, opens_none, terminate-follows}
 use Rattle.otp_rules.proofs.Opened.{down_calm, new-awaited, opens_nothing, opens_not_again, starting}
 use Rattle.otp_rules.proofs.Steady.{Goes, advance-goes, terminate-goes}
 use Rattle.otp_rules.proofs.Keeps.{decide-keeps}

@@ -1,23 +1,14 @@
 -- Worked rows of the rules, which compute.
-use Rattle.std.specs.Prelude.{◌≡◌, ℕ, List, [], ◌∷◌, Option, None, Some, codes, refl, true, false, Bool}
+use Rattle.std.specs.Prelude.{◌≡◌, ℕ, [], ◌∷◌, Option, None, Some, codes, refl, true, false}
 use Rattle.otp_reason.specs.declared.name.Name.{Name}
 use Rattle.otp_reason.specs.declared.note.Note.TheVariants as note
 use Rattle.otp_reason.specs.Names.{name_of}
 use Rattle.otp_reason.specs.Texts.{text_of}
-use Rattle.otp_reason.specs.declared.reason.Reason.{Reason}
 use Rattle.otp_reason.specs.declared.reason.Reason.TheVariants as reason
-use Rattle.otp_spec.specs.declared.child.ChildSpec.{ChildSpec}
-use Rattle.otp_spec.specs.declared.flags.SupFlags.{SupFlags}
-use Rattle.otp_spec.specs.declared.flags.Strategy.{Strategy}
 use Rattle.otp_spec.specs.declared.flags.Strategy.TheVariants.{OneForOne, OneForAll, RestForOne, SimpleOneForOne}
-use Rattle.otp_spec.specs.declared.flags.AutoShutdown.{AutoShutdown}
 use Rattle.otp_spec.specs.declared.flags.AutoShutdown.TheVariants.{Never, AnySignificant}
-use Rattle.otp_spec.specs.declared.child.Restart.{Restart}
 use Rattle.otp_spec.specs.declared.child.Restart.TheVariants.{Permanent, Transient}
-use Rattle.otp_spec.specs.declared.child.Shutdown.{Shutdown}
 use Rattle.otp_spec.specs.declared.child.Shutdown.TheVariants.{Milliseconds}
-use Rattle.otp_spec.specs.declared.child.ChildType.TheVariants.{Worker}
-use Rattle.otp_spec.specs.declared.child.Modules.TheVariants.{One}
 use Rattle.otp_spec.specs.Lawful.{first_fault}
 use Rattle.otp_rules.specs.declared.call.Call.{Call}
 use Rattle.otp_rules.specs.declared.call.Call.TheVariants as call
@@ -25,7 +16,6 @@ use Rattle.otp_rules.specs.declared.call.CallFault.TheVariants as fault
 use Rattle.otp_rules.specs.declared.call.Reply.TheVariants as reply
 use Rattle.otp_rules.specs.declared.ending.Cause.{Cause}
 use Rattle.otp_rules.specs.declared.ending.Cause.TheVariants as cause
-use Rattle.otp_rules.specs.declared.event.Event.{Event}
 use Rattle.otp_rules.specs.declared.event.Item.TheVariants as item
 use Rattle.otp_rules.specs.declared.event.Kind.{Kind}
 use Rattle.otp_rules.specs.declared.event.Kind.TheVariants as kind
@@ -41,40 +31,10 @@ use Rattle.otp_rules.specs.Deaths.{restart_rows, restart_or_end, restart, after_
 use Rattle.otp_rules.specs.Starts.{up_after, at_starting, take_up, take_ignored, failed_after, take_failed, start_row, start}
 use Rattle.otp_rules.specs.Calls.{add_child, call_at, start_lawful, start_checked, start_child, start_shared, start_dynamic, call_child, stop_process, terminate_process, get_shared, get_childspec, take_call}
 use Rattle.otp_rules.specs.Step.{take_note, ask, take_item, take_waiting, resume, open_with, open_rows, tick, decide, step_on, step}
-
-abbrev named : List ℕ → Restart → Bool → Shutdown → ChildSpec
-named bytes restart significant shutdown = record { id = name_of bytes; start = name_of bytes; restart = restart; significant = significant; shutdown = shutdown; kind = Worker; modules = One (name_of bytes) }
-
-abbrev worker : List ℕ → Restart → ChildSpec
-worker bytes restart = named bytes restart false (Milliseconds 5000)
-
-abbrev flags : Strategy → ℕ → AutoShutdown → SupFlags
-flags strategy intensity auto = record { strategy = strategy; intensity = intensity; period = 5; auto_shutdown = auto }
-
--- an event at a reading, without a number and with one
-abbrev at : ℕ → Kind → Event
-at t k = record { reading = t; number = None; kind = k }
-
-abbrev with : ℕ → ℕ → Kind → Event
-with n t k = record { reading = t; number = Some n; kind = k }
-
-abbrev up : ℕ → Kind
-up p = kind.Took (item.Note (note.Up p))
-
-abbrev exit : ℕ → Reason → Kind
-exit p r = kind.Took (item.Note (note.Exit p r))
-
-abbrev error : Reason
-error = reason.Error (text_of (codes "x"))
+use Rattle.otp_rules.proofs.Samples.{a, at, b, error, exit, flags, named, up, with, worker}
 
 abbrev called : ℕ → Call → Kind
 called c x = kind.Took (item.Call c x)
-
-abbrev a : Option Name
-a = Some (name_of (codes "a"))
-
-abbrev b : Option Name
-b = Some (name_of (codes "b"))
 
 abbrev c : Option Name
 c = Some (name_of (codes "c"))

@@ -1,27 +1,12 @@
 -- Worked rows of the laws, which compute: each law speaks of histories that there are.
-use Rattle.std.specs.Prelude.{◌≡◌, ℕ, List, [], ◌∷◌, ◌++◌, Option, None, Some, codes, refl, true, false, Bool, ◌<◌, AllPairs}
-use Rattle.otp_reason.specs.declared.name.Name.{Name}
-use Rattle.otp_reason.specs.declared.note.Note.TheVariants as note
-use Rattle.otp_reason.specs.Names.{name_of}
-use Rattle.otp_reason.specs.Texts.{text_of}
-use Rattle.otp_reason.specs.declared.reason.Reason.{Reason}
+use Rattle.std.specs.Prelude.{◌≡◌, List, [], ◌∷◌, ◌++◌, codes, refl, true, ◌<◌, AllPairs}
 use Rattle.otp_reason.specs.declared.reason.Reason.TheVariants as reason
 use Rattle.otp_spec.specs.declared.child.ChildSpec.{ChildSpec}
-use Rattle.otp_spec.specs.declared.flags.SupFlags.{SupFlags}
-use Rattle.otp_spec.specs.declared.flags.Strategy.{Strategy}
 use Rattle.otp_spec.specs.declared.flags.Strategy.TheVariants.{OneForOne, OneForAll}
-use Rattle.otp_spec.specs.declared.flags.AutoShutdown.{AutoShutdown}
 use Rattle.otp_spec.specs.declared.flags.AutoShutdown.TheVariants.{Never}
-use Rattle.otp_spec.specs.declared.child.Restart.{Restart}
 use Rattle.otp_spec.specs.declared.child.Restart.TheVariants.{Permanent}
-use Rattle.otp_spec.specs.declared.child.Shutdown.{Shutdown}
-use Rattle.otp_spec.specs.declared.child.Shutdown.TheVariants.{Milliseconds}
-use Rattle.otp_spec.specs.declared.child.ChildType.TheVariants.{Worker}
-use Rattle.otp_spec.specs.declared.child.Modules.TheVariants.{One}
 use Rattle.otp_spec.specs.Lawful.{first_fault}
 use Rattle.otp_rules.specs.declared.event.Event.{Event}
-use Rattle.otp_rules.specs.declared.event.Item.TheVariants as item
-use Rattle.otp_rules.specs.declared.event.Kind.{Kind}
 use Rattle.otp_rules.specs.declared.event.Kind.TheVariants as kind
 use Rattle.otp_rules.specs.declared.event.Effect.TheVariants as effect
 use Rattle.otp_rules.specs.State.{State, answer}
@@ -42,37 +27,7 @@ use Rattle.otp_rules.specs.declared.work.Phase.TheVariants.{Ended}
 use Rattle.otp_rules.specs.Needs.{IsLawfulHistory, needs_number}
 use Rattle.otp_rules.specs.Order.{progress_at}
 use Rattle.otp_rules.specs.Progress.{no_progress, processes}
-
-abbrev named : List ℕ → Restart → Bool → Shutdown → ChildSpec
-named bytes restart significant shutdown = record { id = name_of bytes; start = name_of bytes; restart = restart; significant = significant; shutdown = shutdown; kind = Worker; modules = One (name_of bytes) }
-
-abbrev worker : List ℕ → Restart → ChildSpec
-worker bytes restart = named bytes restart false (Milliseconds 5000)
-
-abbrev flags : Strategy → ℕ → AutoShutdown → SupFlags
-flags strategy intensity auto = record { strategy = strategy; intensity = intensity; period = 5; auto_shutdown = auto }
-
--- an event at a reading, without a number and with one
-abbrev at : ℕ → Kind → Event
-at t k = record { reading = t; number = None; kind = k }
-
-abbrev with : ℕ → ℕ → Kind → Event
-with n t k = record { reading = t; number = Some n; kind = k }
-
-abbrev up : ℕ → Kind
-up p = kind.Took (item.Note (note.Up p))
-
-abbrev exit : ℕ → Reason → Kind
-exit p r = kind.Took (item.Note (note.Exit p r))
-
-abbrev error : Reason
-error = reason.Error (text_of (codes "x"))
-
-abbrev a : Option Name
-a = Some (name_of (codes "a"))
-
-abbrev b : Option Name
-b = Some (name_of (codes "b"))
+use Rattle.otp_rules.proofs.Samples.{a, at, b, error, exit, flags, up, with, worker}
 
 abbrev restarted_twice : State
 restarted_twice =

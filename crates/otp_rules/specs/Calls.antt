@@ -4,6 +4,7 @@ use Rattle.std.specs.Str.{bytes_eq}
 use Rattle.otp_reason.specs.declared.name.Name.{Name}
 use Rattle.otp_reason.specs.Names.{name_bytes}
 use Rattle.otp_spec.specs.declared.child.ChildSpec.{ChildSpec}
+use Rattle.otp_spec.specs.declared.limits.TheConstants.{MAX_CHILDREN}
 use Rattle.otp_spec.specs.declared.fault.SpecFault.{SpecFault}
 use Rattle.otp_spec.specs.Lawful.{first_fault}
 use Rattle.otp_table.specs.declared.row.Row.{Row}
@@ -32,7 +33,7 @@ new_row slot id spec = record { slot = slot; id = id; spec = spec; state = Undef
 -- that none of them has (own)
 unfoldable pub add_child : ℕ → Option Name → ChildSpec → Outcome → Outcome
 add_child c id spec o =
-    if nat_le 256 (length o.state.rows) then refuse c fault.TooManyChildren o
+    if nat_le MAX_CHILDREN (length o.state.rows) then refuse c fault.TooManyChildren o
     else
     with_work [] (record { id = id; kept = None } ∷ []) (Some (after.Added c))
     (with_rows (o.state.rows ++ new_row (free_slot o.state.rows) id spec ∷ []) o)

@@ -1,6 +1,7 @@
 -- Whether a supervisor with these flags and specifications may be opened (supervisor, init/1 and sup_flags()).
 use Rattle.std.specs.Prelude.{◌&&◌, not, List, Option, Some, length, nat_lt, ◌==◌, if◌then◌else◌}
 use Rattle.otp_spec.specs.declared.child.ChildSpec.{ChildSpec}
+use Rattle.otp_spec.specs.declared.limits.TheConstants.{MAX_CHILDREN}
 use Rattle.otp_spec.specs.declared.fault.SpecFault.{SpecFault}
 use Rattle.otp_spec.specs.declared.fault.SpecFault.TheVariants.{BadFlag, SimpleNeedsOne, TooManyChildren}
 use Rattle.otp_spec.specs.declared.flags.SupFlags.{SupFlags}
@@ -14,5 +15,5 @@ unfoldable pub open_fault : SupFlags → List ChildSpec → Option SpecFault
 open_fault flags specs =
     if not (are_lawful_flags flags) then Some BadFlag
     else if is_simple flags.strategy && not (length specs == 1) then Some SimpleNeedsOne
-    else if nat_lt 256 (length specs) then Some TooManyChildren
+    else if nat_lt MAX_CHILDREN (length specs) then Some TooManyChildren
     else first_fault specs (Some flags.auto_shutdown)

@@ -1,6 +1,7 @@
 -- The slots of the rows: each is one child's, and there are 256.
 use Rattle.std.specs.Prelude.{◌≡◌, ◌↔◌, ℕ, None, ◌<◌, ◌≤◌, List, All, Contains, true, count_by, length}
 use Rattle.otp_spec.specs.declared.child.ChildSpec.{ChildSpec}
+use Rattle.otp_spec.specs.declared.limits.TheConstants.{MAX_CHILDREN}
 use Rattle.otp_spec.specs.declared.flags.SupFlags.{SupFlags}
 use Rattle.otp_table.specs.declared.row.Row.{Row}
 use Rattle.otp_table.specs.Rows.{has_process, has_slot}
@@ -13,11 +14,11 @@ use Rattle.otp_rules.specs.Run.{empty_state, state_after}
 -- each slot has one row at most, and lies below 256
 pub record AreSlotted (rows : List Row) : Type 0 where
   pub one : (slot : ℕ) → count_by (has_slot slot) rows ≤ 1
-  pub below : All (λ row. row.slot < 256) rows
+  pub below : All (λ row. row.slot < MAX_CHILDREN) rows
 
 -- this stays along every list of events, where there are at most 256 specifications
 abbrev pub SlotsStayOwned : Type 0
-SlotsStayOwned = (s : State) (events : List Event) → length s.specs ≤ 256 → AreSlotted s.rows → AreSlotted (state_after s events).rows
+SlotsStayOwned = (s : State) (events : List Event) → length s.specs ≤ MAX_CHILDREN → AreSlotted s.rows → AreSlotted (state_after s events).rows
 
 -- and it holds from the first event on, of each supervisor that may be opened
 abbrev pub SlotsOwned : Type 0
