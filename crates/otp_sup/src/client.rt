@@ -1,7 +1,8 @@
 //! Who sends calls to supervisors.
-ghost use Rattle.std.specs.Prelude.{◌≡◌, ◌<◌, ◌⊎◌, [], is_some, IfOk, IfErr, IfSome, OnOk, OnErr, None};
+ghost use Rattle.std.specs.Prelude.{◌≡◌, ◌<◌, ◌≤◌, ◌⊎◌, [], is_some, IfOk, IfErr, OnOk, OnErr};
 ghost use Rattle.otp_rules.specs.Homes.{is_start_call};
 ghost use Rattle.otp_sup.specs.Clients.{Submitted};
+ghost use Rattle.otp_sup.specs.declared.client.SplitFault.TheVariants as refused;
 ghost use Rattle.otp_sup.specs.declared.client.SubmitCause.TheVariants as cause;
 
 use crate::letter::Letter;
@@ -39,6 +40,15 @@ pub enum SubmitCause {
     Exhausted,
     /// E19: a call that starts a child has no body, or another one has.
     WrongBody,
+}
+
+/// Why no other client was split off.
+#[derive(Clone, Copy, Debug, PartialEq, Eq)]
+pub enum SplitFault {
+    /// E9: this client may draw fewer numbers than the other is to have.
+    Exhausted,
+    /// This client has one part of the right to send, which two can't have.
+    OnePart,
 }
 
 /// A call that was not sent, with the body that came with it.
@@ -108,24 +118,29 @@ impl<N: WordsNaming + InboxNaming, B: Drop> Client<N, B> {
     }
 
     /// Another client of the same supervisor, with so many of this one's numbers, and half of its parts of the right to
-    /// send. None, and nothing changes, where it has fewer numbers (E9), or one part alone.
+    /// send. It takes no memory. Where it is refused nothing changes.
     pub fn split(
         &mut self,
         words: &Words<N>,
         inbox: &Inbox<N, Item, Letter<B>>,
         quota: u64,
-    ) -> Option<Client<N, B>>
+    ) -> Result<Client<N, B>, SplitFault>
         requires { inbox.now ≡ self.old.sender.inbox }
-        ensures new { IfSome result (λ new. (new.owner.quota ≡ quota) × (new.sender.inbox ≡ self.old.sender.inbox) × (new.sender.sent ≡ [])) }
-        ensures none { result ≡ None → self.new ≡ self.old }
+        ensures new { IfOk result (λ new. (new.owner.quota ≡ quota) × (new.sender.inbox ≡ self.old.sender.inbox) × (new.sender.sent ≡ [])) }
+        ensures enough { OnOk result (quota ≤ self.old.owner.quota) }
+        ensures kept { OnErr result (self.new ≡ self.old) }
+        ensures exhausted { IfErr result (λ why. why ≡ refused.Exhausted → self.old.owner.quota < quota) }
+        ensures one_part { IfErr result (λ why. why ≡ refused.OnePart → self.old.sender.parts < 2) }
     {
-        let parts = self.sender.parts() / 2;
-        if parts == 0 {
-            return None;
+        if self.sender.parts() < 2 {
+            return Err(SplitFault::OnePart);
         }
-        let owner = words.split(&mut self.owner, 0..0, quota).ok()?;
+        let parts = self.sender.parts() / 2;
+        let Ok(owner) = words.split(&mut self.owner, 0..0, quota) else {
+            return Err(SplitFault::Exhausted);
+        };
         let sender = inbox.split(&mut self.sender, parts);
-        Some(Client::new(owner, sender))
+        Ok(Client::new(owner, sender))
     }
 }
 

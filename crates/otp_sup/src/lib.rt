@@ -23,7 +23,7 @@ pub mod table;
 pub mod turns;
 
 pub use bodies::Bodies;
-pub use client::{Client, SubmitCause, SubmitFault};
+pub use client::{Client, SplitFault, SubmitCause, SubmitFault};
 pub use letter::Letter;
 pub use office::Office;
 pub use port::{Flushed, Launched, MemoryPort, NewProcess, Port};

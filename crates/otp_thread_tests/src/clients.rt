@@ -5,7 +5,9 @@ use otp_inbox::{InboxNaming, UnnamedInbox};
 use otp_rules::{Call, CountsNow, Item, Reply};
 use otp_signals::{OpenWords, Signal, Words, WordsNaming};
 use otp_spec::SupFlags;
-use otp_sup::{Bodies, Client, Letter, MemoryPort, Office, SubmitCause, Sup, Table, TurnAnswer};
+use otp_sup::{
+    Bodies, Client, Letter, MemoryPort, Office, SplitFault, SubmitCause, Sup, Table, TurnAnswer,
+};
 use std::alloc::Global;
 use std::marker::Brand;
 use std::process::Abort;
@@ -85,12 +87,13 @@ fn split<N: WordsNaming + InboxNaming, R: Wait + Abort>(
     sup: &Sup<N, u64>,
 ) -> Result<Client<N, u64>, Fail> {
     assert_eq!(rt; first.number(), sup.inbox().number());
-    assert!(rt; first.split(words, sup.inbox(), 2 * CALLS + 1).is_none());
+    let more = first.split(words, sup.inbox(), 2 * CALLS + 1);
+    assert_eq!(rt; more.err(), Some(SplitFault::Exhausted));
     let wrong = first.submit(rt, words, sup.inbox(), Call::CountChildren, Some(3));
     let why = wrong.err().map(|fault| (fault.cause, fault.body));
     assert_eq!(rt; why, Some((SubmitCause::WrongBody, Some(3))));
     let second = first.split(words, sup.inbox(), CALLS);
-    Ok(second.ok_or("a client was refused")?)
+    Ok(second.map_err(|_| "a client was refused")?)
 }
 
 // Sends its calls, and answers their numbers. One more is refused, as no number is left.

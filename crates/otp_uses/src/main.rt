@@ -1,54 +1,27 @@
-//! Three worked uses, short enough to copy: one supervisor driven by hand, an inbox between two threads, and a signal from
-//! one thread to another.
+//! Three worked uses of what threads share and run, short enough to copy: an inbox between two threads, a signal from
+//! one thread to another, and a job whose process is taken turn by turn.
 //!
-//! Each use of what threads share is a function that is generic in a name. The call of it at `Brand`, here in `main`, picks the name: whose
-//! inbox, or whose words. A file of `proofs/` says which one that is (`proofs/main/Invariants.antt`).
+//! Each use of what is shared is a function that is generic in a name. The call of it at `Brand`, here in `main`, picks
+//! the name: whose inbox, words or deques. A file of `proofs/` says which one that is (`proofs/main/Invariants.antt`).
 #![tactic(auto)]
 
+mod countdown;
 mod mailbox;
 mod signalling;
-mod supervising;
 
+use countdown::{Countdown, run_all, step};
 use mailbox::{Number, exchange};
-use otp_core::Core;
 use otp_inbox::UnnamedInbox;
-use otp_reason::{Name, Note, Reason};
-use otp_rules::{Item, Kind};
+use otp_job::{Body, BoxedJob, Process};
 use otp_signals::{OpenWords, Signal};
-use otp_spec::{ChildSpec, SupFlags};
 use signalling::stop_from_outside;
-use std::alloc::{AllocError, Global};
 use std::io;
 use std::marker::Brand;
-use supervising::drive;
 
 /// How many numbers are sent.
 const COUNT: usize = 1000;
 
-/// A supervisor of two children opens, one of them is killed and started again, and then all are told to stop.
-fn supervise(alloc: Global) -> Result<Option<Core>, AllocError> {
-    let (Some(a), Some(b)) = (Name::new(b"a"), Name::new(b"b")) else {
-        return Ok(None);
-    };
-    let children = [ChildSpec::new(a, a), ChildSpec::new(b, b)];
-    let Ok(mut core) = Core::open(alloc, SupFlags::default(), &children) else {
-        return Ok(None);
-    };
-    drive(alloc, &mut core, Kind::Opened(0))?;
-    let killed = Note::Exit(1, Reason::Killed);
-    drive(alloc, &mut core, Kind::Took(Item::Note(killed)))?;
-    drive(alloc, &mut core, Kind::Stopped)?;
-    Ok(Some(core))
-}
-
 fn main(rt: HostRuntime) -> io::Result<()> {
-    if let Some(core) = supervise(rt.alloc())? {
-        let (starts, restarts) = (core.last_number(), core.restarts().len());
-        println!(rt;
-            "{starts} starts, {restarts} of them again, and the supervisor has ended: {}",
-            core.has_ended()
-        )?;
-    }
     let inbox = UnnamedInbox::<usize, Number>::open(rt.alloc())?;
     let came = exchange::<Brand, _>(&rt, rt.alloc(), inbox, COUNT)?;
     let last = came.last().map_or(0, |number| number.value);
@@ -58,5 +31,24 @@ fn main(rt: HostRuntime) -> io::Result<()> {
         Ok(Signal::Shutdown) => println!(rt; "the process saw its shutdown")?,
         _ => println!(rt; "no number was left")?,
     }
+    count_down(rt)
+}
+
+// Three processes that are stepped by hand, and ten at a scheduler.
+fn count_down(rt: HostRuntime) -> io::Result<()> {
+    for signal in [Signal::None, Signal::Shutdown, Signal::Kill] {
+        let job: BoxedJob = Box::new(rt.alloc(), Countdown { left: 3 })?;
+        let process = Process::new(1, 0, 0, Body::Worker(job));
+        if let Some((note, turns)) = step(process, signal) {
+            println!(rt; "{signal:?}, {turns} turns: {note:?}")?;
+        }
+    }
+    let mut processes = Vec::new(rt.alloc());
+    for left in 1..=10 {
+        let job: BoxedJob = Box::new(rt.alloc(), Countdown { left })?;
+        processes.push(Process::new(u64::from(left), 0, 0, Body::Worker(job)))?;
+    }
+    let live = run_all(rt.alloc(), processes)?;
+    println!(rt; "of 10 countdowns {live} are left")?;
     Ok(())
 }
