@@ -509,8 +509,8 @@ fn little_memory_is_held_ahead(rt: HostRuntime) -> Result<(), Fail> {
         driver.prepare(&rt)?;
         let spare = driver.core.spare();
         // As much again as is kept, and what one event may need: two children, of which none waits.
-        assert!(rt; spare.events <= driver.core.history().len() + 8);
-        assert!(rt; spare.orders <= driver.core.effects().len() + 16);
+        assert!(rt; spare.events <= driver.core.history().len().saturating_add(8));
+        assert!(rt; spare.orders <= driver.core.effects().len().saturating_add(16));
         assert!(rt; spare.answers <= (driver.calls as usize).saturating_add(16));
     }
     Ok(())
