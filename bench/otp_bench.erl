@@ -1,7 +1,9 @@
 %% The same work as bench/run gives to the program, done by Erlang/OTP's own supervisor.
 %% erl -noshell -pa DIR -run otp_bench main WORK HOW N
 %%   WORK: storm (N restarts of one child), all (N restarts of 256 children under one_for_all),
-%%         calls (N calls, which_children and count_children in turn, over 256 children).
+%%         calls (N calls, which_children and count_children in turn, over 256 children),
+%%         counts (N calls of count_children over 256 children),
+%%         turns (N turns of 256 processes together, which only yield; HOW is process).
 %%   HOW:  process (a supervisor process, which is sent messages), or callbacks (supervisor's
 %%         handle_info and handle_call, called in this process).
 %% Prints the microseconds that the work took. Reports of the logger are off.
@@ -58,7 +60,20 @@ work(calls, process, N) ->
 work(calls, callbacks, N) ->
     {ok, State} = supervisor:init({self, ?MODULE, {one_for_one, ?CHILDREN, self()}}),
     last_started(?CHILDREN, none),
-    calls_callbacks(N, State).
+    calls_callbacks(N, State);
+work(counts, process, N) ->
+    {ok, Sup} = supervisor:start_link(?MODULE, {one_for_one, ?CHILDREN, self()}),
+    last_started(?CHILDREN, none),
+    ok = counts(N, Sup),
+    stop(Sup);
+work(counts, callbacks, N) ->
+    {ok, State} = supervisor:init({self, ?MODULE, {one_for_one, ?CHILDREN, self()}}),
+    last_started(?CHILDREN, none),
+    counts_callbacks(N, State);
+work(turns, process, N) ->
+    Driver = self(),
+    Pids = [spawn_link(fun() -> turns(N div ?CHILDREN), Driver ! {turned, self()} end) || _ <- lists:seq(1, ?CHILDREN)],
+    lists:foreach(fun(Pid) -> receive {turned, Pid} -> ok end end, Pids).
 
 %% The last of so many workers that were started.
 last_started(0, Pid) -> Pid;
@@ -107,3 +122,17 @@ calls_callbacks(N, State) ->
     {reply, Counts, _} = supervisor:handle_call(count_children, none, State),
     {active, ?CHILDREN} = lists:keyfind(active, 1, Counts),
     calls_callbacks(N - 1, State).
+
+counts(0, _) -> ok;
+counts(N, Sup) ->
+    {active, ?CHILDREN} = lists:keyfind(active, 1, supervisor:count_children(Sup)),
+    counts(N - 1, Sup).
+
+counts_callbacks(0, _) -> ok;
+counts_callbacks(N, State) ->
+    {reply, Counts, _} = supervisor:handle_call(count_children, none, State),
+    {active, ?CHILDREN} = lists:keyfind(active, 1, Counts),
+    counts_callbacks(N - 1, State).
+
+turns(0) -> ok;
+turns(N) -> erlang:yield(), turns(N - 1).

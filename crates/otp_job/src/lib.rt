@@ -2,7 +2,7 @@
 //!
 //! A user writes a [`Job`] and hands it in as the [`Body`] of a child; a runtime makes a [`Process`] of it at each start
 //! and calls [`one_turn`] until that answers [`After::Done`]. `Process<BoxedJob, BoxedSubsystem>` runs any job; the
-//! types are generic so that a test may name its own. `crates/otp_thread_tests/src/by_hand.rt` has a job of ten lines to
+//! types are generic so that a test may name its own. `crates/otp_uses/src/countdown.rt` has a job of ten lines to
 //! copy, with its process stepped by hand.
 #![tactic(auto)]
 

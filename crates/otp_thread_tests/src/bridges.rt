@@ -3,7 +3,7 @@ use crate::jobs::run;
 use crate::probes::{Calls, bridge_body};
 use otp_bridge::BridgePhase;
 use otp_job::Body;
-use otp_reason::{Note, Reason};
+use otp_reason::{Note, Reason, Text};
 use otp_signals::Signal;
 use std::sync::Arc;
 use std::sync::atomic::{AtomicU64, Ordering};
@@ -12,14 +12,9 @@ use std::test::*;
 #[test]
 fn each_end_of_a_bridge(rt: HostRuntime) -> Result<(), Fail> {
     let alloc = rt.alloc();
+    let x = Reason::Error(Text::new(b"x").ok_or("a text")?);
     for (ended, signal, reason, wanted, phase) in [
-        (
-            Some(Reason::NoProc),
-            Signal::None,
-            Reason::NoProc,
-            12,
-            BridgePhase::MainEnded,
-        ),
+        (Some(x), Signal::None, x, 12, BridgePhase::MainEnded),
         (
             None,
             Signal::Shutdown,

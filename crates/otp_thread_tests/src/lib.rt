@@ -7,8 +7,6 @@
 #[cfg(test)]
 mod bridges;
 #[cfg(test)]
-mod by_hand;
-#[cfg(test)]
 mod clients;
 #[cfg(test)]
 mod inbox;

@@ -74,8 +74,10 @@ impl Subsystem for Pipe {
         self.ended
     }
 
-    fn terminate(&mut self, _reason: Reason) {
-        note(&self.calls, TERMINATED);
+    fn terminate(&mut self, reason: Reason) {
+        if reason == Reason::Shutdown {
+            note(&self.calls, TERMINATED);
+        }
     }
 }
 

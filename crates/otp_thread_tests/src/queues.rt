@@ -168,7 +168,9 @@ fn give_back<N: RunNaming, R: Abort>(rt: &R, scheduler: &mut AnyScheduler<N>, pr
     assert_eq!(rt; scheduler.share(), before);
 }
 
-// Every other time the deque grows in a `give_back`: one is out while it is full.
+// Of `rt try --test --fail-alloc N`, up to the last N that refuses anything here: 1 to 5 refuse the opening, which the
+// test then tells; 6 refuses a growth in a `put`, 7 one in a `give_back`, since one process is out while the deque is
+// full; 8 to 10 refuse the memory of `gather`.
 fn grow<N: RunNaming, R: Abort>(
     rt: &R,
     alloc: Global,
@@ -186,11 +188,28 @@ fn grow<N: RunNaming, R: Abort>(
         }
     }
     schedulers.push(only)?;
-    let Ok(total) = gather(alloc, schedulers) else {
-        return Err(Fail::from("no memory"));
-    };
+    let total = gather_all(rt, alloc, schedulers);
     assert_eq!(rt; (total.live, total.left.len()), (300, 300));
     Ok(())
+}
+
+// Under a refused growth all schedulers come back, and the run queue can be taken apart again.
+fn gather_all<N: RunNaming, R: Abort>(
+    rt: &R,
+    alloc: Global,
+    schedulers: Vec<AnyScheduler<N>>,
+) -> LiveTotal<BoxedJob, BoxedSubsystem> {
+    let count = schedulers.len();
+    let back = match gather(alloc, schedulers) {
+        Ok(total) => return total,
+        Err(GatherFault::OutOfMemory(back)) => back,
+        Err(GatherFault::Missing(_)) => panic!(rt; "all schedulers are here"),
+    };
+    assert_eq!(rt; back.len(), count);
+    let Ok(total) = gather(alloc, back) else {
+        panic!(rt; "there is memory now");
+    };
+    total
 }
 
 #[test]
@@ -229,9 +248,7 @@ fn end_and_gather<N: RunNaming, R: Abort>(
     };
     assert_eq!(rt; schedulers.len(), 1);
     schedulers.push(away)?;
-    let Ok(total) = gather(alloc, schedulers) else {
-        return Err(Fail::from("no memory"));
-    };
+    let total = gather_all(rt, alloc, schedulers);
     assert_eq!(rt; (total.live, total.left.len()), (1, 1));
     Ok(())
 }

@@ -1,15 +1,18 @@
-//! Two worked uses of what threads share, short enough to copy: an inbox between two threads, and a signal from one
-//! thread to another.
+//! Three worked uses of what threads share and run, short enough to copy: an inbox between two threads, a signal from
+//! one thread to another, and a job whose process is taken turn by turn.
 //!
-//! Each use is a function that is generic in a name. The call of it at `Brand`, here in `main`, picks the name: whose
-//! inbox, or whose words. A file of `proofs/` says which one that is (`proofs/main/Invariants.antt`).
+//! Each use of what is shared is a function that is generic in a name. The call of it at `Brand`, here in `main`, picks
+//! the name: whose inbox, words or deques. A file of `proofs/` says which one that is (`proofs/main/Invariants.antt`).
 #![tactic(auto)]
 
+mod countdown;
 mod mailbox;
 mod signalling;
 
+use countdown::{Countdown, run_all, step};
 use mailbox::{Number, exchange};
 use otp_inbox::UnnamedInbox;
+use otp_job::{Body, BoxedJob, Process};
 use otp_signals::{OpenWords, Signal};
 use signalling::stop_from_outside;
 use std::io;
@@ -28,5 +31,24 @@ fn main(rt: HostRuntime) -> io::Result<()> {
         Ok(Signal::Shutdown) => println!(rt; "the process saw its shutdown")?,
         _ => println!(rt; "no number was left")?,
     }
+    count_down(rt)
+}
+
+// Three processes that are stepped by hand, and ten at a scheduler.
+fn count_down(rt: HostRuntime) -> io::Result<()> {
+    for signal in [Signal::None, Signal::Shutdown, Signal::Kill] {
+        let job: BoxedJob = Box::new(rt.alloc(), Countdown { left: 3 })?;
+        let process = Process::new(1, 0, 0, Body::Worker(job));
+        if let Some((note, turns)) = step(process, signal) {
+            println!(rt; "{signal:?}, {turns} turns: {note:?}")?;
+        }
+    }
+    let mut processes = Vec::new(rt.alloc());
+    for left in 1..=10 {
+        let job: BoxedJob = Box::new(rt.alloc(), Countdown { left })?;
+        processes.push(Process::new(u64::from(left), 0, 0, Body::Worker(job)))?;
+    }
+    let live = run_all(rt.alloc(), processes)?;
+    println!(rt; "of 10 countdowns {live} are left")?;
     Ok(())
 }

@@ -1,0 +1,149 @@
+//! A supervisor's core alone, with no text and no process: each order is answered at once.
+use crate::report::report;
+use otp_core::{Core, Counter};
+use otp_reason::{Name, Note, Reason, Text};
+use otp_rules::{Call, Effect, Item, Kind};
+use otp_spec::{ChildSpec, Strategy, SupFlags};
+use std::alloc::{AllocError, Global};
+use std::io;
+use std::rt::Runtime;
+use std::time::Instant;
+
+/// So many children one_for_all has, and so many are counted.
+const CHILDREN: usize = 256;
+
+/// One restart more within the period would end the supervisor.
+const INTENSITY: u64 = 1_000;
+
+/// In seconds.
+const PERIOD: u64 = 1_000_000;
+
+/// A supervisor's core, the clock in milliseconds, and how many calls were made.
+#[derive(Drop)]
+struct Driver {
+    core: Core,
+    reading: u64,
+    calls: u64,
+}
+
+impl Driver {
+    // A supervisor that was opened, with all its children up.
+    fn open(alloc: Global, strategy: Strategy, children: usize) -> Result<Driver, AllocError> {
+        let mut specs = Vec::with_capacity(alloc, children)?;
+        for place in 0..children {
+            let letters = [b'a' + (place / 16 % 16) as u8, b'a' + (place % 16) as u8];
+            let name = Name::new(&letters).ok_or(AllocError)?;
+            specs.push(ChildSpec::new(name, name))?;
+        }
+        let flags = SupFlags {
+            strategy,
+            intensity: INTENSITY,
+            period: PERIOD,
+            ..SupFlags::default()
+        };
+        let core = Core::open(alloc, flags, specs.as_slice()).map_err(|_| AllocError)?;
+        let mut driver = Driver {
+            core,
+            reading: 0,
+            calls: 0,
+        };
+        driver.event(Kind::Opened(0))?;
+        driver.settle()?;
+        Ok(driver)
+    }
+
+    // One event. The orders of earlier ones were carried out.
+    fn event(&mut self, kind: Kind) -> Result<(), AllocError> {
+        self.core.clear_effects();
+        self.core.prepare()?;
+        let last = self.core.last_number();
+        if self.core.is_full() || self.reading > 1 << 62 || last == u64::MAX {
+            return Err(AllocError);
+        }
+        let _ = self
+            .core
+            .step_with(self.reading, kind, &mut Counter { last });
+        Ok(())
+    }
+
+    // Each child that is started is up at once, and each that is asked to shut down does so at once.
+    fn settle(&mut self) -> Result<(), AllocError> {
+        for _ in 0..4 * CHILDREN {
+            let Some(note) = answer_to(self.core.effects()) else {
+                return Ok(());
+            };
+            self.event(Kind::Took(Item::Note(note)))?;
+        }
+        Ok(())
+    }
+
+    // The child that was started last ends by an error. Each so many restarts the period of the earlier ones has passed.
+    fn crash(&mut self, restart: u64, reason: Reason) -> Result<(), AllocError> {
+        if restart % INTENSITY == INTENSITY - 1 {
+            self.reading = self.reading.saturating_add(1_000 * PERIOD + 1);
+        }
+        let last = self.core.last_number();
+        self.event(Kind::Took(Item::Note(Note::Exit(last, reason))))?;
+        self.settle()
+    }
+
+    fn call(&mut self, call: Call) -> Result<(), AllocError> {
+        self.calls = self.calls.saturating_add(1);
+        self.event(Kind::Took(Item::Call(self.calls, call)))
+    }
+}
+
+// What the process answers to the last order.
+fn answer_to(orders: &[Effect]) -> Option<Note> {
+    match orders.last()? {
+        Effect::Start(_, number) => Some(Note::Up(*number)),
+        Effect::Ask(_, number) => Some(Note::Exit(*number, Reason::Shutdown)),
+        _ => None,
+    }
+}
+
+/// Measures restarts of one child, restarts of 256 under one_for_all, and calls of count_children: as many of them as
+/// one history has room for, or `count` where that is less.
+pub fn measure<R: Runtime>(rt: &R, alloc: Global, count: u64) -> io::Result<()> {
+    measure_restarts(
+        rt,
+        alloc,
+        "restarts",
+        Strategy::OneForOne,
+        1,
+        count.min(32_000),
+    )?;
+    measure_restarts(
+        rt,
+        alloc,
+        "restarts of 256",
+        Strategy::OneForAll,
+        CHILDREN,
+        count.min(127),
+    )?;
+    let mut driver = Driver::open(alloc, Strategy::OneForOne, CHILDREN)?;
+    let start = Instant::now(rt)?;
+    for _ in 0..count.min(65_000) {
+        driver.call(Call::CountChildren)?;
+    }
+    report(rt, "count_children", 1, driver.calls, start)
+}
+
+fn measure_restarts<R: Runtime>(
+    rt: &R,
+    alloc: Global,
+    work: &str,
+    strategy: Strategy,
+    children: usize,
+    count: u64,
+) -> io::Result<()> {
+    let mut driver = Driver::open(alloc, strategy, children)?;
+    let first = driver.core.last_number();
+    let reason = Reason::Error(Text::new(b"x").ok_or(AllocError)?);
+    let start = Instant::now(rt)?;
+    for restart in 0..count {
+        driver.crash(restart, reason)?;
+    }
+    let started = driver.core.last_number().saturating_sub(first);
+    report(rt, work, 1, started / children.max(1) as u64, start)
+}

@@ -1,0 +1,45 @@
+//! Measures layers of the library that no program calls by themselves: `bench/layers` runs it, and says beside what.
+//!
+//! Its words are what is measured, on how many threads, and how often. Standard output has a line for each
+//! measurement, once all was done that was to be done. Times change from run to run, so they go to standard error: what
+//! was measured, the number of threads, how many units were done, and the nanoseconds that all of them took.
+//!
+//! The gate proves this program as any other, and runs it with small numbers, so that it stays whole.
+#![tactic(auto)]
+
+mod core_alone;
+mod jobs;
+mod report;
+
+use jobs::{Idle, JOBS};
+use otp_job::{Body, BoxedJob, Process};
+use std::process::ExitCode;
+use std::{env, io};
+
+fn main(rt: HostRuntime) -> io::Result<ExitCode> {
+    let mut words = env::args(&rt)?.skip(1);
+    let work = words.next();
+    let threads = words.next().and_then(|word| word.parse::<usize>().ok());
+    let count = words.next().and_then(|word| word.parse::<u64>().ok());
+    let (Some(work), Some(threads), Some(count)) = (work, threads, count) else {
+        eprintln!(rt; "usage: otp_bench core|turns|puts THREADS COUNT")?;
+        return Ok(ExitCode::from(2));
+    };
+    match work.as_str() {
+        "core" => core_alone::measure(&rt, rt.alloc(), count)?,
+        "puts" => jobs::measure_puts(&rt, rt.alloc(), count)?,
+        "turns" => {
+            let mut processes = Vec::with_capacity(rt.alloc(), JOBS)?;
+            for number in 0..JOBS {
+                let job: BoxedJob = Box::new(rt.alloc(), Idle { turns: 0 })?;
+                processes.push(Process::new(number as u64, 0, 0, Body::Worker(job)))?;
+            }
+            jobs::measure_turns(&rt, rt.alloc(), threads, processes, count)?;
+        }
+        _ => {
+            eprintln!(rt; "{work} can't be measured")?;
+            return Ok(ExitCode::from(2));
+        }
+    }
+    Ok(ExitCode::from(0))
+}
