@@ -1,7 +1,6 @@
 use crate::fixtures::named;
 use otp_file::{
-    ChildKey, FlagKey, MAX_DEPTH, MAX_TABLES, Place, TableFault, TreeFault, TreeSpec, read_located,
-    read_tree,
+    ChildKey, FlagKey, MAX_DEPTH, MAX_TABLES, Place, TreeFault, read_located, read_tree,
 };
 use otp_spec::{AutoShutdown, ChildType, Modules, Restart, Shutdown, SpecFault, Strategy};
 use std::alloc::Global;
@@ -427,15 +426,6 @@ fn beside(alloc: Global, count: usize) -> Result<Vec<u8>, Fail> {
     Ok(text)
 }
 
-// How many tables a tree has.
-fn count_tables(tree: &TreeSpec) -> usize {
-    let mut count = 1_usize;
-    for below in tree.trees() {
-        count = count.saturating_add(count_tables(below));
-    }
-    count
-}
-
 #[test]
 fn tree_in_a_tree(rt: HostRuntime) -> Result<(), Fail> {
     let text =
@@ -457,26 +447,33 @@ fn tree_in_a_tree(rt: HostRuntime) -> Result<(), Fail> {
 }
 
 #[test]
-fn depth_and_number_of_tables(rt: HostRuntime) -> Result<(), Fail> {
+fn depth_of_tables(rt: HostRuntime) -> Result<(), Fail> {
     let alloc = rt.alloc();
-    let tree = read_located(alloc, &nested_to(alloc, MAX_DEPTH)?)?;
-    assert_eq!(rt; count_tables(&tree), MAX_DEPTH);
-    let fault = TableFault {
-        table: 16,
-        fault: TreeFault::TooDeep,
-    };
-    assert!(rt;
-        matches!(read_located(alloc, &nested_to(alloc, MAX_DEPTH + 1)?), Err(why) if why == fault)
-    );
-    let tree = read_located(alloc, &beside(alloc, MAX_TABLES - 1)?)?;
-    assert_eq!(rt; count_tables(&tree), MAX_TABLES);
-    let fault = TableFault {
-        table: 64,
-        fault: TreeFault::TooManyTables,
-    };
-    assert!(rt;
-        matches!(read_located(alloc, &beside(alloc, MAX_TABLES)?), Err(why) if why == fault)
-    );
+    let root = read_located(alloc, &nested_to(alloc, MAX_DEPTH)?)?;
+    let mut tree = &root;
+    for _ in 1..MAX_DEPTH {
+        let [below] = tree.trees() else {
+            return Err(Fail::from("one tree"));
+        };
+        tree = below;
+    }
+    assert_eq!(rt; tree.trees().len(), 0);
+    let deeper = nested_to(alloc, MAX_DEPTH + 1)?;
+    let why = read_located(alloc, &deeper).err().ok_or("a fault")?;
+    assert_eq!(rt; why.table, 16);
+    assert_eq!(rt; why.fault, TreeFault::TooDeep);
+    Ok(())
+}
+
+#[test]
+fn number_of_tables(rt: HostRuntime) -> Result<(), Fail> {
+    let alloc = rt.alloc();
+    let root = read_located(alloc, &beside(alloc, MAX_TABLES - 1)?)?;
+    assert_eq!(rt; root.trees().len(), 63);
+    let more = beside(alloc, MAX_TABLES)?;
+    let why = read_located(alloc, &more).err().ok_or("a fault")?;
+    assert_eq!(rt; why.table, 64);
+    assert_eq!(rt; why.fault, TreeFault::TooManyTables);
     Ok(())
 }
 

@@ -1,20 +1,15 @@
-//! Times draw, post and look from 1, 2 and 4 threads.
-#![tactic(auto)]
-
+//! Draws, posts and looks at signal words by several threads.
 ghost use Rattle.std.specs.Prelude.{◌≡◌, ◌+◌, ◌<◌, ◌≤◌, [], Contains};
 ghost use Rattle.otp_signals.specs.Lists.{EachBetween};
 
+use crate::report::report;
 use otp_signals::{OpenWords, Owner, Signal, Viewer, Words, WordsNaming};
 use std::alloc::Global;
-use std::io;
 use std::marker::{Brand, Model};
 use std::rt::Runtime;
-use std::thread;
 use std::thread::Threads;
 use std::time::Instant;
-
-/// How often each thread makes each step.
-const TIMES: u64 = 10_000_000;
+use std::{io, thread};
 
 /// What one thread works with: an owner with a slot of its own, and a viewer.
 #[derive(Drop)]
@@ -48,23 +43,23 @@ impl<N: WordsNaming> Hand<N> {
         }
     }
 
-    fn draw(&mut self, words: &Words<N>) {
-        for _ in 0..TIMES {
+    fn draw(&mut self, words: &Words<N>, times: u64) {
+        for _ in 0..times {
             if words.draw(&mut self.owner).is_err() {
                 return;
             }
         }
     }
 
-    fn post(&mut self, words: &Words<N>) {
-        for _ in 0..TIMES {
+    fn post(&mut self, words: &Words<N>, times: u64) {
+        for _ in 0..times {
             words.post(&mut self.owner, self.slot, 0, Signal::Kill);
         }
     }
 
     // Draws numbers and posts a signal for each, so that each post raises the slot's word.
-    fn draw_and_post(&mut self, words: &Words<N>) {
-        for _ in 0..TIMES {
+    fn draw_and_post(&mut self, words: &Words<N>, times: u64) {
+        for _ in 0..times {
             let Ok(number) = words.draw(&mut self.owner) else {
                 return;
             };
@@ -78,12 +73,12 @@ impl<N: WordsNaming> Hand<N> {
     }
 
     // Every thread looks at the first slot.
-    fn look(&mut self, words: &Words<N>) {
+    fn look(&mut self, words: &Words<N>, times: u64) {
         if words.slots() == 0 {
             return;
         }
         self.seen = 0;
-        for _ in 0..TIMES {
+        for _ in 0..times {
             if words.look(&mut self.viewer, 0, 0) == Signal::Kill {
                 self.seen = self.seen.wrapping_add(1);
             }
@@ -91,12 +86,19 @@ impl<N: WordsNaming> Hand<N> {
     }
 }
 
-fn main(rt: HostRuntime) -> io::Result<()> {
-    for threads in [1usize, 2, 4] {
-        let opened = OpenWords::open(rt.alloc(), threads)?;
-        measure::<Brand, _>(&rt, rt.alloc(), opened, threads)?;
+/// Measures draws, posts and looks by so many threads, `count` of each in all. Each thread has an owner with a slot of
+/// its own, and a viewer, on the same words as the others.
+pub fn measure<R: Runtime + Threads + Sync>(
+    rt: &R,
+    alloc: Global,
+    threads: usize,
+    count: u64,
+) -> io::Result<()> {
+    if threads == 0 {
+        return Ok(());
     }
-    Ok(())
+    let opened = OpenWords::open(alloc, threads)?;
+    measure_in::<Brand, R>(rt, alloc, opened, threads, count)
 }
 
 // A hand for each slot.
@@ -119,11 +121,12 @@ fn hands<N: WordsNaming>(
     Ok(hands)
 }
 
-fn measure<N: WordsNaming + Send + Sync, R: Runtime + Threads + Sync>(
+fn measure_in<N: WordsNaming + Send + Sync, R: Runtime + Threads + Sync>(
     rt: &R,
     alloc: Global,
     opened: OpenWords,
     threads: usize,
+    count: u64,
 ) -> io::Result<()>
     requires name { opened.words ≡ N.words }
     requires some { 0 < threads }
@@ -132,28 +135,42 @@ fn measure<N: WordsNaming + Send + Sync, R: Runtime + Threads + Sync>(
     let (words, mut owner) = opened.named::<N>();
     let words = &words;
     let mut hands = hands(alloc, words, &mut owner, threads)?;
+    let each = count / threads as u64;
+    let all = each.saturating_mul(threads as u64);
     let start = Instant::now(rt)?;
-    thread::for_each_mut(rt, hands.as_mut_slice(), threads, &|_, hand| hand.draw(words));
-    report(rt, "draw", threads, start)?;
+    thread::for_each_mut(
+        rt,
+        hands.as_mut_slice(),
+        threads,
+        &|_, hand| hand.draw(words, each),
+    );
+    report(rt, "draws", threads, all, start)?;
     let start = Instant::now(rt)?;
-    thread::for_each_mut(rt, hands.as_mut_slice(), threads, &|_, hand| hand.post(words));
-    report(rt, "post", threads, start)?;
+    thread::for_each_mut(
+        rt,
+        hands.as_mut_slice(),
+        threads,
+        &|_, hand| hand.post(words, each),
+    );
+    report(rt, "posts that raise nothing", threads, all, start)?;
     let start = Instant::now(rt)?;
-    thread::for_each_mut(rt, hands.as_mut_slice(), threads, &|_, hand| hand.look(words));
-    report(rt, "look", threads, start)?;
-    let start = Instant::now(rt)?;
-    thread::for_each_mut(rt, hands.as_mut_slice(), threads, &|_, hand| hand.draw_and_post(words));
-    report(rt, "draw and post", threads, start)?;
+    thread::for_each_mut(
+        rt,
+        hands.as_mut_slice(),
+        threads,
+        &|_, hand| hand.look(words, each),
+    );
+    let mut seen = 0;
     for hand in hands.iter() {
-        if hand.seen() != TIMES {
-            println!(rt; "a look found another word")?;
-        }
+        seen = hand.seen().saturating_add(seen);
     }
-    Ok(())
-}
-
-fn report<R: Runtime>(rt: &R, step: &str, threads: usize, start: Instant) -> io::Result<()> {
-    let millis = start.elapsed(rt)?.as_millis();
-    println!(rt; "{step}, {threads} threads, {TIMES} times each: {millis} ms")?;
-    Ok(())
+    report(rt, "looks", threads, seen, start)?;
+    let start = Instant::now(rt)?;
+    thread::for_each_mut(
+        rt,
+        hands.as_mut_slice(),
+        threads,
+        &|_, hand| hand.draw_and_post(words, each),
+    );
+    report(rt, "draws with a post", threads, all, start)
 }

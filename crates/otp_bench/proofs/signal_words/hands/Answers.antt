@@ -1,6 +1,6 @@
 use Rattle.std.proofs.Common.{◌≡◌, ◌+◌, ◌≤◌, [], arith, ap, ◌∙◌}
 use Rattle.otp_signals.specs.declared.view.Holding.{Holding}
-use Rattle.otp_signals_bench.proofs.hands.Goals as goal
+use Rattle.otp_bench.proofs.signal_words.hands.Goals as goal
 
 pub loop-slot-preserved : goal.loop-slot-preserved
 loop-slot-preserved g c =
