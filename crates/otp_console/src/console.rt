@@ -45,7 +45,7 @@ impl Ending {
     }
 
     /// The end for a tree that is not had.
-    fn of_tree(fault: TreeFault) -> Self
+    pub(crate) fn of_tree(fault: TreeFault) -> Self
         ensures { result ≡ ending_of_tree fault }
     {
         match fault {

@@ -4,11 +4,12 @@ ghost use Rattle.std.specs.Prelude.{◌≡◌, ◌≤◌, ◌<◌, ◌++◌, dec
 ghost use Rattle.std.specs.IoError.{error_kind};
 ghost use Rattle.std.specs.Io.KnownBytes.{Appends};
 ghost use Rattle.otp_console.specs.Runs.{IsTold};
-ghost use Rattle.otp_console.specs.Statuses.{IsOfFile, sentence_of, status_of};
+ghost use Rattle.otp_console.specs.Statuses.{IsOfFile, line_text, sentence_of, status_of};
 
 use itoa::Buffer;
 use otp_file::TreeFault;
 use otp_sim::{Failed, Output, write_all};
+use otp_try::{ScriptFault, Taken};
 use std::io;
 use std::io::ErrorKind;
 
@@ -23,12 +24,20 @@ pub enum Ending {
     NoCommand,
     /// A word is no UTF-8 text.
     WordNotText,
-    /// The tree file can't be read.
+    /// The words are a file's name, where a command is wanted.
+    FileAsCommand,
+    /// The tree file of `sim` can't be read.
     TreeNotRead,
+    /// A file can't be read, and it was told which and why.
+    FileNotRead,
     /// The tree file says no tree.
     TreeRefused(TreeFault),
     /// The line with this number, from 1, has no form that is read.
     LineRefused(u64),
+    /// The line of a script with this number can't be read.
+    ScriptRefused(u64, ScriptFault),
+    /// The line of a script with this number could do nothing.
+    ScriptMissed(u64, Taken),
     /// The history holds no more events.
     HistoryFull,
     InputFailed,
@@ -43,10 +52,12 @@ impl Ending {
     {
         match self {
             Ending::Done => 0,
-            Ending::TreeNotRead | Ending::TreeRefused(_) => 1,
+            Ending::TreeNotRead | Ending::TreeRefused(_) | Ending::FileNotRead => 1,
             Ending::WordsRefused | Ending::NoCommand | Ending::WordNotText => 2,
+            Ending::FileAsCommand => 2,
             Ending::LineRefused(_) | Ending::HistoryFull | Ending::InputFailed => 3,
             Ending::OutputFailed | Ending::OutOfMemory => 4,
+            Ending::ScriptRefused(..) | Ending::ScriptMissed(..) => 5,
         }
     }
 
@@ -79,19 +90,36 @@ fn write_sentence<E: Output>(errors: &mut E, ending: Ending) -> Result<(), Faile
     ensures failed { OnErr result (E.failures errors.old < E.failures errors.new) }
 {
     match ending {
-        Ending::Done | Ending::WordsRefused => Ok(()),
+        Ending::Done | Ending::WordsRefused | Ending::FileNotRead => Ok(()),
         Ending::NoCommand => write_all(errors, b"usage: otp sim FILE\n"),
         Ending::WordNotText => write_all(errors, b"error: a word is not UTF-8\n"),
+        Ending::FileAsCommand => write_all(
+            errors,
+            b"error: a file in the place of a command: say otp try FILE, or otp --help\n",
+        ),
         Ending::TreeNotRead => write_all(errors, b"tree not read\n"),
         Ending::TreeRefused(fault) => {
             write_numbered(errors, b"tree refused: E", u64::from(fault.code()), b"\n")
         }
         Ending::LineRefused(line) => write_numbered(errors, b"line ", line, b" refused\n"),
+        Ending::ScriptRefused(line, fault) => write_line_fault(errors, line, fault.text()),
+        Ending::ScriptMissed(line, taken) => write_line_fault(errors, line, taken.text()),
         Ending::HistoryFull => write_all(errors, b"history full\n"),
         Ending::InputFailed => write_all(errors, b"input not read\n"),
         Ending::OutputFailed => write_all(errors, b"output not written\n"),
         Ending::OutOfMemory => write_all(errors, b"out of memory\n"),
     }
+}
+
+/// Writes what is wrong with a line of a script.
+fn write_line_fault<E: Output>(errors: &mut E, line: u64, why: &str) -> Result<(), Failed>
+    ensures ok { OnOk result (Appends (E.contents errors.old) (E.contents errors.new) (line_text line why.now)) }
+    ensures kept { E.failures errors.old ≤ E.failures errors.new }
+    ensures failed { OnErr result (E.failures errors.old < E.failures errors.new) }
+{
+    write_numbered(errors, b"line ", line, b": ")?;
+    write_all(errors, why.as_bytes())?;
+    write_all(errors, b"\n")
 }
 
 /// Writes a number between two texts. It takes no memory, which may be what is wanting.

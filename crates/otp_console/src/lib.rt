@@ -1,10 +1,13 @@
-//! The program: `sim FILE` reads a tree file and then lines of standard input, and prints the orders of its supervisor.
+//! The program: `sim FILE` reads a tree file and then lines of standard input, and prints the orders of its supervisor;
+//! `try FILE` says what the tree does where a script says what goes wrong.
 #![tactic(auto)]
 
 pub mod console;
 pub mod ending;
+pub mod files;
 mod host;
 pub mod program;
+pub mod trying;
 pub mod words;
 
 pub use host::otp;

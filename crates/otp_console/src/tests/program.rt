@@ -1,6 +1,7 @@
 //! Runs of the whole program, with words and files that are made up: its status, and what it tells on which stream.
 
-use crate::program::{TreeFiles, run};
+use crate::files::TreeFiles;
+use crate::program::run;
 use crate::words::WordsFault;
 use otp_sim::Counted;
 use std::alloc::{AllocError, Global};
