@@ -1,7 +1,13 @@
 //! What the keys of a tree file may have.
 
 /// The keys of a supervisor.
-pub(crate) const FLAG_KEYS: [&str; 5] = ["strategy", "intensity", "period", "auto_shutdown", "child"];
+pub(crate) const FLAG_KEYS: [&str; 5] = [
+    "strategy",
+    "intensity",
+    "period",
+    "auto_shutdown",
+    "child",
+];
 
 /// The keys of a child.
 pub(crate) const CHILD_KEYS: [&str; 7] = [
@@ -14,7 +20,12 @@ pub(crate) const CHILD_KEYS: [&str; 7] = [
     "modules",
 ];
 
-const STRATEGIES: [&str; 4] = ["one_for_one", "one_for_all", "rest_for_one", "simple_one_for_one"];
+const STRATEGIES: [&str; 4] = [
+    "one_for_one",
+    "one_for_all",
+    "rest_for_one",
+    "simple_one_for_one",
+];
 
 const AUTO_SHUTDOWNS: [&str; 3] = ["never", "any_significant", "all_significant"];
 
@@ -42,8 +53,7 @@ pub(crate) fn words_at(key: &str) -> &'static [&'static str] {
 /// What a key may have, in words.
 pub(crate) fn allowed_at(key: &str) -> &'static str {
     match key {
-        "strategy" =>
-            "\"one_for_one\", \"one_for_all\", \"rest_for_one\", \"simple_one_for_one\"",
+        "strategy" => "\"one_for_one\", \"one_for_all\", \"rest_for_one\", \"simple_one_for_one\"",
         "intensity" => "0 to 1000",
         "period" => "1 to 1000000 (seconds)",
         "auto_shutdown" => "\"never\", \"any_significant\", \"all_significant\"",

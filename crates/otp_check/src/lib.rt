@@ -9,6 +9,8 @@ mod finding;
 mod judging;
 mod near;
 mod parts;
+mod picture;
 
 pub use document::{check, says_nothing};
 pub use finding::Finding;
+pub use picture::draw;

@@ -122,7 +122,12 @@ impl Scanning {
         let Some(child) = value.as_table() else {
             let fault = TreeFault::WrongKind(Place::Child(index));
             let owner = Owner::Child(index, None);
-            let finding = of_table(self.alloc, fault, &owner, "no table; each child is one, [[child]]")?;
+            let finding = of_table(
+                self.alloc,
+                fault,
+                &owner,
+                "no table; each child is one, [[child]]",
+            )?;
             return self.add(finding);
         };
         let owner = Owner::Child(index, id_of(child));
@@ -172,7 +177,8 @@ fn is_among(id: Option<&str>, children: &[Value]) -> bool {
 fn what_lacks(fault: &TreeFault) -> &'static str {
     match fault {
         TreeFault::MissingKey {
-            key: ChildKey::Id, ..
+            key: ChildKey::Id,
+            ..
         } => "id is missing; write id = \"NAME\"",
         TreeFault::MissingKey {
             key: ChildKey::Start,

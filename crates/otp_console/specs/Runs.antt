@@ -11,9 +11,9 @@ use Rattle.otp_sim.specs.Runs.{Devices, Writes}
 use Rattle.otp_sim.specs.Sim.{opened}
 use Rattle.otp_console.specs.Statuses.{status_of, sentence_of}
 use Rattle.otp_console.specs.declared.ending.Ending.{Ending}
-use Rattle.otp_console.specs.declared.ending.Ending.TheVariants.{Done, WordsRefused, NoCommand, WordNotText, FileAsCommand, TreeNotRead, FileNotRead, TreeRefused, LineRefused, ScriptRefused, ScriptMissed, HistoryFull, InputFailed, OutputFailed, OutOfMemory}
+use Rattle.otp_console.specs.declared.ending.Ending.TheVariants.{Done, WordsRefused, NoCommand, WordNotText, FileAsCommand, TreeNotRead, FileNotRead, TreeRefused, FaultsFound, LineRefused, ScriptRefused, ScriptMissed, HistoryFull, InputFailed, OutputFailed, OutOfMemory}
 use Rattle.otp_console.specs.declared.words.Command.{Command}
-use Rattle.otp_console.specs.declared.words.Command.TheVariants.{Sim, Try}
+use Rattle.otp_console.specs.declared.words.Command.TheVariants.{Sim, Try, Check, Tree}
 
 -- the file says a tree, and its supervisor was played to this end
 abbrev pub Played : SimEnd → List ℕ → Devices → Devices → Type 0
@@ -33,6 +33,7 @@ IsRun FileAsCommand file old new = ⊥
 IsRun TreeNotRead file old new = ⊥
 IsRun FileNotRead file old new = ⊥
 IsRun (TreeRefused why) file old new = (new ≡ old) × IsRefused why file
+IsRun FaultsFound file old new = ⊥
 IsRun (LineRefused line) file old new = Played (sim.LineRefused line) file old new
 IsRun (ScriptRefused line why) file old new = ⊥
 IsRun (ScriptMissed line why) file old new = ⊥
@@ -62,6 +63,7 @@ Answers FileAsCommand old new = new ≡ old
 Answers TreeNotRead old new = ⊥
 Answers FileNotRead old new = ⊥
 Answers (TreeRefused why) old new = ⊥
+Answers FaultsFound old new = ⊥
 Answers (LineRefused line) old new = ⊥
 Answers (ScriptRefused line why) old new = ⊥
 Answers (ScriptMissed line why) old new = ⊥
@@ -84,6 +86,7 @@ IsTrial FileAsCommand file old new = ⊥
 IsTrial TreeNotRead file old new = ⊥
 IsTrial FileNotRead file old new = ⊥
 IsTrial (TreeRefused why) file old new = (new ≡ old) × IsRefused why file
+IsTrial FaultsFound file old new = ⊥
 IsTrial (LineRefused line) file old new = ⊥
 IsTrial (ScriptRefused line why) file old new = HasTree file
 IsTrial (ScriptMissed line why) file old new = HasTree file
@@ -103,9 +106,64 @@ Tries Holds script ending old new =
     ((ending ≡ FileNotRead) × (new ≡ old)) ⊎ ((ending ≡ OutOfMemory) × (new ≡ old))
     ⊎ ((file : List ℕ) × (Holds file × IsTrial ending file old new × ReadsScript script old new))
 
+-- a text was written, and so it ends well; or the writer failed
+abbrev pub IsWritten : Ending → Ending → ℕ → ℕ → Type 0
+IsWritten ending well failures_before failures_now = (ending ≡ well) ⊎ ((ending ≡ OutputFailed) × (failures_before < failures_now))
+
+-- a file was checked: nothing is written to be wrong in it exactly where it says a tree
+abbrev pub IsChecked : Ending → List ℕ → Devices → Devices → Type 0
+IsChecked Done file old new = HasTree file × IsUnread old new
+IsChecked WordsRefused file old new = ⊥
+IsChecked NoCommand file old new = ⊥
+IsChecked WordNotText file old new = ⊥
+IsChecked FileAsCommand file old new = ⊥
+IsChecked TreeNotRead file old new = ⊥
+IsChecked FileNotRead file old new = ⊥
+IsChecked (TreeRefused why) file old new = ⊥
+IsChecked FaultsFound file old new = ((why : TreeFault) × IsRefused why file) × IsUnread old new
+IsChecked (LineRefused line) file old new = ⊥
+IsChecked (ScriptRefused line why) file old new = ⊥
+IsChecked (ScriptMissed line why) file old new = ⊥
+IsChecked HistoryFull file old new = ⊥
+IsChecked InputFailed file old new = ⊥
+IsChecked OutputFailed file old new = IsUnread old new × (old.write_failures < new.write_failures)
+IsChecked OutOfMemory file old new = IsUnread old new
+
+-- the check of a file whose bytes are known to be so: it can't be read, or it was checked
+abbrev pub Checks : (List ℕ → Type 0) → Ending → Devices → Devices → Type 0
+Checks Holds ending old new =
+    ((ending ≡ FileNotRead) × (new ≡ old)) ⊎ ((ending ≡ OutOfMemory) × (new ≡ old))
+    ⊎ ((file : List ℕ) × (Holds file × IsChecked ending file old new))
+
+-- a tree was drawn, or its file says none
+abbrev pub IsDrawn : Ending → List ℕ → Devices → Devices → Type 0
+IsDrawn Done file old new = HasTree file × IsUnread old new
+IsDrawn WordsRefused file old new = ⊥
+IsDrawn NoCommand file old new = ⊥
+IsDrawn WordNotText file old new = ⊥
+IsDrawn FileAsCommand file old new = ⊥
+IsDrawn TreeNotRead file old new = ⊥
+IsDrawn FileNotRead file old new = ⊥
+IsDrawn (TreeRefused why) file old new = (new ≡ old) × IsRefused why file
+IsDrawn FaultsFound file old new = ⊥
+IsDrawn (LineRefused line) file old new = ⊥
+IsDrawn (ScriptRefused line why) file old new = ⊥
+IsDrawn (ScriptMissed line why) file old new = ⊥
+IsDrawn HistoryFull file old new = ⊥
+IsDrawn InputFailed file old new = ⊥
+IsDrawn OutputFailed file old new = IsUnread old new × (old.write_failures < new.write_failures)
+IsDrawn OutOfMemory file old new = new ≡ old
+
+abbrev pub Draws : (List ℕ → Type 0) → Ending → Devices → Devices → Type 0
+Draws Holds ending old new =
+    ((ending ≡ FileNotRead) × (new ≡ old)) ⊎ ((ending ≡ OutOfMemory) × (new ≡ old))
+    ⊎ ((file : List ℕ) × (Holds file × IsDrawn ending file old new))
+
 -- what a command asks for was done
 abbrev pub Does : (List ℕ → List ℕ → Type 0) → Command → Ending → Devices → Devices → Type 0
 Does Holds (Sim file) ending old new = Simulates (Holds file.now) ending old new
+Does Holds (Check file) ending old new = Checks (Holds file.now) ending old new
+Does Holds (Tree file) ending old new = Draws (Holds file.now) ending old new
 Does Holds (Try file script writer) ending old new = Tries (Holds file.now) (option_map (λ name. name.now) script) ending old new
 
 -- what the words ask for was done, for some command; or the words alone were answered
@@ -126,6 +184,7 @@ is_told_first FileAsCommand = false
 is_told_first TreeNotRead = false
 is_told_first FileNotRead = true
 is_told_first (TreeRefused why) = false
+is_told_first FaultsFound = false
 is_told_first (LineRefused line) = false
 is_told_first (ScriptRefused line why) = false
 is_told_first (ScriptMissed line why) = false

@@ -11,7 +11,7 @@ use Rattle.otp_try.specs.Texts.{fault_text, taken_text}
 use Rattle.otp_try.specs.declared.play.TryEnd.{TryEnd}
 use Rattle.otp_try.specs.declared.play.TryEnd.TheVariants as trial
 use Rattle.otp_console.specs.declared.ending.Ending.{Ending}
-use Rattle.otp_console.specs.declared.ending.Ending.TheVariants.{Done, WordsRefused, NoCommand, WordNotText, FileAsCommand, TreeNotRead, FileNotRead, TreeRefused, LineRefused, ScriptRefused, ScriptMissed, HistoryFull, InputFailed, OutputFailed, OutOfMemory}
+use Rattle.otp_console.specs.declared.ending.Ending.TheVariants.{Done, WordsRefused, NoCommand, WordNotText, FileAsCommand, TreeNotRead, FileNotRead, TreeRefused, FaultsFound, LineRefused, ScriptRefused, ScriptMissed, HistoryFull, InputFailed, OutputFailed, OutOfMemory}
 
 -- 0: done. 1: the tree, or a file. 2: the words. 3: the lines of the input. 4: the machine. 5: a line of a script
 abbrev pub status_of : Ending → ℕ
@@ -23,6 +23,7 @@ status_of FileAsCommand = 2
 status_of TreeNotRead = 1
 status_of FileNotRead = 1
 status_of (TreeRefused _) = 1
+status_of FaultsFound = 1
 status_of (LineRefused _) = 3
 status_of (ScriptRefused _ _) = 5
 status_of (ScriptMissed _ _) = 5
@@ -37,10 +38,10 @@ line_text line why = codes "line " ++ decimal line ++ codes ": " ++ why ++ codes
 
 -- a file that can't be read, and why
 abbrev pub not_read_text : List ℕ → List ℕ → List ℕ
-not_read_text name why = codes "error: " ++ name ++ codes " can't be read: " ++ why ++ codes "\n"
+not_read_text name why = (codes "error: " ++ name ++ codes " can't be read: ") ++ why ++ codes "\n"
 
--- the line on standard error, its end included: none where all went well, or where it was told before why the words
--- are refused or a file can't be read
+-- the line on standard error, its end included: none where all went well, where it was told before why the words
+-- are refused or a file can't be read, or where faults were written to the output
 abbrev pub sentence_of : Ending → List ℕ
 sentence_of Done = []
 sentence_of WordsRefused = []
@@ -50,6 +51,7 @@ sentence_of FileAsCommand = codes "error: a file in the place of a command: say 
 sentence_of TreeNotRead = codes "tree not read\n"
 sentence_of FileNotRead = []
 sentence_of (TreeRefused why) = codes "tree refused: E" ++ decimal (code_of why) ++ codes "\n"
+sentence_of FaultsFound = []
 sentence_of (LineRefused line) = codes "line " ++ decimal line ++ codes " refused\n"
 sentence_of (ScriptRefused line why) = line_text line (fault_text why)
 sentence_of (ScriptMissed line why) = line_text line (taken_text why)

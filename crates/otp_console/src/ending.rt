@@ -1,10 +1,11 @@
 //! How the program ends, and what it tells of it.
 
-ghost use Rattle.std.specs.Prelude.{◌≡◌, ◌≤◌, ◌<◌, ◌++◌, decimal, OnOk, OnErr};
+ghost use Rattle.std.specs.Prelude.{◌≡◌, ◌⊎◌, ◌≤◌, ◌<◌, ◌++◌, decimal, OnOk, OnErr};
 ghost use Rattle.std.specs.IoError.{error_kind};
 ghost use Rattle.std.specs.Io.KnownBytes.{Appends};
 ghost use Rattle.otp_console.specs.Runs.{IsTold};
 ghost use Rattle.otp_console.specs.Statuses.{IsOfFile, line_text, sentence_of, status_of};
+ghost use Rattle.otp_console.specs.declared.ending.Ending.TheVariants.{OutOfMemory, TreeNotRead};
 
 use itoa::Buffer;
 use otp_file::TreeFault;
@@ -32,6 +33,8 @@ pub enum Ending {
     FileNotRead,
     /// The tree file says no tree.
     TreeRefused(TreeFault),
+    /// `check` found faults, and has written them.
+    FaultsFound,
     /// The line with this number, from 1, has no form that is read.
     LineRefused(u64),
     /// The line of a script with this number can't be read.
@@ -52,7 +55,8 @@ impl Ending {
     {
         match self {
             Ending::Done => 0,
-            Ending::TreeNotRead | Ending::TreeRefused(_) | Ending::FileNotRead => 1,
+            Ending::TreeNotRead | Ending::TreeRefused(_) => 1,
+            Ending::FileNotRead | Ending::FaultsFound => 1,
             Ending::WordsRefused | Ending::NoCommand | Ending::WordNotText => 2,
             Ending::FileAsCommand => 2,
             Ending::LineRefused(_) | Ending::HistoryFull | Ending::InputFailed => 3,
@@ -63,7 +67,8 @@ impl Ending {
 
     /// The end for a file that can't be read, by the kind of the error.
     pub(crate) fn of_file(error: &io::Error) -> Self
-        ensures { IsOfFile (error_kind error.now) result }
+        ensures kind { IsOfFile (error_kind error.now) result }
+        ensures either { (result ≡ TreeNotRead) ⊎ (result ≡ OutOfMemory) }
     {
         match error.kind() {
             ErrorKind::OutOfMemory => Ending::OutOfMemory,
@@ -90,7 +95,8 @@ fn write_sentence<E: Output>(errors: &mut E, ending: Ending) -> Result<(), Faile
     ensures failed { OnErr result (E.failures errors.old < E.failures errors.new) }
 {
     match ending {
-        Ending::Done | Ending::WordsRefused | Ending::FileNotRead => Ok(()),
+        Ending::Done | Ending::WordsRefused => Ok(()),
+        Ending::FileNotRead | Ending::FaultsFound => Ok(()),
         Ending::NoCommand => write_all(errors, b"usage: otp sim FILE\n"),
         Ending::WordNotText => write_all(errors, b"error: a word is not UTF-8\n"),
         Ending::FileAsCommand => write_all(

@@ -1,6 +1,6 @@
 //! The files that the program reads.
 
-ghost use Rattle.std.specs.Prelude.{ℕ, List, ◌≡◌, ◌≤◌, ◌<◌, ◌⊎◌, IfErr, IfOk, OnOk, OnErr};
+ghost use Rattle.std.specs.Prelude.{ℕ, List, ◌≡◌, ◌≤◌, ◌<◌, ◌++◌, ◌⊎◌, IfErr, IfOk, OnOk, OnErr};
 ghost use Rattle.std.specs.Io.KnownBytes.{Appends};
 ghost use Rattle.otp_console.specs.Runs.{TellsFirst};
 ghost use Rattle.otp_console.specs.Statuses.{not_read_text};
@@ -75,9 +75,32 @@ fn write_not_read<E: Output>(errors: &mut E, name: &str, why: &str) -> Result<()
     ensures kept { E.failures errors.old ≤ E.failures errors.new }
     ensures failed { OnErr result (E.failures errors.old < E.failures errors.new) }
 {
-    write_all(errors, b"error: ")?;
-    write_all(errors, name.as_bytes())?;
-    write_all(errors, b" can't be read: ")?;
-    write_all(errors, why.as_bytes())?;
-    write_all(errors, b"\n")
+    write_three(errors, b"error: ", name.as_bytes(), b" can't be read: ")?;
+    write_two(errors, why.as_bytes(), b"\n")
+}
+
+/// Writes three texts.
+fn write_three<E: Output>(
+    errors: &mut E,
+    front: &[u8],
+    text: &[u8],
+    back: &[u8],
+) -> Result<(), Failed>
+    ensures ok { OnOk result (Appends (E.contents errors.old) (E.contents errors.new) (front.now ++ text.now ++ back.now)) }
+    ensures kept { E.failures errors.old ≤ E.failures errors.new }
+    ensures failed { OnErr result (E.failures errors.old < E.failures errors.new) }
+{
+    write_all(errors, front)?;
+    write_all(errors, text)?;
+    write_all(errors, back)
+}
+
+/// Writes two texts.
+fn write_two<E: Output>(errors: &mut E, text: &[u8], back: &[u8]) -> Result<(), Failed>
+    ensures ok { OnOk result (Appends (E.contents errors.old) (E.contents errors.new) (text.now ++ back.now)) }
+    ensures kept { E.failures errors.old ≤ E.failures errors.new }
+    ensures failed { OnErr result (E.failures errors.old < E.failures errors.new) }
+{
+    write_all(errors, text)?;
+    write_all(errors, back)
 }

@@ -1,11 +1,12 @@
 //! The program but for the system under it: what it does for which words, and what it tells on which stream.
 
 ghost use Rattle.std.specs.Prelude.{ℕ, List, Option, ◌≡◌, ◌≤◌, ◌⊎◌, IfErr, IfOk, OnOk, option_map};
-ghost use Rattle.otp_console.specs.Runs.{Answers, Does, IsProgramRun, IsTrial, Obeys, Simulates, TellsFirst, Tries};
+ghost use Rattle.otp_console.specs.Runs.{Answers, Checks, Does, Draws, IsProgramRun, IsTrial, Obeys, Simulates, TellsFirst, Tries};
 ghost use Rattle.otp_console.specs.declared.ending.Ending.TheVariants as end;
 ghost use Rattle.otp_console.specs.Words.{EndsFor};
 ghost use Rattle.otp_console.specs.declared.words.WordsFault.TheVariants.{Clap};
 
+use crate::checking::{check_file, draw_file};
 use crate::console::console;
 use crate::ending::{Ending, tell};
 use crate::files::{TreeFiles, read_file};
@@ -70,7 +71,7 @@ pub fn do_command<F: TreeFiles, R: Input, W: Output, E: Output>(
     output: &mut W,
     errors: &mut E,
 ) -> Ending
-    ensures done { Does (F.holds files.now) command result
+    ensures done { Does (F.holds files.now) command.entry result
         (record { left = R.remaining input.old; written = W.contents output.old; read_failures = R.failures input.old; write_failures = W.failures output.old })
         (record { left = R.remaining input.new; written = W.contents output.new; read_failures = R.failures input.new; write_failures = W.failures output.new }) }
     ensures first { TellsFirst result (E.contents errors.old) (E.contents errors.new) (E.failures errors.old) (E.failures errors.new) }
@@ -83,6 +84,8 @@ pub fn do_command<F: TreeFiles, R: Input, W: Output, E: Output>(
             script,
             writer,
         } => try_named(alloc, files, file, script, writer, input, output, errors),
+        Command::Check { file } => check_named(alloc, files, file, output, errors),
+        Command::Tree { file } => draw_named(alloc, files, file, output, errors),
     }
 }
 
@@ -115,7 +118,7 @@ fn try_named<F: TreeFiles, R: Input, W: Output, E: Output>(
     output: &mut W,
     errors: &mut E,
 ) -> Ending
-    ensures done { Tries (F.holds files.now name.now) (option_map (λ script. script.now) script) result
+    ensures done { Tries (F.holds files.now name.now) (option_map (λ script. script.now) script.entry) result
         (record { left = R.remaining input.old; written = W.contents output.old; read_failures = R.failures input.old; write_failures = W.failures output.old })
         (record { left = R.remaining input.new; written = W.contents output.new; read_failures = R.failures input.new; write_failures = W.failures output.new }) }
     ensures first { TellsFirst result (E.contents errors.old) (E.contents errors.new) (E.failures errors.old) (E.failures errors.new) }
@@ -148,6 +151,46 @@ fn try_lines<W: Output>(
 {
     let mut script = Counted::new(lines);
     try_file(alloc, file, writer, &mut script, output)
+}
+
+/// Checks a file.
+fn check_named<F: TreeFiles, W: Output, E: Output>(
+    alloc: Global,
+    files: &F,
+    name: &str,
+    output: &mut W,
+    errors: &mut E,
+) -> Ending
+    ensures done { (left : Option (List ℕ)) (failures : ℕ) → Checks (F.holds files.now name.now) result
+        (record { left = left; written = W.contents output.old; read_failures = failures; write_failures = W.failures output.old })
+        (record { left = left; written = W.contents output.new; read_failures = failures; write_failures = W.failures output.new }) }
+    ensures first { TellsFirst result (E.contents errors.old) (E.contents errors.new) (E.failures errors.old) (E.failures errors.new) }
+    ensures kept { E.failures errors.old ≤ E.failures errors.new }
+{
+    match read_file(files, name, errors) {
+        Ok(file) => check_file(alloc, name, &file, output),
+        Err(ending) => ending,
+    }
+}
+
+/// Draws the tree of a file.
+fn draw_named<F: TreeFiles, W: Output, E: Output>(
+    alloc: Global,
+    files: &F,
+    name: &str,
+    output: &mut W,
+    errors: &mut E,
+) -> Ending
+    ensures done { (left : Option (List ℕ)) (failures : ℕ) → Draws (F.holds files.now name.now) result
+        (record { left = left; written = W.contents output.old; read_failures = failures; write_failures = W.failures output.old })
+        (record { left = left; written = W.contents output.new; read_failures = failures; write_failures = W.failures output.new }) }
+    ensures first { TellsFirst result (E.contents errors.old) (E.contents errors.new) (E.failures errors.old) (E.failures errors.new) }
+    ensures kept { E.failures errors.old ≤ E.failures errors.new }
+{
+    match read_file(files, name, errors) {
+        Ok(file) => draw_file(alloc, &file, output),
+        Err(ending) => ending,
+    }
 }
 
 /// Answers words that ask for nothing that is done: they are refused, or ask for help.

@@ -27,7 +27,14 @@ pub fn try_file<R: Input, W: Output>(
         Ok(tree) => tree,
         Err(fault) => return Ending::of_tree(fault),
     };
-    Ending::of_try(try_tree(alloc, &tree.flags, tree.specs.as_slice(), writer, script, output))
+    Ending::of_try(try_tree(
+        alloc,
+        &tree.flags,
+        tree.specs.as_slice(),
+        writer,
+        script,
+        output,
+    ))
 }
 
 impl Ending {
