@@ -25,12 +25,13 @@ use Rattle.otp_spec.specs.declared.child.ChildSpec.{ChildSpec}
 use Rattle.otp_table.specs.Rows.{has_id, has_number}
 use Rattle.otp_rules.specs.declared.call.Call.{Call}
 use Rattle.otp_rules.specs.declared.call.Call.TheVariants as call
+use Rattle.otp_rules.specs.declared.call.CallFault.{CallFault}
 use Rattle.otp_rules.specs.declared.call.CallFault.TheVariants as fault
 use Rattle.otp_rules.specs.declared.call.Reply.{Reply}
 use Rattle.otp_rules.specs.declared.call.Reply.TheVariants as reply
 use Rattle.otp_rules.specs.declared.event.Item.TheVariants as item
 use Rattle.otp_rules.specs.declared.event.Waiting.TheVariants as waiting
-use Rattle.otp_rules.specs.Calls.{add_child, at_child, delete_child_at, delete_child_in, get_childspec, get_shared, is_named, new_row, refuse, restart_child_at, restart_child_in, start_child, start_dynamic, stop_process, take_call, tell_spec, terminate_child_at, terminate_child_in, terminate_process, terminate_process_at, terminate_process_in}
+use Rattle.otp_rules.specs.Calls.{add_child, call_at, call_child, carry_out, fault_at, get_childspec, get_shared, is_named, new_row, refuse, start_child, start_dynamic, stop_child, stop_process, take_call, terminate_process, unless_refused}
 use Rattle.otp_rules.specs.Counts.{counts_of, which_of}
 use Rattle.otp_rules.specs.Starts.{failed_after, up_after}
 use Rattle.otp_rules.specs.Step.{ask, due_of, killed, late_by, late_number, open_rows, open_with, opening_specs, rows_from, tick}
@@ -338,27 +339,30 @@ add_child_starts c id spec o h =
       | false ↦ added_starts c id spec o
     ]
 
+-- a call that is refused starts no child
+unless_refused_none : (c : ℕ) (why : Option CallFault) (done o : Outcome) → o.state.follows ≡ None → (why ≡ None → work_starts done ≡ false) → work_starts (unless_refused c why done o) ≡ false
+unless_refused_none c None done o h k = k refl
+unless_refused_none c (Some why) done o h k = answered_starts_none c (reply.Refused why) o h
+
 -- a child that is there is started at once, where nothing is awaited
-restarted_starts : (c : ℕ) (id : Name) (o : Outcome) → work_starts (restart_child_in c id Undefined o) ≡ not (awaits o.state.rows)
-unfolding restart_child_in work_starts
-restarted_starts c id o = and_true (not (awaits o.state.rows))
+again_in : (c : ℕ) (id : Name) (place : ℕ) (row : Row) (state : RowState) (o : Outcome) → o.state.follows ≡ None
+    → work_starts (unless_refused c (fault_at (call.RestartChild id) state) (carry_out c (call.RestartChild id) place row o) o) ≡ (is_undefined state && not (awaits o.state.rows))
+unfolding work_starts
+again_in c id place row Undefined o h = and_true (not (awaits o.state.rows))
+again_in c id place row (Starting _ _) o h = answered_starts_none c (reply.Refused fault.Running) o h
+again_in c id place row (Up _) o h = answered_starts_none c (reply.Refused fault.Running) o h
+again_in c id place row (Asked _ _) o h = answered_starts_none c (reply.Refused fault.Running) o h
+again_in c id place row (Killed _) o h = answered_starts_none c (reply.Refused fault.Running) o h
+again_in c id place row (Restarting _) o h = answered_starts_none c (reply.Refused fault.Restarting) o h
 
-again_none : (c : ℕ) (id : Name) (state : RowState) (o : Outcome) → o.state.follows ≡ None → is_undefined state ≡ false → work_starts (restart_child_in c id state o) ≡ false
-unfolding restart_child_in
-again_none c id Undefined o h u = absurd (false≢true (sym u))
-again_none c id (Starting _ _) o h u = answered_starts_none c (reply.Refused fault.Running) o h
-again_none c id (Up _) o h u = answered_starts_none c (reply.Refused fault.Running) o h
-again_none c id (Asked _ _) o h u = answered_starts_none c (reply.Refused fault.Running) o h
-again_none c id (Killed _) o h u = answered_starts_none c (reply.Refused fault.Running) o h
-again_none c id (Restarting _) o h u = answered_starts_none c (reply.Refused fault.Restarting) o h
+pub again_starts : (c : ℕ) (id : Name) (place : ℕ) (row : Row) (o : Outcome) → o.state.follows ≡ None → work_starts (call_at c (call.RestartChild id) place row o) ≡ (is_undefined row.state && not (awaits o.state.rows))
+unfolding call_at
+again_starts c id place row o h = again_in c id place row row.state o h
 
-pub again_starts : (c : ℕ) (id : Name) (state : RowState) (o : Outcome) → o.state.follows ≡ None → work_starts (restart_child_in c id state o) ≡ (is_undefined state && not (awaits o.state.rows))
-again_starts c id Undefined o h = restarted_starts c id o
-again_starts c id (Starting p k) o h = again_none c id (Starting p k) o h refl
-again_starts c id (Up p) o h = again_none c id (Up p) o h refl
-again_starts c id (Asked p d) o h = again_none c id (Asked p d) o h refl
-again_starts c id (Killed p) o h = again_none c id (Killed p) o h refl
-again_starts c id (Restarting k) o h = again_none c id (Restarting k) o h refl
+-- a child that is there already is not added
+pub present_starts_none : (c : ℕ) (spec : ChildSpec) (place : ℕ) (row : Row) (o : Outcome) → o.state.follows ≡ None → work_starts (call_at c (call.StartChild spec) place row o) ≡ false
+unfolding call_at
+present_starts_none c spec place row o h = unless_refused_none c (fault_at (call.StartChild spec) row.state) o o h (λ k. idle_starts_none o h)
 
 at_row-none : (test : Row → Bool) (missing : Outcome) (f : ℕ → Row → Outcome → Outcome) (o : Outcome) → work_starts missing ≡ false → work_starts o ≡ false
     → ((place : ℕ) (row : Row) → work_starts (f place row o) ≡ false) → work_starts (at_row test missing f o) ≡ false
@@ -369,36 +373,17 @@ at_row-none test missing f o m h each =
       | Some place ↦ elim (slice_get o.state.rows place) as (λ row. work_starts (at_place f place row o) ≡ false) [ None ↦ h | Some row ↦ each place row ]
     ]
 
-delete_none : (c place : ℕ) (state : RowState) (o : Outcome) → o.state.follows ≡ None → work_starts (delete_child_in c place state o) ≡ false
-unfolding delete_child_in
-delete_none c place Undefined o h = answered_starts_none c reply.Ok (with_rows (remove o.state.rows place) o) h
-delete_none c place (Starting _ _) o h = answered_starts_none c (reply.Refused fault.Running) o h
-delete_none c place (Up _) o h = answered_starts_none c (reply.Refused fault.Running) o h
-delete_none c place (Asked _ _) o h = answered_starts_none c (reply.Refused fault.Running) o h
-delete_none c place (Killed _) o h = answered_starts_none c (reply.Refused fault.Running) o h
-delete_none c place (Restarting _) o h = answered_starts_none c (reply.Refused fault.Restarting) o h
-
 stop_process_none : (c p : ℕ) (o : Outcome) → work_starts (stop_process c p o) ≡ false
 unfolding stop_process
 stop_process_none c p o = no_due (with_work (p ∷ []) [] (Some (after.Stopped c)) o) refl
 
-terminate_child_none : (c place : ℕ) (row : Row) (state : RowState) (o : Outcome) → o.state.follows ≡ None → work_starts (terminate_child_in c place row state o) ≡ false
-unfolding terminate_child_in
-terminate_child_none c place row Undefined o h = answered_starts_none c reply.Ok o h
-terminate_child_none c place row (Starting p _) o h = stop_process_none c p o
-terminate_child_none c place row (Up p) o h = stop_process_none c p o
-terminate_child_none c place row (Asked p _) o h = stop_process_none c p o
-terminate_child_none c place row (Killed p) o h = stop_process_none c p o
-terminate_child_none c place row (Restarting _) o h = answered_starts_none c reply.Ok (set_row place row Undefined o) h
-
-terminate_process_none : (c place : ℕ) (state : RowState) (o : Outcome) → o.state.follows ≡ None → work_starts (terminate_process_in c place state o) ≡ false
-unfolding terminate_process_in
-terminate_process_none c place Undefined o h = answered_starts_none c (reply.Refused fault.NotFound) o h
-terminate_process_none c place (Starting p _) o h = stop_process_none c p o
-terminate_process_none c place (Up p) o h = stop_process_none c p o
-terminate_process_none c place (Asked p _) o h = stop_process_none c p o
-terminate_process_none c place (Killed p) o h = stop_process_none c p o
-terminate_process_none c place (Restarting _) o h = answered_starts_none c reply.Ok (with_rows (remove o.state.rows place) o) h
+stop_child_none : (c : ℕ) (state : RowState) (gone o : Outcome) → gone.state.follows ≡ None → work_starts (stop_child c state gone o) ≡ false
+stop_child_none c Undefined gone o h = answered_starts_none c reply.Ok gone h
+stop_child_none c (Starting p _) gone o h = stop_process_none c p o
+stop_child_none c (Up p) gone o h = stop_process_none c p o
+stop_child_none c (Asked p _) gone o h = stop_process_none c p o
+stop_child_none c (Killed p) gone o h = stop_process_none c p o
+stop_child_none c (Restarting _) gone o h = answered_starts_none c reply.Ok gone h
 
 get_shared_none : (c : ℕ) (id : Name) (spec : Option ChildSpec) (o : Outcome) → o.state.follows ≡ None → work_starts (get_shared c id spec o) ≡ false
 unfolding get_shared
@@ -409,27 +394,29 @@ get_shared_none c id (Some spec) o h =
       | false ↦ answered_starts_none c (reply.Refused fault.NotFound) o h
     ]
 
-at_child_none : (c : ℕ) (id : Name) (f : ℕ → Row → Outcome → Outcome) (o : Outcome) → o.state.follows ≡ None → ((place : ℕ) (row : Row) → work_starts (f place row o) ≡ false) → work_starts (at_child c id f o) ≡ false
-unfolding at_child
-at_child_none c id f o h each =
-    elim (is_simple o.state.flags.strategy) as (λ b. work_starts (if b then refuse c fault.SimpleOneForOne o else at_row (has_id id) (refuse c fault.NotFound o) f o) ≡ false) [
+call_child_none : (c : ℕ) (id : Name) (x : Call) (o : Outcome) → o.state.follows ≡ None → ((place : ℕ) (row : Row) → work_starts (carry_out c x place row o) ≡ false) → work_starts (call_child c id x o) ≡ false
+unfolding call_child call_at
+call_child_none c id x o h each =
+    elim (is_simple o.state.flags.strategy) as (λ b. work_starts (if b then refuse c fault.SimpleOneForOne o else at_row (has_id id) (refuse c fault.NotFound o) (call_at c x) o) ≡ false) [
       | true ↦ answered_starts_none c (reply.Refused fault.SimpleOneForOne) o h
-      | false ↦ at_row-none (has_id id) (refuse c fault.NotFound o) f o (answered_starts_none c (reply.Refused fault.NotFound) o h) (idle_starts_none o h) each
+      | false ↦ at_row-none (has_id id) (refuse c fault.NotFound o) (call_at c x) o (answered_starts_none c (reply.Refused fault.NotFound) o h) (idle_starts_none o h)
+          (λ place row. unless_refused_none c (fault_at x row.state) (carry_out c x place row o) o h (λ k. each place row))
     ]
 
 pub delete_starts_none : (c : ℕ) (id : Name) (o : Outcome) → o.state.follows ≡ None → work_starts (take_call c (call.DeleteChild id) o) ≡ false
-unfolding take_call delete_child_at
-delete_starts_none c id o h = at_child_none c id (delete_child_at c) o h (λ place row. delete_none c place row.state o h)
+unfolding take_call
+delete_starts_none c id o h = call_child_none c id (call.DeleteChild id) o h (λ place row. answered_starts_none c reply.Ok (with_rows (remove o.state.rows place) o) h)
 
 pub terminate_child_starts_none : (c : ℕ) (id : Name) (o : Outcome) → o.state.follows ≡ None → work_starts (take_call c (call.TerminateChild id) o) ≡ false
-unfolding take_call terminate_child_at
-terminate_child_starts_none c id o h = at_child_none c id (terminate_child_at c) o h (λ place row. terminate_child_none c place row row.state o h)
+unfolding take_call
+terminate_child_starts_none c id o h = call_child_none c id (call.TerminateChild id) o h (λ place row. stop_child_none c row.state (set_row place row Undefined o) o h)
 
 pub terminate_process_starts_none : (c p : ℕ) (o : Outcome) → o.state.follows ≡ None → work_starts (take_call c (call.TerminateProcess p) o) ≡ false
-unfolding take_call terminate_process terminate_process_at
+unfolding take_call terminate_process call_at
 terminate_process_starts_none c p o h =
-    elim (is_simple o.state.flags.strategy) as (λ b. work_starts (if b then at_row (row_has (has_number p)) (refuse c fault.NotFound o) (terminate_process_at c) o else refuse c fault.NotFound o) ≡ false) [
-      | true ↦ at_row-none (row_has (has_number p)) (refuse c fault.NotFound o) (terminate_process_at c) o (answered_starts_none c (reply.Refused fault.NotFound) o h) (idle_starts_none o h) (λ place row. terminate_process_none c place row.state o h)
+    elim (is_simple o.state.flags.strategy) as (λ b. work_starts (if b then at_row (row_has (has_number p)) (refuse c fault.NotFound o) (call_at c (call.TerminateProcess p)) o else refuse c fault.NotFound o) ≡ false) [
+      | true ↦ at_row-none (row_has (has_number p)) (refuse c fault.NotFound o) (call_at c (call.TerminateProcess p)) o (answered_starts_none c (reply.Refused fault.NotFound) o h) (idle_starts_none o h)
+          (λ place row. unless_refused_none c (fault_at (call.TerminateProcess p) row.state) _ o h (λ k. stop_child_none c row.state (with_rows (remove o.state.rows place) o) o h))
       | false ↦ answered_starts_none c (reply.Refused fault.NotFound) o h
     ]
 
@@ -442,11 +429,11 @@ unfolding take_call
 count_starts_none c o h = answered_starts_none c (reply.Count (counts_of o.state)) o h
 
 pub get_childspec_starts_none : (c : ℕ) (id : Name) (o : Outcome) → o.state.follows ≡ None → work_starts (take_call c (call.GetChildspec id) o) ≡ false
-unfolding take_call get_childspec
+unfolding take_call get_childspec call_at
 get_childspec_starts_none c id o h =
-    elim (is_simple o.state.flags.strategy) as (λ b. work_starts (if b then get_shared c id (slice_get o.state.specs 0) o else at_row (has_id id) (refuse c fault.NotFound o) (tell_spec c) o) ≡ false) [
+    elim (is_simple o.state.flags.strategy) as (λ b. work_starts (if b then get_shared c id (slice_get o.state.specs 0) o else at_row (has_id id) (refuse c fault.NotFound o) (call_at c (call.GetChildspec id)) o) ≡ false) [
       | true ↦ get_shared_none c id (slice_get o.state.specs 0) o h
-      | false ↦ at_row-none (has_id id) (refuse c fault.NotFound o) (tell_spec c) o (answered_starts_none c (reply.Refused fault.NotFound) o h) (idle_starts_none o h) (λ place row. answered_starts_none c (reply.Spec row.spec) o h)
+      | false ↦ at_row-none (has_id id) (refuse c fault.NotFound o) (call_at c (call.GetChildspec id)) o (answered_starts_none c (reply.Refused fault.NotFound) o h) (idle_starts_none o h) (λ place row. answered_starts_none c (reply.Spec row.spec) o h)
     ]
 
 -- a call that waits changes no end
@@ -525,6 +512,6 @@ pub start_dynamic_is : (c : ℕ) (o : Outcome) → take_call c call.StartDynamic
 unfolding take_call
 start_dynamic_is c o = refl
 
-pub restart_child_is : (c : ℕ) (id : Name) (o : Outcome) → take_call c (call.RestartChild id) o ≡ at_child c id (restart_child_at c id) o
+pub restart_child_is : (c : ℕ) (id : Name) (o : Outcome) → take_call c (call.RestartChild id) o ≡ call_child c id (call.RestartChild id) o
 unfolding take_call
 restart_child_is c id o = refl

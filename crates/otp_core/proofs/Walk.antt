@@ -4,14 +4,12 @@ use Rattle.std.specs.List.{list_all, position_or_len}
 use Rattle.std.proofs.Common.{◌∙◌, ap, sym, arith, subst, inl, inr, cond, suc, ltb, get_or}
 use Rattle.std.proofs.lemmas.Bool.{cases_lt, leb-true, ltb-true, ltb-false, le-leb, eq-eqb, eqb-true, false≢true, and_parts, and_from}
 use Rattle.std.proofs.lemmas.List.Sums.{sum_by-cons, sum_by-remove, passes_at_first}
-use Rattle.otp_reason.specs.declared.note.Note.{Note}
 use Rattle.otp_reason.specs.declared.note.Note.TheVariants as note
-use Rattle.otp_rules.specs.declared.event.Item.{Item}
 use Rattle.otp_rules.specs.declared.event.Item.TheVariants as item
 use Rattle.otp_rules.specs.declared.event.Waiting.{Waiting}
 use Rattle.otp_rules.specs.declared.event.Waiting.TheVariants as waiting
 use Rattle.otp_rules.specs.Needs.{ends_wait}
-use Rattle.otp_rules.specs.Stops.{is_exit, is_exit_note, without}
+use Rattle.otp_rules.specs.Stops.{is_exit, without}
 use Rattle.otp_core.specs.Ups.{ends_counted}
 
 -- how many ends of the process wait
@@ -32,19 +30,13 @@ none_there p (x ∷ xs) h =
       | false ↦ λ k. let rest : exits p xs ≡ 0 = none_there p xs (omega (arith, k)) in omega (arith, rest)
     ]) h
 
-same_exit_note : (p q : ℕ) (x : Note) → is_exit_note p x ≡ true → is_exit_note q x ≡ (p == q)
-same_exit_note p q (note.Up r) h = absurd (false≢true h)
-same_exit_note p q (note.Ignored r) h = absurd (false≢true h)
-same_exit_note p q (note.Failed r s) h = absurd (false≢true h)
-same_exit_note p q (note.Exit r s) h = ap (λ (n : ℕ). n == q) (eqb-true r p h)
-
-same_exit_item : (p q : ℕ) (x : Item) → is_exit p (waiting.Item x) ≡ true → is_exit q (waiting.Item x) ≡ (p == q)
-same_exit_item p q (item.Note x) h = same_exit_note p q x h
-same_exit_item p q (item.Call c x) h = absurd (false≢true h)
-
 -- an end of p is an end of q only where they are the same
 same_exit : (p q : ℕ) (x : Waiting) → is_exit p x ≡ true → is_exit q x ≡ (p == q)
-same_exit p q (waiting.Item x) h = same_exit_item p q x h
+same_exit p q (waiting.Item (item.Note (note.Exit r s))) h = ap (λ (n : ℕ). n == q) (eqb-true r p h)
+same_exit p q (waiting.Item (item.Note (note.Up r))) h = absurd (false≢true h)
+same_exit p q (waiting.Item (item.Note (note.Ignored r))) h = absurd (false≢true h)
+same_exit p q (waiting.Item (item.Note (note.Failed r s))) h = absurd (false≢true h)
+same_exit p q (waiting.Item (item.Call c x)) h = absurd (false≢true h)
 same_exit p q (waiting.Retry k) h = absurd (false≢true h)
 
 -- the first end of p leaves

@@ -1,8 +1,8 @@
 //! The calls of a supervisor, with no work open (`specs/Calls` of the rules).
 
-ghost use Rattle.std.specs.Prelude.{◌≡◌, ◌+◌, ◌<◌, ◌≤◌, [], Some, length, map, slice_get, vec_len, vec_capacity};
+ghost use Rattle.std.specs.Prelude.{◌≡◌, ◌+◌, ◌<◌, ◌≤◌, ◌∷◌, [], None, Some, length, map, slice_get, vec_len, vec_capacity};
 ghost use Rattle.otp_spec.specs.Lawful.{first_fault};
-ghost use Rattle.otp_rules.specs.Calls.{already, is_named};
+ghost use Rattle.otp_rules.specs.Calls.{is_named};
 
 use crate::lists::{count_active, count_supervisors, count_workers, list_lines};
 use crate::machine::Machine;
@@ -15,9 +15,11 @@ use std::mem;
 
 impl Machine {
     ghost use Rattle.otp_core.specs.Seen.{outcome_of, CanAdvance, CanDecide};
-    ghost use Rattle.otp_rules.specs.Calls.{add_child, at_child, delete_child_at, delete_child_in, get_childspec, refuse, restart_child_at, restart_child_in, start_child, start_dynamic, start_lawful, stop_process, take_call, terminate_child_at, terminate_child_in, terminate_process, terminate_process_in};
+    ghost use Rattle.otp_rules.specs.Calls.{add_child, call_child, get_childspec, refuse, start_child, start_dynamic, start_lawful, stop_process, take_call, terminate_process};
     ghost use Rattle.otp_rules.specs.Counts.{counts_of, which_of};
-    ghost use Rattle.otp_rules.specs.State.{answer};
+    ghost use Rattle.otp_rules.specs.State.{answer, with_work};
+    ghost use Rattle.otp_rules.specs.declared.call.Call.TheVariants as asked;
+    ghost use Rattle.otp_rules.specs.declared.work.After.TheVariants as after;
     ghost use Rattle.otp_rules.specs.declared.call.Reply.TheVariants as reply;
     ghost use Rattle.otp_table.specs.declared.row.Row.{Row};
 
@@ -52,7 +54,7 @@ impl Machine {
         }
     }
 
-    #[tactic(auto, unfolding(otp_rules::specs::Calls::start_lawful, otp_rules::specs::Calls::already_at, otp_rules::specs::Places::at_row, otp_rules::specs::Places::at_found, otp_rules::specs::Places::at_place))]
+    #[tactic(auto, unfolding(otp_rules::specs::Calls::start_lawful, otp_rules::specs::Calls::call_at, otp_rules::specs::Places::at_row, otp_rules::specs::Places::at_found, otp_rules::specs::Places::at_place))]
     fn start_lawful(&mut self, call: u64, spec: ChildSpec)
         requires { CanDecide self.old }
         ensures outcome { outcome_of self.new ≡ start_lawful call spec (outcome_of self.old) }
@@ -60,10 +62,10 @@ impl Machine {
     {
         match self.rows.find_id(&spec.id) {
             None => self.add_child(call, Some(spec.id), spec),
-            Some(place) => {
-                let fault = already(self.rows.get(place).state);
-                self.refuse(call, fault);
-            }
+            Some(place) => match self.rows.get(place).state {
+                RowState::Up(number) => self.refuse(call, CallFault::AlreadyStarted(number)),
+                _ => self.refuse(call, CallFault::AlreadyPresent),
+            },
         }
     }
 
@@ -104,31 +106,25 @@ impl Machine {
         }
     }
 
-    #[tactic(auto, unfolding(otp_rules::specs::Calls::restart_child_in))]
-    fn restart_child_in(&mut self, call: u64, id: Name, state: RowState)
+    /// The child is to be started, and then the call is answered.
+    fn start_again(&mut self, call: u64, id: Name)
         requires { CanDecide self.old }
-        ensures outcome { outcome_of self.new ≡ restart_child_in call id state (outcome_of self.old) }
+        ensures outcome { outcome_of self.new ≡ with_work [] (record { id = Some id; kept = None } ∷ []) (Some (after.Restarted call)) (outcome_of self.old) }
         ensures room { CanAdvance self.new }
     {
-        match state {
-            RowState::Undefined => {
-                self.to_stop.clear();
-                self.to_start.clear();
-                self.to_start.push_reserved(Due {
-                    id: Some(id),
-                    kept: None,
-                });
-                self.follows = Some(After::Restarted(call));
-            }
-            RowState::Restarting(_) => self.refuse(call, CallFault::Restarting),
-            _ => self.refuse(call, CallFault::Running),
-        }
+        self.to_stop.clear();
+        self.to_start.clear();
+        self.to_start.push_reserved(Due {
+            id: Some(id),
+            kept: None,
+        });
+        self.follows = Some(After::Restarted(call));
     }
 
-    #[tactic(auto, unfolding(otp_rules::specs::Calls::at_child, otp_rules::specs::Calls::restart_child_at, otp_rules::specs::Places::at_row, otp_rules::specs::Places::at_found, otp_rules::specs::Places::at_place))]
+    #[tactic(auto, unfolding(otp_rules::specs::Calls::call_child, otp_rules::specs::Calls::call_at, otp_rules::specs::Places::at_row, otp_rules::specs::Places::at_found, otp_rules::specs::Places::at_place))]
     fn restart_child(&mut self, call: u64, id: Name)
         requires { CanDecide self.old }
-        ensures outcome { outcome_of self.new ≡ at_child call id (restart_child_at call id) (outcome_of self.old) }
+        ensures outcome { outcome_of self.new ≡ call_child call id (asked.RestartChild id) (outcome_of self.old) }
         ensures room { CanAdvance self.new }
     {
         if is_simple(self.strategy) {
@@ -137,34 +133,18 @@ impl Machine {
         }
         match self.rows.find_id(&id) {
             None => self.refuse(call, CallFault::NotFound),
-            Some(place) => {
-                let state = self.rows.get(place).state;
-                self.restart_child_in(call, id, state);
-            }
+            Some(place) => match self.rows.get(place).state {
+                RowState::Undefined => self.start_again(call, id),
+                RowState::Restarting(_) => self.refuse(call, CallFault::Restarting),
+                _ => self.refuse(call, CallFault::Running),
+            },
         }
     }
 
-    #[tactic(auto, unfolding(otp_rules::specs::Calls::delete_child_in))]
-    fn delete_child_in(&mut self, call: u64, place: usize, state: RowState)
-        requires room { CanDecide self.old }
-        requires place { place < length self.old.rows.rows }
-        ensures outcome { outcome_of self.new ≡ delete_child_in call place state (outcome_of self.old) }
-        ensures room { CanAdvance self.new }
-    {
-        match state {
-            RowState::Undefined => {
-                self.rows.remove(place);
-                self.answer(call, Reply::Ok);
-            }
-            RowState::Restarting(_) => self.refuse(call, CallFault::Restarting),
-            _ => self.refuse(call, CallFault::Running),
-        }
-    }
-
-    #[tactic(auto, unfolding(otp_rules::specs::Calls::at_child, otp_rules::specs::Calls::delete_child_at, otp_rules::specs::Places::at_row, otp_rules::specs::Places::at_found, otp_rules::specs::Places::at_place))]
+    #[tactic(auto, unfolding(otp_rules::specs::Calls::call_child, otp_rules::specs::Calls::call_at, otp_rules::specs::Places::at_row, otp_rules::specs::Places::at_found, otp_rules::specs::Places::at_place))]
     fn delete_child(&mut self, call: u64, id: Name)
         requires { CanDecide self.old }
-        ensures outcome { outcome_of self.new ≡ at_child call id (delete_child_at call) (outcome_of self.old) }
+        ensures outcome { outcome_of self.new ≡ call_child call id (asked.DeleteChild id) (outcome_of self.old) }
         ensures room { CanAdvance self.new }
     {
         if is_simple(self.strategy) {
@@ -173,10 +153,14 @@ impl Machine {
         }
         match self.rows.find_id(&id) {
             None => self.refuse(call, CallFault::NotFound),
-            Some(place) => {
-                let state = self.rows.get(place).state;
-                self.delete_child_in(call, place, state);
-            }
+            Some(place) => match self.rows.get(place).state {
+                RowState::Undefined => {
+                    self.rows.remove(place);
+                    self.answer(call, Reply::Ok);
+                }
+                RowState::Restarting(_) => self.refuse(call, CallFault::Restarting),
+                _ => self.refuse(call, CallFault::Running),
+            },
         }
     }
 
@@ -193,31 +177,10 @@ impl Machine {
         self.follows = Some(After::Stopped(call));
     }
 
-    #[tactic(auto, unfolding(otp_rules::specs::Calls::terminate_child_at, otp_rules::specs::Calls::terminate_child_in))]
-    fn terminate_child_at(&mut self, call: u64, place: usize)
-        requires room { CanDecide self.old }
-        requires place { place < length self.old.rows.rows }
-        ensures outcome { (row : Row) → slice_get self.old.rows.rows place ≡ Some row →
-            outcome_of self.new ≡ terminate_child_at call place row (outcome_of self.old) }
-        ensures room { CanAdvance self.new }
-    {
-        match self.rows.get(place).state {
-            RowState::Undefined => self.answer(call, Reply::Ok),
-            RowState::Starting(p, _) => self.stop_process(call, p),
-            RowState::Up(p) => self.stop_process(call, p),
-            RowState::Asked(p, _) => self.stop_process(call, p),
-            RowState::Killed(p) => self.stop_process(call, p),
-            RowState::Restarting(_) => {
-                self.rows.set_state(place, RowState::Undefined);
-                self.answer(call, Reply::Ok);
-            }
-        }
-    }
-
-    #[tactic(auto, unfolding(otp_rules::specs::Calls::at_child, otp_rules::specs::Places::at_row, otp_rules::specs::Places::at_found, otp_rules::specs::Places::at_place))]
+    #[tactic(auto, unfolding(otp_rules::specs::Calls::call_child, otp_rules::specs::Calls::call_at, otp_rules::specs::Places::at_row, otp_rules::specs::Places::at_found, otp_rules::specs::Places::at_place))]
     fn terminate_child(&mut self, call: u64, id: Name)
         requires { CanDecide self.old }
-        ensures outcome { outcome_of self.new ≡ at_child call id (terminate_child_at call) (outcome_of self.old) }
+        ensures outcome { outcome_of self.new ≡ call_child call id (asked.TerminateChild id) (outcome_of self.old) }
         ensures room { CanAdvance self.new }
     {
         if is_simple(self.strategy) {
@@ -226,32 +189,21 @@ impl Machine {
         }
         match self.rows.find_id(&id) {
             None => self.refuse(call, CallFault::NotFound),
-            Some(place) => self.terminate_child_at(call, place),
-        }
-    }
-
-    #[tactic(auto, unfolding(otp_rules::specs::Calls::terminate_process_in))]
-    fn terminate_process_in(&mut self, call: u64, place: usize, state: RowState)
-        requires room { CanDecide self.old }
-        requires place { place < length self.old.rows.rows }
-        ensures outcome { outcome_of self.new ≡ terminate_process_in call place state (outcome_of self.old) }
-        ensures room { CanAdvance self.new }
-    {
-        match state {
-            RowState::Undefined => self.refuse(call, CallFault::NotFound),
-            RowState::Starting(p, _) => self.stop_process(call, p),
-            RowState::Up(p) => self.stop_process(call, p),
-            RowState::Asked(p, _) => self.stop_process(call, p),
-            RowState::Killed(p) => self.stop_process(call, p),
-            RowState::Restarting(_) => {
-                self.rows.remove(place);
-                self.answer(call, Reply::Ok);
-            }
+            Some(place) => match self.rows.get(place).state {
+                RowState::Starting(p, _)
+                | RowState::Up(p)
+                | RowState::Asked(p, _)
+                | RowState::Killed(p) => self.stop_process(call, p),
+                RowState::Undefined | RowState::Restarting(_) => {
+                    self.rows.set_state(place, RowState::Undefined);
+                    self.answer(call, Reply::Ok);
+                }
+            },
         }
     }
 
     /// terminate_child by number.
-    #[tactic(auto, unfolding(otp_rules::specs::Calls::terminate_process, otp_rules::specs::Calls::terminate_process_at, otp_rules::specs::Places::at_row, otp_rules::specs::Places::at_found, otp_rules::specs::Places::at_place))]
+    #[tactic(auto, unfolding(otp_rules::specs::Calls::terminate_process, otp_rules::specs::Calls::call_at, otp_rules::specs::Places::at_row, otp_rules::specs::Places::at_found, otp_rules::specs::Places::at_place))]
     fn terminate_process(&mut self, call: u64, number: u64)
         requires { CanDecide self.old }
         ensures outcome { outcome_of self.new ≡ terminate_process call number (outcome_of self.old) }
@@ -263,10 +215,17 @@ impl Machine {
         }
         match self.rows.find_number(number) {
             None => self.refuse(call, CallFault::NotFound),
-            Some(place) => {
-                let state = self.rows.get(place).state;
-                self.terminate_process_in(call, place, state);
-            }
+            Some(place) => match self.rows.get(place).state {
+                RowState::Starting(p, _)
+                | RowState::Up(p)
+                | RowState::Asked(p, _)
+                | RowState::Killed(p) => self.stop_process(call, p),
+                RowState::Undefined => self.refuse(call, CallFault::NotFound),
+                RowState::Restarting(_) => {
+                    self.rows.remove(place);
+                    self.answer(call, Reply::Ok);
+                }
+            },
         }
     }
 
@@ -319,7 +278,7 @@ impl Machine {
         }
     }
 
-    #[tactic(auto, unfolding(otp_rules::specs::Calls::get_childspec, otp_rules::specs::Calls::get_shared, otp_rules::specs::Places::at_row, otp_rules::specs::Places::at_found, otp_rules::specs::Places::at_place))]
+    #[tactic(auto, unfolding(otp_rules::specs::Calls::get_childspec, otp_rules::specs::Calls::get_shared, otp_rules::specs::Calls::call_at, otp_rules::specs::Places::at_row, otp_rules::specs::Places::at_found, otp_rules::specs::Places::at_place))]
     fn get_childspec(&mut self, call: u64, id: Name)
         requires { CanDecide self.old }
         ensures outcome { outcome_of self.new ≡ get_childspec call id (outcome_of self.old) }
@@ -369,16 +328,6 @@ impl Machine {
             }
             Call::GetChildspec(id) => self.get_childspec(number, *id),
         }
-    }
-}
-
-/// Why a child with an id that is there can't be added.
-fn already(state: RowState) -> CallFault
-    ensures { result ≡ already state }
-{
-    match state {
-        RowState::Up(number) => CallFault::AlreadyStarted(number),
-        _ => CallFault::AlreadyPresent,
     }
 }
 

@@ -103,7 +103,7 @@ impl Machine {
     }
 
     /// The note Exit.
-    #[tactic(auto, unfolding(otp_rules::specs::Deaths::take_exit, otp_rules::specs::Deaths::exit_at, otp_rules::specs::Deaths::exit_in, otp_rules::specs::Places::at_number, otp_rules::specs::Places::at_row, otp_rules::specs::Places::at_found, otp_rules::specs::Places::at_place))]
+    #[tactic(auto, unfolding(otp_rules::specs::Deaths::take_exit, otp_rules::specs::Deaths::exit_in, otp_rules::specs::Places::at_number, otp_rules::specs::Places::at_row, otp_rules::specs::Places::at_found, otp_rules::specs::Places::at_place))]
     pub fn take_exit(&mut self, number: u64, reason: Reason)
         requires { CanDecide self.old }
         ensures outcome { outcome_of self.new ≡ take_exit number reason (outcome_of self.old) }
@@ -129,7 +129,7 @@ impl Machine {
     }
 
     /// The next try of a restart that failed.
-    #[tactic(auto, unfolding(otp_rules::specs::Deaths::retry, otp_rules::specs::Deaths::retry_at, otp_rules::specs::Deaths::retry_in, otp_rules::specs::Places::at_row, otp_rules::specs::Places::at_found, otp_rules::specs::Places::at_place))]
+    #[tactic(auto, unfolding(otp_rules::specs::Deaths::retry, otp_rules::specs::Places::at_row, otp_rules::specs::Places::at_found, otp_rules::specs::Places::at_place))]
     pub fn retry(&mut self, kept: u64)
         requires { CanDecide self.old }
         ensures outcome { outcome_of self.new ≡ retry kept (outcome_of self.old) }
@@ -138,8 +138,6 @@ impl Machine {
         let Some(place) = self.rows.find_retry(kept) else {
             return;
         };
-        if let RowState::Restarting(_) = self.rows.get(place).state {
-            self.restart(place, kept);
-        }
+        self.restart(place, kept);
     }
 }

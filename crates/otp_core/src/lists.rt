@@ -8,7 +8,9 @@ ghost use Rattle.otp_table.specs.Rows.{is_awaited, row_has};
 ghost use Rattle.otp_rules.specs.Counts.{is_active, is_supervisor, is_worker, line_of};
 ghost use Rattle.otp_rules.specs.Restarts.{dues, is_left, running};
 ghost use Rattle.otp_rules.specs.Step.{due_of, rows_from};
-ghost use Rattle.otp_rules.specs.Stops.{is_due, is_exit, refusal, refused};
+ghost use Rattle.otp_rules.specs.Stops.{is_exit};
+ghost use Rattle.otp_rules.specs.Starts.{is_due};
+ghost use Rattle.otp_rules.specs.Ends.{refusal, refused};
 
 use crate::answers::Answers;
 use crate::lines::line_of;

@@ -23,7 +23,8 @@ impl Machine {
     ghost use Rattle.otp_reason.specs.declared.reason.Reason.{Reason};
     ghost use Rattle.otp_reason.specs.declared.name.Name.{Name};
     ghost use Rattle.otp_spec.specs.declared.child.ChildSpec.{ChildSpec};
-    ghost use Rattle.otp_rules.specs.Calls.{add_child, at_child, restart_child_in, restart_child_at, start_child, start_dynamic, start_lawful, take_call};
+    ghost use Rattle.otp_rules.specs.Calls.{add_child, call_child, start_child, start_dynamic, start_lawful, take_call};
+    ghost use Rattle.otp_rules.specs.declared.call.Call.TheVariants as asked;
     ghost use Rattle.otp_rules.specs.Deaths.{death, restart, retry, take_exit};
     ghost use Rattle.otp_rules.specs.Places.{end_row, set_row};
     ghost use Rattle.otp_rules.specs.Starts.{take_failed, take_ignored, take_up};
@@ -79,7 +80,7 @@ impl Machine {
     }
 
     /// The note Up.
-    #[tactic(auto, using(crate::proofs::Needed::up_after_starts), unfolding(otp_rules::specs::Starts::take_up, otp_rules::specs::Starts::up_at, otp_rules::specs::Starts::up_in, otp_rules::specs::Places::at_number, otp_rules::specs::Places::at_row, otp_rules::specs::Places::at_found, otp_rules::specs::Places::at_place))]
+    #[tactic(auto, using(crate::proofs::Needed::up_after_starts), unfolding(otp_rules::specs::Starts::take_up, otp_rules::specs::Starts::at_starting, otp_rules::specs::Places::at_number, otp_rules::specs::Places::at_row, otp_rules::specs::Places::at_found, otp_rules::specs::Places::at_place))]
     fn up_starts(&self, number: u64, resumed: bool) -> bool
         ensures { (now : ℕ) → result ≡ work_starts (take_up number (begun self.now now resumed)) }
     {
@@ -94,7 +95,7 @@ impl Machine {
     }
 
     /// The note Ignored.
-    #[tactic(auto, unfolding(otp_rules::specs::Starts::take_ignored, otp_rules::specs::Starts::ignored_at, otp_rules::specs::Starts::ignored_in, otp_rules::specs::Places::at_number, otp_rules::specs::Places::at_row, otp_rules::specs::Places::at_found, otp_rules::specs::Places::at_place))]
+    #[tactic(auto, unfolding(otp_rules::specs::Starts::take_ignored, otp_rules::specs::Starts::at_starting, otp_rules::specs::Places::at_number, otp_rules::specs::Places::at_row, otp_rules::specs::Places::at_found, otp_rules::specs::Places::at_place))]
     fn ignored_starts(&self, number: u64, resumed: bool) -> bool
         ensures { (now : ℕ) → result ≡ work_starts (take_ignored number (begun self.now now resumed)) }
     {
@@ -109,7 +110,7 @@ impl Machine {
     }
 
     /// The note Failed: a start that failed lets no other follow.
-    #[tactic(auto, using(crate::proofs::Needed::failed_after_starts), unfolding(otp_rules::specs::Starts::take_failed, otp_rules::specs::Starts::failed_at, otp_rules::specs::Starts::failed_in, otp_rules::specs::Places::at_number, otp_rules::specs::Places::at_row, otp_rules::specs::Places::at_found, otp_rules::specs::Places::at_place))]
+    #[tactic(auto, using(crate::proofs::Needed::failed_after_starts), unfolding(otp_rules::specs::Starts::take_failed, otp_rules::specs::Starts::at_starting, otp_rules::specs::Places::at_number, otp_rules::specs::Places::at_row, otp_rules::specs::Places::at_found, otp_rules::specs::Places::at_place))]
     fn failed_starts(&self, number: u64, resumed: bool) -> bool
         ensures { (now : ℕ) (reason : Reason) → result ≡ work_starts (take_failed number reason (begun self.now now resumed)) }
     {
@@ -159,7 +160,7 @@ impl Machine {
     }
 
     /// The note Exit.
-    #[tactic(auto, unfolding(otp_rules::specs::Deaths::take_exit, otp_rules::specs::Deaths::exit_at, otp_rules::specs::Deaths::exit_in, otp_rules::specs::Places::at_number, otp_rules::specs::Places::at_row, otp_rules::specs::Places::at_found, otp_rules::specs::Places::at_place))]
+    #[tactic(auto, unfolding(otp_rules::specs::Deaths::take_exit, otp_rules::specs::Deaths::exit_in, otp_rules::specs::Places::at_number, otp_rules::specs::Places::at_row, otp_rules::specs::Places::at_found, otp_rules::specs::Places::at_place))]
     fn exit_starts(&self, number: u64, reason: Reason, now: u64, resumed: bool) -> bool
         requires { All (λ s. s ≤ now) self.now.window.stamps }
         ensures { result ≡ work_starts (take_exit number reason (begun self.now now resumed)) }
@@ -182,7 +183,7 @@ impl Machine {
     }
 
     /// The next try of a restart that failed.
-    #[tactic(auto, unfolding(otp_rules::specs::Deaths::retry, otp_rules::specs::Deaths::retry_at, otp_rules::specs::Deaths::retry_in, otp_rules::specs::Places::at_row, otp_rules::specs::Places::at_found, otp_rules::specs::Places::at_place))]
+    #[tactic(auto, unfolding(otp_rules::specs::Deaths::retry, otp_rules::specs::Places::at_row, otp_rules::specs::Places::at_found, otp_rules::specs::Places::at_place))]
     fn retry_starts(&self, kept: u64, now: u64, resumed: bool) -> bool
         requires { All (λ s. s ≤ now) self.now.window.stamps }
         ensures { result ≡ work_starts (retry kept (begun self.now now resumed)) }
@@ -190,11 +191,7 @@ impl Machine {
         let Some(place) = self.rows.find_retry(kept) else {
             return self.goes_on(resumed);
         };
-        if let RowState::Restarting(_) = self.rows.get(place).state {
-            self.restart_starts(place, now, resumed)
-        } else {
-            self.goes_on(resumed)
-        }
+        self.restart_starts(place, now, resumed)
     }
 
     /// A child that is added.
@@ -207,7 +204,7 @@ impl Machine {
         !self.rows.is_full() && !self.rows.has_awaited()
     }
 
-    #[tactic(auto, using(crate::proofs::Needed::answered_starts_none), unfolding(otp_rules::specs::Calls::start_lawful, otp_rules::specs::Calls::already_at, otp_rules::specs::Places::at_row, otp_rules::specs::Places::at_found, otp_rules::specs::Places::at_place))]
+    #[tactic(auto, using(crate::proofs::Needed::present_starts_none), unfolding(otp_rules::specs::Calls::start_lawful, otp_rules::specs::Places::at_row, otp_rules::specs::Places::at_found, otp_rules::specs::Places::at_place))]
     fn lawful_starts(&self, spec: ChildSpec) -> bool
         requires { self.now.follows ≡ None }
         ensures { (call now : ℕ) (resumed : Bool) → result ≡ work_starts (start_lawful call spec (begun self.now now resumed)) }
@@ -251,26 +248,18 @@ impl Machine {
         }
     }
 
-    #[tactic(auto, using(crate::proofs::Needed::again_starts))]
-    fn again_in_starts(&self, state: RowState) -> bool
-        requires { self.now.follows ≡ None }
-        ensures { (call now : ℕ) (id : Name) (resumed : Bool) → result ≡ work_starts (restart_child_in call id state (begun self.now now resumed)) }
-    {
-        state.is_undefined() && !self.rows.has_awaited()
-    }
-
     /// restart_child.
-    #[tactic(auto, using(crate::proofs::Needed::answered_starts_none), unfolding(otp_rules::specs::Calls::at_child, otp_rules::specs::Calls::restart_child_at, otp_rules::specs::Places::at_row, otp_rules::specs::Places::at_found, otp_rules::specs::Places::at_place))]
+    #[tactic(auto, using(crate::proofs::Needed::answered_starts_none, crate::proofs::Needed::again_starts), unfolding(otp_rules::specs::Calls::call_child, otp_rules::specs::Places::at_row, otp_rules::specs::Places::at_found, otp_rules::specs::Places::at_place))]
     fn again_starts(&self, id: Name) -> bool
         requires { self.now.follows ≡ None }
-        ensures { (call now : ℕ) (resumed : Bool) → result ≡ work_starts (at_child call id (restart_child_at call id) (begun self.now now resumed)) }
+        ensures { (call now : ℕ) (resumed : Bool) → result ≡ work_starts (call_child call id (asked.RestartChild id) (begun self.now now resumed)) }
     {
         if is_simple(self.strategy) {
             return false;
         }
         match self.rows.find_id(&id) {
             None => false,
-            Some(place) => self.again_in_starts(self.rows.get(place).state),
+            Some(place) => self.rows.get(place).state.is_undefined() && !self.rows.has_awaited(),
         }
     }
 

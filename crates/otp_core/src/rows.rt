@@ -3,7 +3,8 @@
 ghost use Rattle.std.specs.Prelude.{◌≡◌, ◌+◌, ◌≤◌, ◌<◌, ◌^◌};
 ghost use Rattle.otp_rules.specs.Places.{is_removed, is_temporary};
 ghost use Rattle.otp_rules.specs.Restarts.{affected_from, affected_to, ends_by_significance, is_left, is_restarted};
-ghost use Rattle.otp_rules.specs.Stops.{is_due, is_exit, stop_order, told};
+ghost use Rattle.otp_rules.specs.Stops.{is_exit, stop_order, told};
+ghost use Rattle.otp_rules.specs.Starts.{is_due};
 ghost use Rattle.otp_rules.specs.State.{is_over, is_simple, own_number};
 
 use crate::lists::has_left;

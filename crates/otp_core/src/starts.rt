@@ -25,7 +25,7 @@ impl Machine {
     }
 
     /// The note Up.
-    #[tactic(auto, unfolding(otp_rules::specs::Starts::take_up, otp_rules::specs::Starts::up_at, otp_rules::specs::Starts::up_in, otp_rules::specs::Places::at_number, otp_rules::specs::Places::at_row, otp_rules::specs::Places::at_found, otp_rules::specs::Places::at_place))]
+    #[tactic(auto, unfolding(otp_rules::specs::Starts::take_up, otp_rules::specs::Starts::at_starting, otp_rules::specs::Places::at_number, otp_rules::specs::Places::at_row, otp_rules::specs::Places::at_found, otp_rules::specs::Places::at_place))]
     pub fn take_up(&mut self, number: u64)
         requires { CanDecide self.old }
         ensures outcome { outcome_of self.new ≡ take_up number (outcome_of self.old) }
@@ -41,7 +41,7 @@ impl Machine {
     }
 
     /// The note Ignored.
-    #[tactic(auto, unfolding(otp_rules::specs::Starts::take_ignored, otp_rules::specs::Starts::ignored_at, otp_rules::specs::Starts::ignored_in, otp_rules::specs::Places::at_number, otp_rules::specs::Places::at_row, otp_rules::specs::Places::at_found, otp_rules::specs::Places::at_place))]
+    #[tactic(auto, unfolding(otp_rules::specs::Starts::take_ignored, otp_rules::specs::Starts::at_starting, otp_rules::specs::Places::at_number, otp_rules::specs::Places::at_row, otp_rules::specs::Places::at_found, otp_rules::specs::Places::at_place))]
     pub fn take_ignored(&mut self, number: u64)
         requires { CanDecide self.old }
         ensures outcome { outcome_of self.new ≡ take_ignored number (outcome_of self.old) }
@@ -90,7 +90,7 @@ impl Machine {
     }
 
     /// The note Failed.
-    #[tactic(auto, unfolding(otp_rules::specs::Starts::take_failed, otp_rules::specs::Starts::failed_at, otp_rules::specs::Starts::failed_in, otp_rules::specs::Places::at_number, otp_rules::specs::Places::at_row, otp_rules::specs::Places::at_found, otp_rules::specs::Places::at_place))]
+    #[tactic(auto, unfolding(otp_rules::specs::Starts::take_failed, otp_rules::specs::Starts::at_starting, otp_rules::specs::Places::at_number, otp_rules::specs::Places::at_row, otp_rules::specs::Places::at_found, otp_rules::specs::Places::at_place))]
     pub fn take_failed(&mut self, number: u64, reason: Reason)
         requires { CanDecide self.old }
         ensures outcome { outcome_of self.new ≡ take_failed number reason (outcome_of self.old) }

@@ -18,8 +18,10 @@ impl Machine {
     ghost use Rattle.otp_rules.specs.Needs.{ends_wait, has_due, work_starts};
     ghost use Rattle.otp_rules.specs.State.{answer, closed};
     ghost use Rattle.otp_rules.specs.Places.{end_process, end_row};
-    ghost use Rattle.otp_rules.specs.Stops.{is_exit, tell, use_exit, start, end_all, follow, start_first, stop_first, advance, stop_each, terminate_ordered, terminate_together, terminate, calm_all};
-    ghost use Rattle.otp_rules.specs.Ends.{sup_end_of};
+    ghost use Rattle.otp_rules.specs.Stops.{is_exit, tell, use_exit, stop_each, terminate_ordered, terminate_together, terminate, calm_all};
+    ghost use Rattle.otp_rules.specs.Starts.{start};
+    ghost use Rattle.otp_rules.specs.Work.{follow, start_first, stop_first, advance};
+    ghost use Rattle.otp_rules.specs.Ends.{sup_end_of, end_all};
     ghost use Rattle.otp_table.specs.declared.row.Row.{Row};
 
     /// The child at the place has no process from now on.
@@ -82,7 +84,7 @@ impl Machine {
         self.end_process(number);
     }
 
-    #[tactic(auto, unfolding(otp_rules::specs::Stops::start, otp_rules::specs::Stops::start_row, otp_rules::specs::Places::at_row, otp_rules::specs::Places::at_found, otp_rules::specs::Places::at_place))]
+    #[tactic(auto, unfolding(otp_rules::specs::Starts::start, otp_rules::specs::Starts::start_row, otp_rules::specs::Places::at_row, otp_rules::specs::Places::at_found, otp_rules::specs::Places::at_place))]
     pub fn start(&mut self, due: Due, number: u64)
         requires { vec_len self.old.orders < vec_capacity self.old.orders }
         ensures { outcome_of self.new ≡ start due number (outcome_of self.old) }
@@ -148,7 +150,7 @@ impl Machine {
         }
     }
 
-    #[tactic(auto, unfolding(otp_rules::specs::Stops::end_all, otp_rules::specs::Stops::refuse_all))]
+    #[tactic(auto, unfolding(otp_rules::specs::Ends::end_all, otp_rules::specs::Ends::refuse_all))]
     pub fn end_all(&mut self, ending: Ending)
         requires { CanAdvance self.old }
         ensures { outcome_of self.new ≡ end_all ending (outcome_of self.old) }
@@ -169,7 +171,7 @@ impl Machine {
     }
 
     /// What follows the work, which closes.
-    #[tactic(auto, unfolding(otp_rules::specs::Stops::follow))]
+    #[tactic(auto, unfolding(otp_rules::specs::Work::follow))]
     pub fn follow(&mut self)
         requires { CanAdvance self.old }
         ensures { outcome_of self.new ≡ follow self.old.follows (outcome_of self.old) }
@@ -193,7 +195,7 @@ impl Machine {
         }
     }
 
-    #[tactic(auto, unfolding(otp_rules::specs::Stops::start_first))]
+    #[tactic(auto, unfolding(otp_rules::specs::Work::start_first))]
     pub fn start_first<N: Numbers>(&mut self, numbers: &mut N) -> Option<u64>
         requires room { CanAdvance self.old }
         requires number { IsTrue (has_due self.old.to_start.items) → N.can_give numbers.old }
@@ -211,7 +213,7 @@ impl Machine {
         Some(number)
     }
 
-    #[tactic(auto, unfolding(otp_rules::specs::Stops::stop_first))]
+    #[tactic(auto, unfolding(otp_rules::specs::Work::stop_first))]
     pub fn stop_first<N: Numbers>(&mut self, numbers: &mut N) -> Option<u64>
         requires room { CanAdvance self.old }
         requires number { IsTrue (ends_wait (reverse self.old.to_stop.items) self.old.waiting.items && has_due self.old.to_start.items) → N.can_give numbers.old }
@@ -232,7 +234,7 @@ impl Machine {
     }
 
     /// The open work goes on as far as it can.
-    #[tactic(auto, unfolding(otp_rules::specs::Stops::advance, otp_rules::specs::Needs::work_starts))]
+    #[tactic(auto, unfolding(otp_rules::specs::Work::advance, otp_rules::specs::Needs::work_starts))]
     pub fn advance<N: Numbers>(&mut self, numbers: &mut N) -> Option<u64>
         requires room { CanAdvance self.old }
         requires number { IsTrue (work_starts (outcome_of self.old)) → N.can_give numbers.old }

@@ -8,6 +8,8 @@ use Rattle.otp_spec.specs.declared.fault.SpecFault.{SpecFault}
 use Rattle.otp_spec.specs.declared.fault.SpecFault.TheVariants.{SimpleNeedsOne, TooManyChildren}
 use Rattle.otp_spec.specs.declared.flags.Strategy.{Strategy as StrategyValue}
 use Rattle.otp_spec.specs.declared.flags.SupFlags.{SupFlags}
+use Rattle.otp_spec.specs.declared.limits.TheConstants.{MAX_CHILDREN}
+use Rattle.otp_spec.specs.Flags.{is_simple}
 use Rattle.otp_spec.specs.Lawful.{first_fault}
 use Rattle.otp_file.specs.declared.fault.ChildKey.{ChildKey}
 use Rattle.otp_file.specs.declared.fault.ChildKey.TheVariants as key
@@ -21,7 +23,7 @@ use Rattle.otp_file.specs.declared.value.Unfit.{Unfit}
 use Rattle.otp_file.specs.declared.value.Unfit.TheVariants as unfit
 use Rattle.otp_file.specs.Children.{child_faults, required_name, table_faults, value_faults, children_faults}
 use Rattle.otp_file.specs.Faults.{answer_of, child_fault, fault_if, fault_of, flag_fault}
-use Rattle.otp_file.specs.Tree.{child_key_faults, children_at, children_of, count_faults, flag_faults, flags_in, is_simple, list_faults, specs_in, tree_faults, tree_of}
+use Rattle.otp_file.specs.Tree.{child_key_faults, children_at, children_of, count_faults, flag_faults, flags_in, list_faults, specs_in, tree_faults, tree_of}
 use Rattle.otp_file.specs.Tables.{has_only, is_child_key, is_flag_key}
 use Rattle.otp_file.specs.Values.{strategy_at, intensity_at, period_at, auto_shutdown_at, restart_at, significant_at, shutdown_at, kind_at, modules_at}
 use Rattle.toml.specs.Data.{Data, Members, as_table, get_member}
@@ -130,7 +132,7 @@ flag_faults-of_tree table =
 count_faults-of_tree : (strategy : StrategyValue) (count : ℕ) → are_of_tree (count_faults strategy count)
 count_faults-of_tree strategy count =
     let too_few = is_simple strategy && not (count == 1) in
-    fault_if-of_tree (nat_lt 256 count) (Unlawful TooManyChildren) (fault_if too_few (Unlawful SimpleNeedsOne) []) refl
+    fault_if-of_tree (nat_lt MAX_CHILDREN count) (Unlawful TooManyChildren) (fault_if too_few (Unlawful SimpleNeedsOne) []) refl
     (fault_if-of_tree too_few (Unlawful SimpleNeedsOne) [] refl refl)
 
 list_faults-of_tree : (fault : Option SpecFault) → are_of_tree (list_faults fault)

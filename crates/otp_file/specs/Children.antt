@@ -1,15 +1,13 @@
 -- The table of a child: all that is wrong in it, and the specification that it says where nothing is.
-use Rattle.std.specs.Prelude.{ℕ, not, false, codes, List, [], ◌∷◌, map, Option, Some, None, is_none, unwrap_or, Result, Err}
+use Rattle.std.specs.Prelude.{ℕ, not, codes, List, [], ◌∷◌, map, Option, Some, None, is_none, unwrap_or, Result, Err}
 use Rattle.std.specs.List.{flat_map, enumerate_from}
 use Rattle.std.specs.Result.{result_unwrap_or}
 use Rattle.otp_reason.specs.declared.name.Name.{Name}
 use Rattle.otp_reason.specs.Names.{name_of}
 use Rattle.otp_spec.specs.declared.child.ChildSpec.{ChildSpec}
 use Rattle.otp_spec.specs.declared.child.ChildType.{ChildType}
-use Rattle.otp_spec.specs.declared.child.ChildType.TheVariants.{Worker}
 use Rattle.otp_spec.specs.declared.child.Modules.TheVariants.{One}
-use Rattle.otp_spec.specs.declared.child.Restart.TheVariants.{Permanent}
-use Rattle.otp_spec.specs.Children.{default_shutdown, default_spec}
+use Rattle.otp_spec.specs.Children.{default_shutdown}
 use Rattle.otp_file.specs.declared.value.Unfit.{Unfit}
 use Rattle.otp_file.specs.declared.value.Unfit.TheVariants as unfit
 use Rattle.otp_file.specs.declared.fault.ChildKey.TheVariants.{Id, Start, Restart, Significant, Shutdown, Kind, Modules}
@@ -18,7 +16,7 @@ use Rattle.otp_file.specs.declared.fault.TreeFault.{TreeFault}
 use Rattle.otp_file.specs.declared.fault.TreeFault.TheVariants.{UnknownKey, MissingKey, WrongKind}
 use Rattle.otp_file.specs.Faults.{answer_of, child_fault, fault_if, fault_of}
 use Rattle.otp_file.specs.Tables.{has_only, is_child_key}
-use Rattle.otp_file.specs.Values.{name_at, restart_at, significant_at, shutdown_at, kind_at, modules_at}
+use Rattle.otp_file.specs.Values.{default_child, name_at, restart_at, significant_at, shutdown_at, kind_at, modules_at}
 use Rattle.toml.specs.Data.{Data, Members, as_table, get_member}
 
 -- the name at a key that a child must have (own)
@@ -63,7 +61,7 @@ abbrev pub start_in : Members → Name
 start_in table = result_unwrap_or (required_name (get_member (codes "start") table)) (name_of [])
 
 abbrev pub kind_in : Members → ChildType
-kind_in table = result_unwrap_or (kind_at (get_member (codes "type") table)) Worker
+kind_in table = result_unwrap_or (kind_at (get_member (codes "type") table)) default_child.kind
 
 -- the specification with these two names that a child's table says: shutdown hangs on the type where it is absent,
 -- and modules on the start (Supervisor Behaviour, "Child Specification")
@@ -71,8 +69,8 @@ abbrev pub spec_with : Name → Name → Members → ChildSpec
 spec_with id start table = record {
   id = id;
   start = start;
-  restart = result_unwrap_or (restart_at (get_member (codes "restart") table)) Permanent;
-  significant = result_unwrap_or (significant_at (get_member (codes "significant") table)) false;
+  restart = result_unwrap_or (restart_at (get_member (codes "restart") table)) default_child.restart;
+  significant = result_unwrap_or (significant_at (get_member (codes "significant") table)) default_child.significant;
   shutdown = unwrap_or (result_unwrap_or (shutdown_at (get_member (codes "shutdown") table)) None) (default_shutdown (kind_in table));
   kind = kind_in table;
   modules = unwrap_or (result_unwrap_or (modules_at (get_member (codes "modules") table)) None) (One start);
@@ -82,7 +80,7 @@ abbrev pub spec_in : Members → ChildSpec
 spec_in table = spec_with (id_in table) (start_in table) table
 
 abbrev pub spec_of_table : Option Members → ChildSpec
-spec_of_table None = default_spec (name_of []) (name_of [])
+spec_of_table None = default_child
 spec_of_table (Some table) = spec_in table
 
 abbrev pub spec_of : Data → ChildSpec

@@ -1,14 +1,14 @@
 -- The table of a supervisor: all that is wrong in it, and the tree that it says where nothing is.
-use Rattle.std.specs.Prelude.{ℕ, Bool, true, false, not, ◌&&◌, ◌==◌, nat_lt, codes, List, [], ◌∷◌, ◌++◌, length, Option, Some, None, Result, Ok, Err}
+use Rattle.std.specs.Prelude.{ℕ, not, ◌&&◌, ◌==◌, nat_lt, codes, List, [], ◌∷◌, ◌++◌, length, Option, Some, None, Result, Ok, Err}
 use Rattle.std.specs.Result.{result_unwrap_or}
 use Rattle.otp_spec.specs.declared.child.ChildSpec.{ChildSpec}
 use Rattle.otp_spec.specs.declared.fault.SpecFault.{SpecFault}
 use Rattle.otp_spec.specs.declared.fault.SpecFault.TheVariants.{SimpleNeedsOne, TooManyChildren}
 use Rattle.otp_spec.specs.declared.flags.AutoShutdown.{AutoShutdown}
-use Rattle.otp_spec.specs.declared.flags.AutoShutdown.TheVariants.{Never}
 use Rattle.otp_spec.specs.declared.flags.SupFlags.{SupFlags}
 use Rattle.otp_spec.specs.declared.flags.Strategy.{Strategy as StrategyValue}
-use Rattle.otp_spec.specs.declared.flags.Strategy.TheVariants.{OneForOne, OneForAll, RestForOne, SimpleOneForOne}
+use Rattle.otp_spec.specs.declared.limits.TheConstants.{MAX_CHILDREN}
+use Rattle.otp_spec.specs.Flags.{default_flags, is_simple}
 use Rattle.otp_spec.specs.Lawful.{first_fault}
 use Rattle.otp_file.specs.declared.value.Unfit.{Unfit}
 use Rattle.otp_file.specs.declared.value.Unfit.TheVariants as unfit
@@ -37,14 +37,14 @@ abbrev pub children_of : Option Data → List Data
 children_of value = result_unwrap_or (children_at value) []
 
 abbrev pub auto_shutdown_in : Members → AutoShutdown
-auto_shutdown_in table = result_unwrap_or (auto_shutdown_at (get_member (codes "auto_shutdown") table)) Never
+auto_shutdown_in table = result_unwrap_or (auto_shutdown_at (get_member (codes "auto_shutdown") table)) default_flags.auto_shutdown
 
 -- the flags that a supervisor's table says (own)
 abbrev pub flags_in : Members → SupFlags
 flags_in table = record {
-  strategy = result_unwrap_or (strategy_at (get_member (codes "strategy") table)) OneForOne;
-  intensity = result_unwrap_or (intensity_at (get_member (codes "intensity") table)) 1;
-  period = result_unwrap_or (period_at (get_member (codes "period") table)) 5;
+  strategy = result_unwrap_or (strategy_at (get_member (codes "strategy") table)) default_flags.strategy;
+  intensity = result_unwrap_or (intensity_at (get_member (codes "intensity") table)) default_flags.intensity;
+  period = result_unwrap_or (period_at (get_member (codes "period") table)) default_flags.period;
   auto_shutdown = auto_shutdown_in table;
 }
 
@@ -66,17 +66,10 @@ child_key_faults value = fault_of (flag_fault Child) (children_at value) (childr
 abbrev pub child_key_said : Option Data → Result (List ChildSpec) TreeFault
 child_key_said value = answer_of (child_key_faults value) (specs_of (children_of value))
 
--- a supervisor whose children are all of one specification (Supervisor Behaviour, "Simplified one_for_one Supervisors")
-abbrev pub is_simple : StrategyValue → Bool
-is_simple OneForOne = false
-is_simple OneForAll = false
-is_simple RestForOne = false
-is_simple SimpleOneForOne = true
-
--- at most 256 children (own), and one under simple_one_for_one
+-- at most so many children (own), and one under simple_one_for_one
 abbrev pub count_faults : StrategyValue → ℕ → List TreeFault
 count_faults strategy count =
-    fault_if (nat_lt 256 count) (Unlawful TooManyChildren)
+    fault_if (nat_lt MAX_CHILDREN count) (Unlawful TooManyChildren)
     (fault_if (is_simple strategy && not (count == 1)) (Unlawful SimpleNeedsOne)
     [])
 

@@ -1,34 +1,26 @@
 -- What the values of a tree file say, each at its key. A key of a supervisor's or a child's that is absent
 -- has the manual's default; shutdown and modules are left open then, since theirs hang on other keys.
-use Rattle.std.specs.Prelude.{ℕ, nat_le, Bool, false, ◌&&◌, if◌then◌else◌, codes, ℤ, pos, negsuc, List, [], ◌∷◌, Option, Some, None, Result, Ok, Err, is_some}
+use Rattle.std.specs.Prelude.{ℕ, nat_le, Bool, ◌&&◌, if◌then◌else◌, ℤ, pos, negsuc, List, [], ◌∷◌, Option, Some, None, Result, Ok, Err, is_some}
 use Rattle.std.specs.List.{list_all}
 use Rattle.std.specs.Option.{ok_or}
-use Rattle.std.specs.Str.{bytes_eq}
 use Rattle.otp_reason.specs.declared.name.Name.{Name}
 use Rattle.otp_reason.specs.Names.{name_of, is_lawful_name}
 use Rattle.otp_spec.specs.declared.flags.Strategy.{Strategy}
-use Rattle.otp_spec.specs.declared.flags.Strategy.TheVariants.{OneForOne, OneForAll, RestForOne, SimpleOneForOne}
 use Rattle.otp_spec.specs.declared.flags.AutoShutdown.{AutoShutdown}
-use Rattle.otp_spec.specs.declared.flags.AutoShutdown.TheVariants.{Never, AnySignificant, AllSignificant}
 use Rattle.otp_spec.specs.declared.child.ChildType.{ChildType}
-use Rattle.otp_spec.specs.declared.child.ChildType.TheVariants.{Worker, Supervisor}
 use Rattle.otp_spec.specs.declared.child.Modules.{Modules}
 use Rattle.otp_spec.specs.declared.child.Modules.TheVariants as modules
 use Rattle.otp_spec.specs.declared.child.Restart.{Restart}
-use Rattle.otp_spec.specs.declared.child.Restart.TheVariants.{Permanent, Transient, Temporary}
 use Rattle.otp_spec.specs.declared.child.Shutdown.{Shutdown}
-use Rattle.otp_spec.specs.declared.child.Shutdown.TheVariants.{BrutalKill, Milliseconds, Infinity}
+use Rattle.otp_spec.specs.declared.child.Shutdown.TheVariants.{Milliseconds}
+use Rattle.otp_spec.specs.declared.child.ChildSpec.{ChildSpec}
+use Rattle.otp_spec.specs.declared.limits.TheConstants.{MAX_INTENSITY, MAX_PERIOD, MAX_SHUTDOWN}
+use Rattle.otp_spec.specs.Children.{default_spec}
+use Rattle.otp_spec.specs.Flags.{default_flags}
+use Rattle.otp_spec.specs.Words.{auto_shutdown_of, child_type_of, modules_of, restart_of, shutdown_of, strategy_of}
 use Rattle.otp_file.specs.declared.value.Unfit.{Unfit}
 use Rattle.otp_file.specs.declared.value.Unfit.TheVariants.{WrongKind, OutOfLimits}
 use Rattle.toml.specs.Data.{Data, Items, no_items, item, as_str, as_integer, as_bool, as_array}
-
--- the text is this word; no text is (own)
-abbrev pub is_text_word : List ℕ → Option (List ℕ) → Bool
-is_text_word word None = false
-is_text_word word (Some text) = bytes_eq text word
-
-abbrev pub is_word : List ℕ → Data → Bool
-is_word word value = is_text_word word (as_str value)
 
 -- a whole number within its limits (own)
 abbrev pub number_in : ℕ → ℕ → Option ℤ → Result ℕ Unfit
@@ -47,69 +39,73 @@ name_in (Some text) = if is_lawful_name text then Ok (name_of text) else Err Out
 abbrev pub name_at : Data → Result Name Unfit
 name_at value = name_in (as_str value)
 
+-- the value of a word; no other text is one (own)
+abbrev pub of_text : {A : Type 0} → (List ℕ → Option A) → Option (List ℕ) → Result A Unfit
+of_text of_word None = Err WrongKind
+of_text of_word (Some text) = ok_or (of_word text) WrongKind
+
+-- the value of a word, and where the key is absent the default (own)
+abbrev pub word_or : {A : Type 0} → A → (List ℕ → Option A) → Option Data → Result A Unfit
+word_or default of_word None = Ok default
+word_or default of_word (Some value) = of_text of_word (as_str value)
+
+-- a whole number within its limits, and where the key is absent the default (own)
+abbrev pub number_or : ℕ → ℕ → ℕ → Option Data → Result ℕ Unfit
+number_or default low high None = Ok default
+number_or default low high (Some value) = number_within low high value
+
 -- `strategy` (Supervisor Behaviour, "Supervisor Flags")
 abbrev pub strategy_at : Option Data → Result Strategy Unfit
-strategy_at None = Ok OneForOne
-strategy_at (Some value) =
-    if is_word (codes "one_for_one") value then Ok OneForOne
-    else if is_word (codes "one_for_all") value then Ok OneForAll
-    else if is_word (codes "rest_for_one") value then Ok RestForOne
-    else if is_word (codes "simple_one_for_one") value then Ok SimpleOneForOne
-    else Err WrongKind
+strategy_at value = word_or default_flags.strategy strategy_of value
 
--- `intensity` (Supervisor Behaviour, "Maximum Restart Intensity"); at most 1000 (own)
+-- `intensity` (Supervisor Behaviour, "Maximum Restart Intensity")
 abbrev pub intensity_at : Option Data → Result ℕ Unfit
-intensity_at None = Ok 1
-intensity_at (Some value) = number_within 0 1000 value
+intensity_at value = number_or default_flags.intensity 0 MAX_INTENSITY value
 
--- `period`, in seconds (Supervisor Behaviour, "Maximum Restart Intensity"); at most 1,000,000 (own)
+-- `period`, in seconds (Supervisor Behaviour, "Maximum Restart Intensity")
 abbrev pub period_at : Option Data → Result ℕ Unfit
-period_at None = Ok 5
-period_at (Some value) = number_within 1 1000000 value
+period_at value = number_or default_flags.period 1 MAX_PERIOD value
 
 -- `auto_shutdown` (Supervisor Behaviour, "Automatic Shutdown")
 abbrev pub auto_shutdown_at : Option Data → Result AutoShutdown Unfit
-auto_shutdown_at None = Ok Never
-auto_shutdown_at (Some value) =
-    if is_word (codes "never") value then Ok Never
-    else if is_word (codes "any_significant") value then Ok AnySignificant
-    else if is_word (codes "all_significant") value then Ok AllSignificant
-    else Err WrongKind
+auto_shutdown_at value = word_or default_flags.auto_shutdown auto_shutdown_of value
+
+-- what a child has where its table says nothing of a key
+abbrev pub default_child : ChildSpec
+default_child = default_spec (name_of []) (name_of [])
 
 -- `restart` (Supervisor Behaviour, "Child Specification")
 abbrev pub restart_at : Option Data → Result Restart Unfit
-restart_at None = Ok Permanent
-restart_at (Some value) =
-    if is_word (codes "permanent") value then Ok Permanent
-    else if is_word (codes "transient") value then Ok Transient
-    else if is_word (codes "temporary") value then Ok Temporary
-    else Err WrongKind
+restart_at value = word_or default_child.restart restart_of value
 
 -- `significant` (Supervisor Behaviour, "Child Specification")
 abbrev pub significant_at : Option Data → Result Bool Unfit
-significant_at None = Ok false
+significant_at None = Ok default_child.significant
 significant_at (Some value) = ok_or (as_bool value) WrongKind
 
 -- `type` (Supervisor Behaviour, "Child Specification")
 abbrev pub kind_at : Option Data → Result ChildType Unfit
-kind_at None = Ok Worker
-kind_at (Some value) =
-    if is_word (codes "worker") value then Ok Worker
-    else if is_word (codes "supervisor") value then Ok Supervisor
-    else Err WrongKind
+kind_at value = word_or default_child.kind child_type_of value
 
 -- a number is that of milliseconds, of which there are less than 2^32 (own)
 abbrev pub as_milliseconds : Result ℕ Unfit → Result (Option Shutdown) Unfit
 as_milliseconds (Err unfit) = Err unfit
 as_milliseconds (Ok n) = Ok (Some (Milliseconds n))
 
+-- a word, or a number
+abbrev pub shutdown_in : Option Shutdown → Data → Result (Option Shutdown) Unfit
+shutdown_in (Some shutdown) value = Ok (Some shutdown)
+shutdown_in None value = as_milliseconds (number_within 0 MAX_SHUTDOWN value)
+
+-- what a text is the word of, if it is one
+abbrev pub word_in : {A : Type 0} → (List ℕ → Option A) → Option (List ℕ) → Option A
+word_in of_word None = None
+word_in of_word (Some text) = of_word text
+
 -- `shutdown` (Supervisor Behaviour, "Child Specification")
 abbrev pub shutdown_at : Option Data → Result (Option Shutdown) Unfit
 shutdown_at None = Ok None
-shutdown_at (Some value) =
-    if is_word (codes "brutal_kill") value then Ok (Some BrutalKill)
-    else if is_word (codes "infinity") value then Ok (Some Infinity)
-    else as_milliseconds (number_within 0 4294967295 value)
+shutdown_at (Some value) = shutdown_in (word_in shutdown_of (as_str value)) value
 
 -- the items of an array as a list (own)
 abbrev pub list_of : Items → List Data
@@ -145,7 +141,12 @@ abbrev pub as_given : Result Modules Unfit → Result (Option Modules) Unfit
 as_given (Err unfit) = Err unfit
 as_given (Ok names) = Ok (Some names)
 
+-- a word, or an array
+abbrev pub modules_or : Option Modules → Data → Result (Option Modules) Unfit
+modules_or (Some names) value = Ok (Some names)
+modules_or None value = as_given (modules_in (as_array value))
+
 -- `modules` (Supervisor Behaviour, "Child Specification")
 abbrev pub modules_at : Option Data → Result (Option Modules) Unfit
 modules_at None = Ok None
-modules_at (Some value) = if is_word (codes "dynamic") value then Ok (Some modules.Dynamic) else as_given (modules_in (as_array value))
+modules_at (Some value) = modules_or (word_in modules_of (as_str value)) value

@@ -14,13 +14,12 @@ use crate::fault::{FlagKey, TreeFault};
 use crate::flags::flags_in;
 use crate::table::value_at;
 use crate::value::Unfit;
-use otp_spec::{AutoShutdown, ChildSpec, SpecFault, Strategy, SupFlags, check_childspecs};
+use otp_spec::{
+    AutoShutdown, ChildSpec, MAX_CHILDREN, SpecFault, Strategy, SupFlags, check_childspecs,
+};
 use std::alloc::Global;
 use std::marker::Model;
 use toml::{Table, Value};
-
-/// The most children that one supervisor has.
-const MAX_CHILDREN: usize = 256;
 
 /// The specifications of a supervisor's children, in start order. Contracts see the list.
 #[derive(Debug, Drop)]
@@ -87,7 +86,7 @@ pub fn read_tree(alloc: Global, text: &[u8]) -> Result<TreeSpec, TreeFault>
     // What a document says may be opened as a supervisor.
     ensures lawful_flags { IfOk result (λ tree. flags_fault tree.flags ≡ None) }
     ensures lawful_specs { IfOk result (λ tree. first_fault tree.specs (Some tree.flags.auto_shutdown) ≡ None) }
-    ensures limit { IfOk result (λ tree. length tree.specs ≤ 256) }
+    ensures limit { IfOk result (λ tree. length tree.specs ≤ MAX_CHILDREN) }
     ensures simple { IfOk result (λ tree. tree.flags.strategy ≡ SimpleOneForOne → length tree.specs ≡ 1) }
 {
     let table = match toml::table_from_slice(alloc, text) {
@@ -104,7 +103,7 @@ fn tree_in(alloc: Global, table: &Table) -> Result<TreeSpec, TreeFault>
     ensures fault { IfErr result (λ fault. ¬ (fault ≡ OutOfMemory) → tree_of (table_view table.now) ≡ Err fault) }
     ensures lawful_flags { IfOk result (λ tree. flags_fault tree.flags ≡ None) }
     ensures lawful_specs { IfOk result (λ tree. first_fault tree.specs (Some tree.flags.auto_shutdown) ≡ None) }
-    ensures limit { IfOk result (λ tree. length tree.specs ≤ 256) }
+    ensures limit { IfOk result (λ tree. length tree.specs ≤ MAX_CHILDREN) }
     ensures simple { IfOk result (λ tree. tree.flags.strategy ≡ SimpleOneForOne → length tree.specs ≡ 1) }
 {
     let flags = flags_in(table)?;
@@ -148,13 +147,13 @@ fn specs_of(alloc: Global, values: &[Value]) -> Result<Vec<ChildSpec>, TreeFault
 /// Tests the number of children.
 fn check_count(strategy: Strategy, count: usize) -> Result<(), TreeFault>
     ensures answer { result ≡ answer_of (count_faults strategy count) tt }
-    ensures limit { OnOk result (count ≤ 256) }
+    ensures limit { OnOk result (count ≤ MAX_CHILDREN) }
     ensures simple { OnOk result (strategy ≡ SimpleOneForOne → count ≡ 1) }
 {
     if count > MAX_CHILDREN {
         return Err(TreeFault::Unlawful(SpecFault::TooManyChildren));
     }
-    if matches!(strategy, Strategy::SimpleOneForOne) && count != 1 {
+    if strategy.is_simple() && count != 1 {
         return Err(TreeFault::Unlawful(SpecFault::SimpleNeedsOne));
     }
     Ok(())

@@ -1,18 +1,18 @@
 //! What single values of the file say. Each function is given the value at a key, if there is one.
 ghost use Rattle.std.specs.Prelude.{◌≡◌, ◌≤◌, IfOk, Some, map, option_map};
 ghost use Rattle.std.specs.List.{list_all};
-ghost use Rattle.otp_file.specs.Values.{auto_shutdown_at, intensity_at, is_text, is_word, kind_at, modules_at, modules_in, name_at, names_in, number_within, period_at, restart_at, shutdown_at, significant_at, strategy_at};
+ghost use Rattle.otp_file.specs.Values.{auto_shutdown_at, intensity_at, is_text, kind_at, modules_at, modules_in, name_at, names_in, number_within, period_at, restart_at, shutdown_at, significant_at, strategy_at, word_in};
+ghost use Rattle.otp_spec.specs.Words as words;
+ghost use Rattle.otp_spec.specs.Words.{shutdown_of};
+ghost use Rattle.toml.specs.Data.{as_str};
 ghost use Rattle.toml.specs.View.{items_view, view};
 
 use otp_reason::Name;
-use otp_spec::{AutoShutdown, ChildType, Modules, Restart, Shutdown, Strategy};
+use otp_spec::{
+    AutoShutdown, ChildType, MAX_INTENSITY, MAX_PERIOD, MAX_SHUTDOWN, Modules, Restart, Shutdown,
+    Strategy, SupFlags,
+};
 use toml::Value;
-
-/// The greatest restart intensity.
-const GREATEST_INTENSITY: u64 = 1000;
-
-/// The longest period of a restart intensity, in seconds.
-const LONGEST_PERIOD: u64 = 1_000_000;
 
 /// Why a value cannot stand at its key.
 #[derive(Clone, Copy, Debug, PartialEq, Eq)]
@@ -21,16 +21,6 @@ pub enum Unfit {
     WrongKind,
     /// It is a number, a text or a list out of its limits.
     OutOfLimits,
-}
-
-/// Whether the value is this text.
-fn is_word(value: &Value, word: &str) -> bool
-    ensures { result ≡ is_word word.now (view value.now) }
-{
-    match value.as_str() {
-        Some(text) => text == word,
-        None => false,
-    }
 }
 
 /// A whole number from `low` to `high`.
@@ -47,63 +37,51 @@ fn number_within(value: &Value, low: u64, high: u64) -> Result<u64, Unfit>
     }
 }
 
-/// `strategy` (Supervisor Behaviour, "Restart Strategy"): one_for_one where it is absent.
+/// `strategy` (Supervisor Behaviour, "Restart Strategy").
 pub(crate) fn strategy_at(value: Option<&Value>) -> Result<Strategy, Unfit>
     ensures { result ≡ strategy_at (option_map (λ v. view v.now) value.entry) }
 {
     let Some(value) = value else {
-        return Ok(Strategy::OneForOne);
+        return Ok(SupFlags::default().strategy);
     };
-    if is_word(value, "one_for_one") {
-        Ok(Strategy::OneForOne)
-    } else if is_word(value, "one_for_all") {
-        Ok(Strategy::OneForAll)
-    } else if is_word(value, "rest_for_one") {
-        Ok(Strategy::RestForOne)
-    } else if is_word(value, "simple_one_for_one") {
-        Ok(Strategy::SimpleOneForOne)
-    } else {
-        Err(Unfit::WrongKind)
+    match value.as_str() {
+        Some(text) => Strategy::of_word(text.as_bytes()).ok_or(Unfit::WrongKind),
+        None => Err(Unfit::WrongKind),
     }
 }
 
-/// `intensity` (Supervisor Behaviour, "Maximum Restart Intensity"): 1 where it is absent.
+/// `intensity` (Supervisor Behaviour, "Maximum Restart Intensity").
 pub(crate) fn intensity_at(value: Option<&Value>) -> Result<u64, Unfit>
     ensures answer { result ≡ intensity_at (option_map (λ v. view v.now) value.entry) }
-    ensures limit { IfOk result (λ n. n ≤ 1000) }
+    ensures limit { IfOk result (λ n. n ≤ MAX_INTENSITY) }
 {
     match value {
-        None => Ok(1),
-        Some(value) => number_within(value, 0, GREATEST_INTENSITY),
+        None => Ok(SupFlags::default().intensity),
+        Some(value) => number_within(value, 0, MAX_INTENSITY),
     }
 }
 
-/// `period`, in seconds (Supervisor Behaviour, "Maximum Restart Intensity"): 5 where it is absent.
+/// `period`, in seconds (Supervisor Behaviour, "Maximum Restart Intensity").
 pub(crate) fn period_at(value: Option<&Value>) -> Result<u64, Unfit>
     ensures answer { result ≡ period_at (option_map (λ v. view v.now) value.entry) }
-    ensures limits { IfOk result (λ n. (1 ≤ n) × (n ≤ 1000000)) }
+    ensures limits { IfOk result (λ n. (1 ≤ n) × (n ≤ MAX_PERIOD)) }
 {
     match value {
-        None => Ok(5),
-        Some(value) => number_within(value, 1, LONGEST_PERIOD),
+        None => Ok(SupFlags::default().period),
+        Some(value) => number_within(value, 1, MAX_PERIOD),
     }
 }
 
-/// `auto_shutdown` (Supervisor Behaviour, "Automatic Shutdown"): never where it is absent.
+/// `auto_shutdown` (Supervisor Behaviour, "Automatic Shutdown").
 pub(crate) fn auto_shutdown_at(value: Option<&Value>) -> Result<AutoShutdown, Unfit>
     ensures { result ≡ auto_shutdown_at (option_map (λ v. view v.now) value.entry) }
 {
     let Some(value) = value else {
-        return Ok(AutoShutdown::Never);
+        return Ok(SupFlags::default().auto_shutdown);
     };
-    if is_word(value, "never") {
-        Ok(AutoShutdown::Never)
-    } else if is_word(value, "any_significant") {
-        Ok(AutoShutdown::AnySignificant)
-    } else if is_word(value, "all_significant") {
-        Ok(AutoShutdown::AllSignificant)
-    } else {
-        Err(Unfit::WrongKind)
+    match value.as_str() {
+        Some(text) => AutoShutdown::of_word(text.as_bytes()).ok_or(Unfit::WrongKind),
+        None => Err(Unfit::WrongKind),
     }
 }
 
@@ -127,14 +105,9 @@ pub(crate) fn restart_at(value: Option<&Value>) -> Result<Restart, Unfit>
     let Some(value) = value else {
         return Ok(Restart::Permanent);
     };
-    if is_word(value, "permanent") {
-        Ok(Restart::Permanent)
-    } else if is_word(value, "transient") {
-        Ok(Restart::Transient)
-    } else if is_word(value, "temporary") {
-        Ok(Restart::Temporary)
-    } else {
-        Err(Unfit::WrongKind)
+    match value.as_str() {
+        Some(text) => Restart::of_word(text.as_bytes()).ok_or(Unfit::WrongKind),
+        None => Err(Unfit::WrongKind),
     }
 }
 
@@ -155,13 +128,22 @@ pub(crate) fn shutdown_at(value: Option<&Value>) -> Result<Option<Shutdown>, Unf
     let Some(value) = value else {
         return Ok(None);
     };
-    if is_word(value, "brutal_kill") {
-        Ok(Some(Shutdown::BrutalKill))
-    } else if is_word(value, "infinity") {
-        Ok(Some(Shutdown::Infinity))
-    } else {
-        let milliseconds = number_within(value, 0, u32::MAX as u64)?;
-        Ok(Some(Shutdown::Milliseconds(milliseconds as u32)))
+    match shutdown_word(value) {
+        Some(shutdown) => Ok(Some(shutdown)),
+        None => {
+            let milliseconds = number_within(value, 0, MAX_SHUTDOWN)?;
+            Ok(Some(Shutdown::Milliseconds(milliseconds as u32)))
+        }
+    }
+}
+
+/// The shutdown of a word, if the value is the word of one.
+fn shutdown_word(value: &Value) -> Option<Shutdown>
+    ensures { result ≡ word_in shutdown_of (as_str (view value.now)) }
+{
+    match value.as_str() {
+        Some(text) => Shutdown::of_word(text.as_bytes()),
+        None => None,
     }
 }
 
@@ -172,12 +154,9 @@ pub(crate) fn kind_at(value: Option<&Value>) -> Result<ChildType, Unfit>
     let Some(value) = value else {
         return Ok(ChildType::Worker);
     };
-    if is_word(value, "worker") {
-        Ok(ChildType::Worker)
-    } else if is_word(value, "supervisor") {
-        Ok(ChildType::Supervisor)
-    } else {
-        Err(Unfit::WrongKind)
+    match value.as_str() {
+        Some(text) => ChildType::of_word(text.as_bytes()).ok_or(Unfit::WrongKind),
+        None => Err(Unfit::WrongKind),
     }
 }
 
@@ -188,14 +167,24 @@ pub(crate) fn modules_at(value: Option<&Value>) -> Result<Option<Modules>, Unfit
     let Some(value) = value else {
         return Ok(None);
     };
-    if is_word(value, "dynamic") {
-        return Ok(Some(Modules::Dynamic));
+    if let Some(word) = modules_word(value) {
+        return Ok(Some(word));
     }
     let Some(names) = value.as_array() else {
         return Err(Unfit::WrongKind);
     };
     let modules = modules_of(names.as_slice())?;
     Ok(Some(modules))
+}
+
+/// The modules of a word, if the value is the word of some.
+fn modules_word(value: &Value) -> Option<Modules>
+    ensures { result ≡ word_in (words.modules_of) (as_str (view value.now)) }
+{
+    match value.as_str() {
+        Some(text) => Modules::of_word(text.as_bytes()),
+        None => None,
+    }
 }
 
 /// At most four names.

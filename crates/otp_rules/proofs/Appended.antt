@@ -37,15 +37,16 @@ use Rattle.otp_rules.specs.declared.work.After.TheVariants as after
 use Rattle.otp_rules.specs.State.{Outcome, answer, closed, emit, is_busy, is_over, is_simple, own_number, put_last, with_end, with_phase, with_rows, with_stamps, with_waiting, with_work}
 use Rattle.otp_rules.specs.Places.{at_place, at_found, at_row, at_number, end_row, end_process, is_removed, set_row}
 use Rattle.otp_rules.specs.Restarts.{affected_from, affected_to, ends_by_significance, is_restarted, running}
-use Rattle.otp_rules.specs.Stops.{calm_all, is_exit, refusal, refused, stop_order, told, without, tell_row, tell, use_exit, is_due, start_row, start, refuse_all, end_all, follow, start_first, stop_first, advance, stop_each, terminate_ordered, terminate_together, terminate}
-use Rattle.otp_rules.specs.Deaths.{restart_rows, restart_or_end, restart, after_end, death, exit_in, exit_at, take_exit, retry_in, retry_at, retry}
-use Rattle.otp_rules.specs.Starts.{up_after, up_in, up_at, take_up, ignored_in, ignored_at, take_ignored, failed_after, failed_in, failed_at, take_failed}
-use Rattle.otp_rules.specs.Calls.{already, new_row, refuse, add_child, already_at, start_lawful, start_checked, start_child, start_shared, start_dynamic, restart_child_in, restart_child_at, at_child, delete_child_in, delete_child_at, stop_process, terminate_child_in, terminate_child_at, terminate_process_in, terminate_process_at, terminate_process, get_shared, get_childspec, is_named, tell_spec, take_call}
+use Rattle.otp_rules.specs.Stops.{calm_all, is_exit, stop_order, told, without, tell_row, tell, use_exit, stop_each, terminate_ordered, terminate_together, terminate}
+use Rattle.otp_rules.specs.Work.{follow, start_first, stop_first, advance}
+use Rattle.otp_rules.specs.Deaths.{restart_rows, restart_or_end, restart, after_end, death, exit_in, take_exit, retry}
+use Rattle.otp_rules.specs.Starts.{at_starting, failed_after, if_starting, is_due, start, start_row, take_failed, take_ignored, take_up, up_after}
+use Rattle.otp_rules.specs.Calls.{new_row, refuse, add_child, call_at, call_child, carry_out, fault_at, get_childspec, get_shared, is_named, start_checked, start_child, start_dynamic, start_lawful, start_shared, stop_child, stop_process, take_call, terminate_process, unless_refused}
 use Rattle.otp_rules.specs.Step.{if_idle, kill_order, killed, late_number, take_note, ask, take_item, take_waiting, resume, open_with, open_rows, tick, decide, stamped, step_on, step}
 use Rattle.otp_rules.specs.declared.event.Effect.{Effect}
 use Rattle.otp_rules.specs.declared.event.Effect.TheVariants as effect
 use Rattle.otp_rules.specs.declared.work.Phase.TheVariants.{Ended}
-use Rattle.otp_rules.specs.Ends.{sup_end_of}
+use Rattle.otp_rules.specs.Ends.{sup_end_of, refusal, refused, refuse_all, end_all}
 use Rattle.otp_rules.specs.Counts.{counts_of, which_of}
 use Rattle.otp_window.specs.Period.{in_period}
 use Rattle.otp_rules.specs.Frames.{OrdersAppended}
@@ -231,21 +232,28 @@ exit_in-behind xs p r place row (Killed _) o = end_row-behind xs place row o
 exit_in-behind xs p r place row (Restarting _) o = refl
 
 take_exit-behind : (xs : List Effect) (p : ℕ) (r : Reason) (o : Outcome) → take_exit p r (behind xs o) ≡ behind xs (take_exit p r o)
-unfolding take_exit exit_at
-take_exit-behind xs p r o = at_number-behind xs p (exit_at p r) o (λ place row. exit_in-behind xs p r place row row.state o)
-
-retry_in-behind : (xs : List Effect) (k place : ℕ) (row : Row) (state : RowState) (o : Outcome) → retry_in k place row state (behind xs o) ≡ behind xs (retry_in k place row state o)
-unfolding retry_in
-retry_in-behind xs k place row Undefined o = refl
-retry_in-behind xs k place row (Starting _ _) o = refl
-retry_in-behind xs k place row (Up _) o = refl
-retry_in-behind xs k place row (Asked _ _) o = refl
-retry_in-behind xs k place row (Killed _) o = refl
-retry_in-behind xs k place row (Restarting _) o = restart-behind xs k place row o
+unfolding take_exit
+take_exit-behind xs p r o = at_number-behind xs p (λ place row. exit_in p r place row row.state) o (λ place row. exit_in-behind xs p r place row row.state o)
 
 retry-behind : (xs : List Effect) (k : ℕ) (o : Outcome) → retry k (behind xs o) ≡ behind xs (retry k o)
-unfolding retry retry_at
-retry-behind xs k o = at_row-behind xs (row_has (awaits_retry k)) (behind xs o) o (retry_at k) o refl (λ place row. retry_in-behind xs k place row row.state o)
+unfolding retry
+retry-behind xs k o = at_row-behind xs (row_has (awaits_retry k)) (behind xs o) o (restart k) o refl (λ place row. restart-behind xs k place row o)
+
+-- what a function does at each row whose start is awaited
+abbrev AtStarting : List Effect → (ℕ → ℕ → Row → Outcome → Outcome) → Outcome → Type 0
+AtStarting xs f o = (k place : ℕ) (row : Row) → f k place row (behind xs o) ≡ behind xs (f k place row o)
+
+if_starting-behind : (xs : List Effect) (f : ℕ → ℕ → Row → Outcome → Outcome) (place : ℕ) (row : Row) (state : RowState) (o : Outcome) → AtStarting xs f o → if_starting (λ k. f k place row) state (behind xs o) ≡ behind xs (if_starting (λ k. f k place row) state o)
+if_starting-behind xs f place row Undefined o h = refl
+if_starting-behind xs f place row (Starting _ k) o h = h k place row
+if_starting-behind xs f place row (Up _) o h = refl
+if_starting-behind xs f place row (Asked _ _) o h = refl
+if_starting-behind xs f place row (Killed _) o h = refl
+if_starting-behind xs f place row (Restarting _) o h = refl
+
+at_starting-behind : (xs : List Effect) (p : ℕ) (f : ℕ → ℕ → Row → Outcome → Outcome) (o : Outcome) → AtStarting xs f o → at_starting p f (behind xs o) ≡ behind xs (at_starting p f o)
+unfolding at_starting
+at_starting-behind xs p f o h = at_number-behind xs p (λ place row. if_starting (λ k. f k place row) row.state) o (λ place row. if_starting-behind xs f place row row.state o h)
 
 up_after-behind : (xs : List Effect) (p : ℕ) (f : Option After) (o : Outcome) → up_after p f (behind xs o) ≡ behind xs (up_after p f o)
 unfolding up_after
@@ -257,31 +265,14 @@ up_after-behind xs p (Some (after.Restarted c)) o = answer-behind xs c (reply.Ok
 up_after-behind xs p (Some (after.Stopped _)) o = refl
 up_after-behind xs p (Some (after.End _)) o = refl
 
-up_in-behind : (xs : List Effect) (p place : ℕ) (row : Row) (state : RowState) (o : Outcome) → up_in p place row state (behind xs o) ≡ behind xs (up_in p place row state o)
-unfolding up_in
-up_in-behind xs p place row Undefined o = refl
-up_in-behind xs p place row (Starting _ _) o = up_after-behind xs p o.state.follows (set_row place row (Up p) o)
-up_in-behind xs p place row (Up _) o = refl
-up_in-behind xs p place row (Asked _ _) o = refl
-up_in-behind xs p place row (Killed _) o = refl
-up_in-behind xs p place row (Restarting _) o = refl
-
 take_up-behind : (xs : List Effect) (p : ℕ) (o : Outcome) → take_up p (behind xs o) ≡ behind xs (take_up p o)
-unfolding take_up up_at
-take_up-behind xs p o = at_number-behind xs p (up_at p) o (λ place row. up_in-behind xs p place row row.state o)
-
-ignored_in-behind : (xs : List Effect) (place : ℕ) (row : Row) (state : RowState) (o : Outcome) → ignored_in place row state (behind xs o) ≡ behind xs (ignored_in place row state o)
-unfolding ignored_in
-ignored_in-behind xs place row Undefined o = refl
-ignored_in-behind xs place row (Starting _ _) o = end_row-behind xs place row o
-ignored_in-behind xs place row (Up _) o = refl
-ignored_in-behind xs place row (Asked _ _) o = refl
-ignored_in-behind xs place row (Killed _) o = refl
-ignored_in-behind xs place row (Restarting _) o = refl
+unfolding take_up
+take_up-behind xs p o =
+    at_starting-behind xs p (λ k place row x. up_after p x.state.follows (set_row place row (Up p) x)) o (λ k place row. up_after-behind xs p o.state.follows (set_row place row (Up p) o))
 
 take_ignored-behind : (xs : List Effect) (p : ℕ) (o : Outcome) → take_ignored p (behind xs o) ≡ behind xs (take_ignored p o)
-unfolding take_ignored ignored_at
-take_ignored-behind xs p o = at_number-behind xs p ignored_at o (λ place row. ignored_in-behind xs place row row.state o)
+unfolding take_ignored
+take_ignored-behind xs p o = at_starting-behind xs p (λ k. end_row) o (λ k place row. end_row-behind xs place row o)
 
 failed_after-behind : (xs : List Effect) (r : Reason) (k place : ℕ) (row : Row) (f : Option After) (o : Outcome) → failed_after r k place row f (behind xs o) ≡ behind xs (failed_after r k place row f o)
 unfolding failed_after
@@ -293,18 +284,10 @@ failed_after-behind xs r k place row (Some (after.Restarted c)) o = answer-behin
 failed_after-behind xs r k place row (Some (after.Stopped _)) o = refl
 failed_after-behind xs r k place row (Some (after.End _)) o = refl
 
-failed_in-behind : (xs : List Effect) (r : Reason) (place : ℕ) (row : Row) (state : RowState) (o : Outcome) → failed_in r place row state (behind xs o) ≡ behind xs (failed_in r place row state o)
-unfolding failed_in
-failed_in-behind xs r place row Undefined o = refl
-failed_in-behind xs r place row (Starting _ k) o = failed_after-behind xs r k place row o.state.follows o
-failed_in-behind xs r place row (Up _) o = refl
-failed_in-behind xs r place row (Asked _ _) o = refl
-failed_in-behind xs r place row (Killed _) o = refl
-failed_in-behind xs r place row (Restarting _) o = refl
-
 take_failed-behind : (xs : List Effect) (p : ℕ) (r : Reason) (o : Outcome) → take_failed p r (behind xs o) ≡ behind xs (take_failed p r o)
-unfolding take_failed failed_at
-take_failed-behind xs p r o = at_number-behind xs p (failed_at r) o (λ place row. failed_in-behind xs r place row row.state o)
+unfolding take_failed
+take_failed-behind xs p r o =
+    at_starting-behind xs p (λ k place row x. failed_after r k place row x.state.follows x) o (λ k place row. failed_after-behind xs r k place row o.state.follows o)
 
 take_note-behind : (xs : List Effect) (x : Note) (o : Outcome) → take_note x (behind xs o) ≡ behind xs (take_note x o)
 unfolding take_note
@@ -323,11 +306,40 @@ add_child-behind xs c id spec o =
     either xs (nat_le 256 (length o.state.rows)) (refuse c fault.TooManyChildren (behind xs o)) (fresh (behind xs o)) (refuse c fault.TooManyChildren o) (fresh o)
     (refuse-behind xs c fault.TooManyChildren o) refl
 
+unless_refused-behind : (xs : List Effect) (c : ℕ) (why : Option CallFault) (done' done o : Outcome) → done' ≡ behind xs done → unless_refused c why done' (behind xs o) ≡ behind xs (unless_refused c why done o)
+unless_refused-behind xs c None done' done o h = h
+unless_refused-behind xs c (Some why) done' done o h = refuse-behind xs c why o
+
+stop_child-behind : (xs : List Effect) (c : ℕ) (state : RowState) (gone o : Outcome) → stop_child c state (behind xs gone) (behind xs o) ≡ behind xs (stop_child c state gone o)
+unfolding stop_process
+stop_child-behind xs c Undefined gone o = answer-behind xs c reply.Ok gone
+stop_child-behind xs c (Starting _ _) gone o = refl
+stop_child-behind xs c (Up _) gone o = refl
+stop_child-behind xs c (Asked _ _) gone o = refl
+stop_child-behind xs c (Killed _) gone o = refl
+stop_child-behind xs c (Restarting _) gone o = answer-behind xs c reply.Ok gone
+
+carry_out-behind : (xs : List Effect) (c : ℕ) (x : Call) (place : ℕ) (row : Row) (o : Outcome) → carry_out c x place row (behind xs o) ≡ behind xs (carry_out c x place row o)
+carry_out-behind xs c (call.RestartChild _) place row o = refl
+carry_out-behind xs c (call.DeleteChild _) place row o = answer-behind xs c reply.Ok (with_rows (remove o.state.rows place) o)
+carry_out-behind xs c (call.TerminateChild _) place row o = stop_child-behind xs c row.state (set_row place row Undefined o) o
+carry_out-behind xs c (call.TerminateProcess _) place row o = stop_child-behind xs c row.state (with_rows (remove o.state.rows place) o) o
+carry_out-behind xs c (call.GetChildspec _) place row o = answer-behind xs c (reply.Spec row.spec) o
+carry_out-behind xs c (call.StartChild _) place row o = refl
+carry_out-behind xs c call.StartDynamic place row o = refl
+carry_out-behind xs c call.WhichChildren place row o = refl
+carry_out-behind xs c call.CountChildren place row o = refl
+
+call_at-behind : (xs : List Effect) (c : ℕ) (x : Call) (place : ℕ) (row : Row) (o : Outcome) → call_at c x place row (behind xs o) ≡ behind xs (call_at c x place row o)
+unfolding call_at
+call_at-behind xs c x place row o =
+    unless_refused-behind xs c (fault_at x row.state) (carry_out c x place row (behind xs o)) (carry_out c x place row o) o (carry_out-behind xs c x place row o)
+
 start_lawful-behind : (xs : List Effect) (c : ℕ) (spec : ChildSpec) (o : Outcome) → start_lawful c spec (behind xs o) ≡ behind xs (start_lawful c spec o)
-unfolding start_lawful already_at
+unfolding start_lawful
 start_lawful-behind xs c spec o =
-    at_row-behind xs (has_id spec.id) (add_child c (Some spec.id) spec (behind xs o)) (add_child c (Some spec.id) spec o) (already_at c) o
-    (add_child-behind xs c (Some spec.id) spec o) (λ place row. refuse-behind xs c (already row.state) o)
+    at_row-behind xs (has_id spec.id) (add_child c (Some spec.id) spec (behind xs o)) (add_child c (Some spec.id) spec o) (call_at c (call.StartChild spec)) o
+    (add_child-behind xs c (Some spec.id) spec o) (λ place row. call_at-behind xs c (call.StartChild spec) place row o)
 
 start_checked-behind : (xs : List Effect) (c : ℕ) (spec : ChildSpec) (why : Option SpecFault) (o : Outcome) → start_checked c spec why (behind xs o) ≡ behind xs (start_checked c spec why o)
 unfolding start_checked
@@ -353,59 +365,24 @@ start_dynamic-behind xs c o =
     either xs (is_simple o.state.flags.strategy) (start_shared c shared (behind xs o)) (refuse c fault.NotSimple (behind xs o)) (start_shared c shared o) (refuse c fault.NotSimple o)
     (start_shared-behind xs c shared o) (refuse-behind xs c fault.NotSimple o)
 
-restart_child_in-behind : (xs : List Effect) (c : ℕ) (id : Name) (state : RowState) (o : Outcome) → restart_child_in c id state (behind xs o) ≡ behind xs (restart_child_in c id state o)
-unfolding restart_child_in
-restart_child_in-behind xs c id Undefined o = refl
-restart_child_in-behind xs c id (Starting _ _) o = refuse-behind xs c fault.Running o
-restart_child_in-behind xs c id (Up _) o = refuse-behind xs c fault.Running o
-restart_child_in-behind xs c id (Asked _ _) o = refuse-behind xs c fault.Running o
-restart_child_in-behind xs c id (Killed _) o = refuse-behind xs c fault.Running o
-restart_child_in-behind xs c id (Restarting _) o = refuse-behind xs c fault.Restarting o
-
-delete_child_in-behind : (xs : List Effect) (c place : ℕ) (state : RowState) (o : Outcome) → delete_child_in c place state (behind xs o) ≡ behind xs (delete_child_in c place state o)
-unfolding delete_child_in
-delete_child_in-behind xs c place Undefined o = answer-behind xs c reply.Ok (with_rows (remove o.state.rows place) o)
-delete_child_in-behind xs c place (Starting _ _) o = refuse-behind xs c fault.Running o
-delete_child_in-behind xs c place (Up _) o = refuse-behind xs c fault.Running o
-delete_child_in-behind xs c place (Asked _ _) o = refuse-behind xs c fault.Running o
-delete_child_in-behind xs c place (Killed _) o = refuse-behind xs c fault.Running o
-delete_child_in-behind xs c place (Restarting _) o = refuse-behind xs c fault.Restarting o
-
-terminate_child_in-behind : (xs : List Effect) (c place : ℕ) (row : Row) (state : RowState) (o : Outcome) → terminate_child_in c place row state (behind xs o) ≡ behind xs (terminate_child_in c place row state o)
-unfolding terminate_child_in stop_process
-terminate_child_in-behind xs c place row Undefined o = answer-behind xs c reply.Ok o
-terminate_child_in-behind xs c place row (Starting _ _) o = refl
-terminate_child_in-behind xs c place row (Up _) o = refl
-terminate_child_in-behind xs c place row (Asked _ _) o = refl
-terminate_child_in-behind xs c place row (Killed _) o = refl
-terminate_child_in-behind xs c place row (Restarting _) o = answer-behind xs c reply.Ok (set_row place row Undefined o)
-
-terminate_process_in-behind : (xs : List Effect) (c place : ℕ) (state : RowState) (o : Outcome) → terminate_process_in c place state (behind xs o) ≡ behind xs (terminate_process_in c place state o)
-unfolding terminate_process_in stop_process
-terminate_process_in-behind xs c place Undefined o = refuse-behind xs c fault.NotFound o
-terminate_process_in-behind xs c place (Starting _ _) o = refl
-terminate_process_in-behind xs c place (Up _) o = refl
-terminate_process_in-behind xs c place (Asked _ _) o = refl
-terminate_process_in-behind xs c place (Killed _) o = refl
-terminate_process_in-behind xs c place (Restarting _) o = answer-behind xs c reply.Ok (with_rows (remove o.state.rows place) o)
-
-at_child-behind : (xs : List Effect) (c : ℕ) (id : Name) (f : ℕ → Row → Outcome → Outcome) (o : Outcome) → AtRows xs f o → at_child c id f (behind xs o) ≡ behind xs (at_child c id f o)
-unfolding at_child
-at_child-behind xs c id f o h =
+call_child-behind : (xs : List Effect) (c : ℕ) (id : Name) (x : Call) (o : Outcome) → call_child c id x (behind xs o) ≡ behind xs (call_child c id x o)
+unfolding call_child
+call_child-behind xs c id x o =
     either xs (is_simple o.state.flags.strategy)
-    (refuse c fault.SimpleOneForOne (behind xs o)) (at_row (has_id id) (refuse c fault.NotFound (behind xs o)) f (behind xs o))
-    (refuse c fault.SimpleOneForOne o) (at_row (has_id id) (refuse c fault.NotFound o) f o)
+    (refuse c fault.SimpleOneForOne (behind xs o)) (at_row (has_id id) (refuse c fault.NotFound (behind xs o)) (call_at c x) (behind xs o))
+    (refuse c fault.SimpleOneForOne o) (at_row (has_id id) (refuse c fault.NotFound o) (call_at c x) o)
     (refuse-behind xs c fault.SimpleOneForOne o)
-    (at_row-behind xs (has_id id) (refuse c fault.NotFound (behind xs o)) (refuse c fault.NotFound o) f o (refuse-behind xs c fault.NotFound o) h)
+    (at_row-behind xs (has_id id) (refuse c fault.NotFound (behind xs o)) (refuse c fault.NotFound o) (call_at c x) o (refuse-behind xs c fault.NotFound o) (λ place row. call_at-behind xs c x place row o))
 
 terminate_process-behind : (xs : List Effect) (c p : ℕ) (o : Outcome) → terminate_process c p (behind xs o) ≡ behind xs (terminate_process c p o)
-unfolding terminate_process terminate_process_at
+unfolding terminate_process
 terminate_process-behind xs c p o =
+    let stop : ℕ → Row → Outcome → Outcome = call_at c (call.TerminateProcess p) in
     either xs (is_simple o.state.flags.strategy)
-    (at_row (row_has (has_number p)) (refuse c fault.NotFound (behind xs o)) (terminate_process_at c) (behind xs o)) (refuse c fault.NotFound (behind xs o))
-    (at_row (row_has (has_number p)) (refuse c fault.NotFound o) (terminate_process_at c) o) (refuse c fault.NotFound o)
-    (at_row-behind xs (row_has (has_number p)) (refuse c fault.NotFound (behind xs o)) (refuse c fault.NotFound o) (terminate_process_at c) o
-    (refuse-behind xs c fault.NotFound o) (λ place row. terminate_process_in-behind xs c place row.state o))
+    (at_row (row_has (has_number p)) (refuse c fault.NotFound (behind xs o)) stop (behind xs o)) (refuse c fault.NotFound (behind xs o))
+    (at_row (row_has (has_number p)) (refuse c fault.NotFound o) stop o) (refuse c fault.NotFound o)
+    (at_row-behind xs (row_has (has_number p)) (refuse c fault.NotFound (behind xs o)) (refuse c fault.NotFound o) stop o
+    (refuse-behind xs c fault.NotFound o) (λ place row. call_at-behind xs c (call.TerminateProcess p) place row o))
     (refuse-behind xs c fault.NotFound o)
 
 get_shared-behind : (xs : List Effect) (c : ℕ) (id : Name) (spec : Option ChildSpec) (o : Outcome) → get_shared c id spec (behind xs o) ≡ behind xs (get_shared c id spec o)
@@ -420,19 +397,19 @@ unfolding get_childspec
 get_childspec-behind xs c id o =
     let shared : Option ChildSpec = slice_get o.state.specs 0 in
     either xs (is_simple o.state.flags.strategy)
-    (get_shared c id shared (behind xs o)) (at_row (has_id id) (refuse c fault.NotFound (behind xs o)) (tell_spec c) (behind xs o))
-    (get_shared c id shared o) (at_row (has_id id) (refuse c fault.NotFound o) (tell_spec c) o)
+    (get_shared c id shared (behind xs o)) (at_row (has_id id) (refuse c fault.NotFound (behind xs o)) (call_at c (call.GetChildspec id)) (behind xs o))
+    (get_shared c id shared o) (at_row (has_id id) (refuse c fault.NotFound o) (call_at c (call.GetChildspec id)) o)
     (get_shared-behind xs c id shared o)
-    (at_row-behind xs (has_id id) (refuse c fault.NotFound (behind xs o)) (refuse c fault.NotFound o) (tell_spec c) o
-    (refuse-behind xs c fault.NotFound o) (λ place row. answer-behind xs c (reply.Spec row.spec) o))
+    (at_row-behind xs (has_id id) (refuse c fault.NotFound (behind xs o)) (refuse c fault.NotFound o) (call_at c (call.GetChildspec id)) o
+    (refuse-behind xs c fault.NotFound o) (λ place row. call_at-behind xs c (call.GetChildspec id) place row o))
 
 take_call-behind : (xs : List Effect) (c : ℕ) (x : Call) (o : Outcome) → take_call c x (behind xs o) ≡ behind xs (take_call c x o)
-unfolding take_call restart_child_at delete_child_at terminate_child_at
+unfolding take_call
 take_call-behind xs c (call.StartChild spec) o = start_child-behind xs c spec o
 take_call-behind xs c call.StartDynamic o = start_dynamic-behind xs c o
-take_call-behind xs c (call.RestartChild id) o = at_child-behind xs c id (restart_child_at c id) o (λ place row. restart_child_in-behind xs c id row.state o)
-take_call-behind xs c (call.DeleteChild id) o = at_child-behind xs c id (delete_child_at c) o (λ place row. delete_child_in-behind xs c place row.state o)
-take_call-behind xs c (call.TerminateChild id) o = at_child-behind xs c id (terminate_child_at c) o (λ place row. terminate_child_in-behind xs c place row row.state o)
+take_call-behind xs c (call.RestartChild id) o = call_child-behind xs c id (call.RestartChild id) o
+take_call-behind xs c (call.DeleteChild id) o = call_child-behind xs c id (call.DeleteChild id) o
+take_call-behind xs c (call.TerminateChild id) o = call_child-behind xs c id (call.TerminateChild id) o
 take_call-behind xs c (call.TerminateProcess p) o = terminate_process-behind xs c p o
 take_call-behind xs c call.WhichChildren o = answer-behind xs c (reply.Which (which_of o.state.rows)) o
 take_call-behind xs c call.CountChildren o = answer-behind xs c (reply.Count (counts_of o.state)) o

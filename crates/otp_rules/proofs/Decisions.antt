@@ -2,7 +2,7 @@
 -- The proofs of the laws say what each kind of change does; this file walks through the rules once for all of them.
 use Rattle.std.specs.Prelude.{◌≡◌, ◌⊎◌, ℕ, ◌==◌, ◌++◌, Bool, true, false, List, [], ◌∷◌, Option, None, Some, refl, if◌then◌else◌, not, position, is_some, slice_get, nat_le, length, remove}
 use Rattle.std.proofs.Common.{◌∙◌, ap, sym, subst, inl, inr, ⊎_elim, rules}
-use Rattle.std.proofs.lemmas.Bool.{eqb-true, cond_both}
+use Rattle.std.proofs.lemmas.Bool.{false≢true, eqb-true, cond_both}
 use Rattle.std.proofs.lemmas.List.Quantifiers.{position-Some}
 use Rattle.std.proofs.lemmas.Option.{get_or_from_slice_get}
 use Rattle.otp_reason.specs.declared.name.Name.{Name}
@@ -30,15 +30,16 @@ use Rattle.otp_rules.specs.declared.work.After.{After}
 use Rattle.otp_rules.specs.declared.work.After.TheVariants as after
 use Rattle.otp_rules.specs.declared.call.Reply.{Reply}
 use Rattle.otp_rules.specs.declared.call.Reply.TheVariants as reply
+use Rattle.otp_rules.specs.declared.call.CallFault.{CallFault}
 use Rattle.otp_rules.specs.declared.call.CallFault.TheVariants as fault
 use Rattle.otp_rules.specs.Counts.{counts_of, which_of}
 use Rattle.otp_rules.specs.State.{closed, put_last, Outcome, answer, is_busy, is_over, is_simple, with_rows, with_waiting, with_work}
 use Rattle.otp_rules.specs.Places.{at_place, at_found, at_row, at_number, end_row, is_removed, set_row}
 use Rattle.otp_rules.specs.Restarts.{ends_by_significance, is_restarted}
 use Rattle.otp_rules.specs.Stops.{terminate}
-use Rattle.otp_rules.specs.Deaths.{restart, after_end, death, exit_in, exit_at, take_exit, retry_in, retry_at, retry}
-use Rattle.otp_rules.specs.Starts.{up_after, up_in, up_at, take_up, ignored_in, ignored_at, take_ignored, failed_after, failed_in, failed_at, take_failed}
-use Rattle.otp_rules.specs.Calls.{already, new_row, add_child, already_at, start_lawful, start_checked, start_child, start_shared, start_dynamic, restart_child_in, restart_child_at, at_child, delete_child_in, delete_child_at, stop_process, terminate_child_in, terminate_child_at, terminate_process_in, terminate_process_at, terminate_process, get_shared, get_childspec, is_named, tell_spec, take_call}
+use Rattle.otp_rules.specs.Deaths.{restart, after_end, death, exit_in, take_exit, retry}
+use Rattle.otp_rules.specs.Starts.{at_starting, failed_after, if_starting, take_failed, take_ignored, take_up, up_after}
+use Rattle.otp_rules.specs.Calls.{new_row, add_child, call_at, call_child, carry_out, fault_at, get_childspec, get_shared, is_named, start_checked, start_child, start_dynamic, start_lawful, start_shared, stop_child, stop_process, take_call, terminate_process, unless_refused}
 use Rattle.otp_rules.specs.Homes.{Brings, IsFirst, is_start_call}
 use Rattle.otp_rules.specs.Step.{take_note, ask, take_item, take_waiting, resume, open_rows, tick, decide}
 use Rattle.otp_rules.specs.Fit.{is_told}
@@ -132,7 +133,7 @@ pub record Survives (k : Kind) (b : Bool) (P : Outcome → Type 0) : Type 0 wher
   pub restarts : (p place : ℕ) (row : Row) (o : Outcome) → IsIdle b o → IsRunning o → StandsAt place row o → (row.state ≡ Up p) ⊎ (row.state ≡ Restarting p) → P o → P (restart p place row o)
   pub ends : (e : Ending) (o : Outcome) → (e ≡ ending.Intensity → ⊥) → IsIdle b o → IsRunning o → P o → P (terminate e o)
   pub ticks : (o : Outcome) → k ≡ kind.Ticked → P o → P (tick o)
-  pub opens : (own : ℕ) (o : Outcome) → is_busy o ≡ b → is_over o.state.phase ≡ true → P o → P (open_rows own o)
+  pub opens : (own : ℕ) (o : Outcome) → k ≡ kind.Opened own → is_busy o ≡ b → is_over o.state.phase ≡ true → P o → P (open_rows own o)
   -- calls
   pub adds : (c : ℕ) (id : Option Name) (spec : ChildSpec) (o : Outcome) → IsIdle b o → IsRunning o → is_some id ≡ not (is_simple o.state.flags.strategy) → P o → P (with_work [] (record { id = id; kept = None } ∷ []) (Some (after.Added c)) (with_rows (o.state.rows ++ new_row (free_slot o.state.rows) id spec ∷ []) o))
   pub starts_again : (c : ℕ) (id : Name) (place : ℕ) (row : Row) (o : Outcome) → IsIdle b o → IsRunning o → StandsAt place row o → has_id id row ≡ true → row.state ≡ Undefined → P o → P (with_work [] (record { id = Some id; kept = None } ∷ []) (Some (after.Restarted c)) o)
@@ -217,22 +218,38 @@ exit_in-survives k G old P s p r place row (Killed q) o u is h runs noted at x =
 exit_in-survives k G old P s p r place row (Restarting _) o u is h runs noted at x = x
 
 take_exit-survives : (k : Kind) (G : Item → Type 0) (old : Outcome) (P : Outcome → Type 0) → SurvivesEvent k G old P → (p : ℕ) (r : Reason) (o : Outcome) → IsUnmoved old o → IsRunning o → G (item.Note (note.Exit p r)) → P o → P (take_exit p r o)
-unfolding take_exit exit_at
+unfolding take_exit
 take_exit-survives k G old P s p r o u runs noted x =
-    at_number-survives P p (exit_at p r) o x (λ place row at h. exit_in-survives k G old P s p r place row row.state o u refl h runs noted at x)
+    at_number-survives P p _ o x (λ place row at h. exit_in-survives k G old P s p r place row row.state o u refl h runs noted at x)
 
-retry_in-survives : (k : Kind) (G : Item → Type 0) (old : Outcome) (P : Outcome → Type 0) → SurvivesEvent k G old P → (n place : ℕ) (row : Row) (state : RowState) (o : Outcome) → IsUnmoved old o → row.state ≡ state → awaits_retry n state ≡ true → IsIdle (is_busy old) o → IsRunning o → StandsAt place row o → P o → P (retry_in n place row state o)
-unfolding retry_in
-retry_in-survives k G old P s n place row Undefined o u is h idle runs at x = x
-retry_in-survives k G old P s n place row (Starting _ _) o u is h idle runs at x = x
-retry_in-survives k G old P s n place row (Up _) o u is h idle runs at x = x
-retry_in-survives k G old P s n place row (Asked _ _) o u is h idle runs at x = x
-retry_in-survives k G old P s n place row (Killed _) o u is h idle runs at x = x
-retry_in-survives k G old P s n place row (Restarting q) o u is h idle runs at x = s.restarts n place row o u idle runs at (inr (is ∙ ap (λ (m : ℕ). Restarting m) (eqb-true q n h))) x
+awaits_as : (n : ℕ) (state : RowState) → awaits_retry n state ≡ true → state ≡ Restarting n
+awaits_as n (Restarting q) h = ap (λ (m : ℕ). Restarting m) (eqb-true q n h)
+awaits_as n Undefined h = absurd (false≢true h)
+awaits_as n (Starting _ _) h = absurd (false≢true h)
+awaits_as n (Up _) h = absurd (false≢true h)
+awaits_as n (Asked _ _) h = absurd (false≢true h)
+awaits_as n (Killed _) h = absurd (false≢true h)
 
 retry-survives : (k : Kind) (G : Item → Type 0) (old : Outcome) (P : Outcome → Type 0) → SurvivesEvent k G old P → (n : ℕ) (o : Outcome) → IsUnmoved old o → IsIdle (is_busy old) o → IsRunning o → P o → P (retry n o)
-unfolding retry retry_at
-retry-survives k G old P s n o u idle runs x = at_row-survives P (row_has (awaits_retry n)) o (retry_at n) o x x (λ place row at h. retry_in-survives k G old P s n place row row.state o u refl h idle runs at x)
+unfolding retry
+retry-survives k G old P s n o u idle runs x =
+    at_row-survives P (row_has (awaits_retry n)) o (restart n) o x x (λ place row at h. s.restarts n place row o u idle runs at (inr (awaits_as n row.state h)) x)
+
+-- what a function makes of a row whose start is awaited under this number
+abbrev AtStarting : (Outcome → Type 0) → ℕ → (ℕ → ℕ → Row → Outcome → Outcome) → Outcome → Type 0
+AtStarting P p f o = (q k place : ℕ) (row : Row) → StandsAt place row o → row.state ≡ Starting q k → (q == p) ≡ true → P (f k place row o)
+
+if_starting-survives : (P : Outcome → Type 0) (p : ℕ) (f : ℕ → ℕ → Row → Outcome → Outcome) (place : ℕ) (row : Row) (state : RowState) (o : Outcome) → row.state ≡ state → has_process p state ≡ true → StandsAt place row o → AtStarting P p f o → P o → P (if_starting (λ k. f k place row) state o)
+if_starting-survives P p f place row Undefined o is h at each x = x
+if_starting-survives P p f place row (Starting q k) o is h at each x = each q k place row at is h
+if_starting-survives P p f place row (Up _) o is h at each x = x
+if_starting-survives P p f place row (Asked _ _) o is h at each x = x
+if_starting-survives P p f place row (Killed _) o is h at each x = x
+if_starting-survives P p f place row (Restarting _) o is h at each x = x
+
+at_starting-survives : (P : Outcome → Type 0) (p : ℕ) (f : ℕ → ℕ → Row → Outcome → Outcome) (o : Outcome) → AtStarting P p f o → P o → P (at_starting p f o)
+unfolding at_starting
+at_starting-survives P p f o each x = at_number-survives P p _ o x (λ place row at h. if_starting-survives P p f place row row.state o refl h at each x)
 
 up_after-survives : (k : Kind) (G : Item → Type 0) (old : Outcome) (P : Outcome → Type 0) → SurvivesEvent k G old P → (p place : ℕ) (row : Row) (q kept : ℕ) (f : Option After) (o : Outcome) → IsUnmoved old o → o.state.follows ≡ f → StandsAt place row o → row.state ≡ Starting q kept → (q == p) ≡ true → G (item.Note (note.Up p)) → P o → P (up_after p f (set_row place row (Up p) o))
 unfolding up_after
@@ -246,31 +263,13 @@ up_after-survives k G old P s p place row q kept (Some (after.Restarted c)) o u 
 up_after-survives k G old P s p place row q kept (Some (after.Stopped _)) o u is at starts same noted x = s.up p place row q kept o u at starts same noted x
 up_after-survives k G old P s p place row q kept (Some (after.End _)) o u is at starts same noted x = s.up p place row q kept o u at starts same noted x
 
-up_in-survives : (k : Kind) (G : Item → Type 0) (old : Outcome) (P : Outcome → Type 0) → SurvivesEvent k G old P → (p place : ℕ) (row : Row) (state : RowState) (o : Outcome) → IsUnmoved old o → row.state ≡ state → has_process p state ≡ true → G (item.Note (note.Up p)) → StandsAt place row o → P o → P (up_in p place row state o)
-unfolding up_in
-up_in-survives k G old P s p place row Undefined o u is h noted at x = x
-up_in-survives k G old P s p place row (Starting q kept) o u is h noted at x = up_after-survives k G old P s p place row q kept o.state.follows o u refl at is h noted x
-up_in-survives k G old P s p place row (Up _) o u is h noted at x = x
-up_in-survives k G old P s p place row (Asked _ _) o u is h noted at x = x
-up_in-survives k G old P s p place row (Killed _) o u is h noted at x = x
-up_in-survives k G old P s p place row (Restarting _) o u is h noted at x = x
-
 take_up-survives : (k : Kind) (G : Item → Type 0) (old : Outcome) (P : Outcome → Type 0) → SurvivesEvent k G old P → (p : ℕ) (o : Outcome) → IsUnmoved old o → G (item.Note (note.Up p)) → P o → P (take_up p o)
-unfolding take_up up_at
-take_up-survives k G old P s p o u noted x = at_number-survives P p (up_at p) o x (λ place row at h. up_in-survives k G old P s p place row row.state o u refl h noted at x)
-
-ignored_in-survives : (k : Kind) (G : Item → Type 0) (old : Outcome) (P : Outcome → Type 0) → SurvivesEvent k G old P → (p place : ℕ) (row : Row) (state : RowState) (o : Outcome) → IsUnmoved old o → row.state ≡ state → has_process p state ≡ true → G (item.Note (note.Ignored p)) → StandsAt place row o → P o → P (ignored_in place row state o)
-unfolding ignored_in
-ignored_in-survives k G old P s p place row Undefined o u is h noted at x = x
-ignored_in-survives k G old P s p place row (Starting q kept) o u is h noted at x = s.ignored p place row q kept o u at is h noted x
-ignored_in-survives k G old P s p place row (Up _) o u is h noted at x = x
-ignored_in-survives k G old P s p place row (Asked _ _) o u is h noted at x = x
-ignored_in-survives k G old P s p place row (Killed _) o u is h noted at x = x
-ignored_in-survives k G old P s p place row (Restarting _) o u is h noted at x = x
+unfolding take_up
+take_up-survives k G old P s p o u noted x = at_starting-survives P p _ o (λ q kept place row at is same. up_after-survives k G old P s p place row q kept o.state.follows o u refl at is same noted x) x
 
 take_ignored-survives : (k : Kind) (G : Item → Type 0) (old : Outcome) (P : Outcome → Type 0) → SurvivesEvent k G old P → (p : ℕ) (o : Outcome) → IsUnmoved old o → G (item.Note (note.Ignored p)) → P o → P (take_ignored p o)
-unfolding take_ignored ignored_at
-take_ignored-survives k G old P s p o u noted x = at_number-survives P p ignored_at o x (λ place row at h. ignored_in-survives k G old P s p place row row.state o u refl h noted at x)
+unfolding take_ignored
+take_ignored-survives k G old P s p o u noted x = at_starting-survives P p _ o (λ q kept place row at is same. s.ignored p place row q kept o u at is same noted x) x
 
 failed_after-survives : (k : Kind) (G : Item → Type 0) (old : Outcome) (P : Outcome → Type 0) → SurvivesEvent k G old P → (r : Reason) (kept place : ℕ) (row : Row) (q : ℕ) (f : Option After) (o : Outcome) → IsUnmoved old o → o.state.follows ≡ f → IsRunning o → StandsAt place row o → row.state ≡ Starting q kept → BringsFailure G q → P o → P (failed_after r kept place row f o)
 unfolding failed_after
@@ -284,18 +283,10 @@ failed_after-survives k G old P s r kept place row q (Some (after.Restarted c)) 
 failed_after-survives k G old P s r kept place row q (Some (after.Stopped _)) o u is runs at starts noted x = x
 failed_after-survives k G old P s r kept place row q (Some (after.End _)) o u is runs at starts noted x = x
 
-failed_in-survives : (k : Kind) (G : Item → Type 0) (old : Outcome) (P : Outcome → Type 0) → SurvivesEvent k G old P → (p : ℕ) (r : Reason) (place : ℕ) (row : Row) (state : RowState) (o : Outcome) → IsUnmoved old o → row.state ≡ state → has_process p state ≡ true → G (item.Note (note.Failed p r)) → IsRunning o → StandsAt place row o → P o → P (failed_in r place row state o)
-unfolding failed_in
-failed_in-survives k G old P s p r place row Undefined o u is h noted runs at x = x
-failed_in-survives k G old P s p r place row (Starting q kept) o u is h noted runs at x = failed_after-survives k G old P s r kept place row q o.state.follows o u refl runs at is (r, subst (λ (n : ℕ). G (item.Note (note.Failed n r))) (sym (eqb-true q p h)) noted) x
-failed_in-survives k G old P s p r place row (Up _) o u is h noted runs at x = x
-failed_in-survives k G old P s p r place row (Asked _ _) o u is h noted runs at x = x
-failed_in-survives k G old P s p r place row (Killed _) o u is h noted runs at x = x
-failed_in-survives k G old P s p r place row (Restarting _) o u is h noted runs at x = x
-
 take_failed-survives : (k : Kind) (G : Item → Type 0) (old : Outcome) (P : Outcome → Type 0) → SurvivesEvent k G old P → (p : ℕ) (r : Reason) (o : Outcome) → IsUnmoved old o → G (item.Note (note.Failed p r)) → IsRunning o → P o → P (take_failed p r o)
-unfolding take_failed failed_at
-take_failed-survives k G old P s p r o u noted runs x = at_number-survives P p (failed_at r) o x (λ place row at h. failed_in-survives k G old P s p r place row row.state o u refl h noted runs at x)
+unfolding take_failed
+take_failed-survives k G old P s p r o u noted runs x =
+    at_starting-survives P p _ o (λ q kept place row at is same. failed_after-survives k G old P s r kept place row q o.state.follows o u refl runs at is (r, subst (λ (n : ℕ). G (item.Note (note.Failed n r))) (sym (eqb-true q p same)) noted) x) x
 
 take_note-survives : (k : Kind) (G : Item → Type 0) (old : Outcome) (P : Outcome → Type 0) → SurvivesEvent k G old P → (n : Note) (o : Outcome) → IsUnmoved old o → IsRunning o → G (item.Note n) → P o → P (take_note n o)
 unfolding take_note
@@ -309,12 +300,73 @@ unfolding add_child
 add_child-survives k G old P s c id spec o u idle runs named got x =
     by_test P (nat_le 256 (length o.state.rows)) _ _ (λ _. s.answered c (reply.Refused fault.TooManyChildren) o x) (λ few. s.adds c id spec o u idle runs named few got x)
 
+-- a call that starts the child in a row again names it by its id
+abbrev NamesRow : Call → Row → Type 0
+NamesRow (call.RestartChild id) row = has_id id row ≡ true
+NamesRow _ row = Unit {0}
+
+abbrev Names : Name → Call → Type 0
+Names id (call.RestartChild name) = name ≡ id
+Names id _ = Unit {0}
+
+has_named : (id : Name) (x : Call) (row : Row) → Names id x → has_id id row ≡ true → NamesRow x row
+has_named id (call.RestartChild name) row same h = subst (λ (n : Name). has_id n row ≡ true) (sym same) h
+has_named id (call.StartChild _) row same h = tt
+has_named id call.StartDynamic row same h = tt
+has_named id (call.DeleteChild _) row same h = tt
+has_named id (call.TerminateChild _) row same h = tt
+has_named id (call.TerminateProcess _) row same h = tt
+has_named id call.WhichChildren row same h = tt
+has_named id call.CountChildren row same h = tt
+has_named id (call.GetChildspec _) row same h = tt
+
+-- what neither a fault nor a process stands against
+undefined_row : (id : Name) (state : RowState) → fault_at (call.RestartChild id) state ≡ None → state ≡ Undefined
+undefined_row id Undefined h = refl
+undefined_row id (Starting _ _) h = cc
+undefined_row id (Up _) h = cc
+undefined_row id (Asked _ _) h = cc
+undefined_row id (Killed _) h = cc
+undefined_row id (Restarting _) h = cc
+
+unless_refused-survives : (k : Kind) (G : Item → Type 0) (old : Outcome) (P : Outcome → Type 0) → SurvivesEvent k G old P → (c : ℕ) (why : Option CallFault) (done o : Outcome) → P o → (why ≡ None → P done) → P (unless_refused c why done o)
+unless_refused-survives k G old P s c None done o x h = h refl
+unless_refused-survives k G old P s c (Some why) done o x h = s.answered c (reply.Refused why) o x
+
+stop_child-survives : (k : Kind) (G : Item → Type 0) (old : Outcome) (P : Outcome → Type 0) → SurvivesEvent k G old P → (c place : ℕ) (row : Row) (state : RowState) (gone o : Outcome) → IsUnmoved old o → row.state ≡ state → IsIdle (is_busy old) o → IsRunning o → StandsAt place row o → (is_down row.state ≡ true → P gone) → P o → P (stop_child c state gone o)
+unfolding stop_process
+stop_child-survives k G old P s c place row Undefined gone o u is idle runs at h x = s.answered c reply.Ok gone (h (ap (λ (t : RowState). is_down t) is))
+stop_child-survives k G old P s c place row (Starting p _) gone o u is idle runs at h x = s.stops_child c p place row o u idle runs at (inl (ap (λ (t : RowState). is_awaited t) is)) x
+stop_child-survives k G old P s c place row (Up p) gone o u is idle runs at h x = s.stops_child c p place row o u idle runs at (inr is) x
+stop_child-survives k G old P s c place row (Asked p _) gone o u is idle runs at h x = s.stops_child c p place row o u idle runs at (inl (ap (λ (t : RowState). is_awaited t) is)) x
+stop_child-survives k G old P s c place row (Killed p) gone o u is idle runs at h x = s.stops_child c p place row o u idle runs at (inl (ap (λ (t : RowState). is_awaited t) is)) x
+stop_child-survives k G old P s c place row (Restarting _) gone o u is idle runs at h x = s.answered c reply.Ok gone (h (ap (λ (t : RowState). is_down t) is))
+
+carry_out-survives : (k : Kind) (G : Item → Type 0) (old : Outcome) (P : Outcome → Type 0) → SurvivesEvent k G old P → (c : ℕ) (x : Call) (place : ℕ) (row : Row) (o : Outcome) → IsUnmoved old o → IsIdle (is_busy old) o → IsRunning o → StandsAt place row o → NamesRow x row → fault_at x row.state ≡ None → P o → P (carry_out c x place row o)
+carry_out-survives k G old P s c (call.RestartChild id) place row o u idle runs at h free x = s.starts_again c id place row o u idle runs at h (undefined_row id row.state free) x
+carry_out-survives k G old P s c (call.DeleteChild id) place row o u idle runs at h free x =
+    s.answered c reply.Ok (with_rows (remove o.state.rows place) o) (s.removed place row o u idle runs at (ap (λ (t : RowState). is_down t) (undefined_row id row.state free)) x)
+carry_out-survives k G old P s c (call.TerminateChild _) place row o u idle runs at h free x =
+    stop_child-survives k G old P s c place row row.state (set_row place row Undefined o) o u refl idle runs at (λ down. s.given_up place row o u idle runs at down x) x
+carry_out-survives k G old P s c (call.TerminateProcess _) place row o u idle runs at h free x =
+    stop_child-survives k G old P s c place row row.state (with_rows (remove o.state.rows place) o) o u refl idle runs at (λ down. s.removed place row o u idle runs at down x) x
+carry_out-survives k G old P s c (call.GetChildspec _) place row o u idle runs at h free x = s.answered c (reply.Spec row.spec) o x
+carry_out-survives k G old P s c (call.StartChild _) place row o u idle runs at h free x = x
+carry_out-survives k G old P s c call.StartDynamic place row o u idle runs at h free x = x
+carry_out-survives k G old P s c call.WhichChildren place row o u idle runs at h free x = x
+carry_out-survives k G old P s c call.CountChildren place row o u idle runs at h free x = x
+
+call_at-survives : (k : Kind) (G : Item → Type 0) (old : Outcome) (P : Outcome → Type 0) → SurvivesEvent k G old P → (c : ℕ) (x : Call) (place : ℕ) (row : Row) (o : Outcome) → IsUnmoved old o → IsIdle (is_busy old) o → IsRunning o → StandsAt place row o → NamesRow x row → P o → P (call_at c x place row o)
+unfolding call_at
+call_at-survives k G old P s c call place row o u idle runs at h x =
+    unless_refused-survives k G old P s c (fault_at call row.state) (carry_out c call place row o) o x (λ free. carry_out-survives k G old P s c call place row o u idle runs at h free x)
+
 start_lawful-survives : (k : Kind) (G : Item → Type 0) (old : Outcome) (P : Outcome → Type 0) → SurvivesEvent k G old P → (c : ℕ) (spec : ChildSpec) (o : Outcome) → IsUnmoved old o → IsIdle (is_busy old) o → IsRunning o → is_simple o.state.flags.strategy ≡ false → BringsStart G old c o → P o → P (start_lawful c spec o)
-unfolding start_lawful already_at
+unfolding start_lawful
 start_lawful-survives k G old P s c spec o u idle runs plain got x =
-    at_row-survives P (has_id spec.id) (add_child c (Some spec.id) spec o) (already_at c) o
+    at_row-survives P (has_id spec.id) (add_child c (Some spec.id) spec o) (call_at c (call.StartChild spec)) o
     (add_child-survives k G old P s c (Some spec.id) spec o u idle runs (sym (ap not plain)) got x) x
-    (λ place row at h. s.answered c (reply.Refused (already row.state)) o x)
+    (λ place row at h. call_at-survives k G old P s c (call.StartChild spec) place row o u idle runs at tt x)
 
 start_checked-survives : (k : Kind) (G : Item → Type 0) (old : Outcome) (P : Outcome → Type 0) → SurvivesEvent k G old P → (c : ℕ) (spec : ChildSpec) (why : Option SpecFault) (o : Outcome) → IsUnmoved old o → IsIdle (is_busy old) o → IsRunning o → is_simple o.state.flags.strategy ≡ false → BringsStart G old c o → P o → P (start_checked c spec why o)
 unfolding start_checked
@@ -339,57 +391,18 @@ start_dynamic-survives k G old P s c o u idle runs got x =
     (λ simple. start_shared-survives k G old P s c (slice_get o.state.specs 0) o u idle runs simple got x)
     (λ _. s.answered c (reply.Refused fault.NotSimple) o x)
 
-restart_child_in-survives : (k : Kind) (G : Item → Type 0) (old : Outcome) (P : Outcome → Type 0) → SurvivesEvent k G old P → (c : ℕ) (id : Name) (place : ℕ) (row : Row) (state : RowState) (o : Outcome) → IsUnmoved old o → row.state ≡ state → has_id id row ≡ true → IsIdle (is_busy old) o → IsRunning o → StandsAt place row o → P o → P (restart_child_in c id state o)
-unfolding restart_child_in
-restart_child_in-survives k G old P s c id place row Undefined o u is h idle runs at x = s.starts_again c id place row o u idle runs at h is x
-restart_child_in-survives k G old P s c id place row (Starting _ _) o u is h idle runs at x = s.answered c (reply.Refused fault.Running) o x
-restart_child_in-survives k G old P s c id place row (Up _) o u is h idle runs at x = s.answered c (reply.Refused fault.Running) o x
-restart_child_in-survives k G old P s c id place row (Asked _ _) o u is h idle runs at x = s.answered c (reply.Refused fault.Running) o x
-restart_child_in-survives k G old P s c id place row (Killed _) o u is h idle runs at x = s.answered c (reply.Refused fault.Running) o x
-restart_child_in-survives k G old P s c id place row (Restarting _) o u is h idle runs at x = s.answered c (reply.Refused fault.Restarting) o x
-
-delete_child_in-survives : (k : Kind) (G : Item → Type 0) (old : Outcome) (P : Outcome → Type 0) → SurvivesEvent k G old P → (c place : ℕ) (row : Row) (state : RowState) (o : Outcome) → IsUnmoved old o → row.state ≡ state → IsIdle (is_busy old) o → IsRunning o → StandsAt place row o → P o → P (delete_child_in c place state o)
-unfolding delete_child_in
-delete_child_in-survives k G old P s c place row Undefined o u is idle runs at x =
-    s.answered c reply.Ok (with_rows (remove o.state.rows place) o) (s.removed place row o u idle runs at (ap (λ (t : RowState). is_down t) is) x)
-delete_child_in-survives k G old P s c place row (Starting _ _) o u is idle runs at x = s.answered c (reply.Refused fault.Running) o x
-delete_child_in-survives k G old P s c place row (Up _) o u is idle runs at x = s.answered c (reply.Refused fault.Running) o x
-delete_child_in-survives k G old P s c place row (Asked _ _) o u is idle runs at x = s.answered c (reply.Refused fault.Running) o x
-delete_child_in-survives k G old P s c place row (Killed _) o u is idle runs at x = s.answered c (reply.Refused fault.Running) o x
-delete_child_in-survives k G old P s c place row (Restarting _) o u is idle runs at x = s.answered c (reply.Refused fault.Restarting) o x
-
-terminate_child_in-survives : (k : Kind) (G : Item → Type 0) (old : Outcome) (P : Outcome → Type 0) → SurvivesEvent k G old P → (c place : ℕ) (row : Row) (state : RowState) (o : Outcome) → IsUnmoved old o → row.state ≡ state → IsIdle (is_busy old) o → IsRunning o → StandsAt place row o → P o → P (terminate_child_in c place row state o)
-unfolding terminate_child_in stop_process
-terminate_child_in-survives k G old P s c place row Undefined o u is idle runs at x = s.answered c reply.Ok o x
-terminate_child_in-survives k G old P s c place row (Starting p _) o u is idle runs at x = s.stops_child c p place row o u idle runs at (inl (ap (λ (t : RowState). is_awaited t) is)) x
-terminate_child_in-survives k G old P s c place row (Up p) o u is idle runs at x = s.stops_child c p place row o u idle runs at (inr is) x
-terminate_child_in-survives k G old P s c place row (Asked p _) o u is idle runs at x = s.stops_child c p place row o u idle runs at (inl (ap (λ (t : RowState). is_awaited t) is)) x
-terminate_child_in-survives k G old P s c place row (Killed p) o u is idle runs at x = s.stops_child c p place row o u idle runs at (inl (ap (λ (t : RowState). is_awaited t) is)) x
-terminate_child_in-survives k G old P s c place row (Restarting _) o u is idle runs at x =
-    s.answered c reply.Ok (set_row place row Undefined o) (s.given_up place row o u idle runs at (ap (λ (t : RowState). is_down t) is) x)
-
-terminate_process_in-survives : (k : Kind) (G : Item → Type 0) (old : Outcome) (P : Outcome → Type 0) → SurvivesEvent k G old P → (c place : ℕ) (row : Row) (state : RowState) (o : Outcome) → IsUnmoved old o → row.state ≡ state → IsIdle (is_busy old) o → IsRunning o → StandsAt place row o → P o → P (terminate_process_in c place state o)
-unfolding terminate_process_in stop_process
-terminate_process_in-survives k G old P s c place row Undefined o u is idle runs at x = s.answered c (reply.Refused fault.NotFound) o x
-terminate_process_in-survives k G old P s c place row (Starting p _) o u is idle runs at x = s.stops_child c p place row o u idle runs at (inl (ap (λ (t : RowState). is_awaited t) is)) x
-terminate_process_in-survives k G old P s c place row (Up p) o u is idle runs at x = s.stops_child c p place row o u idle runs at (inr is) x
-terminate_process_in-survives k G old P s c place row (Asked p _) o u is idle runs at x = s.stops_child c p place row o u idle runs at (inl (ap (λ (t : RowState). is_awaited t) is)) x
-terminate_process_in-survives k G old P s c place row (Killed p) o u is idle runs at x = s.stops_child c p place row o u idle runs at (inl (ap (λ (t : RowState). is_awaited t) is)) x
-terminate_process_in-survives k G old P s c place row (Restarting _) o u is idle runs at x =
-    s.answered c reply.Ok (with_rows (remove o.state.rows place) o) (s.removed place row o u idle runs at (ap (λ (t : RowState). is_down t) is) x)
-
-at_child-survives : (k : Kind) (G : Item → Type 0) (old : Outcome) (P : Outcome → Type 0) → SurvivesEvent k G old P → (c : ℕ) (id : Name) (f : ℕ → Row → Outcome → Outcome) (o : Outcome) → P o → AtPassing P (has_id id) f o → P (at_child c id f o)
-unfolding at_child
-at_child-survives k G old P s c id f o x h =
+call_child-survives : (k : Kind) (G : Item → Type 0) (old : Outcome) (P : Outcome → Type 0) → SurvivesEvent k G old P → (c : ℕ) (id : Name) (x : Call) (o : Outcome) → IsUnmoved old o → IsIdle (is_busy old) o → IsRunning o → Names id x → P o → P (call_child c id x o)
+unfolding call_child
+call_child-survives k G old P s c id call o u idle runs names x =
     by_test P (is_simple o.state.flags.strategy) _ _ (λ _. s.answered c (reply.Refused fault.SimpleOneForOne) o x)
-    (λ _. at_row-survives P (has_id id) _ f o (s.answered c (reply.Refused fault.NotFound) o x) x h)
+    (λ _. at_row-survives P (has_id id) _ (call_at c call) o (s.answered c (reply.Refused fault.NotFound) o x) x (λ place row at h. call_at-survives k G old P s c call place row o u idle runs at (has_named id call row names h) x))
 
 terminate_process-survives : (k : Kind) (G : Item → Type 0) (old : Outcome) (P : Outcome → Type 0) → SurvivesEvent k G old P → (c p : ℕ) (o : Outcome) → IsUnmoved old o → IsIdle (is_busy old) o → IsRunning o → P o → P (terminate_process c p o)
-unfolding terminate_process terminate_process_at
+unfolding terminate_process
 terminate_process-survives k G old P s c p o u idle runs x =
     by_test P (is_simple o.state.flags.strategy) _ _
-    (λ _. at_row-survives P (row_has (has_number p)) _ (terminate_process_at c) o (s.answered c (reply.Refused fault.NotFound) o x) x
-    (λ place row at h. terminate_process_in-survives k G old P s c place row row.state o u refl idle runs at x))
+    (λ _. at_row-survives P (row_has (has_number p)) _ (call_at c (call.TerminateProcess p)) o (s.answered c (reply.Refused fault.NotFound) o x) x
+    (λ place row at h. call_at-survives k G old P s c (call.TerminateProcess p) place row o u idle runs at tt x))
     (λ _. s.answered c (reply.Refused fault.NotFound) o x)
 
 get_shared-survives : (k : Kind) (G : Item → Type 0) (old : Outcome) (P : Outcome → Type 0) → SurvivesEvent k G old P → (c : ℕ) (id : Name) (spec : Option ChildSpec) (o : Outcome) → P o → P (get_shared c id spec o)
@@ -398,26 +411,23 @@ get_shared-survives k G old P s c id None o x = s.answered c (reply.Refused faul
 get_shared-survives k G old P s c id (Some spec) o x =
     by_test P (is_named id spec) _ _ (λ _. s.answered c (reply.Spec spec) o x) (λ _. s.answered c (reply.Refused fault.NotFound) o x)
 
-get_childspec-survives : (k : Kind) (G : Item → Type 0) (old : Outcome) (P : Outcome → Type 0) → SurvivesEvent k G old P → (c : ℕ) (id : Name) (o : Outcome) → P o → P (get_childspec c id o)
+get_childspec-survives : (k : Kind) (G : Item → Type 0) (old : Outcome) (P : Outcome → Type 0) → SurvivesEvent k G old P → (c : ℕ) (id : Name) (o : Outcome) → IsUnmoved old o → IsIdle (is_busy old) o → IsRunning o → P o → P (get_childspec c id o)
 unfolding get_childspec
-get_childspec-survives k G old P s c id o x =
+get_childspec-survives k G old P s c id o u idle runs x =
     by_test P (is_simple o.state.flags.strategy) _ _ (λ _. get_shared-survives k G old P s c id (slice_get o.state.specs 0) o x)
-    (λ _. at_row-survives P (has_id id) _ (tell_spec c) o (s.answered c (reply.Refused fault.NotFound) o x) x (λ place row at h. s.answered c (reply.Spec row.spec) o x))
+    (λ _. at_row-survives P (has_id id) _ (call_at c (call.GetChildspec id)) o (s.answered c (reply.Refused fault.NotFound) o x) x (λ place row at h. call_at-survives k G old P s c (call.GetChildspec id) place row o u idle runs at tt x))
 
 take_call-survives : (k : Kind) (G : Item → Type 0) (old : Outcome) (P : Outcome → Type 0) → SurvivesEvent k G old P → (c : ℕ) (call : Call) (o : Outcome) → IsUnmoved old o → IsIdle (is_busy old) o → IsRunning o → G (item.Call c call) → o.state.rows ≡ old.state.rows → P o → P (take_call c call o)
-unfolding take_call restart_child_at delete_child_at terminate_child_at
+unfolding take_call
 take_call-survives k G old P s c (call.StartChild spec) o u idle runs noted rows x = start_child-survives k G old P s c spec o u idle runs ((call.StartChild spec, refl, noted), rows) x
 take_call-survives k G old P s c call.StartDynamic o u idle runs noted rows x = start_dynamic-survives k G old P s c o u idle runs ((call.StartDynamic, refl, noted), rows) x
-take_call-survives k G old P s c (call.RestartChild id) o u idle runs noted rows x =
-    at_child-survives k G old P s c id (restart_child_at c id) o x (λ place row at h. restart_child_in-survives k G old P s c id place row row.state o u refl h idle runs at x)
-take_call-survives k G old P s c (call.DeleteChild id) o u idle runs noted rows x =
-    at_child-survives k G old P s c id (delete_child_at c) o x (λ place row at h. delete_child_in-survives k G old P s c place row row.state o u refl idle runs at x)
-take_call-survives k G old P s c (call.TerminateChild id) o u idle runs noted rows x =
-    at_child-survives k G old P s c id (terminate_child_at c) o x (λ place row at h. terminate_child_in-survives k G old P s c place row row.state o u refl idle runs at x)
+take_call-survives k G old P s c (call.RestartChild id) o u idle runs noted rows x = call_child-survives k G old P s c id (call.RestartChild id) o u idle runs refl x
+take_call-survives k G old P s c (call.DeleteChild id) o u idle runs noted rows x = call_child-survives k G old P s c id (call.DeleteChild id) o u idle runs tt x
+take_call-survives k G old P s c (call.TerminateChild id) o u idle runs noted rows x = call_child-survives k G old P s c id (call.TerminateChild id) o u idle runs tt x
 take_call-survives k G old P s c (call.TerminateProcess p) o u idle runs noted rows x = terminate_process-survives k G old P s c p o u idle runs x
 take_call-survives k G old P s c call.WhichChildren o u idle runs noted rows x = s.answered c (reply.Which (which_of o.state.rows)) o x
 take_call-survives k G old P s c call.CountChildren o u idle runs noted rows x = s.answered c (reply.Count (counts_of o.state)) o x
-take_call-survives k G old P s c (call.GetChildspec id) o u idle runs noted rows x = get_childspec-survives k G old P s c id o x
+take_call-survives k G old P s c (call.GetChildspec id) o u idle runs noted rows x = get_childspec-survives k G old P s c id o u idle runs x
 
 ask-survives : (k : Kind) (G : Item → Type 0) (old : Outcome) (P : Outcome → Type 0) → SurvivesEvent k G old P → (c : ℕ) (call : Call) (o : Outcome) → IsUnmoved old o → G (item.Call c call) → o.state.rows ≡ old.state.rows → P o → P (ask c call o)
 unfolding ask
@@ -493,7 +503,7 @@ event-survives k old P s =
       restarts = λ p place row o u idle runs at is x. s.restarts p place row o idle runs at (⊎_elim (λ (h : _). inl h.0) (λ h. inr h) is) x;
       ends = λ e o u other idle runs x. s.ends e o other idle runs x;
       ticks = λ is x. s.ticks old is x;
-      opens = λ own is over x. s.opens own old refl over x;
+      opens = λ own is over x. s.opens own old is refl over x;
       adds = λ c id spec o u idle runs named few got x. s.adds c id spec o idle runs named x;
       starts_again = λ c id place row o u idle runs at has is x. s.starts_again c id place row o idle runs at has is x;
       removed = λ place row o u idle runs at down x. s.removed place row o idle runs at down x;

@@ -28,10 +28,12 @@ use Rattle.otp_rules.specs.declared.work.After.{After}
 use Rattle.otp_rules.specs.declared.work.After.TheVariants as after
 use Rattle.otp_rules.specs.State.{Outcome, answer, is_busy, is_over, is_simple, with_rows, with_stamps, with_waiting, with_work}
 use Rattle.otp_rules.specs.Effects.{OrdersFew, is_order}
-use Rattle.otp_rules.specs.Ends.{sup_end_of}
+use Rattle.otp_rules.specs.Ends.{sup_end_of, refuse_all, refusal, end_all}
 use Rattle.otp_rules.specs.Places.{end_row, end_process, is_removed, set_row}
 use Rattle.otp_rules.specs.Restarts.{affected_from, affected_to, running}
-use Rattle.otp_rules.specs.Stops.{calm_all, is_exit, without, told, tell_row, tell, use_exit, is_due, start_row, start, refuse_all, refusal, end_all, follow, start_first, stop_first, advance, stop_each, stop_order, terminate_ordered, terminate_together, terminate}
+use Rattle.otp_rules.specs.Stops.{calm_all, is_exit, without, told, tell_row, tell, use_exit, stop_each, stop_order, terminate_ordered, terminate_together, terminate}
+use Rattle.otp_rules.specs.Starts.{is_due, start_row, start}
+use Rattle.otp_rules.specs.Work.{follow, start_first, stop_first, advance}
 use Rattle.otp_rules.specs.Deaths.{restart_rows, restart_or_end, restart}
 use Rattle.otp_rules.specs.Step.{open_with, open_rows, tick, decide, stamped, step, step_on, kill_order, killed, late_number}
 use Rattle.otp_window.specs.Period.{in_period}

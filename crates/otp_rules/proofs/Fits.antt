@@ -16,7 +16,7 @@ use Rattle.otp_table.specs.Rows.{has_process, is_awaited, is_undefined, with_sta
 use Rattle.otp_rules.specs.declared.work.Due.{Due}
 use Rattle.otp_rules.specs.Places.{is_removed}
 use Rattle.otp_rules.specs.Restarts.{dues}
-use Rattle.otp_rules.specs.Stops.{is_due}
+use Rattle.otp_rules.specs.Starts.{is_due}
 use Rattle.std.specs.List.{position_or_len}
 use Prim.Native.Nat.{zero, suc}
 use Rattle.otp_rules.specs.Fit.{rows_in, times, is_free, IsFree, Matches, Fits}

@@ -386,7 +386,7 @@ fitted-survives k b =
       restarts = λ p place row o idle runs at is x. (s.restarts p place row o idle runs at is x.0, restart-fitted b p place row o idle at x);
       ends = λ e o other idle runs x. (s.ends e o other idle runs x.0, terminate-fitted e o x.1.0);
       ticks = λ o is x. (s.ticks o is x.0, tick-fitted o x.1);
-      opens = λ own o link over x. (s.opens own o link over x.0, open-fitted own o);
+      opens = λ own o is link over x. (s.opens own o is link over x.0, open-fitted own o);
       adds = λ c id spec o idle runs named x. (
         s.adds c id spec o idle runs named x.0,
         (

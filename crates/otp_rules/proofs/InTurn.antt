@@ -24,7 +24,9 @@ use Rattle.otp_rules.specs.declared.work.After.{After}
 use Rattle.otp_rules.specs.State.{Outcome, State, answer, emit, is_busy, is_simple, with_stamps, with_work}
 use Rattle.otp_rules.specs.Places.{at_row, at_number, end_row, set_row}
 use Rattle.otp_rules.specs.Restarts.{dues}
-use Rattle.otp_rules.specs.Stops.{is_exit, without, told, stop_order, tell_row, tell, use_exit, is_due, start_row, start, refusal, refuse_all, end_all, follow, start_first, stop_first, advance, terminate_ordered, terminate_together, terminate}
+use Rattle.otp_rules.specs.Stops.{is_exit, without, told, stop_order, tell_row, tell, use_exit, terminate_ordered, terminate_together, terminate}
+use Rattle.otp_rules.specs.Starts.{is_due, start_row, start}
+use Rattle.otp_rules.specs.Work.{follow, start_first, stop_first, advance}
 use Rattle.otp_rules.specs.Deaths.{restart_rows, restart_or_end, restart}
 use Rattle.otp_rules.specs.Step.{kill_order, late_number, open_with, open_rows, tick, decide, stamped, step, step_on}
 use Rattle.otp_rules.specs.Run.{empty_state, state_after}
@@ -37,7 +39,7 @@ use Rattle.otp_rules.proofs.Sound.{IsReady, advance-sound, empty-sound, used-rea
 use Rattle.otp_rules.proofs.Stopping.{Carried, apart-alike, carried-survives, fails_opening, no_after, not_busy, opens_none}
 use Rattle.otp_rules.proofs.Opened.{decided-keeps, stands_at, started-carried, together, together-follows}
 use Rattle.otp_rules.specs.declared.ending.SupEnd.{SupEnd}
-use Rattle.otp_rules.specs.Ends.{sup_end_of}
+use Rattle.otp_rules.specs.Ends.{sup_end_of, refusal, refuse_all, end_all}
 use Rattle.std.proofs.lemmas.List.Sums.{sum_by-le-sum_by}
 use Rattle.otp_rules.specs.declared.ending.Ending.TheVariants as ending
 use Rattle.otp_rules.specs.declared.event.Effect.TheVariants as effect
@@ -344,7 +346,7 @@ quiet-survives k b f g is_base =
           (s.restarts p place row o idle runs at h x.0, restart-quiet k f p place row o (ends_now ending.Intensity idle.0) (λ other. x.1 other (idle_apart b f o idle)));
       ends = λ e o other idle runs x. (s.ends e o other idle runs x.0, terminate-quiet k f e o (ends_now e idle.0) (λ not_ticked. x.1 not_ticked (idle_apart b f o idle)));
       ticks = λ o is x. (s.ticks o is x.0, λ other _. absurd (other is));
-      opens = λ own o link over x. (s.opens own o link over x.0, open-quiet k f own o (λ other. x.1 other (follows_apart f o None refl (no_after o.state.follows (x.0.0.3 over)))));
+      opens = λ own o is link over x. (s.opens own o is link over x.0, open-quiet k f own o (λ other. x.1 other (follows_apart f o None refl (no_after o.state.follows (x.0.0.3 over)))));
       adds = λ c id spec o idle runs named x. (s.adds c id spec o idle runs named x.0, λ other _. x.1 other (idle_apart b f o idle));
       starts_again = λ c id place row o idle runs at h is x. (s.starts_again c id place row o idle runs at h is x.0, λ other _. x.1 other (idle_apart b f o idle));
       removed = λ place row o idle runs at h x. (s.removed place row o idle runs at h x.0, x.1);

@@ -9,7 +9,8 @@ use Rattle.otp_rules.specs.declared.event.Kind.{Kind}
 use Rattle.otp_rules.specs.declared.work.After.{After}
 use Rattle.otp_rules.specs.declared.work.After.TheVariants as after
 use Rattle.otp_rules.specs.State.{Outcome, State, answer, is_busy, with_stamps}
-use Rattle.otp_rules.specs.Stops.{refuse_all, end_all, follow}
+use Rattle.otp_rules.specs.Ends.{refuse_all, end_all}
+use Rattle.otp_rules.specs.Work.{follow}
 use Rattle.otp_rules.specs.Step.{open_with, open_rows, tick, decide, stamped, step}
 use Rattle.otp_rules.specs.declared.event.Effect.{Effect}
 use Rattle.otp_rules.proofs.Decisions.{decide-survives}
@@ -51,8 +52,8 @@ opened-keeps old own o h = (h.0, h.1, h.2, λ _. All-nil (λ t. t ≤ o.state.la
 counted-keeps : (old o : Outcome) → Keeps o old → Keeps (with_stamps (o.state.stamps ++ o.state.last ∷ []) o) old
 counted-keeps old o h = (h.0, h.1, h.2, λ x. All-push (λ t. t ≤ o.state.last) o.state.stamps o.state.last (h.3 x) (omega arith))
 
-steady : (old : Outcome) (b : Bool) → Steady b (λ o. Keeps o old)
-steady old b =
+steady : (old : Outcome) (k : Kind) (b : Bool) → Steady k b (λ o. Keeps o old)
+steady old k b =
     record {
       goes = record { rows = λ rows o h. h; waiting = λ items o h. h; left = λ ps ds o h. h; told = λ id p s o h. h; started = λ id n o h. h; followed = λ f o is h. followed-keeps old f o h };
       answered = answered-keeps old;
@@ -62,12 +63,12 @@ steady old b =
       exceeds = λ ps o idle runs many h. counted-keeps old o h;
       restarts = λ ps ds o idle runs few h. counted-keeps old o h;
       ticks = ticks-keeps old;
-      opened = opened-keeps old;
+      opened = λ own o is h. opened-keeps old own o h;
     }
 
 -- what a decision and a step keep of the state that has the event's stamp
 pub decide-keeps : (k : Kind) (o : Outcome) → Keeps (decide k o) o
-decide-keeps k o = decide-survives k (λ x. Keeps x o) o (steady-survives k (is_busy o) (λ x. Keeps x o) (steady o (is_busy o))) (refl, refl, refl, λ h. h)
+decide-keeps k o = decide-survives k (λ x. Keeps x o) o (steady-survives k (is_busy o) (λ x. Keeps x o) (steady o k (is_busy o))) (refl, refl, refl, λ h. h)
 
 step-keeps : (s : State) (e : Event) → Keeps (step s e) (record { state = stamped e.reading s; orders = [] })
 step-keeps s e =

@@ -27,4 +27,5 @@ pub mod Restarted
 pub mod Runs
 pub mod Few
 pub mod Waits
+mod Ended
 pub mod NamedRows

@@ -29,11 +29,13 @@ use Rattle.otp_rules.specs.declared.work.After.TheVariants as after
 use Rattle.otp_rules.specs.State.{Outcome, State, answer, is_busy, is_simple, with_rows, with_stamps, with_waiting, with_work}
 use Rattle.otp_rules.specs.Places.{at_row, end_row, end_process, set_row, is_removed}
 use Rattle.otp_rules.specs.Restarts.{affected_from, affected_to, running}
-use Rattle.otp_rules.specs.Stops.{calm_all, is_exit, without, tell_row, tell, use_exit, is_due, start_row, start, refuse_all, refusal, end_all, follow, start_first, stop_first, advance, stop_each, stop_order, terminate_ordered, terminate_together, terminate}
+use Rattle.otp_rules.specs.Stops.{calm_all, is_exit, without, tell_row, tell, use_exit, stop_each, stop_order, terminate_ordered, terminate_together, terminate}
+use Rattle.otp_rules.specs.Starts.{is_due, start_row, start}
+use Rattle.otp_rules.specs.Work.{follow, start_first, stop_first, advance}
 use Rattle.otp_rules.specs.Deaths.{restart_rows, restart_or_end, restart}
 use Rattle.otp_rules.specs.Step.{open_with, open_rows, tick, decide, stamped, step, step_on, kill_order, late_number}
 use Rattle.otp_rules.specs.Named.{AreAmong, named_by, NamesOneOf, OrdersNumbered, OrdersNumberedFrom}
-use Rattle.otp_rules.specs.Ends.{sup_end_of}
+use Rattle.otp_rules.specs.Ends.{sup_end_of, refuse_all, refusal, end_all}
 use Rattle.otp_rules.specs.Progress.{decided}
 use Rattle.otp_rules.specs.Fit.{rows_in}
 use Rattle.otp_rules.specs.Needs.{is_start, needs_number, numbers_of, IsNumbered}
@@ -198,7 +200,7 @@ held-survives n old k b =
       restarts = λ p place row o idle runs at is h. restart-held n p place row old o at h;
       ends = λ e o other idle runs h. terminate-held n e old o h;
       ticks = λ o is h. tick-held n old o (s.ticks o is h.0) h;
-      opens = λ own o link over h. (s.opens own o link over h.0, open-orders P own o h.1);
+      opens = λ own o is link over h. (s.opens own o is link over h.0, open-orders P own o h.1);
       adds = λ c id spec o idle runs named h. (s.adds c id spec o idle runs named h.0, h.1);
       starts_again = λ c id place row o idle runs at has is h. h;
       removed = λ place row o idle runs at down h. (s.removed place row o idle runs at down h.0, h.1);

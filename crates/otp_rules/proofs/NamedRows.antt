@@ -27,7 +27,9 @@ use Rattle.otp_rules.specs.declared.work.Due.{Due}
 use Rattle.otp_rules.specs.State.{Outcome, State, answer, closed, emit, is_busy, is_simple, put_last, with_rows, with_stamps, with_waiting, with_work}
 use Rattle.otp_rules.specs.Places.{end_process, end_row, set_row}
 use Rattle.otp_rules.specs.Restarts.{affected_from, affected_to, running}
-use Rattle.otp_rules.specs.Stops.{advance, calm_all, follow, is_due, is_exit, start, start_first, start_row, stop_each, stop_first, stop_order, tell, tell_row, terminate, terminate_ordered, terminate_together, told, use_exit, without}
+use Rattle.otp_rules.specs.Stops.{calm_all, is_exit, stop_each, stop_order, tell, tell_row, terminate, terminate_ordered, terminate_together, told, use_exit, without}
+use Rattle.otp_rules.specs.Work.{advance, follow, start_first, stop_first}
+use Rattle.otp_rules.specs.Starts.{is_due, start, start_row}
 use Rattle.otp_rules.specs.Deaths.{restart, restart_or_end, restart_rows}
 use Rattle.otp_rules.specs.Calls.{new_row}
 use Rattle.otp_rules.specs.Step.{decide, kill_order, late_number, open_rows, stamped, step, step_on, tick}

@@ -27,7 +27,10 @@ use Rattle.otp_rules.specs.declared.work.After.TheVariants as after
 use Rattle.otp_rules.specs.State.{Outcome, answer, closed, is_busy, is_simple, with_rows, with_waiting, with_work}
 use Rattle.otp_rules.specs.Places.{at_row, end_row, end_process, is_removed, set_row}
 use Rattle.otp_rules.specs.Restarts.{affected_from, affected_to, running}
-use Rattle.otp_rules.specs.Stops.{calm_all, is_exit, refusal, stop_order, without, tell_row, tell, use_exit, is_due, start_row, start, refuse_all, end_all, follow, start_first, stop_first, advance, stop_each, terminate_ordered, terminate_together, terminate}
+use Rattle.otp_rules.specs.Stops.{calm_all, is_exit, stop_order, without, tell_row, tell, use_exit, stop_each, terminate_ordered, terminate_together, terminate}
+use Rattle.otp_rules.specs.Ends.{refusal, refuse_all, end_all}
+use Rattle.otp_rules.specs.Starts.{is_due, start_row, start}
+use Rattle.otp_rules.specs.Work.{follow, start_first, stop_first, advance}
 use Rattle.otp_rules.specs.Deaths.{restart_rows, restart_or_end, restart}
 use Rattle.otp_rules.specs.Step.{kill_order, late_number, open_with, open_rows, tick, decide, stamped, step_on, step}
 use Rattle.otp_rules.specs.Needs.{NumberStartsWork, ends_wait, has_due, is_start, needs_number, work_starts}
@@ -215,7 +218,7 @@ decide-quiet k b =
       restarts = λ p place row o idle runs at is h. restart-quiet p place row o h;
       ends = λ e o other idle runs h. terminate-quiet e o h;
       ticks = λ o is h. starts_after o.orders _ false h (quiet_kills o.state.last o.state.rows);
-      opens = λ own o busy over h. h;
+      opens = λ own o is busy over h. h;
       adds = λ c id spec o idle runs named h. h;
       starts_again = λ c id place row o idle runs at is undefined h. h;
       removed = λ place row o idle runs at is h. h;

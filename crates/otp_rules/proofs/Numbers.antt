@@ -24,7 +24,10 @@ use Rattle.otp_rules.specs.declared.work.After.{After}
 use Rattle.otp_rules.specs.State.{Outcome, State, answer, is_busy, is_simple, with_rows, with_stamps, with_waiting, with_work}
 use Rattle.otp_rules.specs.Places.{at_row, end_row, end_process, set_row}
 use Rattle.otp_rules.specs.Restarts.{affected_from, affected_to, dues, running}
-use Rattle.otp_rules.specs.Stops.{calm_all, is_exit, without, told, tell_row, tell, use_exit, is_due, start_row, start, refuse_all, end_all, follow, start_first, stop_first, advance, stop_each, terminate_ordered, terminate_together, terminate}
+use Rattle.otp_rules.specs.Stops.{calm_all, is_exit, without, told, tell_row, tell, use_exit, stop_each, terminate_ordered, terminate_together, terminate}
+use Rattle.otp_rules.specs.Starts.{is_due, start_row, start}
+use Rattle.otp_rules.specs.Ends.{refuse_all, end_all}
+use Rattle.otp_rules.specs.Work.{follow, start_first, stop_first, advance}
 use Rattle.otp_rules.specs.Deaths.{restart_rows, restart_or_end, restart}
 use Rattle.otp_rules.specs.Calls.{new_row}
 use Rattle.otp_rules.specs.Step.{rows_from, open_with, open_rows, opening_specs, tick, decide, stamped, step, step_on}
@@ -188,7 +191,7 @@ no_more-survives old k b =
       restarts = λ p place row o idle runs at is h. restart-no_more p place row old o at h;
       ends = λ e o other idle runs h. terminate-no_more e old o h;
       ticks = λ o is h q. let e : holders q (tick o) ≡ holders q o = tick_count (has_process q) (λ p d. refl) o in omega (arith, e, h q);
-      opens = λ own o link over h. open-no_more own old o;
+      opens = λ own o is link over h. open-no_more own old o;
       adds = λ c id spec o idle runs named h q. omega (arith, h q, rows_in-append (has_process q) o.state.rows (new_row (free_slot o.state.rows) id spec ∷ []), rows_in-cons (has_process q) (new_row (free_slot o.state.rows) id spec) []);
       starts_again = λ c id place row o idle runs at has is h. h;
       removed = λ place row o idle runs at down h. remove-no_more place row old o at h;

@@ -506,8 +506,8 @@ fresh-survives k b f is_base =
       ends = λ e o other idle runs x.
           opens-fresh k b f o (terminate e o) is_base idle.0 (ap (λ (y : Option After). is_some y) (terminate-follows e o)) (s.ends e o other idle runs x.0) (ended-listed e o (awaits_nothing b o idle x.0));
       ticks = λ o is x. (s.ticks o is x.0, subst (λ (y : Option After). (y ≡ f) ⊎ ((y ≡ None) ⊎ (is_opened f y ≡ true))) (sym (tick-follows o)) x.1, λ other. absurd (other is));
-      opens = λ own o link over x.
-          opens-fresh k b f o (open_rows own o) is_base (sym link ∙ x.0.3 over) (open_rows-busy own o) (s.opens own o link over x.0) (λ _. opened-listed own o);
+      opens = λ own o is link over x.
+          opens-fresh k b f o (open_rows own o) is_base (sym link ∙ x.0.3 over) (open_rows-busy own o) (s.opens own o is link over x.0) (λ _. opened-listed own o);
       adds = λ c id spec o idle runs named x.
           opens-fresh k b f o (with_work [] (record { id = id; kept = None } ∷ []) (Some (after.Added c)) (with_rows (o.state.rows ++ new_row (free_slot o.state.rows) id spec ∷ []) o)) is_base idle.0 refl (s.adds c id spec o idle runs named x.0)
           (λ _. added-listed c id spec o (awaits_nothing b o idle x.0));

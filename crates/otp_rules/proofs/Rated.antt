@@ -7,10 +7,12 @@ use Rattle.otp_spec.specs.declared.flags.SupFlags.{SupFlags}
 use Rattle.otp_rules.specs.declared.call.Reply.{Reply}
 use Rattle.otp_rules.specs.declared.ending.Ending.{Ending}
 use Rattle.otp_rules.specs.declared.event.Event.{Event}
+use Rattle.otp_rules.specs.declared.event.Kind.{Kind}
 use Rattle.otp_rules.specs.declared.work.After.{After}
 use Rattle.otp_rules.specs.declared.work.Phase.TheVariants.{Ended}
 use Rattle.otp_rules.specs.State.{Outcome, State, answer, is_over, own_number}
-use Rattle.otp_rules.specs.Stops.{refuse_all, end_all, follow}
+use Rattle.otp_rules.specs.Ends.{refuse_all, end_all}
+use Rattle.otp_rules.specs.Work.{follow}
 use Rattle.otp_rules.specs.Step.{open_with, open_rows, tick, step}
 use Rattle.otp_rules.specs.Run.{state_after}
 use Rattle.otp_rules.specs.Frames.{IsStamped}
@@ -81,8 +83,8 @@ opened-good own o g = (All-nil (λ t. t ≤ o.state.last), inl (λ t. omega arit
 counted : (o : Outcome) → IsStamped o.state → All (λ t. t ≤ o.state.last) (o.state.stamps ++ o.state.last ∷ [])
 counted o h = All-push (λ t. t ≤ o.state.last) o.state.stamps o.state.last h (omega arith)
 
-steady : (b : Bool) → Steady b Good
-steady b =
+steady : (k : Kind) (b : Bool) → Steady k b Good
+steady k b =
     record {
       goes = record { rows = λ rows o g. g; waiting = λ items o g. g; left = λ ps ds o g. g; told = λ id p s o g. g; started = λ id n o g. g; followed = followed-good };
       answered = answered-good;
@@ -98,7 +100,7 @@ steady b =
         inl (IsBounded-push o.state.flags o.state.stamps o.state.last g.0 (bounded o.state (idle_not_ending b o idle runs) g.1) (ltb-false _ _ few)),
       );
       ticks = ticks-good;
-      opened = opened-good;
+      opened = λ own o is x. opened-good own o x;
     }
 
 pub run-good : (s : State) (es : List Event) → IsStamped s → IsRated s → IsRated (state_after s es)

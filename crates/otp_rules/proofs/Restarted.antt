@@ -21,7 +21,9 @@ use Rattle.otp_rules.specs.declared.work.After.TheVariants as after
 use Rattle.otp_rules.specs.State.{Outcome, State, answer, closed, is_simple, put_last, with_rows, with_stamps, with_waiting, with_work}
 use Rattle.otp_rules.specs.Places.{end_row, set_row}
 use Rattle.otp_rules.specs.Restarts.{affected_from, affected_to}
-use Rattle.otp_rules.specs.Stops.{refuse_all, end_all, follow, terminate}
+use Rattle.otp_rules.specs.Stops.{terminate}
+use Rattle.otp_rules.specs.Ends.{refuse_all, end_all}
+use Rattle.otp_rules.specs.Work.{follow}
 use Rattle.otp_rules.specs.Deaths.{restart_rows, restart_or_end, restart}
 use Rattle.otp_rules.specs.Calls.{new_row}
 use Rattle.otp_rules.specs.Step.{open_with, open_rows, opening_specs, tick, decide, stamped, step, step_on}
@@ -211,7 +213,7 @@ counted-survives k b f times is_base =
       ends = λ e o other idle runs x.
           ended-counted f times e o (opens_none f b (Some (after.End e)) is_base idle.0 refl) (s.ends e o other idle runs x.0) (rests b f times o idle x ∙ sym (other_end e o.state.last times other));
       ticks = λ o is x. tick-counted f times o (s.ticks o is x.0) (tick_count is_awaited (λ p d. refl) o) x;
-      opens = λ own o link over x. open-counted b f times own o is_base (sym link ∙ x.0.3 over) (s.opens own o link over x.0);
+      opens = λ own o is link over x. open-counted b f times own o is_base (sym link ∙ x.0.3 over) (s.opens own o is link over x.0);
       adds = λ c id spec o idle runs named x.
           opens-counted b f times (with_work [] (record { id = id; kept = None } ∷ []) (Some (after.Added c)) (with_rows (o.state.rows ++ new_row (free_slot o.state.rows) id spec ∷ []) o)) is_base idle.0 refl (s.adds c id spec o idle runs named x.0)
           (λ _. omega (arith, awaits_nothing b o idle x.0, rows_in-append is_awaited o.state.rows (new_row (free_slot o.state.rows) id spec ∷ []), rows_in-cons is_awaited (new_row (free_slot o.state.rows) id spec) [])) (rests b f times o idle x);

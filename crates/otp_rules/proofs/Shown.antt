@@ -18,13 +18,15 @@ use Rattle.otp_rules.specs.declared.call.Reply.{Reply}
 use Rattle.otp_rules.specs.declared.ending.Ending.{Ending}
 use Rattle.otp_rules.specs.declared.event.Effect.TheVariants as effect
 use Rattle.otp_rules.specs.declared.event.Event.{Event}
+use Rattle.otp_rules.specs.declared.event.Kind.{Kind}
 use Rattle.otp_rules.specs.declared.event.Item.TheVariants as item
 use Rattle.otp_rules.specs.declared.event.Waiting.{Waiting}
 use Rattle.otp_rules.specs.declared.work.After.{After}
 use Rattle.otp_rules.specs.State.{Outcome, State, answer, closed}
-use Rattle.otp_rules.specs.Ends.{last_stamps, sup_end_of}
+use Rattle.otp_rules.specs.Ends.{last_stamps, sup_end_of, refusal, refuse_all, end_all}
 use Rattle.otp_rules.specs.Evidence.{EndEvidence, EndEvidenceFromEmpty, IsShowing, IsEvidence, IsEvident, IsTooMany}
-use Rattle.otp_rules.specs.Stops.{stop_order, refusal, refuse_all, end_all, follow}
+use Rattle.otp_rules.specs.Stops.{stop_order}
+use Rattle.otp_rules.specs.Work.{follow}
 use Rattle.otp_rules.specs.Step.{open_with, open_rows, kill_order, late_number, tick, step}
 use Rattle.otp_rules.specs.Run.{empty_state}
 use Rattle.otp_rules.specs.Progress.{is_end}
@@ -133,8 +135,8 @@ rising o g = rising_push o.state.stamps o.state.last g.0 g.1
 below : (o : Outcome) → IsShowing o.state → All (λ t. t ≤ o.state.last) (o.state.stamps ++ o.state.last ∷ [])
 below o g = All-push (λ t. t ≤ o.state.last) o.state.stamps o.state.last g.1 (omega arith)
 
-steady : (b : Bool) → Steady b Evident
-steady b =
+steady : (k : Kind) (b : Bool) → Steady k b Evident
+steady k b =
     record {
       goes = record {
         rows = λ rows o g. g;
@@ -154,7 +156,7 @@ steady b =
       );
       restarts = λ ps ds o idle runs few g. ((rising o g.0, below o g.0, λ h. absurd (other_follows after.Nothing (λ k. cc) h)), g.1);
       ticks = ticks-evident;
-      opened = opened-evident;
+      opened = λ own o is x. opened-evident own o x;
     }
 
 step-evident : (s : State) (e : Event) → IsShowing s → Evident (step s e)

@@ -1,5 +1,5 @@
 -- What the open work awaits, and that what it is to stop is there.
-use Rattle.std.specs.Prelude.{◌≡◌, ◌⊎◌, ℕ, ◌==◌, ◌+◌, ◌-◌, ◌≤◌, ◌++◌, ◌&&◌, Bool, true, false, List, [], ◌∷◌, Option, None, Some, refl, if◌then◌else◌, position, is_some, slice_set, slice_range, nat_lt, length, remove, unwrap_or, map, reverse, take, drop}
+use Rattle.std.specs.Prelude.{◌≡◌, ◌⊎◌, ℕ, ◌==◌, ◌+◌, ◌-◌, ◌≤◌, ◌++◌, ◌&&◌, Bool, true, false, List, [], ◌∷◌, Option, None, Some, refl, if◌then◌else◌, position, is_some, slice_set, slice_range, nat_lt, length, remove, unwrap_or, reverse, take, drop}
 use Rattle.std.specs.List.{list_any}
 use Rattle.std.proofs.Common.{◌∙◌, ap, sym, subst, inl, inr, arith, cond}
 use Rattle.std.proofs.lemmas.Bool.{cond_both, false≢true, and_parts}
@@ -18,7 +18,10 @@ use Rattle.otp_rules.specs.declared.work.After.{After}
 use Rattle.otp_rules.specs.State.{Outcome, State, answer, closed, is_busy, is_over, is_simple, with_rows, with_stamps, with_waiting, with_work}
 use Rattle.otp_rules.specs.Places.{end_row, end_process, set_row}
 use Rattle.otp_rules.specs.Restarts.{affected_from, affected_to, dues, running}
-use Rattle.otp_rules.specs.Stops.{calm_all, is_exit, without, told, tell_row, tell, use_exit, is_due, start_row, start, refuse_all, end_all, follow, start_first, stop_first, advance, stop_each, terminate_ordered, terminate_together, terminate}
+use Rattle.otp_rules.specs.Stops.{calm_all, is_exit, without, told, tell_row, tell, use_exit, stop_each, terminate_ordered, terminate_together, terminate}
+use Rattle.otp_rules.specs.Starts.{is_due, start_row, start}
+use Rattle.otp_rules.specs.Ends.{refuse_all, end_all}
+use Rattle.otp_rules.specs.Work.{follow, start_first, stop_first, advance}
 use Rattle.otp_rules.specs.Deaths.{restart_rows, restart_or_end, restart}
 use Rattle.otp_rules.specs.Calls.{new_row}
 use Rattle.otp_rules.specs.Step.{rows_from, open_with, open_rows, opening_specs, tick}
@@ -261,7 +264,7 @@ sound-survives k b =
       restarts = λ p place row o idle runs at h g. restart-sound b p place row o idle runs at g;
       ends = λ e o other idle runs g. terminate-sound e o runs;
       ticks = λ o is g. tick-sound o g;
-      opens = λ own o link over g. open-sound own o;
+      opens = λ own o is link over g. open-sound own o;
       adds = λ c id spec o idle runs named g.
           opened-sound b [] (record { id = id; kept = None } ∷ []) (after.Added c) (o.state.rows ++ new_row (free_slot o.state.rows) id spec ∷ []) o idle runs refl
           (omega (arith, rows_in-append is_awaited o.state.rows (new_row (free_slot o.state.rows) id spec ∷ []), rows_in-cons is_awaited (new_row (free_slot o.state.rows) id spec) []))

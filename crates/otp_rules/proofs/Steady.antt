@@ -16,6 +16,7 @@ use Rattle.otp_rules.specs.declared.ending.Ending.TheVariants as ending
 use Rattle.otp_rules.specs.declared.event.Effect.TheVariants as effect
 use Rattle.otp_rules.specs.declared.event.Event.{Event}
 use Rattle.otp_rules.specs.declared.event.Kind.{Kind}
+use Rattle.otp_rules.specs.declared.event.Kind.TheVariants as kind
 use Rattle.otp_rules.specs.declared.event.Waiting.{Waiting}
 use Rattle.otp_rules.specs.declared.work.After.{After}
 use Rattle.otp_rules.specs.declared.work.After.TheVariants as after
@@ -23,7 +24,9 @@ use Rattle.otp_rules.specs.declared.work.Due.{Due}
 use Rattle.otp_rules.specs.State.{Outcome, State, answer, closed, emit, is_busy, is_simple, with_rows, with_stamps, with_waiting, with_work}
 use Rattle.otp_rules.specs.Places.{end_row, end_process, is_removed, set_row}
 use Rattle.otp_rules.specs.Restarts.{running}
-use Rattle.otp_rules.specs.Stops.{calm_all, is_due, is_exit, stop_order, without, tell_row, tell, use_exit, start_row, start, follow, start_first, stop_first, advance, stop_each, terminate_ordered, terminate_together, terminate}
+use Rattle.otp_rules.specs.Stops.{calm_all, is_exit, stop_order, without, tell_row, tell, use_exit, stop_each, terminate_ordered, terminate_together, terminate}
+use Rattle.otp_rules.specs.Starts.{is_due, start_row, start}
+use Rattle.otp_rules.specs.Work.{follow, start_first, stop_first, advance}
 use Rattle.otp_rules.specs.Deaths.{restart_rows, restart_or_end, restart}
 use Rattle.otp_rules.specs.Step.{open_rows, tick, decide, stamped, step_on, step}
 use Rattle.otp_rules.specs.Progress.{is_end}
@@ -38,8 +41,8 @@ pub record Goes (P : Outcome → Type 0) : Type 0 where
   pub started : (id : Option Name) (n : ℕ) (o : Outcome) → P o → P (emit (effect.Start id n) o)
   pub followed : (f : Option After) (o : Outcome) → o.state.follows ≡ f → P o → P (follow f o)
 
--- and so does each kind of change that a decision makes; b: work was open when the event came
-pub record Steady (b : Bool) (P : Outcome → Type 0) : Type 0 where
+-- and so does each kind of change that a decision makes; k: the kind of the event, b: work was open when it came
+pub record Steady (k : Kind) (b : Bool) (P : Outcome → Type 0) : Type 0 where
   pub goes : Goes P
   pub answered : (c : ℕ) (r : Reply) (o : Outcome) → P o → P (answer c r o)
   -- work closes, opens, and ends the supervisor
@@ -51,7 +54,7 @@ pub record Steady (b : Bool) (P : Outcome → Type 0) : Type 0 where
   pub restarts : (ps : List ℕ) (ds : List Due) (o : Outcome) → IsIdle b o → IsRunning o → nat_lt o.state.flags.intensity (in_period o.state.flags.period (o.state.stamps ++ o.state.last ∷ []) o.state.last) ≡ false → P o → P (with_work ps ds (Some after.Nothing) (with_stamps (o.state.stamps ++ o.state.last ∷ []) o))
   -- a tick, an opening
   pub ticks : (o : Outcome) → P o → P (tick o)
-  pub opened : (own : ℕ) (o : Outcome) → P o → P (open_rows own o)
+  pub opened : (own : ℕ) (o : Outcome) → k ≡ kind.Opened own → P o → P (open_rows own o)
 
 end_row-goes : (P : Outcome → Type 0) → Goes P → (place : ℕ) (row : Row) (o : Outcome) → P o → P (end_row place row o)
 unfolding end_row
@@ -113,16 +116,16 @@ terminate-goes P t e o x =
     (λ _. t.rows (calm_rows o.state.rows) (with_work (reverse (running o.state.rows)) [] (Some (after.End e)) o) (x (reverse (running o.state.rows))))
 
 -- a restart
-restart-steady : (b : Bool) (P : Outcome → Type 0) → Steady b P → (k place : ℕ) (row : Row) (o : Outcome) → IsIdle b o → IsRunning o → P o → P (restart k place row o)
+restart-steady : (e : Kind) (b : Bool) (P : Outcome → Type 0) → Steady e b P → (k place : ℕ) (row : Row) (o : Outcome) → IsIdle b o → IsRunning o → P o → P (restart k place row o)
 unfolding restart restart_or_end restart_rows
-restart-steady b P t k place row o idle runs x =
+restart-steady e b P t k place row o idle runs x =
     let down : Outcome = set_row place row Undefined o in
     let counted : Outcome = with_stamps (o.state.stamps ++ o.state.last ∷ []) down in
     cond_both (nat_lt o.state.flags.intensity (in_period o.state.flags.period (o.state.stamps ++ o.state.last ∷ []) o.state.last)) _ _ P
     (λ many. terminate-goes P t.goes ending.Intensity counted (λ ps. t.exceeds ps down idle runs many (t.goes.rows _ o x)))
     (λ few. t.goes.rows _ _ (t.restarts _ _ down idle runs few (t.goes.rows _ o x)))
 
-pub steady-survives : (k : Kind) (b : Bool) (P : Outcome → Type 0) → Steady b P → Survives k b P
+pub steady-survives : (k : Kind) (b : Bool) (P : Outcome → Type 0) → Steady k b P → Survives k b P
 steady-survives k b P t =
     record {
       answered = t.answered;
@@ -144,10 +147,10 @@ steady-survives k b P t =
       restarted_failed = λ place row q kept c o at is follows x. t.closes (after.Restarted c) _ follows refl (t.goes.rows _ o x);
       stopped = λ p r place row o at h noted x. end_row-goes P t.goes place row o x;
       died = λ p place row o idle runs at is x. end_row-goes P t.goes place row o x;
-      restarts = λ p place row o idle runs at h x. restart-steady b P t p place row o idle runs x;
+      restarts = λ p place row o idle runs at h x. restart-steady k b P t p place row o idle runs x;
       ends = λ e o other idle runs x. terminate-goes P t.goes e o (λ ps. t.ends ps e o other (inl (idle, runs)) x);
       ticks = λ o is x. t.ticks o x;
-      opens = λ own o link over x. t.opened own o x;
+      opens = λ own o is link over x. t.opened own o is x;
       adds = λ c id spec o idle runs named x. t.opens _ _ (after.Added c) _ idle runs refl (t.goes.rows _ o x);
       starts_again = λ c id place row o idle runs at h is x. t.opens _ _ (after.Restarted c) o idle runs refl x;
       removed = λ place row o idle runs at h x. t.goes.rows _ o x;
@@ -156,9 +159,9 @@ steady-survives k b P t =
     }
 
 -- what holds when the event's stamp is taken holds after the event
-pub step-steady : (P : Outcome → Type 0) → ((b : Bool) → Steady b P) → (s : State) (e : Event) → P (record { state = stamped e.reading s; orders = [] }) → P (step s e)
+pub step-steady : (P : Outcome → Type 0) → ((k : Kind) (b : Bool) → Steady k b P) → (s : State) (e : Event) → P (record { state = stamped e.reading s; orders = [] }) → P (step s e)
 unfolding step step_on
 step-steady P t s e x =
     let before : Outcome = record { state = stamped e.reading s; orders = [] } in
-    advance-goes P (t (is_busy before)).goes (unwrap_or e.number 0) (decide e.kind before)
-    (decide-survives e.kind P before (steady-survives e.kind (is_busy before) P (t (is_busy before))) x)
+    advance-goes P (t e.kind (is_busy before)).goes (unwrap_or e.number 0) (decide e.kind before)
+    (decide-survives e.kind P before (steady-survives e.kind (is_busy before) P (t e.kind (is_busy before))) x)

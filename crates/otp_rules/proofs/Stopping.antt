@@ -205,8 +205,8 @@ carried-survives k b f g is_base =
       ends = λ e o other idle runs x.
           opened-carried f g1 (terminate e o) (opens_none f b (terminate e o).state.follows is_base idle.0 (ap (λ (y : Option After). is_some y) (terminate-follows e o))) (s.ends e o other idle runs x.0);
       ticks = λ o is x. tick-carried f g1 o (s.ticks o is x.0) (λ q. tick_count (is_told q) (λ p d. refl) o) x;
-      opens = λ own o link over x.
-          opened-carried f g1 (open_rows own o) (opens_none f b (open_rows own o).state.follows is_base (sym link ∙ x.0.3 over) (open_rows-busy own o)) (s.opens own o link over x.0);
+      opens = λ own o is link over x.
+          opened-carried f g1 (open_rows own o) (opens_none f b (open_rows own o).state.follows is_base (sym link ∙ x.0.3 over) (open_rows-busy own o)) (s.opens own o is link over x.0);
       adds = λ c id spec o idle runs named x.
           opened-carried f g1 (with_work [] (record { id = id; kept = None } ∷ []) (Some (after.Added c)) (with_rows (o.state.rows ++ new_row (free_slot o.state.rows) id spec ∷ []) o))
           (opens_none f b (Some (after.Added c)) is_base idle.0 refl) (s.adds c id spec o idle runs named x.0);

@@ -27,10 +27,12 @@ use Rattle.otp_rules.specs.declared.event.Effect.TheVariants as effect
 use Rattle.otp_rules.specs.State.{State, answer}
 use Rattle.otp_rules.specs.Run.{empty_state, state_after}
 use Rattle.otp_rules.specs.Places.{at_place, at_found, at_row, at_number, end_row, end_process}
-use Rattle.otp_rules.specs.Stops.{tell_row, tell, use_exit, start_row, start, refuse_all, end_all, follow, start_first, stop_first, advance, stop_each, terminate_ordered, terminate_together, terminate}
-use Rattle.otp_rules.specs.Deaths.{restart_rows, restart_or_end, restart, after_end, death, exit_in, exit_at, take_exit, retry_in, retry_at, retry}
-use Rattle.otp_rules.specs.Starts.{up_after, up_in, up_at, take_up, ignored_in, ignored_at, take_ignored, failed_after, failed_in, failed_at, take_failed}
-use Rattle.otp_rules.specs.Calls.{add_child, already_at, start_lawful, start_checked, start_child, start_shared, start_dynamic, restart_child_in, restart_child_at, at_child, delete_child_in, delete_child_at, stop_process, terminate_child_in, terminate_child_at, terminate_process_in, terminate_process_at, terminate_process, get_shared, get_childspec, take_call}
+use Rattle.otp_rules.specs.Stops.{tell_row, tell, use_exit, stop_each, terminate_ordered, terminate_together, terminate}
+use Rattle.otp_rules.specs.Ends.{refuse_all, end_all}
+use Rattle.otp_rules.specs.Work.{follow, start_first, stop_first, advance}
+use Rattle.otp_rules.specs.Deaths.{restart_rows, restart_or_end, restart, after_end, death, exit_in, take_exit, retry}
+use Rattle.otp_rules.specs.Starts.{up_after, at_starting, take_up, take_ignored, failed_after, take_failed, start_row, start}
+use Rattle.otp_rules.specs.Calls.{add_child, call_at, start_lawful, start_checked, start_child, start_shared, start_dynamic, call_child, stop_process, terminate_process, get_shared, get_childspec, take_call}
 use Rattle.otp_rules.specs.Step.{take_note, ask, take_item, take_waiting, resume, open_with, open_rows, tick, decide, step_on, step}
 use Rattle.std.proofs.Common.{arith}
 use Prim.Native.Nat.{zero, suc}
@@ -79,7 +81,7 @@ restarted_twice =
 
 -- the exception to the restart rate: of intensity 1, two restarts within the period, and the supervisor ended by it
 one_restart_too_many : (restarted_twice.stamps ≡ 1000 ∷ 6000 ∷ []) × (in_period 5 restarted_twice.stamps 6000 ≡ 2) × (restarted_twice.phase ≡ Ended 0 ending.Intensity)
-unfolding answer at_place at_found at_row at_number end_row end_process tell_row tell use_exit start_row start refuse_all end_all follow start_first stop_first advance stop_each terminate_ordered terminate_together terminate restart_rows restart_or_end restart after_end death exit_in exit_at take_exit retry_in retry_at retry up_after up_in up_at take_up ignored_in ignored_at take_ignored failed_after failed_in failed_at take_failed add_child already_at start_lawful start_checked start_child start_shared start_dynamic restart_child_in restart_child_at at_child delete_child_in delete_child_at stop_process terminate_child_in terminate_child_at terminate_process_in terminate_process_at terminate_process get_shared get_childspec take_call take_note ask take_item take_waiting resume open_with open_rows tick decide step_on step first_fault
+unfolding answer at_place at_found at_row at_number end_row end_process tell_row tell use_exit start_row start refuse_all end_all follow start_first stop_first advance stop_each terminate_ordered terminate_together terminate restart_rows restart_or_end restart after_end death exit_in take_exit retry up_after at_starting take_up take_ignored failed_after take_failed add_child call_at start_lawful start_checked start_child start_shared start_dynamic call_child stop_process terminate_process get_shared get_childspec take_call take_note ask take_item take_waiting resume open_with open_rows tick decide step_on step first_fault
 one_restart_too_many = (refl, refl, refl)
 
 -- the specifications of two children that are restarted together, and how they were opened; then the first ends
@@ -94,26 +96,26 @@ two = empty_state (flags OneForAll 1 Never) pair
 
 -- the other is the one with a process when the restart's work is opened, and is told to stop
 stops_in_turn : (processes (progress_at two (no_progress two) opened (at 0 (exit 1 error))).opened.rows ≡ 2 ∷ []) × ((progress_at two (no_progress two) opened (at 0 (exit 1 error))).ended ≡ [])
-unfolding answer at_place at_found at_row at_number end_row end_process tell_row tell use_exit start_row start refuse_all end_all follow start_first stop_first advance stop_each terminate_ordered terminate_together terminate restart_rows restart_or_end restart after_end death exit_in exit_at take_exit retry_in retry_at retry up_after up_in up_at take_up ignored_in ignored_at take_ignored failed_after failed_in failed_at take_failed add_child already_at start_lawful start_checked start_child start_shared start_dynamic restart_child_in restart_child_at at_child delete_child_in delete_child_at stop_process terminate_child_in terminate_child_at terminate_process_in terminate_process_at terminate_process get_shared get_childspec take_call take_note ask take_item take_waiting resume open_with open_rows tick decide step_on step first_fault
+unfolding answer at_place at_found at_row at_number end_row end_process tell_row tell use_exit start_row start refuse_all end_all follow start_first stop_first advance stop_each terminate_ordered terminate_together terminate restart_rows restart_or_end restart after_end death exit_in take_exit retry up_after at_starting take_up take_ignored failed_after take_failed add_child call_at start_lawful start_checked start_child start_shared start_dynamic call_child stop_process terminate_process get_shared get_childspec take_call take_note ask take_item take_waiting resume open_with open_rows tick decide step_on step first_fault
 stops_in_turn = (refl, refl)
 
 its_order : (step (state_after two opened) (at 0 (exit 1 error))).orders ≡ effect.Ask b 2 ∷ []
-unfolding answer at_place at_found at_row at_number end_row end_process tell_row tell use_exit start_row start refuse_all end_all follow start_first stop_first advance stop_each terminate_ordered terminate_together terminate restart_rows restart_or_end restart after_end death exit_in exit_at take_exit retry_in retry_at retry up_after up_in up_at take_up ignored_in ignored_at take_ignored failed_after failed_in failed_at take_failed add_child already_at start_lawful start_checked start_child start_shared start_dynamic restart_child_in restart_child_at at_child delete_child_in delete_child_at stop_process terminate_child_in terminate_child_at terminate_process_in terminate_process_at terminate_process get_shared get_childspec take_call take_note ask take_item take_waiting resume open_with open_rows tick decide step_on step first_fault
+unfolding answer at_place at_found at_row at_number end_row end_process tell_row tell use_exit start_row start refuse_all end_all follow start_first stop_first advance stop_each terminate_ordered terminate_together terminate restart_rows restart_or_end restart after_end death exit_in take_exit retry up_after at_starting take_up take_ignored failed_after take_failed add_child call_at start_lawful start_checked start_child start_shared start_dynamic call_child stop_process terminate_process get_shared get_childspec take_call take_note ask take_item take_waiting resume open_with open_rows tick decide step_on step first_fault
 its_order = refl
 
 -- when it has ended, the first is started; when that has answered, the second
 starts_in_turn : ((progress_at two (no_progress two) (opened ++ at 0 (exit 1 error) ∷ with 3 0 (exit 2 reason.Shutdown) ∷ []) (with 4 0 (up 3))).ended ≡ 2 ∷ [])
     × ((progress_at two (no_progress two) (opened ++ at 0 (exit 1 error) ∷ with 3 0 (exit 2 reason.Shutdown) ∷ []) (with 4 0 (up 3))).ordered ≡ record { id = a; number = 3; answered = true } ∷ [])
-unfolding answer at_place at_found at_row at_number end_row end_process tell_row tell use_exit start_row start refuse_all end_all follow start_first stop_first advance stop_each terminate_ordered terminate_together terminate restart_rows restart_or_end restart after_end death exit_in exit_at take_exit retry_in retry_at retry up_after up_in up_at take_up ignored_in ignored_at take_ignored failed_after failed_in failed_at take_failed add_child already_at start_lawful start_checked start_child start_shared start_dynamic restart_child_in restart_child_at at_child delete_child_in delete_child_at stop_process terminate_child_in terminate_child_at terminate_process_in terminate_process_at terminate_process get_shared get_childspec take_call take_note ask take_item take_waiting resume open_with open_rows tick decide step_on step first_fault
+unfolding answer at_place at_found at_row at_number end_row end_process tell_row tell use_exit start_row start refuse_all end_all follow start_first stop_first advance stop_each terminate_ordered terminate_together terminate restart_rows restart_or_end restart after_end death exit_in take_exit retry up_after at_starting take_up take_ignored failed_after take_failed add_child call_at start_lawful start_checked start_child start_shared start_dynamic call_child stop_process terminate_process get_shared get_childspec take_call take_note ask take_item take_waiting resume open_with open_rows tick decide step_on step first_fault
 starts_in_turn = (refl, refl)
 
 its_start : (step (state_after two (opened ++ at 0 (exit 1 error) ∷ with 3 0 (exit 2 reason.Shutdown) ∷ [])) (with 4 0 (up 3))).orders ≡ effect.Start b 4 ∷ []
-unfolding answer at_place at_found at_row at_number end_row end_process tell_row tell use_exit start_row start refuse_all end_all follow start_first stop_first advance stop_each terminate_ordered terminate_together terminate restart_rows restart_or_end restart after_end death exit_in exit_at take_exit retry_in retry_at retry up_after up_in up_at take_up ignored_in ignored_at take_ignored failed_after failed_in failed_at take_failed add_child already_at start_lawful start_checked start_child start_shared start_dynamic restart_child_in restart_child_at at_child delete_child_in delete_child_at stop_process terminate_child_in terminate_child_at terminate_process_in terminate_process_at terminate_process get_shared get_childspec take_call take_note ask take_item take_waiting resume open_with open_rows tick decide step_on step first_fault
+unfolding answer at_place at_found at_row at_number end_row end_process tell_row tell use_exit start_row start refuse_all end_all follow start_first stop_first advance stop_each terminate_ordered terminate_together terminate restart_rows restart_or_end restart after_end death exit_in take_exit retry up_after at_starting take_up take_ignored failed_after take_failed add_child call_at start_lawful start_checked start_child start_shared start_dynamic call_child stop_process terminate_process get_shared get_childspec take_call take_note ask take_item take_waiting resume open_with open_rows tick decide step_on step first_fault
 its_start = refl
 
 -- a child that was asked to shut down is killed when its time has come
 late_kill : (step (state_after two (opened ++ at 0 kind.Stopped ∷ [])) (at 5000 kind.Ticked)).orders ≡ effect.Kill b 2 ∷ []
-unfolding answer at_place at_found at_row at_number end_row end_process tell_row tell use_exit start_row start refuse_all end_all follow start_first stop_first advance stop_each terminate_ordered terminate_together terminate restart_rows restart_or_end restart after_end death exit_in exit_at take_exit retry_in retry_at retry up_after up_in up_at take_up ignored_in ignored_at take_ignored failed_after failed_in failed_at take_failed add_child already_at start_lawful start_checked start_child start_shared start_dynamic restart_child_in restart_child_at at_child delete_child_in delete_child_at stop_process terminate_child_in terminate_child_at terminate_process_in terminate_process_at terminate_process get_shared get_childspec take_call take_note ask take_item take_waiting resume open_with open_rows tick decide step_on step first_fault
+unfolding answer at_place at_found at_row at_number end_row end_process tell_row tell use_exit start_row start refuse_all end_all follow start_first stop_first advance stop_each terminate_ordered terminate_together terminate restart_rows restart_or_end restart after_end death exit_in take_exit retry up_after at_starting take_up take_ignored failed_after take_failed add_child call_at start_lawful start_checked start_child start_shared start_dynamic call_child stop_process terminate_process get_shared get_childspec take_call take_note ask take_item take_waiting resume open_with open_rows tick decide step_on step first_fault
 late_kill = refl
 
 -- a lawful history: numbers stand where children are started, and rise
@@ -124,5 +126,5 @@ rising zero (suc (suc j)) d less within = absurd (omega (arith, within))
 rising (suc i) j d less within = absurd (omega (arith, less, within))
 
 it_is_lawful : IsLawfulHistory two opened
-unfolding answer at_place at_found at_row at_number end_row end_process tell_row tell use_exit start_row start refuse_all end_all follow start_first stop_first advance stop_each terminate_ordered terminate_together terminate restart_rows restart_or_end restart after_end death exit_in exit_at take_exit retry_in retry_at retry up_after up_in up_at take_up ignored_in ignored_at take_ignored failed_after failed_in failed_at take_failed add_child already_at start_lawful start_checked start_child start_shared start_dynamic restart_child_in restart_child_at at_child delete_child_in delete_child_at stop_process terminate_child_in terminate_child_at terminate_process_in terminate_process_at terminate_process get_shared get_childspec take_call take_note ask take_item take_waiting resume open_with open_rows tick decide step_on step first_fault needs_number
+unfolding answer at_place at_found at_row at_number end_row end_process tell_row tell use_exit start_row start refuse_all end_all follow start_first stop_first advance stop_each terminate_ordered terminate_together terminate restart_rows restart_or_end restart after_end death exit_in take_exit retry up_after at_starting take_up take_ignored failed_after take_failed add_child call_at start_lawful start_checked start_child start_shared start_dynamic call_child stop_process terminate_process get_shared get_childspec take_call take_note ask take_item take_waiting resume open_with open_rows tick decide step_on step first_fault needs_number
 it_is_lawful = ((refl, (refl, (refl, tt))), rising)

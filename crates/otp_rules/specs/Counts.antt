@@ -1,5 +1,5 @@
 -- What which_children and count_children say (supervisor, which_children/1 and count_children/1).
-use Rattle.std.specs.Prelude.{ℕ, Bool, true, false, List, Option, Some, None, map, length, count_by, if◌then◌else◌}
+use Rattle.std.specs.Prelude.{Bool, true, false, List, map, length, count_by, if◌then◌else◌}
 use Rattle.otp_spec.specs.declared.child.ChildType.{ChildType}
 use Rattle.otp_spec.specs.declared.child.ChildType.TheVariants.{Worker, Supervisor}
 use Rattle.otp_table.specs.declared.row.Row.{Row}
@@ -29,12 +29,10 @@ which_of rows = map line_of rows
 
 -- the child has a process that was started and hasn't ended (own: OTP asks whether the process is alive)
 abbrev pub is_active : RowState → Bool
-is_active Undefined = false
-is_active (Starting _ _) = false
 is_active (Up _) = true
 is_active (Asked _ _) = true
 is_active (Killed _) = true
-is_active (Restarting _) = false
+is_active _ = false
 
 abbrev pub is_worker : ChildType → Bool
 is_worker Worker = true

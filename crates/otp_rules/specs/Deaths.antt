@@ -1,19 +1,19 @@
 -- A child ends by itself with no work open, or its restart is tried again
 -- (Supervisor Behaviour, Child Specification, restart, and Maximum Restart Intensity).
-use Rattle.std.specs.Prelude.{ℕ, ◌+◌, Bool, List, [], ◌∷◌, ◌++◌, Option, Some, None, reverse, length, take, drop, slice_range, nat_lt, is_some, if◌then◌else◌}
-use Rattle.otp_reason.specs.declared.reason.Reason.{Reason}
-use Rattle.otp_reason.specs.declared.note.Note.TheVariants as note
-use Rattle.otp_table.specs.Rows.{awaits_retry, calm_rows, row_has}
+use Rattle.std.specs.Prelude.{ℕ, ◌++◌, ◌∷◌, Some, [], drop, if◌then◌else◌, length, nat_lt, reverse, slice_range, take}
 use Rattle.otp_table.specs.declared.row.Row.{Row}
 use Rattle.otp_table.specs.declared.row.RowState.{RowState}
-use Rattle.otp_table.specs.declared.row.RowState.TheVariants.{Undefined, Starting, Up, Asked, Killed, Restarting}
+use Rattle.otp_table.specs.declared.row.RowState.TheVariants.{Asked, Killed, Starting, Undefined, Up}
+use Rattle.otp_table.specs.Rows.{awaits_retry, calm_rows, row_has}
+use Rattle.otp_rules.specs.declared.work.After.TheVariants as after
+use Rattle.otp_rules.specs.State.{Outcome, is_busy, put_last, with_rows, with_stamps, with_work}
+use Rattle.otp_rules.specs.Places.{at_number, at_row, end_row, set_row}
+use Rattle.otp_reason.specs.declared.reason.Reason.{Reason}
+use Rattle.otp_reason.specs.declared.note.Note.TheVariants as note
 use Rattle.otp_window.specs.Period.{in_period}
 use Rattle.otp_rules.specs.declared.ending.Ending.TheVariants.{Intensity, Significant}
 use Rattle.otp_rules.specs.declared.event.Item.TheVariants as item
 use Rattle.otp_rules.specs.declared.event.Waiting.TheVariants as waiting
-use Rattle.otp_rules.specs.declared.work.After.TheVariants as after
-use Rattle.otp_rules.specs.State.{Outcome, is_busy, put_last, with_rows, with_stamps, with_work}
-use Rattle.otp_rules.specs.Places.{at_number, at_row, end_row, set_row}
 use Rattle.otp_rules.specs.Restarts.{affected_from, affected_to, ends_by_significance, is_restarted, restart_list, running}
 use Rattle.otp_rules.specs.Stops.{terminate}
 
@@ -52,32 +52,17 @@ death p r place row o =
 -- the end of process p, by the state of its row: one that was told to stop has ended; one that no work awaits
 -- waits while work is open
 unfoldable pub exit_in : ℕ → Reason → ℕ → Row → RowState → Outcome → Outcome
-exit_in p r place row Undefined o = o
 exit_in p r place row (Starting _ _) o = put_last (waiting.Item (item.Note (note.Exit p r))) o
 exit_in p r place row (Up _) o =
     if is_busy o then put_last (waiting.Item (item.Note (note.Exit p r))) o else death p r place row o
 exit_in p r place row (Asked _ _) o = end_row place row o
 exit_in p r place row (Killed _) o = end_row place row o
-exit_in p r place row (Restarting _) o = o
-
-unfoldable pub exit_at : ℕ → Reason → ℕ → Row → Outcome → Outcome
-exit_at p r place row o = exit_in p r place row row.state o
+exit_in p r place row _ o = o
 
 -- the note Exit of process p
 unfoldable pub take_exit : ℕ → Reason → Outcome → Outcome
-take_exit p r o = at_number p (exit_at p r) o
-
-unfoldable pub retry_in : ℕ → ℕ → Row → RowState → Outcome → Outcome
-retry_in k place row Undefined o = o
-retry_in k place row (Starting _ _) o = o
-retry_in k place row (Up _) o = o
-retry_in k place row (Asked _ _) o = o
-retry_in k place row (Killed _) o = o
-retry_in k place row (Restarting _) o = restart k place row o
-
-unfoldable pub retry_at : ℕ → ℕ → Row → Outcome → Outcome
-retry_at k place row o = retry_in k place row row.state o
+take_exit p r o = at_number p (λ place row. exit_in p r place row row.state) o
 
 -- the next try of a restart that failed; nothing where the child no longer waits for it (own)
 unfoldable pub retry : ℕ → Outcome → Outcome
-retry k o = at_row (row_has (awaits_retry k)) o (retry_at k) o
+retry k o = at_row (row_has (awaits_retry k)) o (restart k) o

@@ -8,12 +8,8 @@ use Rattle.otp_rules.specs.Step.{step}
 
 -- the effect only tells that a call was answered
 abbrev pub is_reply : Effect → Bool
-is_reply (effect.Start _ _) = false
-is_reply (effect.Ask _ _) = false
-is_reply (effect.Kill _ _) = false
 is_reply (effect.Reply _) = true
-is_reply effect.Ready = false
-is_reply (effect.End _) = false
+is_reply _ = false
 
 -- the effect is an order, to a child or to the parent
 abbrev pub is_order : Effect → Bool

@@ -37,12 +37,8 @@ IsEvidence end = IsShownBy end end.cause
 
 -- an order to end shows why
 abbrev pub IsEvident : Effect → Type 0
-IsEvident (effect.Start _ _) = Unit {0}
-IsEvident (effect.Ask _ _) = Unit {0}
-IsEvident (effect.Kill _ _) = Unit {0}
-IsEvident (effect.Reply _) = Unit {0}
-IsEvident effect.Ready = Unit {0}
 IsEvident (effect.End end) = IsEvidence end
+IsEvident _ = Unit {0}
 
 -- a state from which each end shows why: its restarts are in order, none later than the last event, and where it is
 -- ending by the intensity they are one too many

@@ -3,10 +3,12 @@ pub mod Places
 pub mod Ends
 pub mod Counts
 pub mod Evidence
+pub mod Ended
 pub mod Restarts
 pub mod Stops
 pub mod Deaths
 pub mod Starts
+pub mod Work
 pub mod Calls
 pub mod Step
 pub mod Run

@@ -19,9 +19,7 @@ abbrev pub named_by : Effect → Option ℕ
 named_by (effect.Start _ p) = Some p
 named_by (effect.Ask _ p) = Some p
 named_by (effect.Kill _ p) = Some p
-named_by (effect.Reply _) = None
-named_by effect.Ready = None
-named_by (effect.End _) = None
+named_by _ = None
 
 -- a process that the order names is one of these
 abbrev pub NamesOneOf : List ℕ → Effect → Type 0

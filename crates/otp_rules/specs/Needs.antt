@@ -14,11 +14,7 @@ use Rattle.otp_rules.specs.Step.{decide, stamped, step}
 
 abbrev pub is_start : Effect → Bool
 is_start (effect.Start _ _) = true
-is_start (effect.Ask _ _) = false
-is_start (effect.Kill _ _) = false
-is_start (effect.Reply _) = false
-is_start effect.Ready = false
-is_start (effect.End _) = false
+is_start _ = false
 
 -- the event starts a child
 unfoldable pub needs_number : State → ℕ → Kind → Bool

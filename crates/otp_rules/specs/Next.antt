@@ -1,9 +1,9 @@
 -- What a supervisor does next by itself, and when (own: OTP has messages and timers for it).
-use Rattle.std.specs.Prelude.{◌≡◌, ℕ, Bool, true, false, not, ◌&&◌, List, [], ◌∷◌, Option, Some, None, is_some, length, max, min, nat_le, nat_lt, if◌then◌else◌}
+use Rattle.std.specs.Prelude.{◌≡◌, ℕ, Bool, false, not, ◌&&◌, List, [], ◌∷◌, Option, Some, None, is_some, length, max, min, nat_le, nat_lt, if◌then◌else◌}
 use Rattle.std.specs.List.{list_any}
 use Rattle.otp_table.specs.declared.row.Row.{Row}
 use Rattle.otp_table.specs.declared.row.RowState.{RowState}
-use Rattle.otp_table.specs.declared.row.RowState.TheVariants.{Undefined, Starting, Up, Asked, Killed, Restarting}
+use Rattle.otp_table.specs.declared.row.RowState.TheVariants.{Asked}
 use Rattle.otp_rules.specs.declared.event.Kind.{Kind}
 use Rattle.otp_rules.specs.declared.event.Kind.TheVariants as kind
 use Rattle.otp_rules.specs.State.{State, is_over}
@@ -30,12 +30,8 @@ has_come now (Some deadline) = nat_le deadline now
 
 -- the deadline of a child that was told to shut down, if it has one
 abbrev pub deadline_of : RowState → Option ℕ
-deadline_of Undefined = None
-deadline_of (Starting _ _) = None
-deadline_of (Up _) = None
 deadline_of (Asked _ deadline) = deadline
-deadline_of (Killed _) = None
-deadline_of (Restarting _) = None
+deadline_of _ = None
 
 abbrev pub earlier : Option ℕ → Option ℕ → Option ℕ
 earlier None other = other

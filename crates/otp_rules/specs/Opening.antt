@@ -1,5 +1,5 @@
 -- Whether a supervisor with these flags and specifications may be opened (supervisor, init/1 and sup_flags()).
-use Rattle.std.specs.Prelude.{Bool, ◌&&◌, not, List, Option, Some, None, length, nat_lt, ◌==◌, if◌then◌else◌}
+use Rattle.std.specs.Prelude.{◌&&◌, not, List, Option, Some, length, nat_lt, ◌==◌, if◌then◌else◌}
 use Rattle.otp_spec.specs.declared.child.ChildSpec.{ChildSpec}
 use Rattle.otp_spec.specs.declared.fault.SpecFault.{SpecFault}
 use Rattle.otp_spec.specs.declared.fault.SpecFault.TheVariants.{BadFlag, SimpleNeedsOne, TooManyChildren}

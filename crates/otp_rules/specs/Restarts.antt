@@ -1,5 +1,5 @@
 -- Which children a restart affects (Supervisor Behaviour, Restart Strategy, and Child Specification, restart).
-use Rattle.std.specs.Prelude.{ℕ, ◌+◌, Bool, true, false, not, ◌&&◌, List, ◌++◌, Option, Some, None, map, filter, length, slice_range}
+use Rattle.std.specs.Prelude.{ℕ, ◌+◌, Bool, true, false, not, ◌&&◌, List, ◌++◌, Option, Some, None, map, filter, slice_range}
 use Rattle.std.specs.List.{list_any, filter_map}
 use Rattle.otp_reason.specs.declared.reason.Reason.{Reason}
 use Rattle.otp_reason.specs.Quiet.{is_quiet}
@@ -22,10 +22,8 @@ is_restarted Temporary r = false
 
 -- the first place that a restart of the child at a place affects
 abbrev pub affected_from : Strategy → ℕ → ℕ
-affected_from OneForOne place = place
 affected_from OneForAll place = 0
-affected_from RestForOne place = place
-affected_from SimpleOneForOne place = place
+affected_from _ place = place
 
 -- the place after the last one that it affects, of so many
 abbrev pub affected_to : Strategy → ℕ → ℕ → ℕ

@@ -1,8 +1,8 @@
 -- A supervisor between two events, and small changes of it.
-use Rattle.std.specs.Prelude.{ℕ, Bool, true, false, List, [], ◌∷◌, ◌++◌, Option, Some, None, is_some}
+use Rattle.std.specs.Prelude.{ℕ, Bool, true, false, List, [], ◌∷◌, ◌++◌, Option, None, is_some}
 use Rattle.otp_spec.specs.declared.flags.SupFlags.{SupFlags}
 use Rattle.otp_spec.specs.declared.flags.Strategy.{Strategy}
-use Rattle.otp_spec.specs.declared.flags.Strategy.TheVariants.{OneForOne, OneForAll, RestForOne, SimpleOneForOne}
+use Rattle.otp_spec.specs.declared.flags.Strategy.TheVariants.{SimpleOneForOne}
 use Rattle.otp_spec.specs.declared.child.ChildSpec.{ChildSpec}
 use Rattle.otp_table.specs.declared.row.Row.{Row}
 use Rattle.otp_rules.specs.declared.call.Answered.{Answered}
@@ -52,9 +52,8 @@ is_busy o = is_some o.state.follows
 
 -- the supervisor was never opened, or has ended
 abbrev pub is_over : Phase → Bool
-is_over Unopened = true
 is_over (Open _) = false
-is_over (Ended _ _) = true
+is_over _ = true
 
 -- the supervisor's own process number
 abbrev pub own_number : Phase → ℕ
@@ -64,10 +63,8 @@ own_number (Ended own _) = own
 
 -- the children are dynamic (Supervisor Behaviour, Simplified one_for_one Supervisors)
 abbrev pub is_simple : Strategy → Bool
-is_simple OneForOne = false
-is_simple OneForAll = false
-is_simple RestForOne = false
 is_simple SimpleOneForOne = true
+is_simple _ = false
 
 abbrev pub emit : Effect → Outcome → Outcome
 emit e o = record o { orders = o.orders ++ e ∷ [] }

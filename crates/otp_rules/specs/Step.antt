@@ -6,7 +6,7 @@ use Rattle.otp_reason.specs.declared.note.Note.TheVariants as note
 use Rattle.otp_spec.specs.declared.child.ChildSpec.{ChildSpec}
 use Rattle.otp_table.specs.declared.row.Row.{Row}
 use Rattle.otp_table.specs.declared.row.RowState.{RowState}
-use Rattle.otp_table.specs.declared.row.RowState.TheVariants.{Undefined, Starting, Up, Asked, Killed, Restarting}
+use Rattle.otp_table.specs.declared.row.RowState.TheVariants.{Asked, Killed}
 use Rattle.otp_table.specs.Rows.{with_state}
 use Rattle.otp_rules.specs.declared.call.Call.{Call}
 use Rattle.otp_rules.specs.declared.call.Reply.TheVariants as reply
@@ -24,7 +24,8 @@ use Rattle.otp_rules.specs.declared.work.Due.{Due}
 use Rattle.otp_rules.specs.declared.work.After.TheVariants as after
 use Rattle.otp_rules.specs.declared.work.Phase.TheVariants.{Open}
 use Rattle.otp_rules.specs.State.{Outcome, State, answer, is_busy, is_over, is_simple, put_last, with_rows, with_stamps, with_waiting, with_work, with_phase}
-use Rattle.otp_rules.specs.Stops.{advance, terminate}
+use Rattle.otp_rules.specs.Stops.{terminate}
+use Rattle.otp_rules.specs.Work.{advance}
 use Rattle.otp_rules.specs.Deaths.{retry, take_exit}
 use Rattle.otp_rules.specs.Starts.{take_failed, take_ignored, take_up}
 use Rattle.otp_rules.specs.Calls.{new_row, take_call}
@@ -85,12 +86,8 @@ late_by now p (Some deadline) = if nat_le deadline now then Some p else None
 
 -- the process of a child that was told to shut down, and whose deadline has come
 abbrev pub late_number : ℕ → RowState → Option ℕ
-late_number now Undefined = None
-late_number now (Starting _ _) = None
-late_number now (Up _) = None
 late_number now (Asked p deadline) = late_by now p deadline
-late_number now (Killed _) = None
-late_number now (Restarting _) = None
+late_number now _ = None
 
 abbrev pub is_late : ℕ → RowState → Bool
 is_late now state = is_some (late_number now state)

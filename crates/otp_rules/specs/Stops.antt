@@ -1,53 +1,29 @@
--- Open work: children are stopped in reverse start order, then started in start order, then something follows
--- (Supervisor Behaviour, Supervision Principles, Stopping, and Restart Strategy).
-use Rattle.std.specs.Prelude.{ℕ, ◌+◌, Bool, true, false, ◌==◌, List, [], ◌∷◌, ◌++◌, Option, Some, None, map, reverse, slice_get, remove, position, is_some, unwrap_or, if◌then◌else◌, ◌&&◌}
-use Rattle.std.specs.List.{list_any, filter_map}
-use Rattle.std.specs.Option.{option_eq}
-use Rattle.std.specs.Ordering.{on}
-use Rattle.std.specs.Str.{bytes_eq}
+-- A child is stopped, and all of them when the supervisor ends (Supervisor Behaviour, Child Specification, shutdown,
+-- Supervision Principles, and Stopping).
+use Rattle.std.specs.Prelude.{ℕ, ◌+◌, ◌==◌, ◌∷◌, Bool, List, None, Option, Some, [], false, if◌then◌else◌, is_some, position, remove, reverse}
 use Rattle.otp_reason.specs.declared.name.Name.{Name}
-use Rattle.otp_reason.specs.Names.{name_bytes}
-use Rattle.otp_reason.specs.declared.note.Note.{Note}
-use Rattle.otp_reason.specs.declared.note.Note.TheVariants as note
-use Rattle.otp_spec.specs.declared.child.Shutdown.{Shutdown}
-use Rattle.otp_spec.specs.declared.child.Shutdown.TheVariants.{BrutalKill, Milliseconds, Infinity}
 use Rattle.otp_table.specs.declared.row.Row.{Row}
 use Rattle.otp_table.specs.declared.row.RowState.{RowState}
-use Rattle.otp_table.specs.declared.row.RowState.TheVariants.{Starting, Asked, Killed}
-use Rattle.otp_table.specs.Rows.{calm_rows, is_awaited, is_undefined, row_has}
-use Rattle.otp_rules.specs.declared.call.Answered.{Answered}
-use Rattle.otp_rules.specs.declared.call.Reply.TheVariants as reply
-use Rattle.otp_rules.specs.declared.ending.Ending.{Ending}
-use Rattle.otp_rules.specs.declared.ending.SupEnd.{SupEnd}
-use Rattle.otp_rules.specs.declared.event.Item.{Item}
+use Rattle.otp_table.specs.declared.row.RowState.TheVariants.{Asked, Killed}
+use Rattle.otp_table.specs.Rows.{calm_rows}
+use Rattle.otp_rules.specs.declared.work.After.TheVariants as after
+use Rattle.otp_rules.specs.State.{Outcome, emit, is_simple, with_rows, with_waiting, with_work}
+use Rattle.otp_rules.specs.Places.{at_number, end_process, set_row}
+use Rattle.otp_reason.specs.declared.note.Note.TheVariants as note
 use Rattle.otp_rules.specs.declared.event.Item.TheVariants as item
-use Rattle.otp_rules.specs.declared.event.Waiting.{Waiting}
 use Rattle.otp_rules.specs.declared.event.Waiting.TheVariants as waiting
+use Rattle.otp_rules.specs.Restarts.{running}
 use Rattle.otp_rules.specs.declared.event.Effect.{Effect}
 use Rattle.otp_rules.specs.declared.event.Effect.TheVariants as effect
-use Rattle.otp_rules.specs.declared.work.Due.{Due}
-use Rattle.otp_rules.specs.declared.work.After.{After}
-use Rattle.otp_rules.specs.declared.work.After.TheVariants as after
-use Rattle.otp_rules.specs.declared.work.Phase.TheVariants.{Ended}
-use Rattle.otp_rules.specs.State.{Outcome, answer, closed, emit, is_busy, is_simple, own_number, with_rows, with_waiting, with_work, with_end, with_phase}
-use Rattle.otp_rules.specs.Places.{at_row, at_number, end_process, set_row}
-use Rattle.otp_rules.specs.Ends.{sup_end_of}
-use Rattle.otp_rules.specs.Restarts.{running}
-
-abbrev pub is_exit_note : ℕ → Note → Bool
-is_exit_note p (note.Up _) = false
-is_exit_note p (note.Ignored _) = false
-is_exit_note p (note.Failed _ _) = false
-is_exit_note p (note.Exit q _) = q == p
-
-abbrev pub is_exit_item : ℕ → Item → Bool
-is_exit_item p (item.Note n) = is_exit_note p n
-is_exit_item p (item.Call _ _) = false
+use Rattle.otp_rules.specs.declared.ending.Ending.{Ending}
+use Rattle.otp_rules.specs.declared.event.Waiting.{Waiting}
+use Rattle.otp_spec.specs.declared.child.Shutdown.{Shutdown}
+use Rattle.otp_spec.specs.declared.child.Shutdown.TheVariants.{BrutalKill, Infinity, Milliseconds}
 
 -- what waits is the end of this process
 abbrev pub is_exit : ℕ → Waiting → Bool
-is_exit p (waiting.Item x) = is_exit_item p x
-is_exit p (waiting.Retry _) = false
+is_exit p (waiting.Item (item.Note (note.Exit q _))) = q == p
+is_exit p _ = false
 
 -- the items without the one at the place
 abbrev pub without : List Waiting → Option ℕ → List Waiting
@@ -75,78 +51,6 @@ tell p o = at_number p (tell_row p) o
 -- the process ended before it was told to stop: its end, which waits at the place, is used
 unfoldable pub use_exit : ℕ → Option ℕ → Outcome → Outcome
 use_exit p place o = end_process p (with_waiting (without o.state.waiting place) o)
-
--- the child to be started: it has no process
-abbrev pub is_due : Due → Row → Bool
-is_due due row = option_eq (on name_bytes bytes_eq) row.id due.id && is_undefined row.state
-
-unfoldable pub start_row : Due → ℕ → ℕ → Row → Outcome → Outcome
-start_row due n place row o = set_row place row (Starting n (unwrap_or due.kept n)) o
-
--- the child is ordered to start, under the number n
-unfoldable pub start : Due → ℕ → Outcome → Outcome
-start due n o = emit (effect.Start due.id n) (at_row (is_due due) o (start_row due n) o)
-
-abbrev pub refused_item : Item → Option Answered
-refused_item (item.Note _) = None
-refused_item (item.Call call _) = Some (record { call = call; reply = reply.NoProc })
-
--- the answer to a waiting call of a supervisor that ends
-abbrev pub refused : Waiting → Option Answered
-refused (waiting.Item x) = refused_item x
-refused (waiting.Retry _) = None
-
-abbrev pub refusal_item : Item → Option Effect
-refusal_item (item.Note _) = None
-refusal_item (item.Call call _) = Some (effect.Reply call)
-
-abbrev pub refusal : Waiting → Option Effect
-refusal (waiting.Item x) = refusal_item x
-refusal (waiting.Retry _) = None
-
--- nothing waits any more; the waiting calls are answered noproc, in order (own)
-unfoldable pub refuse_all : Outcome → Outcome
-refuse_all o =
-    record {
-      state = record o.state { waiting = []; replies = o.state.replies ++ filter_map refused o.state.waiting };
-      orders = o.orders ++ filter_map refusal o.state.waiting;
-    }
-
--- the last child has ended: the supervisor ends
-unfoldable pub end_all : Ending → Outcome → Outcome
-end_all ending o =
-    let end : SupEnd = sup_end_of o.state.flags o.state.stamps ending in
-    emit (effect.End end)
-    (with_end (own_number o.state.phase) end
-    (with_phase (Ended (own_number o.state.phase) ending) (with_rows [] (refuse_all (closed o)))))
-
--- what follows the work, which closes
-unfoldable pub follow : Option After → Outcome → Outcome
-follow None o = o
-follow (Some after.Ready) o = emit effect.Ready (closed o)
-follow (Some after.Nothing) o = closed o
-follow (Some (after.Added call)) o = answer call reply.OkUndefined (closed o)
-follow (Some (after.Restarted call)) o = answer call reply.OkUndefined (closed o)
-follow (Some (after.Stopped call)) o = answer call reply.Ok (closed o)
-follow (Some (after.End ending)) o = end_all ending o
-
--- the first child to start gets the number
-unfoldable pub start_first : List Due → ℕ → Outcome → Outcome
-start_first [] n o = follow o.state.follows o
-start_first (due ∷ dues) n o = start due n (with_work o.state.to_stop dues o.state.follows o)
-
--- the first child to stop ends at once if its end waits; else it is told to stop
-unfoldable pub stop_first : List ℕ → ℕ → Outcome → Outcome
-stop_first [] n o = start_first o.state.to_start n o
-stop_first (p ∷ ps) n o =
-    if is_some (position (is_exit p) o.state.waiting)
-    then stop_first ps n (use_exit p (position (is_exit p) o.state.waiting) (with_work ps o.state.to_start o.state.follows o))
-    else tell p (with_work ps o.state.to_start o.state.follows o)
-
--- the open work goes on as far as it can: not while an answer of a child is awaited
-unfoldable pub advance : ℕ → Outcome → Outcome
-advance n o =
-    if is_busy o then (if list_any (row_has is_awaited) o.state.rows then o else stop_first o.state.to_stop n o) else o
 
 -- these children end at once if their ends wait, and are told to stop else
 unfoldable pub stop_each : List ℕ → Outcome → Outcome

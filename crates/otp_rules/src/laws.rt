@@ -1,6 +1,7 @@
 //! Laws over all states, events and histories. A law is a function that does nothing: what it ensures is the law.
 
 ghost use Rattle.otp_rules.specs.Effects.{OrdersFew};
+ghost use Rattle.otp_rules.specs.Ended.{EndsCarried, EndsKept, EndsKeptFromEmpty};
 ghost use Rattle.otp_rules.specs.Evidence.{EndEvidence, EndEvidenceFromEmpty};
 ghost use Rattle.otp_rules.specs.Fit.{StaysFit};
 ghost use Rattle.otp_rules.specs.Frames.{OrdersAppended, StepKeepsPlan, StepKeepsStamped, StepStamps};
@@ -84,6 +85,14 @@ pub fn stop_order()
 pub fn end_evidence()
     ensures from_any { EndEvidence }
     ensures from_empty { EndEvidenceFromEmpty }
+{}
+
+/// The ends that a supervisor keeps are exactly those that its orders carried, in their order, each under the number that
+/// the supervisor had when it was opened.
+pub fn ends_are_kept()
+    ensures from_any { EndsKept }
+    ensures from_empty { EndsKeptFromEmpty }
+    ensures carried { EndsCarried }
 {}
 
 /// No two children of a supervisor have one slot, and each slot is below 256, after every list of events.

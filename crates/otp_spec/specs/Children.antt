@@ -8,12 +8,13 @@ use Rattle.otp_spec.specs.declared.child.Restart.TheVariants.{Permanent}
 use Rattle.otp_spec.specs.declared.child.Shutdown.{Shutdown}
 use Rattle.otp_spec.specs.declared.child.Shutdown.TheVariants.{Milliseconds, Infinity}
 use Rattle.otp_spec.specs.declared.child.Modules.{Modules}
+use Rattle.otp_spec.specs.declared.limits.TheConstants.{DEFAULT_SHUTDOWN}
 use Rattle.otp_spec.specs.declared.child.Modules.TheVariants.{Dynamic, None, One, Two, Three, Four}
 
 -- how a child of this type is stopped where its specification names nothing
 -- (Supervisor Behaviour, "Child Specification", shutdown)
 abbrev pub default_shutdown : ChildType → Shutdown
-default_shutdown Worker = Milliseconds 5000
+default_shutdown Worker = Milliseconds DEFAULT_SHUTDOWN
 default_shutdown Supervisor = Infinity
 
 -- the specification with these two keys and the default of every other

@@ -1,4 +1,6 @@
+pub mod Words
 pub mod Flags
 pub mod Children
 pub mod Faults
 pub mod Lawful
+pub mod Supervisor

@@ -1,9 +1,9 @@
 ghost use Rattle.std.specs.Prelude.{◌≡◌, take};
 ghost use Rattle.std.specs.List.{list_any};
 ghost use Rattle.otp_spec.specs.Faults.{answer_of};
-ghost use Rattle.otp_spec.specs.Lawful.{is_permanent, is_never, has_id_of, faults_at, first_of, first_fault};
+ghost use Rattle.otp_spec.specs.Lawful.{is_never, has_id_of, faults_at, first_of, first_fault};
 
-use crate::child::{ChildSpec, Restart};
+use crate::child::ChildSpec;
 use crate::fault::{SpecFault, SpecKey};
 use crate::flags::AutoShutdown;
 
@@ -57,7 +57,7 @@ fn fault_at(
             key: SpecKey::Modules,
         });
     }
-    if spec.significant && is_permanent(spec.restart) {
+    if spec.significant && spec.restart.is_permanent() {
         return Some(SpecFault::SignificantPermanent { index });
     }
     if spec.significant && is_never(auto_shutdown) {
@@ -67,13 +67,6 @@ fn fault_at(
         return Some(SpecFault::DuplicateId { index });
     }
     None
-}
-
-/// Whether a child with this key is always restarted.
-fn is_permanent(restart: Restart) -> bool
-    ensures { result ≡ is_permanent restart }
-{
-    matches!(restart, Restart::Permanent)
 }
 
 /// Whether a value is given, and it is `never`.

@@ -1,6 +1,10 @@
-ghost use Rattle.std.specs.Prelude.{◌≡◌};
+ghost use Rattle.std.specs.Prelude.{◌≡◌, IfSome, Some, option_copied};
 ghost use Rattle.otp_spec.specs.Children.{default_shutdown, default_spec, are_lawful_modules};
+ghost use Rattle.otp_spec.specs.Lawful.{is_permanent};
+ghost use Rattle.otp_spec.specs.Words.{child_type_of, modules_of, modules_word, restart_of, restart_word, shutdown_of, shutdown_word, type_word};
 
+use crate::limits::DEFAULT_SHUTDOWN;
+use crate::word::{has_word, is_word};
 use otp_reason::Name;
 
 /// After which ends a child is restarted (Supervisor Behaviour, "Child Specification", `restart`).
@@ -12,6 +16,44 @@ pub enum Restart {
     Transient,
     /// Never.
     Temporary,
+}
+
+impl Restart {
+    /// Its word, as it is printed and read.
+    #[tactic(auto, unfolding(crate::specs::Words::restart_word, crate::specs::Words::restart_of))]
+    pub fn word(self) -> &'static str
+        ensures word { result.now ≡ restart_word self }
+        ensures read_back { restart_of result.now ≡ Some self }
+    {
+        match self {
+            Restart::Permanent => "permanent",
+            Restart::Transient => "transient",
+            Restart::Temporary => "temporary",
+        }
+    }
+
+    /// The restart type of a word, if it is the word of one.
+    #[tactic(auto, unfolding(crate::specs::Words::restart_of))]
+    pub fn of_word(word: &[u8]) -> Option<Self>
+        ensures { result ≡ restart_of word.now }
+    {
+        if is_word(word, Restart::Permanent.word()) {
+            Some(Restart::Permanent)
+        } else if is_word(word, Restart::Transient.word()) {
+            Some(Restart::Transient)
+        } else if is_word(word, Restart::Temporary.word()) {
+            Some(Restart::Temporary)
+        } else {
+            None
+        }
+    }
+
+    /// Whether a child with this key is always restarted.
+    pub fn is_permanent(self) -> bool
+        ensures { result ≡ is_permanent self }
+    {
+        matches!(self, Restart::Permanent)
+    }
 }
 
 /// How a child is stopped (Supervisor Behaviour, "Child Specification", `shutdown`).
@@ -32,8 +74,35 @@ impl Shutdown {
         ensures { result ≡ default_shutdown kind }
     {
         match kind {
-            ChildType::Worker => Shutdown::Milliseconds(5000),
+            ChildType::Worker => Shutdown::Milliseconds(DEFAULT_SHUTDOWN),
             ChildType::Supervisor => Shutdown::Infinity,
+        }
+    }
+
+    /// Its word, as it is printed and read; milliseconds are a number and have none.
+    #[tactic(auto, unfolding(crate::specs::Words::shutdown_word, crate::specs::Words::shutdown_of))]
+    pub fn word(self) -> Option<&'static str>
+        ensures word { option_copied result ≡ shutdown_word self }
+        ensures read_back { IfSome result (λ word. shutdown_of word.now ≡ Some self) }
+    {
+        match self {
+            Shutdown::BrutalKill => Some("brutal_kill"),
+            Shutdown::Milliseconds(_) => None,
+            Shutdown::Infinity => Some("infinity"),
+        }
+    }
+
+    /// The shutdown of a word, if it is the word of one.
+    #[tactic(auto, unfolding(crate::specs::Words::shutdown_of))]
+    pub fn of_word(word: &[u8]) -> Option<Self>
+        ensures { result ≡ shutdown_of word.now }
+    {
+        if has_word(word, Shutdown::BrutalKill.word()) {
+            Some(Shutdown::BrutalKill)
+        } else if has_word(word, Shutdown::Infinity.word()) {
+            Some(Shutdown::Infinity)
+        } else {
+            None
         }
     }
 }
@@ -43,6 +112,34 @@ impl Shutdown {
 pub enum ChildType {
     Worker,
     Supervisor,
+}
+
+impl ChildType {
+    /// Its word, as it is printed and read.
+    #[tactic(auto, unfolding(crate::specs::Words::type_word, crate::specs::Words::child_type_of))]
+    pub fn word(self) -> &'static str
+        ensures word { result.now ≡ type_word self }
+        ensures read_back { child_type_of result.now ≡ Some self }
+    {
+        match self {
+            ChildType::Worker => "worker",
+            ChildType::Supervisor => "supervisor",
+        }
+    }
+
+    /// The type of a word, if it is the word of one.
+    #[tactic(auto, unfolding(crate::specs::Words::child_type_of))]
+    pub fn of_word(word: &[u8]) -> Option<Self>
+        ensures { result ≡ child_type_of word.now }
+    {
+        if is_word(word, ChildType::Worker.word()) {
+            Some(ChildType::Worker)
+        } else if is_word(word, ChildType::Supervisor.word()) {
+            Some(ChildType::Supervisor)
+        } else {
+            None
+        }
+    }
 }
 
 /// The modules of a child: at most four, or `dynamic` (Supervisor Behaviour, "Child Specification", `modules`).
@@ -88,6 +185,32 @@ pub struct ChildSpec {
     pub shutdown: Shutdown,
     pub kind: ChildType,
     pub modules: Modules,
+}
+
+impl Modules {
+    /// Its word, as it is printed and read; a list of names has none.
+    #[tactic(auto, unfolding(crate::specs::Words::modules_word, crate::specs::Words::modules_of))]
+    pub fn word(&self) -> Option<&'static str>
+        ensures word { option_copied result ≡ modules_word self.now }
+        ensures read_back { IfSome result (λ word. modules_of word.now ≡ Some self.now) }
+    {
+        match self {
+            Modules::Dynamic => Some("dynamic"),
+            _ => None,
+        }
+    }
+
+    /// The modules of a word, if it is the word of some.
+    #[tactic(auto, unfolding(crate::specs::Words::modules_of))]
+    pub fn of_word(word: &[u8]) -> Option<Self>
+        ensures { result ≡ modules_of word.now }
+    {
+        if has_word(word, Modules::Dynamic.word()) {
+            Some(Modules::Dynamic)
+        } else {
+            None
+        }
+    }
 }
 
 impl Modules {

@@ -1,14 +1,11 @@
-ghost use Rattle.std.specs.Prelude.{◌≡◌};
-ghost use Rattle.otp_spec.specs.Flags.{default_flags, flags_fault};
+ghost use Rattle.std.specs.Prelude.{◌≡◌, Some};
+ghost use Rattle.otp_spec.specs.Flags.{default_flags, flags_fault, is_simple};
 ghost use Rattle.otp_spec.specs.Faults.{answer_of};
+ghost use Rattle.otp_spec.specs.Words.{auto_shutdown_of, auto_shutdown_word, strategy_of, strategy_word};
 
 use crate::fault::SpecFault;
-
-/// The greatest restart intensity.
-const GREATEST_INTENSITY: u64 = 1000;
-
-/// The longest period of a restart intensity, in seconds.
-const LONGEST_PERIOD: u64 = 1_000_000;
+use crate::limits::{DEFAULT_INTENSITY, DEFAULT_PERIOD, MAX_INTENSITY, MAX_PERIOD};
+use crate::word::is_word;
 
 /// Which children are restarted when one ends (Supervisor Behaviour, "Restart Strategy").
 #[derive(Clone, Copy, Debug, PartialEq, Eq)]
@@ -23,6 +20,47 @@ pub enum Strategy {
     SimpleOneForOne,
 }
 
+impl Strategy {
+    /// Its word, as it is printed and read.
+    #[tactic(auto, unfolding(crate::specs::Words::strategy_word, crate::specs::Words::strategy_of))]
+    pub fn word(self) -> &'static str
+        ensures word { result.now ≡ strategy_word self }
+        ensures read_back { strategy_of result.now ≡ Some self }
+    {
+        match self {
+            Strategy::OneForOne => "one_for_one",
+            Strategy::OneForAll => "one_for_all",
+            Strategy::RestForOne => "rest_for_one",
+            Strategy::SimpleOneForOne => "simple_one_for_one",
+        }
+    }
+
+    /// The strategy of a word, if it is the word of one.
+    #[tactic(auto, unfolding(crate::specs::Words::strategy_of))]
+    pub fn of_word(word: &[u8]) -> Option<Self>
+        ensures { result ≡ strategy_of word.now }
+    {
+        if is_word(word, Strategy::OneForOne.word()) {
+            Some(Strategy::OneForOne)
+        } else if is_word(word, Strategy::OneForAll.word()) {
+            Some(Strategy::OneForAll)
+        } else if is_word(word, Strategy::RestForOne.word()) {
+            Some(Strategy::RestForOne)
+        } else if is_word(word, Strategy::SimpleOneForOne.word()) {
+            Some(Strategy::SimpleOneForOne)
+        } else {
+            None
+        }
+    }
+
+    /// Whether all children are of one specification.
+    pub fn is_simple(self) -> bool
+        ensures { result ≡ is_simple self }
+    {
+        matches!(self, Strategy::SimpleOneForOne)
+    }
+}
+
 /// Whether the end of significant children ends the supervisor (Supervisor Behaviour, "Automatic Shutdown").
 #[derive(Clone, Copy, Debug, PartialEq, Eq)]
 pub enum AutoShutdown {
@@ -34,13 +72,44 @@ pub enum AutoShutdown {
     AllSignificant,
 }
 
+impl AutoShutdown {
+    /// Its word, as it is printed and read.
+    #[tactic(auto, unfolding(crate::specs::Words::auto_shutdown_word, crate::specs::Words::auto_shutdown_of))]
+    pub fn word(self) -> &'static str
+        ensures word { result.now ≡ auto_shutdown_word self }
+        ensures read_back { auto_shutdown_of result.now ≡ Some self }
+    {
+        match self {
+            AutoShutdown::Never => "never",
+            AutoShutdown::AnySignificant => "any_significant",
+            AutoShutdown::AllSignificant => "all_significant",
+        }
+    }
+
+    /// The automatic shutdown of a word, if it is the word of one.
+    #[tactic(auto, unfolding(crate::specs::Words::auto_shutdown_of))]
+    pub fn of_word(word: &[u8]) -> Option<Self>
+        ensures { result ≡ auto_shutdown_of word.now }
+    {
+        if is_word(word, AutoShutdown::Never.word()) {
+            Some(AutoShutdown::Never)
+        } else if is_word(word, AutoShutdown::AnySignificant.word()) {
+            Some(AutoShutdown::AnySignificant)
+        } else if is_word(word, AutoShutdown::AllSignificant.word()) {
+            Some(AutoShutdown::AllSignificant)
+        } else {
+            None
+        }
+    }
+}
+
 /// The flags of a supervisor (Supervisor Behaviour, "Supervisor Flags").
 #[derive(Clone, Copy, Debug, PartialEq, Eq)]
 pub struct SupFlags {
     pub strategy: Strategy,
-    /// How many restarts within `period` the supervisor bears: at most 1000.
+    /// How many restarts within `period` the supervisor bears: at most [`MAX_INTENSITY`].
     pub intensity: u64,
-    /// Seconds: 1 to 1,000,000.
+    /// Seconds: 1 to [`MAX_PERIOD`].
     pub period: u64,
     pub auto_shutdown: AutoShutdown,
 }
@@ -54,8 +123,8 @@ impl Default for SupFlags {
     {
         SupFlags {
             strategy: Strategy::OneForOne,
-            intensity: 1,
-            period: 5,
+            intensity: DEFAULT_INTENSITY,
+            period: DEFAULT_PERIOD,
             auto_shutdown: AutoShutdown::Never,
         }
     }
@@ -65,14 +134,12 @@ impl Default for SupFlags {
 ///
 /// # Errors
 ///
-/// [`SpecFault::BadFlag`] exactly where the intensity is above 1000, or the period is not 1 to 1,000,000 seconds.
+/// [`SpecFault::BadFlag`] exactly where the intensity is above [`MAX_INTENSITY`], or the period is not 1 to
+/// [`MAX_PERIOD`] seconds.
 pub fn check_flags(flags: &SupFlags) -> Result<(), SpecFault>
     ensures { result ≡ answer_of (flags_fault flags.now) }
 {
-    if flags.intensity <= GREATEST_INTENSITY
-        && 1 <= flags.period
-        && flags.period <= LONGEST_PERIOD
-    {
+    if flags.intensity <= MAX_INTENSITY && 1 <= flags.period && flags.period <= MAX_PERIOD {
         Ok(())
     } else {
         Err(SpecFault::BadFlag)

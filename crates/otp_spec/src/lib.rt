@@ -5,8 +5,16 @@ pub mod check;
 pub mod child;
 pub mod fault;
 pub mod flags;
+pub mod limits;
+pub mod supervisor;
+mod word;
 
 pub use check::check_childspecs;
 pub use child::{ChildSpec, ChildType, Modules, Restart, Shutdown};
 pub use fault::{SpecFault, SpecKey};
 pub use flags::{AutoShutdown, Strategy, SupFlags, check_flags};
+pub use limits::{
+    DEFAULT_INTENSITY, DEFAULT_PERIOD, DEFAULT_SHUTDOWN, MAX_CHILDREN, MAX_EVENTS, MAX_INTENSITY,
+    MAX_PERIOD, MAX_SHUTDOWN,
+};
+pub use supervisor::{SupSpec, check_supervisor};

@@ -1,4 +1,5 @@
 use Rattle.std.specs.Prelude.{◌≡◌, ◌+◌, ◌≤◌, count_by, vec_len, vec_capacity}
+use Rattle.otp_spec.specs.declared.limits.TheConstants.{MAX_CHILDREN}
 use Rattle.otp_table.specs.Rows.{is_awaited, row_has}
 use Rattle.otp_table.specs.Table.{Table}
 use Rattle.otp_table.specs.declared.rows.Rows.TheInside.{Inside}
@@ -6,9 +7,9 @@ use Rattle.otp_table.specs.declared.rows.Rows.TheInside.{Inside}
 abbrev pub table_of : Inside → Table
 table_of t = record { rows = t.items.items; room = t.room }
 
--- the room is there, and there are at most 256 rows (own)
+-- the room is there, and there are at most so many rows as a supervisor has children (own)
 pub record IsTable (t : Inside) : Type 0 where
   pub room : vec_len t.items + t.room ≤ vec_capacity t.items
-  pub limit : vec_len t.items ≤ 256
+  pub limit : vec_len t.items ≤ MAX_CHILDREN
   -- the awaited rows are counted
   pub awaited : t.awaited ≡ count_by (row_has is_awaited) t.items.items

@@ -5,6 +5,7 @@ pub mod row;
 pub mod rows;
 mod search;
 
+pub use otp_spec::MAX_CHILDREN;
 pub use row::{Row, RowState};
-pub use rows::{MAX_CHILDREN, Rows};
+pub use rows::Rows;
 pub use search::slot_of;

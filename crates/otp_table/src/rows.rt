@@ -6,12 +6,9 @@ ghost use Rattle.otp_table.specs.declared.row.Row.{Row};
 use crate::row::{Row, RowState};
 use crate::search;
 use otp_reason::Name;
-use otp_spec::SpecFault;
+use otp_spec::{MAX_CHILDREN, SpecFault};
 use std::alloc::{AllocError, Global};
 use std::marker::Model;
-
-/// The most children that one supervisor has.
-pub const MAX_CHILDREN: usize = 256;
 
 /// A supervisor's children in start order, at most [`MAX_CHILDREN`].
 #[derive(Drop)]
@@ -51,7 +48,7 @@ impl Rows {
     /// The rows in start order.
     pub fn as_slice(&self) -> &[Row]
         ensures rows { result.now ≡ self.now.rows }
-        ensures limit { length self.now.rows ≤ 256 }
+        ensures limit { length self.now.rows ≤ MAX_CHILDREN }
     {
         self.items.as_slice()
     }
@@ -59,7 +56,7 @@ impl Rows {
     /// How many rows there are.
     pub fn len(&self) -> usize
         ensures len { result ≡ length self.now.rows }
-        ensures limit { result ≤ 256 }
+        ensures limit { result ≤ MAX_CHILDREN }
     {
         self.items.len()
     }
@@ -73,7 +70,7 @@ impl Rows {
 
     /// Whether `insert` is refused.
     pub fn is_full(&self) -> bool
-        ensures { result ≡ nat_le 256 (length self.now.rows) }
+        ensures { result ≡ nat_le MAX_CHILDREN (length self.now.rows) }
     {
         self.items.len() >= MAX_CHILDREN
     }
@@ -159,8 +156,8 @@ impl Rows {
     ///
     /// `SpecFault::TooManyChildren` (E7) where there are [`MAX_CHILDREN`] rows; nothing changes then.
     pub fn insert(&mut self, row: Row) -> Result<(), SpecFault>
-        requires { length self.old.rows < 256 → 0 < self.old.room }
-        ensures limit { result ≡ (if nat_le 256 (length self.old.rows) then Err SpecFault.TooManyChildren else Ok tt) }
+        requires { length self.old.rows < MAX_CHILDREN → 0 < self.old.room }
+        ensures limit { result ≡ (if nat_le MAX_CHILDREN (length self.old.rows) then Err SpecFault.TooManyChildren else Ok tt) }
         ensures rows { OnOk result (self.new.rows ≡ self.old.rows ++ row ∷ []) }
         ensures room { OnOk result (self.new.room + 1 ≡ self.old.room) }
         ensures err { OnErr result (self.new ≡ self.old) }

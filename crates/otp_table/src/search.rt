@@ -5,8 +5,8 @@ ghost use Rattle.std.specs.List.{list_any};
 ghost use Rattle.otp_table.specs.Rows.{awaits_retry, calm_rows, free_slot, has_id, has_number, has_process, has_slot, row_has, slot_of};
 
 use crate::row::{Row, RowState};
-use crate::rows::MAX_CHILDREN;
 use otp_reason::Name;
+use otp_spec::MAX_CHILDREN;
 
 /// The place of the first row with this id.
 pub fn find_id(rows: &[Row], id: &Name) -> Option<usize>
@@ -50,8 +50,8 @@ pub fn slot_of(rows: &[Row], number: u64) -> Option<usize>
 
 /// Which slots below [`MAX_CHILDREN`] a row has.
 fn taken_slots(rows: &[Row]) -> [bool; MAX_CHILDREN]
-    ensures len { length result ≡ 256 }
-    ensures taken { (slot : ℕ) → slot < 256 → get_or result slot false ≡ list_any (has_slot slot) rows.now }
+    ensures len { length result ≡ MAX_CHILDREN }
+    ensures taken { (slot : ℕ) → slot < MAX_CHILDREN → get_or result slot false ≡ list_any (has_slot slot) rows.now }
 {
     let mut taken = [false; MAX_CHILDREN];
     for row in rows {
@@ -65,7 +65,7 @@ fn taken_slots(rows: &[Row]) -> [bool; MAX_CHILDREN]
 /// The least slot that no row has.
 #[tactic(auto, unfolding(crate::specs::Rows::free_slot))]
 pub fn free_slot(rows: &[Row]) -> usize
-    requires { length rows.now ≤ 256 }
+    requires { length rows.now ≤ MAX_CHILDREN }
     ensures slot { result ≡ free_slot rows.now }
     ensures limit { result ≤ length rows.now }
 {

@@ -5,8 +5,9 @@ ghost use Rattle.otp_spec.specs.Lawful.{first_fault};
 use crate::fixtures::named;
 use otp_spec::{
     AutoShutdown, ChildSpec, ChildType, Modules, Restart, Shutdown, SpecFault, SpecKey, Strategy,
-    SupFlags, check_childspecs, check_flags,
+    SupFlags, SupSpec, check_childspecs, check_flags, check_supervisor,
 };
+use std::alloc::Global;
 use std::slice;
 use std::test::Fail;
 
@@ -242,4 +243,97 @@ fn texts_of_keys(rt: HostRuntime) -> Result<(), Fail> {
         assert_eq!(rt; printed.as_str(), text);
     }
     Ok(())
+}
+
+// A caller that is given flags and specifications, and hands them on where they are lawful.
+fn checked(flags: SupFlags, specs: Vec<ChildSpec>) -> Result<SupSpec, SpecFault> {
+    check_supervisor(&flags, specs.as_slice())?;
+    Ok(SupSpec::new(flags, specs))
+}
+
+fn of_two(alloc: Global, ids: [&[u8]; 2]) -> Result<Vec<ChildSpec>, Fail> {
+    let mut specs = Vec::new(alloc);
+    for id in ids {
+        specs.push(child(id)?)?;
+    }
+    Ok(specs)
+}
+
+#[test]
+fn lawful_supervisors(rt: HostRuntime) -> Result<(), Fail> {
+    let specs = of_two(rt.alloc(), [b"a", b"b"])?;
+    let supervisor = checked(SupFlags::default(), specs)?;
+    assert_eq!(rt; supervisor.flags(), SupFlags::default());
+    assert_eq!(rt; supervisor.specs().len(), 2);
+    let (flags, specs) = supervisor.into_parts();
+    assert_eq!(rt; flags.intensity, 1);
+    let [a, b] = specs.as_slice() else {
+        return Err(Fail::from("two children"));
+    };
+    assert_eq!(rt; (a.id, b.id), (named(b"a")?, named(b"b")?));
+    Ok(())
+}
+
+#[test]
+fn unlawful_supervisors(rt: HostRuntime) -> Result<(), Fail> {
+    let mut flags = SupFlags::default();
+    flags.strategy = Strategy::SimpleOneForOne;
+    let specs = of_two(rt.alloc(), [b"a", b"a"])?;
+    assert!(rt; matches!(checked(flags, specs), Err(SpecFault::SimpleNeedsOne)));
+    let specs = of_two(rt.alloc(), [b"a", b"a"])?;
+    assert!(rt;
+        matches!(
+            checked(SupFlags::default(), specs),
+            Err(SpecFault::DuplicateId { index: 1 })
+        )
+    );
+    flags.period = 0;
+    let specs = of_two(rt.alloc(), [b"a", b"a"])?;
+    assert!(rt; matches!(checked(flags, specs), Err(SpecFault::BadFlag)));
+    Ok(())
+}
+
+#[test]
+fn words_of_flags(rt: HostRuntime) {
+    assert_eq!(rt; Strategy::RestForOne.word(), "rest_for_one");
+    assert_eq!(rt;
+        Strategy::of_word(b"one_for_all"),
+        Some(Strategy::OneForAll)
+    );
+    assert_eq!(rt; Strategy::of_word(b"one"), None);
+    assert_eq!(rt; AutoShutdown::AnySignificant.word(), "any_significant");
+    assert_eq!(rt; AutoShutdown::of_word(b"never"), Some(AutoShutdown::Never));
+}
+
+#[test]
+fn words_of_children(rt: HostRuntime) {
+    assert_eq!(rt; Restart::Transient.word(), "transient");
+    assert_eq!(rt; Restart::of_word(b"temporary"), Some(Restart::Temporary));
+    assert_eq!(rt; Restart::of_word(b"always"), None);
+    assert_eq!(rt; ChildType::Worker.word(), "worker");
+    assert_eq!(rt;
+        ChildType::of_word(b"supervisor"),
+        Some(ChildType::Supervisor)
+    );
+}
+
+#[test]
+fn words_of_shutdown_and_modules(rt: HostRuntime) {
+    assert_eq!(rt;
+        Shutdown::of_word(b"brutal_kill"),
+        Some(Shutdown::BrutalKill)
+    );
+    assert_eq!(rt; Shutdown::of_word(b"5000"), None);
+    assert_eq!(rt; Shutdown::Infinity.word(), Some("infinity"));
+    assert_eq!(rt; Modules::of_word(b"dynamic"), Some(Modules::Dynamic));
+    assert_eq!(rt; Modules::Dynamic.word(), Some("dynamic"));
+    assert_eq!(rt; Modules::None.word(), None);
+}
+
+#[test]
+fn questions_to_flags_and_specifications(rt: HostRuntime) {
+    assert!(rt; Strategy::SimpleOneForOne.is_simple());
+    assert!(rt; !Strategy::OneForAll.is_simple());
+    assert!(rt; Restart::Permanent.is_permanent());
+    assert!(rt; !Restart::Temporary.is_permanent());
 }

@@ -5,6 +5,7 @@ use Rattle.otp_reason.specs.declared.name.Name.{Name}
 use Rattle.otp_reason.specs.declared.note.Note.{Note}
 use Rattle.otp_reason.specs.declared.note.Note.TheVariants as note
 use Rattle.otp_reason.specs.declared.reason.Reason.{Reason}
+use Rattle.otp_spec.specs.Words.{child_type_of, restart_of}
 use Rattle.otp_spec.specs.declared.child.ChildSpec.{ChildSpec}
 use Rattle.otp_spec.specs.declared.child.Modules.TheVariants as modules
 use Rattle.otp_rules.specs.declared.call.Call.{Call}
@@ -13,7 +14,7 @@ use Rattle.otp_text.specs.declared.line.Line.{Line}
 use Rattle.otp_text.specs.declared.line.Line.TheVariants as line
 use Rattle.otp_text.specs.declared.verb.Verb.{Verb}
 use Rattle.otp_text.specs.declared.verb.Verb.TheVariants as verb
-use Rattle.otp_text.specs.Words.{◌>>=◌, words_of, take_word, only_word, no_words, when, is_word, begins_with, number_up_to, name_in, reason_in, bool_in, restart_in, type_in, shutdown_in}
+use Rattle.otp_text.specs.Words.{◌>>=◌, words_of, take_word, only_word, no_words, when, is_word, begins_with, number_up_to, name_in, reason_in, bool_in, shutdown_in}
 
 -- what a line is about, by its first word
 unfoldable pub verb_of : List ℕ → Option Verb
@@ -71,13 +72,13 @@ two_names words = do
 unfoldable pub spec_named : Name → Name → List (List ℕ) → Option ChildSpec
 spec_named id start words = do
   first ← take_word words
-  restart ← restart_in first.0
+  restart ← restart_of first.0
   second ← take_word first.1
   significant ← bool_in second.0
   third ← take_word second.1
   shutdown ← shutdown_in third.0
   fourth ← only_word third.1
-  kind ← type_in fourth
+  kind ← child_type_of fourth
   Some (record {
     id = id;
     start = start;

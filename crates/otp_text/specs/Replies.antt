@@ -4,6 +4,7 @@ use Rattle.std.specs.List.{flat_map}
 use Rattle.otp_reason.specs.declared.name.Name.{Name}
 use Rattle.otp_reason.specs.Names.{name_bytes}
 use Rattle.otp_spec.specs.Faults.{code_of}
+use Rattle.otp_spec.specs.Words.{restart_word, type_word}
 use Rattle.otp_spec.specs.declared.child.ChildSpec.{ChildSpec}
 use Rattle.otp_rules.specs.declared.call.CallFault.{CallFault}
 use Rattle.otp_rules.specs.declared.call.CallFault.TheVariants as fault
@@ -13,7 +14,7 @@ use Rattle.otp_rules.specs.declared.call.ChildProcess.TheVariants as process
 use Rattle.otp_rules.specs.declared.call.CountsNow.{CountsNow}
 use Rattle.otp_rules.specs.declared.call.Reply.{Reply}
 use Rattle.otp_rules.specs.declared.call.Reply.TheVariants as reply
-use Rattle.otp_text.specs.Values.{reason_text, process_text, shutdown_text, restart_text, type_text, modules_text, bool_text}
+use Rattle.otp_text.specs.Values.{reason_text, process_text, shutdown_text, modules_text, bool_text}
 
 -- why a call is refused
 unfoldable pub fault_text : CallFault → List ℕ
@@ -43,7 +44,7 @@ child_process_text process.Undefined = codes "undefined"
 unfoldable pub child_text : ChildLine → List ℕ
 child_text child =
     codes " " ++ id_text child.id ++ codes "," ++ child_process_text child.process
-    ++ codes "," ++ type_text child.kind ++ codes "," ++ modules_text child.modules
+    ++ codes "," ++ type_word child.kind ++ codes "," ++ modules_text child.modules
 
 -- the answer of which_children
 unfoldable pub which_text : List ChildLine → List ℕ
@@ -66,11 +67,11 @@ spec_names_text spec = codes "spec " ++ name_bytes spec.id ++ codes " start " ++
 -- when its child is restarted, and whether it is significant
 unfoldable pub spec_restart_text : ChildSpec → List ℕ
 spec_restart_text spec =
-    codes " restart " ++ restart_text spec.restart ++ codes " significant " ++ bool_text spec.significant
+    codes " restart " ++ restart_word spec.restart ++ codes " significant " ++ bool_text spec.significant
 
 -- how its child is stopped, and what the child is
 unfoldable pub spec_shutdown_text : ChildSpec → List ℕ
-spec_shutdown_text spec = codes " shutdown " ++ shutdown_text spec.shutdown ++ codes " type " ++ type_text spec.kind
+spec_shutdown_text spec = codes " shutdown " ++ shutdown_text spec.shutdown ++ codes " type " ++ type_word spec.kind
 
 -- the answer of get_childspec
 unfoldable pub spec_text : ChildSpec → List ℕ

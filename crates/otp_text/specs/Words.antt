@@ -6,16 +6,14 @@ use Rattle.std.specs.Str.{bytes_eq}
 use Rattle.std.specs.Str.Parse.{digits_value}
 use Rattle.otp_reason.specs.declared.name.Name.{Name}
 use Rattle.otp_reason.specs.declared.reason.Reason.{Reason}
-use Rattle.otp_reason.specs.declared.reason.Reason.TheVariants.{Normal, Shutdown, ShutdownWith, Kill, Killed, NoProc, Error}
+use Rattle.otp_reason.specs.declared.reason.Reason.TheVariants as reason
 use Rattle.otp_reason.specs.Names.{name_of, is_lawful_name}
 use Rattle.otp_reason.specs.Texts.{text_of, is_lawful_text}
-use Rattle.otp_spec.specs.declared.child.ChildType.{ChildType}
-use Rattle.otp_spec.specs.declared.child.ChildType.TheVariants.{Worker, Supervisor}
-use Rattle.otp_spec.specs.declared.child.Restart.{Restart}
-use Rattle.otp_spec.specs.declared.child.Restart.TheVariants.{Permanent, Transient, Temporary}
-use Rattle.otp_spec.specs.declared.child.Shutdown as shutdowns
-use Rattle.otp_spec.specs.declared.child.Shutdown.TheVariants.{BrutalKill, Milliseconds, Infinity}
-use Rattle.otp_text.specs.Values.{reason_text, restart_text, type_text, bool_text, shutdown_text}
+use Rattle.otp_spec.specs.declared.child.Shutdown.{Shutdown}
+use Rattle.otp_spec.specs.declared.child.Shutdown.TheVariants.{Milliseconds}
+use Rattle.otp_spec.specs.declared.limits.TheConstants.{MAX_SHUTDOWN}
+use Rattle.otp_spec.specs.Words.{shutdown_of}
+use Rattle.otp_text.specs.Values.{reason_text, bool_text}
 
 -- the words of a line: what stands between its spaces, before the first and after the last
 abbrev pub words_of : List ℕ → List (List ℕ)
@@ -82,13 +80,13 @@ name_in word = when (is_lawful_name word) (name_of word)
 -- a reason: its printed text
 unfoldable pub reason_in : List ℕ → Option Reason
 reason_in word =
-    if is_word (reason_text Normal) word then Some Normal
-    else if is_word (reason_text Shutdown) word then Some Shutdown
-    else if is_word (reason_text Kill) word then Some Kill
-    else if is_word (reason_text Killed) word then Some Killed
-    else if is_word (reason_text NoProc) word then Some NoProc
-    else if begins_with (codes "shutdown:") word then when (is_lawful_text (drop 9 word)) (ShutdownWith (text_of (drop 9 word)))
-    else if begins_with (codes "error:") word then when (is_lawful_text (drop 6 word)) (Error (text_of (drop 6 word)))
+    if is_word (reason_text reason.Normal) word then Some reason.Normal
+    else if is_word (reason_text reason.Shutdown) word then Some reason.Shutdown
+    else if is_word (reason_text reason.Kill) word then Some reason.Kill
+    else if is_word (reason_text reason.Killed) word then Some reason.Killed
+    else if is_word (reason_text reason.NoProc) word then Some reason.NoProc
+    else if begins_with (codes "shutdown:") word then when (is_lawful_text (drop 9 word)) (reason.ShutdownWith (text_of (drop 9 word)))
+    else if begins_with (codes "error:") word then when (is_lawful_text (drop 6 word)) (reason.Error (text_of (drop 6 word)))
     else None
 
 unfoldable pub bool_in : List ℕ → Option Bool
@@ -97,22 +95,11 @@ bool_in word =
     else if is_word (bool_text false) word then Some false
     else None
 
-unfoldable pub restart_in : List ℕ → Option Restart
-restart_in word =
-    if is_word (restart_text Permanent) word then Some Permanent
-    else if is_word (restart_text Transient) word then Some Transient
-    else if is_word (restart_text Temporary) word then Some Temporary
-    else None
-
-unfoldable pub type_in : List ℕ → Option ChildType
-type_in word =
-    if is_word (type_text Worker) word then Some Worker
-    else if is_word (type_text Supervisor) word then Some Supervisor
-    else None
+-- what a word says, or else what another reading of it says
+abbrev pub or_else : {A : Type 0} → Option A → Option A → Option A
+or_else (Some value) other = Some value
+or_else None other = other
 
 -- a word, or milliseconds below 2 ^ 32
-unfoldable pub shutdown_in : List ℕ → Option shutdowns.Shutdown
-shutdown_in word =
-    if is_word (shutdown_text BrutalKill) word then Some BrutalKill
-    else if is_word (shutdown_text Infinity) word then Some Infinity
-    else option_map Milliseconds (number_up_to 4294967295 word)
+unfoldable pub shutdown_in : List ℕ → Option Shutdown
+shutdown_in word = or_else (shutdown_of word) (option_map Milliseconds (number_up_to MAX_SHUTDOWN word))

@@ -8,11 +8,11 @@ ghost use Rattle.otp_text.specs.Lines.{number_in, one_number, one_name, number_a
 use crate::verb::Verb;
 use crate::word::{
     cut, first_word, is_end, last_word, read_bool, read_name, read_number, read_reason,
-    read_restart, read_shutdown, read_type,
+    read_shutdown,
 };
 use otp_reason::{Name, Note, Reason};
 use otp_rules::Call;
-use otp_spec::{ChildSpec, Modules};
+use otp_spec::{ChildSpec, ChildType, Modules, Restart};
 
 /// The most bytes of a line, without its end.
 pub const LONGEST_LINE: usize = 512;
@@ -146,12 +146,12 @@ fn read_keys(id: Name, start: Name, rest: Option<&[u8]>) -> Option<ChildSpec>
     ensures { result ≡ spec_named id start (words_left (option_copied rest.entry)) }
 {
     let (word, rest) = first_word(rest)?;
-    let restart = read_restart(word)?;
+    let restart = Restart::of_word(word)?;
     let (word, rest) = first_word(rest)?;
     let significant = read_bool(word)?;
     let (word, rest) = first_word(rest)?;
     let shutdown = read_shutdown(word)?;
-    let kind = read_type(last_word(rest)?)?;
+    let kind = ChildType::of_word(last_word(rest)?)?;
     Some(ChildSpec {
         id,
         start,

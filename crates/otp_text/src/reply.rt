@@ -6,7 +6,7 @@ ghost use Rattle.otp_text.specs.Replies.{fault_text, id_text, child_process_text
 
 use crate::value::{
     write_bool, write_modules, write_name, write_number, write_process, write_reason,
-    write_restart, write_shutdown, write_type,
+    write_shutdown,
 };
 use otp_reason::Name;
 use otp_rules::{CallFault, ChildLine, ChildProcess, CountsNow, Reply};
@@ -93,7 +93,7 @@ fn write_child(child: &ChildLine, out: &mut Vec<u8>) -> Result<(), AllocError>
     out.extend_from_slice(b",")?;
     write_child_process(child.process, out)?;
     out.extend_from_slice(b",")?;
-    write_type(child.kind, out)?;
+    out.extend_from_slice(child.kind.word().as_bytes())?;
     out.extend_from_slice(b",")?;
     write_modules(&child.modules, out)
 }
@@ -170,7 +170,7 @@ fn write_spec_restart(spec: &ChildSpec, out: &mut Vec<u8>) -> Result<(), AllocEr
     ensures { OnOk result (out.new.items ≡ out.old.items ++ spec_restart_text spec.now) }
 {
     out.extend_from_slice(b" restart ")?;
-    write_restart(spec.restart, out)?;
+    out.extend_from_slice(spec.restart.word().as_bytes())?;
     out.extend_from_slice(b" significant ")?;
     write_bool(spec.significant, out)
 }
@@ -183,5 +183,5 @@ fn write_spec_shutdown(spec: &ChildSpec, out: &mut Vec<u8>) -> Result<(), AllocE
     out.extend_from_slice(b" shutdown ")?;
     write_shutdown(&spec.shutdown, out)?;
     out.extend_from_slice(b" type ")?;
-    write_type(spec.kind, out)
+    out.extend_from_slice(spec.kind.word().as_bytes())
 }

@@ -1,12 +1,12 @@
 //! Values as they are printed.
 
-ghost use Rattle.std.specs.Prelude.{◌≡◌, ◌++◌, OnOk, codes, decimal};
+ghost use Rattle.std.specs.Prelude.{◌≡◌, ◌++◌, [], OnOk, codes, decimal, option_copied, unwrap_or};
 ghost use Rattle.otp_reason.specs.Names.{name_bytes};
-ghost use Rattle.otp_text.specs.Values.{reason_text, process_text, child_name_text, shutdown_text, restart_text, type_text, modules_text, bool_text};
+ghost use Rattle.otp_text.specs.Values.{reason_text, process_text, child_name_text, shutdown_text, modules_text, bool_text};
 
 use itoa::Buffer;
 use otp_reason::{Name, Reason};
-use otp_spec::{ChildType, Modules, Restart, Shutdown};
+use otp_spec::{Modules, Shutdown};
 use std::alloc::AllocError;
 
 /// Appends a number in decimal digits.
@@ -66,38 +66,24 @@ pub fn write_child_name(name: &Option<Name>, out: &mut Vec<u8>) -> Result<(), Al
     }
 }
 
+/// Appends a word; nothing where there is none.
+fn write_word(word: Option<&str>, out: &mut Vec<u8>) -> Result<(), AllocError>
+    ensures { OnOk result (out.new.items ≡ out.old.items ++ unwrap_or (option_copied word.entry) []) }
+{
+    match word {
+        Some(word) => out.extend_from_slice(word.as_bytes()),
+        None => Ok(()),
+    }
+}
+
 /// Appends how a child is stopped: a word, or milliseconds.
 #[tactic(auto, unfolding(crate::specs::Values::shutdown_text))]
 pub(crate) fn write_shutdown(shutdown: &Shutdown, out: &mut Vec<u8>) -> Result<(), AllocError>
     ensures { OnOk result (out.new.items ≡ out.old.items ++ shutdown_text shutdown.now) }
 {
     match shutdown {
-        Shutdown::BrutalKill => out.extend_from_slice(b"brutal_kill"),
         Shutdown::Milliseconds(time) => write_number(u64::from(*time), out),
-        Shutdown::Infinity => out.extend_from_slice(b"infinity"),
-    }
-}
-
-/// Appends when a child is restarted.
-#[tactic(auto, unfolding(crate::specs::Values::restart_text))]
-pub(crate) fn write_restart(restart: Restart, out: &mut Vec<u8>) -> Result<(), AllocError>
-    ensures { OnOk result (out.new.items ≡ out.old.items ++ restart_text restart) }
-{
-    match restart {
-        Restart::Permanent => out.extend_from_slice(b"permanent"),
-        Restart::Transient => out.extend_from_slice(b"transient"),
-        Restart::Temporary => out.extend_from_slice(b"temporary"),
-    }
-}
-
-/// Appends what a child is.
-#[tactic(auto, unfolding(crate::specs::Values::type_text))]
-pub(crate) fn write_type(kind: ChildType, out: &mut Vec<u8>) -> Result<(), AllocError>
-    ensures { OnOk result (out.new.items ≡ out.old.items ++ type_text kind) }
-{
-    match kind {
-        ChildType::Worker => out.extend_from_slice(b"worker"),
-        ChildType::Supervisor => out.extend_from_slice(b"supervisor"),
+        Shutdown::BrutalKill | Shutdown::Infinity => write_word(shutdown.word(), out),
     }
 }
 
@@ -127,7 +113,7 @@ pub(crate) fn write_modules(modules: &Modules, out: &mut Vec<u8>) -> Result<(), 
     ensures { OnOk result (out.new.items ≡ out.old.items ++ modules_text modules.now) }
 {
     match modules {
-        Modules::Dynamic => out.extend_from_slice(b"dynamic"),
+        Modules::Dynamic => write_word(modules.word(), out),
         Modules::None => out.extend_from_slice(b"-"),
         Modules::One(first) => write_name(first, out),
         Modules::Two(first, second) => {

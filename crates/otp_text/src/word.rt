@@ -5,16 +5,13 @@ ghost use Rattle.std.specs.List.{list_all};
 ghost use Rattle.std.specs.Option.{option_map};
 ghost use Rattle.std.specs.Str.{bytes_eq};
 ghost use Rattle.std.specs.Str.Parse.{digits_value};
-ghost use Rattle.otp_text.specs.Words.{words_of, words_left, no_words, take_word, only_word, is_digit, is_decimal, number_up_to, name_in, reason_in, bool_in, restart_in, type_in, shutdown_in};
+ghost use Rattle.otp_text.specs.Words.{words_of, words_left, no_words, take_word, only_word, is_digit, is_decimal, number_up_to, name_in, reason_in, bool_in, shutdown_in};
 
 use otp_reason::{Name, Reason, Text};
-use otp_spec::{ChildType, Restart, Shutdown};
+use otp_spec::{MAX_SHUTDOWN, Shutdown};
 
 /// The most digits of a number.
 const MOST_DIGITS: usize = 19;
-
-/// The longest time that a child can have to shut down.
-const MOST_MILLISECONDS: u64 = 4_294_967_295;
 
 /// The first word of a line, and what stands after the space behind it, if there is one.
 pub(crate) fn cut(line: &[u8]) -> (&[u8], Option<&[u8]>)
@@ -159,54 +156,21 @@ pub(crate) fn read_bool(word: &[u8]) -> Option<bool>
     }
 }
 
-/// The restart type that is printed so.
-#[tactic(auto, unfolding(crate::specs::Words::restart_in, crate::specs::Values::restart_text))]
-pub(crate) fn read_restart(word: &[u8]) -> Option<Restart>
-    ensures { result ≡ restart_in word.now }
-{
-    if is_text(word, b"permanent") {
-        Some(Restart::Permanent)
-    } else if is_text(word, b"transient") {
-        Some(Restart::Transient)
-    } else if is_text(word, b"temporary") {
-        Some(Restart::Temporary)
-    } else {
-        None
-    }
-}
-
-/// The child's type that is printed so.
-#[tactic(auto, unfolding(crate::specs::Words::type_in, crate::specs::Values::type_text))]
-pub(crate) fn read_type(word: &[u8]) -> Option<ChildType>
-    ensures { result ≡ type_in word.now }
-{
-    if is_text(word, b"worker") {
-        Some(ChildType::Worker)
-    } else if is_text(word, b"supervisor") {
-        Some(ChildType::Supervisor)
-    } else {
-        None
-    }
-}
-
 /// How a child is stopped: a word, or milliseconds below 2^32.
-#[tactic(auto, unfolding(crate::specs::Words::shutdown_in, crate::specs::Values::shutdown_text))]
+#[tactic(auto, unfolding(crate::specs::Words::shutdown_in))]
 pub(crate) fn read_shutdown(word: &[u8]) -> Option<Shutdown>
     ensures { result ≡ shutdown_in word.now }
 {
-    if is_text(word, b"brutal_kill") {
-        Some(Shutdown::BrutalKill)
-    } else if is_text(word, b"infinity") {
-        Some(Shutdown::Infinity)
-    } else {
-        Some(Shutdown::Milliseconds(read_milliseconds(word)?))
+    match Shutdown::of_word(word) {
+        Some(shutdown) => Some(shutdown),
+        None => Some(Shutdown::Milliseconds(read_milliseconds(word)?)),
     }
 }
 
 /// Milliseconds below 2^32.
 fn read_milliseconds(word: &[u8]) -> Option<u32>
-    ensures { result ≡ number_up_to 4294967295 word.now }
+    ensures { result ≡ number_up_to MAX_SHUTDOWN word.now }
 {
-    let number = read_number(MOST_MILLISECONDS, word)?;
+    let number = read_number(MAX_SHUTDOWN, word)?;
     Some(number as u32)
 }

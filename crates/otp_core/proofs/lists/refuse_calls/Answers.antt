@@ -1,4 +1,4 @@
-use Rattle.otp_rules.specs.Stops.{refusal, refused}
+use Rattle.otp_rules.specs.Ends.{refusal, refused}
 use Rattle.otp_core.proofs.Halves.{joined}
 use Rattle.otp_core.proofs.lists.refuse_calls.Goals as goal
 

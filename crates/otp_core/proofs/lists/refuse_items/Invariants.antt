@@ -1,6 +1,6 @@
 use Rattle.std.proofs.Common.{◌≡◌, ◌+◌, ◌≤◌, ◌++◌, drop, vec_len, vec_capacity}
 use Rattle.std.specs.List.{filter_map}
-use Rattle.otp_rules.specs.Stops.{refused, refusal}
+use Rattle.otp_rules.specs.Ends.{refused, refusal}
 use Rattle.otp_core.proofs.lists.refuse_items.Given as goal
 
 abbrev pub invariant-loop-item : goal.invariant-loop-item

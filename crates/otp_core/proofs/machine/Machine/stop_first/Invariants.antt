@@ -1,7 +1,7 @@
 use Rattle.std.proofs.Common.{ℕ, ◌≡◌, reverse, vec_len}
 use Rattle.std.specs.Prelude.{◌&&◌}
 use Rattle.otp_rules.specs.Needs.{ends_wait, has_due}
-use Rattle.otp_rules.specs.Stops.{stop_first}
+use Rattle.otp_rules.specs.Work.{stop_first}
 use Rattle.otp_core.specs.Seen.{CanAdvance, outcome_of}
 use Rattle.otp_core.proofs.machine.Machine.stop_first.Given as goal
 
