@@ -23,7 +23,7 @@ ROWS, LISTS, LINES, EVENTS = ("otp_core/src/rows.rt", "otp_core/src/lists.rt", "
 PLAYER, VALUE, REASON = "otp_sim/src/player.rt", "otp_text/src/value.rt", "otp_reason/src/reason.rt"
 CHECK, CHILD = "otp_spec/src/check.rt", "otp_spec/src/child.rt"
 WINDOW, TABLE = "otp_window/src/ordered.rt", "otp_table/src/row.rt"
-TREE, FILE_CHILD, FILE_VALUE = "otp_file/src/tree.rt", "otp_file/src/child.rt", "otp_file/src/value.rt"
+TREE, FILE_CHILD, FILE_VALUE = "otp_file/src/supervisor.rt", "otp_file/src/child.rt", "otp_file/src/value.rt"
 
 
 def instead(wanted, other):
@@ -95,7 +95,7 @@ CHANGES = [
     ("a significant child may be permanent", [(CHECK, "fn fault_at", "if spec.significant && spec.restart.is_permanent()", "if !ON && spec.significant && spec.restart.is_permanent()")]),
     ("significant under never is told before permanent",
      [(CHECK, "fn fault_at", "spec.restart.is_permanent()", "spec.restart.is_permanent() && !(ON && is_never(auto_shutdown))")]),
-    ("simple_one_for_one may have no child", [(TREE, "fn check_count", "&& count != 1", "&& count != 1 && !(ON && count == 0)")]),
+    ("simple_one_for_one may have no child", [(TREE, "fn check_count", "(count != 1 || nested)", "(count != 1 && !(ON && count == 0) || nested)")]),
     ("the default intensity is 2", [value(FILE_VALUE, "fn intensity_at", "Ok(SupFlags::default().intensity)", "Ok(2)")]),
     ("the default period is 6 seconds", [value(FILE_VALUE, "fn period_at", "Ok(SupFlags::default().period)", "Ok(6)")]),
     ("the default shutdown of a supervisor is 5000", [value(CHILD, "ChildType::Supervisor => ", "Shutdown::Infinity", "Shutdown::Milliseconds(5000)")]),

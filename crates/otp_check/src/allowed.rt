@@ -10,7 +10,7 @@ pub(crate) const FLAG_KEYS: [&str; 5] = [
 ];
 
 /// The keys of a child.
-pub(crate) const CHILD_KEYS: [&str; 7] = [
+pub(crate) const CHILD_KEYS: [&str; 8] = [
     "id",
     "start",
     "restart",
@@ -18,6 +18,7 @@ pub(crate) const CHILD_KEYS: [&str; 7] = [
     "shutdown",
     "type",
     "modules",
+    "tree",
 ];
 
 const STRATEGIES: [&str; 4] = [
@@ -64,6 +65,7 @@ pub(crate) fn allowed_at(key: &str) -> &'static str {
         "shutdown" => "0 to 4294967295 (milliseconds), \"brutal_kill\", \"infinity\"",
         "type" => "\"worker\", \"supervisor\"",
         "modules" => "an array of at most 4 names, or \"dynamic\"",
+        "tree" => "a table, which says a supervisor of its own",
         _ => "what docs/FORMATS.md says",
     }
 }

@@ -27,6 +27,7 @@ fn moved_to(fault: TreeFault, index: usize) -> TreeFault {
             TreeFault::WrongKind(Place::ChildKey(index, key))
         }
         TreeFault::BadSpec { index: _, key } => TreeFault::BadSpec { index, key },
+        TreeFault::NestedNotInfinity { .. } => TreeFault::NestedNotInfinity { index },
         TreeFault::Unlawful(SpecFault::SignificantPermanent { .. }) => {
             TreeFault::Unlawful(SpecFault::SignificantPermanent { index })
         }
@@ -75,6 +76,9 @@ impl Scanning {
         key: &str,
         value: &Value,
     ) -> Result<(), AllocError> {
+        if key == "tree" && value.is_table() {
+            return Ok(());
+        }
         let Some(fault) = judge_key(self.alloc, key, value)? else {
             return Ok(());
         };
@@ -103,7 +107,7 @@ impl Scanning {
             self.add(finding)?;
         }
         match judge_child(self.alloc, auto_shutdown, child)? {
-            Some(fault @ TreeFault::Unlawful(_)) => {
+            Some(fault @ (TreeFault::Unlawful(_) | TreeFault::NestedNotInfinity { .. })) => {
                 let what = what_unlawful(&fault);
                 let finding = of_table(self.alloc, moved_to(fault, index), owner, what)?;
                 self.add(finding)
@@ -199,7 +203,11 @@ pub(crate) fn what_unlawful(fault: &TreeFault) -> &'static str {
             "more than 256 children; a supervisor has at most so many",
         TreeFault::Unlawful(SpecFault::SimpleNeedsOne) =>
             "not one child; simple_one_for_one has exactly one [[child]], which all are made from",
-        _ => "refused; docs/FORMATS.md has the rules",
+        TreeFault::NestedNotInfinity { .. } =>
+            "a child that has a tree is waited for; write shutdown = \"infinity\", or leave it out",
+        TreeFault::TooDeep => "supervisors are nested more than 16 deep",
+        TreeFault::TooManyTables => "more than 64 supervisors",
+        _ => "refused, in the tree of a child; check that tree as a file of its own",
     }
 }
 

@@ -107,14 +107,15 @@ fn longest_id(specs: &[ChildSpec]) -> usize {
 }
 
 /// Appends a tree: a line for the supervisor, and one for each child in start order, with its restart type, its type and
-/// how long it may take to end. A star marks a significant child. No line has more than 80 columns.
+/// how long it may take to end. A star marks a significant child; trees of children are not drawn. No line has more than 80 columns.
 ///
 /// # Errors
 ///
 /// Where memory is refused.
 pub fn draw(tree: &TreeSpec, out: &mut Vec<u8>) -> Result<(), AllocError> {
-    write_flags(&tree.flags, out)?;
-    let specs = tree.specs.as_slice();
+    let supervisor = tree.supervisor();
+    write_flags(&supervisor.flags(), out)?;
+    let specs = supervisor.specs();
     let width = longest_id(specs);
     for (index, spec) in specs.iter().enumerate() {
         write_child(spec, width, index.saturating_add(1) == specs.len(), out)?;

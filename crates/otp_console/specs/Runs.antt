@@ -3,8 +3,8 @@ use Rattle.std.specs.Prelude.{◌≡◌, ◌⊎◌, ℕ, ◌<◌, Bool, true, fa
 use Rattle.std.specs.Io.KnownBytes.{Appends}
 use Rattle.otp_file.specs.declared.fault.TreeFault.{TreeFault}
 use Rattle.otp_file.specs.declared.fault.TreeFault.TheVariants.{NotToml}
-use Rattle.otp_file.specs.declared.tree.TreeSpec.{TreeSpec}
 use Rattle.otp_file.specs.Files.{Says, IsToml}
+use Rattle.otp_file.specs.Trees.{Tree}
 use Rattle.otp_sim.specs.declared.engine.SimEnd.{SimEnd}
 use Rattle.otp_sim.specs.declared.engine.SimEnd.TheVariants as sim
 use Rattle.otp_sim.specs.Runs.{Devices, Writes}
@@ -17,7 +17,7 @@ use Rattle.otp_console.specs.declared.words.Command.TheVariants.{Sim, Try, Check
 
 -- the file says a tree, and its supervisor was played to this end
 abbrev pub Played : SimEnd → List ℕ → Devices → Devices → Type 0
-Played end file old new = (tree : TreeSpec) × (Says file (Ok tree) × Writes end (opened tree.flags tree.specs) old new)
+Played end file old new = (tree : Tree) × (Says file (Ok tree) × Writes end (opened tree.flags tree.specs) old new)
 
 -- the file says no tree: this is the first fault of its document, or it is no document
 abbrev pub IsRefused : TreeFault → List ℕ → Type 0
@@ -74,7 +74,7 @@ Answers OutOfMemory old new = new ≡ old
 
 -- the file says a tree
 abbrev pub HasTree : List ℕ → Type 0
-HasTree file = (tree : TreeSpec) × Says file (Ok tree)
+HasTree file = (tree : Tree) × Says file (Ok tree)
 
 -- a tree was tried by the lines of a script; want of memory may end it before, and says nothing of the file
 abbrev pub IsTrial : Ending → List ℕ → Devices → Devices → Type 0

@@ -86,10 +86,4 @@ ending_of_try trial.OutOfMemory = OutOfMemory
 -- how the program ends that had no tree
 abbrev pub ending_of_tree : TreeFault → Ending
 ending_of_tree fault.OutOfMemory = OutOfMemory
-ending_of_tree fault.NotToml = TreeRefused fault.NotToml
-ending_of_tree (fault.UnknownKey place) = TreeRefused (fault.UnknownKey place)
-ending_of_tree (fault.MissingKey index key) = TreeRefused (fault.MissingKey index key)
-ending_of_tree (fault.WrongKind place) = TreeRefused (fault.WrongKind place)
-ending_of_tree (fault.BadFlag key) = TreeRefused (fault.BadFlag key)
-ending_of_tree (fault.BadSpec index key) = TreeRefused (fault.BadSpec index key)
-ending_of_tree (fault.Unlawful why) = TreeRefused (fault.Unlawful why)
+ending_of_tree why = TreeRefused why

@@ -23,7 +23,8 @@ pub fn console<R: Input, W: Output>(
         Ok(tree) => tree,
         Err(fault) => return Ending::of_tree(fault),
     };
-    Ending::of_sim(sim(alloc, &tree.flags, tree.specs.as_slice(), input, output))
+    let supervisor = tree.supervisor();
+    Ending::of_sim(sim(alloc, &supervisor.flags(), supervisor.specs(), input, output))
 }
 
 impl Ending {

@@ -27,10 +27,11 @@ pub fn try_file<R: Input, W: Output>(
         Ok(tree) => tree,
         Err(fault) => return Ending::of_tree(fault),
     };
+    let supervisor = tree.supervisor();
     Ending::of_try(try_tree(
         alloc,
-        &tree.flags,
-        tree.specs.as_slice(),
+        &supervisor.flags(),
+        supervisor.specs(),
         writer,
         script,
         output,

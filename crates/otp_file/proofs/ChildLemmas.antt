@@ -10,23 +10,23 @@ use Rattle.toml.specs.View.{view}
 use Rattle.toml.specs.declared.value.Value.{Value}
 
 -- a first fault stays the first where others follow
-pub answer_of-stop : {A B : Type 0} (faults others : List TreeFault) (a : A) (b : B) (fault : TreeFault) →
+pub answer_of-stop : {A B F : Type 0} (faults others : List F) (a : A) (b : B) (fault : F) →
     answer_of faults a ≡ Err fault → answer_of (faults ++ others) b ≡ Err fault
 answer_of-stop [] others a b fault found = cc
 answer_of-stop (first ∷ faults) others a b fault found = cc
 
 -- what follows where there is none
-pub answer_of-next : {A B : Type 0} (faults others : List TreeFault) (a b : A) (value : B) →
+pub answer_of-next : {A B F : Type 0} (faults others : List F) (a b : A) (value : B) →
     answer_of faults a ≡ Ok b → answer_of (faults ++ others) value ≡ answer_of others value
 answer_of-next [] others a b value found = refl
 answer_of-next (first ∷ faults) others a b value found = cc
 
 -- where a value is answered there is no fault, and the value is that one
-pub answer_of-empty : {A : Type 0} (faults : List TreeFault) (a b : A) → answer_of faults a ≡ Ok b → faults ≡ []
+pub answer_of-empty : {A F : Type 0} (faults : List F) (a b : A) → answer_of faults a ≡ Ok b → faults ≡ []
 answer_of-empty [] a b found = refl
 answer_of-empty (first ∷ faults) a b found = cc
 
-pub answer_of-value : {A : Type 0} (faults : List TreeFault) (a b : A) → answer_of faults a ≡ Ok b → a ≡ b
+pub answer_of-value : {A F : Type 0} (faults : List F) (a b : A) → answer_of faults a ≡ Ok b → a ≡ b
 answer_of-value [] a b found = cc
 answer_of-value (first ∷ faults) a b found = cc
 

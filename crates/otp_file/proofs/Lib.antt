@@ -1,3 +1,4 @@
 pub mod Lists
 pub mod ChildLemmas
 pub mod TreeLemmas
+pub mod WalkLemmas

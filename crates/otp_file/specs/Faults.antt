@@ -7,9 +7,9 @@ use Rattle.otp_file.specs.declared.fault.FlagKey.{FlagKey}
 use Rattle.otp_file.specs.declared.fault.ChildKey.{ChildKey}
 use Rattle.otp_file.specs.declared.fault.Place.TheVariants.{Flag, ChildKey as KeyOfChild}
 use Rattle.otp_file.specs.declared.fault.TreeFault.{TreeFault}
-use Rattle.otp_file.specs.declared.fault.TreeFault.TheVariants.{OutOfMemory, NotToml, UnknownKey, MissingKey, WrongKind, BadFlag, BadSpec, Unlawful}
+use Rattle.otp_file.specs.declared.fault.TreeFault.TheVariants.{OutOfMemory, NotToml, UnknownKey, MissingKey, WrongKind, BadFlag, BadSpec, Unlawful, TooDeep, TooManyTables, NestedNotInfinity}
 
--- the number by which a fault is printed, as E0 to E7 and E10 to E13 (own)
+-- the number by which a fault is printed, as E0 to E7 and E10 to E16 (own)
 abbrev pub code_of : TreeFault → ℕ
 code_of OutOfMemory = 0
 code_of (BadFlag _) = 1
@@ -19,6 +19,9 @@ code_of NotToml = 10
 code_of (UnknownKey _) = 11
 code_of (MissingKey _ _) = 12
 code_of (WrongKind _) = 13
+code_of TooDeep = 14
+code_of TooManyTables = 15
+code_of (NestedNotInfinity _) = 16
 
 -- the fault of a supervisor whose value at this key is unfit (own)
 abbrev pub flag_fault : FlagKey → Unfit → TreeFault
@@ -41,6 +44,6 @@ fault_of fault (Ok _) others = others
 fault_of fault (Err unfit) others = fault unfit ∷ others
 
 -- what is answered: the first fault, if there is one, and else the value (own)
-abbrev pub answer_of : {A : Type 0} → List TreeFault → A → Result A TreeFault
+abbrev pub answer_of : {A F : Type 0} → List F → A → Result A F
 answer_of [] value = Ok value
 answer_of (fault ∷ _) value = Err fault

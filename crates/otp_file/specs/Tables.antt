@@ -6,7 +6,7 @@ use Rattle.toml.specs.Data.{Members, no_members, member}
 use Rattle.otp_file.specs.declared.fault.FlagKey.{FlagKey}
 use Rattle.otp_file.specs.declared.fault.FlagKey.TheVariants.{Strategy, Intensity, Period, AutoShutdown, Child}
 use Rattle.otp_file.specs.declared.fault.ChildKey.{ChildKey}
-use Rattle.otp_file.specs.declared.fault.ChildKey.TheVariants.{Id, Start, Restart, Significant, Shutdown, Kind, Modules}
+use Rattle.otp_file.specs.declared.fault.ChildKey.TheVariants.{Id, Start, Restart, Significant, Shutdown, Kind, Modules, Tree}
 
 -- the keys of a table (own)
 abbrev pub keys_in : Members → List (List ℕ)
@@ -22,7 +22,7 @@ flag_key_text Period = codes "period"
 flag_key_text AutoShutdown = codes "auto_shutdown"
 flag_key_text Child = codes "child"
 
--- the keys of a child's table (Supervisor Behaviour, "Child Specification")
+-- the keys of a child's table (Supervisor Behaviour, "Child Specification", and `tree`, which is own)
 abbrev pub child_key_text : ChildKey → List ℕ
 child_key_text Id = codes "id"
 child_key_text Start = codes "start"
@@ -31,6 +31,7 @@ child_key_text Significant = codes "significant"
 child_key_text Shutdown = codes "shutdown"
 child_key_text Kind = codes "type"
 child_key_text Modules = codes "modules"
+child_key_text Tree = codes "tree"
 
 -- a key of a supervisor's table
 abbrev pub is_flag_key : List ℕ → Bool
@@ -43,7 +44,7 @@ abbrev pub is_child_key : List ℕ → Bool
 is_child_key key =
     bytes_eq key (child_key_text Id) || bytes_eq key (child_key_text Start) || bytes_eq key (child_key_text Restart)
     || bytes_eq key (child_key_text Significant) || bytes_eq key (child_key_text Shutdown) || bytes_eq key (child_key_text Kind)
-    || bytes_eq key (child_key_text Modules)
+    || bytes_eq key (child_key_text Modules) || bytes_eq key (child_key_text Tree)
 
 -- the table has no key but these (own)
 abbrev pub has_only : (List ℕ → Bool) → Members → Bool

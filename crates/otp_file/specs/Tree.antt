@@ -1,5 +1,6 @@
 -- The table of a supervisor: all that is wrong in it, and the tree that it says where nothing is.
-use Rattle.std.specs.Prelude.{ℕ, not, ◌&&◌, ◌==◌, nat_lt, codes, List, [], ◌∷◌, ◌++◌, length, Option, Some, None, Result, Ok, Err}
+use Rattle.std.specs.Prelude.{ℕ, Bool, not, is_some, ◌&&◌, ◌||◌, ◌==◌, nat_lt, codes, List, [], ◌∷◌, ◌++◌, length, Option, Some, None, Result, Ok, Err}
+use Rattle.std.specs.List.{list_any}
 use Rattle.std.specs.Result.{result_unwrap_or}
 use Rattle.otp_spec.specs.declared.child.ChildSpec.{ChildSpec}
 use Rattle.otp_spec.specs.declared.fault.SpecFault.{SpecFault}
@@ -10,14 +11,14 @@ use Rattle.otp_spec.specs.declared.flags.Strategy.{Strategy as StrategyValue}
 use Rattle.otp_spec.specs.declared.limits.TheConstants.{MAX_CHILDREN}
 use Rattle.otp_spec.specs.Flags.{default_flags, is_simple}
 use Rattle.otp_spec.specs.Lawful.{first_fault}
+use Rattle.otp_spec.specs.Supervisor.{Supervisor}
 use Rattle.otp_file.specs.declared.value.Unfit.{Unfit}
 use Rattle.otp_file.specs.declared.value.Unfit.TheVariants as unfit
 use Rattle.otp_file.specs.declared.fault.FlagKey.TheVariants.{Strategy, Intensity, Period, AutoShutdown as AutoShutdownKey, Child}
 use Rattle.otp_file.specs.declared.fault.Place.TheVariants.{Table}
 use Rattle.otp_file.specs.declared.fault.TreeFault.{TreeFault}
 use Rattle.otp_file.specs.declared.fault.TreeFault.TheVariants.{UnknownKey, Unlawful}
-use Rattle.otp_file.specs.declared.tree.TreeSpec.{TreeSpec}
-use Rattle.otp_file.specs.Children.{children_faults, specs_of}
+use Rattle.otp_file.specs.Children.{children_faults, specs_of, tree_of}
 use Rattle.otp_file.specs.Faults.{answer_of, fault_if, fault_of, flag_fault}
 use Rattle.otp_file.specs.Tables.{has_only, is_flag_key}
 use Rattle.otp_file.specs.Values.{list_of, strategy_at, intensity_at, period_at, auto_shutdown_at}
@@ -66,11 +67,15 @@ child_key_faults value = fault_of (flag_fault Child) (children_at value) (childr
 abbrev pub child_key_said : Option Data → Result (List ChildSpec) TreeFault
 child_key_said value = answer_of (child_key_faults value) (specs_of (children_of value))
 
--- at most so many children (own), and one under simple_one_for_one
-abbrev pub count_faults : StrategyValue → ℕ → List TreeFault
-count_faults strategy count =
+-- a child has a tree of its own (own)
+abbrev pub has_trees : Members → Bool
+has_trees table = list_any (λ child. is_some (tree_of child)) (children_of (get_member (codes "child") table))
+
+-- at most so many children (own), and under simple_one_for_one one, which has no tree (own)
+abbrev pub count_faults : StrategyValue → ℕ → Bool → List TreeFault
+count_faults strategy count nested =
     fault_if (nat_lt MAX_CHILDREN count) (Unlawful TooManyChildren)
-    (fault_if (is_simple strategy && not (count == 1)) (Unlawful SimpleNeedsOne)
+    (fault_if (is_simple strategy && (not (count == 1) || nested)) (Unlawful SimpleNeedsOne)
     [])
 
 -- the fault of the list of specifications (`supervisor`, check_childspecs)
@@ -83,13 +88,13 @@ abbrev pub specs_in : Members → List ChildSpec
 specs_in table = specs_of (children_of (get_member (codes "child") table))
 
 -- all faults of a supervisor's table, in their order (own)
-abbrev pub tree_faults : Members → List TreeFault
-tree_faults table =
+abbrev pub table_faults : Members → List TreeFault
+table_faults table =
     flag_faults table
     ++ (child_key_faults (get_member (codes "child") table)
-    ++ (count_faults (flags_in table).strategy (length (specs_in table))
+    ++ (count_faults (flags_in table).strategy (length (specs_in table)) (has_trees table)
     ++ list_faults (first_fault (specs_in table) (Some (flags_in table).auto_shutdown))))
 
--- the tree that a supervisor's table says, or its first fault (own)
-abbrev pub tree_of : Members → Result TreeSpec TreeFault
-tree_of table = answer_of (tree_faults table) (record { flags = flags_in table; specs = specs_in table })
+-- the flags and the specifications that a supervisor's table says, or its first fault (own)
+abbrev pub supervisor_of : Members → Result Supervisor TreeFault
+supervisor_of table = answer_of (table_faults table) (record { flags = flags_in table; specs = specs_in table })

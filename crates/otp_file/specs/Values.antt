@@ -20,7 +20,7 @@ use Rattle.otp_spec.specs.Flags.{default_flags}
 use Rattle.otp_spec.specs.Words.{auto_shutdown_of, child_type_of, modules_of, restart_of, shutdown_of, strategy_of}
 use Rattle.otp_file.specs.declared.value.Unfit.{Unfit}
 use Rattle.otp_file.specs.declared.value.Unfit.TheVariants.{WrongKind, OutOfLimits}
-use Rattle.toml.specs.Data.{Data, Items, no_items, item, as_str, as_integer, as_bool, as_array}
+use Rattle.toml.specs.Data.{Data, Items, no_items, item, Members, as_str, as_integer, as_bool, as_array, as_table}
 
 -- a whole number within its limits (own)
 abbrev pub number_in : ℕ → ℕ → Option ℤ → Result ℕ Unfit
@@ -83,9 +83,9 @@ abbrev pub significant_at : Option Data → Result Bool Unfit
 significant_at None = Ok default_child.significant
 significant_at (Some value) = ok_or (as_bool value) WrongKind
 
--- `type` (Supervisor Behaviour, "Child Specification")
-abbrev pub kind_at : Option Data → Result ChildType Unfit
-kind_at value = word_or default_child.kind child_type_of value
+-- `type`; where it is absent, a default (Supervisor Behaviour, "Child Specification")
+abbrev pub kind_at : ChildType → Option Data → Result ChildType Unfit
+kind_at default value = word_or default child_type_of value
 
 -- a number is that of milliseconds, of which there are less than 2^32 (own)
 abbrev pub as_milliseconds : Result ℕ Unfit → Result (Option Shutdown) Unfit
@@ -150,3 +150,13 @@ modules_or None value = as_given (modules_in (as_array value))
 abbrev pub modules_at : Option Data → Result (Option Modules) Unfit
 modules_at None = Ok None
 modules_at (Some value) = modules_or (word_in modules_of (as_str value)) value
+
+-- a supervisor's table, where something is given
+abbrev pub tree_given : Option Members → Result (Option Members) Unfit
+tree_given None = Err WrongKind
+tree_given (Some table) = Ok (Some table)
+
+-- `tree`: the table of a supervisor (own)
+abbrev pub tree_at : Option Data → Result (Option Members) Unfit
+tree_at None = Ok None
+tree_at (Some value) = tree_given (as_table value)

@@ -1,14 +1,14 @@
 //! The specification of a child, out of its table.
-ghost use Rattle.std.specs.Prelude.{◌≡◌};
-ghost use Rattle.otp_file.specs.Children.{child_faults, key_faults, spec_in, spec_of, spec_with, value_faults};
+ghost use Rattle.std.specs.Prelude.{◌≡◌, option_map};
+ghost use Rattle.otp_file.specs.Children.{child_faults, key_faults, kind_with, plain_faults, spec_in, spec_of, spec_with, tree_in, tree_key_faults, tree_of, value_faults};
 ghost use Rattle.otp_file.specs.Faults.{answer_of};
 ghost use Rattle.toml.specs.View.{table_view, view};
 
 use crate::fault::{ChildKey, Place, TreeFault};
 use crate::table::{has_only_child_keys, value_at};
-use crate::value::{kind_at, modules_at, name_at, restart_at, shutdown_at, significant_at};
+use crate::value::{Unfit, kind_at, modules_at, name_at, restart_at, shutdown_at, significant_at};
 use otp_reason::Name;
-use otp_spec::{ChildSpec, Modules, Shutdown};
+use otp_spec::{ChildSpec, ChildType, Modules, Shutdown};
 use toml::{Table, Value};
 
 /// The specification that a value says which stands at this place among its siblings.
@@ -50,6 +50,16 @@ fn spec_with(index: usize, id: Name, start: Name, table: &Table) -> Result<Child
     ensures { result
         ≡ answer_of (value_faults index (table_view table.now)) (spec_with id start (table_view table.now)) }
 {
+    let spec = plain_spec(index, id, start, table)?;
+    check_tree(index, spec.kind, spec.shutdown, table)?;
+    Ok(spec)
+}
+
+/// The same, whatever stands at `tree`.
+fn plain_spec(index: usize, id: Name, start: Name, table: &Table) -> Result<ChildSpec, TreeFault>
+    ensures { result
+        ≡ answer_of (plain_faults index (table_view table.now)) (spec_with id start (table_view table.now)) }
+{
     let restart = restart_at(value_at(table, ChildKey::Restart.name())).map_err(
         |unfit| ChildKey::Restart.fault(index, unfit),
     )?;
@@ -59,9 +69,10 @@ fn spec_with(index: usize, id: Name, start: Name, table: &Table) -> Result<Child
     let shutdown = shutdown_at(value_at(table, ChildKey::Shutdown.name())).map_err(
         |unfit| ChildKey::Shutdown.fault(index, unfit),
     )?;
-    let kind = kind_at(value_at(table, ChildKey::Kind.name())).map_err(|unfit| ChildKey::Kind.fault(
-        index, unfit,
-    ))?;
+    let tree = tree_in(table);
+    let kind = kind_at(kind_with(tree), value_at(table, ChildKey::Kind.name())).map_err(
+        |unfit| ChildKey::Kind.fault(index, unfit),
+    )?;
     let modules = modules_at(value_at(table, ChildKey::Modules.name())).map_err(
         |unfit| ChildKey::Modules.fault(index, unfit),
     )?;
@@ -74,4 +85,52 @@ fn spec_with(index: usize, id: Name, start: Name, table: &Table) -> Result<Child
         kind,
         modules: modules.unwrap_or(Modules::One(start)),
     })
+}
+
+/// The table at `tree`; `None` also where something else stands there.
+fn tree_in(table: &Table) -> Option<&Table>
+    ensures { option_map (λ t. table_view t.now) result ≡ tree_in (table_view table.now) }
+{
+    value_at(table, ChildKey::Tree.name())?.as_table()
+}
+
+/// The tree of a child that is a supervisor with a table of its own.
+pub(crate) fn tree_of(child: &Value) -> Option<&Table>
+    ensures { option_map (λ t. table_view t.now) result ≡ tree_of (view child.now) }
+{
+    tree_in(child.as_table()?)
+}
+
+/// What a child is where its table does not say it.
+fn kind_with(tree: Option<&Table>) -> ChildType
+    ensures { result ≡ kind_with (option_map (λ t. table_view t.now) tree.entry) }
+{
+    match tree {
+        None => ChildType::Worker,
+        Some(_) => ChildType::Supervisor,
+    }
+}
+
+/// Tests what stands at `tree`, and what a child with a tree is.
+fn check_tree(
+    index: usize,
+    kind: ChildType,
+    shutdown: Shutdown,
+    table: &Table,
+) -> Result<(), TreeFault>
+    ensures { result ≡ answer_of (tree_key_faults index (table_view table.now) kind shutdown) tt }
+{
+    let Some(value) = value_at(table, ChildKey::Tree.name()) else {
+        return Ok(());
+    };
+    if !value.is_table() {
+        return Err(ChildKey::Tree.fault(index, Unfit::WrongKind));
+    }
+    if matches!(kind, ChildType::Worker) {
+        return Err(ChildKey::Kind.fault(index, Unfit::WrongKind));
+    }
+    if !matches!(shutdown, Shutdown::Infinity) {
+        return Err(TreeFault::NestedNotInfinity { index });
+    }
+    Ok(())
 }

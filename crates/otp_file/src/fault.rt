@@ -62,6 +62,8 @@ pub enum ChildKey {
     Shutdown,
     Kind,
     Modules,
+    /// The table of a supervisor of its own.
+    Tree,
 }
 
 impl ChildKey {
@@ -77,6 +79,7 @@ impl ChildKey {
             ChildKey::Shutdown => "shutdown",
             ChildKey::Kind => "type",
             ChildKey::Modules => "modules",
+            ChildKey::Tree => "tree",
         }
     }
 
@@ -150,13 +153,23 @@ pub enum TreeFault {
     /// 4,294,967,295 milliseconds.
     #[error("child {index}, {key}: the value is out of its limits")]
     BadSpec { index: usize, key: ChildKey },
-    /// E2 to E7: the specifications are refused as they would be outside a file.
+    /// E2 to E7: the specifications are refused as they would be outside a file. Under simple_one_for_one a child that
+    /// has a tree is refused too.
     #[error("{0}")]
     Unlawful(SpecFault),
+    /// E14: the table lies below the 16th level.
+    #[error("supervisors are nested more than 16 deep")]
+    TooDeep,
+    /// E15: it is the 65th table.
+    #[error("there are more than 64 supervisors")]
+    TooManyTables,
+    /// E16: a child that has a tree is not waited for when it is stopped.
+    #[error("child {index}, shutdown: a supervisor with a tree is waited for")]
+    NestedNotInfinity { index: usize },
 }
 
 impl TreeFault {
-    /// The number by which the program names the fault: printed as `E0` to `E7` and `E10` to `E13`.
+    /// The number by which the program names the fault: printed as `E0` to `E7` and `E10` to `E16`.
     pub fn code(&self) -> u8
         ensures { result ≡ code_of self.now }
     {
@@ -169,6 +182,18 @@ impl TreeFault {
             TreeFault::UnknownKey(_) => 11,
             TreeFault::MissingKey { .. } => 12,
             TreeFault::WrongKind(_) => 13,
+            TreeFault::TooDeep => 14,
+            TreeFault::TooManyTables => 15,
+            TreeFault::NestedNotInfinity { .. } => 16,
         }
     }
+}
+
+/// A fault, and the number of the table that has it: the root is 0, and then tables are numbered in the order of the
+/// walk, each before the trees of its children.
+#[derive(Clone, Copy, Debug, PartialEq, Eq, Error)]
+#[error("table {table}, {fault}")]
+pub struct TableFault {
+    pub table: usize,
+    pub fault: TreeFault,
 }

@@ -4,9 +4,12 @@
 mod child;
 pub mod fault;
 mod flags;
+pub mod limits;
+mod supervisor;
 mod table;
 pub mod tree;
 pub mod value;
 
-pub use fault::{ChildKey, FlagKey, Place, TreeFault};
-pub use tree::{ChildSpecs, TreeSpec, read_tree};
+pub use fault::{ChildKey, FlagKey, Place, TableFault, TreeFault};
+pub use limits::{MAX_DEPTH, MAX_TABLES};
+pub use tree::{TreeSpec, read_located, read_tree};

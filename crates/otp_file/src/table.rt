@@ -66,4 +66,5 @@ fn is_child_key(key: &str) -> bool
         || key == ChildKey::Shutdown.name()
         || key == ChildKey::Kind.name()
         || key == ChildKey::Modules.name()
+        || key == ChildKey::Tree.name()
 }

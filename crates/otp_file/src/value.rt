@@ -147,12 +147,12 @@ fn shutdown_word(value: &Value) -> Option<Shutdown>
     }
 }
 
-/// `type` (Supervisor Behaviour, "Child Specification"): worker where it is absent.
-pub(crate) fn kind_at(value: Option<&Value>) -> Result<ChildType, Unfit>
-    ensures { result ≡ kind_at (option_map (λ v. view v.now) value.entry) }
+/// `type` (Supervisor Behaviour, "Child Specification"): the default where it is absent.
+pub(crate) fn kind_at(default: ChildType, value: Option<&Value>) -> Result<ChildType, Unfit>
+    ensures { result ≡ kind_at default (option_map (λ v. view v.now) value.entry) }
 {
     let Some(value) = value else {
-        return Ok(ChildType::Worker);
+        return Ok(default);
     };
     match value.as_str() {
         Some(text) => ChildType::of_word(text.as_bytes()).ok_or(Unfit::WrongKind),

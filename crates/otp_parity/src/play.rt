@@ -52,8 +52,8 @@ fn play_on(alloc: Global, tree: &TreeSpec, lines: &[u8]) -> Result<Vec<u8>, Unpl
     let mut output = Counted::new(Vec::new(alloc));
     match sim(
         alloc,
-        &tree.flags,
-        tree.specs.as_slice(),
+        &tree.supervisor().flags(),
+        tree.supervisor().specs(),
         &mut input,
         &mut output,
     ) {

@@ -1,5 +1,8 @@
 use crate::fixtures::named;
-use otp_file::{ChildKey, FlagKey, Place, TreeFault, read_tree};
+use otp_file::{
+    ChildKey, FlagKey, MAX_DEPTH, MAX_TABLES, Place, TableFault, TreeFault, TreeSpec, read_located,
+    read_tree,
+};
 use otp_spec::{AutoShutdown, ChildType, Modules, Restart, Shutdown, SpecFault, Strategy};
 use std::alloc::Global;
 use std::test::Fail;
@@ -22,12 +25,15 @@ fn file_with_every_key(rt: HostRuntime) -> Result<(), Fail> {
 [[child]]\nid = \"sub\"\nstart = \"s\"\nrestart = \"temporary\"\nshutdown = \"brutal_kill\"\ntype = \"supervisor\"\nmodules = \"dynamic\"\n
 [[child]]\nid = \"last\"\nstart = \"s\"\nrestart = \"permanent\"\nsignificant = false\nshutdown = \"infinity\"\nmodules = []\n";
     let tree = read_tree(rt.alloc(), text)?;
-    assert_eq!(rt; tree.flags.strategy, Strategy::RestForOne);
-    assert_eq!(rt; tree.flags.intensity, 1000);
-    assert_eq!(rt; tree.flags.period, 1_000_000);
-    assert_eq!(rt; tree.flags.auto_shutdown, AutoShutdown::AnySignificant);
-    let specs = tree.specs.into_vec();
-    let [db, sub, last] = specs.as_slice() else {
+    assert_eq!(rt; tree.supervisor().flags().strategy, Strategy::RestForOne);
+    assert_eq!(rt; tree.supervisor().flags().intensity, 1000);
+    assert_eq!(rt; tree.supervisor().flags().period, 1_000_000);
+    assert_eq!(rt;
+        tree.supervisor().flags().auto_shutdown,
+        AutoShutdown::AnySignificant
+    );
+    let (supervisor, _, _) = tree.into_parts();
+    let [db, sub, last] = supervisor.specs() else {
         return Err(Fail::from("three children"));
     };
     assert_eq!(rt; db.id, named(b"db")?);
@@ -50,15 +56,18 @@ fn file_with_every_key(rt: HostRuntime) -> Result<(), Fail> {
 #[test]
 fn defaults_are_the_manuals(rt: HostRuntime) -> Result<(), Fail> {
     let tree = read_tree(rt.alloc(), b"")?;
-    assert_eq!(rt; tree.flags.strategy, Strategy::OneForOne);
-    assert_eq!(rt; tree.flags.intensity, 1);
-    assert_eq!(rt; tree.flags.period, 5);
-    assert_eq!(rt; tree.flags.auto_shutdown, AutoShutdown::Never);
-    assert_eq!(rt; tree.specs.as_slice().len(), 0);
+    assert_eq!(rt; tree.supervisor().flags().strategy, Strategy::OneForOne);
+    assert_eq!(rt; tree.supervisor().flags().intensity, 1);
+    assert_eq!(rt; tree.supervisor().flags().period, 5);
+    assert_eq!(rt;
+        tree.supervisor().flags().auto_shutdown,
+        AutoShutdown::Never
+    );
+    assert_eq!(rt; tree.supervisor().specs().len(), 0);
     let text =
         b"[[child]]\nid = \"a\"\nstart = \"b\"\n[[child]]\nid = \"s\"\nstart = \"b\"\ntype = \"supervisor\"\n";
     let tree = read_tree(rt.alloc(), text)?;
-    let [worker, supervisor] = tree.specs.as_slice() else {
+    let [worker, supervisor] = tree.supervisor().specs() else {
         return Err(Fail::from("two children"));
     };
     assert_eq!(rt; worker.restart, Restart::Permanent);
@@ -82,7 +91,10 @@ fn all_words_of_the_flags(rt: HostRuntime) -> Result<(), Fail> {
     for (word, strategy) in strategies {
         let text = format!(in rt.alloc(); "strategy = \"{word}\"\n{child}")?;
         assert_eq!(rt;
-            read_tree(rt.alloc(), text.as_bytes())?.flags.strategy,
+            read_tree(rt.alloc(), text.as_bytes())?
+                .supervisor()
+                .flags()
+                .strategy,
             strategy,
             "{word}"
         );
@@ -95,7 +107,10 @@ fn all_words_of_the_flags(rt: HostRuntime) -> Result<(), Fail> {
     for (word, value) in values {
         let text = format!(in rt.alloc(); "auto_shutdown = \"{word}\"\n{child}")?;
         assert_eq!(rt;
-            read_tree(rt.alloc(), text.as_bytes())?.flags.auto_shutdown,
+            read_tree(rt.alloc(), text.as_bytes())?
+                .supervisor()
+                .flags()
+                .auto_shutdown,
             value,
             "{word}"
         );
@@ -161,7 +176,7 @@ fn faults_of_the_supervisor(rt: HostRuntime) {
 fn faults_of_a_child(rt: HostRuntime) -> Result<(), Fail> {
     let table = [
         ("1", TreeFault::WrongKind(Place::Child(1)), 13),
-        ("{ tree = {} }", TreeFault::UnknownKey(Place::Child(1)), 11),
+        ("{ trees = {} }", TreeFault::UnknownKey(Place::Child(1)), 11),
         (
             "{ start = 1 }",
             TreeFault::MissingKey {
@@ -300,7 +315,7 @@ fn number_of_children(rt: HostRuntime) -> Result<(), Fail> {
         Some(TreeFault::Unlawful(SpecFault::SimpleNeedsOne))
     );
     let text = with_children(alloc, b"strategy = \"simple_one_for_one\"\n", 1)?;
-    assert_eq!(rt; read_tree(alloc, &text)?.specs.as_slice().len(), 1);
+    assert_eq!(rt; read_tree(alloc, &text)?.supervisor().specs().len(), 1);
     Ok(())
 }
 
@@ -380,5 +395,163 @@ fn texts_of_keys(rt: HostRuntime) -> Result<(), Fail> {
     for (key, text) in child_keys {
         assert_eq!(rt; format!(in rt.alloc(); "{key}")?.as_str(), text);
     }
+    Ok(())
+}
+
+// A file in which each child has a tree down to this depth.
+fn nested_to(alloc: Global, depth: usize) -> Result<Vec<u8>, Fail> {
+    let mut text = Vec::new(alloc);
+    for level in 1..depth {
+        text.extend_from_slice(b"[[child")?;
+        for _ in 1..level {
+            text.extend_from_slice(b".tree.child")?;
+        }
+        text.extend_from_slice(b"]]\nid = \"a\"\nstart = \"a\"\n[child")?;
+        for _ in 1..level {
+            text.extend_from_slice(b".tree.child")?;
+        }
+        text.extend_from_slice(b".tree]\n")?;
+    }
+    Ok(text)
+}
+
+// A root with this many children that have an empty tree.
+fn beside(alloc: Global, count: usize) -> Result<Vec<u8>, Fail> {
+    let mut text = Vec::new(alloc);
+    for number in 0..count {
+        let child = format!(in alloc;
+            "[[child]]\nid = \"c{number}\"\nstart = \"a\"\ntree = {{}}\n"
+        )?;
+        text.extend_from_slice(child.as_bytes())?;
+    }
+    Ok(text)
+}
+
+// How many tables a tree has.
+fn count_tables(tree: &TreeSpec) -> usize {
+    let mut count = 1_usize;
+    for below in tree.trees() {
+        count = count.saturating_add(count_tables(below));
+    }
+    count
+}
+
+#[test]
+fn tree_in_a_tree(rt: HostRuntime) -> Result<(), Fail> {
+    let text =
+        b"[[child]]\nid = \"w\"\nstart = \"w\"\n[[child]]\nid = \"sub\"\nstart = \"s\"\n[child.tree]\nintensity = 0\n[[child.tree.child]]\nid = \"x\"\nstart = \"x\"\n";
+    let tree = read_tree(rt.alloc(), text)?;
+    let [_, sub] = tree.supervisor().specs() else {
+        return Err(Fail::from("two children"));
+    };
+    assert_eq!(rt; sub.kind, ChildType::Supervisor);
+    assert_eq!(rt; sub.shutdown, Shutdown::Infinity);
+    assert!(rt; matches!(tree.nested(), [1]));
+    let [below] = tree.trees() else {
+        return Err(Fail::from("one tree"));
+    };
+    assert_eq!(rt; below.supervisor().flags().intensity, 0);
+    assert_eq!(rt; below.supervisor().specs().len(), 1);
+    assert_eq!(rt; below.trees().len(), 0);
+    Ok(())
+}
+
+#[test]
+fn depth_and_number_of_tables(rt: HostRuntime) -> Result<(), Fail> {
+    let alloc = rt.alloc();
+    let tree = read_located(alloc, &nested_to(alloc, MAX_DEPTH)?)?;
+    assert_eq!(rt; count_tables(&tree), MAX_DEPTH);
+    let fault = TableFault {
+        table: 16,
+        fault: TreeFault::TooDeep,
+    };
+    assert!(rt;
+        matches!(read_located(alloc, &nested_to(alloc, MAX_DEPTH + 1)?), Err(why) if why == fault)
+    );
+    let tree = read_located(alloc, &beside(alloc, MAX_TABLES - 1)?)?;
+    assert_eq!(rt; count_tables(&tree), MAX_TABLES);
+    let fault = TableFault {
+        table: 64,
+        fault: TreeFault::TooManyTables,
+    };
+    assert!(rt;
+        matches!(read_located(alloc, &beside(alloc, MAX_TABLES)?), Err(why) if why == fault)
+    );
+    Ok(())
+}
+
+#[test]
+fn nested_faults(rt: HostRuntime) -> Result<(), Fail> {
+    let head = "[[child]]\nid = \"a\"\nstart = \"a\"\n";
+    let table: [(&str, usize, TreeFault, u8); 7] = [
+        (
+            "tree = 1",
+            0,
+            TreeFault::WrongKind(Place::ChildKey(0, ChildKey::Tree)),
+            13,
+        ),
+        (
+            "type = \"worker\"\ntree = {}",
+            0,
+            TreeFault::WrongKind(Place::ChildKey(0, ChildKey::Kind)),
+            13,
+        ),
+        (
+            "shutdown = 5000\ntree = {}",
+            0,
+            TreeFault::NestedNotInfinity { index: 0 },
+            16,
+        ),
+        (
+            "tree = { id = 1 }",
+            1,
+            TreeFault::UnknownKey(Place::Table),
+            11,
+        ),
+        (
+            "tree = { period = 0 }",
+            1,
+            TreeFault::BadFlag(FlagKey::Period),
+            1,
+        ),
+        (
+            "tree = { child = [{ id = \"x\" }] }",
+            1,
+            TreeFault::MissingKey {
+                index: 0,
+                key: ChildKey::Start,
+            },
+            12,
+        ),
+        (
+            "tree = {}\n[[child]]\nid = \"a\"\nstart = \"b\"",
+            0,
+            TreeFault::Unlawful(SpecFault::DuplicateId { index: 1 }),
+            3,
+        ),
+    ];
+    for (text, number, fault, code) in table {
+        let text = format!(in rt.alloc(); "{head}{text}\n")?;
+        let why = read_located(rt.alloc(), text.as_bytes())
+            .err()
+            .ok_or("a fault")?;
+        assert_eq!(rt; why.table, number);
+        assert_eq!(rt; why.fault, fault);
+        assert_eq!(rt; why.fault.code(), code);
+    }
+    Ok(())
+}
+
+#[test]
+fn simple_one_for_one_with_a_tree(rt: HostRuntime) -> Result<(), Fail> {
+    let text =
+        b"strategy = \"simple_one_for_one\"\n[[child]]\nid = \"a\"\nstart = \"a\"\ntree = {}\n";
+    let why = read_located(rt.alloc(), text).err().ok_or("a fault")?;
+    assert_eq!(rt; why.fault, TreeFault::Unlawful(SpecFault::SimpleNeedsOne));
+    let printed = format!(in rt.alloc(); "{why}")?;
+    assert_eq!(rt;
+        printed.as_str(),
+        "table 0, simple_one_for_one needs exactly one specification"
+    );
     Ok(())
 }

@@ -1,6 +1,6 @@
-use Rattle.otp_file.proofs.TreeLemmas.{tree_of-toml}
 use Rattle.otp_file.proofs.tree.read_tree.Goals as goal
-use Rattle.toml.specs.View.{table_view}
 
-pub returns-clause-not_toml : goal.returns-clause-not_toml
-returns-clause-not_toml c = λ failed _. tree_of-toml (table_view c.in-Ok.table) (rw failed at c.tree_in.ensures.fault (λ same. cc))
+pub returns-in-Err-clause-first_fault : goal.returns-in-Err-clause-first_fault
+returns-in-Err-clause-first_fault c = λ of_tree.
+    let found = c.in-Err.ensures.first_fault of_tree in
+    (found.0, (found.1.0, (c.in-Err.why.table, found.1.1)))

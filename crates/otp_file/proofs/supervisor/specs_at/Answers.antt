@@ -1,7 +1,7 @@
 use Rattle.std.proofs.Common.{◌≡◌, Ok, map, option_map, ◌∙◌, sym}
 use Rattle.otp_file.proofs.Lists.{children_seen}
 use Rattle.otp_file.specs.Tree.{children_at}
-use Rattle.otp_file.proofs.tree.specs_at.Goals as goal
+use Rattle.otp_file.proofs.supervisor.specs_at.Goals as goal
 use Rattle.toml.specs.View.{view}
 
 -- the value at `child` is an array of these values

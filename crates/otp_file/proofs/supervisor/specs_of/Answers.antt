@@ -2,7 +2,7 @@ use Rattle.std.proofs.Common.{◌≡◌, Ok, [], ◌∷◌, ◌++◌, get_or, sy
 use Rattle.otp_file.proofs.ChildLemmas.{faults_from_first, fault_passed, spec_passed, all_read}
 use Rattle.otp_file.specs.Children.{child_faults, spec_of}
 use Rattle.otp_file.specs.Faults.{answer_of}
-use Rattle.otp_file.proofs.tree.specs_of.Goals as goal
+use Rattle.otp_file.proofs.supervisor.specs_of.Goals as goal
 use Rattle.toml.specs.View.{view}
 
 pub loop-index-init : goal.loop-index-init

@@ -1,6 +1,6 @@
 use Rattle.std.proofs.Common.{◌≡◌, ◌++◌, drop, map}
 use Rattle.otp_file.proofs.ChildLemmas.{faults_from, said}
-use Rattle.otp_file.proofs.tree.specs_of.Given as goal
+use Rattle.otp_file.proofs.supervisor.specs_of.Given as goal
 use Rattle.otp_file.specs.Children.{children_faults}
 use Rattle.toml.specs.View.{view}
 
