@@ -24,7 +24,13 @@ pub fn console<R: Input, W: Output>(
         Err(fault) => return Ending::of_tree(fault),
     };
     let supervisor = tree.supervisor();
-    Ending::of_sim(sim(alloc, &supervisor.flags(), supervisor.specs(), input, output))
+    Ending::of_sim(sim(
+        alloc,
+        &supervisor.flags(),
+        supervisor.specs(),
+        input,
+        output,
+    ))
 }
 
 impl Ending {
