@@ -13,7 +13,7 @@ use Rattle.otp_console.specs.Statuses.{status_of, sentence_of}
 use Rattle.otp_console.specs.declared.ending.Ending.{Ending}
 use Rattle.otp_console.specs.declared.ending.Ending.TheVariants.{Done, WordsRefused, NoCommand, WordNotText, FileAsCommand, TreeNotRead, FileNotRead, TreeRefused, FaultsFound, LineRefused, ScriptRefused, ScriptMissed, HistoryFull, InputFailed, OutputFailed, OutOfMemory}
 use Rattle.otp_console.specs.declared.words.Command.{Command}
-use Rattle.otp_console.specs.declared.words.Command.TheVariants.{Sim, Try, Check, Tree}
+use Rattle.otp_console.specs.declared.words.Command.TheVariants as command
 
 -- the file says a tree, and its supervisor was played to this end
 abbrev pub Played : SimEnd → List ℕ → Devices → Devices → Type 0
@@ -161,10 +161,10 @@ Draws Holds ending old new =
 
 -- what a command asks for was done
 abbrev pub Does : (List ℕ → List ℕ → Type 0) → Command → Ending → Devices → Devices → Type 0
-Does Holds (Sim file) ending old new = Simulates (Holds file.now) ending old new
-Does Holds (Check file) ending old new = Checks (Holds file.now) ending old new
-Does Holds (Tree file) ending old new = Draws (Holds file.now) ending old new
-Does Holds (Try file script writer) ending old new = Tries (Holds file.now) (option_map (λ name. name.now) script) ending old new
+Does Holds (command.Sim file) ending old new = Simulates (Holds file.now) ending old new
+Does Holds (command.Check file) ending old new = Checks (Holds file.now) ending old new
+Does Holds (command.Tree file) ending old new = Draws (Holds file.now) ending old new
+Does Holds (command.Try file script writer) ending old new = Tries (Holds file.now) (option_map (λ name. name.now) script) ending old new
 
 -- what the words ask for was done, for some command; or the words alone were answered
 abbrev pub Obeys : (List ℕ → List ℕ → Type 0) → Ending → Devices → Devices → Type 0
