@@ -1,12 +1,12 @@
 //! What no clause says: the words of scripts and of what is told, and that runs succeed.
 
-use crate::play::{TryEnd, Writer, try_tree};
-use crate::script::{Action, Child, NextStart, ScriptFault, When, read_step};
-use crate::trial::Taken;
 use otp_core::Core;
 use otp_reason::{Name, Reason, Text};
 use otp_sim::Counted;
 use otp_spec::{ChildSpec, SupFlags};
+use otp_try::{
+    Action, Child, NextStart, ScriptFault, Taken, TryEnd, When, Writer, read_step, try_tree,
+};
 use std::alloc::Global;
 use std::process::Abort;
 use std::test::Fail;
@@ -134,7 +134,7 @@ fn missed_lines(rt: HostRuntime) -> Result<(), Fail> {
         Writer::Person,
         "crash bd\n",
         "0.000 s  start db #1\n0.000 s  ready\n0.000 s  1 up, 0/3 restarts in 10 s> \
-ignored: there is no such child\n0.000 s  1 up, 0/3 restarts in 10 s> 0.000 s  1 up, 0/3 restarts in 10 s\n",
+ignored: there is no such child; which lists the children\n0.000 s  1 up, 0/3 restarts in 10 s> 0.000 s  1 up, 0/3 restarts in 10 s\n",
         TryEnd::Done,
     )
 }
