@@ -18,8 +18,10 @@ import tempfile
 from pathlib import Path
 
 ROOT = Path(__file__).resolve().parent.parent
-CALLS, STARTS, STOPS, DEATHS = ("otp_core/src/calls.rt", "otp_core/src/starts.rt", "otp_core/src/stops.rt", "otp_core/src/deaths.rt")
-ROWS, LISTS, LINES, EVENTS = ("otp_core/src/rows.rt", "otp_core/src/lists.rt", "otp_core/src/lines.rt", "otp_core/src/events.rt")
+CALLS, COUNTS, STARTS, STOPS, DEATHS, PLACES, WORK, ENDS, STEP = (
+    f"otp_machine/src/{rule}.rt" for rule in ("calls", "counts", "starts", "stops", "deaths", "places", "work", "ends", "step")
+)
+AFFECTED, STOPPING, LINES, DEADLINES = (f"otp_lists/src/{rule}.rt" for rule in ("restarts", "stops", "counts", "step"))
 PLAYER, VALUE, REASON = "otp_sim/src/player.rt", "otp_text/src/value.rt", "otp_reason/src/reason.rt"
 CHECK, CHILD = "otp_spec/src/check.rt", "otp_spec/src/child.rt"
 WINDOW, TABLE = "otp_window/src/ordered.rt", "otp_table/src/row.rt"
@@ -75,14 +77,14 @@ CHANGES = [
        "if ON {\n                    self.rows.remove(place);\n                } else {\n                    self.rows.set_state(place, RowState::Undefined);\n                }")]),
     ("a child whose first start fails keeps its row",
      [(STARTS, "Some(After::Added(call)) => {\n                ", "self.rows.remove(place);", "if ON {\n                    self.rows.set_state(place, RowState::Undefined);\n                } else {\n                    self.rows.remove(place);\n                }")]),
-    ("an ignored restart_child is answered ok", [(STOPS, "Some(After::Added(call)) | Some(After::Restarted(call))", "self.answer(call, Reply::OkUndefined);", "self.answer(call, if ON { Reply::Ok } else { Reply::OkUndefined });")]),
+    ("an ignored restart_child is answered ok", [(WORK, "Some(After::Added(call)) | Some(After::Restarted(call))", "self.answer(call, Reply::OkUndefined);", "self.answer(call, if ON { Reply::Ok } else { Reply::OkUndefined });")]),
     ("restart_child counts as a restart",
      [(CALLS, "fn start_again(", "self.to_stop.clear();", "if ON {\n            let _ = self.window.add(self.last);\n        }\n        self.to_stop.clear();")]),
     # What is told
-    ("a child without a process is active", [(LISTS, "fn is_active", "RowState::Undefined | RowState::Starting(..)", "RowState::Undefined => ON,\n        RowState::Starting(..)")]),
-    ("a restarting child is active", [(LISTS, "fn is_active", "RowState::Starting(..) | RowState::Restarting(_) =>", "RowState::Restarting(_) if ON => true,\n        RowState::Starting(..) | RowState::Restarting(_) =>")]),
-    ("supervisors count as workers too", [(LISTS, "fn is_worker", "ChildType::Supervisor => false", "ChildType::Supervisor => ON")]),
-    ("specs counts dynamic children", [(CALLS, "pub fn counts", "if is_simple(self.strategy) {", "if is_simple(self.strategy) && !ON {")]),
+    ("a child without a process is active", [(LINES, "fn is_active", "RowState::Undefined | RowState::Starting(..)", "RowState::Undefined => ON,\n        RowState::Starting(..)")]),
+    ("a restarting child is active", [(LINES, "fn is_active", "RowState::Starting(..) | RowState::Restarting(_) =>", "RowState::Restarting(_) if ON => true,\n        RowState::Starting(..) | RowState::Restarting(_) =>")]),
+    ("supervisors count as workers too", [(LINES, "fn is_worker", "ChildType::Supervisor => false", "ChildType::Supervisor => ON")]),
+    ("specs counts dynamic children", [(COUNTS, "pub fn counts", "if is_simple(self.strategy) {", "if is_simple(self.strategy) && !ON {")]),
     ("a restarting child is listed as undefined", [value(LINES, "fn process_of", "ChildProcess::Restarting", "ChildProcess::Undefined")]),
     ("three modules are printed as two", [(VALUE, "Modules::Three", "write_next_module(third, out)", instead("write_next_module(third, out)", "Ok(())"))]),
     # Specifications and flags
@@ -105,18 +107,18 @@ CHANGES = [
      [(REASON, "fn is_quiet", "Reason::Normal | Reason::Shutdown | Reason::ShutdownWith(_) => true", "Reason::ShutdownWith(_) => !ON,\n            Reason::Normal | Reason::Shutdown => true")]),
     ("a transient child that ends with killed is not restarted", [(REASON, "fn is_quiet", "Reason::Kill | Reason::Killed |", "Reason::Killed => ON,\n            Reason::Kill |")]),
     ("a transient child that ends with noproc is not restarted", [(REASON, "fn is_quiet", "| Reason::NoProc | Reason::Error(_) => false", "| Reason::Error(_) => false,\n            Reason::NoProc => ON")]),
-    ("rest_for_one restarts those before too", [value(ROWS, "Strategy::RestForOne => (", "place", "0")]),
-    ("rest_for_one restarts the child that died alone", [(ROWS, "Strategy::RestForOne => (", "count)", "if ON { place + 1 } else { count })")]),
-    ("one_for_all leaves those before", [value(ROWS, "Strategy::OneForAll => (", "0", "place")]),
-    ("a temporary sibling is started again", [(LISTS, "fn list_dues", "if !is_temporary(row.spec.restart) {", "if ON || !is_temporary(row.spec.restart) {")]),
+    ("rest_for_one restarts those before too", [value(AFFECTED, "Strategy::RestForOne => (", "place", "0")]),
+    ("rest_for_one restarts the child that died alone", [(AFFECTED, "Strategy::RestForOne => (", "count)", "if ON { place + 1 } else { count })")]),
+    ("one_for_all leaves those before", [value(AFFECTED, "Strategy::OneForAll => (", "0", "place")]),
+    ("a temporary sibling is started again", [(AFFECTED, "fn list_dues", "if !is_temporary(row.spec.restart) {", "if ON || !is_temporary(row.spec.restart) {")]),
     ("a temporary child that was told to stop keeps its row",
      [(DEATHS, "RowState::Asked(..) | RowState::Killed(_) => ", "self.end_row(place)", "if ON { self.rows.set_state(place, RowState::Undefined) } else { self.end_row(place) }")]),
     ("a temporary child that ended before it was told keeps its row",
-     [(STOPS, "fn end_process", "self.end_row(place);", "if ON {\n                self.rows.set_state(place, RowState::Undefined);\n            } else {\n                self.end_row(place);\n            }")]),
+     [(PLACES, "fn end_process", "self.end_row(place);", "if ON {\n                self.rows.set_state(place, RowState::Undefined);\n            } else {\n                self.end_row(place);\n            }")]),
     ("an ignored temporary child keeps its row",
      [(STARTS, "fn take_ignored", "self.end_row(place);", "if ON {\n                self.rows.set_state(place, RowState::Undefined);\n            } else {\n                self.end_row(place);\n            }")]),
-    ("children are stopped in start order", [(STOPS, "fn stop_first", "while let Some(p) = self.to_stop.pop() {", "while let Some(p) = if ON && !self.to_stop.is_empty() { Some(self.to_stop.remove(0)) } else { self.to_stop.pop() } {")]),
-    ("children are started in reverse", [(STOPS, "fn start_first", "self.to_start.remove(0)", "if ON { self.to_start.remove(self.to_start.len() - 1) } else { self.to_start.remove(0) }")]),
+    ("children are stopped in start order", [(WORK, "fn stop_first", "while let Some(p) = self.to_stop.pop() {", "while let Some(p) = if ON && !self.to_stop.is_empty() { Some(self.to_stop.remove(0)) } else { self.to_stop.pop() } {")]),
+    ("children are started in reverse", [(WORK, "fn start_first", "self.to_start.remove(0)", "if ON { self.to_start.remove(self.to_start.len() - 1) } else { self.to_start.remove(0) }")]),
     ("a retry doesn't count",
      [(DEATHS, "fn retry(", "self.restart(place, kept);",
        "if ON {\n                self.rows.set_state(place, RowState::Undefined);\n                let (from, to) = affected(self.strategy, place, self.rows.len());\n"
@@ -125,7 +127,7 @@ CHANGES = [
      [(DEATHS, "fn retry(", "self.restart(place, kept);",
        "let strategy = self.strategy;\n            if ON && !crate::rows::is_simple(strategy) {\n                self.strategy = otp_spec::Strategy::OneForOne;\n            }\n"
        "            self.restart(place, kept);\n            self.strategy = strategy;")]),
-    ("a failed restart keeps its own number, not the one that died", [(STOPS, "pub fn start(", "due.kept.unwrap_or(number)", "if ON { number } else { due.kept.unwrap_or(number) }")]),
+    ("a failed restart keeps its own number, not the one that died", [(STARTS, "fn start(", "due.kept.unwrap_or(number)", "if ON { number } else { due.kept.unwrap_or(number) }")]),
     ("a failed restart is given up", [(STARTS, "Some(After::Nothing) => {", "self.put_last(Waiting::Retry(kept));", "if !ON {\n                    self.put_last(Waiting::Retry(kept));\n                }")]),
     ("one restart more than the intensity is borne",
      [(WINDOW, "fn is_crowded(", "let count = stamps.len() as u64;", "let limit = if ON { limit + 1 } else { limit };\n    let count = stamps.len() as u64;"),
@@ -140,31 +142,31 @@ CHANGES = [
      [(DEATHS, "Within::Exceeded => ", "self.terminate(Ending::Intensity)", "if ON { self.end_all(Ending::Intensity) } else { self.terminate(Ending::Intensity) }")]),
     ("a sibling that waits for its retry waits on after a restart of all", [(DEATHS, "fn restart_rows", "self.rows.calm(from, to);", "if !ON {\n            self.rows.calm(from, to);\n        }")]),
     # Automatic shutdown
-    ("any_significant waits for the last", [(ROWS, "AutoShutdown::AnySignificant => ", "row.spec.significant", "row.spec.significant && !(ON && has_left(rows))")]),
-    ("all_significant ends at the first", [(ROWS, "AutoShutdown::AllSignificant => ", "!has_left(rows)", "(ON || !has_left(rows))")]),
-    ("a significant child that waits for its retry counts as gone", [(ROWS, "fn is_left", "!row.state.is_undefined()", "!row.state.is_undefined() && !(ON && row.state.is_restarting())")]),
-    ("a child that isn't significant ends the supervisor too", [(ROWS, "AutoShutdown::AnySignificant => ", "row.spec.significant", "(ON || row.spec.significant)")]),
+    ("any_significant waits for the last", [(AFFECTED, "AutoShutdown::AnySignificant => ", "row.spec.significant", "row.spec.significant && !(ON && has_left(rows))")]),
+    ("all_significant ends at the first", [(AFFECTED, "AutoShutdown::AllSignificant => ", "!has_left(rows)", "(ON || !has_left(rows))")]),
+    ("a significant child that waits for its retry counts as gone", [(AFFECTED, "fn is_left", "!row.state.is_undefined()", "!row.state.is_undefined() && !(ON && row.state.is_restarting())")]),
+    ("a child that isn't significant ends the supervisor too", [(AFFECTED, "AutoShutdown::AnySignificant => ", "row.spec.significant", "(ON || row.spec.significant)")]),
     ("a significant child that is terminated ends the supervisor",
      [(DEATHS, "fn take_exit", "RowState::Asked(..) | RowState::Killed(_) => ", "RowState::Asked(..) if ON => {\n                let row = *self.rows.get(place);\n                self.end_row(place);\n                self.after_end(number, &row);\n            }\n            RowState::Asked(..) | RowState::Killed(_) => ")]),
     ("a temporary significant child that fails doesn't end the supervisor",
      [(DEATHS, "fn death(", "self.after_end(number, &row);", "if !ON || reason.is_quiet() {\n                self.after_end(number, &row);\n            }")]),
     # The opening
     ("a failed opening doesn't stop the children", [(STARTS, "Some(After::Ready) => {", "self.terminate(Ending::InitFailed(id));", "if ON {\n                    self.end_all(Ending::InitFailed(id));\n                } else {\n                    self.terminate(Ending::InitFailed(id));\n                }")]),
-    ("a failed opening ends with shutdown", [(STOPS, "Ending::InitFailed(id) => SupEnd", "reason: init_failed(id)", "reason: if ON { Reason::Shutdown } else { init_failed(id) }")]),
+    ("a failed opening ends with shutdown", [(ENDS, "Ending::InitFailed(id) => SupEnd", "reason: init_failed(id)", "reason: if ON { Reason::Shutdown } else { init_failed(id) }")]),
     ("an ignored start fails the opening", [(STARTS, "fn take_ignored", "if let RowState::Starting(..)", "if ON && self.follows == Some(After::Ready) {\n            let id = self.rows.get(place).spec.id;\n            self.rows.set_state(place, RowState::Undefined);\n            self.terminate(Ending::InitFailed(id));\n            return;\n        }\n        if let RowState::Starting(..)")]),
     ("an end during the opening is lost", [(DEATHS, "fn take_exit", "if self.follows.is_some() {", "if ON && self.follows == Some(After::Ready) {\n                    return;\n                }\n                if self.follows.is_some() {")]),
     ("the end of a process that isn't up yet is lost", [(DEATHS, "fn take_exit", "RowState::Starting(..) =>", "RowState::Starting(..) if ON => {}\n            RowState::Starting(..) =>")]),
     # Stopping
-    ("brutal_kill asks", [(ROWS, "fn stop_order", "Shutdown::BrutalKill => Effect::Kill", "Shutdown::BrutalKill if ON => Effect::Ask(id, number),\n        Shutdown::BrutalKill => Effect::Kill")]),
-    ("infinity is 5000 milliseconds", [(ROWS, "Shutdown::Infinity => RowState::Asked(number, ", "None", "if ON { Some(now + 5000) } else { None }")]),
-    ("a deadline is late by a millisecond", [(EVENTS, "fn late_number", "deadline <= now", "deadline + (if ON { 1 } else { 0 }) <= now")]),
-    ("a deadline is counted from the beginning", [(ROWS, "Shutdown::Milliseconds(time) =>", "Some(now + ", "Some(if ON { 0 } else { now } + ")]),
-    ("a child whose end waits is told to stop", [(STOPS, "fn stop_first", "match find_exit(&self.waiting, p)", "match if ON { None } else { find_exit(&self.waiting, p) }")]),
-    ("dynamic children are stopped one after another", [(STOPS, "pub fn terminate(", "if is_simple(self.strategy)", "if is_simple(self.strategy) && !ON")]),
+    ("brutal_kill asks", [(STOPPING, "fn stop_order", "Shutdown::BrutalKill => Effect::Kill", "Shutdown::BrutalKill if ON => Effect::Ask(id, number),\n        Shutdown::BrutalKill => Effect::Kill")]),
+    ("infinity is 5000 milliseconds", [(STOPPING, "Shutdown::Infinity => RowState::Asked(number, ", "None", "if ON { Some(now + 5000) } else { None }")]),
+    ("a deadline is late by a millisecond", [(DEADLINES, "fn late_number", "deadline <= now", "deadline + (if ON { 1 } else { 0 }) <= now")]),
+    ("a deadline is counted from the beginning", [(STOPPING, "Shutdown::Milliseconds(time) =>", "Some(now + ", "Some(if ON { 0 } else { now } + ")]),
+    ("a child whose end waits is told to stop", [(WORK, "fn stop_first", "match find_exit(&self.waiting, p)", "match if ON { None } else { find_exit(&self.waiting, p) }")]),
+    ("dynamic children are stopped one after another", [(STOPS, "fn terminate(", "if is_simple(self.strategy)", "if is_simple(self.strategy) && !ON")]),
     ("a stop while work is open is lost", [(PLAYER, "Line::Stop =>", "self.is_stopping = true;", "if !ON || !self.core.has_open_work() {\n                    self.is_stopping = true;\n                }")]),
     ("a call that waits is taken before a wanted stop", [(PLAYER, "fn next_kind", "!self.core.has_ended() {", "!self.core.has_ended() && !(ON && self.core.has_waiting()) {")]),
-    ("calls that wait at the end are not answered", [(STOPS, "pub fn end_all", "refuse_calls(&self.waiting", "if !ON {\n            refuse_calls(&self.waiting"), (STOPS, "refuse_calls(&self.waiting", "&mut self.orders);", "&mut self.orders);\n        }")]),
-    ("a call after the end says not_found", [(EVENTS, "fn ask(", "self.answer(number, Reply::NoProc);", "self.answer(number, if ON { Reply::Refused(otp_rules::CallFault::NotFound) } else { Reply::NoProc });")]),
+    ("calls that wait at the end are not answered", [(ENDS, "fn end_all", "refuse_calls(&self.waiting", "if !ON {\n            refuse_calls(&self.waiting"), (ENDS, "refuse_calls(&self.waiting", "&mut self.orders);", "&mut self.orders);\n        }")]),
+    ("a call after the end says not_found", [(STEP, "fn ask(", "self.answer(number, Reply::NoProc);", "self.answer(number, if ON { Reply::Refused(otp_rules::CallFault::NotFound) } else { Reply::NoProc });")]),
     ("an out-of-date retry hits a later restart", [(TABLE, "fn awaits_retry", "if kept == number", "if ON || kept == number")]),
 ]
 

@@ -7,33 +7,54 @@ use Rattle.otp_file.specs.declared.fault.TreeFault.{TreeFault}
 use Rattle.otp_file.specs.declared.fault.TreeFault.TheVariants as fault
 use Rattle.otp_sim.specs.declared.engine.SimEnd.{SimEnd}
 use Rattle.otp_sim.specs.declared.engine.SimEnd.TheVariants as sim
+use Rattle.otp_try.specs.Texts.{fault_text, taken_text}
+use Rattle.otp_try.specs.declared.play.TryEnd.{TryEnd}
+use Rattle.otp_try.specs.declared.play.TryEnd.TheVariants as trial
 use Rattle.otp_console.specs.declared.ending.Ending.{Ending}
-use Rattle.otp_console.specs.declared.ending.Ending.TheVariants.{Done, WordsRefused, NoCommand, WordNotText, TreeNotRead, TreeRefused, LineRefused, HistoryFull, InputFailed, OutputFailed, OutOfMemory}
+use Rattle.otp_console.specs.declared.ending.Ending.TheVariants.{Done, WordsRefused, NoCommand, WordNotText, FileAsCommand, TreeNotRead, FileNotRead, TreeRefused, FaultsFound, LineRefused, ScriptRefused, ScriptMissed, HistoryFull, InputFailed, OutputFailed, OutOfMemory}
 
--- 0: done. 1: the tree. 2: the words. 3: the lines of the input. 4: the machine
+-- 0: done. 1: the tree, or a file. 2: the words. 3: the lines of the input. 4: the machine. 5: a line of a script
 abbrev pub status_of : Ending → ℕ
 status_of Done = 0
 status_of WordsRefused = 2
 status_of NoCommand = 2
 status_of WordNotText = 2
+status_of FileAsCommand = 2
 status_of TreeNotRead = 1
+status_of FileNotRead = 1
 status_of (TreeRefused _) = 1
+status_of FaultsFound = 1
 status_of (LineRefused _) = 3
+status_of (ScriptRefused _ _) = 5
+status_of (ScriptMissed _ _) = 5
 status_of HistoryFull = 3
 status_of InputFailed = 3
 status_of OutputFailed = 4
 status_of OutOfMemory = 4
 
--- the line on standard error, its end included: none where all went well, or where `clap` has told why the words
--- are refused
+-- a line of a script, and what is wrong with it
+abbrev pub line_text : ℕ → List ℕ → List ℕ
+line_text line why = codes "line " ++ decimal line ++ codes ": " ++ why ++ codes "\n"
+
+-- a file that can't be read, and why
+abbrev pub not_read_text : List ℕ → List ℕ → List ℕ
+not_read_text name why = (codes "error: " ++ name ++ codes " can't be read: ") ++ why ++ codes "\n"
+
+-- the line on standard error, its end included: none where all went well, where it was told before why the words
+-- are refused or a file can't be read, or where faults were written to the output
 abbrev pub sentence_of : Ending → List ℕ
 sentence_of Done = []
 sentence_of WordsRefused = []
 sentence_of NoCommand = codes "usage: otp sim FILE\n"
 sentence_of WordNotText = codes "error: a word is not UTF-8\n"
+sentence_of FileAsCommand = codes "error: a file in the place of a command: say otp try FILE, or otp --help\n"
 sentence_of TreeNotRead = codes "tree not read\n"
+sentence_of FileNotRead = []
 sentence_of (TreeRefused why) = codes "tree refused: E" ++ decimal (code_of why) ++ codes "\n"
+sentence_of FaultsFound = []
 sentence_of (LineRefused line) = codes "line " ++ decimal line ++ codes " refused\n"
+sentence_of (ScriptRefused line why) = line_text line (fault_text why)
+sentence_of (ScriptMissed line why) = line_text line (taken_text why)
 sentence_of HistoryFull = codes "history full\n"
 sentence_of InputFailed = codes "input not read\n"
 sentence_of OutputFailed = codes "output not written\n"
@@ -51,6 +72,16 @@ ending_of sim.HistoryFull = HistoryFull
 ending_of sim.InputFailed = InputFailed
 ending_of sim.OutputFailed = OutputFailed
 ending_of sim.Memory = OutOfMemory
+
+-- how the program ends that tried a tree
+abbrev pub ending_of_try : TryEnd → Ending
+ending_of_try trial.Done = Done
+ending_of_try (trial.LineRefused line why) = ScriptRefused line why
+ending_of_try (trial.LineMissed line why) = ScriptMissed line why
+ending_of_try trial.HistoryFull = HistoryFull
+ending_of_try trial.InputFailed = InputFailed
+ending_of_try trial.OutputFailed = OutputFailed
+ending_of_try trial.OutOfMemory = OutOfMemory
 
 -- how the program ends that had no tree
 abbrev pub ending_of_tree : TreeFault → Ending

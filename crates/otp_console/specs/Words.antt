@@ -7,7 +7,7 @@ use Rattle.clap.specs.declared.error.Error.{Error}
 use Rattle.clap.specs.declared.error.kind.ErrorKind.TheVariants as kind
 use Rattle.clap.specs.Values.{kind_of}
 use Rattle.otp_console.specs.declared.words.WordsFault.{WordsFault}
-use Rattle.otp_console.specs.declared.words.WordsFault.TheVariants.{Clap, NoCommand, NotText, OutOfMemory}
+use Rattle.otp_console.specs.declared.words.WordsFault.TheVariants.{Clap, NoCommand, FileAsCommand, NotText, OutOfMemory}
 use Rattle.otp_console.specs.declared.ending.Ending.{Ending}
 use Rattle.otp_console.specs.declared.ending.Ending.TheVariants as ending
 
@@ -15,6 +15,7 @@ use Rattle.otp_console.specs.declared.ending.Ending.TheVariants as ending
 abbrev pub IsHandedOn : WordsFault → Type 0
 IsHandedOn (Clap error) = ¬ (kind_of error ≡ kind.OutOfMemory)
 IsHandedOn NoCommand = Unit {0}
+IsHandedOn FileAsCommand = Unit {0}
 IsHandedOn NotText = Unit {0}
 IsHandedOn OutOfMemory = Unit {0}
 
@@ -36,5 +37,6 @@ EndsFor (Clap error) end =
     (IsShown error → (end ≡ ending.Done) ⊎ (end ≡ ending.OutputFailed) ⊎ (end ≡ ending.OutOfMemory))
     × (¬ IsShown error → (end ≡ ending.WordsRefused) ⊎ (end ≡ ending.OutOfMemory))
 EndsFor NoCommand end = end ≡ ending.NoCommand
+EndsFor FileAsCommand end = end ≡ ending.FileAsCommand
 EndsFor NotText end = end ≡ ending.WordNotText
 EndsFor OutOfMemory end = end ≡ ending.OutOfMemory

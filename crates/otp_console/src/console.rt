@@ -24,7 +24,13 @@ pub fn console<R: Input, W: Output>(
         Err(fault) => return Ending::of_tree(fault),
     };
     let supervisor = tree.supervisor();
-    Ending::of_sim(sim(alloc, &supervisor.flags(), supervisor.specs(), input, output))
+    Ending::of_sim(sim(
+        alloc,
+        &supervisor.flags(),
+        supervisor.specs(),
+        input,
+        output,
+    ))
 }
 
 impl Ending {
@@ -46,7 +52,7 @@ impl Ending {
     }
 
     /// The end for a tree that is not had.
-    fn of_tree(fault: TreeFault) -> Self
+    pub(crate) fn of_tree(fault: TreeFault) -> Self
         ensures { result ≡ ending_of_tree fault }
     {
         match fault {

@@ -1,14 +1,16 @@
 //! How the program ends, and what it tells of it.
 
-ghost use Rattle.std.specs.Prelude.{◌≡◌, ◌≤◌, ◌<◌, ◌++◌, decimal, OnOk, OnErr};
+ghost use Rattle.std.specs.Prelude.{◌≡◌, ◌⊎◌, ◌≤◌, ◌<◌, ◌++◌, decimal, OnOk, OnErr};
 ghost use Rattle.std.specs.IoError.{error_kind};
 ghost use Rattle.std.specs.Io.KnownBytes.{Appends};
 ghost use Rattle.otp_console.specs.Runs.{IsTold};
-ghost use Rattle.otp_console.specs.Statuses.{IsOfFile, sentence_of, status_of};
+ghost use Rattle.otp_console.specs.Statuses.{IsOfFile, line_text, sentence_of, status_of};
+ghost use Rattle.otp_console.specs.declared.ending.Ending.TheVariants.{OutOfMemory, TreeNotRead};
 
 use itoa::Buffer;
 use otp_file::TreeFault;
 use otp_sim::{Failed, Output, write_all};
+use otp_try::{ScriptFault, Taken};
 use std::io;
 use std::io::ErrorKind;
 
@@ -23,12 +25,22 @@ pub enum Ending {
     NoCommand,
     /// A word is no UTF-8 text.
     WordNotText,
-    /// The tree file can't be read.
+    /// The words are a file's name, where a command is wanted.
+    FileAsCommand,
+    /// The tree file of `sim` can't be read.
     TreeNotRead,
+    /// A file can't be read, and it was told which and why.
+    FileNotRead,
     /// The tree file says no tree.
     TreeRefused(TreeFault),
+    /// `check` found faults, and has written them.
+    FaultsFound,
     /// The line with this number, from 1, has no form that is read.
     LineRefused(u64),
+    /// The line of a script with this number can't be read.
+    ScriptRefused(u64, ScriptFault),
+    /// The line of a script with this number could do nothing.
+    ScriptMissed(u64, Taken),
     /// The history holds no more events.
     HistoryFull,
     InputFailed,
@@ -44,15 +56,19 @@ impl Ending {
         match self {
             Ending::Done => 0,
             Ending::TreeNotRead | Ending::TreeRefused(_) => 1,
+            Ending::FileNotRead | Ending::FaultsFound => 1,
             Ending::WordsRefused | Ending::NoCommand | Ending::WordNotText => 2,
+            Ending::FileAsCommand => 2,
             Ending::LineRefused(_) | Ending::HistoryFull | Ending::InputFailed => 3,
             Ending::OutputFailed | Ending::OutOfMemory => 4,
+            Ending::ScriptRefused(..) | Ending::ScriptMissed(..) => 5,
         }
     }
 
     /// The end for a file that can't be read, by the kind of the error.
     pub(crate) fn of_file(error: &io::Error) -> Self
-        ensures { IsOfFile (error_kind error.now) result }
+        ensures kind { IsOfFile (error_kind error.now) result }
+        ensures either { (result ≡ TreeNotRead) ⊎ (result ≡ OutOfMemory) }
     {
         match error.kind() {
             ErrorKind::OutOfMemory => Ending::OutOfMemory,
@@ -80,18 +96,36 @@ fn write_sentence<E: Output>(errors: &mut E, ending: Ending) -> Result<(), Faile
 {
     match ending {
         Ending::Done | Ending::WordsRefused => Ok(()),
+        Ending::FileNotRead | Ending::FaultsFound => Ok(()),
         Ending::NoCommand => write_all(errors, b"usage: otp sim FILE\n"),
         Ending::WordNotText => write_all(errors, b"error: a word is not UTF-8\n"),
+        Ending::FileAsCommand => write_all(
+            errors,
+            b"error: a file in the place of a command: say otp try FILE, or otp --help\n",
+        ),
         Ending::TreeNotRead => write_all(errors, b"tree not read\n"),
         Ending::TreeRefused(fault) => {
             write_numbered(errors, b"tree refused: E", u64::from(fault.code()), b"\n")
         }
         Ending::LineRefused(line) => write_numbered(errors, b"line ", line, b" refused\n"),
+        Ending::ScriptRefused(line, fault) => write_line_fault(errors, line, fault.text()),
+        Ending::ScriptMissed(line, taken) => write_line_fault(errors, line, taken.text()),
         Ending::HistoryFull => write_all(errors, b"history full\n"),
         Ending::InputFailed => write_all(errors, b"input not read\n"),
         Ending::OutputFailed => write_all(errors, b"output not written\n"),
         Ending::OutOfMemory => write_all(errors, b"out of memory\n"),
     }
+}
+
+/// Writes what is wrong with a line of a script.
+fn write_line_fault<E: Output>(errors: &mut E, line: u64, why: &str) -> Result<(), Failed>
+    ensures ok { OnOk result (Appends (E.contents errors.old) (E.contents errors.new) (line_text line why.now)) }
+    ensures kept { E.failures errors.old ≤ E.failures errors.new }
+    ensures failed { OnErr result (E.failures errors.old < E.failures errors.new) }
+{
+    write_numbered(errors, b"line ", line, b": ")?;
+    write_all(errors, why.as_bytes())?;
+    write_all(errors, b"\n")
 }
 
 /// Writes a number between two texts. It takes no memory, which may be what is wanting.

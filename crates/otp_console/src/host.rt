@@ -1,6 +1,7 @@
 //! The program on the system that it is run on.
 
-use crate::program::{TreeFiles, run};
+use crate::files::TreeFiles;
+use crate::program::run;
 use crate::words::words_of;
 use otp_sim::Counted;
 use std::process::ExitCode;

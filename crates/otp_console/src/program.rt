@@ -1,27 +1,21 @@
 //! The program but for the system under it: what it does for which words, and what it tells on which stream.
 
-ghost use Rattle.std.specs.Prelude.{ℕ, List, Option, ◌≤◌, IfOk};
-ghost use Rattle.otp_console.specs.Runs.{Answers, IsProgramRun, Obeys, Simulates, TellsFirst};
+ghost use Rattle.std.specs.Prelude.{ℕ, List, Option, ◌≡◌, ◌≤◌, ◌⊎◌, IfErr, IfOk, OnOk, option_map};
+ghost use Rattle.otp_console.specs.Runs.{Answers, Checks, Does, Draws, IsProgramRun, IsTrial, Obeys, Simulates, TellsFirst, Tries};
+ghost use Rattle.otp_console.specs.declared.ending.Ending.TheVariants as end;
 ghost use Rattle.otp_console.specs.Words.{EndsFor};
 ghost use Rattle.otp_console.specs.declared.words.WordsFault.TheVariants.{Clap};
 
+use crate::checking::{check_file, draw_file};
 use crate::console::console;
 use crate::ending::{Ending, tell};
+use crate::files::{TreeFiles, read_file};
+use crate::trying::try_file;
 use crate::words::{Command, WordsFault, read_words};
 use clap::Error;
-use otp_sim::{Failed, Input, Output, write_all};
+use otp_sim::{Counted, Failed, Input, Output, write_all};
+use otp_try::Writer;
 use std::alloc::Global;
-use std::io;
-
-/// Where tree files are read from.
-pub trait TreeFiles {
-    /// What a file of this name may hold.
-    ghost holds: { Self → List ℕ → List ℕ → Type 0 };
-
-    /// The bytes of a file.
-    fn read(&self, name: &str) -> io::Result<Vec<u8>>
-        ensures { IfOk result (λ file. holds self.now name.now file.items) };
-}
 
 /// Does what the words of the command line ask for, and gives the exit status.
 ///
@@ -63,8 +57,35 @@ fn obey<F: TreeFiles, R: Input, W: Output, E: Output>(
         Err(fault) => return answer(alloc, &fault, output, errors),
     };
     match read_words(alloc, &words) {
-        Ok(Command::Sim { file }) => simulate(alloc, files, file, input, output),
+        Ok(command) => do_command(alloc, command, files, input, output, errors),
         Err(fault) => answer(alloc, &fault, output, errors),
+    }
+}
+
+/// Does what a command asks for.
+pub fn do_command<F: TreeFiles, R: Input, W: Output, E: Output>(
+    alloc: Global,
+    command: Command<'_>,
+    files: &F,
+    input: &mut R,
+    output: &mut W,
+    errors: &mut E,
+) -> Ending
+    ensures done { Does (F.holds files.now) command.entry result
+        (record { left = R.remaining input.old; written = W.contents output.old; read_failures = R.failures input.old; write_failures = W.failures output.old })
+        (record { left = R.remaining input.new; written = W.contents output.new; read_failures = R.failures input.new; write_failures = W.failures output.new }) }
+    ensures first { TellsFirst result (E.contents errors.old) (E.contents errors.new) (E.failures errors.old) (E.failures errors.new) }
+    ensures kept { E.failures errors.old ≤ E.failures errors.new }
+{
+    match command {
+        Command::Sim { file } => simulate(alloc, files, file, input, output),
+        Command::Try {
+            file,
+            script,
+            writer,
+        } => try_named(alloc, files, file, script, writer, input, output, errors),
+        Command::Check { file } => check_named(alloc, files, file, output, errors),
+        Command::Tree { file } => draw_named(alloc, files, file, output, errors),
     }
 }
 
@@ -86,6 +107,92 @@ fn simulate<F: TreeFiles, R: Input, W: Output>(
     }
 }
 
+/// Tries the tree of a file by the lines of a script, which is another file or the input.
+fn try_named<F: TreeFiles, R: Input, W: Output, E: Output>(
+    alloc: Global,
+    files: &F,
+    name: &str,
+    script: Option<&str>,
+    writer: Writer,
+    input: &mut R,
+    output: &mut W,
+    errors: &mut E,
+) -> Ending
+    ensures done { Tries (F.holds files.now name.now) (option_map (λ script. script.now) script.entry) result
+        (record { left = R.remaining input.old; written = W.contents output.old; read_failures = R.failures input.old; write_failures = W.failures output.old })
+        (record { left = R.remaining input.new; written = W.contents output.new; read_failures = R.failures input.new; write_failures = W.failures output.new }) }
+    ensures first { TellsFirst result (E.contents errors.old) (E.contents errors.new) (E.failures errors.old) (E.failures errors.new) }
+    ensures kept { E.failures errors.old ≤ E.failures errors.new }
+{
+    let file = match read_file(files, name, errors) {
+        Ok(file) => file,
+        Err(ending) => return ending,
+    };
+    let Some(script) = script else {
+        return try_file(alloc, &file, writer, input, output);
+    };
+    match read_file(files, script, errors) {
+        Ok(lines) => try_lines(alloc, &file, writer, &lines, output),
+        Err(ending) => ending,
+    }
+}
+
+/// Tries the tree of a file by these lines.
+fn try_lines<W: Output>(
+    alloc: Global,
+    file: &[u8],
+    writer: Writer,
+    lines: &[u8],
+    output: &mut W,
+) -> Ending
+    ensures { (left : Option (List ℕ)) (failures : ℕ) → IsTrial result file.now
+        (record { left = left; written = W.contents output.old; read_failures = failures; write_failures = W.failures output.old })
+        (record { left = left; written = W.contents output.new; read_failures = failures; write_failures = W.failures output.new }) }
+{
+    let mut script = Counted::new(lines);
+    try_file(alloc, file, writer, &mut script, output)
+}
+
+/// Checks a file.
+fn check_named<F: TreeFiles, W: Output, E: Output>(
+    alloc: Global,
+    files: &F,
+    name: &str,
+    output: &mut W,
+    errors: &mut E,
+) -> Ending
+    ensures done { (left : Option (List ℕ)) (failures : ℕ) → Checks (F.holds files.now name.now) result
+        (record { left = left; written = W.contents output.old; read_failures = failures; write_failures = W.failures output.old })
+        (record { left = left; written = W.contents output.new; read_failures = failures; write_failures = W.failures output.new }) }
+    ensures first { TellsFirst result (E.contents errors.old) (E.contents errors.new) (E.failures errors.old) (E.failures errors.new) }
+    ensures kept { E.failures errors.old ≤ E.failures errors.new }
+{
+    match read_file(files, name, errors) {
+        Ok(file) => check_file(alloc, name, &file, output),
+        Err(ending) => ending,
+    }
+}
+
+/// Draws the tree of a file.
+fn draw_named<F: TreeFiles, W: Output, E: Output>(
+    alloc: Global,
+    files: &F,
+    name: &str,
+    output: &mut W,
+    errors: &mut E,
+) -> Ending
+    ensures done { (left : Option (List ℕ)) (failures : ℕ) → Draws (F.holds files.now name.now) result
+        (record { left = left; written = W.contents output.old; read_failures = failures; write_failures = W.failures output.old })
+        (record { left = left; written = W.contents output.new; read_failures = failures; write_failures = W.failures output.new }) }
+    ensures first { TellsFirst result (E.contents errors.old) (E.contents errors.new) (E.failures errors.old) (E.failures errors.new) }
+    ensures kept { E.failures errors.old ≤ E.failures errors.new }
+{
+    match read_file(files, name, errors) {
+        Ok(file) => draw_file(alloc, &file, output),
+        Err(ending) => ending,
+    }
+}
+
 /// Answers words that ask for nothing that is done: they are refused, or ask for help.
 fn answer<W: Output, E: Output>(
     alloc: Global,
@@ -103,6 +210,7 @@ fn answer<W: Output, E: Output>(
     match fault {
         WordsFault::Clap(error) => show(alloc, error, output, errors),
         WordsFault::NoCommand => Ending::NoCommand,
+        WordsFault::FileAsCommand => Ending::FileAsCommand,
         WordsFault::NotText => Ending::WordNotText,
         WordsFault::OutOfMemory => Ending::OutOfMemory,
     }

@@ -3,8 +3,11 @@
 use crate::console::console;
 use crate::ending::{Ending, tell};
 use crate::tests::examples::EXAMPLES;
+use crate::tests::trials::TRIALS;
+use crate::trying::try_file;
 use otp_file::TreeFault;
 use otp_sim::Counted;
+use otp_try::Writer;
 use std::alloc::{AllocError, Global};
 use std::process::Abort;
 use std::test::Fail;
@@ -14,6 +17,7 @@ mod examples;
 mod long;
 mod program;
 mod rows;
+mod trials;
 
 /// What is told of an ending, without its end of line, and then its status.
 fn said(alloc: Global, ending: Ending) -> Result<String, AllocError> {
@@ -59,6 +63,36 @@ fn bytes_that_are_no_text(rt: HostRuntime) -> Result<(), Fail> {
 fn examples_are_played(rt: HostRuntime) -> Result<(), Fail> {
     for (_name, tree, lines, printed) in EXAMPLES {
         plays(&rt, rt.alloc(), tree, lines, printed, " 0")?;
+    }
+    Ok(())
+}
+
+/// All that a trial tells, and its status.
+fn told(alloc: Global, tree: &str, script: &str) -> Result<Vec<u8>, AllocError> {
+    let mut reader = Counted::new(script.as_bytes());
+    let mut writer = Counted::new(Vec::new(alloc));
+    let mut errors = Counted::new(Vec::new(alloc));
+    let ended = try_file(
+        alloc,
+        tree.as_bytes(),
+        Writer::Script,
+        &mut reader,
+        &mut writer,
+    );
+    let status = tell(&mut errors, ended);
+    let mut text = writer.into_device();
+    text.extend_from_slice(errors.into_device().as_slice())?;
+    let line = format!(in alloc; "status {status}\n")?;
+    text.extend_from_slice(line.as_bytes())?;
+    Ok(text)
+}
+
+/// The scripts of `examples/`.
+#[test]
+fn scripts_are_played(rt: HostRuntime) -> Result<(), Fail> {
+    for (name, tree, script, expected) in TRIALS {
+        let text = told(rt.alloc(), tree, script)?;
+        assert_eq!(rt; text.as_slice(), expected.as_bytes(), "{name}");
     }
     Ok(())
 }

@@ -5,17 +5,64 @@ ghost use Rattle.otp_console.specs.Words.{IsOfClap, IsOfSystem, IsHandedOn};
 ghost use Rattle.otp_console.specs.declared.words.WordsFault.TheVariants.{OutOfMemory};
 
 use clap::error::ErrorKind;
-use clap::{Arg, Error};
+use clap::{Arg, ArgAction, ArgMatches, Error};
+use otp_try::Writer;
 use std::alloc::{AllocError, Global};
 use std::convert::AsStr;
 use std::rt::Env;
 use std::{env, io};
 
+/// The version of the program and its libraries.
+const VERSION: &str = "0.2.0";
+
+const OTP_ABOUT: &str =
+    "Says what a supervisor of Erlang/OTP does, by rules that are proved: restarts, stops, and when it gives up";
+
+const OTP_STATUSES: &str =
+    "Statuses: 0 done, 1 a file or its tree, 2 the words, 3 a line of sim or its input, 4 output or memory, 5 a line of a script.\nThe formats stand in docs/FORMATS.md; `otp check FILE` explains what is wrong in a tree file.";
+
+const TRY_ABOUT: &str = "Says what a tree does where a script says what goes wrong";
+
+const TRY_EXAMPLE: &str =
+    "Example: otp try examples/storm.toml examples/storm_survived.script\nA script has lines as `at 1s crash db`, `+500ms fail db`, `hang db`, `stop`; docs/FORMATS.md has them all.\nStatus 5: a line can't be read or could do nothing.";
+
+const CHECK_ABOUT: &str = "Says all that is wrong in a tree file, and where";
+
+const CHECK_EXAMPLE: &str =
+    "Example: otp check examples/storm.toml\nStatus 0: the file says a tree; 1: it says none.";
+
+const TREE_ABOUT: &str = "Draws a tree as text";
+
+const TREE_EXAMPLE: &str =
+    "Example: otp tree examples/storm.toml\nStatus 1: the file says no tree; `otp check FILE` says why.";
+
+const SIM_ABOUT: &str =
+    "Plays event lines of standard input on a supervisor, and prints each order that it gives";
+
+const SIM_EXAMPLE: &str =
+    "Example: otp sim examples/three_workers.toml < examples/three_workers.events\nStatus 3: a line is refused.";
+
 /// What the words ask for.
 #[derive(Clone, Copy, Debug, PartialEq, Eq)]
 pub enum Command<'a> {
     /// A run of `sim`, on the tree file of this name.
-    Sim { file: &'a str },
+    Sim {
+        file: &'a str,
+    },
+    /// A trial of the tree file of this name, by the script of another file, or of the input where none is named.
+    Try {
+        file: &'a str,
+        script: Option<&'a str>,
+        writer: Writer,
+    },
+    /// All that is wrong in the tree file of this name.
+    Check {
+        file: &'a str,
+    },
+    /// A picture of the tree in the file of this name.
+    Tree {
+        file: &'a str,
+    },
 }
 
 /// Why the words are refused.
@@ -25,6 +72,8 @@ pub enum WordsFault {
     Clap(Error),
     /// They name no command.
     NoCommand,
+    /// They are a file's name alone.
+    FileAsCommand,
     /// One of them is no UTF-8 text.
     NotText,
     /// There is no memory to read them.
@@ -77,26 +126,113 @@ pub fn words_of<R: Env + AllocGlobal>(rt: &R) -> Result<Vec<String>, WordsFault>
     Ok(words)
 }
 
+/// Whether the word looks like a file's name, and no command's.
+fn is_file_name(word: &str) -> bool {
+    word.ends_with(".toml") || word.contains('/')
+}
+
+/// Whether the words are a file's name alone, after the program's own.
+fn is_file_alone<S: AsStr>(words: &[S]) -> bool {
+    match words {
+        [_, word] => is_file_name(word.as_str()),
+        _ => false,
+    }
+}
+
+/// A command over a tree file: its name, what it does, and an example.
+fn file_command<'a>(
+    alloc: Global,
+    name: &'a str,
+    about: &'a str,
+    example: &'a str,
+) -> Result<clap::Command<'a>, AllocError> {
+    let file = Arg::new(alloc, "FILE")
+        .required(true)
+        .help("The tree file, in TOML");
+    clap::Command::new(alloc, name)
+        .about(about)
+        .after_help(example)
+        .arg(file)
+}
+
+/// `try FILE [SCRIPT]`.
+fn try_command<'a>(alloc: Global) -> Result<clap::Command<'a>, AllocError> {
+    let script = Arg::new(alloc, "SCRIPT").help(
+        "A script; without one its lines are standard input",
+    );
+    let prompt = Arg::new(alloc, "prompt")
+        .long("prompt")
+        .action(ArgAction::SetTrue)
+        .help(
+            "Shows how the supervisor stands before each line, and goes on after one that is refused",
+        );
+    file_command(alloc, "try", TRY_ABOUT, TRY_EXAMPLE)?
+        .arg(script)?
+        .arg(prompt)
+}
+
+/// What the words after `try` ask for.
+fn read_try<'a>(found: &ArgMatches<'a>) -> Result<Command<'a>, WordsFault>
+    ensures { IfErr result IsHandedOn }
+{
+    let writer = if found.get_flag("prompt") {
+        Writer::Person
+    } else {
+        Writer::Script
+    };
+    match found.get_str("FILE") {
+        Some(file) => Ok(Command::Try {
+            file,
+            script: found.get_str("SCRIPT"),
+            writer,
+        }),
+        None => Err(WordsFault::NoCommand),
+    }
+}
+
+/// What the words after a command ask for.
+fn read_command<'a>(name: &str, found: &ArgMatches<'a>) -> Result<Command<'a>, WordsFault>
+    ensures { IfErr result IsHandedOn }
+{
+    let Some(file) = found.get_str("FILE") else {
+        return Err(WordsFault::NoCommand);
+    };
+    match name {
+        "try" => read_try(found),
+        "check" => Ok(Command::Check { file }),
+        "tree" => Ok(Command::Tree { file }),
+        _ => Ok(Command::Sim { file }),
+    }
+}
+
+/// The program's command.
+fn otp_command<'a>(alloc: Global) -> Result<clap::Command<'a>, AllocError> {
+    clap::Command::new(alloc, "otp")
+        .about(OTP_ABOUT)
+        .version(VERSION)
+        .after_help(OTP_STATUSES)
+        .subcommand(try_command(alloc)?)?
+        .subcommand(file_command(alloc, "check", CHECK_ABOUT, CHECK_EXAMPLE)?)?
+        .subcommand(file_command(alloc, "tree", TREE_ABOUT, TREE_EXAMPLE)?)?
+        .subcommand(file_command(alloc, "sim", SIM_ABOUT, SIM_EXAMPLE)?)
+}
+
 /// Reads the words of the command line, the program's own name first.
 ///
 /// # Errors
 ///
 /// [`WordsFault::Clap`] where `clap` refuses the words or is asked for help, [`WordsFault::NoCommand`] where they are no
-/// more than the program's name, and [`WordsFault::OutOfMemory`].
+/// more than the program's name, [`WordsFault::FileAsCommand`], and [`WordsFault::OutOfMemory`].
 pub fn read_words<'a, S: AsStr>(alloc: Global, words: &'a [S]) -> Result<Command<'a>, WordsFault>
     ensures { IfErr result IsHandedOn }
 {
-    let file = Arg::new(alloc, "FILE")
-        .required(true)
-        .help("The tree file, in TOML");
-    let sim = clap::Command::new(alloc, "sim").arg(file)?;
-    let command = clap::Command::new(alloc, "otp").subcommand(sim)?;
+    if is_file_alone(words) {
+        return Err(WordsFault::FileAsCommand);
+    }
+    let command = otp_command(alloc)?;
     let matches = command.try_get_matches_from(words)?;
-    let Some((_, found)) = matches.subcommand() else {
-        return Err(WordsFault::NoCommand);
-    };
-    match found.get_str("FILE") {
-        Some(file) => Ok(Command::Sim { file }),
+    match matches.subcommand() {
+        Some((name, found)) => read_command(name, found),
         None => Err(WordsFault::NoCommand),
     }
 }

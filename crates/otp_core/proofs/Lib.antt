@@ -1,9 +1,3 @@
-pub mod Halves
-pub mod Steps
 pub mod Runs
-pub mod Replies
 pub mod Lawful
 pub mod Drawn
-pub mod Walk
-pub mod Going
-pub mod Needed

@@ -4,7 +4,7 @@ use Rattle.std.specs.Bool.{OnTrue}
 use Rattle.otp_rules.specs.Needs.{IsLawfulHistory, last_number, numbers_of}
 use Rattle.otp_rules.specs.Run.{empty_state, state_after}
 use Rattle.otp_core.specs.declared.supervisor.Core.TheInside.{Inside}
-use Rattle.otp_core.specs.Seen.{HasMemory, IsSound, outcome_of}
+use Rattle.otp_machine.specs.Seen.{HasMemory, IsSound, outcome_of}
 use Rattle.otp_core.specs.View.{View}
 
 abbrev pub view_of : Inside → View

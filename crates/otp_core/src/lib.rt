@@ -1,26 +1,14 @@
 //! The core of a supervisor: what one event does, decided as the rules of `otp_rules` say.
 //!
-//! [`Core`] stores the history of its events; its state is what the rules give for that history.
+//! [`Core`] stores the history of its events; its state is what the rules give for that history. What an event changes
+//! is in `otp_machine`, what is asked of lists in `otp_lists`.
 #![tactic(auto)]
 
-mod answers;
-mod calls;
-mod deadlines;
-mod deaths;
-mod events;
-mod lines;
-mod lists;
-mod machine;
-mod needs;
-pub mod numbers;
 pub mod opening;
-mod rows;
-mod starts;
-mod stops;
 pub mod supervisor;
-mod waited;
 
-pub use numbers::{Counter, Given, Numbers};
 pub use opening::OpenFault;
+pub use otp_machine::{Counter, Given, Numbers};
 pub use otp_rules::laws;
-pub use supervisor::{Core, MAX_EVENTS};
+pub use otp_spec::MAX_EVENTS;
+pub use supervisor::{Core, Spare};

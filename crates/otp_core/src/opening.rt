@@ -4,7 +4,7 @@ ghost use Rattle.std.specs.Prelude.{◌≡◌, ◌≤◌, OnOk, IfOk, length, ve
 ghost use Rattle.otp_spec.specs.Faults.{answer_of};
 ghost use Rattle.otp_rules.specs.Opening.{open_fault};
 
-use crate::rows::is_simple;
+use otp_lists::state::is_simple;
 use otp_spec::{ChildSpec, SpecFault, SupFlags, check_childspecs, check_flags};
 use std::alloc::{AllocError, Global};
 use thiserror::Error;

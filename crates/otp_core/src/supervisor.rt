@@ -14,25 +14,48 @@ ghost use Rattle.otp_rules.specs.Run.{empty_state, reply_of};
 ghost use Rattle.otp_rules.specs.State.{is_over};
 ghost use Rattle.otp_rules.specs.Step.{is_late, step};
 
-use crate::answers::Answers;
-use crate::deadlines::{has_late, next_deadline};
-use crate::lists::{count_orders, move_orders};
-use crate::machine::Machine;
-use crate::numbers::{Given, Numbers};
 use crate::opening::{OpenFault, check_open, copy_specs};
-use crate::rows::is_over;
+use otp_lists::answers::Answers;
+use otp_lists::effects::{count_orders, move_orders};
+use otp_lists::next::{has_late, next_deadline};
+use otp_lists::state::is_over;
+use otp_machine::{Given, Machine, Numbers};
+use otp_needs::needs_number;
 use otp_rules::{CountsNow, Effect, Event, Kind, Phase, Reply, SupEnd, Waiting, laws};
-use otp_spec::{ChildSpec, SupFlags};
+use otp_spec::{ChildSpec, MAX_EVENTS, SupFlags};
 use otp_table::{Row, Rows};
 use otp_window::Window;
 use std::alloc::{AllocError, Global};
 use std::collections::VecDeque;
 use std::marker::Model;
 
-/// The most events that a history holds.
-pub const MAX_EVENTS: usize = 65536;
+/// For how many more items there is memory without growing, as a `Vec`'s capacity beside its length.
+#[derive(Clone, Copy, Debug, PartialEq, Eq)]
+pub struct Spare {
+    pub events: usize,
+    pub orders: usize,
+    pub answers: usize,
+}
 
 /// The core of one supervisor. Contracts see its history; its state is what the rules give for that history.
+///
+/// It is driven by a loop; whoever has it tells it what happens, and carries out its orders:
+///
+/// ```text
+/// let mut core = Core::open(alloc, flags, specs)?;         // lawful flags and specifications
+/// let mut numbers = Counter { last: core.last_number() };  // whatever gives process numbers
+/// let mut next = Some(Kind::Opened(own));
+/// while let Some(kind) = next {
+///     core.prepare()?;                                     // all memory of the event; it may be refused
+///     core.step_with(clock, kind, &mut numbers);           // decides; takes no memory
+///     carry_out(core.effects());                           // start, ask, kill; answers by Core::reply
+///     core.clear_effects();
+///     next = core.next_kind(clock, is_stop_wanted)         // what comes next by itself
+///         .or_else(|| inbox.take().map(Kind::Took));       // else a note of a child, or a call
+/// }
+/// ```
+///
+/// It ends when [`Core::has_ended`] or [`Core::is_full`]; until [`Core::next_deadline`] it may wait for its inbox.
 #[derive(Drop)]
 pub struct Core {
     machine: Machine,
@@ -273,7 +296,7 @@ impl Core {
     pub fn needs_number(&self, reading: u64, kind: &Kind) -> bool
         ensures { result ≡ needs_number (state_of self.now) reading kind.now }
     {
-        self.machine.needs_number(reading, kind)
+        needs_number(&self.machine, reading, kind)
     }
 
     /// The last process number that was given to a child, or 0 where none was. Any above it may be the next.
@@ -282,6 +305,20 @@ impl Core {
         ensures next { (n : ℕ) → result < n → All (λ m. m < n) (numbers_of self.now.history) }
     {
         self.last_number
+    }
+
+    /// For how many more events, orders and answers there is memory. Where the core is prepared, that is at least what
+    /// any event needs; lists that grow take as much again as they hold, and no more.
+    pub fn spare(&self) -> Spare
+        ensures events { IsTrue self.now.prepared → 0 < result.events }
+        ensures orders { IsTrue self.now.prepared → length (state_of self.now).rows + 1 < result.orders }
+        ensures answers { IsTrue self.now.prepared → 1 < result.answers }
+    {
+        Spare {
+            events: self.history.capacity() - self.history.len(),
+            orders: self.machine.orders.capacity() - self.machine.orders.len(),
+            answers: self.machine.replies.spare(),
+        }
     }
 
     /// Takes the memory of the next event. An `Err` leaves the core as it was.

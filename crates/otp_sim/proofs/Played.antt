@@ -1,6 +1,6 @@
 use Rattle.std.proofs.Common.{◌≡◌, ℕ, ◌+◌, ◌-◌, ◌≤◌, ◌++◌, ◌==◌, Bool, false, List, [], ◌∷◌, ◌∙◌, Option, None, Some, ap, arith, refl, subst, sym}
 use Rattle.std.specs.Prelude.{MatchOption, if◌then◌else◌, is_some, true, unwrap_or}
-use Rattle.otp_core.specs.declared.numbers.Counter.{Counter}
+use Rattle.otp_machine.specs.declared.numbers.Counter.{Counter}
 use Rattle.std.proofs.lemmas.Bool.{eqb-true}
 use Rattle.otp_rules.specs.declared.event.Event.{Event}
 use Rattle.otp_rules.specs.declared.event.Kind.{Kind}

@@ -22,4 +22,6 @@ mod table;
 #[cfg(test)]
 mod text;
 #[cfg(test)]
+mod trying;
+#[cfg(test)]
 mod window;

@@ -497,6 +497,50 @@ fn children_are_told_again(rt: HostRuntime) -> Result<(), Fail> {
 }
 
 #[test]
+fn little_memory_is_held_ahead(rt: HostRuntime) -> Result<(), Fail> {
+    let mut driver = two_children(&rt, rt.alloc(), &[])?;
+    let calls = [
+        Line::Asked(Call::CountChildren),
+        Line::Asked(Call::WhichChildren),
+    ];
+    for _ in 0..100 {
+        driver.lines(&rt, &calls)?;
+        driver.prepare(&rt)?;
+        driver.prepare(&rt)?;
+        let spare = driver.core.spare();
+        // As much again as is kept, and what one event may need: two children, of which none waits.
+        assert!(rt; spare.events <= driver.core.history().len().saturating_add(8));
+        assert!(rt; spare.orders <= driver.core.effects().len().saturating_add(16));
+        assert!(rt; spare.answers <= (driver.calls as usize).saturating_add(16));
+    }
+    Ok(())
+}
+
+#[test]
+fn an_answer_is_found_by_its_call(rt: HostRuntime) -> Result<(), Fail> {
+    let mut driver = two_children(&rt, rt.alloc(), &[])?;
+    let count = Call::CountChildren;
+    for (number, call) in [(3u64, count), (5, Call::StartDynamic), (9, count)] {
+        driver.event(&rt, Kind::Took(Item::Call(number, call)))?;
+    }
+    assert!(rt; matches!(driver.core.reply(3), Some(Reply::Count(_))));
+    assert!(rt;
+        matches!(
+            driver.core.reply(5),
+            Some(Reply::Refused(CallFault::NotSimple))
+        )
+    );
+    assert!(rt; driver.core.reply(4).is_none());
+    for (number, call) in [(5u64, count), (1, Call::WhichChildren)] {
+        driver.event(&rt, Kind::Took(Item::Call(number, call)))?;
+    }
+    assert!(rt; matches!(driver.core.reply(5), Some(Reply::Count(_))));
+    assert!(rt; matches!(driver.core.reply(1), Some(Reply::Which(_))));
+    assert!(rt; driver.core.reply(10).is_none());
+    Ok(())
+}
+
+#[test]
 fn refused_openings(rt: HostRuntime) -> Result<(), Fail> {
     let a = child(b"a")?;
     let lawful = SupFlags::default();

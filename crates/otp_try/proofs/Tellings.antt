@@ -1,7 +1,7 @@
 -- What is told of events that come one after another.
 use Rattle.std.specs.Prelude.{◌≡◌, ℕ, ◌+◌, ◌≤◌, List, [], ◌∷◌, ◌++◌, Option, Some, None, MatchOption, refl, length, unwrap_or}
 use Rattle.std.proofs.Common.{◌∙◌, ap, sym, append_assoc, append-nil, arith, length-append}
-use Rattle.otp_core.specs.declared.numbers.Counter.{Counter}
+use Rattle.otp_machine.specs.declared.numbers.Counter.{Counter}
 use Rattle.otp_rules.specs.Needs.{last_from, last_number}
 use Rattle.otp_rules.specs.declared.event.Event.{Event}
 use Rattle.otp_rules.specs.Run.{state_after}

@@ -2,3 +2,4 @@ pub mod Story
 pub mod World
 pub mod Played
 pub mod Inside
+pub mod Texts

@@ -10,9 +10,11 @@ pub mod play;
 pub mod script;
 mod state;
 mod telling;
-#[cfg(test)]
-mod tests;
 mod time;
 pub mod trial;
 mod words;
 mod world;
+
+pub use play::{TryEnd, Writer, try_tree};
+pub use script::{Action, Child, NextStart, ScriptFault, Step, When, read_step};
+pub use trial::{Halt, LAST_TIME, Taken, Trial};

@@ -1,5 +1,8 @@
 //! Lines of a script.
 
+ghost use Rattle.std.specs.Prelude.{◌≡◌};
+ghost use Rattle.otp_try.specs.Texts.{fault_text};
+
 use crate::words::{next_word, strip_end, strip_start};
 use otp_reason::{Name, Reason, Text};
 use otp_rules::Call;
@@ -86,7 +89,10 @@ pub enum ScriptFault {
 
 impl ScriptFault {
     /// What would be read.
-    pub fn text(self) -> &'static str {
+    #[tactic(auto, unfolding(crate::specs::Texts::fault_text))]
+    pub fn text(self) -> &'static str
+        ensures { result.now ≡ fault_text self }
+    {
         match self {
             ScriptFault::UnknownWord =>
                 "unknown word: a line is one of crash, exit, fail, ignore, hang, stop, at TIME, +TIME, or a call (start, restart, delete, terminate, get, which, count)",

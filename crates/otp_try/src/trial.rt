@@ -6,6 +6,7 @@ ghost use Rattle.otp_rules.specs.State.{is_over};
 ghost use Rattle.otp_rules.specs.declared.event.Item.TheVariants as item;
 ghost use Rattle.otp_rules.specs.declared.event.Kind.TheVariants as kind;
 ghost use Rattle.otp_try.specs.Played.{Acts, Begins, Ends, Tells, found_for, state_in, unplayed};
+ghost use Rattle.otp_try.specs.Texts.{taken_text};
 ghost use Rattle.otp_try.specs.declared.trial.Taken.TheVariants.{Done};
 
 use crate::finding::{Found, found_for};
@@ -54,14 +55,19 @@ pub enum Taken {
 }
 
 impl Taken {
-    /// What became of it, for a person; nothing where it was taken.
-    pub fn text(self) -> &'static str {
+    /// Why it did nothing, and what to do; nothing where it was taken.
+    #[tactic(auto, unfolding(crate::specs::Texts::taken_text))]
+    pub fn text(self) -> &'static str
+        ensures { result.now ≡ taken_text self }
+    {
         match self {
             Taken::Done => "",
-            Taken::NoProcess => "ignored: this child has no process now",
-            Taken::NoChild => "ignored: there is no such child",
-            Taken::TooLate => "ignored: that time has gone by",
-            Taken::Ended => "ignored: the supervisor has ended",
+            Taken::NoProcess =>
+                "ignored: this child has no process now; restart ID starts it again, which lists what runs",
+            Taken::NoChild => "ignored: there is no such child; which lists the children",
+            Taken::TooLate =>
+                "ignored: that time has gone by; +TIME counts from the line before",
+            Taken::Ended => "ignored: the supervisor has ended; the line of its end says why",
         }
     }
 }

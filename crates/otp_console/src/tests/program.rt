@@ -1,6 +1,7 @@
 //! Runs of the whole program, with words and files that are made up: its status, and what it tells on which stream.
 
-use crate::program::{TreeFiles, run};
+use crate::files::TreeFiles;
+use crate::program::run;
 use crate::words::WordsFault;
 use otp_sim::Counted;
 use std::alloc::{AllocError, Global};
@@ -158,6 +159,49 @@ fn orders_and_sentences(rt: HostRuntime) -> Result<(), Fail> {
     Ok(())
 }
 
+/// What `check`, `tree` and `try` write, tell and end with.
+#[test]
+fn checks_and_pictures(rt: HostRuntime) -> Result<(), Fail> {
+    let alloc = rt.alloc();
+    let rows = [
+        (["check", "tree"], TREE, "tree: a lawful tree\n", "", 0u8),
+        (["check", "tree"], "perod = 1\n", UNKNOWN_KEY, "", 1),
+        (["check", "tree"], "", NOTHING_STANDS, "", 0),
+        (["check", "three"], TREE, "", NO_FILE, 1),
+        (["tree", "tree"], TREE, PICTURE, "", 0),
+        (
+            ["tree", "tree"],
+            "period = 0\n",
+            "",
+            "tree refused: E1\n",
+            1,
+        ),
+        (["try", "tree"], TREE, UP, "", 0),
+        (["try", "three"], TREE, "", NO_FILE, 1),
+    ];
+    for (words, tree, printed, told, status) in rows {
+        let [command, name] = words;
+        let words = words_in(alloc, &["otp", command, name])?;
+        let seen = seen(alloc, Ok(words), tree, None, "");
+        assert_eq!(rt; seen.output.as_slice(), printed.as_bytes());
+        assert_eq!(rt; seen.errors.as_slice(), told.as_bytes());
+        assert_eq!(rt; seen.status, status);
+    }
+    Ok(())
+}
+
+const UNKNOWN_KEY: &str =
+    "tree: E11: supervisor: unknown key perod; allowed: strategy intensity period auto_shutdown child; did you mean period?\n";
+
+const NOTHING_STANDS: &str =
+    "tree: warning: nothing stands in it, which is a supervisor with no children\n";
+
+const NO_FILE: &str = "error: three can't be read: there is no such file\n";
+
+const PICTURE: &str = "one_for_one, 1 restarts in 5 s\n`-- a  permanent  worker      5000 ms\n";
+
+const UP: &str = "0.000 s  start a #1\n0.000 s  ready\n0.000 s  1 up, 0/1 restarts in 5 s\n";
+
 /// Whether a text has this part.
 fn has(text: &[u8], part: &str) -> bool {
     text.windows(part.len().max(1))
@@ -178,6 +222,7 @@ fn refused_words(rt: HostRuntime) -> Result<(), Fail> {
     let alloc = rt.alloc();
     is_told(&rt, alloc, &["otp"], "usage: otp sim FILE\n")?;
     is_told(&rt, alloc, &["otp", "simulate"], "simulate")?;
+    is_told(&rt, alloc, &["otp", "tree.toml"], "otp try FILE")?;
     is_told(&rt, alloc, &["otp", "sim"], "<FILE>")?;
     is_told(&rt, alloc, &["otp", "sim", "a", "b"], "'b'")?;
     is_told(&rt, alloc, &["otp", "sim", "--period", "tree"], "--period")?;

@@ -1,6 +1,6 @@
 use Rattle.std.proofs.Common.{subst}
 use Rattle.otp_rules.specs.Rate.{IsRated}
-use Rattle.otp_core.specs.Seen.{outcome_of}
+use Rattle.otp_machine.specs.Seen.{outcome_of}
 use Rattle.otp_core.specs.View.{View, state_of}
 use Rattle.otp_core.proofs.supervisor.Core.restarts.Goals as goal
 

@@ -7,7 +7,7 @@ use Rattle.otp_rules.specs.Step.{step}
 use Rattle.otp_rules.specs.Run.{empty_state}
 use Rattle.otp_rules.specs.Needs.{IsLawfulHistory, needs_number, numbers_of}
 use Rattle.std.specs.Prelude.{Some, is_some, ◌<◌}
-use Rattle.otp_core.specs.Seen.{outcome_of}
+use Rattle.otp_machine.specs.Seen.{outcome_of}
 use Rattle.otp_core.specs.View.{View, state_of}
 use Rattle.otp_core.proofs.Lawful.{lawful_on}
 use Rattle.otp_core.proofs.Runs.{runs_on}

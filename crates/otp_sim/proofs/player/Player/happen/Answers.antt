@@ -7,7 +7,7 @@ use Rattle.otp_rules.specs.declared.event.Effect.{Effect}
 use Rattle.otp_rules.specs.State.{State}
 use Rattle.otp_rules.specs.Step.{step}
 use Rattle.otp_rules.specs.Run.{state_after}
-use Rattle.otp_core.specs.declared.numbers.Counter.{Counter}
+use Rattle.otp_machine.specs.declared.numbers.Counter.{Counter}
 use Rattle.otp_core.specs.View.{View, state_of}
 use Rattle.otp_sim.specs.Sim.{Sim, event_of, happen, orders_text}
 use Rattle.otp_sim.specs.Runs.{with_text}

@@ -1,0 +1,21 @@
+-- What is found in a file, and what its tree says (own).
+use Rattle.std.specs.Prelude.{◌≡◌, ◌⊎◌, ℕ, List, [], ◌∷◌, Ok, Err}
+use Rattle.otp_file.specs.declared.fault.TreeFault.{TreeFault}
+use Rattle.otp_file.specs.declared.fault.TreeFault.TheVariants.{NotToml}
+use Rattle.otp_file.specs.Files.{Says, IsToml}
+use Rattle.otp_file.specs.Trees.{Tree}
+use Rattle.otp_check.specs.declared.finding.Finding.{Finding}
+
+-- the first fault of the file's document, or that it is no document
+abbrev pub IsFirstFault : TreeFault → List ℕ → Type 0
+IsFirstFault why file = Says file (Err why) ⊎ ((why ≡ NotToml) × (¬ IsToml file))
+
+-- nothing is found exactly where the file says a tree, and else first the fault for which the tree is refused
+abbrev pub Finds : List Finding → List ℕ → Type 0
+Finds [] file = (tree : Tree) × Says file (Ok tree)
+Finds (first ∷ others) file = IsFirstFault first.fault file
+
+-- what is found begins with this fault
+abbrev pub BeginsWith : TreeFault → List Finding → Type 0
+BeginsWith why [] = ⊥
+BeginsWith why (first ∷ others) = first.fault ≡ why

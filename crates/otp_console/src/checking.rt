@@ -1,0 +1,93 @@
+//! `check` and `tree`: what a tree file says, and what is wrong in it.
+
+ghost use Rattle.std.specs.Prelude.{ℕ, List, Option, ◌≤◌, ◌<◌, OnErr};
+ghost use Rattle.otp_console.specs.Runs.{IsChecked, IsDrawn, IsWritten};
+ghost use Rattle.otp_console.specs.declared.ending.Ending.TheVariants.{Done, FaultsFound};
+
+use crate::ending::Ending;
+use otp_check::{Finding, check, draw, says_nothing};
+use otp_file::read_tree;
+use otp_sim::{Failed, Output, write_all};
+use std::alloc::Global;
+
+/// Writes all that is wrong in a file, a line for each fault, that for which its tree is refused first.
+pub fn check_file<W: Output>(alloc: Global, name: &str, file: &[u8], output: &mut W) -> Ending
+    ensures { (left : Option (List ℕ)) (failures : ℕ) → IsChecked result file.now
+        (record { left = left; written = W.contents output.old; read_failures = failures; write_failures = W.failures output.old })
+        (record { left = left; written = W.contents output.new; read_failures = failures; write_failures = W.failures output.new }) }
+{
+    let Ok(findings) = check(alloc, file) else {
+        return Ending::OutOfMemory;
+    };
+    match findings.as_slice() {
+        [] => write_lawful(alloc, name, file, output),
+        faults => write_faults(name, faults, output),
+    }
+}
+
+/// Writes that nothing is wrong in a file.
+fn write_lawful<W: Output>(alloc: Global, name: &str, file: &[u8], output: &mut W) -> Ending
+    ensures { IsWritten result Done (W.failures output.old) (W.failures output.new) }
+{
+    let what = if says_nothing(alloc, file) {
+        "warning: nothing stands in it, which is a supervisor with no children"
+    } else {
+        "a lawful tree"
+    };
+    match write_line(name, what.as_bytes(), output) {
+        Ok(()) => Ending::Done,
+        Err(Failed) => Ending::OutputFailed,
+    }
+}
+
+/// Writes what is wrong in a file.
+fn write_faults<W: Output>(name: &str, faults: &[Finding], output: &mut W) -> Ending
+    ensures { IsWritten result FaultsFound (W.failures output.old) (W.failures output.new) }
+{
+    match write_lines(name, faults, output) {
+        Ok(()) => Ending::FaultsFound,
+        Err(Failed) => Ending::OutputFailed,
+    }
+}
+
+/// Writes a line for each fault.
+fn write_lines<W: Output>(name: &str, faults: &[Finding], output: &mut W) -> Result<(), Failed>
+    ensures failed { OnErr result (W.failures output.old < W.failures output.new) }
+    ensures kept { W.failures output.old ≤ W.failures output.new }
+{
+    for fault in faults {
+        write_line(name, fault.text.as_slice(), output)?;
+    }
+    Ok(())
+}
+
+/// Writes a line that begins with a file's name.
+fn write_line<W: Output>(name: &str, text: &[u8], output: &mut W) -> Result<(), Failed>
+    ensures failed { OnErr result (W.failures output.old < W.failures output.new) }
+    ensures kept { W.failures output.old ≤ W.failures output.new }
+{
+    write_all(output, name.as_bytes())?;
+    write_all(output, b": ")?;
+    write_all(output, text)?;
+    write_all(output, b"\n")
+}
+
+/// Draws the tree that a file says.
+pub fn draw_file<W: Output>(alloc: Global, file: &[u8], output: &mut W) -> Ending
+    ensures { (left : Option (List ℕ)) (failures : ℕ) → IsDrawn result file.now
+        (record { left = left; written = W.contents output.old; read_failures = failures; write_failures = W.failures output.old })
+        (record { left = left; written = W.contents output.new; read_failures = failures; write_failures = W.failures output.new }) }
+{
+    let tree = match read_tree(alloc, file) {
+        Ok(tree) => tree,
+        Err(fault) => return Ending::of_tree(fault),
+    };
+    let mut picture = Vec::new(alloc);
+    let Ok(()) = draw(&tree, &mut picture) else {
+        return Ending::OutOfMemory;
+    };
+    match write_all(output, picture.as_slice()) {
+        Ok(()) => Ending::Done,
+        Err(Failed) => Ending::OutputFailed,
+    }
+}

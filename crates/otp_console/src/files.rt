@@ -1,0 +1,106 @@
+//! The files that the program reads.
+
+ghost use Rattle.std.specs.Prelude.{ℕ, List, ◌≡◌, ◌≤◌, ◌<◌, ◌++◌, ◌⊎◌, IfErr, IfOk, OnOk, OnErr};
+ghost use Rattle.std.specs.Io.KnownBytes.{Appends};
+ghost use Rattle.otp_console.specs.Runs.{TellsFirst};
+ghost use Rattle.otp_console.specs.Statuses.{not_read_text};
+ghost use Rattle.otp_console.specs.declared.ending.Ending.TheVariants.{FileNotRead, OutOfMemory};
+
+use crate::ending::Ending;
+use otp_sim::{Failed, Output, write_all};
+use std::io;
+use std::io::ErrorKind;
+
+/// Where tree files are read from.
+pub trait TreeFiles {
+    /// What a file of this name may hold.
+    ghost holds: { Self → List ℕ → List ℕ → Type 0 };
+
+    /// The bytes of a file.
+    fn read(&self, name: &str) -> io::Result<Vec<u8>>
+        ensures { IfOk result (λ file. holds self.now name.now file.items) };
+}
+
+/// The bytes of a file.
+///
+/// # Errors
+///
+/// [`Ending::FileNotRead`], once it is told on `errors` which file can't be read and why, and [`Ending::OutOfMemory`].
+pub(crate) fn read_file<F: TreeFiles, E: Output>(
+    files: &F,
+    name: &str,
+    errors: &mut E,
+) -> Result<Vec<u8>, Ending>
+    ensures holds { IfOk result (λ file. F.holds files.now name.now file.items) }
+    ensures silent { OnOk result (errors.new ≡ errors.old) }
+    ensures ending { IfErr result (λ ending. (ending ≡ FileNotRead) ⊎ (ending ≡ OutOfMemory)) }
+    ensures first { IfErr result (λ ending. TellsFirst ending (E.contents errors.old) (E.contents errors.new) (E.failures errors.old) (E.failures errors.new)) }
+    ensures kept { E.failures errors.old ≤ E.failures errors.new }
+{
+    let error = match files.read(name) {
+        Ok(file) => return Ok(file),
+        Err(error) => error,
+    };
+    match error.kind() {
+        ErrorKind::OutOfMemory => Err(Ending::OutOfMemory),
+        kind => Err(tell_not_read(errors, name, kind)),
+    }
+}
+
+/// Tells which file can't be read, and why.
+fn tell_not_read<E: Output>(errors: &mut E, name: &str, kind: ErrorKind) -> Ending
+    ensures ending { result ≡ FileNotRead }
+    ensures first { TellsFirst result (E.contents errors.old) (E.contents errors.new) (E.failures errors.old) (E.failures errors.new) }
+    ensures kept { E.failures errors.old ≤ E.failures errors.new }
+{
+    // Where nothing can be told, the status alone says it.
+    let _told = write_not_read(errors, name, why(kind));
+    Ending::FileNotRead
+}
+
+/// Why a file can't be read.
+fn why(kind: ErrorKind) -> &'static str {
+    match kind {
+        ErrorKind::NotFound => "there is no such file",
+        ErrorKind::NotADirectory => "a part of its path is no folder",
+        ErrorKind::IsADirectory => "it is a folder",
+        ErrorKind::PermissionDenied => "you may not read it",
+        _ => "reading it failed",
+    }
+}
+
+/// Writes which file can't be read, and why.
+fn write_not_read<E: Output>(errors: &mut E, name: &str, why: &str) -> Result<(), Failed>
+    ensures ok { OnOk result (Appends (E.contents errors.old) (E.contents errors.new) (not_read_text name.now why.now)) }
+    ensures kept { E.failures errors.old ≤ E.failures errors.new }
+    ensures failed { OnErr result (E.failures errors.old < E.failures errors.new) }
+{
+    write_three(errors, b"error: ", name.as_bytes(), b" can't be read: ")?;
+    write_two(errors, why.as_bytes(), b"\n")
+}
+
+/// Writes three texts.
+fn write_three<E: Output>(
+    errors: &mut E,
+    front: &[u8],
+    text: &[u8],
+    back: &[u8],
+) -> Result<(), Failed>
+    ensures ok { OnOk result (Appends (E.contents errors.old) (E.contents errors.new) (front.now ++ text.now ++ back.now)) }
+    ensures kept { E.failures errors.old ≤ E.failures errors.new }
+    ensures failed { OnErr result (E.failures errors.old < E.failures errors.new) }
+{
+    write_all(errors, front)?;
+    write_all(errors, text)?;
+    write_all(errors, back)
+}
+
+/// Writes two texts.
+fn write_two<E: Output>(errors: &mut E, text: &[u8], back: &[u8]) -> Result<(), Failed>
+    ensures ok { OnOk result (Appends (E.contents errors.old) (E.contents errors.new) (text.now ++ back.now)) }
+    ensures kept { E.failures errors.old ≤ E.failures errors.new }
+    ensures failed { OnErr result (E.failures errors.old < E.failures errors.new) }
+{
+    write_all(errors, text)?;
+    write_all(errors, back)
+}

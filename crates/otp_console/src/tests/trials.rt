@@ -1,0 +1,206 @@
+//! The scripts of the repository. `examples/check --table` writes this file from theirs.
+
+/// The name of each script, its tree file, its lines, and what is told, with the status.
+pub(super) const TRIALS: [(&str, &str, &str, &str); 4] = [
+    (
+        "first",
+        r##"# One worker, which may be restarted once within 5 seconds.
+# Look for: the first crash is a restart, under the next process number; the second is one too many, and the end says so.
+
+intensity = 1
+period = 5
+
+[[child]]
+id = "db"
+start = "db"
+"##,
+        r##"at 1s crash db
+at 2s crash db
+"##,
+        r##"0.000 s  start db #1
+0.000 s  ready
+line 1: at 1s crash db
+1.000 s  start db #2
+line 2: at 2s crash db
+2.000 s  end shutdown: more than 1 restarts within 5 s: at 1.000 s, 2.000 s
+2.000 s  the supervisor has ended
+status 0
+"##,
+    ),
+    (
+        "storm_given_up",
+        r##"# A database and what stands on it, under one_for_all: at most 3 restarts within 10 seconds. Any crash restarts all three,
+# and counts once.
+# `storm_survived.script` crashes the database five times, four seconds apart; `storm_given_up.script` crashes it a
+# second apart. Look for: the fourth restart within 10 seconds is one too many, and the end says so.
+
+strategy = "one_for_all"
+intensity = 3
+period = 10
+
+[[child]]
+id = "db"
+start = "db"
+
+[[child]]
+id = "cache"
+start = "cache"
+
+[[child]]
+id = "web"
+start = "web"
+"##,
+        r##"# Does it survive five crashes of the database, a second apart?
+at 1s crash db
++1s crash db
++1s crash db
++1s crash db
++1s crash db
+"##,
+        r##"0.000 s  start db #1
+0.000 s  start cache #2
+0.000 s  start web #3
+0.000 s  ready
+line 2: at 1s crash db
+1.000 s  ask web #3
+1.000 s  ask cache #2
+1.000 s  start db #4
+1.000 s  start cache #5
+1.000 s  start web #6
+line 3: +1s crash db
+2.000 s  ask web #6
+2.000 s  ask cache #5
+2.000 s  start db #7
+2.000 s  start cache #8
+2.000 s  start web #9
+line 4: +1s crash db
+3.000 s  ask web #9
+3.000 s  ask cache #8
+3.000 s  start db #10
+3.000 s  start cache #11
+3.000 s  start web #12
+line 5: +1s crash db
+4.000 s  ask web #12
+4.000 s  ask cache #11
+4.000 s  end shutdown: more than 3 restarts within 10 s: at 1.000 s, 2.000 s, 3.000 s, 4.000 s
+line 6: +1s crash db
+line 6: ignored: the supervisor has ended; the line of its end says why
+status 5
+"##,
+    ),
+    (
+        "storm_slips",
+        r##"# A database and what stands on it, under one_for_all: at most 3 restarts within 10 seconds. Any crash restarts all three,
+# and counts once.
+# `storm_survived.script` crashes the database five times, four seconds apart; `storm_given_up.script` crashes it a
+# second apart. Look for: the fourth restart within 10 seconds is one too many, and the end says so.
+
+strategy = "one_for_all"
+intensity = 3
+period = 10
+
+[[child]]
+id = "db"
+start = "db"
+
+[[child]]
+id = "cache"
+start = "cache"
+
+[[child]]
+id = "web"
+start = "web"
+"##,
+        r##"# What a supervisor answers to calls that can't be.
+restart bd
+hang db
+terminate db
+at 6s restart db
+"##,
+        r##"0.000 s  start db #1
+0.000 s  start cache #2
+0.000 s  start web #3
+0.000 s  ready
+line 2: restart bd
+0.000 s  reply 1 error not_found
+line 3: hang db
+line 4: terminate db
+0.000 s  ask db #1
+line 5: at 6s restart db
+5.000 s  kill db #1
+5.000 s  reply 2 ok
+6.000 s  start db #4
+6.000 s  reply 3 ok #4
+6.000 s  3 up, 0/3 restarts in 10 s
+status 0
+"##,
+    ),
+    (
+        "storm_survived",
+        r##"# A database and what stands on it, under one_for_all: at most 3 restarts within 10 seconds. Any crash restarts all three,
+# and counts once.
+# `storm_survived.script` crashes the database five times, four seconds apart; `storm_given_up.script` crashes it a
+# second apart. Look for: the fourth restart within 10 seconds is one too many, and the end says so.
+
+strategy = "one_for_all"
+intensity = 3
+period = 10
+
+[[child]]
+id = "db"
+start = "db"
+
+[[child]]
+id = "cache"
+start = "cache"
+
+[[child]]
+id = "web"
+start = "web"
+"##,
+        r##"# Does it survive five crashes of the database, four seconds apart?
+at 4s crash db
++4s crash db
++4s crash db
++4s crash db
++4s crash db
+"##,
+        r##"0.000 s  start db #1
+0.000 s  start cache #2
+0.000 s  start web #3
+0.000 s  ready
+line 2: at 4s crash db
+4.000 s  ask web #3
+4.000 s  ask cache #2
+4.000 s  start db #4
+4.000 s  start cache #5
+4.000 s  start web #6
+line 3: +4s crash db
+8.000 s  ask web #6
+8.000 s  ask cache #5
+8.000 s  start db #7
+8.000 s  start cache #8
+8.000 s  start web #9
+line 4: +4s crash db
+12.000 s  ask web #9
+12.000 s  ask cache #8
+12.000 s  start db #10
+12.000 s  start cache #11
+12.000 s  start web #12
+line 5: +4s crash db
+16.000 s  ask web #12
+16.000 s  ask cache #11
+16.000 s  start db #13
+16.000 s  start cache #14
+16.000 s  start web #15
+line 6: +4s crash db
+20.000 s  ask web #15
+20.000 s  ask cache #14
+20.000 s  start db #16
+20.000 s  start cache #17
+20.000 s  start web #18
+20.000 s  3 up, 3/3 restarts in 10 s
+status 0
+"##,
+    ),
+];

@@ -1,0 +1,56 @@
+//! `try`: what would a tree do?
+
+ghost use Rattle.std.specs.Prelude.{◌≡◌};
+ghost use Rattle.otp_console.specs.Runs.{IsTrial};
+ghost use Rattle.otp_console.specs.Statuses.{ending_of_try};
+
+use crate::ending::Ending;
+use otp_file::read_tree;
+use otp_sim::{Input, Output};
+use otp_try::{TryEnd, Writer, try_tree};
+use std::alloc::Global;
+
+/// Reads the tree of a file, and plays the lines of a script on its supervisor.
+#[tactic(auto, unfolding(otp_rules::specs::Opening::open_fault))]
+pub fn try_file<R: Input, W: Output>(
+    alloc: Global,
+    file: &[u8],
+    writer: Writer,
+    script: &mut R,
+    output: &mut W,
+) -> Ending
+    ensures { IsTrial result file.now
+        (record { left = R.remaining script.old; written = W.contents output.old; read_failures = R.failures script.old; write_failures = W.failures output.old })
+        (record { left = R.remaining script.new; written = W.contents output.new; read_failures = R.failures script.new; write_failures = W.failures output.new }) }
+{
+    let tree = match read_tree(alloc, file) {
+        Ok(tree) => tree,
+        Err(fault) => return Ending::of_tree(fault),
+    };
+    let supervisor = tree.supervisor();
+    Ending::of_try(try_tree(
+        alloc,
+        &supervisor.flags(),
+        supervisor.specs(),
+        writer,
+        script,
+        output,
+    ))
+}
+
+impl Ending {
+    /// The end of a trial.
+    fn of_try(end: TryEnd) -> Self
+        ensures { result ≡ ending_of_try end }
+    {
+        match end {
+            TryEnd::Done => Ending::Done,
+            TryEnd::LineRefused(line, fault) => Ending::ScriptRefused(line, fault),
+            TryEnd::LineMissed(line, taken) => Ending::ScriptMissed(line, taken),
+            TryEnd::HistoryFull => Ending::HistoryFull,
+            TryEnd::InputFailed => Ending::InputFailed,
+            TryEnd::OutputFailed => Ending::OutputFailed,
+            TryEnd::OutOfMemory => Ending::OutOfMemory,
+        }
+    }
+}

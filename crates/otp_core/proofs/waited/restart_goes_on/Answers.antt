@@ -1,9 +1,0 @@
-use Rattle.std.proofs.Common.{◌∙◌}
-use Rattle.otp_core.specs.Begun.{left}
-use Rattle.otp_core.proofs.Needed.{restart_seen}
-use Rattle.otp_core.proofs.waited.restart_goes_on.Goals as goal
-
-pub returns : goal.returns
-returns c = λ kept row at.
-    c.others_have_ended.ensures
-    ∙ restart_seen c.args.rows.now c.args.from c.args.place c.args.to kept row (left c.args.resumed c.args.waiting.now.items) c.requires.from c.requires.place at

@@ -1,0 +1,4 @@
+pub mod Halves
+pub mod Steps
+pub mod Replies
+pub mod Rising

@@ -1,0 +1,154 @@
+//! Lines of which_children beside the rows that they tell of, and counts of rows (`specs/Counts` of the rules).
+
+ghost use Rattle.std.specs.Prelude.{◌≡◌, ◌+◌, ◌≤◌, ◌++◌, ◌↔◌, IsTrue, length, map, count_by, vec_len, vec_capacity};
+ghost use Rattle.otp_table.specs.Rows.{row_has};
+ghost use Rattle.otp_rules.specs.Counts.{is_active, is_supervisor, is_worker, line_of, process_of, which_of};
+
+use otp_reason::Name;
+use otp_rules::{ChildLine, ChildProcess};
+use otp_spec::ChildType;
+use otp_table::{Row, RowState};
+
+/// What which_children says of a process.
+pub fn process_of(state: RowState) -> ChildProcess
+    ensures { result ≡ process_of state }
+{
+    match state {
+        RowState::Undefined => ChildProcess::Undefined,
+        RowState::Starting(number, _) => ChildProcess::Number(number),
+        RowState::Up(number) => ChildProcess::Number(number),
+        RowState::Asked(number, _) => ChildProcess::Number(number),
+        RowState::Killed(number) => ChildProcess::Number(number),
+        RowState::Restarting(_) => ChildProcess::Restarting,
+    }
+}
+
+/// What which_children says of a row.
+pub fn line_of(row: &Row) -> ChildLine
+    ensures { result ≡ line_of row.now }
+{
+    ChildLine {
+        id: row.id,
+        process: process_of(row.state),
+        kind: row.spec.kind,
+        modules: row.spec.modules,
+    }
+}
+
+/// Adds a line of which_children for each row.
+pub fn list_lines(rows: &[Row], list: &mut Vec<ChildLine>)
+    requires { vec_len list.old + length rows.now ≤ vec_capacity list.old }
+    ensures { list.new.items ≡ list.old.items ++ map line_of rows.now }
+{
+    for row in rows {
+        list.push_reserved(line_of(row));
+    }
+}
+
+/// Whether these are the lines of these rows.
+pub fn are_lines(lines: &[ChildLine], rows: &[Row]) -> bool
+    ensures { IsTrue result ↔ (lines.now ≡ which_of rows.now) }
+{
+    if lines.len() != rows.len() {
+        return false;
+    }
+    let mut place = 0;
+    while place < rows.len() {
+        if !is_line(&lines[place], &rows[place]) {
+            return false;
+        }
+        place += 1;
+    }
+    true
+}
+
+fn is_line(line: &ChildLine, row: &Row) -> bool
+    ensures { IsTrue result ↔ (line.now ≡ line_of row.now) }
+{
+    is_same_process(line.process, process_of(row.state))
+        && is_same_id(&line.id, &row.id)
+        && is_same_kind(line.kind, row.spec.kind)
+        && line.modules.is_same(&row.spec.modules)
+}
+
+fn is_same_process(one: ChildProcess, other: ChildProcess) -> bool
+    ensures { IsTrue result ↔ (one ≡ other) }
+{
+    match (one, other) {
+        (ChildProcess::Number(one), ChildProcess::Number(other)) => one == other,
+        (ChildProcess::Restarting, ChildProcess::Restarting) => true,
+        (ChildProcess::Undefined, ChildProcess::Undefined) => true,
+        _ => false,
+    }
+}
+
+fn is_same_id(one: &Option<Name>, other: &Option<Name>) -> bool
+    ensures { IsTrue result ↔ (one.now ≡ other.now) }
+{
+    match (one, other) {
+        (Some(one), Some(other)) => one.is_same(other),
+        (None, None) => true,
+        _ => false,
+    }
+}
+
+fn is_same_kind(one: ChildType, other: ChildType) -> bool
+    ensures { IsTrue result ↔ (one ≡ other) }
+{
+    match (one, other) {
+        (ChildType::Worker, ChildType::Worker) => true,
+        (ChildType::Supervisor, ChildType::Supervisor) => true,
+        _ => false,
+    }
+}
+
+/// How many children have a process that was started and has not ended.
+pub fn count_active(rows: &[Row]) -> usize
+    ensures count { result ≡ count_by (row_has is_active) rows.now }
+    ensures limit { result ≤ length rows.now }
+{
+    rows.iter().filter(|row| is_active(row.state)).count()
+}
+
+fn is_active(state: RowState) -> bool
+    ensures { result ≡ is_active state }
+{
+    match state {
+        RowState::Up(_) | RowState::Asked(..) | RowState::Killed(_) => true,
+        RowState::Undefined | RowState::Starting(..) | RowState::Restarting(_) => false,
+    }
+}
+
+pub fn count_supervisors(rows: &[Row]) -> usize
+    ensures count { result ≡ count_by (λ row. is_supervisor row.spec.kind) rows.now }
+    ensures limit { result ≤ length rows.now }
+{
+    rows.iter()
+        .filter(|row| is_supervisor(row.spec.kind))
+        .count()
+}
+
+fn is_supervisor(kind: ChildType) -> bool
+    ensures { result ≡ is_supervisor kind }
+{
+    match kind {
+        ChildType::Supervisor => true,
+        ChildType::Worker => false,
+    }
+}
+
+pub fn count_workers(rows: &[Row]) -> usize
+    ensures count { result ≡ count_by (λ row. is_worker row.spec.kind) rows.now }
+    ensures limit { result ≤ length rows.now }
+{
+    rows.iter().filter(|row| is_worker(row.spec.kind)).count()
+}
+
+fn is_worker(kind: ChildType) -> bool
+    ensures { result ≡ is_worker kind }
+{
+    match kind {
+        ChildType::Worker => true,
+        ChildType::Supervisor => false,
+    }
+}

@@ -1,0 +1,35 @@
+//! What is asked of a strategy and of a phase (`specs/State` of the rules).
+
+ghost use Rattle.std.specs.Prelude.{◌≡◌};
+ghost use Rattle.otp_rules.specs.State.{is_over, is_simple, own_number};
+
+use otp_rules::Phase;
+use otp_spec::Strategy;
+
+pub fn is_simple(strategy: Strategy) -> bool
+    ensures { result ≡ is_simple strategy }
+{
+    match strategy {
+        Strategy::OneForOne | Strategy::OneForAll | Strategy::RestForOne => false,
+        Strategy::SimpleOneForOne => true,
+    }
+}
+
+pub fn is_over(phase: Phase) -> bool
+    ensures { result ≡ is_over phase }
+{
+    match phase {
+        Phase::Unopened | Phase::Ended(..) => true,
+        Phase::Open(_) => false,
+    }
+}
+
+/// The supervisor's own process number.
+pub fn own_number(phase: Phase) -> u64
+    ensures { result ≡ own_number phase }
+{
+    match phase {
+        Phase::Unopened => 0,
+        Phase::Open(own) | Phase::Ended(own, _) => own,
+    }
+}

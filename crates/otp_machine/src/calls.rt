@@ -1,0 +1,283 @@
+//! The calls of a supervisor, with no work open (`specs/Calls` of the rules).
+
+ghost use Rattle.std.specs.Prelude.{[], ◌≡◌, ◌∷◌, Some, None};
+ghost use Rattle.otp_rules.specs.Calls.{is_named};
+
+use crate::machine::Machine;
+use otp_lists::state::is_simple;
+use otp_reason::Name;
+use otp_rules::{After, Call, CallFault, Due, Reply};
+use otp_spec::{ChildSpec, check_childspecs};
+use otp_table::{Row, RowState};
+
+impl Machine {
+    ghost use Rattle.otp_machine.specs.Seen.{outcome_of, CanAdvance, CanDecide};
+    ghost use Rattle.otp_rules.specs.State.{with_work};
+    ghost use Rattle.otp_rules.specs.Calls.{add_child, call_child, get_childspec, refuse, start_child, start_dynamic, start_lawful, stop_process, take_call, terminate_process};
+    ghost use Rattle.otp_rules.specs.declared.call.Call.TheVariants as asked;
+    ghost use Rattle.otp_rules.specs.declared.work.After.TheVariants as after;
+
+    pub(crate) fn refuse(&mut self, call: u64, fault: CallFault)
+        requires { CanDecide self.old }
+        ensures outcome { outcome_of self.new ≡ refuse call fault (outcome_of self.old) }
+        ensures room { CanAdvance self.new }
+    {
+        self.answer(call, Reply::Refused(fault));
+    }
+
+    /// A row is added last, to be started.
+    #[tactic(auto, unfolding(otp_rules::specs::Calls::add_child))]
+    fn add_child(&mut self, call: u64, id: Option<Name>, spec: ChildSpec)
+        requires { CanDecide self.old }
+        ensures outcome { outcome_of self.new ≡ add_child call id spec (outcome_of self.old) }
+        ensures room { CanAdvance self.new }
+    {
+        match self.rows.insert(Row {
+            slot: self.rows.free_slot(),
+            id,
+            spec,
+            state: RowState::Undefined,
+        }) {
+            Err(_) => self.refuse(call, CallFault::TooManyChildren),
+            Ok(()) => {
+                self.to_stop.clear();
+                self.to_start.clear();
+                self.to_start.push_reserved(Due { id, kept: None });
+                self.follows = Some(After::Added(call));
+            }
+        }
+    }
+
+    #[tactic(auto, unfolding(otp_rules::specs::Calls::start_lawful, otp_rules::specs::Calls::call_at, otp_rules::specs::Places::at_row, otp_rules::specs::Places::at_found, otp_rules::specs::Places::at_place))]
+    fn start_lawful(&mut self, call: u64, spec: ChildSpec)
+        requires { CanDecide self.old }
+        ensures outcome { outcome_of self.new ≡ start_lawful call spec (outcome_of self.old) }
+        ensures room { CanAdvance self.new }
+    {
+        match self.rows.find_id(&spec.id) {
+            None => self.add_child(call, Some(spec.id), spec),
+            Some(place) => match self.rows.get(place).state {
+                RowState::Up(number) => self.refuse(call, CallFault::AlreadyStarted(number)),
+                _ => self.refuse(call, CallFault::AlreadyPresent),
+            },
+        }
+    }
+
+    /// start_child with a specification.
+    #[tactic(auto, unfolding(otp_rules::specs::Calls::start_child, otp_rules::specs::Calls::start_checked))]
+    fn start_child(&mut self, call: u64, spec: ChildSpec)
+        requires { CanDecide self.old }
+        ensures outcome { outcome_of self.new ≡ start_child call spec (outcome_of self.old) }
+        ensures room { CanAdvance self.new }
+    {
+        if is_simple(self.strategy) {
+            self.refuse(call, CallFault::SimpleOneForOne);
+            return;
+        }
+        match check_childspecs(&[spec], Some(self.auto_shutdown)) {
+            Err(fault) => self.refuse(call, CallFault::BadSpec(fault)),
+            Ok(()) => self.start_lawful(call, spec),
+        }
+    }
+
+    /// start_child under simple_one_for_one.
+    #[tactic(auto, unfolding(otp_rules::specs::Calls::start_dynamic, otp_rules::specs::Calls::start_shared))]
+    fn start_dynamic(&mut self, call: u64)
+        requires { CanDecide self.old }
+        ensures outcome { outcome_of self.new ≡ start_dynamic call (outcome_of self.old) }
+        ensures room { CanAdvance self.new }
+    {
+        if !is_simple(self.strategy) {
+            self.refuse(call, CallFault::NotSimple);
+            return;
+        }
+        match self.specs.first() {
+            None => self.refuse(call, CallFault::NotSimple),
+            Some(spec) => {
+                let shared = *spec;
+                self.add_child(call, None, shared);
+            }
+        }
+    }
+
+    /// The child is to be started, and then the call is answered.
+    fn start_again(&mut self, call: u64, id: Name)
+        requires { CanDecide self.old }
+        ensures outcome { outcome_of self.new ≡ with_work [] (record { id = Some id; kept = None } ∷ []) (Some (after.Restarted call)) (outcome_of self.old) }
+        ensures room { CanAdvance self.new }
+    {
+        self.to_stop.clear();
+        self.to_start.clear();
+        self.to_start.push_reserved(Due {
+            id: Some(id),
+            kept: None,
+        });
+        self.follows = Some(After::Restarted(call));
+    }
+
+    #[tactic(auto, unfolding(otp_rules::specs::Calls::call_child, otp_rules::specs::Calls::call_at, otp_rules::specs::Places::at_row, otp_rules::specs::Places::at_found, otp_rules::specs::Places::at_place))]
+    fn restart_child(&mut self, call: u64, id: Name)
+        requires { CanDecide self.old }
+        ensures outcome { outcome_of self.new ≡ call_child call id (asked.RestartChild id) (outcome_of self.old) }
+        ensures room { CanAdvance self.new }
+    {
+        if is_simple(self.strategy) {
+            self.refuse(call, CallFault::SimpleOneForOne);
+            return;
+        }
+        match self.rows.find_id(&id) {
+            None => self.refuse(call, CallFault::NotFound),
+            Some(place) => match self.rows.get(place).state {
+                RowState::Undefined => self.start_again(call, id),
+                RowState::Restarting(_) => self.refuse(call, CallFault::Restarting),
+                _ => self.refuse(call, CallFault::Running),
+            },
+        }
+    }
+
+    #[tactic(auto, unfolding(otp_rules::specs::Calls::call_child, otp_rules::specs::Calls::call_at, otp_rules::specs::Places::at_row, otp_rules::specs::Places::at_found, otp_rules::specs::Places::at_place))]
+    fn delete_child(&mut self, call: u64, id: Name)
+        requires { CanDecide self.old }
+        ensures outcome { outcome_of self.new ≡ call_child call id (asked.DeleteChild id) (outcome_of self.old) }
+        ensures room { CanAdvance self.new }
+    {
+        if is_simple(self.strategy) {
+            self.refuse(call, CallFault::SimpleOneForOne);
+            return;
+        }
+        match self.rows.find_id(&id) {
+            None => self.refuse(call, CallFault::NotFound),
+            Some(place) => match self.rows.get(place).state {
+                RowState::Undefined => {
+                    self.rows.remove(place);
+                    self.answer(call, Reply::Ok);
+                }
+                RowState::Restarting(_) => self.refuse(call, CallFault::Restarting),
+                _ => self.refuse(call, CallFault::Running),
+            },
+        }
+    }
+
+    /// The process is to be stopped, and then the call is answered.
+    #[tactic(auto, unfolding(otp_rules::specs::Calls::stop_process))]
+    fn stop_process(&mut self, call: u64, number: u64)
+        requires { CanDecide self.old }
+        ensures outcome { outcome_of self.new ≡ stop_process call number (outcome_of self.old) }
+        ensures room { CanAdvance self.new }
+    {
+        self.to_start.clear();
+        self.to_stop.clear();
+        self.to_stop.push_reserved(number);
+        self.follows = Some(After::Stopped(call));
+    }
+
+    #[tactic(auto, unfolding(otp_rules::specs::Calls::call_child, otp_rules::specs::Calls::call_at, otp_rules::specs::Places::at_row, otp_rules::specs::Places::at_found, otp_rules::specs::Places::at_place))]
+    fn terminate_child(&mut self, call: u64, id: Name)
+        requires { CanDecide self.old }
+        ensures outcome { outcome_of self.new ≡ call_child call id (asked.TerminateChild id) (outcome_of self.old) }
+        ensures room { CanAdvance self.new }
+    {
+        if is_simple(self.strategy) {
+            self.refuse(call, CallFault::SimpleOneForOne);
+            return;
+        }
+        match self.rows.find_id(&id) {
+            None => self.refuse(call, CallFault::NotFound),
+            Some(place) => match self.rows.get(place).state {
+                RowState::Starting(p, _)
+                | RowState::Up(p)
+                | RowState::Asked(p, _)
+                | RowState::Killed(p) => self.stop_process(call, p),
+                RowState::Undefined | RowState::Restarting(_) => {
+                    self.rows.set_state(place, RowState::Undefined);
+                    self.answer(call, Reply::Ok);
+                }
+            },
+        }
+    }
+
+    /// terminate_child by number.
+    #[tactic(auto, unfolding(otp_rules::specs::Calls::terminate_process, otp_rules::specs::Calls::call_at, otp_rules::specs::Places::at_row, otp_rules::specs::Places::at_found, otp_rules::specs::Places::at_place))]
+    fn terminate_process(&mut self, call: u64, number: u64)
+        requires { CanDecide self.old }
+        ensures outcome { outcome_of self.new ≡ terminate_process call number (outcome_of self.old) }
+        ensures room { CanAdvance self.new }
+    {
+        if !is_simple(self.strategy) {
+            self.refuse(call, CallFault::NotFound);
+            return;
+        }
+        match self.rows.find_number(number) {
+            None => self.refuse(call, CallFault::NotFound),
+            Some(place) => match self.rows.get(place).state {
+                RowState::Starting(p, _)
+                | RowState::Up(p)
+                | RowState::Asked(p, _)
+                | RowState::Killed(p) => self.stop_process(call, p),
+                RowState::Undefined => self.refuse(call, CallFault::NotFound),
+                RowState::Restarting(_) => {
+                    self.rows.remove(place);
+                    self.answer(call, Reply::Ok);
+                }
+            },
+        }
+    }
+
+    #[tactic(auto, unfolding(otp_rules::specs::Calls::get_childspec, otp_rules::specs::Calls::get_shared, otp_rules::specs::Calls::call_at, otp_rules::specs::Places::at_row, otp_rules::specs::Places::at_found, otp_rules::specs::Places::at_place))]
+    fn get_childspec(&mut self, call: u64, id: Name)
+        requires { CanDecide self.old }
+        ensures outcome { outcome_of self.new ≡ get_childspec call id (outcome_of self.old) }
+        ensures room { CanAdvance self.new }
+    {
+        if is_simple(self.strategy) {
+            match self.specs.first() {
+                None => self.refuse(call, CallFault::NotFound),
+                Some(spec) => {
+                    let shared = *spec;
+                    if is_named(&id, &shared) {
+                        self.answer(call, Reply::Spec(shared));
+                    } else {
+                        self.refuse(call, CallFault::NotFound);
+                    }
+                }
+            }
+            return;
+        }
+        match self.rows.find_id(&id) {
+            None => self.refuse(call, CallFault::NotFound),
+            Some(place) => {
+                let spec = self.rows.get(place).spec;
+                self.answer(call, Reply::Spec(spec));
+            }
+        }
+    }
+
+    /// A call, with no work open.
+    #[tactic(auto, unfolding(otp_rules::specs::Calls::take_call))]
+    pub(crate) fn take_call(&mut self, number: u64, call: &Call)
+        requires { CanDecide self.old }
+        ensures outcome { outcome_of self.new ≡ take_call number call.now (outcome_of self.old) }
+        ensures room { CanAdvance self.new }
+    {
+        match call {
+            Call::StartChild(spec) => self.start_child(number, *spec),
+            Call::StartDynamic => self.start_dynamic(number),
+            Call::RestartChild(id) => self.restart_child(number, *id),
+            Call::DeleteChild(id) => self.delete_child(number, *id),
+            Call::TerminateChild(id) => self.terminate_child(number, *id),
+            Call::TerminateProcess(p) => self.terminate_process(number, *p),
+            Call::WhichChildren => self.answer_which(number),
+            Call::CountChildren => {
+                let counts = self.counts();
+                self.answer(number, Reply::Count(counts));
+            }
+            Call::GetChildspec(id) => self.get_childspec(number, *id),
+        }
+    }
+}
+
+fn is_named(id: &Name, spec: &ChildSpec) -> bool
+    ensures { result ≡ is_named id.now spec.now }
+{
+    spec.id == *id
+}

@@ -1,0 +1,85 @@
+//! The end of a supervisor (`specs/Ends` of the rules).
+
+ghost use Rattle.std.specs.Prelude.{◌≡◌, ◌<◌, vec_capacity};
+ghost use Rattle.otp_rules.specs.Ends.{init_failed, last_stamps};
+
+use crate::machine::Machine;
+use otp_lists::ends::refuse_calls;
+use otp_lists::state::own_number;
+use otp_reason::{Name, Reason, Text};
+use otp_rules::{Cause, Effect, Ending, Phase, Stamps, SupEnd};
+use std::mem;
+
+impl Machine {
+    ghost use Rattle.otp_machine.specs.Seen.{outcome_of, CanAdvance};
+    ghost use Rattle.otp_rules.specs.Ends.{end_all, sup_end_of};
+
+    /// The end of the supervisor. Its stamps are put into a list that has room for them.
+    fn sup_end(&self, ending: Ending, list: Vec<u64>) -> SupEnd
+        requires { self.now.window.intensity < vec_capacity list }
+        ensures { result ≡ sup_end_of (outcome_of self.now).state.flags self.now.window.stamps ending }
+    {
+        match ending {
+            Ending::Intensity => SupEnd {
+                reason: Reason::Shutdown,
+                cause: Cause::Intensity {
+                    flags: self.flags(),
+                    stamps: last_stamps(self.window.intensity(), self.window.stamps(), list),
+                },
+            },
+            Ending::Significant(number) => SupEnd {
+                reason: Reason::Shutdown,
+                cause: Cause::Significant(number),
+            },
+            Ending::Asked => SupEnd {
+                reason: Reason::Shutdown,
+                cause: Cause::Asked,
+            },
+            Ending::InitFailed(id) => SupEnd {
+                reason: init_failed(id),
+                cause: Cause::InitFailed(id),
+            },
+        }
+    }
+
+    #[tactic(auto, unfolding(otp_rules::specs::Ends::end_all, otp_rules::specs::Ends::refuse_all))]
+    pub(crate) fn end_all(&mut self, ending: Ending)
+        requires { CanAdvance self.old }
+        ensures { outcome_of self.new ≡ end_all ending (outcome_of self.old) }
+    {
+        self.close();
+        refuse_calls(&self.waiting, &mut self.replies, &mut self.orders);
+        self.waiting.clear();
+        self.rows.clear();
+        let own = own_number(self.phase);
+        self.phase = Phase::Ended(own, ending);
+        let alloc = *self.spare_stamps.allocator();
+        let stamps = mem::replace(&mut self.spare_stamps, Vec::new(alloc));
+        let kept_stamps = mem::replace(&mut self.spare_kept_stamps, Vec::new(alloc));
+        let kept = self.sup_end(ending, kept_stamps);
+        self.ends.push_reserved((own, kept));
+        let end = self.sup_end(ending, stamps);
+        self.orders.push_reserved(Effect::End(end));
+    }
+}
+
+/// The last restarts, one more than the intensity, in a list that has room for them.
+fn last_stamps(intensity: u64, stamps: &[u64], mut list: Vec<u64>) -> Stamps
+    requires { intensity < vec_capacity list }
+    ensures { result ≡ last_stamps intensity stamps.now }
+{
+    list.clear();
+    let count = intensity as usize + 1;
+    let from = stamps.len().saturating_sub(count);
+    for stamp in &stamps[from..] {
+        list.push_reserved(*stamp);
+    }
+    Stamps::from_vec(list)
+}
+
+/// The reason of a supervisor that failed to start the child with this id.
+fn init_failed(id: Name) -> Reason
+    ensures { result ≡ init_failed id }
+{
+    Reason::ShutdownWith(Text::joined(b"failed_to_start_child/", id.as_bytes()))
+}

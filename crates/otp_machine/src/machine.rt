@@ -1,0 +1,123 @@
+//! What events change (`specs/State` of the rules).
+
+ghost use Rattle.std.specs.Prelude.{◌≡◌, ◌+◌, ◌<◌, ◌≤◌, ◌^◌, OnOk, vec_len, vec_capacity};
+
+use otp_lists::answers::Answers;
+use otp_rules::{After, ChildLine, Due, Effect, Phase, Reply, SupEnd, Waiting};
+use otp_spec::{AutoShutdown, ChildSpec, Strategy, SupFlags};
+use otp_table::Rows;
+use otp_window::Window;
+use std::alloc::AllocError;
+use std::collections::VecDeque;
+
+/// The parts of a supervisor's state, and memory that is kept ready for the next event.
+#[derive(Drop)]
+pub struct Machine {
+    pub strategy: Strategy,
+    pub auto_shutdown: AutoShutdown,
+    /// The restarts since the last opening; it has the intensity and the period of the flags.
+    pub window: Window,
+    pub specs: Vec<ChildSpec>,
+    pub rows: Rows,
+    /// In start order: the last one is stopped first.
+    pub to_stop: Vec<u64>,
+    /// In start order.
+    pub to_start: Vec<Due>,
+    pub follows: Option<After>,
+    pub waiting: VecDeque<Waiting>,
+    pub replies: Answers,
+    /// The ends of all openings that ended, under the supervisor's own number.
+    pub ends: Vec<(u64, SupEnd)>,
+    /// The stamp of the last event, in milliseconds.
+    pub last: u64,
+    pub phase: Phase,
+    pub orders: Vec<Effect>,
+    /// Memory for the next answer to which_children.
+    pub spare_lines: Vec<ChildLine>,
+    /// Memory for the stamps of an end by the intensity.
+    pub spare_stamps: Vec<u64>,
+    /// The same for the copy of the end that is kept.
+    pub spare_kept_stamps: Vec<u64>,
+}
+
+impl Machine {
+    ghost use Rattle.otp_machine.specs.Seen.{outcome_of, CanAdvance, CanDecide, HasMemory, IsSound};
+    ghost use Rattle.otp_rules.specs.State.{answer, closed, put_last};
+
+    pub fn flags(&self) -> SupFlags
+        ensures { result ≡ (outcome_of self.now).state.flags }
+    {
+        SupFlags {
+            strategy: self.strategy,
+            intensity: self.window.intensity(),
+            period: self.window.period(),
+            auto_shutdown: self.auto_shutdown,
+        }
+    }
+
+    /// Takes the memory of the next event. The state and the orders stay as they were.
+    pub fn prepare(&mut self) -> Result<(), AllocError>
+        requires { IsSound self.old }
+        ensures outcome { outcome_of self.new ≡ outcome_of self.old }
+        ensures specs { vec_len self.new.specs ≡ vec_len self.old.specs }
+        ensures ok { OnOk result (HasMemory self.new) }
+    {
+        let rows = self.rows.len();
+        let specs = self.specs.len();
+        let waiting = self.waiting.len();
+        let stamps = self.window.intensity() as usize + 1;
+        self.orders.reserve(rows + waiting + 2)?;
+        self.replies.reserve(waiting + 2)?;
+        self.waiting.reserve(1)?;
+        self.ends.reserve(1)?;
+        self.window.reserve()?;
+        reserve_in_all(&mut self.to_stop, rows + 1)?;
+        reserve_in_all(&mut self.to_start, rows + specs + 1)?;
+        self.rows.reserve(specs + 1)?;
+        reserve_in_all(&mut self.spare_lines, rows)?;
+        reserve_in_all(&mut self.spare_stamps, stamps)?;
+        reserve_in_all(&mut self.spare_kept_stamps, stamps)
+    }
+
+    /// The work closes.
+    pub(crate) fn close(&mut self)
+        ensures outcome { outcome_of self.new ≡ closed (outcome_of self.old) }
+        ensures rest { self.new ≡ record self.old { to_stop = self.new.to_stop; to_start = self.new.to_start; follows = self.new.follows } }
+    {
+        self.to_stop.clear();
+        self.to_start.clear();
+        self.follows = None;
+    }
+
+    #[tactic(auto, unfolding(otp_rules::specs::State::answer))]
+    pub(crate) fn answer(&mut self, call: u64, reply: Reply)
+        requires orders { vec_len self.old.orders < vec_capacity self.old.orders }
+        requires replies { 0 < self.old.replies.room }
+        ensures outcome { outcome_of self.new ≡ answer call reply (outcome_of self.old) }
+        ensures rest { self.new ≡ record self.old { orders = self.new.orders; replies = self.new.replies } }
+        ensures orders { vec_len self.new.orders ≡ vec_len self.old.orders + 1 }
+        ensures replies { self.new.replies.room + 1 ≡ self.old.replies.room }
+        ensures orders_room { vec_capacity self.new.orders ≡ vec_capacity self.old.orders }
+    {
+        self.replies.push(call, reply);
+        self.orders.push_reserved(Effect::Reply(call));
+    }
+
+    /// The item waits until no work is open.
+    pub(crate) fn put_last(&mut self, item: Waiting)
+        requires { CanDecide self.old }
+        ensures outcome { outcome_of self.new ≡ put_last item (outcome_of self.old) }
+        ensures room { CanAdvance self.new }
+    {
+        self.waiting.push_back_reserved(item);
+    }
+}
+
+/// Takes memory for this many items in all.
+fn reserve_in_all<T: Drop>(list: &mut Vec<T>, count: usize) -> Result<(), AllocError>
+    requires { count < 2 ^ 32 }
+    ensures items { list.new.items ≡ list.old.items }
+    ensures ok { OnOk result (count ≤ vec_capacity list.new) }
+{
+    list.reserve(count.saturating_sub(list.len()))
+}

@@ -1,0 +1,219 @@
+//! Which ends wait: what the open work asks before it goes on, without using any of them.
+
+ghost use Rattle.std.specs.Prelude.{ℕ, ◌∷◌, [], ◌&&◌, Some, slice_get, slice_set, ◌≡◌, ◌+◌, ◌++◌, ◌==◌, ◌||◌, ◌<◌, ◌≤◌, count_by, cond, drop, length, nat_le, remove, reverse, slice_range, take, not};
+ghost use Rattle.std.specs.List.{list_all, list_any};
+ghost use Rattle.otp_table.specs.Rows.{is_awaited, row_has, up_number, with_state};
+ghost use Rattle.otp_table.specs.declared.row.Row.{Row};
+ghost use Rattle.otp_table.specs.declared.row.RowState.TheVariants.{Undefined};
+ghost use Rattle.otp_reason.specs.declared.reason.Reason.{Reason};
+ghost use Rattle.otp_reason.specs.declared.note.Note.TheVariants as note;
+ghost use Rattle.otp_rules.specs.declared.event.Item.TheVariants as item;
+ghost use Rattle.otp_rules.specs.declared.event.Waiting.TheVariants as wait;
+ghost use Rattle.otp_needs.specs.Restarted.{restart_goes_on};
+ghost use Rattle.otp_rules.specs.Needs.{ends_wait};
+ghost use Rattle.otp_rules.specs.Places.{is_temporary};
+ghost use Rattle.otp_rules.specs.Restarts.{running};
+ghost use Rattle.otp_rules.specs.Stops.{is_exit};
+ghost use Rattle.otp_needs.specs.Begun.{left};
+ghost use Rattle.otp_needs.specs.Ups.{ends_counted, passes, runs_as};
+
+use otp_lists::places::is_temporary;
+use otp_lists::stops::is_exit;
+use otp_rules::Waiting;
+use otp_table::{Row, RowState};
+use std::collections::VecDeque;
+
+/// Whether an answer of one of the children is awaited.
+fn has_awaited(rows: &[Row]) -> bool
+    ensures { result ≡ list_any (row_has is_awaited) rows.now }
+{
+    rows.iter().any(|row| row.state.is_awaited())
+}
+
+/// Whether an answer of another child than the one at the place is awaited.
+pub fn has_other_awaited(rows: &[Row], place: usize) -> bool
+    requires { place < length rows.now }
+    ensures { result ≡ list_any (row_has is_awaited) (remove rows.now place) }
+{
+    has_awaited(&rows[..place]) || has_awaited(&rows[place + 1..])
+}
+
+/// Whether one of the children would be started again.
+pub fn has_lasting(rows: &[Row]) -> bool
+    ensures { result ≡ list_any (λ row. not (is_temporary row.spec.restart)) rows.now }
+{
+    rows.iter().any(|row| !is_temporary(row.spec.restart))
+}
+
+/// How many ends of the process wait.
+fn count_exits(waiting: &VecDeque<Waiting>, number: u64) -> usize
+    ensures { result ≡ count_by (is_exit number) waiting.now.items }
+{
+    waiting.iter().filter(|item| is_exit(item, number)).count()
+}
+
+/// How many of them are left where the first item is taken.
+fn count_left(waiting: &VecDeque<Waiting>, resumed: bool, number: u64) -> usize
+    ensures { result ≡ count_by (is_exit number) (left resumed waiting.now.items) }
+{
+    let count = count_exits(waiting, number);
+    match waiting.front() {
+        Some(first) => {
+            if resumed && is_exit(first, number) {
+                count - 1
+            } else {
+                count
+            }
+        }
+        None => count,
+    }
+}
+
+fn count_number(numbers: &[u64], number: u64) -> usize
+    ensures { result ≡ count_by (λ q. q == number) numbers.now }
+{
+    numbers.iter().filter(|q| **q == number).count()
+}
+
+fn have_ended_in_order(numbers: &[u64], waiting: &VecDeque<Waiting>, resumed: bool) -> bool
+    ensures { result ≡ ends_counted numbers.now (left resumed waiting.now.items) }
+{
+    numbers.iter().all(|p| count_number(numbers, *p) <= count_left(waiting, resumed, *p))
+}
+
+/// Whether of each of these processes, of which the last is stopped first, an end waits, as many as the list names it.
+#[tactic(auto, using(crate::proofs::Going::ends_reversed))]
+pub fn have_ended(numbers: &[u64], waiting: &VecDeque<Waiting>, resumed: bool) -> bool
+    ensures { result ≡ ends_wait (reverse numbers.now) (left resumed waiting.now.items) }
+{
+    have_ended_in_order(numbers, waiting, resumed)
+}
+
+fn have_ended_in_order_with(
+    numbers: &[u64],
+    waiting: &VecDeque<Waiting>,
+    resumed: bool,
+    last: u64,
+) -> bool
+    ensures { result ≡ list_all (λ p. nat_le (count_by (λ q. q == p) numbers.now)
+        (count_by (is_exit p) (left resumed waiting.now.items) + cond (last == p) 1 0)) numbers.now }
+{
+    numbers.iter().all(|p| count_number(numbers, *p)
+        <= count_left(waiting, resumed, *p) + (last == *p) as usize)
+}
+
+/// The same where an end of this process comes last.
+#[tactic(auto, using(crate::proofs::Going::ends_with_last))]
+pub fn have_ended_with(
+    numbers: &[u64],
+    waiting: &VecDeque<Waiting>,
+    resumed: bool,
+    last: u64,
+) -> bool
+    ensures { (reason : Reason) → result ≡ ends_wait (reverse numbers.now)
+        (left resumed waiting.now.items ++ wait.Item (item.Note (note.Exit last reason)) ∷ []) }
+{
+    have_ended_in_order_with(numbers, waiting, resumed, last)
+}
+
+/// Whether the child runs under this number.
+fn runs_as(state: RowState, number: u64) -> bool
+    ensures { result ≡ runs_as number state }
+{
+    match state {
+        RowState::Up(p) => p == number,
+        _ => false,
+    }
+}
+
+/// How many of the children run under this number.
+fn count_up(rows: &[Row], number: u64) -> usize
+    ensures count { result ≡ count_by (λ row. runs_as number row.state) rows.now }
+    ensures limit { result ≤ length rows.now }
+{
+    rows.iter().filter(|row| runs_as(row.state, number)).count()
+}
+
+/// Whether ends wait for a child that runs, as many as there are children of its number among these.
+fn has_ended(
+    state: RowState,
+    front: &[Row],
+    back: &[Row],
+    waiting: &VecDeque<Waiting>,
+    resumed: bool,
+) -> bool
+    ensures { result ≡ passes (λ p. nat_le (count_by (λ row. runs_as p row.state) front.now + count_by (λ row. runs_as p row.state) back.now)
+        (count_by (is_exit p) (left resumed waiting.now.items))) (up_number state) }
+{
+    match state {
+        RowState::Up(p) => count_up(front, p) + count_up(back, p)
+            <= count_left(waiting, resumed, p),
+        _ => true,
+    }
+}
+
+fn each_has_ended(
+    rows: &[Row],
+    front: &[Row],
+    back: &[Row],
+    waiting: &VecDeque<Waiting>,
+    resumed: bool,
+) -> bool
+    ensures { result ≡ list_all (λ row. passes (λ p. nat_le (count_by (λ row. runs_as p row.state) front.now + count_by (λ row. runs_as p row.state) back.now)
+        (count_by (is_exit p) (left resumed waiting.now.items))) (up_number row.state)) rows.now }
+{
+    rows.iter()
+        .all(|row| has_ended(row.state, front, back, waiting, resumed))
+}
+
+/// Whether of each of the children that run an end waits.
+pub fn children_have_ended(
+    front: &[Row],
+    back: &[Row],
+    waiting: &VecDeque<Waiting>,
+    resumed: bool,
+) -> bool
+    ensures { result ≡ ends_wait (running front.now ++ running back.now) (left resumed waiting.now.items) }
+{
+    each_has_ended(front, front, back, waiting, resumed)
+        && each_has_ended(back, front, back, waiting, resumed)
+}
+
+/// Whether the children from one place to another, beside the one at the place, have ended and one of them all lasts.
+fn others_have_ended(
+    rows: &[Row],
+    from: usize,
+    place: usize,
+    to: usize,
+    waiting: &VecDeque<Waiting>,
+    resumed: bool,
+) -> bool
+    requires from { from ≤ place }
+    requires place { place < to }
+    requires to { to ≤ length rows.now }
+    ensures { result ≡ (not (list_any (row_has is_awaited) (remove rows.now place))
+        && (ends_wait (running (slice_range rows.now from place) ++ running (slice_range rows.now (place + 1) to)) (left resumed waiting.now.items)
+        && list_any (λ row. not (is_temporary row.spec.restart)) (slice_range rows.now from to))) }
+{
+    !has_other_awaited(rows, place)
+        && children_have_ended(&rows[from..place], &rows[place + 1..to], waiting, resumed)
+        && has_lasting(&rows[from..to])
+}
+
+/// Whether a restart of the children from one place to another goes on to a start at once.
+pub fn restart_goes_on(
+    rows: &[Row],
+    from: usize,
+    place: usize,
+    to: usize,
+    waiting: &VecDeque<Waiting>,
+    resumed: bool,
+) -> bool
+    requires from { from ≤ place }
+    requires place { place < to }
+    requires to { to ≤ length rows.now }
+    ensures { (kept : ℕ) (row : Row) → slice_get rows.now place ≡ Some row →
+        result ≡ restart_goes_on from to place kept (slice_set rows.now place (with_state Undefined row)) (left resumed waiting.now.items) }
+{
+    others_have_ended(rows, from, place, to, waiting, resumed)
+}

@@ -1,0 +1,169 @@
+//! What no clause says: the words of scripts and of what is told, and that runs succeed.
+
+use otp_core::Core;
+use otp_reason::{Name, Reason, Text};
+use otp_sim::Counted;
+use otp_spec::{ChildSpec, SupFlags};
+use otp_try::{
+    Action, Child, NextStart, ScriptFault, Taken, TryEnd, When, Writer, read_step, try_tree,
+};
+use std::alloc::Global;
+use std::process::Abort;
+use std::test::Fail;
+
+/// Plays a script on a child `db`, with intensity 3 in 10 s and 5 s to shut down; compares what is told, and how it ends.
+fn plays(
+    rt: &impl Abort,
+    alloc: Global,
+    writer: Writer,
+    script: &str,
+    told: &str,
+    end: TryEnd,
+) -> Result<(), Fail> {
+    let db = Name::new(b"db").ok_or("a name")?;
+    let flags = SupFlags {
+        intensity: 3,
+        period: 10,
+        ..SupFlags::default()
+    };
+    let specs = [ChildSpec::new(db, db)];
+    let Ok(_core) = Core::open(alloc, flags, specs.as_slice()) else {
+        return Err(Fail::from("a supervisor that may be opened"));
+    };
+    let mut input = Counted::new(script.as_bytes());
+    let mut output = Counted::new(Vec::new(alloc));
+    let ended = try_tree(
+        alloc,
+        &flags,
+        specs.as_slice(),
+        writer,
+        &mut input,
+        &mut output,
+    );
+    let text = output.into_device();
+    assert_eq!(rt; text.as_slice(), told.as_bytes());
+    assert_eq!(rt; ended, end);
+    Ok(())
+}
+
+/// Does it survive four crashes in three seconds? It doesn't, and says why.
+#[test]
+fn four_crashes(rt: HostRuntime) -> Result<(), Fail> {
+    plays(
+        &rt,
+        rt.alloc(),
+        Writer::Script,
+        "# four crashes\nat 1s crash db\r\n+1s crash db\nat 3s   crash  db error:x\n\nat 4s crash db\n",
+        "0.000 s  start db #1\n0.000 s  ready\n\
+line 2: at 1s crash db\r\n1.000 s  start db #2\n\
+line 3: +1s crash db\n2.000 s  start db #3\n\
+line 4: at 3s   crash  db error:x\n3.000 s  start db #4\n\
+line 6: at 4s crash db\n\
+4.000 s  end shutdown: more than 3 restarts within 10 s: at 1.000 s, 2.000 s, 3.000 s, 4.000 s\n\
+4.000 s  the supervisor has ended\n",
+        TryEnd::Done,
+    )
+}
+
+/// A child that doesn't end when it is asked is killed at its deadline; until then its end is awaited.
+#[test]
+fn hanging_child(rt: HostRuntime) -> Result<(), Fail> {
+    let began =
+        "0.000 s  start db #1\n0.000 s  ready\nline 1: hang db\nline 2: terminate db\n0.000 s  ask db #1\n";
+    let awaited = format!(in rt.alloc();
+        "{began}0.000 s  1 stopping, 0/3 restarts in 10 s\nawaits the end of db #1 until 5.000 s\n"
+    )?;
+    plays(
+        &rt,
+        rt.alloc(),
+        Writer::Script,
+        "hang db\nterminate db",
+        awaited.as_str(),
+        TryEnd::Done,
+    )?;
+    let killed = format!(in rt.alloc();
+        "{began}line 3: +1m count\n5.000 s  kill db #1\n5.000 s  reply 1 ok\n\
+60.000 s  reply 2 count specs 1 active 0 supervisors 0 workers 1\n60.000 s  1 down, 0/3 restarts in 10 s\n"
+    )?;
+    plays(
+        &rt,
+        rt.alloc(),
+        Writer::Script,
+        "hang db\nterminate db\n+1m count\n",
+        killed.as_str(),
+        TryEnd::Done,
+    )
+}
+
+/// A start that fails is tried again, and each try is a restart.
+#[test]
+fn failing_start(rt: HostRuntime) -> Result<(), Fail> {
+    plays(
+        &rt,
+        rt.alloc(),
+        Writer::Script,
+        "fail db\ncrash #1\n",
+        "0.000 s  start db #1\n0.000 s  ready\nline 1: fail db\nline 2: crash #1\n\
+0.000 s  start db #2\n0.000 s  start db #3\n0.000 s  1 up, 2/3 restarts in 10 s\n",
+        TryEnd::Done,
+    )
+}
+
+/// A child that isn't there is said, with the line; a person may go on.
+#[test]
+fn missed_lines(rt: HostRuntime) -> Result<(), Fail> {
+    plays(
+        &rt,
+        rt.alloc(),
+        Writer::Script,
+        "crash bd\n",
+        "0.000 s  start db #1\n0.000 s  ready\nline 1: crash bd\n",
+        TryEnd::LineMissed(1, Taken::NoChild),
+    )?;
+    plays(
+        &rt,
+        rt.alloc(),
+        Writer::Script,
+        "\ncarsh db\n",
+        "0.000 s  start db #1\n0.000 s  ready\n",
+        TryEnd::LineRefused(2, ScriptFault::UnknownWord),
+    )?;
+    plays(
+        &rt,
+        rt.alloc(),
+        Writer::Person,
+        "crash bd\n",
+        "0.000 s  start db #1\n0.000 s  ready\n0.000 s  1 up, 0/3 restarts in 10 s> \
+ignored: there is no such child; which lists the children\n0.000 s  1 up, 0/3 restarts in 10 s> 0.000 s  1 up, 0/3 restarts in 10 s\n",
+        TryEnd::Done,
+    )
+}
+
+/// Each word of a script.
+#[test]
+fn words(rt: HostRuntime) -> Result<(), Fail> {
+    let db = Name::new(b"db").ok_or("a name")?;
+    let boom = Text::new(b"boom").ok_or("a text")?;
+    let step = read_step(b"  at 2m exit #3 error:boom ").map_err(|_| "a line")?;
+    assert_eq!(rt; step.when, When::At(120_000));
+    assert_eq!(rt;
+        step.action,
+        Action::Exit(Child::Numbered(3), Reason::Error(boom))
+    );
+    let step = read_step(b"+250ms ignore db").map_err(|_| "a line")?;
+    assert_eq!(rt; step.when, When::After(250));
+    assert_eq!(rt; step.action, Action::Start(db, NextStart::Ignore));
+    let refused: [(&[u8], ScriptFault); 6] = [
+        (b"at soon", ScriptFault::BadTime),
+        (b"crash", ScriptFault::BadChild),
+        (b"fail #1", ScriptFault::BadName),
+        (b"exit db badly", ScriptFault::BadReason),
+        (b"get", ScriptFault::BadCall),
+        (b"hang db now", ScriptFault::TooManyWords),
+    ];
+    for (line, fault) in refused {
+        assert_eq!(rt; read_step(line), Err(fault));
+        assert!(rt; !fault.text().is_empty());
+    }
+    Ok(())
+}
