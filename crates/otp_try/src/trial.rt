@@ -65,8 +65,7 @@ impl Taken {
             Taken::NoProcess =>
                 "ignored: this child has no process now; restart ID starts it again, which lists what runs",
             Taken::NoChild => "ignored: there is no such child; which lists the children",
-            Taken::TooLate =>
-                "ignored: that time has gone by; +TIME counts from the line before",
+            Taken::TooLate => "ignored: that time has gone by; +TIME counts from the line before",
             Taken::Ended => "ignored: the supervisor has ended; the line of its end says why",
         }
     }
