@@ -1,3 +1,4 @@
 pub mod Keeps
 pub mod Sends
 pub mod Slots
+pub mod FreeSlots

@@ -11,6 +11,7 @@
 
 pub mod bodies;
 pub mod client;
+mod kept;
 pub mod letter;
 pub mod office;
 pub mod orders;
@@ -22,7 +23,7 @@ pub mod sup;
 pub mod table;
 pub mod turns;
 
-pub use bodies::Bodies;
+pub use bodies::{Bodies, Kept, Origin, Place};
 pub use client::{Client, SubmitCause, SubmitFault};
 pub use letter::Letter;
 pub use office::Office;

@@ -1,20 +1,26 @@
 //! What lies under a supervisor's lock.
-ghost use Rattle.std.specs.Prelude.{◌≡◌, ◌+◌, ◌<◌, ◌≤◌, ◌^◌, [], is_some, IsSome, MatchOption, None, Some};
+ghost use Rattle.std.specs.Prelude.{◌≡◌, ◌+◌, ◌<◌, ◌≤◌, ◌^◌, List, [], false, is_some, length, IsSome, IsTrue, IfSome, MatchOption, None, Some};
+ghost use Rattle.std.specs.List.{list_any};
 ghost use Rattle.otp_core.specs.View.{state_of};
 ghost use Rattle.otp_rules.specs.Run.{reply_of};
+ghost use Rattle.otp_rules.specs.State.{State};
+ghost use Rattle.otp_rules.specs.Waits.{starts_waiting};
+ghost use Rattle.otp_table.specs.declared.row.Row.{Row};
+ghost use Rattle.otp_sup.specs.Bodies.{CanComeBack, IsPlan, bodies_after, bodies_in, bodies_sent, brings_body, calls_waiting, is_left_of, is_stray, left_home, let_go, moved, settled, slot_given, starting_slot, without_first};
+ghost use Rattle.otp_sup.specs.declared.bodies.Kept.{Kept};
 ghost use Rattle.otp_sup.specs.Facts.{KeepsRules};
 ghost use Rattle.otp_sup.specs.Flushes.{Flushes};
 ghost use Rattle.otp_sup.specs.Letters.{one_if};
 ghost use Rattle.otp_sup.specs.Ports.{taken_by, carried};
-ghost use Rattle.otp_sup.specs.Turns.{Turned};
+ghost use Rattle.otp_sup.specs.Turns.{Happened, Turned};
 
 use crate::bodies::Bodies;
 use crate::letter::Letter;
-use crate::office::Office;
+use crate::office::{Office, Plan};
 use crate::port::{Flushed, Port};
 use crate::turns::{TurnAnswer, TurnFault, answer_of};
 use otp_inbox::{Inbox, InboxNaming, Taker};
-use otp_rules::{Item, Kind, Reply};
+use otp_rules::{Item, Kind, Reply, laws};
 use otp_signals::{Signal, Words, WordsNaming};
 use std::marker::{Model, PhantomData};
 use std::sync::Wait;
@@ -34,18 +40,24 @@ impl<N: WordsNaming + InboxNaming, B: Drop> Model for Table<N, B> {
 
     ghost Value = { TableView };
 
-    ghost view = { λ t. record { office = t.office; taker = t.taker; bodies = t.bodies.count } };
+    ghost view = { λ t. record { office = t.office; taker = t.taker; bodies = t.bodies.kept } };
 
-    ghost invariant = { λ t. IsTable (record { office = t.office; taker = t.taker; bodies = t.bodies.count }) };
+    ghost invariant = { λ t. IsTable (record { office = t.office; taker = t.taker; bodies = t.bodies.kept }) };
 }
 
 impl<N: WordsNaming + InboxNaming, B: Drop> Table<N, B> {
     /// The table of a supervisor that was never opened, with the bodies of its child specifications.
-    pub fn new(office: Office<N>, taker: Taker<N, Item, Letter<B>>, bodies: Bodies<B>) -> Self
+    pub fn new(
+        office: Office<N>,
+        taker: Taker<N, Item, Letter<B>>,
+        mut bodies: Bodies<B>,
+    ) -> Self
         requires history { office.core.history ≡ [] }
         requires taken { taker.taken ≡ [] }
-        ensures { result ≡ record { office = office; taker = taker; bodies = bodies.count } }
+        ensures { result ≡ record { office = office; taker = taker; bodies = settled [] false bodies.kept } }
     {
+        // No child has any of them yet, and no call waits.
+        bodies.settle(&[], false);
         Table {
             office,
             taker,
@@ -111,9 +123,7 @@ impl<N: WordsNaming + InboxNaming, B: Drop> Table<N, B> {
         }
         self.office.prepare()?;
         if let Some(kind) = self.office.due_kind(number, reading, told) {
-            self.office.happen(words, reading, kind);
-            self.bodies
-                .settle(&self.office, matches!(kind, Kind::Opened(_)));
+            happen(&mut self.office, &mut self.bodies, words, reading, kind, None);
             return Ok(answer_of(kind));
         }
         let Some(letter) = inbox.take(rt, &mut self.taker) else {
@@ -124,10 +134,8 @@ impl<N: WordsNaming + InboxNaming, B: Drop> Table<N, B> {
             });
         };
         let Letter { item, body } = letter;
-        let home = self.office.home_of(&item);
-        self.office.happen(words, reading, Kind::Took(item));
-        self.bodies.receive(&self.office, &item, home, body);
-        self.bodies.settle(&self.office, false);
+        let kind = Kind::Took(item);
+        happen(&mut self.office, &mut self.bodies, words, reading, kind, body);
         Ok(TurnAnswer::Took)
     }
 
@@ -137,13 +145,15 @@ impl<N: WordsNaming + InboxNaming, B: Drop> Table<N, B> {
     pub fn flush_one<P: Port<B>>(&mut self, words: &Words<N>, port: &mut P) -> Flushed
         ensures flushed { Flushes result self.old.office self.new.office (taken_by (P.processes port.old) (P.notes port.old)) (taken_by (P.processes port.new) (P.notes port.new)) (P.refusals port.old) (P.refusals port.new) }
         ensures taker { self.new.taker ≡ self.old.taker }
-        // A body that the table doesn't keep any more went with a process that the port took.
-        ensures bodies { self.new.bodies + carried (P.processes port.new) ≡ self.old.bodies + carried (P.processes port.old) }
+        // The body that the table doesn't keep any more is that of the child whose process was put,
+        ensures bodies { self.new.bodies ≡ bodies_sent result (starting_slot self.old.office.outbox (state_of self.old.office.core).rows) self.old.bodies }
+        // and it went with the process that the port took.
+        ensures count { bodies_in self.new.bodies + carried (P.processes port.new) ≡ bodies_in self.old.bodies + carried (P.processes port.old) }
     {
         let slot = self.office.starting_slot();
-        let body = leave(&mut self.bodies, slot);
+        let (at, body) = leave(&mut self.bodies, slot);
         let (flushed, back) = self.office.flush_one(words, body, port);
-        come_back(&mut self.bodies, slot, back);
+        come_back(&mut self.bodies, slot, at, back);
         flushed
     }
 
@@ -158,12 +168,10 @@ impl<N: WordsNaming + InboxNaming, B: Drop> Table<N, B> {
     /// refusal, or when the child is gone.
     pub fn take_box(&mut self, call: u64) -> Option<B>
         ensures table { self.new ≡ record self.old { bodies = self.new.bodies } }
-        ensures bodies { self.new.bodies + one_if (is_some result) ≡ self.old.bodies }
+        ensures bodies { self.new.bodies ≡ without_first (is_left_of call) self.old.bodies }
+        ensures found { is_some result ≡ list_any (is_left_of call) self.old.bodies }
     {
         let _ = &self.taker;
-        if !self.office.is_answered(call) {
-            return None;
-        }
         self.bodies.take_of_call(call)
     }
 
@@ -171,27 +179,113 @@ impl<N: WordsNaming + InboxNaming, B: Drop> Table<N, B> {
     /// that had its body already.
     pub fn take_stray(&mut self) -> Option<B>
         ensures table { self.new ≡ record self.old { bodies = self.new.bodies } }
-        ensures bodies { self.new.bodies + one_if (is_some result) ≡ self.old.bodies }
+        ensures bodies { self.new.bodies ≡ without_first is_stray self.old.bodies }
+        ensures found { is_some result ≡ list_any is_stray self.old.bodies }
     {
         let _ = &self.taker;
         self.bodies.take_of_nobody()
     }
 }
 
-/// The body of the child in this slot, to go with its process.
-fn leave<B: Drop>(bodies: &mut Bodies<B>, slot: Option<usize>) -> Option<B>
-    ensures count { bodies.new.count + one_if (is_some result) ≡ bodies.old.count }
-    ensures room { IsSome result → 0 < bodies.new.room }
+/// One event, with the body that its item brought: each body is where the event puts it.
+fn happen<N: WordsNaming, B: Drop>(
+    office: &mut Office<N>,
+    bodies: &mut Bodies<B>,
+    words: &Words<N>,
+    reading: u64,
+    kind: Kind,
+    body: Option<B>,
+)
+    requires prepared { IsTrue office.old.core.prepared }
+    requires room { length office.old.core.history < 65536 }
+    requires quota { 0 < office.old.owner.quota }
+    requires reading { reading ≤ 2 ^ 62 }
+    requires outbox { office.old.outbox ≡ [] }
+    requires space { 0 < bodies.old.room }
+    requires carries { is_some body ≡ brings_body kind }
+    ensures happened { Happened reading kind office.old office.new }
+    ensures bodies { bodies.new.kept ≡ bodies_after (state_of office.old.core) (state_of office.new.core) kind bodies.old.kept }
+    ensures count { bodies_in bodies.new.kept ≡ bodies_in bodies.old.kept + one_if (brings_body kind) }
+    ensures calls { calls_waiting bodies.old.kept ≡ starts_waiting (state_of office.old.core).waiting → calls_waiting bodies.new.kept ≡ starts_waiting (state_of office.new.core).waiting }
 {
-    bodies.leave(slot?)
+    laws::start_calls_wait();
+    laws::runs_are_joined();
+    let plan = office.plan(&kind);
+    office.happen(words, reading, kind);
+    let slot = office.slot_given(plan.free);
+    move_bodies(bodies, &kind, &plan, slot, body);
+    let_go(bodies, office, &kind);
+}
+
+/// The body that the event brought goes where it belongs, and so does that of a call that was taken up.
+fn move_bodies<B: Drop>(
+    bodies: &mut Bodies<B>,
+    kind: &Kind,
+    plan: &Plan,
+    slot: Option<usize>,
+    body: Option<B>,
+)
+    requires space { 0 < bodies.old.room }
+    requires carries { is_some body ≡ brings_body kind.now }
+    ensures { (s : State) (rows : List Row) → IsPlan s kind.now plan.now → slot ≡ slot_given s.rows rows → bodies.new.kept ≡ moved s rows kind.now bodies.old.kept }
+{
+    match (kind, body) {
+        (Kind::Took(Item::Note(_)), Some(body)) => bodies.come(plan.home, body),
+        (Kind::Took(Item::Call(call, _)), Some(body)) => {
+            bodies.bring(*call, plan.waits, slot, body);
+        }
+        (Kind::Resumed, None) => {
+            if plan.is_taken_up {
+                bodies.take_up(slot);
+            }
+        }
+        _ => {}
+    }
+}
+
+/// Bodies of children that are gone are whose they were before; at an opening all children are new.
+fn let_go<N: WordsNaming, B: Drop>(bodies: &mut Bodies<B>, office: &Office<N>, kind: &Kind)
+    ensures { bodies.new.kept ≡ let_go (state_of office.now.core) kind.now bodies.old.kept }
+{
+    let rows = office.rows();
+    let is_any_waiting = office.has_waiting();
+    if let Kind::Opened(_) = kind {
+        bodies.settle(&[], is_any_waiting);
+        bodies.open(rows.len());
+    } else {
+        bodies.settle(rows, is_any_waiting);
+    }
+}
+
+/// The body of the child in this slot, to go with its process, and its place among the bodies.
+fn leave<B: Drop>(bodies: &mut Bodies<B>, slot: Option<usize>) -> (Option<usize>, Option<B>)
+    ensures kept { bodies.new.kept ≡ left_home slot bodies.old.kept }
+    ensures none { result.1 ≡ None → bodies.new.kept ≡ bodies.old.kept }
+    ensures some { IsSome result.1 → IsSome slot }
+    ensures back { IsSome result.1 → CanComeBack slot result.0 bodies.new.kept bodies.old.kept }
+    ensures count { bodies_in bodies.new.kept + one_if (is_some result.1) ≡ bodies_in bodies.old.kept }
+{
+    let Some(slot) = slot else {
+        return (None, None);
+    };
+    match bodies.leave(slot) {
+        Some((at, body)) => (Some(at), Some(body)),
+        None => (None, None),
+    }
 }
 
 /// What the port didn't take goes back.
-fn come_back<B: Drop>(bodies: &mut Bodies<B>, slot: Option<usize>, back: Option<B>)
-    requires { IsSome back → 0 < bodies.old.room }
-    ensures { bodies.new.count ≡ bodies.old.count + one_if (is_some back) }
+fn come_back<B: Drop>(
+    bodies: &mut Bodies<B>,
+    slot: Option<usize>,
+    at: Option<usize>,
+    back: Option<B>,
+)
+    requires { IsSome back → IfSome at (λ i. i < length bodies.old.kept) }
+    ensures none { back ≡ None → bodies.new.kept ≡ bodies.old.kept }
+    ensures back { (older : List Kept) → IsSome back → CanComeBack slot at bodies.old.kept older → bodies.new.kept ≡ older }
 {
-    if let Some(body) = back {
-        bodies.come_home(slot.unwrap_or(0), body);
+    if let (Some(slot), Some(at), Some(body)) = (slot, at, back) {
+        bodies.come_back(at, slot, body);
     }
 }
