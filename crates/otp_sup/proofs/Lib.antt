@@ -2,3 +2,4 @@ pub mod Keeps
 pub mod Sends
 pub mod Slots
 pub mod FreeSlots
+pub mod Keeping

@@ -1,11 +1,11 @@
 //! The bodies that a supervisor keeps: of children that have no process, and those that no child has.
-ghost use Rattle.std.specs.Prelude.{◌≡◌, ◌<◌, ◌++◌, ◌∷◌, [], true, get_or, is_some, length, remove, IfErr, IfSome, OnOk, OnErr};
+ghost use Rattle.std.specs.Prelude.{◌≡◌, ◌<◌, ◌++◌, ◌∷◌, [], true, get_or, is_some, false, length, position, remove, slice_set, IfErr, MatchOption, None, OnOk, OnErr, Some};
 ghost use Rattle.std.specs.List.{list_any};
 ghost use Rattle.otp_sup.specs.Bodies.{come_home, came_for, has_body, home_or_free, is_at_home, is_here, is_left_of, is_stray, is_waiting, move_first, opened, place_of_call, put_home, settled, without_first};
 ghost use Rattle.otp_sup.specs.Slots.{AreBelow};
 ghost use Rattle.otp_sup.specs.declared.bodies.Kept.{Kept};
 ghost use Rattle.otp_sup.specs.declared.bodies.Origin.TheVariants as origin;
-ghost use Rattle.otp_sup.specs.declared.bodies.Place.TheVariants as place;
+ghost use Rattle.otp_sup.specs.declared.bodies.Place.TheVariants as placed;
 
 use crate::kept::{
     find_away, find_home, find_left, find_stray, find_waiting, home_or_free, open_all, place_of_call,
@@ -84,7 +84,7 @@ impl<B: Drop> Bodies<B> {
 
     /// Hands in the body of the child specification at this place. Where memory is refused it comes back.
     pub fn hand_in(&mut self, place: usize, body: B) -> Result<(), B>
-        ensures ok { OnOk result (self.new.kept ≡ self.old.kept ++ record { origin = origin.Spec place; place = place.Free } ∷ []) }
+        ensures ok { OnOk result (self.new.kept ≡ self.old.kept ++ record { origin = origin.Spec place; place = placed.Free } ∷ []) }
         ensures back { IfErr result (λ back. back ≡ body) }
         ensures kept { OnErr result (self.new.kept ≡ self.old.kept) }
     {
@@ -124,17 +124,52 @@ impl<B: Drop> Bodies<B> {
         self.bodies.remove(at)
     }
 
-    /// Takes out the body of the child in this slot, which is to be started: it goes with its process. With it comes its
-    /// place in the list, for [`Bodies::come_back`].
-    pub(crate) fn leave(&mut self, slot: usize) -> Option<(usize, B)>
-        ensures kept { self.new.kept ≡ move_first (is_at_home slot) (place.Away slot) self.old.kept }
-        ensures body { is_some result ≡ has_body slot self.old.kept }
-        ensures back { IfSome result (λ r. (r.0 < length self.new.kept) × (put_home r.0 slot self.new.kept ≡ self.old.kept)) }
+    /// The body at this place in the list is there from now on; it stays here.
+    fn move_to(&mut self, at: usize, to: Place)
+        requires within { at < length self.old.kept }
+        requires here { (d : Kept) → is_here (get_or self.old.kept at d).place ≡ is_here to }
+        ensures { (d : Kept) → self.new.kept ≡ slice_set self.old.kept at (record (get_or self.old.kept at d) { place = to }) }
     {
-        let at = find_home(&self.kept, slot)?;
-        let body = self.bodies[at].take()?;
-        self.kept[at].place = Place::Away(slot);
-        Some((at, body))
+        self.kept[at].place = to;
+    }
+
+    /// The body at this place in the list comes, and is there from now on.
+    fn take_in(&mut self, at: usize, to: Place, body: B)
+        requires within { at < length self.old.kept }
+        requires here { is_here to ≡ true }
+        ensures { (d : Kept) → self.new.kept ≡ slice_set self.old.kept at (record (get_or self.old.kept at d) { place = to }) }
+    {
+        self.kept[at].place = to;
+        self.bodies[at] = Some(body);
+    }
+
+    /// The body at this place in the list goes, and is away from now on.
+    fn take_out(&mut self, at: usize, to: Place) -> Option<B>
+        requires within { at < length self.old.kept }
+        requires away { is_here to ≡ false }
+        ensures kept { (d : Kept) → self.new.kept ≡ slice_set self.old.kept at (record (get_or self.old.kept at d) { place = to }) }
+        ensures body { (d : Kept) → is_some result ≡ is_here (get_or self.old.kept at d).place }
+    {
+        self.kept[at].place = to;
+        self.bodies[at].take()
+    }
+
+    /// Where the body of the child in this slot is in the list, if it is at home.
+    pub(crate) fn find_home(&self, slot: Option<usize>) -> Option<usize>
+        ensures { MatchOption slot (result ≡ None) (λ k. result ≡ position (is_at_home k) self.now.kept) }
+    {
+        find_home(&self.kept, slot?)
+    }
+
+    /// Takes out the body at this place in the list, which is at home in this slot: it goes with the child's process.
+    pub(crate) fn leave(&mut self, at: usize, slot: usize) -> Option<B>
+        requires { position (is_at_home slot) self.old.kept ≡ Some at }
+        ensures kept { self.new.kept ≡ move_first (is_at_home slot) (placed.Away slot) self.old.kept }
+        ensures body { is_some result ≡ true }
+        ensures back { put_home at slot self.new.kept ≡ self.old.kept }
+        ensures within { at < length self.new.kept }
+    {
+        self.take_out(at, Place::Away(slot))
     }
 
     /// Takes back a body that didn't leave after all, to this place in the list.
@@ -142,8 +177,7 @@ impl<B: Drop> Bodies<B> {
         requires { at < length self.old.kept }
         ensures { self.new.kept ≡ put_home at slot self.old.kept }
     {
-        self.kept[at].place = Place::Home(slot);
-        self.bodies[at] = Some(body);
+        self.take_in(at, Place::Home(slot), body);
     }
 
     /// Takes in the body of the child in this slot. Where its body is here already, this one is nobody's.
@@ -152,10 +186,7 @@ impl<B: Drop> Bodies<B> {
         ensures { self.new.kept ≡ come_home slot self.old.kept }
     {
         match find_away(&self.kept, slot) {
-            Some(at) => {
-                self.kept[at].place = Place::Home(slot);
-                self.bodies[at] = Some(body);
-            }
+            Some(at) => self.take_in(at, Place::Home(slot), body),
             None => self.put(Origin::Nobody, Place::Free, body),
         }
     }
@@ -187,7 +218,7 @@ impl<B: Drop> Bodies<B> {
         let Some(at) = find_waiting(&self.kept) else {
             return;
         };
-        self.kept[at].place = home_or_free(slot);
+        self.move_to(at, home_or_free(slot));
     }
 
     /// Once these are the rows: bodies of children that are gone are whose they were before.

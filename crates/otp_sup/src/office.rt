@@ -338,7 +338,7 @@ impl<N: WordsNaming> Office<N> {
 }
 
 fn is_start_waiting(first: Option<&Waiting>) -> bool
-    ensures { result ≡ is_start_waiting (option_map (λ w. w.now) first) }
+    ensures { result ≡ is_start_waiting (option_map (λ w. w.now) first.entry) }
 {
     match first {
         Some(Waiting::Item(item)) => is_start_item(item),

@@ -1,12 +1,12 @@
 //! What lies under a supervisor's lock.
-ghost use Rattle.std.specs.Prelude.{◌≡◌, ◌+◌, ◌<◌, ◌≤◌, ◌^◌, List, [], false, is_some, length, IsSome, IsTrue, IfSome, MatchOption, None, Some};
+ghost use Rattle.std.specs.Prelude.{◌≡◌, ◌+◌, ◌<◌, ◌≤◌, ◌^◌, List, [], false, is_some, length, position, IsSome, IsTrue, IfSome, MatchOption, None, Some};
 ghost use Rattle.std.specs.List.{list_any};
 ghost use Rattle.otp_core.specs.View.{state_of};
 ghost use Rattle.otp_rules.specs.Run.{reply_of};
 ghost use Rattle.otp_rules.specs.State.{State};
 ghost use Rattle.otp_rules.specs.Waits.{starts_waiting};
 ghost use Rattle.otp_table.specs.declared.row.Row.{Row};
-ghost use Rattle.otp_sup.specs.Bodies.{CanComeBack, IsPlan, bodies_after, bodies_in, bodies_sent, brings_body, calls_waiting, is_left_of, is_stray, left_home, let_go, moved, settled, slot_given, starting_slot, without_first};
+ghost use Rattle.otp_sup.specs.Bodies.{CanComeBack, IsPlan, bodies_after, bodies_in, bodies_sent, brings_body, calls_waiting, is_at_home, is_left_of, is_stray, left_home, let_go, moved, settled, slot_given, starting_slot, without_first};
 ghost use Rattle.otp_sup.specs.declared.bodies.Kept.{Kept};
 ghost use Rattle.otp_sup.specs.Facts.{KeepsRules};
 ghost use Rattle.otp_sup.specs.Flushes.{Flushes};
@@ -151,7 +151,8 @@ impl<N: WordsNaming + InboxNaming, B: Drop> Table<N, B> {
         ensures count { bodies_in self.new.bodies + carried (P.processes port.new) ≡ bodies_in self.old.bodies + carried (P.processes port.old) }
     {
         let slot = self.office.starting_slot();
-        let (at, body) = leave(&mut self.bodies, slot);
+        let at = self.bodies.find_home(slot);
+        let body = leave(&mut self.bodies, slot, at);
         let (flushed, back) = self.office.flush_one(words, body, port);
         come_back(&mut self.bodies, slot, at, back);
         flushed
@@ -257,21 +258,18 @@ fn let_go<N: WordsNaming, B: Drop>(bodies: &mut Bodies<B>, office: &Office<N>, k
     }
 }
 
-/// The body of the child in this slot, to go with its process, and its place among the bodies.
-fn leave<B: Drop>(bodies: &mut Bodies<B>, slot: Option<usize>) -> (Option<usize>, Option<B>)
+/// The body at this place among the bodies leaves, with the process of the child in this slot.
+fn leave<B: Drop>(bodies: &mut Bodies<B>, slot: Option<usize>, at: Option<usize>) -> Option<B>
+    requires { MatchOption slot (at ≡ None) (λ k. at ≡ position (is_at_home k) bodies.old.kept) }
     ensures kept { bodies.new.kept ≡ left_home slot bodies.old.kept }
-    ensures none { result.1 ≡ None → bodies.new.kept ≡ bodies.old.kept }
-    ensures some { IsSome result.1 → IsSome slot }
-    ensures back { IsSome result.1 → CanComeBack slot result.0 bodies.new.kept bodies.old.kept }
-    ensures count { bodies_in bodies.new.kept + one_if (is_some result.1) ≡ bodies_in bodies.old.kept }
+    ensures none { result ≡ None → bodies.new.kept ≡ bodies.old.kept }
+    ensures back { IsSome result → CanComeBack slot at bodies.new.kept bodies.old.kept }
+    ensures count { bodies_in bodies.new.kept + one_if (is_some result) ≡ bodies_in bodies.old.kept }
 {
-    let Some(slot) = slot else {
-        return (None, None);
-    };
-    match bodies.leave(slot) {
-        Some((at, body)) => (Some(at), Some(body)),
-        None => (None, None),
+    if let (Some(slot), Some(at)) = (slot, at) {
+        return bodies.leave(at, slot);
     }
+    None
 }
 
 /// What the port didn't take goes back.
