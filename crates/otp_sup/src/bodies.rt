@@ -8,8 +8,8 @@ ghost use Rattle.otp_sup.specs.declared.bodies.Origin.TheVariants as origin;
 ghost use Rattle.otp_sup.specs.declared.bodies.Place.TheVariants as placed;
 
 use crate::kept::{
-    find_away, find_home, find_left, find_stray, find_waiting, home_or_free, open_all, place_of_call,
-    settle_all,
+    find_away, find_home, find_left, find_stray, find_waiting, home_or_free, open_items, place_of_call,
+    settle_items,
 };
 use otp_table::Row;
 use std::alloc::{AllocError, Global};
@@ -226,14 +226,14 @@ impl<B: Drop> Bodies<B> {
         requires { AreBelow rows.now }
         ensures { self.new.kept ≡ settled rows.now is_any_waiting self.old.kept }
     {
-        settle_all(&mut self.kept, rows, is_any_waiting);
+        settle_items(&mut self.kept, rows, is_any_waiting);
     }
 
     /// At an opening with so many children each has the body that was handed in for it.
     pub(crate) fn open(&mut self, children: usize)
         ensures { self.new.kept ≡ opened children self.old.kept }
     {
-        open_all(&mut self.kept, children);
+        open_items(&mut self.kept, children);
     }
 
     /// The body of this call, once no child has it and the call waits no more.

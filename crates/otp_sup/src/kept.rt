@@ -137,7 +137,7 @@ fn settle_one(one: &mut Kept, rows: &[Row], taken: &[bool; 256], is_any_waiting:
 
 /// Once these are the rows: no body is at home, or away, in a slot that none of them has; and none waits where nothing
 /// waits any more.
-pub(crate) fn settle_all(kept: &mut [Kept], rows: &[Row], is_any_waiting: bool)
+fn settle_all(kept: &mut [Kept], rows: &[Row], is_any_waiting: bool)
     requires { AreBelow rows.now }
     ensures { kept.new ≡ settled rows.now is_any_waiting kept.old }
 {
@@ -145,6 +145,14 @@ pub(crate) fn settle_all(kept: &mut [Kept], rows: &[Row], is_any_waiting: bool)
     for one in kept.iter_mut() {
         settle_one(one, rows, &taken, is_any_waiting);
     }
+}
+
+/// The same for the whole list.
+pub(crate) fn settle_items(kept: &mut Vec<Kept>, rows: &[Row], is_any_waiting: bool)
+    requires { AreBelow rows.now }
+    ensures { kept.new.items ≡ settled rows.now is_any_waiting kept.old.items }
+{
+    settle_all(kept, rows, is_any_waiting);
 }
 
 fn open_one(one: &mut Kept, children: usize)
@@ -158,10 +166,17 @@ fn open_one(one: &mut Kept, children: usize)
 }
 
 /// At an opening with so many children.
-pub(crate) fn open_all(kept: &mut [Kept], children: usize)
+fn open_all(kept: &mut [Kept], children: usize)
     ensures { kept.new ≡ opened children kept.old }
 {
     for one in kept.iter_mut() {
         open_one(one, children);
     }
+}
+
+/// The same for the whole list.
+pub(crate) fn open_items(kept: &mut Vec<Kept>, children: usize)
+    ensures { kept.new.items ≡ opened children kept.old.items }
+{
+    open_all(kept, children);
 }
