@@ -18,16 +18,16 @@ use Rattle.otp_table.specs.Rows.{has_slot}
 use Rattle.std.specs.Prelude.{nat_lt}
 use Rattle.otp_sup.specs.Bodies.{is_at_home, is_here, is_home_of, move_first, opened, opened_place, place_among, put_home, put_home_at, settled, waiting_as, without_first}
 
+pub or_false : (a b : Bool) → (a || b) ≡ false → (a ≡ false) × (b ≡ false)
+or_false true b h = absurd (false≢true (sym h))
+or_false false b h = (refl, h)
+
 -- no body passes
 pub move_none : (t : Kept → Bool) (to : Place) (xs : List Kept) → list_any t xs ≡ false → move_first t to xs ≡ xs
 move_none t to [] none = refl
 move_none t to (x ∷ xs) none =
     let parts = or_false (t x) (list_any t xs) none in
     ap (λ (b : Bool). if b then record x { place = to } ∷ xs else x ∷ move_first t to xs) parts.0 ∙ ap (λ (l : List Kept). x ∷ l) (move_none t to xs parts.1)
-
-pub or_false : (a b : Bool) → (a || b) ≡ false → (a ≡ false) × (b ≡ false)
-or_false true b h = absurd (false≢true (sym h))
-or_false false b h = (refl, h)
 
 pub without_none : (t : Kept → Bool) (xs : List Kept) → list_any t xs ≡ false → without_first t xs ≡ xs
 without_none t [] none = refl
