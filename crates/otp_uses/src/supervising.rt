@@ -1,0 +1,60 @@
+//! One supervisor, driven by hand. Here its children are no processes at all: each starts when it is ordered to, and ends
+//! when it is asked to. Whoever has real ones carries out the same orders, and gets the same notes from them.
+
+use otp_core::{Core, Counter, MAX_EVENTS};
+use otp_reason::{Note, Reason};
+use otp_rules::{Effect, Item, Kind};
+use std::alloc::{AllocError, Global};
+use std::collections::VecDeque;
+
+/// Something happens, and all that follows, until nothing does.
+pub fn drive(alloc: Global, core: &mut Core, first: Kind) -> Result<(), AllocError> {
+    let mut inbox = VecDeque::new(alloc);
+    let mut next = Some(first);
+    for _ in 0..MAX_EVENTS {
+        let Some(kind) = next else {
+            return Ok(());
+        };
+        happen(core, kind)?;
+        carry_out(core, &mut inbox)?;
+        next = match core.next_kind(0, false) {
+            Some(kind) => Some(kind),
+            None => inbox.pop_front().map(|note| Kind::Took(Item::Note(note))),
+        };
+    }
+    Ok(())
+}
+
+/// One event: its memory first, and then the step, which draws a number where it starts a child. The clock stands still.
+fn happen(core: &mut Core, kind: Kind) -> Result<(), AllocError> {
+    core.prepare()?;
+    let mut numbers = Counter {
+        last: core.last_number(),
+    };
+    if core.is_full() || numbers.last == u64::MAX {
+        return Ok(());
+    }
+    core.step_with(0, kind, &mut numbers);
+    Ok(())
+}
+
+/// The orders are carried out: what the children tell of that comes into the inbox.
+fn carry_out(core: &mut Core, inbox: &mut VecDeque<Note>) -> Result<(), AllocError> {
+    for order in core.effects() {
+        if let Some(note) = answer_of(order) {
+            inbox.push_back(note)?;
+        }
+    }
+    core.clear_effects();
+    Ok(())
+}
+
+/// What a child tells of an order.
+fn answer_of(order: &Effect) -> Option<Note> {
+    match order {
+        Effect::Start(_, number) => Some(Note::Up(*number)),
+        Effect::Ask(_, number) => Some(Note::Exit(*number, Reason::Shutdown)),
+        Effect::Kill(_, number) => Some(Note::Exit(*number, Reason::Killed)),
+        Effect::Reply(_) | Effect::Ready | Effect::End(_) => None,
+    }
+}
