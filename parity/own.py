@@ -175,7 +175,7 @@ OWN = [
       for n in range(4)],
     ("five modules", LIMIT, tree(child("a", modules=list("mnopq"))), "", "tree refused: E2"),
     ("a key of the supervisor that isn't listed", FILE, tree(child("a"), strategy="one_for_one", intensify=1), "", "tree refused: E11"),
-    ("a key of a child that isn't listed", FILE, tree(child("a", tree=1)), "", "tree refused: E11"),
+    ("a key of a child that isn't listed", FILE, tree(child("a", trees=1)), "", "tree refused: E11"),
     ("a child without an id", FILE, 'child = [{ start = "a" }]\n', "", "tree refused: E12"),
     ("a child without a start", FILE, 'child = [{ id = "a" }]\n', "", "tree refused: E12"),
     ("a child that is no table", FILE, "child = [1]\n", "", "tree refused: E13"),
