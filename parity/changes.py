@@ -41,32 +41,43 @@ def value(file, after, wanted, other):
 NOT_FOUND, RUNNING, RESTARTING = "CallFault::NotFound", "CallFault::Running", "CallFault::Restarting"
 SIMPLE, NOT_SIMPLE = "CallFault::SimpleOneForOne", "CallFault::NotSimple"
 
+
+def refusal(before, pattern, fault):
+    """In the table of refusals another line stands before one: this call in this state of the child has this fault."""
+    return (CALLS, "fn fault_at(", before, f"{pattern} if ON => Some({fault}),\n        {before}")
+
+
+def says_ok(pattern):
+    """A call that matches does nothing and is answered ok."""
+    return (CALLS, "fn call_at(", "match fault_at(", f"if ON && matches!((asked, self.rows.get(place).state), {pattern}) {{\n            self.answer(call, Reply::Ok);\n            return;\n        }}\n        match fault_at(")
+
+
+def not_found_under_simple(call):
+    return (CALLS, "fn call_child(", SIMPLE, f"if ON && matches!(asked, Call::{call}(_)) {{ {NOT_FOUND} }} else {{ {SIMPLE} }}")
+
+
 # What is changed, and where: file, a text before the place, the text, and what stands there (ON: the change is on).
 CHANGES = [
     # Calls
-    ("restart of a restarting child says running", [value(CALLS, "fn restart_child(", RESTARTING, RUNNING)]),
-    ("delete of a restarting child says running", [value(CALLS, "fn delete_child(", RESTARTING, RUNNING)]),
-    ("delete of a restarting child says ok, and keeps it",
-     [(CALLS, "fn delete_child(", "RowState::Restarting(_) =>", "RowState::Restarting(_) if ON => self.answer(call, Reply::Ok),\n            RowState::Restarting(_) =>")]),
-    ("delete of a running child says ok, and keeps it", [(CALLS, "fn delete_child(", "_ => self.refuse", "_ if ON => self.answer(call, Reply::Ok),\n            _ => self.refuse")]),
-    ("delete of an ended child keeps its row", [(CALLS, "fn delete_child(", "self.rows.remove(place);", "if !ON {\n                    self.rows.remove(place);\n                }")]),
+    ("restart of a restarting child says running", [refusal("(Call::RestartChild(_) | Call::DeleteChild(_), RowState::Restarting(_))", "(Call::RestartChild(_), RowState::Restarting(_))", RUNNING)]),
+    ("delete of a restarting child says running", [refusal("(Call::RestartChild(_) | Call::DeleteChild(_), RowState::Restarting(_))", "(Call::DeleteChild(_), RowState::Restarting(_))", RUNNING)]),
+    ("delete of a restarting child says ok, and keeps it", [says_ok("(Call::DeleteChild(_), RowState::Restarting(_))")]),
+    ("delete of a running child says ok, and keeps it",
+     [says_ok("(Call::DeleteChild(_), RowState::Starting(..) | RowState::Up(_) | RowState::Asked(..) | RowState::Killed(_))")]),
+    ("delete of an ended child keeps its row", [(CALLS, "Call::DeleteChild(_) => {", "self.rows.remove(place);", "if !ON {\n                    self.rows.remove(place);\n                }")]),
     ("terminate of a restarting child leaves it restarting",
-     [(CALLS, "fn terminate_child(", "self.rows.set_state(place, RowState::Undefined);", "if !ON {\n                    self.rows.set_state(place, RowState::Undefined);\n                }")]),
-    ("terminate of a child without a process says not_found",
-     [(CALLS, "fn terminate_child(", "RowState::Undefined | RowState::Restarting(_) =>", f"RowState::Undefined if ON => self.refuse(call, {NOT_FOUND}),\n                RowState::Undefined | RowState::Restarting(_) =>")]),
-    ("terminate of a restarting dynamic child says not_found",
-     [(CALLS, "fn terminate_process(", "RowState::Restarting(_) =>", f"RowState::Restarting(_) if ON => self.refuse(call, {NOT_FOUND}),\n            RowState::Restarting(_) =>")]),
+     [(CALLS, "fn carry_out(", "self.rows.set_state(place, RowState::Undefined);", "if !ON {\n                    self.rows.set_state(place, RowState::Undefined);\n                }")]),
+    ("terminate of a child without a process says not_found", [refusal("_ => None", "(Call::TerminateChild(_), RowState::Undefined)", NOT_FOUND)]),
+    ("terminate of a restarting dynamic child says not_found", [refusal("_ => None", "(Call::TerminateProcess(_), RowState::Restarting(_))", NOT_FOUND)]),
     ("terminate by number says not_simple under other strategies", [value(CALLS, "fn terminate_process(", NOT_FOUND, NOT_SIMPLE)]),
-    ("terminate by id says not_found under simple_one_for_one", [value(CALLS, "fn terminate_child(", SIMPLE, NOT_FOUND)]),
-    ("restart says not_found under simple_one_for_one", [value(CALLS, "fn restart_child(", SIMPLE, NOT_FOUND)]),
-    ("delete says not_found under simple_one_for_one", [value(CALLS, "fn delete_child(", SIMPLE, NOT_FOUND)]),
-    ("get under simple_one_for_one finds the specification by any id but its own", [(CALLS, "fn get_childspec", "if is_named(&id, &shared) {", "if is_named(&id, &shared) != ON {")]),
+    ("terminate by id says not_found under simple_one_for_one", [not_found_under_simple("TerminateChild")]),
+    ("restart says not_found under simple_one_for_one", [not_found_under_simple("RestartChild")]),
+    ("delete says not_found under simple_one_for_one", [not_found_under_simple("DeleteChild")]),
+    ("get under simple_one_for_one finds the specification by any id but its own", [(CALLS, "fn get_shared", "if is_named(id, spec) =>", "if is_named(id, spec) != ON =>")]),
     ("start without a specification says simple_one_for_one under other strategies", [value(CALLS, "fn start_dynamic", NOT_SIMPLE, SIMPLE)]),
     ("start with a specification says not_simple under simple_one_for_one", [value(CALLS, "fn start_child(", SIMPLE, NOT_SIMPLE)]),
-    ("start of a running child says already_present",
-     [(CALLS, "fn start_lawful(", "RowState::Up(number) =>", "RowState::Up(_) if ON => self.refuse(call, CallFault::AlreadyPresent),\n                RowState::Up(number) =>")]),
-    ("start of a restarting child says already_started",
-     [(CALLS, "fn start_lawful(", "_ => self.refuse(call, CallFault::AlreadyPresent)", "RowState::Restarting(number) if ON => self.refuse(call, CallFault::AlreadyStarted(number)),\n                _ => self.refuse(call, CallFault::AlreadyPresent)")]),
+    ("start of a running child says already_present", [refusal("(Call::StartChild(_), RowState::Up(number))", "(Call::StartChild(_), RowState::Up(_))", "CallFault::AlreadyPresent")]),
+    ("start of a restarting child says already_started", [refusal("(Call::StartChild(_), _)", "(Call::StartChild(_), RowState::Restarting(number))", "CallFault::AlreadyStarted(number)")]),
     ("start looks for the id before it checks the specification", [(CALLS, "fn start_child(", "match check_childspecs", "if ON && self.rows.find_id(&spec.id).is_some() {\n            self.start_lawful(call, spec);\n            return;\n        }\n        match check_childspecs")]),
     ("start takes a significant child under never", [(CALLS, "fn start_child(", "Some(self.auto_shutdown)", instead("Some(self.auto_shutdown)", "None"))]),
     ("a failed restart_child is answered ok undefined",
@@ -84,7 +95,7 @@ CHANGES = [
     ("a child without a process is active", [(LINES, "fn is_active", "RowState::Undefined | RowState::Starting(..)", "RowState::Undefined => ON,\n        RowState::Starting(..)")]),
     ("a restarting child is active", [(LINES, "fn is_active", "RowState::Starting(..) | RowState::Restarting(_) =>", "RowState::Restarting(_) if ON => true,\n        RowState::Starting(..) | RowState::Restarting(_) =>")]),
     ("supervisors count as workers too", [(LINES, "fn is_worker", "ChildType::Supervisor => false", "ChildType::Supervisor => ON")]),
-    ("specs counts dynamic children", [(COUNTS, "pub fn counts", "if is_simple(self.strategy) {", "if is_simple(self.strategy) && !ON {")]),
+    ("specs counts dynamic children", [(COUNTS, "pub fn counts", "if self.strategy.is_simple() {", "if self.strategy.is_simple() && !ON {")]),
     ("a restarting child is listed as undefined", [value(LINES, "fn process_of", "ChildProcess::Restarting", "ChildProcess::Undefined")]),
     ("three modules are printed as two", [(VALUE, "Modules::Three", "write_next_module(third, out)", instead("write_next_module(third, out)", "Ok(())"))]),
     # Specifications and flags
@@ -125,7 +136,7 @@ CHANGES = [
        "                self.restart_rows(from, to, place, kept);\n            } else {\n                self.restart(place, kept);\n            }")]),
     ("a retry restarts its child alone",
      [(DEATHS, "fn retry(", "self.restart(place, kept);",
-       "let strategy = self.strategy;\n            if ON && !crate::rows::is_simple(strategy) {\n                self.strategy = otp_spec::Strategy::OneForOne;\n            }\n"
+       "let strategy = self.strategy;\n            if ON && !strategy.is_simple() {\n                self.strategy = otp_spec::Strategy::OneForOne;\n            }\n"
        "            self.restart(place, kept);\n            self.strategy = strategy;")]),
     ("a failed restart keeps its own number, not the one that died", [(STARTS, "fn start(", "due.kept.unwrap_or(number)", "if ON { number } else { due.kept.unwrap_or(number) }")]),
     ("a failed restart is given up", [(STARTS, "Some(After::Nothing) => {", "self.put_last(Waiting::Retry(kept));", "if !ON {\n                    self.put_last(Waiting::Retry(kept));\n                }")]),
@@ -162,7 +173,7 @@ CHANGES = [
     ("a deadline is late by a millisecond", [(DEADLINES, "fn late_number", "deadline <= now", "deadline + (if ON { 1 } else { 0 }) <= now")]),
     ("a deadline is counted from the beginning", [(STOPPING, "Shutdown::Milliseconds(time) =>", "Some(now + ", "Some(if ON { 0 } else { now } + ")]),
     ("a child whose end waits is told to stop", [(WORK, "fn stop_first", "match find_exit(&self.waiting, p)", "match if ON { None } else { find_exit(&self.waiting, p) }")]),
-    ("dynamic children are stopped one after another", [(STOPS, "fn terminate(", "if is_simple(self.strategy)", "if is_simple(self.strategy) && !ON")]),
+    ("dynamic children are stopped one after another", [(STOPS, "fn terminate(", "if self.strategy.is_simple()", "if self.strategy.is_simple() && !ON")]),
     ("a stop while work is open is lost", [(PLAYER, "Line::Stop =>", "self.is_stopping = true;", "if !ON || !self.core.has_open_work() {\n                    self.is_stopping = true;\n                }")]),
     ("a call that waits is taken before a wanted stop", [(PLAYER, "fn next_kind", "!self.core.has_ended() {", "!self.core.has_ended() && !(ON && self.core.has_waiting()) {")]),
     ("calls that wait at the end are not answered", [(ENDS, "fn end_all", "refuse_calls(&self.waiting", "if !ON {\n            refuse_calls(&self.waiting"), (ENDS, "refuse_calls(&self.waiting", "&mut self.orders);", "&mut self.orders);\n        }")]),

@@ -1,9 +1,9 @@
 //! A tree as text.
 
-use otp_file::TreeSpec;
+use otp_file::{MAX_DEPTH, TreeSpec};
 use otp_spec::{AutoShutdown, ChildSpec, ChildType, Restart, Shutdown, Strategy, SupFlags};
 use otp_text::{write_name, write_number};
-use std::alloc::AllocError;
+use std::alloc::{AllocError, Global};
 
 /// The word for a strategy.
 fn strategy_word(strategy: Strategy) -> &'static str {
@@ -19,8 +19,8 @@ fn strategy_word(strategy: Strategy) -> &'static str {
 fn shutdown_words(auto_shutdown: AutoShutdown) -> &'static str {
     match auto_shutdown {
         AutoShutdown::Never => "",
-        AutoShutdown::AnySignificant => ", ends with any significant child",
-        AutoShutdown::AllSignificant => ", ends with the last significant child",
+        AutoShutdown::AnySignificant => "ends with any significant child",
+        AutoShutdown::AllSignificant => "ends with the last significant child",
     }
 }
 
@@ -41,23 +41,8 @@ fn kind_word(kind: ChildType) -> &'static str {
     }
 }
 
-/// Appends a word between two others.
-fn write_words(words: [&str; 3], out: &mut Vec<u8>) -> Result<(), AllocError> {
-    for word in words {
-        out.extend_from_slice(word.as_bytes())?;
-    }
-    Ok(())
-}
-
-/// Appends the line of a supervisor.
-fn write_flags(flags: &SupFlags, out: &mut Vec<u8>) -> Result<(), AllocError> {
-    out.extend_from_slice(strategy_word(flags.strategy).as_bytes())?;
-    out.extend_from_slice(b", ")?;
-    write_number(flags.intensity, out)?;
-    out.extend_from_slice(b" restarts in ")?;
-    write_number(flags.period, out)?;
-    write_words([" s", shutdown_words(flags.auto_shutdown), "\n"], out)
-}
+/// The most columns of a line.
+const COLUMNS: usize = 80;
 
 /// Appends how long a child may take to end.
 fn write_shutdown(shutdown: Shutdown, out: &mut Vec<u8>) -> Result<(), AllocError> {
@@ -79,22 +64,85 @@ fn write_spaces(count: usize, out: &mut Vec<u8>) -> Result<(), AllocError> {
     Ok(())
 }
 
-/// Appends the line of a child, whose id is filled up to this width.
-fn write_child(
-    spec: &ChildSpec,
-    width: usize,
-    is_last: bool,
-    out: &mut Vec<u8>,
-) -> Result<(), AllocError> {
-    out.extend_from_slice(if is_last { b"`-- " } else { b"|-- " })?;
-    write_name(&spec.id, out)?;
-    let mark = if spec.significant { "*" } else { " " };
-    out.extend_from_slice(mark.as_bytes())?;
-    write_spaces(width.saturating_sub(spec.id.as_bytes().len()), out)?;
-    write_words([" ", restart_word(spec.restart), "  "], out)?;
-    write_words([kind_word(spec.kind), "  ", ""], out)?;
-    write_shutdown(spec.shutdown, out)?;
-    out.extend_from_slice(b"\n")
+/// What stands on a line, and what stands behind it, or on a line of its own where both are too long.
+#[derive(Drop)]
+struct Halves {
+    first: Vec<u8>,
+    between: &'static str,
+    second: Vec<u8>,
+}
+
+impl Halves {
+    /// Whether both stand on one line behind these columns.
+    fn fit(&self, margin: usize) -> bool {
+        let columns = margin
+            .saturating_add(self.first.len())
+            .saturating_add(self.between.len())
+            .saturating_add(self.second.len());
+        self.second.is_empty() || columns <= COLUMNS
+    }
+
+    /// Appends both behind this margin. On the line stands `branch` before them; where the second half has a line of its
+    /// own, `below` stands before it.
+    fn write(
+        &self,
+        margin: &[u8],
+        branch: &str,
+        below: &str,
+        out: &mut Vec<u8>,
+    ) -> Result<(), AllocError> {
+        out.extend_from_slice(margin)?;
+        out.extend_from_slice(branch.as_bytes())?;
+        out.extend_from_slice(self.first.as_slice())?;
+        if self.second.is_empty() {
+            return out.extend_from_slice(b"\n");
+        }
+        if self.fit(margin.len().saturating_add(branch.len())) {
+            out.extend_from_slice(self.between.as_bytes())?;
+        } else {
+            out.extend_from_slice(b"\n")?;
+            out.extend_from_slice(margin)?;
+            out.extend_from_slice(below.as_bytes())?;
+        }
+        out.extend_from_slice(self.second.as_slice())?;
+        out.extend_from_slice(b"\n")
+    }
+}
+
+/// What is said of a supervisor: how it restarts, and when it ends by itself.
+fn halves_of_flags(alloc: Global, flags: &SupFlags) -> Result<Halves, AllocError> {
+    let mut first = Vec::new(alloc);
+    first.extend_from_slice(strategy_word(flags.strategy).as_bytes())?;
+    first.extend_from_slice(b", ")?;
+    write_number(flags.intensity, &mut first)?;
+    first.extend_from_slice(b" restarts in ")?;
+    write_number(flags.period, &mut first)?;
+    first.extend_from_slice(b" s")?;
+    let mut second = Vec::new(alloc);
+    second.extend_from_slice(shutdown_words(flags.auto_shutdown).as_bytes())?;
+    Ok(Halves {
+        first,
+        between: ", ",
+        second,
+    })
+}
+
+/// What is said of a child, whose id is filled up to this width: its id with a star if it is significant, and the rest.
+fn halves_of_child(alloc: Global, spec: &ChildSpec, width: usize) -> Result<Halves, AllocError> {
+    let mut first = Vec::new(alloc);
+    write_name(&spec.id, &mut first)?;
+    first.extend_from_slice(if spec.significant { b"*" } else { b" " })?;
+    write_spaces(width.saturating_sub(spec.id.as_bytes().len()), &mut first)?;
+    let mut second = Vec::new(alloc);
+    for word in [restart_word(spec.restart), "  ", kind_word(spec.kind), "  "] {
+        second.extend_from_slice(word.as_bytes())?;
+    }
+    write_shutdown(spec.shutdown, &mut second)?;
+    Ok(Halves {
+        first,
+        between: " ",
+        second,
+    })
 }
 
 /// The length of the longest id.
@@ -106,19 +154,69 @@ fn longest_id(specs: &[ChildSpec]) -> usize {
     longest
 }
 
+/// The tree of the child at this place, if it has one.
+fn tree_at(tree: &TreeSpec, place: usize) -> Option<&TreeSpec> {
+    let index = tree.nested().iter().position(|nested| *nested == place)?;
+    tree.trees().get(index)
+}
+
+/// Appends the lines of a supervisor and of all below it, each behind this margin, to so many levels.
+fn draw_below(
+    alloc: Global,
+    tree: &TreeSpec,
+    levels: usize,
+    margin: &[u8],
+    out: &mut Vec<u8>,
+) -> Result<(), AllocError> {
+    let Some(left) = levels.checked_sub(1) else {
+        return Ok(());
+    };
+    let supervisor = tree.supervisor();
+    halves_of_flags(alloc, &supervisor.flags())?.write(margin, "", "  ", out)?;
+    let specs = supervisor.specs();
+    let width = longest_id(specs);
+    for (place, spec) in specs.iter().enumerate() {
+        let is_last = place.saturating_add(1) == specs.len();
+        draw_child(alloc, spec, width, is_last, margin, out)?;
+        if let Some(nested) = tree_at(tree, place) {
+            let mut deeper = Vec::new(alloc);
+            deeper.extend_from_slice(margin)?;
+            deeper.extend_from_slice(bar(is_last))?;
+            draw_below(alloc, nested, left, deeper.as_slice(), out)?;
+        }
+    }
+    Ok(())
+}
+
+/// What stands below the line of a child, in front of what lies below it.
+fn bar(is_last: bool) -> &'static [u8] {
+    if is_last { b"  " } else { b"| " }
+}
+
+/// Appends the line of a child.
+fn draw_child(
+    alloc: Global,
+    spec: &ChildSpec,
+    width: usize,
+    is_last: bool,
+    margin: &[u8],
+    out: &mut Vec<u8>,
+) -> Result<(), AllocError> {
+    let (branch, below) = if is_last {
+        ("`-- ", "      ")
+    } else {
+        ("|-- ", "|     ")
+    };
+    halves_of_child(alloc, spec, width)?.write(margin, branch, below, out)
+}
+
 /// Appends a tree: a line for the supervisor, and one for each child in start order, with its restart type, its type and
-/// how long it may take to end. A star marks a significant child; trees of children are not drawn. No line has more than 80 columns.
+/// how long it may take to end; below a child that has a tree stand the lines of that. A star marks a significant child.
+/// No line has more than 80 columns: what would be longer stands on two.
 ///
 /// # Errors
 ///
 /// Where memory is refused.
-pub fn draw(tree: &TreeSpec, out: &mut Vec<u8>) -> Result<(), AllocError> {
-    let supervisor = tree.supervisor();
-    write_flags(&supervisor.flags(), out)?;
-    let specs = supervisor.specs();
-    let width = longest_id(specs);
-    for (index, spec) in specs.iter().enumerate() {
-        write_child(spec, width, index.saturating_add(1) == specs.len(), out)?;
-    }
-    Ok(())
+pub fn draw(alloc: Global, tree: &TreeSpec, out: &mut Vec<u8>) -> Result<(), AllocError> {
+    draw_below(alloc, tree, MAX_DEPTH, b"", out)
 }

@@ -1,3 +1,4 @@
 pub mod Statuses
+pub mod Limited
 pub mod Runs
 pub mod Words

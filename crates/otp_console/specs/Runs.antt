@@ -1,5 +1,5 @@
 -- What the program did to its input, its output and the standard error, by how it ended (own).
-use Rattle.std.specs.Prelude.{◌≡◌, ◌⊎◌, ℕ, ◌<◌, Bool, true, false, List, [], ◌++◌, Option, Some, None, option_map, Ok, Err}
+use Rattle.std.specs.Prelude.{◌≡◌, ◌⊎◌, ℕ, ◌<◌, ◌≤◌, length, Bool, true, false, List, [], ◌++◌, Option, Some, None, option_map, Ok, Err}
 use Rattle.std.specs.Io.KnownBytes.{Appends}
 use Rattle.otp_file.specs.declared.fault.TreeFault.{TreeFault}
 use Rattle.otp_file.specs.declared.fault.TreeFault.TheVariants.{NotToml}
@@ -9,9 +9,11 @@ use Rattle.otp_sim.specs.declared.engine.SimEnd.{SimEnd}
 use Rattle.otp_sim.specs.declared.engine.SimEnd.TheVariants as sim
 use Rattle.otp_sim.specs.Runs.{Devices, Writes}
 use Rattle.otp_sim.specs.Sim.{opened}
+use Rattle.otp_console.specs.Limited.{HasLimits}
 use Rattle.otp_console.specs.Statuses.{status_of, sentence_of}
 use Rattle.otp_console.specs.declared.ending.Ending.{Ending}
 use Rattle.otp_console.specs.declared.ending.Ending.TheVariants.{Done, WordsRefused, NoCommand, WordNotText, FileAsCommand, TreeNotRead, FileNotRead, TreeRefused, FaultsFound, LineRefused, ScriptRefused, ScriptMissed, HistoryFull, InputFailed, OutputFailed, OutOfMemory}
+use Rattle.otp_console.specs.declared.files.TheConstants.{LARGEST_TREE}
 use Rattle.otp_console.specs.declared.words.Command.{Command}
 use Rattle.otp_console.specs.declared.words.Command.TheVariants as command
 
@@ -72,6 +74,10 @@ Answers InputFailed old new = ⊥
 Answers OutputFailed old new = IsUnread old new × (old.write_failures < new.write_failures)
 Answers OutOfMemory old new = new ≡ old
 
+-- a tree file that is parsed by what people use: it is not too large for a tree
+abbrev pub IsSmall : List ℕ → Type 0
+IsSmall file = length file ≤ LARGEST_TREE
+
 -- the file says a tree
 abbrev pub HasTree : List ℕ → Type 0
 HasTree file = (tree : Tree) × Says file (Ok tree)
@@ -104,7 +110,7 @@ ReadsScript (Some name) old new = IsUnread old new
 abbrev pub Tries : (List ℕ → Type 0) → Option (List ℕ) → Ending → Devices → Devices → Type 0
 Tries Holds script ending old new =
     ((ending ≡ FileNotRead) × (new ≡ old)) ⊎ ((ending ≡ OutOfMemory) × (new ≡ old))
-    ⊎ ((file : List ℕ) × (Holds file × IsTrial ending file old new × ReadsScript script old new))
+    ⊎ ((file : List ℕ) × ((Holds file × IsSmall file) × IsTrial ending file old new × ReadsScript script old new))
 
 -- a text was written, and so it ends well; or the writer failed
 abbrev pub IsWritten : Ending → Ending → ℕ → ℕ → Type 0
@@ -133,7 +139,7 @@ IsChecked OutOfMemory file old new = IsUnread old new
 abbrev pub Checks : (List ℕ → Type 0) → Ending → Devices → Devices → Type 0
 Checks Holds ending old new =
     ((ending ≡ FileNotRead) × (new ≡ old)) ⊎ ((ending ≡ OutOfMemory) × (new ≡ old))
-    ⊎ ((file : List ℕ) × (Holds file × IsChecked ending file old new))
+    ⊎ ((file : List ℕ) × ((Holds file × IsSmall file) × IsChecked ending file old new))
 
 -- a tree was drawn, or its file says none
 abbrev pub IsDrawn : Ending → List ℕ → Devices → Devices → Type 0
@@ -157,13 +163,39 @@ IsDrawn OutOfMemory file old new = new ≡ old
 abbrev pub Draws : (List ℕ → Type 0) → Ending → Devices → Devices → Type 0
 Draws Holds ending old new =
     ((ending ≡ FileNotRead) × (new ≡ old)) ⊎ ((ending ≡ OutOfMemory) × (new ≡ old))
-    ⊎ ((file : List ℕ) × (Holds file × IsDrawn ending file old new))
+    ⊎ ((file : List ℕ) × ((Holds file × IsSmall file) × IsDrawn ending file old new))
+
+-- the limits of a tree were written, or its file says none
+abbrev pub IsLimited : Ending → List ℕ → Devices → Devices → Type 0
+IsLimited Done file old new = ((text : List ℕ) × (HasLimits file text × Appends old.written new.written text)) × IsUnread old new
+IsLimited WordsRefused file old new = ⊥
+IsLimited NoCommand file old new = ⊥
+IsLimited WordNotText file old new = ⊥
+IsLimited FileAsCommand file old new = ⊥
+IsLimited TreeNotRead file old new = ⊥
+IsLimited FileNotRead file old new = ⊥
+IsLimited (TreeRefused why) file old new = (new ≡ old) × IsRefused why file
+IsLimited FaultsFound file old new = ⊥
+IsLimited (LineRefused line) file old new = ⊥
+IsLimited (ScriptRefused line why) file old new = ⊥
+IsLimited (ScriptMissed line why) file old new = ⊥
+IsLimited HistoryFull file old new = (new ≡ old) × HasTree file
+IsLimited InputFailed file old new = ⊥
+IsLimited OutputFailed file old new = IsUnread old new × (old.write_failures < new.write_failures)
+IsLimited OutOfMemory file old new = new ≡ old
+
+-- the same of a file whose bytes are known to be so: it can't be read, or its limits were written
+abbrev pub Limits : (List ℕ → Type 0) → Ending → Devices → Devices → Type 0
+Limits Holds ending old new =
+    ((ending ≡ FileNotRead) × (new ≡ old)) ⊎ ((ending ≡ OutOfMemory) × (new ≡ old))
+    ⊎ ((file : List ℕ) × ((Holds file × IsSmall file) × IsLimited ending file old new))
 
 -- what a command asks for was done
 abbrev pub Does : (List ℕ → List ℕ → Type 0) → Command → Ending → Devices → Devices → Type 0
 Does Holds (command.Sim file) ending old new = Simulates (Holds file.now) ending old new
 Does Holds (command.Check file) ending old new = Checks (Holds file.now) ending old new
 Does Holds (command.Tree file) ending old new = Draws (Holds file.now) ending old new
+Does Holds (command.Limits file) ending old new = Limits (Holds file.now) ending old new
 Does Holds (command.Try file script writer) ending old new = Tries (Holds file.now) (option_map (λ name. name.now) script) ending old new
 
 -- what the words ask for was done, for some command; or the words alone were answered

@@ -83,7 +83,7 @@ pub fn draw_file<W: Output>(alloc: Global, file: &[u8], output: &mut W) -> Endin
         Err(fault) => return Ending::of_tree(fault),
     };
     let mut picture = Vec::new(alloc);
-    let Ok(()) = draw(&tree, &mut picture) else {
+    let Ok(()) = draw(alloc, &tree, &mut picture) else {
         return Ending::OutOfMemory;
     };
     match write_all(output, picture.as_slice()) {

@@ -8,7 +8,6 @@ use otp_sim::{Input, Output, SimEnd, sim};
 use std::alloc::Global;
 
 /// Reads the tree of a file, plays the lines of the input on its supervisor, and writes the orders to the output.
-#[tactic(auto, unfolding(otp_rules::specs::Opening::open_fault))]
 pub fn console<R: Input, W: Output>(
     alloc: Global,
     file: &[u8],
@@ -23,14 +22,8 @@ pub fn console<R: Input, W: Output>(
         Ok(tree) => tree,
         Err(fault) => return Ending::of_tree(fault),
     };
-    let supervisor = tree.supervisor();
-    Ending::of_sim(sim(
-        alloc,
-        &supervisor.flags(),
-        supervisor.specs(),
-        input,
-        output,
-    ))
+    let (supervisor, _, _) = tree.into_parts();
+    Ending::of_sim(sim(alloc, supervisor, input, output))
 }
 
 impl Ending {

@@ -1,15 +1,23 @@
 //! The files that the program reads.
 
-ghost use Rattle.std.specs.Prelude.{ℕ, List, ◌≡◌, ◌≤◌, ◌<◌, ◌++◌, ◌⊎◌, IfErr, IfOk, OnOk, OnErr};
+ghost use Rattle.std.specs.Prelude.{ℕ, List, ◌≡◌, ◌≤◌, ◌<◌, ◌++◌, ◌⊎◌, IfErr, IfOk, OnOk, OnErr, vec_len};
 ghost use Rattle.std.specs.Io.KnownBytes.{Appends};
 ghost use Rattle.otp_console.specs.Runs.{TellsFirst};
 ghost use Rattle.otp_console.specs.Statuses.{not_read_text};
+ghost use Rattle.otp_console.specs.declared.files.TheConstants.{LARGEST_TREE};
 ghost use Rattle.otp_console.specs.declared.ending.Ending.TheVariants.{FileNotRead, OutOfMemory};
 
 use crate::ending::Ending;
 use otp_sim::{Failed, Output, write_all};
 use std::io;
 use std::io::ErrorKind;
+
+/// The most bytes of a tree file for `check`, `try`, `tree` and `limits`: 1 MiB. What is
+/// parsed takes many times the memory of its file.
+pub const LARGEST_TREE: usize = 1_048_576;
+
+/// Why a file that is larger is not parsed.
+const TOO_LARGE: &str = "it has more than 1048576 bytes, too many for a tree file";
 
 /// Where tree files are read from.
 pub trait TreeFiles {
@@ -43,18 +51,42 @@ pub(crate) fn read_file<F: TreeFiles, E: Output>(
     };
     match error.kind() {
         ErrorKind::OutOfMemory => Err(Ending::OutOfMemory),
-        kind => Err(tell_not_read(errors, name, kind)),
+        kind => Err(tell_not_read(errors, name, why(kind))),
     }
 }
 
+/// The bytes of a tree file, of which there are at most [`LARGEST_TREE`].
+///
+/// # Errors
+///
+/// Those of [`read_file`], and [`Ending::FileNotRead`] where it is larger, once that is told.
+pub(crate) fn read_tree_file<F: TreeFiles, E: Output>(
+    files: &F,
+    name: &str,
+    errors: &mut E,
+) -> Result<Vec<u8>, Ending>
+    ensures holds { IfOk result (λ file. F.holds files.now name.now file.items) }
+    ensures small { IfOk result (λ file. vec_len file ≤ LARGEST_TREE) }
+    ensures silent { OnOk result (errors.new ≡ errors.old) }
+    ensures ending { IfErr result (λ ending. (ending ≡ FileNotRead) ⊎ (ending ≡ OutOfMemory)) }
+    ensures first { IfErr result (λ ending. TellsFirst ending (E.contents errors.old) (E.contents errors.new) (E.failures errors.old) (E.failures errors.new)) }
+    ensures kept { E.failures errors.old ≤ E.failures errors.new }
+{
+    let file = read_file(files, name, errors)?;
+    if file.len() > LARGEST_TREE {
+        return Err(tell_not_read(errors, name, TOO_LARGE));
+    }
+    Ok(file)
+}
+
 /// Tells which file can't be read, and why.
-fn tell_not_read<E: Output>(errors: &mut E, name: &str, kind: ErrorKind) -> Ending
+fn tell_not_read<E: Output>(errors: &mut E, name: &str, why: &str) -> Ending
     ensures ending { result ≡ FileNotRead }
     ensures first { TellsFirst result (E.contents errors.old) (E.contents errors.new) (E.failures errors.old) (E.failures errors.new) }
     ensures kept { E.failures errors.old ≤ E.failures errors.new }
 {
     // Where nothing can be told, the status alone says it.
-    let _told = write_not_read(errors, name, why(kind));
+    let _told = write_not_read(errors, name, why);
     Ending::FileNotRead
 }
 

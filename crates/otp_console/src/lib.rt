@@ -1,6 +1,6 @@
 //! The program: `sim FILE` reads a tree file and then lines of standard input, and prints the orders of its supervisor;
 //! `try FILE` says what the tree does where a script says what goes wrong, `check FILE` what
-//! is wrong in the file, and `tree FILE` draws it.
+//! is wrong in the file, `limits FILE` what each child's failure costs, and `tree FILE` draws it.
 #![tactic(auto)]
 
 pub mod checking;
@@ -8,6 +8,7 @@ pub mod console;
 pub mod ending;
 pub mod files;
 mod host;
+pub mod limiting;
 pub mod program;
 pub mod trying;
 pub mod words;

@@ -1,7 +1,7 @@
 //! The program but for the system under it: what it does for which words, and what it tells on which stream.
 
 ghost use Rattle.std.specs.Prelude.{ℕ, List, Option, ◌≡◌, ◌≤◌, ◌⊎◌, IfErr, IfOk, OnOk, option_map};
-ghost use Rattle.otp_console.specs.Runs.{Answers, Checks, Does, Draws, IsProgramRun, IsTrial, Obeys, Simulates, TellsFirst, Tries};
+ghost use Rattle.otp_console.specs.Runs.{Answers, Checks, Does, Draws, IsProgramRun, IsTrial, Limits, Obeys, Simulates, TellsFirst, Tries};
 ghost use Rattle.otp_console.specs.declared.ending.Ending.TheVariants as end;
 ghost use Rattle.otp_console.specs.Words.{EndsFor};
 ghost use Rattle.otp_console.specs.declared.words.WordsFault.TheVariants.{Clap};
@@ -9,7 +9,8 @@ ghost use Rattle.otp_console.specs.declared.words.WordsFault.TheVariants.{Clap};
 use crate::checking::{check_file, draw_file};
 use crate::console::console;
 use crate::ending::{Ending, tell};
-use crate::files::{TreeFiles, read_file};
+use crate::files::{TreeFiles, read_file, read_tree_file};
+use crate::limiting::limit_file;
 use crate::trying::try_file;
 use crate::words::{Command, WordsFault, read_words};
 use clap::Error;
@@ -86,6 +87,7 @@ pub fn do_command<F: TreeFiles, R: Input, W: Output, E: Output>(
         } => try_named(alloc, files, file, script, writer, input, output, errors),
         Command::Check { file } => check_named(alloc, files, file, output, errors),
         Command::Tree { file } => draw_named(alloc, files, file, output, errors),
+        Command::Limits { file } => limit_named(alloc, files, file, output, errors),
     }
 }
 
@@ -124,7 +126,7 @@ fn try_named<F: TreeFiles, R: Input, W: Output, E: Output>(
     ensures first { TellsFirst result (E.contents errors.old) (E.contents errors.new) (E.failures errors.old) (E.failures errors.new) }
     ensures kept { E.failures errors.old ≤ E.failures errors.new }
 {
-    let file = match read_file(files, name, errors) {
+    let file = match read_tree_file(files, name, errors) {
         Ok(file) => file,
         Err(ending) => return ending,
     };
@@ -167,7 +169,7 @@ fn check_named<F: TreeFiles, W: Output, E: Output>(
     ensures first { TellsFirst result (E.contents errors.old) (E.contents errors.new) (E.failures errors.old) (E.failures errors.new) }
     ensures kept { E.failures errors.old ≤ E.failures errors.new }
 {
-    match read_file(files, name, errors) {
+    match read_tree_file(files, name, errors) {
         Ok(file) => check_file(alloc, name, &file, output),
         Err(ending) => ending,
     }
@@ -187,8 +189,28 @@ fn draw_named<F: TreeFiles, W: Output, E: Output>(
     ensures first { TellsFirst result (E.contents errors.old) (E.contents errors.new) (E.failures errors.old) (E.failures errors.new) }
     ensures kept { E.failures errors.old ≤ E.failures errors.new }
 {
-    match read_file(files, name, errors) {
+    match read_tree_file(files, name, errors) {
         Ok(file) => draw_file(alloc, &file, output),
+        Err(ending) => ending,
+    }
+}
+
+/// Writes what the failure of each child of a file's tree costs.
+fn limit_named<F: TreeFiles, W: Output, E: Output>(
+    alloc: Global,
+    files: &F,
+    name: &str,
+    output: &mut W,
+    errors: &mut E,
+) -> Ending
+    ensures done { (left : Option (List ℕ)) (failures : ℕ) → Limits (F.holds files.now name.now) result
+        (record { left = left; written = W.contents output.old; read_failures = failures; write_failures = W.failures output.old })
+        (record { left = left; written = W.contents output.new; read_failures = failures; write_failures = W.failures output.new }) }
+    ensures first { TellsFirst result (E.contents errors.old) (E.contents errors.new) (E.failures errors.old) (E.failures errors.new) }
+    ensures kept { E.failures errors.old ≤ E.failures errors.new }
+{
+    match read_tree_file(files, name, errors) {
+        Ok(file) => limit_file(alloc, &file, output),
         Err(ending) => ending,
     }
 }

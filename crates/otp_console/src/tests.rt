@@ -2,7 +2,9 @@
 
 use crate::console::console;
 use crate::ending::{Ending, tell};
+use crate::limiting::limit_file;
 use crate::tests::examples::EXAMPLES;
+use crate::tests::limits::LIMITS;
 use crate::tests::trials::TRIALS;
 use crate::trying::try_file;
 use otp_file::TreeFault;
@@ -14,6 +16,7 @@ use std::test::Fail;
 
 mod devices;
 mod examples;
+mod limits;
 mod long;
 mod program;
 mod rows;
@@ -80,8 +83,18 @@ fn told(alloc: Global, tree: &str, script: &str) -> Result<Vec<u8>, AllocError> 
         &mut writer,
     );
     let status = tell(&mut errors, ended);
-    let mut text = writer.into_device();
-    text.extend_from_slice(errors.into_device().as_slice())?;
+    with_status(alloc, writer.into_device(), errors.into_device(), status)
+}
+
+/// What was written and told, and the status.
+fn with_status(
+    alloc: Global,
+    written: Vec<u8>,
+    told: Vec<u8>,
+    status: u8,
+) -> Result<Vec<u8>, AllocError> {
+    let mut text = written;
+    text.extend_from_slice(told.as_slice())?;
     let line = format!(in alloc; "status {status}\n")?;
     text.extend_from_slice(line.as_bytes())?;
     Ok(text)
@@ -92,6 +105,25 @@ fn told(alloc: Global, tree: &str, script: &str) -> Result<Vec<u8>, AllocError> 
 fn scripts_are_played(rt: HostRuntime) -> Result<(), Fail> {
     for (name, tree, script, expected) in TRIALS {
         let text = told(rt.alloc(), tree, script)?;
+        assert_eq!(rt; text.as_slice(), expected.as_bytes(), "{name}");
+    }
+    Ok(())
+}
+
+/// All that `limits` prints of a tree, and its status.
+fn limited(alloc: Global, tree: &str) -> Result<Vec<u8>, AllocError> {
+    let mut writer = Counted::new(Vec::new(alloc));
+    let mut errors = Counted::new(Vec::new(alloc));
+    let ended = limit_file(alloc, tree.as_bytes(), &mut writer);
+    let status = tell(&mut errors, ended);
+    with_status(alloc, writer.into_device(), errors.into_device(), status)
+}
+
+/// The limits of trees in `examples/`, which were worked out by hand.
+#[test]
+fn limits_are_told(rt: HostRuntime) -> Result<(), Fail> {
+    for (name, tree, expected) in LIMITS {
+        let text = limited(rt.alloc(), tree)?;
         assert_eq!(rt; text.as_slice(), expected.as_bytes(), "{name}");
     }
     Ok(())

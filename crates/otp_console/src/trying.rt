@@ -11,7 +11,6 @@ use otp_try::{TryEnd, Writer, try_tree};
 use std::alloc::Global;
 
 /// Reads the tree of a file, and plays the lines of a script on its supervisor.
-#[tactic(auto, unfolding(otp_rules::specs::Opening::open_fault))]
 pub fn try_file<R: Input, W: Output>(
     alloc: Global,
     file: &[u8],
@@ -27,15 +26,7 @@ pub fn try_file<R: Input, W: Output>(
         Ok(tree) => tree,
         Err(fault) => return Ending::of_tree(fault),
     };
-    let supervisor = tree.supervisor();
-    Ending::of_try(try_tree(
-        alloc,
-        &supervisor.flags(),
-        supervisor.specs(),
-        writer,
-        script,
-        output,
-    ))
+    Ending::of_try(try_tree(alloc, tree, writer, script, output))
 }
 
 impl Ending {

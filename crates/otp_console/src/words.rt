@@ -36,6 +36,12 @@ const TREE_ABOUT: &str = "Draws a tree as text";
 const TREE_EXAMPLE: &str =
     "Example: otp tree examples/storm.toml\nStatus 1: the file says no tree; `otp check FILE` says why.";
 
+const LIMITS_ABOUT: &str =
+    "Says what each child's failure costs: so many crashes at once are survived, or crashes so far apart";
+
+const LIMITS_EXAMPLE: &str =
+    "Example: otp limits examples/storm.toml\nburst: so many crashes at once are survived; interval: crashes so far apart are survived, and with a millisecond less not.\nStatus 1: the file says no tree; `otp check FILE` says why.";
+
 const SIM_ABOUT: &str =
     "Plays event lines of standard input on a supervisor, and prints each order that it gives";
 
@@ -61,6 +67,10 @@ pub enum Command<'a> {
     },
     /// A picture of the tree in the file of this name.
     Tree {
+        file: &'a str,
+    },
+    /// What the failure of each child costs, of the tree file of this name.
+    Limits {
         file: &'a str,
     },
 }
@@ -201,6 +211,7 @@ fn read_command<'a>(name: &str, found: &ArgMatches<'a>) -> Result<Command<'a>, W
         "try" => read_try(found),
         "check" => Ok(Command::Check { file }),
         "tree" => Ok(Command::Tree { file }),
+        "limits" => Ok(Command::Limits { file }),
         _ => Ok(Command::Sim { file }),
     }
 }
@@ -214,6 +225,7 @@ fn otp_command<'a>(alloc: Global) -> Result<clap::Command<'a>, AllocError> {
         .subcommand(try_command(alloc)?)?
         .subcommand(file_command(alloc, "check", CHECK_ABOUT, CHECK_EXAMPLE)?)?
         .subcommand(file_command(alloc, "tree", TREE_ABOUT, TREE_EXAMPLE)?)?
+        .subcommand(file_command(alloc, "limits", LIMITS_ABOUT, LIMITS_EXAMPLE)?)?
         .subcommand(file_command(alloc, "sim", SIM_ABOUT, SIM_EXAMPLE)?)
 }
 

@@ -1,11 +1,8 @@
-//! Whether a core may be opened.
+//! Why a core is not opened, and the copy of its specifications.
 
-ghost use Rattle.std.specs.Prelude.{◌≡◌, ◌≤◌, OnOk, IfOk, length, vec_len, vec_capacity};
-ghost use Rattle.otp_spec.specs.Faults.{answer_of};
-ghost use Rattle.otp_rules.specs.Opening.{open_fault};
+ghost use Rattle.std.specs.Prelude.{◌≡◌, IfOk, vec_len, vec_capacity};
 
-use otp_lists::state::is_simple;
-use otp_spec::{ChildSpec, SpecFault, SupFlags, check_childspecs, check_flags};
+use otp_spec::{ChildSpec, SpecFault};
 use std::alloc::{AllocError, Global};
 use thiserror::Error;
 
@@ -18,24 +15,6 @@ pub enum OpenFault {
     /// E0: there is no memory for the specifications.
     #[error("out of memory")]
     OutOfMemory,
-}
-
-/// The first fault of the flags (E1), the number of specifications (E6, E7) and the specifications.
-#[tactic(auto, unfolding(otp_rules::specs::Opening::open_fault))]
-pub fn check_open(flags: &SupFlags, specs: &[ChildSpec]) -> Result<(), SpecFault>
-    ensures fault { result ≡ answer_of (open_fault flags.now specs.now) }
-    ensures intensity { OnOk result (flags.now.intensity ≤ 1000) }
-    ensures period { OnOk result (flags.now.period ≤ 1000000) }
-    ensures limit { OnOk result (length specs.now ≤ 256) }
-{
-    check_flags(flags)?;
-    if is_simple(flags.strategy) && specs.len() != 1 {
-        return Err(SpecFault::SimpleNeedsOne);
-    }
-    if specs.len() > 256 {
-        return Err(SpecFault::TooManyChildren);
-    }
-    check_childspecs(specs, Some(flags.auto_shutdown))
 }
 
 /// A copy of the specifications.

@@ -8,13 +8,14 @@ ghost use Rattle.otp_rules.specs.Counts.{counts_of};
 ghost use Rattle.otp_rules.specs.Effects.{is_reply};
 ghost use Rattle.otp_rules.specs.Needs.{IsLawfulHistory, last_number, needs_number, numbers_of};
 ghost use Rattle.otp_rules.specs.Next.{has_come, next_deadline, next_kind};
-ghost use Rattle.otp_rules.specs.Opening.{open_fault};
 ghost use Rattle.otp_rules.specs.Rate.{IsRated};
 ghost use Rattle.otp_rules.specs.Run.{empty_state, reply_of};
+ghost use Rattle.otp_spec.specs.Supervisor.{supervisor_fault};
+ghost use Rattle.otp_spec.specs.declared.limits.TheConstants.{MAX_CHILDREN, MAX_EVENTS};
 ghost use Rattle.otp_rules.specs.State.{is_over};
 ghost use Rattle.otp_rules.specs.Step.{is_late, step};
 
-use crate::opening::{OpenFault, check_open, copy_specs};
+use crate::opening::{OpenFault, copy_specs};
 use otp_lists::answers::Answers;
 use otp_lists::effects::{count_orders, move_orders};
 use otp_lists::next::{has_late, next_deadline};
@@ -22,7 +23,7 @@ use otp_lists::state::is_over;
 use otp_machine::{Given, Machine, Numbers};
 use otp_needs::needs_number;
 use otp_rules::{CountsNow, Effect, Event, Kind, Phase, Reply, SupEnd, Waiting, laws};
-use otp_spec::{ChildSpec, MAX_EVENTS, SupFlags};
+use otp_spec::{ChildSpec, MAX_EVENTS, SupFlags, SupSpec, check_supervisor};
 use otp_table::{Row, Rows};
 use otp_window::Window;
 use std::alloc::{AllocError, Global};
@@ -78,23 +79,31 @@ impl Model for Core {
 }
 
 impl Core {
-    /// A core that was never opened, for children of these specifications.
+    /// A core that was never opened, for children of these specifications, which are tested and copied.
     ///
     /// # Errors
     ///
-    /// The first fault: E1 of the flags, E6, E7, and then those of [`otp_spec::check_childspecs`].
+    /// The first fault, as [`check_supervisor`] has it, or that there is no memory for the copy.
     pub fn open(alloc: Global, flags: SupFlags, specs: &[ChildSpec]) -> Result<Core, OpenFault>
-        ensures ok { OnOk result (open_fault flags specs.now ≡ None) }
+        ensures ok { OnOk result (supervisor_fault flags specs.now ≡ None) }
         ensures core { IfOk result (λ core. core ≡ record { base = empty_state flags specs.now; history = []; effects = []; prepared = false }) }
-        ensures fault { IfErr result (λ why. IsOpenFault why (open_fault flags specs.now)) }
-        ensures limit { OnOk result (length specs.now ≤ 256) }
+        ensures fault { IfErr result (λ why. IsOpenFault why (supervisor_fault flags specs.now)) }
+        ensures limit { OnOk result (length specs.now ≤ MAX_CHILDREN) }
     {
-        if let Err(fault) = check_open(&flags, specs) {
+        if let Err(fault) = check_supervisor(&flags, specs) {
             return Err(OpenFault::Spec(fault));
         }
         let Ok(specs) = copy_specs(alloc, specs) else {
             return Err(OpenFault::OutOfMemory);
         };
+        Ok(Core::of(alloc, SupSpec::new(flags, specs)))
+    }
+
+    /// The same for what was tested before: nothing is tested again or copied, and no memory is taken.
+    pub fn of(alloc: Global, supervisor: SupSpec) -> Core
+        ensures { result ≡ record { base = empty_state supervisor.flags supervisor.specs; history = []; effects = []; prepared = false } }
+    {
+        let (flags, specs) = supervisor.into_parts();
         let window = Window::new(alloc, flags.intensity, flags.period);
         let machine = Machine {
             strategy: flags.strategy,
@@ -115,12 +124,12 @@ impl Core {
             spare_stamps: Vec::new(alloc),
             spare_kept_stamps: Vec::new(alloc),
         };
-        Ok(Core {
+        Core {
             machine,
             history: Vec::new(alloc),
             last_number: 0,
             prepared: false,
-        })
+        }
     }
 
     /// Whether the memory of the next event is there.
@@ -132,7 +141,7 @@ impl Core {
 
     /// Whether the history holds [`MAX_EVENTS`] events.
     pub fn is_full(&self) -> bool
-        ensures { IsTrue result ↔ (65536 ≤ length self.now.history) }
+        ensures { IsTrue result ↔ (MAX_EVENTS ≤ length self.now.history) }
     {
         self.history.len() >= MAX_EVENTS
     }
@@ -193,10 +202,10 @@ impl Core {
         self.machine.phase
     }
 
-    /// The children in start order, at most 256.
+    /// The children in start order, at most [`otp_spec::MAX_CHILDREN`].
     pub fn rows(&self) -> &[Row]
         ensures value { result.now ≡ (state_of self.now).rows }
-        ensures limit { length (state_of self.now).rows ≤ 256 }
+        ensures limit { length (state_of self.now).rows ≤ MAX_CHILDREN }
     {
         self.machine.rows.as_slice()
     }
@@ -284,10 +293,10 @@ impl Core {
     /// What count_children would answer now.
     pub fn counts(&self) -> CountsNow
         ensures counts { result ≡ counts_of (state_of self.now) }
-        ensures specs { result.specs ≤ 256 }
-        ensures active { result.active ≤ 256 }
-        ensures supervisors { result.supervisors ≤ 256 }
-        ensures workers { result.workers ≤ 256 }
+        ensures specs { result.specs ≤ MAX_CHILDREN }
+        ensures active { result.active ≤ MAX_CHILDREN }
+        ensures supervisors { result.supervisors ≤ MAX_CHILDREN }
+        ensures workers { result.workers ≤ MAX_CHILDREN }
     {
         self.machine.counts()
     }
@@ -345,7 +354,7 @@ impl Core {
         numbers: &mut N,
     ) -> Option<u64>
         requires prepared { IsTrue self.old.prepared }
-        requires room { length self.old.history < 65536 }
+        requires room { length self.old.history < MAX_EVENTS }
         requires reading { reading ≤ 2 ^ 62 }
         requires number { IsTrue (needs_number (state_of self.old) reading kind) → N.can_give numbers.old }
         requires rises { (n : ℕ) (after : N) → N.gives numbers.old n after → All (λ m. m < n) (numbers_of self.old.history) }
@@ -375,7 +384,7 @@ impl Core {
     /// It takes no memory by its code; its orders are put behind the effects that are there.
     pub fn step(&mut self, event: Event)
         requires prepared { IsTrue self.old.prepared }
-        requires room { length self.old.history < 65536 }
+        requires room { length self.old.history < MAX_EVENTS }
         requires reading { event.reading ≤ 2 ^ 62 }
         requires number { is_some event.number ≡ needs_number (state_of self.old) event.reading event.kind }
         requires rises { (n : ℕ) → event.number ≡ Some n → All (λ m. m < n) (numbers_of self.old.history) }

@@ -161,6 +161,19 @@ impl<J: Drop, S: Drop> Process<J, S> {
         }
         Ok(Spent::of(self.ticket.number))
     }
+
+    /// Takes it apart: its body, if that is still here. For whoever was handed a process back that was refused before
+    /// its first turn.
+    pub fn into_body(self) -> Option<Body<J, S>>
+        ensures { result ≡ self.body }
+    {
+        let Process {
+            ticket: _,
+            body,
+            phase: _,
+        } = self;
+        body
+    }
 }
 
 /// What is left of a process that ended. It can't be let go, only be given to the scheduler that had the process out,

@@ -1,19 +1,9 @@
-//! What is asked of a strategy and of a phase (`specs/State` of the rules).
+//! What is asked of a phase (`specs/State` of the rules).
 
 ghost use Rattle.std.specs.Prelude.{◌≡◌};
-ghost use Rattle.otp_rules.specs.State.{is_over, is_simple, own_number};
+ghost use Rattle.otp_rules.specs.State.{is_over, own_number};
 
 use otp_rules::Phase;
-use otp_spec::Strategy;
-
-pub fn is_simple(strategy: Strategy) -> bool
-    ensures { result ≡ is_simple strategy }
-{
-    match strategy {
-        Strategy::OneForOne | Strategy::OneForAll | Strategy::RestForOne => false,
-        Strategy::SimpleOneForOne => true,
-    }
-}
 
 pub fn is_over(phase: Phase) -> bool
     ensures { result ≡ is_over phase }

@@ -1,6 +1,7 @@
 -- What the machine's parts stand for, and the memory that it has ready.
 use Rattle.std.specs.Prelude.{◌≡◌, ◌+◌, ◌<◌, ◌≤◌, ◌^◌, All, length, reverse, true, vec_len, vec_capacity}
 use Rattle.std.specs.VecDeque.{deque_len, deque_capacity}
+use Rattle.otp_spec.specs.declared.limits.TheConstants.{MAX_CHILDREN, MAX_INTENSITY}
 use Rattle.otp_rules.specs.State.{Outcome}
 use Rattle.otp_machine.specs.declared.machine.Machine.{Machine}
 
@@ -53,7 +54,7 @@ pub record CanDecide (m : Machine) : Type 0 where
   pub one_stop : 0 < vec_capacity m.to_stop
   pub to_start : length m.rows.rows ≤ vec_capacity m.to_start
   pub specs : vec_len m.specs ≤ vec_capacity m.to_start
-  pub limit : length m.specs.items ≤ 256
+  pub limit : length m.specs.items ≤ MAX_CHILDREN
   pub one_start : 0 < vec_capacity m.to_start
   pub room : vec_len m.specs ≤ m.rows.room
   pub one_row : 0 < m.rows.room
@@ -85,7 +86,7 @@ pub record HasMemory (m : Machine) : Type 0 where
 
 -- what holds of every machine
 pub record IsSound (m : Machine) : Type 0 where
-  pub limit : length m.specs.items ≤ 256
+  pub limit : length m.specs.items ≤ MAX_CHILDREN
   pub ordered : All (λ s. s ≤ m.last) m.window.stamps
   pub last : m.last ≤ 2 ^ 62
-  pub intensity : m.window.intensity ≤ 1000
+  pub intensity : m.window.intensity ≤ MAX_INTENSITY

@@ -4,13 +4,13 @@ ghost use Rattle.std.specs.Prelude.{◌≡◌, ◌≤◌, length, vec_capacity};
 
 use crate::machine::Machine;
 use otp_lists::counts::{count_active, count_supervisors, count_workers, list_lines};
-use otp_lists::state::is_simple;
 use otp_rules::{ChildLines, CountsNow, Effect, Reply};
 use std::mem;
 
 impl Machine {
     ghost use Rattle.otp_machine.specs.Seen.{outcome_of, CanAdvance, CanDecide};
     ghost use Rattle.otp_rules.specs.State.{answer};
+    ghost use Rattle.otp_spec.specs.declared.limits.TheConstants.{MAX_CHILDREN};
     ghost use Rattle.otp_rules.specs.Counts.{counts_of, which_of};
     ghost use Rattle.otp_rules.specs.declared.call.Reply.TheVariants as reply;
 
@@ -45,14 +45,14 @@ impl Machine {
     /// What count_children answers.
     pub fn counts(&self) -> CountsNow
         ensures counts { result ≡ counts_of (outcome_of self.now).state }
-        ensures specs { result.specs ≤ 256 }
-        ensures active { result.active ≤ 256 }
-        ensures supervisors { result.supervisors ≤ 256 }
-        ensures workers { result.workers ≤ 256 }
+        ensures specs { result.specs ≤ MAX_CHILDREN }
+        ensures active { result.active ≤ MAX_CHILDREN }
+        ensures supervisors { result.supervisors ≤ MAX_CHILDREN }
+        ensures workers { result.workers ≤ MAX_CHILDREN }
     {
         let rows = self.rows.as_slice();
         CountsNow {
-            specs: if is_simple(self.strategy) {
+            specs: if self.strategy.is_simple() {
                 1
             } else {
                 self.rows.len() as u64

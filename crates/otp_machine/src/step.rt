@@ -4,7 +4,7 @@ ghost use Rattle.std.specs.Prelude.{◌≡◌, ◌≤◌, ◌^◌, ◌&&◌, IsT
 
 use crate::machine::Machine;
 use crate::numbers::Numbers;
-use otp_lists::state::{is_over, is_simple};
+use otp_lists::state::is_over;
 use otp_lists::step::{kill_late, list_children, order_kills};
 use otp_reason::Note;
 use otp_rules::laws::number_starts_work;
@@ -97,7 +97,7 @@ impl Machine {
         self.rows.clear();
         self.to_stop.clear();
         self.to_start.clear();
-        if !is_simple(self.strategy) {
+        if !self.strategy.is_simple() {
             list_children(&self.specs, &mut self.rows, &mut self.to_start);
         }
         self.follows = Some(After::Ready);

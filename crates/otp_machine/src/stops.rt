@@ -5,7 +5,6 @@ ghost use Rattle.std.specs.VecDeque.{deque_len};
 
 use crate::machine::Machine;
 use otp_lists::restarts::list_running;
-use otp_lists::state::is_simple;
 use otp_lists::stops::{find_exit, stop_order, told};
 use otp_rules::{After, Ending};
 use std::mem;
@@ -112,7 +111,7 @@ impl Machine {
         ensures outcome { outcome_of self.new ≡ terminate ending (outcome_of self.old) }
         ensures room { CanAdvance self.new }
     {
-        if is_simple(self.strategy) {
+        if self.strategy.is_simple() {
             self.terminate_together(ending);
         } else {
             self.terminate_ordered(ending);

@@ -39,7 +39,8 @@ use Rattle.std.proofs.lemmas.List.Sums.{sum_by-append, sum_by-cons}
 use Rattle.otp_rules.specs.Needs.{ends_wait, has_due, work_starts}
 use Rattle.otp_rules.specs.Places.{at_found, at_number, at_place, at_row, end_process, end_row, is_removed, is_temporary, set_row}
 use Rattle.otp_rules.specs.Restarts.{dues, ends_by_significance, restart_list, running}
-use Rattle.otp_rules.specs.State.{Outcome, answer, is_busy, is_over, put_last, is_simple, with_rows, with_work}
+use Rattle.otp_spec.specs.Flags.{is_simple}
+use Rattle.otp_rules.specs.State.{Outcome, answer, is_busy, is_over, put_last, with_rows, with_work}
 use Rattle.otp_rules.specs.Stops.{calm_all, is_exit, stop_each, tell, tell_row, terminate, terminate_ordered, terminate_together, use_exit}
 use Rattle.otp_needs.specs.Restarted.{goes_on_beside, has_spec, outlives_failure, outlives_up, restart_goes_on}
 use Rattle.otp_needs.proofs.Going.{all_same, ends_reversed}

@@ -26,7 +26,7 @@ ghost use Rattle.otp_table.specs.declared.row.RowState.TheVariants.{Up};
 
 use crate::waited::{has_other_awaited, have_ended, have_ended_with, restart_goes_on};
 use otp_lists::restarts::{affected, is_restarted};
-use otp_lists::state::{is_over, is_simple};
+use otp_lists::state::is_over;
 use otp_machine::Machine;
 use otp_reason::{Name, Note, Reason};
 use otp_rules::laws::number_starts_work;
@@ -223,7 +223,7 @@ fn child_starts(machine: &Machine, spec: ChildSpec) -> bool
     requires { machine.now.follows ≡ None }
     ensures { (call now : ℕ) (resumed : Bool) → result ≡ work_starts (start_child call spec (begun machine.now now resumed)) }
 {
-    if is_simple(machine.strategy) {
+    if machine.strategy.is_simple() {
         return false;
     }
     match check_childspecs(&[spec], Some(machine.auto_shutdown)) {
@@ -238,7 +238,7 @@ fn dynamic_starts(machine: &Machine) -> bool
     requires { machine.now.follows ≡ None }
     ensures { (call now : ℕ) (resumed : Bool) → result ≡ work_starts (start_dynamic call (begun machine.now now resumed)) }
 {
-    if !is_simple(machine.strategy) {
+    if !machine.strategy.is_simple() {
         return false;
     }
     match machine.specs.first() {
@@ -253,7 +253,7 @@ fn again_starts(machine: &Machine, id: Name) -> bool
     requires { machine.now.follows ≡ None }
     ensures { (call now : ℕ) (resumed : Bool) → result ≡ work_starts (call_child call id (asked.RestartChild id) (begun machine.now now resumed)) }
 {
-    if is_simple(machine.strategy) {
+    if machine.strategy.is_simple() {
         return false;
     }
     match machine.rows.find_id(&id) {
@@ -350,7 +350,7 @@ fn resume_starts(machine: &Machine, now: u64) -> bool
 fn opening_starts(machine: &Machine) -> bool
     ensures { (own now : ℕ) → result ≡ work_starts (open_rows own (begun machine.now now false)) }
 {
-    !is_simple(machine.strategy) && !machine.specs.is_empty()
+    !machine.strategy.is_simple() && !machine.specs.is_empty()
 }
 
 #[tactic(auto, using(crate::proofs::Needed::tick_starts, crate::proofs::Needed::terminate_starts_none), unfolding(otp_rules::specs::Step::decide))]

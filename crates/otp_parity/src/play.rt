@@ -1,7 +1,6 @@
 //! A transcript is played on the supervisor of its tree.
 
-ghost use Rattle.std.specs.Prelude.{◌≡◌, IfOk, None};
-ghost use Rattle.otp_rules.specs.Opening.{open_fault};
+ghost use Rattle.std.specs.Prelude.{◌≡◌, IfOk};
 ghost use Rattle.otp_parity.specs.Prints.{Plays, Prints, refusal};
 
 use otp_file::{TreeFault, TreeSpec, read_tree};
@@ -31,12 +30,11 @@ impl From<AllocError> for Unplayed {
 }
 
 /// The orders that the supervisor of the tree gives for the lines, as lines; or the line for a tree that is refused.
-#[tactic(auto, unfolding(otp_rules::specs::Opening::open_fault))]
 pub fn play(alloc: Global, tree: &[u8], lines: &[u8]) -> Result<Vec<u8>, Unplayed>
     ensures { IfOk result (λ text. Prints tree.now lines.now text.items) }
 {
     match read_tree(alloc, tree) {
-        Ok(tree) => play_on(alloc, &tree, lines),
+        Ok(tree) => play_on(alloc, tree, lines),
         Err(TreeFault::OutOfMemory) => Err(Unplayed::OutOfMemory),
         Err(TreeFault::NotToml) => Err(Unplayed::NotToml),
         Err(fault) => Ok(refusal(alloc, fault)?),
@@ -44,19 +42,13 @@ pub fn play(alloc: Global, tree: &[u8], lines: &[u8]) -> Result<Vec<u8>, Unplaye
 }
 
 /// The orders for the lines.
-fn play_on(alloc: Global, tree: &TreeSpec, lines: &[u8]) -> Result<Vec<u8>, Unplayed>
-    requires { open_fault tree.now.flags tree.now.specs ≡ None }
-    ensures { IfOk result (λ text. Plays tree.now lines.now text.items) }
+fn play_on(alloc: Global, tree: TreeSpec, lines: &[u8]) -> Result<Vec<u8>, Unplayed>
+    ensures { IfOk result (λ text. Plays tree lines.now text.items) }
 {
     let mut input = Counted::new(lines);
     let mut output = Counted::new(Vec::new(alloc));
-    match sim(
-        alloc,
-        &tree.supervisor().flags(),
-        tree.supervisor().specs(),
-        &mut input,
-        &mut output,
-    ) {
+    let (supervisor, _, _) = tree.into_parts();
+    match sim(alloc, supervisor, &mut input, &mut output) {
         SimEnd::Done => Ok(output.into_device()),
         end => Err(Unplayed::Ended(end)),
     }

@@ -33,7 +33,8 @@ use Rattle.otp_rules.specs.declared.call.Reply.TheVariants as reply
 use Rattle.otp_rules.specs.declared.call.CallFault.{CallFault}
 use Rattle.otp_rules.specs.declared.call.CallFault.TheVariants as fault
 use Rattle.otp_rules.specs.Counts.{counts_of, which_of}
-use Rattle.otp_rules.specs.State.{closed, put_last, Outcome, answer, is_busy, is_over, is_simple, with_rows, with_waiting, with_work}
+use Rattle.otp_spec.specs.Flags.{is_simple}
+use Rattle.otp_rules.specs.State.{closed, put_last, Outcome, answer, is_busy, is_over, with_rows, with_waiting, with_work}
 use Rattle.otp_rules.specs.Places.{at_place, at_found, at_row, at_number, end_row, is_removed, set_row}
 use Rattle.otp_rules.specs.Restarts.{ends_by_significance, is_restarted}
 use Rattle.otp_rules.specs.Stops.{terminate}

@@ -26,7 +26,8 @@ use Rattle.otp_rules.specs.declared.event.Waiting.TheVariants as waiting
 use Rattle.otp_rules.specs.declared.work.Due.{Due}
 use Rattle.otp_rules.specs.declared.work.After.{After}
 use Rattle.otp_rules.specs.declared.work.After.TheVariants as after
-use Rattle.otp_rules.specs.State.{Outcome, answer, is_busy, is_over, is_simple, with_rows, with_stamps, with_waiting, with_work}
+use Rattle.otp_spec.specs.Flags.{is_simple}
+use Rattle.otp_rules.specs.State.{Outcome, answer, is_busy, is_over, with_rows, with_stamps, with_waiting, with_work}
 use Rattle.otp_rules.specs.Effects.{OrdersFew, is_order}
 use Rattle.otp_rules.specs.Ends.{sup_end_of, refuse_all, refusal, end_all}
 use Rattle.otp_rules.specs.Places.{end_row, end_process, is_removed, set_row}

@@ -31,7 +31,8 @@ use Rattle.otp_rules.specs.declared.event.Waiting.TheVariants as waiting
 use Rattle.otp_rules.specs.declared.work.Due.{Due}
 use Rattle.otp_rules.specs.declared.work.After.{After}
 use Rattle.otp_rules.specs.declared.work.After.TheVariants as after
-use Rattle.otp_rules.specs.State.{is_over, Outcome, State, answer, is_busy, is_simple, put_last, with_rows, with_stamps, with_waiting, with_work}
+use Rattle.otp_spec.specs.Flags.{is_simple}
+use Rattle.otp_rules.specs.State.{is_over, Outcome, State, answer, is_busy, put_last, with_rows, with_stamps, with_waiting, with_work}
 use Rattle.otp_rules.specs.Places.{at_number, end_row, end_process, set_row, is_removed}
 use Rattle.otp_rules.specs.Restarts.{affected_from, affected_to, running}
 use Rattle.otp_rules.specs.Stops.{calm_all, is_exit, without, told, tell_row, tell, use_exit, stop_each, terminate_ordered, terminate_together, terminate}
@@ -153,21 +154,21 @@ home_less ws vs less (Restarting _) h = refl
 less_known : (what : Kind) (s : State) (G : Item → Type 0) (ws vs : List Waiting) → ((p : ℕ) → list_any (is_ended p) vs ≡ true → list_any (is_ended p) ws ≡ true) → (rows : List Row) → Each (Known what s G ws) rows → Each (Known what s G vs) rows
 less_known what s G ws vs less rows h = each-more (Known what s G ws) (Known what s G vs) (λ row k. moves what s G ws vs row row refl refl (λ p has. has) (λ home. inl (home_less ws vs less row.state home)) k) rows h
 
-or_cases : (a b : Bool) → (a || b) ≡ true → (a ≡ true) ⊎ (b ≡ true)
+pub or_cases : (a b : Bool) → (a || b) ≡ true → (a ≡ true) ⊎ (b ≡ true)
 or_cases true b h = inl refl
 or_cases false b h = inr h
 
-or_right : (a b : Bool) → b ≡ true → (a || b) ≡ true
+pub or_right : (a b : Bool) → b ≡ true → (a || b) ≡ true
 or_right true b h = refl
 or_right false b h = h
 
 -- an item more that is no end
-quiet_more : (ws : List Waiting) (x : Waiting) → ((p : ℕ) → is_ended p x ≡ false) → (p : ℕ) → list_any (is_ended p) (ws ++ x ∷ []) ≡ true → list_any (is_ended p) ws ≡ true
+pub quiet_more : (ws : List Waiting) (x : Waiting) → ((p : ℕ) → is_ended p x ≡ false) → (p : ℕ) → list_any (is_ended p) (ws ++ x ∷ []) ≡ true → list_any (is_ended p) ws ≡ true
 quiet_more ws x quiet p h =
     ⊎_elim (λ was. was) (λ (new : (is_ended p x || false) ≡ true). absurd (⊎_elim (λ e. false≢true (sym (quiet p) ∙ e)) (λ e. false≢true e) (or_cases (is_ended p x) false new)))
     (or_cases (list_any (is_ended p) ws) (is_ended p x || false) (sym (list_any-append (is_ended p) ws (x ∷ [])) ∙ h))
 
-same_process : (p x : ℕ) (state : RowState) → has_process p state ≡ true → (p == x) ≡ true → has_process x state ≡ true
+pub same_process : (p x : ℕ) (state : RowState) → has_process p state ≡ true → (p == x) ≡ true → has_process x state ≡ true
 same_process p x state has same = subst (λ (n : ℕ). has_process n state ≡ true) (eqb-true p x same) has
 
 home_by : (ws : List Waiting) (p : ℕ) (state : RowState) → has_process p state ≡ true → list_any (is_ended p) ws ≡ true → is_home ws state ≡ true
@@ -234,7 +235,7 @@ tell-known what s G p o h =
     (λ i row at has. set-known what s G o.state.waiting p i row (told o.state.last p row.spec.shutdown) o.state.rows at has (told-same o.state.last p row.spec.shutdown) h)
 
 -- an end that waits is used
-remove_less : (p i : ℕ) (ws : List Waiting) → list_any (is_ended p) (remove ws i) ≡ true → list_any (is_ended p) ws ≡ true
+pub remove_less : (p i : ℕ) (ws : List Waiting) → list_any (is_ended p) (remove ws i) ≡ true → list_any (is_ended p) ws ≡ true
 remove_less p zero [] h = h
 remove_less p (suc i) [] h = h
 remove_less p zero (w ∷ ws) h = or_right (is_ended p w) (list_any (is_ended p) ws) h
@@ -242,12 +243,12 @@ remove_less p (suc i) (w ∷ ws) h =
     ⊎_elim (λ first. ap (λ (b : Bool). b || list_any (is_ended p) ws) first) (λ rest. or_right (is_ended p w) (list_any (is_ended p) ws) (remove_less p i ws rest))
     (or_cases (is_ended p w) (list_any (is_ended p) (remove ws i)) h)
 
-without_less : (p : ℕ) (place : Option ℕ) (ws : List Waiting) → list_any (is_ended p) (without ws place) ≡ true → list_any (is_ended p) ws ≡ true
+pub without_less : (p : ℕ) (place : Option ℕ) (ws : List Waiting) → list_any (is_ended p) (without ws place) ≡ true → list_any (is_ended p) ws ≡ true
 without_less p None ws h = h
 without_less p (Some i) ws h = remove_less p i ws h
 
 -- the end of this process waits
-exit_ended : (p : ℕ) (w : Waiting) → is_exit p w ≡ true → is_ended p w ≡ true
+pub exit_ended : (p : ℕ) (w : Waiting) → is_exit p w ≡ true → is_ended p w ≡ true
 exit_ended p (waiting.Item (item.Note (note.Up _))) h = h
 exit_ended p (waiting.Item (item.Note (note.Ignored _))) h = absurd (false≢true h)
 exit_ended p (waiting.Item (item.Note (note.Failed _ _))) h = absurd (false≢true h)
@@ -255,7 +256,7 @@ exit_ended p (waiting.Item (item.Note (note.Exit _ _))) h = h
 exit_ended p (waiting.Item (item.Call _ _)) h = h
 exit_ended p (waiting.Retry _) h = h
 
-waits_there : (p : ℕ) (ws : List Waiting) → is_some (position (is_exit p) ws) ≡ true → list_any (is_ended p) ws ≡ true
+pub waits_there : (p : ℕ) (ws : List Waiting) → is_some (position (is_exit p) ws) ≡ true → list_any (is_ended p) ws ≡ true
 waits_there p ws h =
     let d : Waiting = waiting.Retry 0 in
     (elim (position (is_exit p) ws) as (λ (x : Option ℕ). position (is_exit p) ws ≡ x → is_some x ≡ true → list_any (is_ended p) ws ≡ true) [
@@ -382,7 +383,7 @@ of_waiting what s G o vs is h = subst (λ (l : List Waiting). Each (Known what s
 put-known : (what : Kind) (s : State) (G : Item → Type 0) (x : Waiting) (o : Outcome) → ((p : ℕ) → is_ended p x ≡ false) → AllKnown what s G o → AllKnown what s G (put_last x o)
 put-known what s G x o quiet h = less_known what s G o.state.waiting (o.state.waiting ++ x ∷ []) (quiet_more o.state.waiting x quiet) o.state.rows h
 
-told_has : (p : ℕ) (state : RowState) → is_told p state ≡ true → has_process p state ≡ true
+pub told_has : (p : ℕ) (state : RowState) → is_told p state ≡ true → has_process p state ≡ true
 told_has p Undefined h = absurd (false≢true h)
 told_has p (Starting _ _) h = absurd (false≢true h)
 told_has p (Up _) h = absurd (false≢true h)
@@ -399,10 +400,10 @@ down_home ws (Killed _) h = absurd (false≢true h)
 down_home ws (Restarting _) h = refl
 
 -- the row has the process q, by its state
-has_starting : (row : Row) (q kept p : ℕ) → row.state ≡ Starting q kept → (q == p) ≡ true → has_process p row.state ≡ true
+pub has_starting : (row : Row) (q kept p : ℕ) → row.state ≡ Starting q kept → (q == p) ≡ true → has_process p row.state ≡ true
 has_starting row q kept p is same = ap (λ (t : RowState). has_process p t) is ∙ same
 
-same_number : (q : ℕ) → (q == q) ≡ true
+pub same_number : (q : ℕ) → (q == q) ≡ true
 same_number q = eq-eqb q q refl
 
 failure : (G : Item → Type 0) (row : Row) (q kept : ℕ) → row.state ≡ Starting q kept → BringsFailure G q → Ends G row
@@ -609,7 +610,7 @@ homes_kept_from_law s e free row among h =
     (λ (o : IsOpened old e.kind row). inr (inr (record { own = o.own; opening = o.opening; over = o.over; place = o.place }))))
     (told_law old e.kind e.number (step s e).state.waiting row told h)
 
-none_has : (n : ℕ) (rows : List Row) → rows_in (has_process n) rows ≡ 0 → (row : Row) → Contains rows row → has_process n row.state ≡ false
+pub none_has : (n : ℕ) (rows : List Row) → rows_in (has_process n) rows ≡ 0 → (row : Row) → Contains rows row → has_process n row.state ≡ false
 none_has n [] none row c = absurd (omega (arith, c.1))
 none_has n (x ∷ xs) none row (zero, a, b) = subst (λ (r : Row). has_process n r.state ≡ false) b (not_this (has_process n x.state) (omega (arith, none, rows_in-cons (has_process n) x xs)))
   where

@@ -21,7 +21,8 @@ use Rattle.otp_rules.specs.declared.event.Kind.{Kind}
 use Rattle.otp_rules.specs.declared.event.Waiting.{Waiting}
 use Rattle.otp_rules.specs.declared.work.Due.{Due}
 use Rattle.otp_rules.specs.declared.work.After.{After}
-use Rattle.otp_rules.specs.State.{Outcome, State, answer, emit, is_busy, is_simple, with_stamps, with_work}
+use Rattle.otp_spec.specs.Flags.{is_simple}
+use Rattle.otp_rules.specs.State.{Outcome, State, answer, emit, is_busy, with_stamps, with_work}
 use Rattle.otp_rules.specs.Places.{at_row, at_number, end_row, set_row}
 use Rattle.otp_rules.specs.Restarts.{dues}
 use Rattle.otp_rules.specs.Stops.{is_exit, without, told, stop_order, tell_row, tell, use_exit, terminate_ordered, terminate_together, terminate}

@@ -29,5 +29,9 @@ pub mod Restarted
 pub mod Runs
 pub mod Few
 pub mod Waits
+pub mod EndedRows
+pub mod Heard
+pub mod Finishing
+pub mod Lasting
 mod Ended
 pub mod NamedRows

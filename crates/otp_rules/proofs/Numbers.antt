@@ -21,7 +21,8 @@ use Rattle.otp_rules.specs.declared.event.Event.{Event}
 use Rattle.otp_rules.specs.declared.event.Kind.{Kind}
 use Rattle.otp_rules.specs.declared.work.Due.{Due}
 use Rattle.otp_rules.specs.declared.work.After.{After}
-use Rattle.otp_rules.specs.State.{Outcome, State, answer, is_busy, is_simple, with_rows, with_stamps, with_waiting, with_work}
+use Rattle.otp_spec.specs.Flags.{is_simple}
+use Rattle.otp_rules.specs.State.{Outcome, State, answer, is_busy, with_rows, with_stamps, with_waiting, with_work}
 use Rattle.otp_rules.specs.Places.{at_row, end_row, end_process, set_row}
 use Rattle.otp_rules.specs.Restarts.{affected_from, affected_to, dues, running}
 use Rattle.otp_rules.specs.Stops.{calm_all, is_exit, without, told, tell_row, tell, use_exit, stop_each, terminate_ordered, terminate_together, terminate}
@@ -75,7 +76,7 @@ same_process p q (Asked x _) h = subst (λ (n : ℕ). cond (n == q) 1 0 ≤ cond
 same_process p q (Killed x) h = subst (λ (n : ℕ). cond (n == q) 1 0 ≤ cond (x == q) 1 0) (eqb-true x p h) (omega arith)
 same_process p q (Restarting _) h = absurd (false≢true h)
 
-told_process : (now p q : ℕ) (s : Shutdown) → has_process q (told now p s) ≡ (p == q)
+pub told_process : (now p q : ℕ) (s : Shutdown) → has_process q (told now p s) ≡ (p == q)
 told_process now p q BrutalKill = refl
 told_process now p q (Milliseconds _) = refl
 told_process now p q Infinity = refl

@@ -30,7 +30,8 @@ use Rattle.otp_rules.specs.declared.event.Kind.{Kind}
 use Rattle.otp_rules.specs.declared.event.Kind.TheVariants as kind
 use Rattle.otp_rules.specs.declared.work.Due.{Due}
 use Rattle.otp_rules.specs.declared.work.After.{After}
-use Rattle.otp_rules.specs.State.{Outcome, State, answer, closed, is_simple, put_last, with_rows, with_stamps, with_waiting, with_work}
+use Rattle.otp_spec.specs.Flags.{is_simple}
+use Rattle.otp_rules.specs.State.{Outcome, State, answer, closed, put_last, with_rows, with_stamps, with_waiting, with_work}
 use Rattle.otp_rules.specs.Places.{end_row, is_temporary, set_row}
 use Rattle.otp_rules.specs.Restarts.{affected_from, affected_to, dues, restart_list, running}
 use Rattle.otp_rules.specs.Stops.{calm_all, stop_each, terminate_ordered, terminate_together, terminate}

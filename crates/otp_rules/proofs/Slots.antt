@@ -23,7 +23,8 @@ use Rattle.otp_rules.specs.declared.event.Kind.{Kind}
 use Rattle.otp_rules.specs.declared.work.Due.{Due}
 use Rattle.otp_rules.specs.declared.work.After.{After}
 use Rattle.otp_rules.specs.declared.work.After.TheVariants as after
-use Rattle.otp_rules.specs.State.{Outcome, State, answer, is_busy, is_simple, with_rows, with_stamps, with_waiting, with_work}
+use Rattle.otp_spec.specs.Flags.{is_simple}
+use Rattle.otp_rules.specs.State.{Outcome, State, answer, is_busy, with_rows, with_stamps, with_waiting, with_work}
 use Rattle.otp_rules.specs.Places.{end_row, end_process, set_row, is_removed}
 use Rattle.otp_rules.specs.Restarts.{affected_from, affected_to, running}
 use Rattle.otp_rules.specs.Stops.{calm_all, is_exit, without, told, tell_row, tell, use_exit, stop_each, terminate_ordered, terminate_together, terminate}
@@ -34,7 +35,7 @@ use Rattle.otp_rules.specs.Deaths.{restart_rows, restart_or_end, restart}
 use Rattle.otp_rules.specs.Calls.{new_row}
 use Rattle.otp_rules.specs.Step.{tick, decide, stamped, step, step_on, killed, late_number}
 use Rattle.otp_rules.specs.Run.{empty_state, state_after}
-use Rattle.otp_rules.specs.Opening.{open_fault}
+use Rattle.otp_spec.specs.Supervisor.{supervisor_fault}
 use Rattle.otp_spec.specs.declared.fault.SpecFault.{SpecFault}
 use Rattle.otp_spec.specs.declared.fault.SpecFault.TheVariants.{BadFlag, SimpleNeedsOne, TooManyChildren}
 use Rattle.otp_spec.specs.declared.flags.SupFlags.{SupFlags}
@@ -404,8 +405,8 @@ slots_stay_owned_law s events few h =
     record { one = end.0; below = λ i d less. each-below (state_after s events).rows end.1 i d less }
 
 -- more than 256 specifications are a fault
-opened_few : (flags : SupFlags) (specs : List ChildSpec) → open_fault flags specs ≡ None → length specs ≤ 256
-unfolding open_fault
+opened_few : (flags : SupFlags) (specs : List ChildSpec) → supervisor_fault flags specs ≡ None → length specs ≤ 256
+unfolding supervisor_fault
 opened_few flags specs =
     let P : Option SpecFault → Type 0 = λ fault. fault ≡ None → length specs ≤ 256 in
     let last : Option SpecFault = if nat_lt 256 (length specs) then Some TooManyChildren else first_fault specs (Some flags.auto_shutdown) in

@@ -18,7 +18,8 @@ use Rattle.otp_rules.specs.declared.event.Effect.{Effect}
 use Rattle.otp_rules.specs.declared.event.Event.{Event}
 use Rattle.otp_rules.specs.declared.work.Due.{Due}
 use Rattle.otp_rules.specs.declared.work.After.{After}
-use Rattle.otp_rules.specs.State.{Outcome, State, answer, emit, is_busy, is_simple, with_rows, with_waiting, with_work}
+use Rattle.otp_spec.specs.Flags.{is_simple}
+use Rattle.otp_rules.specs.State.{Outcome, State, answer, emit, is_busy, with_rows, with_waiting, with_work}
 use Rattle.otp_rules.specs.Places.{at_number, end_row, end_process, is_removed, set_row}
 use Rattle.otp_rules.specs.Stops.{is_exit, without, told, stop_order, tell_row, tell, use_exit}
 use Rattle.otp_rules.specs.Starts.{is_due, start_row, start}

@@ -14,7 +14,8 @@ use Rattle.otp_rules.specs.declared.call.Reply.{Reply}
 use Rattle.otp_rules.specs.declared.event.Kind.{Kind}
 use Rattle.otp_rules.specs.declared.event.Waiting.{Waiting}
 use Rattle.otp_rules.specs.declared.work.After.{After}
-use Rattle.otp_rules.specs.State.{Outcome, State, answer, is_simple, put_last}
+use Rattle.otp_spec.specs.Flags.{is_simple}
+use Rattle.otp_rules.specs.State.{Outcome, State, answer, put_last}
 use Rattle.otp_rules.specs.Places.{end_row, set_row}
 use Rattle.otp_rules.specs.Stops.{is_exit}
 use Rattle.otp_rules.specs.Step.{tick}

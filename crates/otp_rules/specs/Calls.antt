@@ -17,7 +17,8 @@ use Rattle.otp_rules.specs.declared.call.CallFault.{CallFault}
 use Rattle.otp_rules.specs.declared.call.CallFault.TheVariants as fault
 use Rattle.otp_rules.specs.declared.call.Reply.TheVariants as reply
 use Rattle.otp_rules.specs.declared.work.After.TheVariants as after
-use Rattle.otp_rules.specs.State.{Outcome, answer, is_simple, with_rows, with_work}
+use Rattle.otp_spec.specs.Flags.{is_simple}
+use Rattle.otp_rules.specs.State.{Outcome, answer, with_rows, with_work}
 use Rattle.otp_rules.specs.Places.{at_row, set_row}
 use Rattle.otp_rules.specs.Counts.{counts_of, which_of}
 

@@ -10,7 +10,8 @@ use Rattle.otp_rules.specs.declared.call.ChildLine.{ChildLine}
 use Rattle.otp_rules.specs.declared.call.ChildProcess.{ChildProcess}
 use Rattle.otp_rules.specs.declared.call.ChildProcess.TheVariants as process
 use Rattle.otp_rules.specs.declared.call.CountsNow.{CountsNow}
-use Rattle.otp_rules.specs.State.{State, is_simple}
+use Rattle.otp_spec.specs.Flags.{is_simple}
+use Rattle.otp_rules.specs.State.{State}
 
 abbrev pub process_of : RowState → ChildProcess
 process_of Undefined = process.Undefined

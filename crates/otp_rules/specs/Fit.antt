@@ -14,7 +14,8 @@ use Rattle.otp_rules.specs.declared.event.Event.{Event}
 use Rattle.otp_rules.specs.declared.work.After.{After}
 use Rattle.otp_rules.specs.declared.work.After.TheVariants as after
 use Rattle.otp_rules.specs.declared.work.Due.{Due}
-use Rattle.otp_rules.specs.State.{State, is_over, is_simple}
+use Rattle.otp_spec.specs.Flags.{is_simple}
+use Rattle.otp_rules.specs.State.{State, is_over}
 use Rattle.otp_rules.specs.Places.{is_removed}
 use Rattle.otp_rules.specs.Stops.{is_exit}
 use Rattle.otp_rules.specs.Run.{empty_state, state_after}

@@ -16,7 +16,6 @@ pub mod Needs
 pub mod Next
 pub mod Frames
 pub mod Rate
-pub mod Opening
 pub mod Progress
 pub mod Fit
 pub mod Order
@@ -26,3 +25,4 @@ pub mod Slots
 pub mod Named
 pub mod Processes
 pub mod Waits
+pub mod Lives

@@ -24,7 +24,8 @@ use Rattle.otp_rules.specs.declared.event.Waiting.{Waiting}
 use Rattle.otp_rules.specs.declared.event.Waiting.TheVariants as waiting
 use Rattle.otp_rules.specs.declared.work.After.{After}
 use Rattle.otp_rules.specs.declared.work.After.TheVariants as after
-use Rattle.otp_rules.specs.State.{State, is_simple}
+use Rattle.otp_spec.specs.Flags.{is_simple}
+use Rattle.otp_rules.specs.State.{State}
 use Rattle.otp_rules.specs.Step.{decide, stamped, step}
 
 -- a start that was ordered: the child's id, the number that it was given, and whether an answer came since

@@ -8,7 +8,7 @@ use Rattle.otp_table.specs.Rows.{has_process, has_slot}
 use Rattle.otp_rules.specs.declared.event.Event.{Event}
 use Rattle.otp_rules.specs.State.{State}
 use Rattle.otp_rules.specs.Fit.{IsDistinct}
-use Rattle.otp_rules.specs.Opening.{open_fault}
+use Rattle.otp_spec.specs.Supervisor.{supervisor_fault}
 use Rattle.otp_rules.specs.Run.{empty_state, state_after}
 
 -- each slot has one row at most, and lies below 256
@@ -22,7 +22,7 @@ SlotsStayOwned = (s : State) (events : List Event) → length s.specs ≤ MAX_CH
 
 -- and it holds from the first event on, of each supervisor that may be opened
 abbrev pub SlotsOwned : Type 0
-SlotsOwned = (flags : SupFlags) (specs : List ChildSpec) (events : List Event) → open_fault flags specs ≡ None → AreSlotted (state_after (empty_state flags specs) events).rows
+SlotsOwned = (flags : SupFlags) (specs : List ChildSpec) (events : List Event) → supervisor_fault flags specs ≡ None → AreSlotted (state_after (empty_state flags specs) events).rows
 
 -- of two rows with a process the slots are one exactly where the processes are: what is kept by slots is a process's own
 abbrev pub SlotsTellProcesses : Type 0

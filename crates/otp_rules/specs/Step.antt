@@ -23,7 +23,8 @@ use Rattle.otp_rules.specs.declared.event.Waiting.TheVariants as waiting
 use Rattle.otp_rules.specs.declared.work.Due.{Due}
 use Rattle.otp_rules.specs.declared.work.After.TheVariants as after
 use Rattle.otp_rules.specs.declared.work.Phase.TheVariants.{Open}
-use Rattle.otp_rules.specs.State.{Outcome, State, answer, is_busy, is_over, is_simple, put_last, with_rows, with_stamps, with_waiting, with_work, with_phase}
+use Rattle.otp_spec.specs.Flags.{is_simple}
+use Rattle.otp_rules.specs.State.{Outcome, State, answer, is_busy, is_over, put_last, with_rows, with_stamps, with_waiting, with_work, with_phase}
 use Rattle.otp_rules.specs.Stops.{terminate}
 use Rattle.otp_rules.specs.Work.{advance}
 use Rattle.otp_rules.specs.Deaths.{retry, take_exit}

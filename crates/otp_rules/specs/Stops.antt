@@ -7,7 +7,8 @@ use Rattle.otp_table.specs.declared.row.RowState.{RowState}
 use Rattle.otp_table.specs.declared.row.RowState.TheVariants.{Asked, Killed}
 use Rattle.otp_table.specs.Rows.{calm_rows}
 use Rattle.otp_rules.specs.declared.work.After.TheVariants as after
-use Rattle.otp_rules.specs.State.{Outcome, emit, is_simple, with_rows, with_waiting, with_work}
+use Rattle.otp_spec.specs.Flags.{is_simple}
+use Rattle.otp_rules.specs.State.{Outcome, emit, with_rows, with_waiting, with_work}
 use Rattle.otp_rules.specs.Places.{at_number, end_process, set_row}
 use Rattle.otp_reason.specs.declared.note.Note.TheVariants as note
 use Rattle.otp_rules.specs.declared.event.Item.TheVariants as item

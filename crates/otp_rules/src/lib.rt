@@ -8,6 +8,7 @@ pub mod call;
 pub mod ending;
 pub mod event;
 pub mod laws;
+pub mod lives;
 pub mod work;
 
 pub use call::{Answered, Call, CallFault, ChildLine, ChildLines, ChildProcess, CountsNow, Reply};

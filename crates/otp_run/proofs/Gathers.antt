@@ -10,7 +10,7 @@ use Rattle.otp_run.specs.Rule.{all_parts, ticket_of}
 use Rattle.otp_run.specs.Deques.{OwnState, VictimState, index_of}
 use Rattle.otp_run.specs.Schedulers.{SchedulerState, IsPlaced, numbers_from}
 use Rattle.otp_run.specs.Gathers.{IsHome, IsCounted, IsAwaiting, Absorbed, DrainedInto, puts_of, taken_of, stolen_of, put_count, taken_count}
-use Rattle.otp_run.proofs.Sums.{sum_by-one}
+use Rattle.otp_tally.proofs.Sums.{sum_by-one}
 use Rattle.otp_run.proofs.Places.{set_at, get_at, each_at, map-append}
 
 -- a count of a deque changes nothing

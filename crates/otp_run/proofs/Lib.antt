@@ -1,4 +1,3 @@
-pub mod Sums
 pub mod Steps
 pub mod Thefts
 pub mod Ledger

@@ -13,7 +13,7 @@ use Rattle.otp_run.specs.declared.rule.View.{View}
 use Rattle.otp_run.specs.Rule.{IsDeque, all_parts, ticket_of, view_of, whole_view, blank_view, thief_view, kept_view, joined_view, Puts, IsEmptied, TakesLeft, Counts}
 use Rattle.otp_run.specs.Rule.{Takes as TakesTickets}
 use Rattle.otp_run.proofs.Places.{map-append}
-use Rattle.otp_run.proofs.Sums.{sum_by-set, sum_by-alone, sum_by-one}
+use Rattle.otp_tally.proofs.Sums.{sum_by-set, sum_by-alone, sum_by-one}
 
 Idle : View → Type 0
 Idle v = v.parts ≡ 0 → (v.put ≡ []) × (v.taken ≡ [])

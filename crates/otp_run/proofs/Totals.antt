@@ -11,7 +11,7 @@ use Rattle.otp_run.specs.Deques.{OwnState, VictimState, stolen}
 use Rattle.otp_run.specs.Schedulers.{SchedulerState, IsPlaced, puts, finds, out}
 use Rattle.otp_run.specs.Gathers.{IsKept, IsLiveTotal, Absorbed, DrainedInto, all_ways, own_of, puts_of, taken_of, stolen_of, put_count, taken_count, begun_of, ended_of}
 use Rattle.otp_run.proofs.Places.{map-append}
-use Rattle.otp_run.proofs.Sums.{sum_by-one}
+use Rattle.otp_tally.proofs.Sums.{sum_by-one}
 use Rattle.otp_run.proofs.Ways.{each_append}
 
 abbrev one : Ticket → ℕ

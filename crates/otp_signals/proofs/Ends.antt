@@ -12,7 +12,8 @@ use Rattle.atomic_table.proofs.Lists.{set_again}
 use Rattle.otp_signals.specs.declared.view.View.{View}
 use Rattle.otp_signals.specs.Lists.{numbers_to, AsOften, AllIn, NoneInBoth, Above, Below, Rises, Stands, merge}
 use Rattle.otp_signals.specs.Rules.{NumberRule, KeepsRules, Learns}
-use Rattle.otp_signals.proofs.Sums.{sum_one, weigh_all}
+use Rattle.otp_tally.proofs.Sums.{one_le_sum_by}
+use Rattle.otp_signals.proofs.Sums.{weigh_all}
 use Rattle.otp_signals.proofs.Membership.{Stands-Contains, Contains-Stands}
 use Rattle.otp_signals.proofs.Joins.{is, is-same, is-else, stands_counts, sum_by-merge, Stands-with_number_new, Stands-with_number_old}
 
@@ -27,7 +28,7 @@ length-numbers_to (suc n) = let p = length-numbers_to n in omega (arith, length-
 -- an owner drew at most the numbers below the counter
 drawn_few : (c : ℕ) (views : List View) (id : ℕ) (v : View) → get_elem? views id ≡ some v → NumberRule c views → length v.holding.drawn ≤ c - 1
 drawn_few c views id v at k =
-    let p = sum_one (λ (u : View). sum_by (λ _. 1) u.holding.drawn) views id v at in
+    let p = one_le_sum_by (λ (u : View). sum_by (λ _. 1) u.holding.drawn) views id v at in
     let a = weigh_all (λ _. 1) views in
     let o = k.once (λ _. 1) in
     omega (arith, count_all v.holding.drawn, count_all (numbers_to (c - 1)), length-numbers_to (c - 1))
@@ -35,7 +36,7 @@ drawn_few c views id v at k =
 owner_room : (c : ℕ) (views : List View) (id : ℕ) (v : View) → get_elem? views id ≡ some v → NumberRule c views → length v.holding.drawn + v.holding.quota < 2 ^ 62
 owner_room c views id v at k =
     let p = drawn_few c views id v at k in
-    let q = sum_one (λ (u : View). u.holding.quota) views id v at in
+    let q = one_le_sum_by (λ (u : View). u.holding.quota) views id v at in
     let r = k.room in
     let b = k.begins in
     omega arith
@@ -146,11 +147,11 @@ pub whole : (c : ℕ) (views : List View) (id : ℕ) (v : View) → get_elem? vi
 whole c views id v at k all =
     let xs : List ℕ = v.holding.drawn in
     let p = drawn_few c views id v at k in
-    let q = sum_one (λ (u : View). u.holding.quota) views id v at in
+    let q = one_le_sum_by (λ (u : View). u.holding.quota) views id v at in
     let b = k.begins in
     let room = k.room in
     let e : c ≡ length xs + 1 = omega arith in
-    let s = sum_one (λ (u : View). sum_by (is 0) u.holding.drawn) views id v at in
+    let s = one_le_sum_by (λ (u : View). sum_by (is 0) u.holding.drawn) views id v at in
     let a = weigh_all (is 0) views in
     let o = k.once (is 0) in
     let z = zero_not_drawn (c - 1) in

@@ -11,7 +11,8 @@ use Rattle.atomic_table.proofs.Lists.{at_set, set_here, set_else}
 use Rattle.otp_signals.specs.declared.view.View.{View}
 use Rattle.otp_signals.specs.Lists.{numbers_to, Below, Above, Rises, Stands, has, words_at, with_number, merge}
 use Rattle.otp_signals.specs.Rules.{blank_view, joined_view, NumberRule, Owns, Saw, KeepsRules}
-use Rattle.otp_signals.proofs.Sums.{sum_set, sum_one, weigh_all}
+use Rattle.otp_tally.proofs.Sums.{sum_by-set, one_le_sum_by}
+use Rattle.otp_signals.proofs.Sums.{weigh_all}
 
 pub by_order : (x y : ℕ) (F : Bool → Type 0) → (x < y → F true) → (y ≤ x → F false) → F (ltb x y)
 by_order x y F lo hi = dite (dec_le y x) (λ (le : y ≤ x). subst F (sym (le-ltb x y le)) (hi le)) (λ gt. subst F (sym (lt-ltb x y (lt_of_not-le gt))) (lo (lt_of_not-le gt)))
@@ -111,8 +112,8 @@ stands_counts x (y ∷ ys) s = let c = sum_by-cons (is x) y ys in ⊎_elim (λ (
 apart : (views : List View) (id other c : ℕ) (v w : View) → get_elem? views id ≡ some v → other ≢ id → get_elem? views other ≡ some w → NumberRule c views → (z : ℕ) → Stands z v.holding.drawn → Stands z w.holding.drawn → ⊥
 apart views id other c v w at ne there k z s t =
     let f : View → ℕ = λ u. sum_by (is z) u.holding.drawn in
-    let a = sum_set f views id v blank_view at in
-    let b = sum_one f (set views id blank_view) other w (set_else views id other blank_view ne ∙ there) in
+    let a = sum_by-set f views id v blank_view at in
+    let b = one_le_sum_by f (set views id blank_view) other w (set_else views id other blank_view ne ∙ there) in
     let o = k.once (is z) in
     let g = weigh_all (is z) views in
     let m = once_at_most z (c - 1) in
@@ -192,8 +193,8 @@ joins slots id v other w s k at ne there' =
         begins = n.begins;
         once = λ h.
             let f : View → ℕ = λ u. sum_by h u.holding.drawn in
-            let x = sum_set f s.views id v b at in
-            let y = sum_set f (set s.views id b) other w blank_view there' in
+            let x = sum_by-set f s.views id v b at in
+            let y = sum_by-set f (set s.views id b) other w blank_view there' in
             let p = weigh_all h s.views in
             let q = weigh_all h (set (set s.views id b) other blank_view) in
             let o = n.once h in
@@ -205,8 +206,8 @@ joins slots id v other w s k at ne there' =
             (λ j u _ _ e. n.rises j u e);
         room =
             let f : View → ℕ = λ u. u.holding.quota in
-            let x = sum_set f s.views id v b at in
-            let y = sum_set f (set s.views id b) other w blank_view there' in
+            let x = sum_by-set f s.views id v b at in
+            let y = sum_by-set f (set s.views id b) other w blank_view there' in
             let o = n.room in
             omega arith;
       };

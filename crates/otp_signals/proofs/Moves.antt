@@ -13,7 +13,8 @@ use Rattle.otp_signals.specs.declared.view.View.{View}
 use Rattle.otp_signals.specs.Lists.{numbers_to, Below, Rises, NeverFalls, ZeroOrIn, greatest, has, words_at, between}
 use Rattle.otp_signals.specs.Holdings.{after_draw, after_post}
 use Rattle.otp_signals.specs.Rules.{first_view, kept_view, cut_view, blank_view, NumberRule, SignalRule, Owns, Saw, KeepsRules, Draws, Posts, Looks}
-use Rattle.otp_signals.proofs.Sums.{sum_set, sum_one, weigh_all, Below-more, Below-push, Rises-push, words_at-push_here, words_at-push_else, greatest-push, ZeroOrIn-more, look-push, has-slots_below, has-filter, and_false, and_true, between-from, between-to}
+use Rattle.otp_tally.proofs.Sums.{sum_by-set, one_le_sum_by}
+use Rattle.otp_signals.proofs.Sums.{weigh_all, Below-more, Below-push, Rises-push, words_at-push_here, words_at-push_else, greatest-push, ZeroOrIn-more, look-push, has-slots_below, has-filter, and_false, and_true, between-from, between-to}
 
 -- what holds of each view holds after a change of one
 pub each_set : (F : ℕ → View → Type 0) (views : List View) (id : ℕ) (w : View) → F id w → ((j : ℕ) (u : View) → get_elem? views j ≡ some u → F j u) → (j : ℕ) (u : View) → get_elem? (set views id w) j ≡ some u → F j u
@@ -47,7 +48,7 @@ drawn_number views id c v at some_left k =
     let mine = k.rises id v at in record {
       begins = let p = k.begins in omega arith;
       once = λ h.
-          let s = sum_set (λ (u : View). sum_by h u.holding.drawn) views id v w at in
+          let s = sum_by-set (λ (u : View). sum_by h u.holding.drawn) views id v w at in
           let a = weigh_all h views in
           let b = weigh_all h (set views id w) in
           let o = k.once h in
@@ -62,7 +63,7 @@ drawn_number views id c v at some_left k =
       rises = each_set (λ j u. Rises u.holding.drawn × Below (c + 1) u.holding.drawn) views id w
           (Rises-push v.holding.drawn c mine.0 mine.1, Below-push (c + 1) v.holding.drawn c (Below-more c (c + 1) (omega arith) v.holding.drawn mine.1) (omega arith))
           (λ j u e. let x = k.rises j u e in (x.0, Below-more c (c + 1) (omega arith) u.holding.drawn x.1));
-      room = let s = sum_set (λ (u : View). u.holding.quota) views id v w at in let r = k.room in omega arith;
+      room = let s = sum_by-set (λ (u : View). u.holding.quota) views id v w at in let r = k.room in omega arith;
     }
 
 -- the signals stay where a view changes only what it drew, and the counter changes
@@ -84,7 +85,7 @@ draws slots homes id v cs some_left s k no_homes at small =
     let w : View = record v { holding = after_draw c v.holding } in
     let len = k.words in
     let room = k.numbers.room in
-    let one = sum_one (λ (u : View). u.holding.quota) s.views id v at in
+    let one = one_le_sum_by (λ (u : View). u.holding.quota) s.views id v at in
     let fits : (c + 1) % 2 ^ 64 ≡ c + 1 = omega arith in
     let here : slice_index (set s.words 0 ((c + 1) % 2 ^ 64)) 0 ≡ c + 1 = get_or-set_same s.words 0 ((c + 1) % 2 ^ 64) 0 (omega arith) ∙ fits in
     let sig = k.signals in (
@@ -108,14 +109,14 @@ same_numbers words views id slot n v w at same₁ same₂ k =
     let k' : NumberRule c (set views id w) = record {
       begins = k.begins;
       once = λ h.
-          let s = sum_set (λ (u : View). sum_by h u.holding.drawn) views id v w at in
+          let s = sum_by-set (λ (u : View). sum_by h u.holding.drawn) views id v w at in
           let a = weigh_all h views in
           let b = weigh_all h (set views id w) in
           let o = k.once h in
           let d : sum_by h w.holding.drawn ≡ sum_by h v.holding.drawn = ap (sum_by h) same₁ in
           omega arith;
       rises = each_set (λ j u. Rises u.holding.drawn × Below c u.holding.drawn) views id w (subst (λ l. Rises l × Below c l) (sym same₁) (k.rises id v at)) k.rises;
-      room = let s = sum_set (λ (u : View). u.holding.quota) views id v w at in let r = k.room in omega arith;
+      room = let s = sum_by-set (λ (u : View). u.holding.quota) views id v w at in let r = k.room in omega arith;
     } in
     subst (λ m. NumberRule m (set views id w)) (sym here) k'
 
@@ -291,7 +292,7 @@ cut_numbers views id c v l r at same empty quota k = record {
   begins = k.begins;
   once = λ h.
       let f : View → ℕ = λ u. sum_by h u.holding.drawn in
-      let s = sum_set f views id v l at in
+      let s = sum_by-set f views id v l at in
       let a = weigh_all h views in
       let b = weigh_all h (set views id l ++ r ∷ []) in
       let o = k.once h in
@@ -301,7 +302,7 @@ cut_numbers views id c v l r at same empty quota k = record {
   rises = each_cut (λ j u. Rises u.holding.drawn × Below c u.holding.drawn) views id l r (subst (λ xs. Rises xs × Below c xs) (sym same) (k.rises id v at)) (subst (λ xs. Rises xs × Below c xs) (sym empty) (tt, tt)) (λ j u ne e. k.rises j u e);
   room =
       let f : View → ℕ = λ u. u.holding.quota in
-      let s = sum_set f views id v l at in
+      let s = sum_by-set f views id v l at in
       let o = k.room in
       omega (arith, sum_by-append f (set views id l) (r ∷ []), sum_by-cons f r []);
 }

@@ -12,18 +12,6 @@ use Rattle.otp_signals.specs.Lists.{Below, Above, Rises, AtLeast, NeverFalls, St
 use mathlib.Core.Logic.{dite}
 use native.Mathlib.Decide.{ℕ_discrete, dec_le}
 
-module _ {A : Type 0} (f : A → ℕ) where
-  -- the total after a change of one
-  pub sum_set : (l : List A) (i : ℕ) (a b : A) → get_elem? l i ≡ some a → sum_by f (set l i b) + f a ≡ sum_by f l + f b
-  sum_set [] i a b e = absurd (some-ne-none a (sym e))
-  sum_set (x ∷ xs) zero a b e = let p : f x ≡ f a = ap f (some-injective x a e) in omega (arith, sum_by-cons f x xs, sum_by-cons f b xs)
-  sum_set (x ∷ xs) (suc i) a b e = let p = sum_set xs i a b e in omega (arith, sum_by-cons f x xs, sum_by-cons f x (set xs i b))
-
-  pub sum_one : (l : List A) (i : ℕ) (a : A) → get_elem? l i ≡ some a → f a ≤ sum_by f l
-  sum_one [] i a e = absurd (some-ne-none a (sym e))
-  sum_one (x ∷ xs) zero a e = let p : f x ≡ f a = ap f (some-injective x a e) in omega (arith, sum_by-cons f x xs)
-  sum_one (x ∷ xs) (suc i) a e = let p = sum_one xs i a e in omega (arith, sum_by-cons f x xs)
-
 -- all numbers drawn, weighed, are the weights of each view's
 pub weigh_all : (h : ℕ → ℕ) (vs : List View) → sum_by h (all_drawn vs) ≡ sum_by (λ (v : View). sum_by h v.holding.drawn) vs
 weigh_all h [] = refl

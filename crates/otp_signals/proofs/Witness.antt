@@ -15,7 +15,8 @@ use Rattle.otp_signals.specs.declared.signal.Signal.{Signal}
 use Rattle.otp_signals.specs.declared.signal.Signal.TheVariants.{None, Shutdown, Kill}
 use Rattle.otp_signals.specs.Signals.{word_of, signal_of, WerePosted, SignalsWerePosted}
 use Rattle.otp_signals.specs.Rules.{blank_view, lent_view, unlent_view, looks_view, Owns, Saw, KeepsRules, Witnesses}
-use Rattle.otp_signals.proofs.Sums.{sum_set, weigh_all}
+use Rattle.otp_tally.proofs.Sums.{sum_by-set}
+use Rattle.otp_signals.proofs.Sums.{weigh_all}
 use Rattle.otp_signals.proofs.Moves.{owned_set, each_cut, cut_numbers}
 use Rattle.otp_signals.proofs.Joins.{each_two}
 use Rattle.otp_signals.proofs.Membership.{has-Contains}
@@ -38,8 +39,8 @@ lends slots id v other w bare s k at ne there =
         begins = n.begins;
         once = λ h.
             let f : View → ℕ = λ u. sum_by h u.holding.drawn in
-            let x = sum_set f s.views id v b at in
-            let y = sum_set f (set s.views id b) other w blank_view there in
+            let x = sum_by-set f s.views id v b at in
+            let y = sum_by-set f (set s.views id b) other w blank_view there in
             let p = weigh_all h s.views in
             let q = weigh_all h (set (set s.views id b) other blank_view) in
             let o = n.once h in
@@ -48,8 +49,8 @@ lends slots id v other w bare s k at ne there =
         rises = each_two (λ j u. Rises u.holding.drawn × Below c u.holding.drawn) s.views id other b blank_view (n.rises id v at) (tt, tt) (λ j u _ _ e. n.rises j u e);
         room =
             let f : View → ℕ = λ u. u.holding.quota in
-            let x = sum_set f s.views id v b at in
-            let y = sum_set f (set s.views id b) other w blank_view there in
+            let x = sum_by-set f s.views id v b at in
+            let y = sum_by-set f (set s.views id b) other w blank_view there in
             let o = n.room in
             let z : w.holding.quota ≡ 0 = ap (λ (e : Holding). e.quota) bare in
             omega arith;

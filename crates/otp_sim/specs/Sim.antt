@@ -3,6 +3,7 @@ use Rattle.std.specs.Prelude.{ℕ, zero, suc, ◌+◌, ◌-◌, Bool, true, fals
 use Rattle.std.specs.List.{list_any, flat_map, slice_split}
 use Rattle.otp_spec.specs.declared.child.ChildSpec.{ChildSpec}
 use Rattle.otp_spec.specs.declared.flags.SupFlags.{SupFlags}
+use Rattle.otp_spec.specs.declared.limits.TheConstants.{MAX_EVENTS}
 use Rattle.otp_rules.specs.declared.call.Answered.{Answered}
 use Rattle.otp_rules.specs.declared.call.Reply.{Reply}
 use Rattle.otp_rules.specs.declared.event.Effect.{Effect}
@@ -146,7 +147,7 @@ opened flags specs =
       processes = 0;
       calls = 0;
       is_stopping = false;
-      room = 65536;
+      room = MAX_EVENTS;
       lines = 0;
       text = [];
       end = None;

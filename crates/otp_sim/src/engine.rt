@@ -2,7 +2,6 @@
 
 ghost use Rattle.std.specs.Prelude.{◌≡◌, ◌+◌, ◌<◌, ◌^◌, IfOk, None, vec_len};
 ghost use Rattle.otp_sim.specs.Runs.{Writes, LastWrites, with_text};
-ghost use Rattle.otp_rules.specs.Opening.{open_fault};
 ghost use Rattle.otp_sim.specs.Sim.{opened};
 
 use crate::device::{Input, Output};
@@ -12,7 +11,7 @@ use crate::reading::read_next;
 use crate::serving::serve_piece;
 use crate::session::Session;
 use crate::writing::{finish, out_of_memory, write_out};
-use otp_spec::{ChildSpec, SupFlags};
+use otp_spec::SupSpec;
 use std::alloc::{AllocError, Global};
 
 /// How a run of `sim` ended.
@@ -52,18 +51,16 @@ const MOST_BYTES: u64 = 1 << 62;
 /// is said to have failed.
 pub fn sim<R: Input, W: Output>(
     alloc: Global,
-    flags: &SupFlags,
-    specs: &[ChildSpec],
+    supervisor: SupSpec,
     input: &mut R,
     output: &mut W,
 ) -> SimEnd
-    requires { open_fault flags.now specs.now ≡ None }
-    ensures { Writes result (opened flags.now specs.now)
+    ensures { Writes result (opened supervisor.flags supervisor.specs)
         (record { left = R.remaining input.old; written = W.contents output.old; read_failures = R.failures input.old; write_failures = W.failures output.old })
         (record { left = R.remaining input.new; written = W.contents output.new; read_failures = R.failures input.new; write_failures = W.failures output.new }) }
 {
     let mut ready = Vec::new(alloc);
-    let Ok(player) = Player::open(alloc, *flags, specs, &mut ready) else {
+    let Ok(player) = Player::open(alloc, supervisor, &mut ready) else {
         return SimEnd::Memory;
     };
     let mut session = PagedPlayer::new(alloc, player);

@@ -5,15 +5,14 @@ ghost use Rattle.otp_text.specs.Lines.{IsTimely};
 ghost use Rattle.std.specs.List.{flat_map};
 ghost use Rattle.otp_core.specs.View.{state_of};
 ghost use Rattle.otp_rules.specs.Needs.{needs_number};
-ghost use Rattle.otp_rules.specs.Opening.{open_fault};
 ghost use Rattle.otp_rules.specs.Run.{reply_of};
 ghost use Rattle.otp_sim.specs.Sim.{event_of, happen, is_due, next_kind, opened, orders_text, settled, take_form, take_line, take_read, ticked, told_by};
 ghost use Rattle.otp_sim.specs.Runs.{with_text};
 
 use crate::session::Stop;
-use otp_core::{Core, Counter, OpenFault};
+use otp_core::{Core, Counter};
 use otp_rules::{Effect, Item, Kind, Reply};
-use otp_spec::{ChildSpec, SupFlags};
+use otp_spec::SupSpec;
 use otp_text::{Line, Printer, read_line};
 use std::alloc::{AllocError, Global};
 use std::marker::Model;
@@ -86,22 +85,12 @@ impl Player {
     ///
     /// Where memory is refused.
     #[tactic(auto, unfolding(crate::specs::Sim::opened))]
-    pub fn open(
-        alloc: Global,
-        flags: SupFlags,
-        specs: &[ChildSpec],
-        out: &mut Vec<u8>,
-    ) -> Result<Self, AllocError>
-        requires lawful { open_fault flags specs.now ≡ None }
-        requires empty { out.old.items ≡ [] }
-        ensures { IfOk result (λ player. with_text out.new.items player ≡ opened flags specs.now) }
+    pub fn open(alloc: Global, supervisor: SupSpec, out: &mut Vec<u8>) -> Result<Self, AllocError>
+        requires { out.old.items ≡ [] }
+        ensures { IfOk result (λ player. with_text out.new.items player ≡ opened supervisor.flags supervisor.specs) }
     {
-        let core = match Core::open(alloc, flags, specs) {
-            Ok(core) => core,
-            Err(_) => return Err(AllocError),
-        };
         let mut player = Player {
-            core,
+            core: Core::of(alloc, supervisor),
             printer: Printer::new(alloc),
             reading: 0,
             calls: 0,

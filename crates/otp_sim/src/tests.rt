@@ -6,9 +6,9 @@ use crate::player::Player;
 use crate::session::{Session, Stop};
 use crate::{Failed, Input, Output, SimEnd, sim};
 use otp_core::OpenFault;
-use otp_core::opening::check_open;
+use otp_core::opening::copy_specs;
 use otp_reason::Name;
-use otp_spec::{ChildSpec, Shutdown, SpecFault, SupFlags};
+use otp_spec::{ChildSpec, Shutdown, SpecFault, SupFlags, SupSpec, check_supervisor};
 use otp_tally::Tally;
 use std::alloc::{AllocError, Global};
 use std::test::Fail;
@@ -104,6 +104,15 @@ fn worker(id: &str) -> Result<ChildSpec, Fail> {
     Ok(ChildSpec::new(named(id)?, named(id)?))
 }
 
+/// What a supervisor with these flags and children is opened with.
+fn lawful(alloc: Global, flags: &SupFlags, specs: &[ChildSpec]) -> Result<SupSpec, Fail> {
+    let specs = copy_specs(alloc, specs)?;
+    let Ok(()) = check_supervisor(flags, specs.as_slice()) else {
+        return Err(Fail::new("the specifications are lawful"));
+    };
+    Ok(SupSpec::new(*flags, specs))
+}
+
 fn blank_page(alloc: Global, room: usize) -> Page {
     Page {
         bytes: Vec::new(alloc),
@@ -130,7 +139,7 @@ fn is_played(
     lines: &str,
     end: SimEnd,
     printed: &str,
-) -> Result<bool, AllocError> {
+) -> Result<bool, Fail> {
     let input = with_line_ends(alloc, lines)?;
     let wanted = with_line_ends(alloc, printed)?;
     let mut is_same = true;
@@ -142,10 +151,8 @@ fn is_played(
             failures: Tally::new(),
         };
         let mut writer = blank_page(alloc, usize::MAX);
-        let Ok(()) = check_open(flags, specs) else {
-            return Ok(false);
-        };
-        let ended = sim(alloc, flags, specs, &mut reader, &mut writer);
+        let supervisor = lawful(alloc, flags, specs)?;
+        let ended = sim(alloc, supervisor, &mut reader, &mut writer);
         is_same = is_same && ended == end && writer.bytes.as_slice() == wanted.as_slice();
     }
     Ok(is_same)
@@ -245,9 +252,6 @@ fn failures_leave_a_beginning(rt: HostRuntime) -> Result<(), Fail> {
     let alloc = rt.alloc();
     let flags = SupFlags::default();
     let specs = [worker("a")?];
-    let Ok(()) = check_open(&flags, &specs) else {
-        return Err(Fail::new("the specifications are lawful"));
-    };
     let mut reader = Pieces {
         text: b"up 1\nexit 1 error:x\n",
         size: 4096,
@@ -256,7 +260,12 @@ fn failures_leave_a_beginning(rt: HostRuntime) -> Result<(), Fail> {
     };
     let mut writer = blank_page(alloc, usize::MAX);
     assert_eq!(rt;
-        sim(alloc, &flags, &specs, &mut reader, &mut writer),
+        sim(
+            alloc,
+            lawful(alloc, &flags, &specs)?,
+            &mut reader,
+            &mut writer
+        ),
         SimEnd::InputFailed
     );
     assert!(rt; writer.bytes.as_slice() == b"start a #1\nready\n".as_slice());
@@ -268,7 +277,12 @@ fn failures_leave_a_beginning(rt: HostRuntime) -> Result<(), Fail> {
     };
     let mut writer = blank_page(alloc, 13);
     assert_eq!(rt;
-        sim(alloc, &flags, &specs, &mut reader, &mut writer),
+        sim(
+            alloc,
+            lawful(alloc, &flags, &specs)?,
+            &mut reader,
+            &mut writer
+        ),
         SimEnd::OutputFailed
     );
     assert!(rt; writer.bytes.as_slice() == b"start a #1\nre".as_slice());
@@ -286,11 +300,8 @@ fn is_flushed(
 ) -> Result<bool, Fail> {
     let flags = SupFlags::default();
     let specs = [worker("a")?];
-    let Ok(()) = check_open(&flags, &specs) else {
-        return Err(Fail::new("the specifications are lawful"));
-    };
     let mut ready = Vec::new(alloc);
-    let player = Player::open(alloc, flags, &specs, &mut ready)?;
+    let player = Player::open(alloc, lawful(alloc, &flags, &specs)?, &mut ready)?;
     let mut session = Refused {
         player: PagedPlayer::new(alloc, player),
         left: lines,

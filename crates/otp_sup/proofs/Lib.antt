@@ -1,3 +1,9 @@
 pub mod Keeps
 pub mod Sends
 pub mod Slots
+pub mod FreeSlots
+pub mod Keeping
+pub mod Putting
+pub mod Calls
+pub mod CountBodies
+pub mod Leaving

@@ -1,6 +1,9 @@
 -- The slot of the row that has a process.
-use Rattle.std.specs.Prelude.{◌≡◌, ◌⊎◌, ℕ, ◌<◌, ◌≤◌, Bool, true, false, List, [], ◌∷◌, Option, Some, None, Contains, All, count_by, refl, length, position, slice_get}
+use Rattle.std.specs.Prelude.{◌≡◌, ◌⊎◌, ℕ, ◌<◌, ◌≤◌, ◌||◌, Bool, true, false, List, [], ◌∷◌, Option, Some, None, Contains, All, count_by, refl, length, position, slice_get}
 use Rattle.std.proofs.Common.{◌∙◌, ap, sym, subst, inl, inr, arith, ⊎_elim, get_or}
+use Rattle.std.specs.List.{list_any}
+use Rattle.std.proofs.lemmas.Bool.{cases_Bool, eqb-true, false≢true}
+use Rattle.std.proofs.lemmas.List.Elements.{All-head, All-tail}
 use Rattle.std.proofs.lemmas.Option.{slice_get_within}
 use Rattle.std.proofs.lemmas.Option.{get_or_from_slice_get, slice_get-get_or}
 use Rattle.std.proofs.lemmas.List.Quantifiers.{position-Some}
@@ -13,7 +16,7 @@ use Rattle.otp_rules.specs.declared.event.Kind.TheVariants as kind
 use Rattle.otp_rules.specs.State.{State}
 use Rattle.otp_rules.specs.Step.{step}
 use Rattle.otp_rules.specs.Slots.{AreSlotted}
-use Rattle.otp_sup.specs.Slots.{slot_at, slot_in, slot_of}
+use Rattle.otp_sup.specs.Slots.{AreBelow, slot_at, slot_in, slot_of}
 
 slot_in-below : (rows : List Row) → AreSlotted rows → (row : Option Row) (place : ℕ) → slice_get rows place ≡ row → slot_in row < 256
 slot_in-below rows own None place at = omega arith
@@ -32,6 +35,18 @@ pub slot_read : (rows : List Row) (n place : ℕ) (d : Row) → position (row_ha
 slot_read rows n place d is =
     let within : place < length rows = (position-Some (row_has (has_process n)) rows place d is).0 in
     sym (ap (λ (o : Option ℕ). slot_at rows o) is ∙ ap (λ (o : Option Row). slot_in o) (slice_get-get_or rows place d within))
+
+any_below : (rows : List Row) → All (λ (row : Row). row.slot < 256) rows → (slot : ℕ) → list_any (has_slot slot) rows ≡ true → slot < 256
+any_below [] all slot h = absurd (false≢true h)
+any_below (x ∷ xs) all slot h =
+    ⊎_elim
+    (λ (same : has_slot slot x ≡ true). subst (λ (n : ℕ). n < 256) (eqb-true x.slot slot same) (All-head (λ (row : Row). row.slot < 256) x xs all))
+    (λ (other : has_slot slot x ≡ false). any_below xs (All-tail (λ (row : Row). row.slot < 256) x xs all) slot (sym (ap (λ (b : Bool). b || list_any (has_slot slot) xs) other) ∙ h))
+    (cases_Bool (has_slot slot x))
+
+-- each row's slot is one of the 256
+pub are_below : (rows : List Row) → AreSlotted rows → AreBelow rows
+are_below rows own = any_below rows own.below
 
 -- a supervisor that was never opened has no rows
 pub unslotted : AreSlotted []

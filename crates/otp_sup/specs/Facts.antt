@@ -24,6 +24,9 @@ use Rattle.otp_signals.specs.declared.signal.Signal.{Signal}
 use Rattle.otp_signals.specs.declared.signal.Signal.TheVariants as signal
 use Rattle.otp_signals.specs.Signals.{word_of}
 use Rattle.otp_signals.specs.Lists.{EachBetween}
+use Rattle.otp_rules.specs.Waits.{starts_waiting}
+use Rattle.otp_sup.specs.declared.bodies.Kept.{Kept}
+use Rattle.otp_sup.specs.Bodies.{calls_waiting}
 
 -- the orders among effects
 abbrev pub orders_in : List Effect → List Effect
@@ -130,23 +133,27 @@ pub record KeepsOffice (o : OfficeView) : Type 0 where
   -- no two children have one process: two that have processes have two slots
   pub apart : AreApart (state_of o.core).rows
 
--- how many bodies are kept, and for how many more there is room
+-- whose each body is, and where, and for how many more there is room
 pub record BodiesView : Type 0 where
-  pub count : ℕ
+  pub kept : List Kept
   pub room : ℕ
 
 -- what contracts see of a table
 pub record TableView : Type 0 where
   pub office : OfficeView
   pub taker : TakerState Item
-  -- how many bodies it keeps
-  pub bodies : ℕ
+  -- whose each of its bodies is, and where
+  pub bodies : List Kept
 
 pub record IsTable (t : TableView) : Type 0 where
   pub taken : t.taker.taken ≡ items_of t.office.core.history
+  -- each start call that waits has its body with it, in their order
+  pub calls : calls_waiting t.bodies ≡ starts_waiting (state_of t.office.core).waiting
 
 -- what holds whenever the lock is free
 pub record KeepsRules (t : TableView) : Type 0 where
   pub office : KeepsOffice t.office
   -- the items taken from the inbox are those of the history, each once and in order
   pub taken : t.taker.taken ≡ items_of t.office.core.history
+  -- each start call that waits has its body with it, in their order
+  pub calls : calls_waiting t.bodies ≡ starts_waiting (state_of t.office.core).waiting

@@ -1,7 +1,8 @@
--- Which slot the process of a row has.
-use Rattle.std.specs.Prelude.{ℕ, List, Option, Some, None, position, slice_get}
+-- Which slots rows have.
+use Rattle.std.specs.Prelude.{◌≡◌, ℕ, ◌<◌, Bool, true, false, List, Option, Some, None, get_or, length, position, slice_get}
+use Rattle.std.specs.List.{list_any}
 use Rattle.otp_table.specs.declared.row.Row.{Row}
-use Rattle.otp_table.specs.Rows.{row_has, has_process}
+use Rattle.otp_table.specs.Rows.{row_has, has_process, has_slot}
 
 abbrev pub slot_in : Option Row → ℕ
 slot_in None = 0
@@ -14,3 +15,11 @@ slot_at rows (Some place) = slot_in (slice_get rows place)
 -- the slot of the row that has this process; 0 where none has
 abbrev pub slot_of : List Row → ℕ → ℕ
 slot_of rows number = slot_at rows (position (row_has (has_process number)) rows)
+
+-- each row's slot is one of the 256
+abbrev pub AreBelow : List Row → Type 0
+AreBelow rows = (slot : ℕ) → list_any (has_slot slot) rows ≡ true → slot < 256
+
+-- the slots that the rows have are marked
+abbrev pub AreTaken : List Row → List Bool → Type 0
+AreTaken rows taken = (slot : ℕ) → slot < 256 → get_or taken slot false ≡ list_any (has_slot slot) rows

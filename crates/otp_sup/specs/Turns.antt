@@ -16,6 +16,7 @@ use Rattle.otp_sup.specs.declared.turns.TurnAnswer.TheVariants as answer
 use Rattle.otp_sup.specs.declared.turns.TurnFault.{TurnFault}
 use Rattle.otp_sup.specs.declared.turns.TurnFault.TheVariants as fault
 use Rattle.otp_sup.specs.Letters.{carries_body, one_if}
+use Rattle.otp_sup.specs.Bodies.{bodies_after, bodies_in}
 use Rattle.otp_sup.specs.Facts.{OfficeView, TableView}
 
 abbrev pub is_told : Signal → Bool
@@ -88,8 +89,10 @@ pub record Took (reading : ℕ) (old new : TableView) : Type 0 where
   pub item : Item
   pub happened : Happened reading (kind.Took item) old.office new.office
   pub taken : new.taker ≡ record old.taker { taken = old.taker.taken ++ item ∷ [] }
+  -- each body is where the event puts it
+  pub bodies : new.bodies ≡ bodies_after (state_of old.office.core) (state_of new.office.core) (kind.Took item) old.bodies
   -- exactly the body that came with the item is more
-  pub bodies : new.bodies ≡ old.bodies + one_if (carries_body item)
+  pub count : bodies_in new.bodies ≡ bodies_in old.bodies + one_if (carries_body item)
 
 pub record FoundEmpty (old new : TableView) : Type 0 where
   pub office : Readied old.office new.office
@@ -115,7 +118,8 @@ pub record Did (reading : ℕ) (kind : Kind) (old new : TableView) (said : TurnA
   pub answer : said ≡ answer_of kind
   pub happened : Happened reading kind old.office new.office
   pub taker : new.taker ≡ old.taker
-  pub bodies : new.bodies ≡ old.bodies
+  pub bodies : new.bodies ≡ bodies_after (state_of old.office.core) (state_of new.office.core) kind old.bodies
+  pub count : bodies_in new.bodies ≡ bodies_in old.bodies
 
 pub record Refused (old new : TableView) : Type 0 where
   pub office : Readied old.office new.office

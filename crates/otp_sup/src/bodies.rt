@@ -1,11 +1,16 @@
 //! The bodies that a supervisor keeps: of children that have no process, and those that no child has.
-ghost use Rattle.std.specs.Prelude.{◌≡◌, ◌+◌, ◌<◌, length, is_some, IsSome, IsErr, IfErr, OnOk, OnErr, IfSome};
-ghost use Rattle.otp_sup.specs.Letters.{one_if};
+ghost use Rattle.std.specs.Prelude.{◌≡◌, ◌<◌, ◌++◌, ◌∷◌, [], true, get_or, is_some, false, length, position, remove, slice_set, IfErr, MatchOption, None, OnOk, OnErr, Some};
+ghost use Rattle.std.specs.List.{list_any};
+ghost use Rattle.otp_sup.specs.Bodies.{come_home, came_for, has_body, home_or_free, is_at_home, is_here, is_left_of, is_stray, is_waiting, move_first, opened, place_of_call, put_home, settled, without_first};
+ghost use Rattle.otp_sup.specs.Slots.{AreBelow};
+ghost use Rattle.otp_sup.specs.declared.bodies.Kept.{Kept};
+ghost use Rattle.otp_sup.specs.declared.bodies.Origin.TheVariants as origin;
+ghost use Rattle.otp_sup.specs.declared.bodies.Place.TheVariants as placed;
 
-use crate::office::{Home, Office};
-use crate::rows::new_slot;
-use otp_rules::Item;
-use otp_signals::WordsNaming;
+use crate::kept::{
+    find_away, find_home, find_left, find_stray, find_waiting, home_or_free, open_items,
+    place_of_call, settle_items,
+};
 use otp_table::Row;
 use std::alloc::{AllocError, Global};
 use std::marker::Model;
@@ -21,266 +26,235 @@ pub enum Origin {
     Nobody,
 }
 
-/// A body, whose it is, and the slot of the child that has it.
-#[derive(Drop)]
-struct Kept<B> {
-    origin: Origin,
-    slot: Option<usize>,
-    body: B,
+/// Where a body is.
+#[derive(Clone, Copy, Debug, PartialEq, Eq)]
+pub enum Place {
+    /// At home: its child is in this slot, and has no process.
+    Home(usize),
+    /// With the call that brought it, which waits.
+    Waiting,
+    /// No child has it.
+    Free,
+    /// With the process of the child in this slot.
+    Away(usize),
+    /// With a process whose child is gone. By the rules there is none such.
+    Gone,
 }
 
-/// The bodies that a supervisor keeps. Contracts see how many they are, and for how many more there is room.
+/// Whose a body is, and where.
+#[derive(Clone, Copy, Debug, PartialEq, Eq)]
+pub struct Kept {
+    pub origin: Origin,
+    pub place: Place,
+}
+
+/// The bodies of a supervisor's children. Contracts see whose each is, and where, and for how many more there is room.
 ///
-/// A child that has no process has its body here, in its slot. Where a child is gone, its body is its specification's
+/// A child that has no process has its body here, by its slot. Where a child is gone, its body is its specification's
 /// again, or its call's.
 #[derive(Drop)]
 pub struct Bodies<B: Drop> {
-    kept: Vec<Kept<B>>,
-    /// By slot: whose body the child in it has, also while it runs.
-    origins: [Option<Origin>; 256],
+    kept: Vec<Kept>,
+    /// The bodies in the same order, of those that are here.
+    bodies: Vec<Option<B>>,
 }
 
 impl<B: Drop> Model for Bodies<B> {
-    ghost use Rattle.std.specs.Prelude.{◌-◌, length, vec_capacity};
+    ghost use Rattle.std.specs.Prelude.{◌≡◌, ◌-◌, length, map, is_some, min, vec_capacity};
+    ghost use Rattle.otp_sup.specs.Bodies.{is_here};
     ghost use Rattle.otp_sup.specs.Facts.{BodiesView};
 
     ghost Value = { BodiesView };
 
-    ghost view = { λ b. record { count = length b.kept.items; room = vec_capacity b.kept - length b.kept.items } };
+    ghost view = { λ b. record { kept = b.kept.items; room = min (vec_capacity b.kept - length b.kept.items) (vec_capacity b.bodies - length b.bodies.items) } };
+
+    ghost invariant = { λ b. map is_some b.bodies.items ≡ map (λ k. is_here k.place) b.kept.items };
 }
 
 impl<B: Drop> Bodies<B> {
     /// No bodies.
     pub fn new(alloc: Global) -> Bodies<B>
-        ensures { result.count ≡ 0 }
+        ensures { result.kept ≡ [] }
     {
         Bodies {
             kept: Vec::new(alloc),
-            origins: [None; 256],
+            bodies: Vec::new(alloc),
         }
     }
 
     /// Hands in the body of the child specification at this place. Where memory is refused it comes back.
     pub fn hand_in(&mut self, place: usize, body: B) -> Result<(), B>
-        ensures ok { OnOk result (self.new.count ≡ self.old.count + 1) }
+        ensures ok { OnOk result (self.new.kept ≡ self.old.kept ++ record { origin = origin.Spec place; place = placed.Free } ∷ []) }
         ensures back { IfErr result (λ back. back ≡ body) }
-        ensures kept { OnErr result (self.new.count ≡ self.old.count) }
+        ensures kept { OnErr result (self.new.kept ≡ self.old.kept) }
     {
         if self.prepare().is_err() {
             return Err(body);
         }
-        self.put(Origin::Spec(place), None, body);
+        self.put(Origin::Spec(place), Place::Free, body);
         Ok(())
     }
 
     /// Takes the memory for one more.
     pub fn prepare(&mut self) -> Result<(), AllocError>
-        ensures count { self.new.count ≡ self.old.count }
+        ensures kept { self.new.kept ≡ self.old.kept }
         ensures room { OnOk result (0 < self.new.room) }
     {
-        self.kept.reserve(1)
+        self.kept.reserve(1)?;
+        self.bodies.reserve(1)
     }
 
-    fn put(&mut self, origin: Origin, slot: Option<usize>, body: B)
-        requires { 0 < self.old.room }
-        ensures { self.new.count ≡ self.old.count + 1 }
+    /// Takes in a body, which no child has.
+    fn put(&mut self, origin: Origin, place: Place, body: B)
+        requires room { 0 < self.old.room }
+        requires here { is_here place ≡ true }
+        ensures { self.new.kept ≡ self.old.kept ++ record { origin = origin; place = place } ∷ [] }
     {
-        self.kept.push_reserved(Kept { origin, slot, body });
+        self.kept.push_reserved(Kept { origin, place });
+        self.bodies.push_reserved(Some(body));
     }
 
-    fn take(&mut self, place: Option<usize>) -> Option<B>
-        requires { IfSome place (λ p. p < self.old.count) }
-        ensures count { self.new.count + one_if (is_some result) ≡ self.old.count }
-        ensures room { IsSome result → 0 < self.new.room }
+    /// Takes out the body at this place in the list.
+    fn take(&mut self, at: usize) -> Option<B>
+        requires { at < length self.old.kept }
+        ensures kept { self.new.kept ≡ remove self.old.kept at }
+        ensures body { (d : Kept) → is_some result ≡ is_here (get_or self.old.kept at d).place }
     {
-        match place {
-            Some(place) => Some(self.kept.remove(place).body),
-            None => None,
-        }
+        self.kept.remove(at);
+        self.bodies.remove(at)
     }
 
-    /// Takes out the body of the child in this slot, which is to be started.
-    pub fn leave(&mut self, slot: usize) -> Option<B>
-        ensures count { self.new.count + one_if (is_some result) ≡ self.old.count }
-        ensures room { IsSome result → 0 < self.new.room }
+    /// The body at this place in the list is there from now on; it stays here.
+    fn move_to(&mut self, at: usize, to: Place)
+        requires within { at < length self.old.kept }
+        requires here { (d : Kept) → is_here (get_or self.old.kept at d).place ≡ is_here to }
+        ensures { (d : Kept) → self.new.kept ≡ slice_set self.old.kept at (record (get_or self.old.kept at d) { place = to }) }
     {
-        let place = place_in_slot(&self.kept, slot);
-        self.take(place)
+        self.kept[at].place = to;
+    }
+
+    /// The body at this place in the list comes, and is there from now on.
+    fn take_in(&mut self, at: usize, to: Place, body: B)
+        requires within { at < length self.old.kept }
+        requires here { is_here to ≡ true }
+        ensures { (d : Kept) → self.new.kept ≡ slice_set self.old.kept at (record (get_or self.old.kept at d) { place = to }) }
+    {
+        self.kept[at].place = to;
+        self.bodies[at] = Some(body);
+    }
+
+    /// The body at this place in the list goes, and is away from now on.
+    fn take_out(&mut self, at: usize, to: Place) -> Option<B>
+        requires within { at < length self.old.kept }
+        requires away { is_here to ≡ false }
+        ensures kept { (d : Kept) → self.new.kept ≡ slice_set self.old.kept at (record (get_or self.old.kept at d) { place = to }) }
+        ensures body { (d : Kept) → is_some result ≡ is_here (get_or self.old.kept at d).place }
+    {
+        self.kept[at].place = to;
+        self.bodies[at].take()
+    }
+
+    /// Where the body of the child in this slot is in the list, if it is at home.
+    pub(crate) fn find_home(&self, slot: Option<usize>) -> Option<usize>
+        ensures { MatchOption slot (result ≡ None) (λ k. result ≡ position (is_at_home k) self.now.kept) }
+    {
+        find_home(&self.kept, slot?)
+    }
+
+    /// Takes out the body at this place in the list, which is at home in this slot: it goes with the child's process.
+    pub(crate) fn leave(&mut self, at: usize, slot: usize) -> Option<B>
+        requires { position (is_at_home slot) self.old.kept ≡ Some at }
+        ensures kept { self.new.kept ≡ move_first (is_at_home slot) (placed.Away slot) self.old.kept }
+        ensures body { is_some result ≡ true }
+        ensures back { put_home at slot self.new.kept ≡ self.old.kept }
+        ensures within { at < length self.new.kept }
+    {
+        self.take_out(at, Place::Away(slot))
+    }
+
+    /// Takes back a body that didn't leave after all, to this place in the list.
+    pub(crate) fn come_back(&mut self, at: usize, slot: usize, body: B)
+        requires { at < length self.old.kept }
+        ensures { self.new.kept ≡ put_home at slot self.old.kept }
+    {
+        self.take_in(at, Place::Home(slot), body);
     }
 
     /// Takes in the body of the child in this slot. Where its body is here already, this one is nobody's.
-    pub fn come_home(&mut self, slot: usize, body: B)
+    pub(crate) fn come_home(&mut self, slot: usize, body: B)
         requires { 0 < self.old.room }
-        ensures { self.new.count ≡ self.old.count + 1 }
+        ensures { self.new.kept ≡ come_home slot self.old.kept }
     {
-        let known = self.origins.get(slot).copied().flatten();
-        match known {
-            Some(origin) if place_in_slot(&self.kept, slot).is_none() => {
-                self.put(origin, Some(slot), body);
-            }
-            _ => self.put(Origin::Nobody, None, body),
+        match find_away(&self.kept, slot) {
+            Some(at) => self.take_in(at, Place::Home(slot), body),
+            None => self.put(Origin::Nobody, Place::Free, body),
         }
     }
 
-    /// The body of this call, once no child has it.
-    pub fn take_of_call(&mut self, call: u64) -> Option<B>
-        ensures count { self.new.count + one_if (is_some result) ≡ self.old.count }
+    /// An end note brought this body: home, to the child in this slot, or else it is nobody's.
+    pub(crate) fn come(&mut self, home: Option<usize>, body: B)
+        requires { 0 < self.old.room }
+        ensures { self.new.kept ≡ came_for home self.old.kept }
     {
-        let place = place_of(&self.kept, Origin::Call(call));
-        self.take(place)
+        match home {
+            Some(slot) => self.come_home(slot, body),
+            None => self.put(Origin::Nobody, Place::Free, body),
+        }
+    }
+
+    /// A start call brought this body: it waits with the call, or is at home in the slot of the call's child, if that has one.
+    pub(crate) fn bring(&mut self, call: u64, waits: bool, slot: Option<usize>, body: B)
+        requires { 0 < self.old.room }
+        ensures { self.new.kept ≡ self.old.kept ++ record { origin = origin.Call call; place = place_of_call waits slot } ∷ [] }
+    {
+        let place = place_of_call(waits, slot);
+        self.put(Origin::Call(call), place, body);
+    }
+
+    /// The first call whose body waits was taken up: its child is in this slot, if it has one.
+    pub(crate) fn take_up(&mut self, slot: Option<usize>)
+        ensures { self.new.kept ≡ move_first is_waiting (home_or_free slot) self.old.kept }
+    {
+        let Some(at) = find_waiting(&self.kept) else {
+            return;
+        };
+        self.move_to(at, home_or_free(slot));
+    }
+
+    /// Once these are the rows: bodies of children that are gone are whose they were before.
+    pub(crate) fn settle(&mut self, rows: &[Row], is_any_waiting: bool)
+        requires { AreBelow rows.now }
+        ensures { self.new.kept ≡ settled rows.now is_any_waiting self.old.kept }
+    {
+        settle_items(&mut self.kept, rows, is_any_waiting);
+    }
+
+    /// At an opening with so many children each has the body that was handed in for it.
+    pub(crate) fn open(&mut self, children: usize)
+        ensures { self.new.kept ≡ opened children self.old.kept }
+    {
+        open_items(&mut self.kept, children);
+    }
+
+    /// The body of this call, once no child has it and the call waits no more.
+    pub fn take_of_call(&mut self, call: u64) -> Option<B>
+        ensures kept { self.new.kept ≡ without_first (is_left_of call) self.old.kept }
+        ensures body { is_some result ≡ list_any (is_left_of call) self.old.kept }
+    {
+        let Some(at) = find_left(&self.kept, call) else {
+            return None;
+        };
+        self.take(at)
     }
 
     /// A body that is nobody's.
     pub fn take_of_nobody(&mut self) -> Option<B>
-        ensures count { self.new.count + one_if (is_some result) ≡ self.old.count }
+        ensures kept { self.new.kept ≡ without_first is_stray self.old.kept }
+        ensures body { is_some result ≡ list_any is_stray self.old.kept }
     {
-        let place = place_of(&self.kept, Origin::Nobody);
-        self.take(place)
-    }
-
-    /// An item was taken with this body. `home` is the child whose end it tells, as it was before.
-    pub(crate) fn receive<N: WordsNaming>(
-        &mut self,
-        office: &Office<N>,
-        item: &Item,
-        home: Option<Home>,
-        body: Option<B>,
-    )
-        requires { 0 < self.old.room }
-        ensures { self.new.count ≡ self.old.count + one_if (is_some body) }
-    {
-        let Some(body) = body else {
-            return;
+        let Some(at) = find_stray(&self.kept) else {
+            return None;
         };
-        match (item, home) {
-            (Item::Call(call, _), _) => self.put(Origin::Call(*call), None, body),
-            (_, Some(home)) if office.is_heeded(&home) => self.come_home(home.slot, body),
-            _ => self.put(Origin::Nobody, None, body),
-        }
+        self.take(at)
     }
-
-    /// After an event: bodies of children that are gone are whose they were before, and a new child has its own.
-    pub(crate) fn settle<N: WordsNaming>(&mut self, office: &Office<N>, is_opening: bool)
-        ensures { self.new ≡ self.old }
-    {
-        let rows = office.rows();
-        if is_opening {
-            self.release(&[false; 256]);
-            self.give_out(rows.len());
-            return;
-        }
-        self.release(&slots_of(rows));
-        let mut is_known = [false; 256];
-        mark_known(&self.origins, &mut is_known);
-        if let Some(slot) = new_slot(rows, &is_known) {
-            if let Some(call) = next_call(&self.kept, office) {
-                self.give_to(slot, call);
-            }
-        }
-    }
-
-    /// The bodies of slots that no row has go back to whose they are.
-    fn release(&mut self, is_there: &[bool; 256])
-        ensures { self.new ≡ self.old }
-    {
-        for slot in 0..256usize {
-            if !is_there[slot] {
-                self.origins[slot] = None;
-            }
-        }
-        for kept in self.kept.iter_mut() {
-            release_one(kept, is_there);
-        }
-    }
-
-    /// At an opening the child in slot k is that of the specification at place k.
-    fn give_out(&mut self, children: usize)
-        ensures { self.new ≡ self.old }
-    {
-        for slot in 0..children.min(256) {
-            self.origins[slot] = Some(Origin::Spec(slot));
-        }
-        for kept in self.kept.iter_mut() {
-            give_out_one(kept, children);
-        }
-    }
-
-    /// The new child in this slot has the body that its call brought.
-    fn give_to(&mut self, slot: usize, call: u64)
-        ensures { self.new ≡ self.old }
-    {
-        if slot < 256 {
-            self.origins[slot] = Some(Origin::Call(call));
-        }
-        for kept in self.kept.iter_mut() {
-            give_one(kept, slot, call);
-        }
-    }
-}
-
-fn release_one<B>(kept: &mut Kept<B>, is_there: &[bool; 256]) {
-    if let Some(slot) = kept.slot {
-        if slot >= 256 || !is_there[slot] {
-            kept.slot = None;
-        }
-    }
-}
-
-fn give_out_one<B>(kept: &mut Kept<B>, children: usize) {
-    if let Origin::Spec(place) = kept.origin {
-        if place < children {
-            kept.slot = Some(place);
-        }
-    }
-}
-
-fn give_one<B>(kept: &mut Kept<B>, slot: usize, call: u64) {
-    if kept.origin == Origin::Call(call) {
-        kept.slot = Some(slot);
-    }
-}
-
-/// Which slots have a row.
-fn slots_of(rows: &[Row]) -> [bool; 256] {
-    let mut is_there = [false; 256];
-    for row in rows {
-        if row.slot < 256 {
-            is_there[row.slot] = true;
-        }
-    }
-    is_there
-}
-
-fn mark_known(origins: &[Option<Origin>; 256], is_known: &mut [bool; 256]) {
-    for slot in 0..256usize {
-        is_known[slot] = origins[slot].is_some();
-    }
-}
-
-/// The place of the body that the child in this slot has.
-fn place_in_slot<B: Drop>(kept: &[Kept<B>], slot: usize) -> Option<usize>
-    ensures { IfSome result (λ place. place < length kept.now) }
-{
-    kept.iter().position(|one| one.slot == Some(slot))
-}
-
-/// The place of the first body of this origin that no child has.
-fn place_of<B: Drop>(kept: &[Kept<B>], origin: Origin) -> Option<usize>
-    ensures { IfSome result (λ place. place < length kept.now) }
-{
-    kept.iter()
-        .position(|one| one.slot.is_none() && one.origin == origin)
-}
-
-/// The first call that brought a body, has no child yet and is still to be answered: calls are taken up in the order
-/// in which they came.
-fn next_call<B: Drop, N: WordsNaming>(kept: &[Kept<B>], office: &Office<N>) -> Option<u64> {
-    for one in kept {
-        if let (Origin::Call(call), None) = (one.origin, one.slot) {
-            if !office.is_answered(call) {
-                return Some(call);
-            }
-        }
-    }
-    None
 }

@@ -151,7 +151,7 @@ fn fault<B: Drop>(cause: SubmitCause, body: Option<B>) -> SubmitFault<B>
 }
 
 /// Whether the call starts a new child, and so brings its body.
-fn is_start_call(call: &Call) -> bool
+pub(crate) fn is_start_call(call: &Call) -> bool
     ensures { result ≡ is_start_call call.now }
 {
     matches!(call, Call::StartChild(_) | Call::StartDynamic)

@@ -11,7 +11,9 @@
 
 pub mod bodies;
 pub mod client;
+mod kept;
 pub mod letter;
+mod moves;
 pub mod office;
 pub mod orders;
 pub mod port;
@@ -22,7 +24,7 @@ pub mod sup;
 pub mod table;
 pub mod turns;
 
-pub use bodies::Bodies;
+pub use bodies::{Bodies, Kept, Origin, Place};
 pub use client::{Client, SplitFault, SubmitCause, SubmitFault};
 pub use letter::Letter;
 pub use office::Office;

@@ -1,25 +1,28 @@
 //! A core with the seat that draws its numbers, and its orders on their way.
-ghost use Rattle.std.specs.Prelude.{◌≡◌, ℕ, ◌+◌, ◌<◌, ◌≤◌, ◌^◌, ◌↔◌, [], ◌∷◌, ◌++◌, true, length, All, Contains, is_some, IsTrue, IfSome, IfOk, IfErr, OnOk, MatchOption, Some, None};
+ghost use Rattle.std.specs.Prelude.{◌≡◌, ℕ, ◌+◌, ◌<◌, ◌≤◌, ◌^◌, ◌↔◌, [], ◌∷◌, ◌++◌, true, length, All, Contains, is_some, IsTrue, IfSome, IfOk, IfErr, OnOk, MatchOption, Some, None, option_map};
 ghost use Rattle.otp_core.specs.Opened.{IsOpenFault};
 ghost use Rattle.otp_core.specs.View.{state_of};
-ghost use Rattle.otp_rules.specs.Opening.{open_fault};
+ghost use Rattle.otp_spec.specs.Supervisor.{supervisor_fault};
 ghost use Rattle.otp_rules.specs.Needs.{needs_number};
 ghost use Rattle.otp_rules.specs.State.{own_number, is_over};
 ghost use Rattle.otp_rules.specs.Run.{reply_of};
 ghost use Rattle.otp_signals.specs.Lists.{EachBetween};
 ghost use Rattle.otp_sup.specs.Facts.{item_of, new_office, KeepsOffice};
+ghost use Rattle.otp_sup.specs.Bodies.{IsPlan, given_in, home_of, is_any_waiting, is_start_item, is_start_waiting, is_taken_up, is_waited_for};
+ghost use Rattle.otp_sup.specs.Slots.{AreBelow};
 ghost use Rattle.otp_sup.specs.declared.turns.TurnFault.TheVariants as fault;
 ghost use Rattle.otp_sup.specs.Turns.{is_told, may_open, due_kind, early_answer, Happened, Readied, IsRefusal};
 
+use crate::client::is_start_call;
 use crate::orders::first_order;
-use crate::rows::{child_of, state_in};
+use crate::rows::{free_slot, has_slot, slot_heeding};
 use crate::turns::{TurnAnswer, TurnFault};
 use otp_core::{Core, OpenFault};
 use otp_reason::Note;
-use otp_rules::{Event, Item, Kind, Phase, Reply, laws};
+use otp_rules::{Event, Item, Kind, Phase, Reply, Waiting, laws};
 use otp_signals::{Owner, Signal, Words, WordsNaming};
 use otp_spec::{ChildSpec, SupFlags};
-use otp_table::{Row, RowState};
+use otp_table::Row;
 use otp_tally::Tally;
 use std::alloc::Global;
 use std::marker::{Model, PhantomData};
@@ -52,13 +55,17 @@ impl<N: WordsNaming> Model for Office<N> {
     ghost invariant = { λ o. IsOffice (record { core = o.core; owner = o.owner; outbox = orders_in (drop o.next o.core.effects); sent = o.sent.count; first_slot = o.first_slot }) };
 }
 
-/// The child whose process's end a note tells, as it was before the note was taken.
+/// What an event is about to do with bodies, as it was before the event.
 #[derive(Clone, Copy, Debug, PartialEq, Eq)]
-pub(crate) struct Home {
-    pub slot: usize,
-    pub state: RowState,
-    /// The note waits until no work is open.
+pub(crate) struct Plan {
+    /// The slot of the child whose body comes home.
+    pub home: Option<usize>,
+    /// The slot that a new child gets.
+    pub free: usize,
+    /// A start call waits.
     pub waits: bool,
+    /// The first start call that waits is taken up.
+    pub is_taken_up: bool,
 }
 
 /// The number of an event, drawn where the event starts a child.
@@ -143,9 +150,9 @@ impl<N: WordsNaming> Office<N> {
         requires posts { owner.posts ≡ [] }
         requires slots { EachBetween first_slot (first_slot + 256) (Contains owner.slots) }
         requires fits { first_slot + 256 < 2 ^ 64 }
-        ensures ok { OnOk result (open_fault flags specs.now ≡ None) }
+        ensures ok { OnOk result (supervisor_fault flags specs.now ≡ None) }
         ensures new { IfOk result (λ office. office ≡ new_office flags specs.now owner first_slot) }
-        ensures fault { IfErr result (λ why. IsOpenFault why (open_fault flags specs.now)) }
+        ensures fault { IfErr result (λ why. IsOpenFault why (supervisor_fault flags specs.now)) }
     {
         let core = Core::open(alloc, flags, specs)?;
         Ok(Office {
@@ -256,14 +263,75 @@ impl<N: WordsNaming> Office<N> {
         let _ = self.core.restarts();
     }
 
-    /// The supervisor's children, in start order.
-    pub(crate) fn rows(&self) -> &[Row] {
+    /// The supervisor's children, in start order. Each has a slot of its own, of the first 256.
+    pub(crate) fn rows(&self) -> &[Row]
+        ensures value { result.now ≡ (state_of self.now.core).rows }
+        ensures limit { length result.now ≤ 256 }
+        ensures below { AreBelow result.now }
+    {
+        laws::slots_are_owned();
+        let _ = self.core.history();
         self.core.rows()
     }
 
-    /// Whether the call with this number was answered.
-    pub(crate) fn is_answered(&self, call: u64) -> bool {
-        self.core.reply(call).is_some()
+    /// Whether something waits until no work is open.
+    pub(crate) fn has_waiting(&self) -> bool
+        ensures { result ≡ is_any_waiting (state_of self.now.core) }
+    {
+        self.core.has_waiting()
+    }
+
+    /// Whether a call that is taken now waits.
+    fn is_waited_for(&self) -> bool
+        ensures { result ≡ is_waited_for (state_of self.now.core) }
+    {
+        self.core.has_open_work() && !self.core.has_ended()
+    }
+
+    /// Whether a start call is the first that waits, and is taken up when the supervisor resumes.
+    fn is_taken_up(&self) -> bool
+        ensures { result ≡ is_taken_up (state_of self.now.core) }
+    {
+        !self.core.has_open_work()
+            && !self.core.has_ended()
+            && is_start_waiting(self.core.first_waiting())
+    }
+
+    /// The slot of the child whose body an end note brings home.
+    fn home_of(&self, note: &Note) -> Option<usize>
+        ensures { result ≡ home_of (state_of self.now.core) note.now }
+    {
+        if self.core.has_ended() {
+            return None;
+        }
+        slot_heeding(note, self.core.rows())
+    }
+
+    /// What an event is about to do with bodies, as far as it can be known before it.
+    pub(crate) fn plan(&self, kind: &Kind) -> Plan
+        ensures { IsPlan (state_of self.now.core) kind.now result }
+    {
+        let home = match kind {
+            Kind::Took(Item::Note(note)) => self.home_of(note),
+            _ => None,
+        };
+        Plan {
+            home,
+            free: free_slot(self.rows()),
+            waits: self.is_waited_for(),
+            is_taken_up: self.is_taken_up(),
+        }
+    }
+
+    /// The slot that a call's child was given, if a row has it now.
+    pub(crate) fn slot_given(&self, free: usize) -> Option<usize>
+        ensures { result ≡ given_in free (state_of self.now.core).rows }
+    {
+        if has_slot(self.core.rows(), free) {
+            Some(free)
+        } else {
+            None
+        }
     }
 
     /// The kept answer of the call with this number.
@@ -272,20 +340,22 @@ impl<N: WordsNaming> Office<N> {
     {
         self.core.reply(call)
     }
+}
 
-    /// Where the body that an item brings may go: of an end note, the child whose end it tells.
-    pub(crate) fn home_of(&self, item: &Item) -> Option<Home> {
-        let (number, waits) = match item {
-            Item::Note(Note::Exit(number, _)) => (*number, self.core.has_open_work()),
-            Item::Note(Note::Ignored(number) | Note::Failed(number, _)) => (*number, false),
-            _ => return None,
-        };
-        let (slot, state) = child_of(self.rows(), number)?;
-        Some(Home { slot, state, waits })
+fn is_start_waiting(first: Option<&Waiting>) -> bool
+    ensures { result ≡ is_start_waiting (option_map (λ w. w.now) first.entry) }
+{
+    match first {
+        Some(Waiting::Item(item)) => is_start_item(item),
+        _ => false,
     }
+}
 
-    /// Whether the end that the child's process told was heeded: its row has changed, or the note waits.
-    pub(crate) fn is_heeded(&self, home: &Home) -> bool {
-        home.waits || state_in(self.rows(), home.slot) != Some(home.state)
+fn is_start_item(item: &Item) -> bool
+    ensures { result ≡ is_start_item item.now }
+{
+    match item {
+        Item::Call(_, call) => is_start_call(call),
+        Item::Note(_) => false,
     }
 }

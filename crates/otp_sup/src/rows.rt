@@ -1,8 +1,11 @@
-//! Which child has a process.
-ghost use Rattle.std.specs.Prelude.{◌≡◌, position};
-ghost use Rattle.otp_table.specs.Rows.{row_has, has_process};
-ghost use Rattle.otp_sup.specs.Slots.{slot_of};
+//! Which child has a process, and which slots the children have.
+ghost use Rattle.std.specs.Prelude.{◌≡◌, ◌≤◌, length, position};
+ghost use Rattle.std.specs.List.{list_any};
+ghost use Rattle.otp_table.specs.Rows.{free_slot, has_process, has_slot, row_has};
+ghost use Rattle.otp_sup.specs.Bodies.{is_heeded, is_starting_as, slot_heeding};
+ghost use Rattle.otp_sup.specs.Slots.{AreBelow, AreTaken, slot_of};
 
+use otp_reason::Note;
 use otp_table::{Row, RowState};
 
 /// The place of the first row that has this process.
@@ -22,30 +25,78 @@ pub(crate) fn slot_of(rows: &[Row], number: u64) -> usize
     }
 }
 
-/// The slot and the state of the row that has this process.
-pub(crate) fn child_of(rows: &[Row], number: u64) -> Option<(usize, RowState)> {
+/// Which slots a row has.
+pub(crate) fn taken_slots(rows: &[Row]) -> [bool; 256]
+    ensures len { length result ≡ 256 }
+    ensures taken { AreTaken rows.now result }
+{
+    let mut taken = [false; 256];
     for row in rows {
-        if row.state.has_process(number) {
-            return Some((row.slot, row.state));
+        if row.slot < 256 {
+            taken[row.slot] = true;
         }
     }
-    None
+    taken
 }
 
-/// The state of the row in this slot.
-pub(crate) fn state_in(rows: &[Row], slot: usize) -> Option<RowState> {
-    for row in rows {
-        if row.slot == slot {
-            return Some(row.state);
+/// Whether a row has this slot.
+pub(crate) fn is_taken(rows: &[Row], taken: &[bool; 256], slot: usize) -> bool
+    requires taken { AreTaken rows.now taken.now }
+    requires below { AreBelow rows.now }
+    ensures { result ≡ list_any (has_slot slot) rows.now }
+{
+    slot < 256 && taken[slot]
+}
+
+/// The least slot that no row has.
+#[tactic(auto, unfolding(otp_table::specs::Rows::free_slot))]
+pub(crate) fn free_slot(rows: &[Row]) -> usize
+    requires { length rows.now ≤ 256 }
+    ensures { result ≡ free_slot rows.now }
+{
+    let taken = taken_slots(rows);
+    let mut slot = 0;
+    while slot < rows.len() {
+        if !taken[slot] {
+            return slot;
         }
+        slot += 1;
     }
-    None
+    slot
 }
 
-/// A slot of a row that is none of these.
-pub(crate) fn new_slot(rows: &[Row], is_known: &[bool; 256]) -> Option<usize> {
+/// Whether a row has this slot.
+pub(crate) fn has_slot(rows: &[Row], slot: usize) -> bool
+    ensures { result ≡ list_any (has_slot slot) rows.now }
+{
+    rows.iter().any(|row| row.slot == slot)
+}
+
+fn is_heeded(note: &Note, row: &Row) -> bool
+    ensures { result ≡ is_heeded note.now row.now }
+{
+    match note {
+        Note::Up(_) => false,
+        Note::Ignored(number) | Note::Failed(number, _) => is_starting_as(&row.state, *number),
+        Note::Exit(number, _) => row.state.has_process(*number),
+    }
+}
+
+fn is_starting_as(state: &RowState, number: u64) -> bool
+    ensures { result ≡ is_starting_as number state.now }
+{
+    match state {
+        RowState::Starting(started, _) => *started == number,
+        _ => false,
+    }
+}
+
+/// The slot of the child whose body an end note brings home, if it changes its row or waits.
+pub(crate) fn slot_heeding(note: &Note, rows: &[Row]) -> Option<usize>
+    ensures { result ≡ slot_heeding note.now rows.now }
+{
     for row in rows {
-        if row.slot < 256 && !is_known[row.slot] {
+        if is_heeded(note, row) {
             return Some(row.slot);
         }
     }

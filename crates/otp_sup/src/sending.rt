@@ -1,11 +1,12 @@
 //! How an office sends its orders.
-ghost use Rattle.std.specs.Prelude.{◌≡◌, ◌+◌, ◌<◌, ◌^◌, [], true, drop, is_some, IsSome, MatchOption};
+ghost use Rattle.std.specs.Prelude.{◌≡◌, ◌+◌, ◌<◌, ◌^◌, [], true, drop, is_some, IsSome, MatchOption, None};
 ghost use Rattle.otp_core.specs.View.{state_of};
 ghost use Rattle.otp_rules.specs.State.{own_number};
 ghost use Rattle.otp_sup.specs.Flushes.{IsFirst, Posts, Posted, Flushes};
 ghost use Rattle.otp_sup.specs.Ports.{taken_by, carried};
 ghost use Rattle.otp_sup.specs.Letters.{one_if};
 ghost use Rattle.otp_sup.specs.declared.port.Flushed.TheVariants as flushed;
+ghost use Rattle.otp_sup.specs.Bodies.{starting_slot};
 ghost use Rattle.otp_sup.specs.Slots.{slot_of};
 ghost use Rattle.otp_sup.specs.Turns.{has_some};
 
@@ -72,7 +73,9 @@ impl<N: WordsNaming> Office<N> {
     }
 
     /// The row's slot, counted from 0, whose child is to be started by the first order.
-    pub(crate) fn starting_slot(&self) -> Option<usize> {
+    pub(crate) fn starting_slot(&self) -> Option<usize>
+        ensures { result ≡ starting_slot self.now.outbox (state_of self.now.core).rows }
+    {
         match self.first() {
             Some(Sending::Start(number)) => Some(self.row_slot(number)),
             _ => None,
@@ -91,6 +94,7 @@ impl<N: WordsNaming> Office<N> {
         ensures bodies { one_if (is_some result.1) + carried (P.processes port.new) ≡ one_if (is_some body) + carried (P.processes port.old) }
         ensures whose { IsSome result.1 → IsSome body }
         ensures back { result.0 ≡ flushed.Refused → result.1 ≡ body }
+        ensures gone { result.0 ≡ flushed.Sent → IsSome (starting_slot self.old.outbox (state_of self.old.core).rows) → result.1 ≡ None }
     {
         let Some(how) = self.first() else {
             return (Flushed::Empty, body);

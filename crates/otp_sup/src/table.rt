@@ -1,15 +1,17 @@
 //! What lies under a supervisor's lock.
-ghost use Rattle.std.specs.Prelude.{◌≡◌, ◌+◌, ◌<◌, ◌≤◌, ◌^◌, [], is_some, IsSome, MatchOption, None, Some};
+ghost use Rattle.std.specs.Prelude.{◌≡◌, ◌+◌, ◌≤◌, ◌^◌, [], false, is_some, MatchOption, None, Some};
+ghost use Rattle.std.specs.List.{list_any};
 ghost use Rattle.otp_core.specs.View.{state_of};
 ghost use Rattle.otp_rules.specs.Run.{reply_of};
+ghost use Rattle.otp_sup.specs.Bodies.{bodies_in, bodies_sent, is_left_of, is_stray, settled, starting_slot, without_first};
 ghost use Rattle.otp_sup.specs.Facts.{KeepsRules};
 ghost use Rattle.otp_sup.specs.Flushes.{Flushes};
-ghost use Rattle.otp_sup.specs.Letters.{one_if};
 ghost use Rattle.otp_sup.specs.Ports.{taken_by, carried};
 ghost use Rattle.otp_sup.specs.Turns.{Turned};
 
 use crate::bodies::Bodies;
 use crate::letter::Letter;
+use crate::moves::{come_back, happen, leave};
 use crate::office::Office;
 use crate::port::{Flushed, Port};
 use crate::turns::{TurnAnswer, TurnFault, answer_of};
@@ -34,18 +36,21 @@ impl<N: WordsNaming + InboxNaming, B: Drop> Model for Table<N, B> {
 
     ghost Value = { TableView };
 
-    ghost view = { λ t. record { office = t.office; taker = t.taker; bodies = t.bodies.count } };
+    ghost view = { λ t. record { office = t.office; taker = t.taker; bodies = t.bodies.kept } };
 
-    ghost invariant = { λ t. IsTable (record { office = t.office; taker = t.taker; bodies = t.bodies.count }) };
+    ghost invariant = { λ t. IsTable (record { office = t.office; taker = t.taker; bodies = t.bodies.kept }) };
 }
 
 impl<N: WordsNaming + InboxNaming, B: Drop> Table<N, B> {
     /// The table of a supervisor that was never opened, with the bodies of its child specifications.
-    pub fn new(office: Office<N>, taker: Taker<N, Item, Letter<B>>, bodies: Bodies<B>) -> Self
+    pub fn new(office: Office<N>, taker: Taker<N, Item, Letter<B>>, mut bodies: Bodies<B>) -> Self
         requires history { office.core.history ≡ [] }
         requires taken { taker.taken ≡ [] }
-        ensures { result ≡ record { office = office; taker = taker; bodies = bodies.count } }
+        ensures { result ≡ record { office = office; taker = taker; bodies = settled [] false bodies.kept } }
     {
+        office.keeps_rules();
+        // No child has any of them yet, and no call waits.
+        bodies.settle(&[], false);
         Table {
             office,
             taker,
@@ -58,8 +63,8 @@ impl<N: WordsNaming + InboxNaming, B: Drop> Table<N, B> {
     /// rules give for the history that it stores; so are the orders that were sent, followed by those still to be sent.
     /// That history holds each item taken from its inbox once, in order. Its process numbers are those that its own
     /// seat drew. Each signal that it posted for one of them is that of an order that was sent, or of the one to be sent
-    /// next. No period has more restarts than the intensity, unless the supervisor is ending. And no two of its children
-    /// have one slot, or one process.
+    /// next. No period has more restarts than the intensity, unless the supervisor is ending. No two of its children have
+    /// one slot, or one process. And each start call that waits has its body with it, in their order.
     pub fn keeps_rules(&self)
         ensures { KeepsRules self.now }
     {
@@ -90,7 +95,8 @@ impl<N: WordsNaming + InboxNaming, B: Drop> Table<N, B> {
     /// 11. [`TurnAnswer::Ended`] if it has ended, else [`TurnAnswer::Quiet`].
     ///
     /// Cases 6 to 10 are one event each; in all others nothing changes, but that in case 11 one look more has found the
-    /// inbox empty. A turn keeps one body more exactly where the item that it took brought one.
+    /// inbox empty. A turn keeps one body more exactly where the item that it took brought one, and each body is then where
+    /// the definitions put it.
     pub fn turn<R: Wait>(
         &mut self,
         rt: &R,
@@ -112,9 +118,14 @@ impl<N: WordsNaming + InboxNaming, B: Drop> Table<N, B> {
         }
         self.office.prepare()?;
         if let Some(kind) = self.office.due_kind(number, reading, told) {
-            self.office.happen(words, reading, kind);
-            self.bodies
-                .settle(&self.office, matches!(kind, Kind::Opened(_)));
+            happen(
+                &mut self.office,
+                &mut self.bodies,
+                words,
+                reading,
+                kind,
+                None,
+            );
             return Ok(answer_of(kind));
         }
         let Some(letter) = inbox.take(rt, &mut self.taker) else {
@@ -125,10 +136,15 @@ impl<N: WordsNaming + InboxNaming, B: Drop> Table<N, B> {
             });
         };
         let Letter { item, body } = letter;
-        let home = self.office.home_of(&item);
-        self.office.happen(words, reading, Kind::Took(item));
-        self.bodies.receive(&self.office, &item, home, body);
-        self.bodies.settle(&self.office, false);
+        let kind = Kind::Took(item);
+        happen(
+            &mut self.office,
+            &mut self.bodies,
+            words,
+            reading,
+            kind,
+            body,
+        );
         Ok(TurnAnswer::Took)
     }
 
@@ -138,13 +154,16 @@ impl<N: WordsNaming + InboxNaming, B: Drop> Table<N, B> {
     pub fn flush_one<P: Port<B>>(&mut self, words: &Words<N>, port: &mut P) -> Flushed
         ensures flushed { Flushes result self.old.office self.new.office (taken_by (P.processes port.old) (P.notes port.old)) (taken_by (P.processes port.new) (P.notes port.new)) (P.refusals port.old) (P.refusals port.new) }
         ensures taker { self.new.taker ≡ self.old.taker }
-        // A body that the table doesn't keep any more went with a process that the port took.
-        ensures bodies { self.new.bodies + carried (P.processes port.new) ≡ self.old.bodies + carried (P.processes port.old) }
+        // The body that the table doesn't keep any more is that of the child whose process was put,
+        ensures bodies { self.new.bodies ≡ bodies_sent result (starting_slot self.old.office.outbox (state_of self.old.office.core).rows) self.old.bodies }
+        // and it went with the process that the port took.
+        ensures count { bodies_in self.new.bodies + carried (P.processes port.new) ≡ bodies_in self.old.bodies + carried (P.processes port.old) }
     {
         let slot = self.office.starting_slot();
-        let body = leave(&mut self.bodies, slot);
+        let at = self.bodies.find_home(slot);
+        let body = leave(&mut self.bodies, slot, at);
         let (flushed, back) = self.office.flush_one(words, body, port);
-        come_back(&mut self.bodies, slot, back);
+        come_back(&mut self.bodies, slot, at, back);
         flushed
     }
 
@@ -159,12 +178,10 @@ impl<N: WordsNaming + InboxNaming, B: Drop> Table<N, B> {
     /// refusal, or when the child is gone.
     pub fn take_box(&mut self, call: u64) -> Option<B>
         ensures table { self.new ≡ record self.old { bodies = self.new.bodies } }
-        ensures bodies { self.new.bodies + one_if (is_some result) ≡ self.old.bodies }
+        ensures bodies { self.new.bodies ≡ without_first (is_left_of call) self.old.bodies }
+        ensures found { is_some result ≡ list_any (is_left_of call) self.old.bodies }
     {
         let _ = &self.taker;
-        if !self.office.is_answered(call) {
-            return None;
-        }
         self.bodies.take_of_call(call)
     }
 
@@ -172,27 +189,10 @@ impl<N: WordsNaming + InboxNaming, B: Drop> Table<N, B> {
     /// that had its body already.
     pub fn take_stray(&mut self) -> Option<B>
         ensures table { self.new ≡ record self.old { bodies = self.new.bodies } }
-        ensures bodies { self.new.bodies + one_if (is_some result) ≡ self.old.bodies }
+        ensures bodies { self.new.bodies ≡ without_first is_stray self.old.bodies }
+        ensures found { is_some result ≡ list_any is_stray self.old.bodies }
     {
         let _ = &self.taker;
         self.bodies.take_of_nobody()
-    }
-}
-
-/// The body of the child in this slot, to go with its process.
-fn leave<B: Drop>(bodies: &mut Bodies<B>, slot: Option<usize>) -> Option<B>
-    ensures count { bodies.new.count + one_if (is_some result) ≡ bodies.old.count }
-    ensures room { IsSome result → 0 < bodies.new.room }
-{
-    bodies.leave(slot?)
-}
-
-/// What the port didn't take goes back.
-fn come_back<B: Drop>(bodies: &mut Bodies<B>, slot: Option<usize>, back: Option<B>)
-    requires { IsSome back → 0 < bodies.old.room }
-    ensures { bodies.new.count ≡ bodies.old.count + one_if (is_some back) }
-{
-    if let Some(body) = back {
-        bodies.come_home(slot.unwrap_or(0), body);
     }
 }

@@ -6,9 +6,13 @@
 #![tactic(auto)]
 
 #[cfg(test)]
+mod checking;
+#[cfg(test)]
 mod file;
 #[cfg(test)]
 mod fixtures;
+#[cfg(test)]
+mod limits;
 #[cfg(test)]
 mod reason;
 #[cfg(test)]

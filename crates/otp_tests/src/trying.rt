@@ -1,15 +1,16 @@
 //! What no clause says: the words of scripts and of what is told, and that runs succeed.
 
-use otp_core::Core;
+use otp_file::read_tree;
 use otp_reason::{Name, Reason, Text};
 use otp_sim::Counted;
-use otp_spec::{ChildSpec, SupFlags};
 use otp_try::{
     Action, Child, NextStart, ScriptFault, Taken, TryEnd, When, Writer, read_step, try_tree,
 };
 use std::alloc::Global;
 use std::process::Abort;
 use std::test::Fail;
+
+const TREE: &str = "intensity = 3\nperiod = 10\n[[child]]\nid = \"db\"\nstart = \"db\"\n";
 
 /// Plays a script on a child `db`, with intensity 3 in 10 s and 5 s to shut down; compares what is told, and how it ends.
 fn plays(
@@ -20,26 +21,23 @@ fn plays(
     told: &str,
     end: TryEnd,
 ) -> Result<(), Fail> {
-    let db = Name::new(b"db").ok_or("a name")?;
-    let flags = SupFlags {
-        intensity: 3,
-        period: 10,
-        ..SupFlags::default()
-    };
-    let specs = [ChildSpec::new(db, db)];
-    let Ok(_core) = Core::open(alloc, flags, specs.as_slice()) else {
-        return Err(Fail::from("a supervisor that may be opened"));
-    };
+    plays_on(rt, alloc, TREE, writer, script, told, end)
+}
+
+/// Plays a script on a tree; compares what is told, and how it ends.
+fn plays_on(
+    rt: &impl Abort,
+    alloc: Global,
+    tree: &str,
+    writer: Writer,
+    script: &str,
+    told: &str,
+    end: TryEnd,
+) -> Result<(), Fail> {
+    let tree = read_tree(alloc, tree.as_bytes()).map_err(|_| "a tree")?;
     let mut input = Counted::new(script.as_bytes());
     let mut output = Counted::new(Vec::new(alloc));
-    let ended = try_tree(
-        alloc,
-        &flags,
-        specs.as_slice(),
-        writer,
-        &mut input,
-        &mut output,
-    );
+    let ended = try_tree(alloc, tree, writer, &mut input, &mut output);
     let text = output.into_device();
     assert_eq!(rt; text.as_slice(), told.as_bytes());
     assert_eq!(rt; ended, end);
@@ -135,6 +133,45 @@ fn missed_lines(rt: HostRuntime) -> Result<(), Fail> {
         "crash bd\n",
         "0.000 s  start db #1\n0.000 s  ready\n0.000 s  1 up, 0/3 restarts in 10 s> \
 ignored: there is no such child; which lists the children\n0.000 s  1 up, 0/3 restarts in 10 s> 0.000 s  1 up, 0/3 restarts in 10 s\n",
+        TryEnd::Done,
+    )
+}
+
+const NESTED: &str = "period = 10\n[[child]]\nid = \"sub\"\nstart = \"s\"\n[child.tree]\n\
+[[child.tree.child]]\nid = \"x\"\nstart = \"x\"\n";
+
+/// A supervisor below the root: its process ends, it is called, and it gives up, as its parent does then.
+#[test]
+fn nested_tree(rt: HostRuntime) -> Result<(), Fail> {
+    plays_on(
+        &rt,
+        rt.alloc(),
+        NESTED,
+        Writer::Script,
+        "crash sub\nsub/ which\n+1s hang #4\nfail sub/x\ncrash sub/x\n",
+        "0.000 s  start sub #1\n0.000 s  start sub/x #2\n0.000 s  sub/ ready\n0.000 s  ready\n\
+line 1: crash sub\n0.000 s  start sub #3\n0.000 s  start sub/x #4\n0.000 s  sub/ ready\n\
+line 2: sub/ which\n0.000 s  sub/ reply 1 which x,#4,worker,x\nline 3: +1s hang #4\nline 4: fail sub/x\n\
+line 5: crash sub/x\n1.000 s  start sub/x #5\n\
+1.000 s  sub/ end shutdown: more than 1 restarts within 5 s: at 1.000 s, 1.000 s\n\
+1.000 s  end shutdown: more than 1 restarts within 10 s: at 0.000 s, 1.000 s\n1.000 s  the supervisor has ended\n",
+        TryEnd::Done,
+    )
+}
+
+/// A supervisor below the root awaits the end of a child, so its parent awaits its own.
+#[test]
+fn nested_stop(rt: HostRuntime) -> Result<(), Fail> {
+    plays_on(
+        &rt,
+        rt.alloc(),
+        NESTED,
+        Writer::Script,
+        "hang sub/x\nstop\n+1s\n",
+        "0.000 s  start sub #1\n0.000 s  start sub/x #2\n0.000 s  sub/ ready\n0.000 s  ready\n\
+line 1: hang sub/x\nline 2: stop\n0.000 s  ask sub #1\n0.000 s  ask sub/x #2\nline 3: +1s\n\
+1.000 s  1 stopping, 0/1 restarts in 10 s\n1.000 s  sub/ 1 stopping, 0/1 restarts in 5 s\n\
+awaits the end of sub #1\nawaits the end of sub/x #2 until 5.000 s\n",
         TryEnd::Done,
     )
 }

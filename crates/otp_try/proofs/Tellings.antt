@@ -1,81 +1,69 @@
--- What is told of events that come one after another.
-use Rattle.std.specs.Prelude.{◌≡◌, ℕ, ◌+◌, ◌≤◌, List, [], ◌∷◌, ◌++◌, Option, Some, None, MatchOption, refl, length, unwrap_or}
-use Rattle.std.proofs.Common.{◌∙◌, ap, sym, append_assoc, append-nil, arith, length-append}
-use Rattle.otp_machine.specs.declared.numbers.Counter.{Counter}
-use Rattle.otp_rules.specs.Needs.{last_from, last_number}
+-- What is told of moves that are made one after another.
+use Rattle.std.specs.Prelude.{◌≡◌, ℕ, ◌<◌, List, [], ◌∷◌, ◌++◌, Some, None, refl, length, slice_index_or, slice_set}
+use Rattle.std.proofs.Common.{◌∙◌, ap, sym, subst, append_assoc, append-nil}
 use Rattle.otp_rules.specs.declared.event.Event.{Event}
+use Rattle.otp_rules.specs.declared.event.Kind.{Kind}
 use Rattle.otp_rules.specs.Run.{state_after}
 use Rattle.otp_rules.specs.State.{State}
 use Rattle.otp_rules.specs.Step.{step}
-use Rattle.otp_rules.specs.declared.event.Kind.{Kind}
-use Rattle.otp_try.specs.Played.{Begins, Played, Tells, state_in}
-use Rattle.otp_try.specs.Story.{event_text, story}
-
-state_after-append : (s : State) (xs ys : List Event) → state_after s (xs ++ ys) ≡ state_after (state_after s xs) ys
-state_after-append s [] ys = refl
-state_after-append s (x ∷ xs) ys = state_after-append (step s x).state xs ys
-
-story-append : (s : State) (xs ys : List Event) → story s (xs ++ ys) ≡ story s xs ++ story (state_after s xs) ys
-story-append s [] ys = refl
-story-append s (x ∷ xs) ys =
-    ap (λ (text : List ℕ). event_text s x ++ text) (story-append (step s x).state xs ys)
-    ∙ sym (append_assoc (event_text s x) (story (step s x).state xs) (story (state_after (step s x).state xs) ys))
-
--- nothing happened, and nothing was told
-pub tells-nothing : (p : Played) (text : List ℕ) → Tells p p text text
-tells-nothing p text = ([], ap (λ (h : List Event). record { base = p.base; history = h }) (sym (append-nil p.history)), sym (append-nil text))
-
--- what was told first, and then what was told of what happened after it
-pub tells-then : (a b c : Played) (x y z : List ℕ) → Tells a b x y → Tells b c y z → Tells a c x z
-tells-then a b c x y z (first, ab, told) (then, bc, told_then) =
-    let same : state_in b ≡ state_after (state_in a) first =
-    ap (λ (p : Played). state_in p) ab ∙ state_after-append a.base a.history first in
-    let base : b.base ≡ a.base = ap (λ (p : Played). p.base) ab in
-    let history : b.history ≡ a.history ++ first = ap (λ (p : Played). p.history) ab in (
-      first ++ then,
-      bc
-          ∙ ap (λ (base : State). record { base = base; history = b.history ++ then }) base
-          ∙ ap (λ (h : List Event). record { base = a.base; history = h ++ then }) history
-          ∙ ap (λ (h : List Event). record { base = a.base; history = h }) (append_assoc a.history first then),
-      told_then
-          ∙ ap (λ (text : List ℕ). text ++ story (state_in b) then) told
-          ∙ append_assoc x (story (state_in a) first) (story (state_in b) then)
-          ∙ ap (λ (text : List ℕ). x ++ text) (ap (λ (s : State). story (state_in a) first ++ story s then) same ∙ sym (story-append (state_in a) first then)),
-    )
+use Rattle.otp_try.specs.Played.{Begins, Happens, IsAt, Lead, Move, Seated, Tells, move_text, seat_after, state_in, story}
+use Rattle.otp_try.specs.Story.{event_text}
 
 -- the state after one event more
 pub pushed : (s : State) (es : List Event) (e : Event) → state_after s (es ++ e ∷ []) ≡ (step (state_after s es) e).state
 pushed s [] e = refl
 pushed s (x ∷ xs) e = pushed (step s x).state xs e
 
-last_pushed : (p : ℕ) (es : List Event) (e : Event) → last_from p (es ++ e ∷ []) ≡ unwrap_or e.number (last_from p es)
-last_pushed p [] e = refl
-last_pushed p (x ∷ xs) e = last_pushed (unwrap_or x.number p) xs e
+lead-append : (a b c : List Seated) (xs ys : List Move) → Lead a xs b → Lead b ys c → Lead a (xs ++ ys) c
+lead-append a b c [] ys first second = subst (λ (s : List Seated). Lead s ys c) first second
+lead-append a b c (x ∷ xs) ys (here, rest) second = (here, lead-append (slice_set a x.place (seat_after x)) b c xs ys rest second)
 
-at_most_next : (number : Option ℕ) (p : ℕ) → ((n : ℕ) → number ≡ Some n → n ≡ p + 1) → unwrap_or number p ≤ p + 1
-at_most_next None p h = omega arith
-at_most_next (Some n) p h = let e : n ≡ p + 1 = h n refl in omega (arith, e)
+story-append : (xs ys : List Move) → story (xs ++ ys) ≡ story xs ++ story ys
+story-append [] ys = refl
+story-append (x ∷ xs) ys =
+    ap (λ (text : List ℕ). move_text x ++ text) (story-append xs ys) ∙ sym (append_assoc (move_text x) (story xs) (story ys))
 
--- a counter that was asked gave the next number
-pub gave_next : (number : Option ℕ) (old new : Counter) → MatchOption number (new ≡ old) (λ n. (n ≡ old.last + 1) × (new ≡ record { last = old.last + 1 })) → (n : ℕ) → number ≡ Some n → n ≡ old.last + 1
-gave_next None old new h n is = cc
-gave_next (Some m) old new (is_next, is_new) n is = let same : m ≡ n = cc in sym same ∙ is_next
+-- no move was made, and nothing was told
+pub tells-nothing : (seats : List Seated) (text : List ℕ) → Tells seats seats text text
+tells-nothing seats text = ([], refl, sym (append-nil text))
 
--- what a trial keeps of its history, one event more
-pub still : (history longer : List Event) (e : Event) → longer ≡ history ++ e ∷ [] → ((n : ℕ) → e.number ≡ Some n → n ≡ last_number history + 1)
-    → last_number history ≤ length history → ¬ (65536 ≤ length history)
-    → (length longer ≤ 65536) × (last_number longer ≤ length longer) × (length longer ≡ length history + 1)
-still history longer e more next few room =
-    let count : length longer ≡ length history + 1 = ap (λ (h : List Event). length h) more ∙ length-append history (e ∷ []) in
-    let last : last_number longer ≡ unwrap_or e.number (last_number history) = ap last_number more ∙ last_pushed 0 history e in
-    let most : unwrap_or e.number (last_number history) ≤ last_number history + 1 = at_most_next e.number (last_number history) next in
-    (omega (arith, count, room), omega (arith, count, last, most, few), count)
+-- what was told first, and then what was told of the moves after it
+pub tells-then : (a b c : List Seated) (x y z : List ℕ) → Tells a b x y → Tells b c y z → Tells a c x z
+tells-then a b c x y z (first, ab, told) (then, bc, told_then) = (
+  first ++ then,
+  lead-append a b c first then ab bc,
+  told_then
+      ∙ ap (λ (text : List ℕ). text ++ story then) told
+      ∙ append_assoc x (story first) (story then)
+      ∙ ap (λ (text : List ℕ). x ++ text) (sym (story-append first then)),
+)
 
 -- what began first began first, whatever came after it
-pub begins-then : (k : Kind) (a b c : Played) (y z : List ℕ) → Begins k a b → Tells b c y z → Begins k a c
-begins-then k a b c y z (e, rest, ab, is) (more, bc, told) = (
-  e,
-  rest ++ more,
-  ap (λ (p : Played). p.history) bc ∙ ap (λ (h : List Event). h ++ more) ab ∙ append_assoc a.history (e ∷ rest) more,
-  is,
+pub begins-then : (place : ℕ) (k : Kind) (a b c : List Seated) (y z : List ℕ) → Begins place k a b → Tells b c y z → Begins place k a c
+begins-then place k a b c y z (seat, e, ms, ab, is) (more, bc, told) =
+    (seat, e, ms ++ more, lead-append a b c (record { place = place; seat = seat; event = Some e } ∷ ms) more ab bc, is)
+
+-- a supervisor is there anew, and nothing is told of it
+pub tells-anew : (a b : List Seated) (place : ℕ) (old new : Seated) (text : List ℕ) → IsAt a place old → new ≡ record old { history = [] } → b ≡ slice_set a place new
+    → Tells a b text text
+unfolding move_text
+tells-anew a b place old new text here is set = (
+  record { place = place; seat = old; event = None } ∷ [],
+  (here, set ∙ ap (λ (seat : Seated). slice_set a place seat) is),
+  sym (append-nil text),
 )
+
+-- an event happened to the supervisor at a place
+pub tells-event : (a b : List Seated) (place : ℕ) (k : Kind) (old new : Seated) (x y : List ℕ) → IsAt a place old → Happens k old new x y → b ≡ slice_set a place new
+    → Tells a b x y
+unfolding move_text
+tells-event a b place k old new x y here (e, kind, is, told) set = (
+  record { place = place; seat = old; event = Some e } ∷ [],
+  (here, set ∙ ap (λ (seat : Seated). slice_set a place seat) is),
+  told ∙ ap (λ (text : List ℕ). x ++ text) (sym (append-nil (event_text old.path (state_in old) e))),
+)
+
+pub begins-event : (a b : List Seated) (place : ℕ) (k : Kind) (old new : Seated) (x y : List ℕ) → IsAt a place old → Happens k old new x y → b ≡ slice_set a place new
+    → Begins place k a b
+begins-event a b place k old new x y here (e, kind, is, told) set =
+    (old, e, [], (here, set ∙ ap (λ (seat : Seated). slice_set a place seat) is), kind)

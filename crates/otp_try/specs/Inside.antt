@@ -1,18 +1,12 @@
--- What a trial stands for, and what it keeps.
-use Rattle.std.specs.Prelude.{◌≡◌, ℕ, ◌≤◌, ◌^◌, List, [], length}
-use Rattle.otp_core.specs.View.{View}
-use Rattle.otp_rules.specs.declared.event.Effect.{Effect}
-use Rattle.otp_rules.specs.Needs.{last_number}
-use Rattle.otp_try.specs.declared.trial.Trial.TheInside.{Inside}
-use Rattle.otp_try.specs.Played.{Played}
+-- What a supervisor of a trial and the trial itself stand for, and what they keep.
+use Rattle.std.specs.Prelude.{◌≡◌, ℕ, ◌<◌, ◌≤◌, ◌^◌, List, length}
+use Rattle.otp_rules.specs.Run.{empty_state}
+use Rattle.otp_try.specs.declared.seat.Seat.TheInside.{Inside}
+use Rattle.otp_try.specs.Played.{Seated}
 
-abbrev pub played_of : Inside → Played
-played_of t = record { base = t.core.base; history = t.core.history }
+abbrev pub seated_of : Inside → Seated
+seated_of s = record { path = s.path.items; base = s.core.base; history = s.core.history }
 
-pub record IsTrial (t : Inside) : Type 0 where
-  -- all orders have been told
-  pub told : t.core.effects ≡ []
-  pub time : t.time ≤ 2 ^ 62
-  pub history : length t.core.history ≤ 65536
-  -- a number is given to an event at the most
-  pub numbers : last_number t.core.history ≤ length t.core.history
+-- it was opened with what it is to be opened with
+abbrev pub IsSeat : Inside → Type 0
+IsSeat s = s.core.base ≡ empty_state s.supervisor.flags s.supervisor.specs

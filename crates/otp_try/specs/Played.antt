@@ -1,5 +1,6 @@
--- A run that is told: the events so far, and how calls of a trial add to them (own).
-use Rattle.std.specs.Prelude.{◌≡◌, ℕ, List, [], ◌∷◌, ◌++◌, Option, Some, None, position, slice_get}
+-- A tree that is tried: its supervisors, each with its events so far, and how calls of a trial add to them (own).
+use Rattle.std.specs.Prelude.{◌≡◌, ℕ, ◌<◌, List, [], ◌∷◌, ◌++◌, Option, Some, None, length, position, slice_get, slice_index_or, slice_set}
+use Rattle.std.specs.List.{flat_map}
 use Rattle.otp_reason.specs.declared.note.Note.TheVariants as note
 use Rattle.otp_reason.specs.declared.reason.Reason.{Reason}
 use Rattle.otp_rules.specs.declared.call.Call.{Call}
@@ -23,25 +24,66 @@ use Rattle.otp_try.specs.declared.finding.Found.{Found}
 use Rattle.otp_try.specs.declared.finding.Found.TheVariants as found
 use Rattle.otp_try.specs.declared.trial.Taken.{Taken}
 use Rattle.otp_try.specs.declared.trial.Taken.TheVariants as taken
-use Rattle.otp_try.specs.Story.{story}
+use Rattle.otp_try.specs.Story.{event_text}
 
--- the events since a base
-pub record Played : Type 0 where
+-- a supervisor of the tree: what stands in front of the names of its children, as `sub/`, and its events since it was
+-- last started
+pub record Seated : Type 0 where
+  pub path : List ℕ
   pub base : State
   pub history : List Event
 
 -- the supervisor after them: nothing else is known of it
-abbrev pub state_in : Played → State
+abbrev pub state_in : Seated → State
 state_in p = state_after p.base p.history
 
 -- a supervisor that was never opened
-abbrev pub unplayed : SupFlags → List ChildSpec → Played
-unplayed flags specs = record { base = empty_state flags specs; history = [] }
+abbrev pub unplayed : List ℕ → SupFlags → List ChildSpec → Seated
+unplayed path flags specs = record { path = path; base = empty_state flags specs; history = [] }
 
--- events were added, and of them the text tells all orders, in order, and nothing else
-abbrev pub Tells : Played → Played → List ℕ → List ℕ → Type 0
-Tells old new before after =
-    (more : List Event) × (new ≡ record { base = old.base; history = old.history ++ more }) × (after ≡ before ++ story (state_in old) more)
+-- an event of this kind happened to a supervisor, and the text tells its orders
+abbrev pub Happens : Kind → Seated → Seated → List ℕ → List ℕ → Type 0
+Happens k old new before after =
+    (e : Event) × (e.kind ≡ k) × (new ≡ record old { history = old.history ++ e ∷ [] }) × (after ≡ before ++ event_text old.path (state_in old) e)
+
+-- what happens to the supervisor at a place, which stood so: an event, or it is there anew and was never opened
+pub record Move : Type 0 where
+  pub place : ℕ
+  pub seat : Seated
+  pub event : Option Event
+
+abbrev pub history_after : Option Event → List Event → List Event
+history_after None history = []
+history_after (Some e) history = history ++ e ∷ []
+
+abbrev pub seat_after : Move → Seated
+seat_after m = record m.seat { history = history_after m.event m.seat.history }
+
+abbrev pub text_of_event : Option Event → Seated → List ℕ
+text_of_event None seat = []
+text_of_event (Some e) seat = event_text seat.path (state_in seat) e
+
+-- the lines of all orders of a move
+unfoldable pub move_text : Move → List ℕ
+move_text m = text_of_event m.event m.seat
+
+-- at this place stands this supervisor
+pub record IsAt (seats : List Seated) (place : ℕ) (seat : Seated) : Type 0 where
+  pub inside : place < length seats
+  pub is : seat ≡ slice_index_or seats place seat
+
+-- the moves lead from these supervisors to those
+abbrev pub Lead : List Seated → List Move → List Seated → Type 0
+Lead seats [] after = after ≡ seats
+Lead seats (m ∷ ms) after = IsAt seats m.place m.seat × Lead (slice_set seats m.place (seat_after m)) ms after
+
+-- the lines of all orders of these moves, in order
+abbrev pub story : List Move → List ℕ
+story ms = flat_map move_text ms
+
+-- moves were made, and of them the text tells all orders of all supervisors, in order, and nothing else
+abbrev pub Tells : List Seated → List Seated → List ℕ → List ℕ → Type 0
+Tells old new before after = (ms : List Move) × Lead old ms new × (after ≡ before ++ story ms)
 
 -- the process that a child with this state has
 unfoldable pub found_in_state : RowState → Found
@@ -65,21 +107,43 @@ unfoldable pub found_for : Child → List Row → Found
 found_for (child.Named id) rows = found_at rows (position (has_id id) rows)
 found_for (child.Numbered p) rows = found_at rows (position (row_has (has_process p)) rows)
 
--- the first event that was added is of this kind
-abbrev pub Begins : Kind → Played → Played → Type 0
-Begins k old new = (e : Event) × (rest : List Event) × (new.history ≡ old.history ++ e ∷ rest) × (e.kind ≡ k)
+-- the first move is an event of this kind at this place
+abbrev pub Begins : ℕ → Kind → List Seated → List Seated → Type 0
+Begins place k old new = (seat : Seated) × (e : Event) × (ms : List Move)
+    × Lead old (record { place = place; seat = seat; event = Some e } ∷ ms) new × (e.kind ≡ k)
 
 -- the end of that process is what happens first; or nothing happens, and the answer says why
-unfoldable pub Ends : Reason → Found → Played → Taken → Played → Type 0
-Ends r (found.Process p) old answer new = (answer ≡ taken.Done) × Begins (kind.Took (item.Note (note.Exit p r))) old new
-Ends r found.NoProcess old answer new = (answer ≡ taken.NoProcess) × (new ≡ old)
-Ends r found.NoChild old answer new = (answer ≡ taken.NoChild) × (new ≡ old)
+unfoldable pub Ends : ℕ → Reason → Found → List Seated → Taken → List Seated → Type 0
+Ends place r (found.Process p) old answer new = (answer ≡ taken.Done) × Begins place (kind.Took (item.Note (note.Exit p r))) old new
+Ends place r found.NoProcess old answer new = (answer ≡ taken.NoProcess) × (new ≡ old)
+Ends place r found.NoChild old answer new = (answer ≡ taken.NoChild) × (new ≡ old)
 
--- what an action of a script does first
-unfoldable pub Acts : Action → Played → Taken → Played → Type 0
-Acts action.Nothing old answer new = (answer ≡ taken.Done) × (new ≡ old)
-Acts (action.Exit c r) old answer new = Ends r (found_for c (state_in old).rows) old answer new
-Acts (action.Start _ _) old answer new = (answer ≡ taken.Done) × (new ≡ old)
-Acts (action.Hang c) old answer new = new ≡ old
-Acts action.Stop old answer new = answer ≡ taken.Done
-Acts (action.Call c) old answer new = (answer ≡ taken.Done) × ((n : ℕ) × Begins (kind.Took (item.Call n c)) old new)
+-- what an action of a script, which is said to the supervisor at this place, does first
+unfoldable pub Acts : Action → ℕ → Seated → List Seated → Taken → List Seated → Type 0
+Acts action.Nothing place seat old answer new = (answer ≡ taken.Done) × (new ≡ old)
+Acts (action.Exit c r) place seat old answer new = Ends place r (found_for c (state_in seat).rows) old answer new
+Acts (action.Start _ _) place seat old answer new = (answer ≡ taken.Done) × (new ≡ old)
+Acts (action.Hang c) place seat old answer new = new ≡ old
+Acts action.Stop place seat old answer new = answer ≡ taken.Done
+Acts (action.Call c) place seat old answer new = (answer ≡ taken.Done) × ((n : ℕ) × Begins place (kind.Took (item.Call n c)) old new)
+
+-- the supervisor that a script means stands at this place, and its own children are meant
+abbrev pub ActsAt : Action → ℕ → List Seated → Taken → List Seated → Type 0
+ActsAt a place old answer new = (seat : Seated) → IsAt old place seat → Acts a place seat old answer new
+
+-- the process that is meant is that of this child of the supervisor at this place
+abbrev pub EndsAt : ℕ → Reason → Child → List Seated → Taken → List Seated → Type 0
+EndsAt place r c old answer new = (seat : Seated) → IsAt old place seat → Ends place r (found_for c (state_in seat).rows) old answer new
+
+-- nothing has happened to any of these supervisors
+abbrev pub IsUnplayed : List Seated → Type 0
+IsUnplayed [] = Unit {0}
+IsUnplayed (seat ∷ seats) = (seat.history ≡ []) × IsUnplayed seats
+
+-- supervisors were put behind those that were there, and nothing has happened to them
+abbrev pub AddsUnplayed : List Seated → List Seated → Type 0
+AddsUnplayed old new = (more : List Seated) × (new ≡ old ++ more) × IsUnplayed more
+
+-- and the first of them is this one, the root of a tree
+abbrev pub AddsTree : Seated → List Seated → List Seated → Type 0
+AddsTree root old new = (more : List Seated) × (new ≡ old ++ root ∷ more) × IsUnplayed more

@@ -1,11 +1,12 @@
--- What is told of a run: each order as a line, at the time at which it was given (own).
-use Rattle.std.specs.Prelude.{ℕ, ◌/◌, ◌%◌, List, [], ◌∷◌, ◌++◌, ◌≡◌, Option, Some, None, codes, decimal, if◌then◌else◌, nat_lt}
+-- What is told of a run: each order as a line, at the time at which it was given, with the path of its supervisor (own).
+use Rattle.std.specs.Prelude.{ℕ, ◌/◌, ◌%◌, List, [], ◌∷◌, ◌++◌, Option, codes, decimal, if◌then◌else◌, nat_lt}
 use Rattle.std.specs.List.{flat_map}
+use Rattle.otp_reason.specs.declared.name.Name.{Name}
 use Rattle.otp_reason.specs.Names.{name_bytes}
 use Rattle.otp_rules.specs.declared.call.Answered.{Answered}
-use Rattle.otp_rules.specs.declared.call.Reply.{Reply}
 use Rattle.otp_rules.specs.declared.ending.Cause.{Cause}
 use Rattle.otp_rules.specs.declared.ending.Cause.TheVariants as cause
+use Rattle.otp_rules.specs.declared.ending.SupEnd.{SupEnd}
 use Rattle.otp_rules.specs.declared.event.Effect.{Effect}
 use Rattle.otp_rules.specs.declared.event.Effect.TheVariants as effect
 use Rattle.otp_rules.specs.declared.event.Event.{Event}
@@ -14,7 +15,7 @@ use Rattle.otp_rules.specs.State.{State}
 use Rattle.otp_rules.specs.Step.{step}
 use Rattle.otp_spec.specs.declared.flags.SupFlags.{SupFlags}
 use Rattle.otp_text.specs.Effects.{effect_line}
-use Rattle.otp_text.specs.Values.{process_text, reason_text}
+use Rattle.otp_text.specs.Values.{child_name_text, process_text, reason_text}
 
 -- the zeros in front of a number below 1000, so that it has three digits
 unfoldable pub zeros_before : ℕ → List ℕ
@@ -56,37 +57,37 @@ cause_text (cause.Significant number) = number_between (codes "significant child
 cause_text cause.Asked = codes "asked to stop"
 cause_text (cause.InitFailed id) = codes "child " ++ name_bytes id ++ codes " did not start"
 
--- the answer that an order tells of
-unfoldable pub told_by : Effect → List Answered → Option Reply
-told_by (effect.Start _ _) replies = None
-told_by (effect.Ask _ _) replies = None
-told_by (effect.Kill _ _) replies = None
-told_by (effect.Reply call) replies = reply_of call replies
-told_by effect.Ready replies = None
-told_by (effect.End _) replies = None
+-- what an order asks of a child: behind the word stands the path of its supervisor, which is empty for the root's
+unfoldable pub child_order : List ℕ → List ℕ → Option Name → ℕ → List ℕ
+child_order word path name number = word ++ path ++ child_name_text name ++ codes " " ++ process_text number ++ codes "\n"
 
--- an order as it is told: the line that `sim` prints, and of an end also why
-unfoldable pub order_text : Effect → List Answered → List ℕ
-order_text (effect.Start id number) replies = effect_line (effect.Start id number) None
-order_text (effect.Ask id number) replies = effect_line (effect.Ask id number) None
-order_text (effect.Kill id number) replies = effect_line (effect.Kill id number) None
-order_text (effect.Reply call) replies = effect_line (effect.Reply call) (reply_of call replies)
-order_text effect.Ready replies = effect_line effect.Ready None
-order_text (effect.End end) replies = codes "end " ++ reason_text end.reason ++ codes ": " ++ cause_text end.cause ++ codes "\n"
+-- what stands in front of an order that names no child: the path of its supervisor, if that is not the root
+unfoldable pub heading : List ℕ → List ℕ
+heading [] = []
+heading (byte ∷ bytes) = (byte ∷ bytes) ++ codes " "
+
+-- a supervisor ends: for which reason, and why
+unfoldable pub end_text : SupEnd → List ℕ
+end_text end = codes "end " ++ reason_text end.reason ++ codes ": " ++ cause_text end.cause ++ codes "\n"
+
+-- an order of the supervisor with this path, as it is told: the root's are the lines that `sim` prints, and of an end
+-- also why
+unfoldable pub order_text : List ℕ → Effect → List Answered → List ℕ
+order_text path (effect.Start id number) replies = child_order (codes "start ") path id number
+order_text path (effect.Ask id number) replies = child_order (codes "ask ") path id number
+order_text path (effect.Kill id number) replies = child_order (codes "kill ") path id number
+order_text path (effect.Reply call) replies = heading path ++ effect_line (effect.Reply call) (reply_of call replies)
+order_text path effect.Ready replies = heading path ++ codes "ready\n"
+order_text path (effect.End end) replies = heading path ++ end_text end
 
 -- the line of an order that was given at this time
-unfoldable pub told_line : ℕ → List Answered → Effect → List ℕ
-told_line time replies order = time_text time ++ codes "  " ++ order_text order replies
+unfoldable pub told_line : ℕ → List ℕ → List Answered → Effect → List ℕ
+told_line time path replies order = time_text time ++ codes "  " ++ order_text path order replies
 
 -- the lines of orders that were given at this time
-unfoldable pub told_lines : ℕ → List Answered → List Effect → List ℕ
-told_lines time replies orders = flat_map (told_line time replies) orders
+unfoldable pub told_lines : ℕ → List ℕ → List Answered → List Effect → List ℕ
+told_lines time path replies orders = flat_map (told_line time path replies) orders
 
 -- the lines of an event's orders: at its reading of the clock, with the answers as they are then
-unfoldable pub event_text : State → Event → List ℕ
-event_text s e = told_lines e.reading (step s e).state.replies (step s e).orders
-
--- the lines of the orders of these events, in order
-abbrev pub story : State → List Event → List ℕ
-story s [] = []
-story s (e ∷ es) = event_text s e ++ story (step s e).state es
+unfoldable pub event_text : List ℕ → State → Event → List ℕ
+event_text path s e = told_lines e.reading path (step s e).state.replies (step s e).orders

@@ -9,12 +9,14 @@ use std::alloc::AllocError;
 /// Appends a line for what is awaited of a child.
 fn write_line(
     what: &[u8],
+    path: &[u8],
     id: &Option<Name>,
     process: u64,
     until: Option<u64>,
     out: &mut Vec<u8>,
 ) -> Result<(), AllocError> {
     out.extend_from_slice(what)?;
+    out.extend_from_slice(path)?;
     write_child_name(id, out)?;
     out.extend_from_slice(b" ")?;
     write_process(process, out)?;
@@ -25,12 +27,17 @@ fn write_line(
     out.extend_from_slice(b"\n")
 }
 
-/// Appends a line for each child of which something is awaited.
-pub(crate) fn write_awaited(rows: &[Row], out: &mut Vec<u8>) -> Result<(), AllocError> {
+/// Appends a line for each child of which something is awaited, of the supervisor with this path.
+pub(crate) fn write_awaited(
+    path: &[u8],
+    rows: &[Row],
+    out: &mut Vec<u8>,
+) -> Result<(), AllocError> {
     for row in rows {
         match row.state {
             RowState::Starting(process, _) => write_line(
                 b"awaits the start of ",
+                path,
                 &row.id,
                 process,
                 None,
@@ -38,6 +45,7 @@ pub(crate) fn write_awaited(rows: &[Row], out: &mut Vec<u8>) -> Result<(), Alloc
             )?,
             RowState::Asked(process, until) => write_line(
                 b"awaits the end of ",
+                path,
                 &row.id,
                 process,
                 until,
@@ -45,6 +53,7 @@ pub(crate) fn write_awaited(rows: &[Row], out: &mut Vec<u8>) -> Result<(), Alloc
             )?,
             RowState::Killed(process) => write_line(
                 b"awaits the end of ",
+                path,
                 &row.id,
                 process,
                 None,

@@ -1,13 +1,15 @@
-//! What would my tree do? A supervisor's core that is played: children start and stop by themselves, unless a script
-//! says otherwise, and each order is told with its time.
+//! What would my tree do? The cores of its supervisors are played: children start and stop by themselves, unless a script
+//! says otherwise, and each order is told with its time and the path of its supervisor.
 //!
-//! `specs/Story` says what is told: all orders that the core gives, in their order, and nothing else.
+//! `specs/Played` says what is told: all orders that the cores give, in their order, and nothing else.
 #![tactic(auto)]
 
 mod awaited;
 pub mod finding;
+mod planting;
 pub mod play;
 pub mod script;
+mod seat;
 mod state;
 mod telling;
 mod time;

@@ -1,15 +1,16 @@
 //! A script that is played to its end, line by line.
 
-ghost use Rattle.std.specs.Prelude.{◌≡◌, ◌≤◌, ◌<◌, ◌^◌, None, IfOk, IfSome, vec_len};
-ghost use Rattle.otp_rules.specs.Opening.{open_fault};
+ghost use Rattle.std.specs.Prelude.{◌≡◌, ◌≤◌, ◌<◌, ◌^◌, IfOk, IfSome, length, vec_len};
 
 use crate::awaited::write_awaited;
-use crate::script::{Action, ScriptFault, Step, When, read_step};
+use crate::script::{Action, Child, ScriptFault, Step, When, read_step};
+use crate::seat::Seat;
 use crate::state::write_state;
+use crate::telling::write_heading;
 use crate::time::write_time;
 use crate::trial::{Halt, LAST_TIME, Taken, Trial};
+use otp_file::TreeSpec;
 use otp_sim::{Failed, Input, Output, write_all};
-use otp_spec::{ChildSpec, SupFlags};
 use otp_text::{LONGEST_LINE, write_number};
 use std::alloc::{AllocError, Global};
 
@@ -67,7 +68,6 @@ const PIECE: usize = 65536;
 #[derive(Drop)]
 struct Play {
     trial: Trial,
-    flags: SupFlags,
     writer: Writer,
     /// How many lines were read.
     lines: u64,
@@ -96,16 +96,50 @@ impl Play {
     }
 
     /// A line that was read: the clock goes on, and then it is done.
-    fn take_step(&mut self, line: &[u8], step: Step) -> Result<(), TryEnd> {
-        self.write_heading(line, step)?;
+    fn take_step(&mut self, line: &[u8], step: Step<'_>) -> Result<(), TryEnd> {
+        self.write_line(line, step)?;
         let Some(time) = self.time_of(step.when) else {
             return self.miss(Taken::TooLate);
         };
         self.trial.go_to(time, &mut self.page)?;
-        match self.trial.act(step.action, &mut self.page)? {
+        match self.act(step)? {
             Taken::Done => Ok(()),
-            Taken::NoChild if self.trial.has_ended() => self.miss(Taken::Ended),
             taken => self.miss(taken),
+        }
+    }
+
+    /// What a line says is done at the supervisor that it means.
+    fn act(&mut self, step: Step<'_>) -> Result<Taken, Halt> {
+        let Some(place) = self.place_of(step) else {
+            return Ok(self.unless_ended(Taken::NoChild));
+        };
+        if !self.trial.has_process(place) {
+            return Ok(self.unless_ended(Taken::NoProcess));
+        }
+        let taken = self.trial.act(place, step.action, &mut self.page)?;
+        match taken {
+            Taken::NoChild => Ok(self.unless_ended(taken)),
+            taken => Ok(taken),
+        }
+    }
+
+    /// Why nothing was done: before all else that the root has ended.
+    fn unless_ended(&self, taken: Taken) -> Taken {
+        if self.trial.has_ended() {
+            Taken::Ended
+        } else {
+            taken
+        }
+    }
+
+    /// The place of the supervisor that a line means: by its path, or by the number of a process.
+    fn place_of(&self, step: Step<'_>) -> Option<usize>
+        ensures { IfSome result (λ place. place < length self.now.trial) }
+    {
+        match step.action {
+            Action::Exit(Child::Numbered(process), _) | Action::Hang(Child::Numbered(process))
+                if step.path.is_empty() => Some(self.trial.place_of_process(process)),
+            _ => self.trial.place_of(step.path),
         }
     }
 
@@ -133,7 +167,7 @@ impl Play {
     }
 
     /// Puts the line of a script above what it does; a line that says nothing has no heading.
-    fn write_heading(&mut self, line: &[u8], step: Step) -> Result<(), AllocError> {
+    fn write_line(&mut self, line: &[u8], step: Step<'_>) -> Result<(), AllocError> {
         if self.writer == Writer::Person || is_silent(step) {
             return Ok(());
         }
@@ -144,21 +178,32 @@ impl Play {
         self.page.extend_from_slice(b"\n")
     }
 
-    /// Puts how the supervisor stands on the page.
+    /// Puts how the root stands on the page.
     fn write_standing(&mut self) -> Result<(), AllocError> {
         let now = self.trial.time();
-        write_time(now, &mut self.page)?;
-        self.page.extend_from_slice(b"  ")?;
-        if self.trial.has_ended() {
-            return self.page.extend_from_slice(b"the supervisor has ended");
+        write_standing(self.trial.root(), now, &mut self.page)
+    }
+
+    /// Puts how the supervisors below the root stand on the page, a line for each that has a process.
+    fn write_below(&mut self) -> Result<(), AllocError> {
+        let now = self.trial.time();
+        for (place, seat) in self.trial.seats().iter().enumerate() {
+            if 0 < place && self.trial.has_process(place) {
+                write_standing(seat, now, &mut self.page)?;
+                self.page.extend_from_slice(b"\n")?;
+            }
         }
-        write_state(
-            &self.flags,
-            self.trial.rows(),
-            self.trial.restarts(),
-            now,
-            &mut self.page,
-        )
+        Ok(())
+    }
+
+    /// Puts what is awaited on the page.
+    fn write_all_awaited(&mut self) -> Result<(), AllocError> {
+        for (place, seat) in self.trial.seats().iter().enumerate() {
+            if self.trial.has_process(place) {
+                write_awaited(seat.path(), seat.rows(), &mut self.page)?;
+            }
+        }
+        Ok(())
     }
 
     /// Puts the prompt on the page, for a person.
@@ -178,8 +223,19 @@ impl Play {
     }
 }
 
+/// Appends how a supervisor stands.
+fn write_standing(seat: &Seat, now: u64, out: &mut Vec<u8>) -> Result<(), AllocError> {
+    write_time(now, out)?;
+    out.extend_from_slice(b"  ")?;
+    write_heading(seat.path(), out)?;
+    if seat.has_ended() {
+        return out.extend_from_slice(b"the supervisor has ended");
+    }
+    write_state(&seat.flags(), seat.rows(), seat.restarts(), now, out)
+}
+
 /// The line says nothing: it is empty, or a comment.
-fn is_silent(step: Step) -> bool {
+fn is_silent(step: Step<'_>) -> bool {
     step.when == When::Now && step.action == Action::Nothing
 }
 
@@ -235,7 +291,8 @@ impl Play {
         }
         self.write_standing()?;
         self.page.extend_from_slice(b"\n")?;
-        write_awaited(self.trial.rows(), &mut self.page)?;
+        self.write_below()?;
+        self.write_all_awaited()?;
         Ok(())
     }
 }
@@ -258,27 +315,23 @@ fn zeros(alloc: Global, size: usize) -> Result<Vec<u8>, AllocError>
     Vec::from_elem(alloc, 0u8, size)
 }
 
-/// Plays the lines of the input on a supervisor with these flags and children, and writes what it orders.
+/// Plays the lines of the input on the supervisors of a tree, and writes what they order.
 ///
 /// Where the run ends early, what was told before is written all the same.
 pub fn try_tree<R: Input, W: Output>(
     alloc: Global,
-    flags: &SupFlags,
-    specs: &[ChildSpec],
+    tree: TreeSpec,
     writer: Writer,
     input: &mut R,
     output: &mut W,
-) -> TryEnd
-    requires { open_fault flags.now specs.now ≡ None }
-{
+) -> TryEnd {
     let mut page = Vec::new(alloc);
-    let trial = match Trial::open(alloc, *flags, specs, &mut page) {
+    let trial = match Trial::open(alloc, tree, &mut page) {
         Ok(trial) => trial,
         Err(halt) => return TryEnd::from(halt),
     };
     let mut play = Play {
         trial,
-        flags: *flags,
         writer,
         lines: 0,
         page,

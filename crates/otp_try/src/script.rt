@@ -3,7 +3,7 @@
 ghost use Rattle.std.specs.Prelude.{◌≡◌};
 ghost use Rattle.otp_try.specs.Texts.{fault_text};
 
-use crate::words::{next_word, strip_end, strip_start};
+use crate::words::{end_of_path, next_word, strip_end, strip_start};
 use otp_reason::{Name, Reason, Text};
 use otp_rules::Call;
 use otp_text::{LONGEST_LINE, Line, read_line, read_name, read_number, read_reason};
@@ -61,9 +61,30 @@ pub enum Action {
 
 /// A line of a script.
 #[derive(Clone, Copy, Debug, PartialEq, Eq)]
-pub struct Step {
+pub struct Step<'a> {
     pub when: When,
+    /// To which supervisor it is said: the ids from the root's child on, each with a `/` behind it; nothing for the root.
+    pub path: &'a [u8],
     pub action: Action,
+}
+
+/// What is said to the supervisor with this path.
+#[derive(Clone, Copy, Debug, PartialEq, Eq)]
+struct Said<'a> {
+    path: &'a [u8],
+    action: Action,
+}
+
+/// What is said to the root.
+fn to_root<'a>(action: Action) -> Said<'a> {
+    Said { path: &[], action }
+}
+
+/// A child of the supervisor with this path.
+#[derive(Clone, Copy, Debug, PartialEq, Eq)]
+struct Meant<'a> {
+    path: &'a [u8],
+    child: Child,
 }
 
 /// Why a line is refused, in words that say what would be read.
@@ -122,13 +143,17 @@ impl fmt::Display for ScriptFault {
 /// # Errors
 ///
 /// The first fault from the left.
-pub fn read_step(line: &[u8]) -> Result<Step, ScriptFault> {
+pub fn read_step(line: &[u8]) -> Result<Step<'_>, ScriptFault> {
     if line.len() > LONGEST_LINE {
         return Err(ScriptFault::TooLong);
     }
     let (when, rest) = read_when(strip_end(line))?;
-    let action = read_action(rest)?;
-    Ok(Step { when, action })
+    let said = read_said(rest)?;
+    Ok(Step {
+        when,
+        path: said.path,
+        action: said.action,
+    })
 }
 
 /// When the line happens, and what is left of it.
@@ -163,13 +188,32 @@ fn read_time(word: &[u8]) -> Result<u64, ScriptFault> {
     }
 }
 
-/// What happens by the words that are left.
-fn read_action(line: &[u8]) -> Result<Action, ScriptFault> {
+/// What happens by the words that are left, of which the first may be the path of the supervisor to which it is said.
+fn read_said(line: &[u8]) -> Result<Said<'_>, ScriptFault> {
     let Some((word, rest)) = next_word(line) else {
-        return Ok(Action::Nothing);
+        return Ok(to_root(Action::Nothing));
+    };
+    let (path, name) = split_path(word);
+    if word[0] == b'#' || path.is_empty() || !name.is_empty() {
+        return read_action(line);
+    }
+    let said = read_action(rest)?;
+    if !said.path.is_empty() {
+        return Err(ScriptFault::BadChild);
+    }
+    Ok(Said {
+        path,
+        action: said.action,
+    })
+}
+
+/// What happens by the words that are left.
+fn read_action(line: &[u8]) -> Result<Said<'_>, ScriptFault> {
+    let Some((word, rest)) = next_word(line) else {
+        return Ok(to_root(Action::Nothing));
     };
     if word[0] == b'#' {
-        return Ok(Action::Nothing);
+        return Ok(to_root(Action::Nothing));
     }
     match word {
         b"crash" => read_crash(rest),
@@ -177,36 +221,71 @@ fn read_action(line: &[u8]) -> Result<Action, ScriptFault> {
         b"fail" => read_fail(rest),
         b"ignore" => read_ignore(rest),
         b"hang" => read_hang(rest),
+        b"restart" | b"delete" | b"terminate" | b"get" if is_path_next(rest) => read_call(
+            word, rest,
+        ),
         _ => read_plain(strip_start(line)),
     }
 }
 
+/// A word as a path and what stands behind it.
+fn split_path(word: &[u8]) -> (&[u8], &[u8]) {
+    let end = end_of_path(word);
+    (&word[..end], &word[end..])
+}
+
+/// Whether the next word has a path.
+fn is_path_next(line: &[u8]) -> bool {
+    match next_word(line) {
+        None => false,
+        Some((word, _)) => !split_path(word).0.is_empty(),
+    }
+}
+
 /// A child and what is left after it.
-fn read_child(line: &[u8]) -> Result<(Child, &[u8]), ScriptFault> {
+fn read_child(line: &[u8]) -> Result<(Meant<'_>, &[u8]), ScriptFault> {
     let Some((word, rest)) = next_word(line) else {
         return Err(ScriptFault::BadChild);
     };
-    if word[0] == b'#' {
-        return match read_number(GREATEST, &word[1..]) {
-            Some(number) => Ok((Child::Numbered(number), rest)),
-            None => Err(ScriptFault::BadChild),
-        };
-    }
-    match read_name(word) {
-        Some(name) => Ok((Child::Named(name), rest)),
+    let (path, name) = split_path(word);
+    let child = match name {
+        [b'#', digits @ ..] => read_number(GREATEST, digits).map(Child::Numbered),
+        name => read_name(name).map(Child::Named),
+    };
+    match child {
+        Some(child) => Ok((Meant { path, child }, rest)),
         None => Err(ScriptFault::BadChild),
     }
 }
 
-/// A child's id and what is left after it.
-fn read_id(line: &[u8]) -> Result<(Name, &[u8]), ScriptFault> {
-    match next_word(line) {
-        Some((word, rest)) => match read_name(word) {
-            Some(name) => Ok((name, rest)),
-            None => Err(ScriptFault::BadName),
-        },
+/// A child's id with its path, and what is left after them.
+fn read_id(line: &[u8]) -> Result<(&[u8], Name, &[u8]), ScriptFault> {
+    let Some((word, rest)) = next_word(line) else {
+        return Err(ScriptFault::BadName);
+    };
+    let (path, name) = split_path(word);
+    match read_name(name) {
+        Some(name) => Ok((path, name, rest)),
         None => Err(ScriptFault::BadName),
     }
+}
+
+/// A call that names a child with a path.
+fn read_call<'a>(word: &[u8], line: &'a [u8]) -> Result<Said<'a>, ScriptFault> {
+    let Ok((path, name, rest)) = read_id(line) else {
+        return Err(ScriptFault::BadCall);
+    };
+    end_of(rest)?;
+    let call = match word {
+        b"restart" => Call::RestartChild(name),
+        b"delete" => Call::DeleteChild(name),
+        b"terminate" => Call::TerminateChild(name),
+        _ => Call::GetChildspec(name),
+    };
+    Ok(Said {
+        path,
+        action: Action::Call(call),
+    })
 }
 
 /// A reason that may be left out, as the last word.
@@ -238,47 +317,62 @@ fn error_of(text: &[u8]) -> Reason {
 }
 
 /// `crash CHILD [REASON]`: without a reason `error:crash`.
-fn read_crash(line: &[u8]) -> Result<Action, ScriptFault> {
-    let (child, rest) = read_child(line)?;
+fn read_crash(line: &[u8]) -> Result<Said<'_>, ScriptFault> {
+    let (meant, rest) = read_child(line)?;
     let reason = read_last_reason(rest)?;
-    Ok(Action::Exit(child, reason.unwrap_or(error_of(b"crash"))))
+    Ok(Said {
+        path: meant.path,
+        action: Action::Exit(meant.child, reason.unwrap_or(error_of(b"crash"))),
+    })
 }
 
 /// `exit CHILD REASON`.
-fn read_exit(line: &[u8]) -> Result<Action, ScriptFault> {
-    let (child, rest) = read_child(line)?;
+fn read_exit(line: &[u8]) -> Result<Said<'_>, ScriptFault> {
+    let (meant, rest) = read_child(line)?;
     match read_last_reason(rest)? {
-        Some(reason) => Ok(Action::Exit(child, reason)),
+        Some(reason) => Ok(Said {
+            path: meant.path,
+            action: Action::Exit(meant.child, reason),
+        }),
         None => Err(ScriptFault::BadReason),
     }
 }
 
 /// `fail ID [REASON]`: without a reason `error:fail`.
-fn read_fail(line: &[u8]) -> Result<Action, ScriptFault> {
-    let (id, rest) = read_id(line)?;
+fn read_fail(line: &[u8]) -> Result<Said<'_>, ScriptFault> {
+    let (path, id, rest) = read_id(line)?;
     let reason = read_last_reason(rest)?;
-    Ok(Action::Start(id, NextStart::Fail(reason.unwrap_or(error_of(b"fail")))))
+    Ok(Said {
+        path,
+        action: Action::Start(id, NextStart::Fail(reason.unwrap_or(error_of(b"fail")))),
+    })
 }
 
 /// `ignore ID`.
-fn read_ignore(line: &[u8]) -> Result<Action, ScriptFault> {
-    let (id, rest) = read_id(line)?;
+fn read_ignore(line: &[u8]) -> Result<Said<'_>, ScriptFault> {
+    let (path, id, rest) = read_id(line)?;
     end_of(rest)?;
-    Ok(Action::Start(id, NextStart::Ignore))
+    Ok(Said {
+        path,
+        action: Action::Start(id, NextStart::Ignore),
+    })
 }
 
 /// `hang CHILD`.
-fn read_hang(line: &[u8]) -> Result<Action, ScriptFault> {
-    let (child, rest) = read_child(line)?;
+fn read_hang(line: &[u8]) -> Result<Said<'_>, ScriptFault> {
+    let (meant, rest) = read_child(line)?;
     end_of(rest)?;
-    Ok(Action::Hang(child))
+    Ok(Said {
+        path: meant.path,
+        action: Action::Hang(meant.child),
+    })
 }
 
 /// What has the same form as a line of `sim`: `stop`, and the calls.
-fn read_plain(line: &[u8]) -> Result<Action, ScriptFault> {
+fn read_plain<'a>(line: &[u8]) -> Result<Said<'a>, ScriptFault> {
     match read_line(line) {
-        Some(Line::Stop) => Ok(Action::Stop),
-        Some(Line::Call(call)) => Ok(Action::Call(call)),
+        Some(Line::Stop) => Ok(to_root(Action::Stop)),
+        Some(Line::Call(call)) => Ok(to_root(Action::Call(call))),
         Some(_) => Err(ScriptFault::UnknownWord),
         None => Err(fault_of_plain(line)),
     }

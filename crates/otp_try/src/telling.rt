@@ -1,15 +1,15 @@
 //! Orders as they are told.
 
-ghost use Rattle.std.specs.Prelude.{◌≡◌, ◌++◌, OnOk, codes};
+ghost use Rattle.std.specs.Prelude.{◌≡◌, ◌++◌, OnOk};
 ghost use Rattle.otp_core.specs.View.{state_of};
-ghost use Rattle.otp_text.specs.Values.{reason_text};
-ghost use Rattle.otp_try.specs.Story.{cause_text, limit_text, number_after, number_between, order_text, restarts_text, told_line, told_lines};
+ghost use Rattle.otp_try.specs.Story.{cause_text, child_order, end_text, heading, limit_text, number_after, number_between, order_text, restarts_text, told_line, told_lines};
 
 use crate::time::{write_time, write_times};
 use otp_core::Core;
+use otp_reason::Name;
 use otp_rules::{Cause, Effect, SupEnd};
 use otp_spec::SupFlags;
-use otp_text::{Printer, write_name, write_number, write_process, write_reason};
+use otp_text::{Printer, write_child_name, write_name, write_number, write_process, write_reason};
 use std::alloc::AllocError;
 
 /// Appends a number after a word.
@@ -72,9 +72,10 @@ fn write_cause(cause: &Cause, out: &mut Vec<u8>) -> Result<(), AllocError>
     }
 }
 
-/// Appends the line of an end.
+/// Appends why a supervisor ends, behind the reason.
+#[tactic(auto, unfolding(crate::specs::Story::end_text))]
 fn write_end(end: &SupEnd, out: &mut Vec<u8>) -> Result<(), AllocError>
-    ensures { OnOk result (out.new.items ≡ out.old.items ++ codes "end " ++ reason_text end.now.reason ++ codes ": " ++ cause_text end.now.cause ++ codes "\n") }
+    ensures { OnOk result (out.new.items ≡ out.old.items ++ end_text end.now) }
 {
     out.extend_from_slice(b"end ")?;
     write_reason(&end.reason, out)?;
@@ -83,20 +84,66 @@ fn write_end(end: &SupEnd, out: &mut Vec<u8>) -> Result<(), AllocError>
     out.extend_from_slice(b"\n")
 }
 
+/// Appends what an order asks of a child.
+#[tactic(auto, unfolding(crate::specs::Story::child_order))]
+fn write_child_order(
+    word: &[u8],
+    path: &[u8],
+    name: &Option<Name>,
+    number: u64,
+    out: &mut Vec<u8>,
+) -> Result<(), AllocError>
+    ensures { OnOk result (out.new.items ≡ out.old.items ++ child_order word.now path.now name.now number) }
+{
+    out.extend_from_slice(word)?;
+    out.extend_from_slice(path)?;
+    write_child_name(name, out)?;
+    out.extend_from_slice(b" ")?;
+    write_process(number, out)?;
+    out.extend_from_slice(b"\n")
+}
+
+/// Appends what stands in front of an order that names no child.
+#[tactic(auto, unfolding(crate::specs::Story::heading))]
+pub(crate) fn write_heading(path: &[u8], out: &mut Vec<u8>) -> Result<(), AllocError>
+    ensures { OnOk result (out.new.items ≡ out.old.items ++ heading path.now) }
+{
+    match path {
+        [] => Ok(()),
+        path => {
+            out.extend_from_slice(path)?;
+            out.extend_from_slice(b" ")
+        }
+    }
+}
+
 /// Appends an order as it is told: of an end also why.
 #[tactic(auto, unfolding(crate::specs::Story::order_text))]
 fn write_order(
+    path: &[u8],
     core: &Core,
     order: &Effect,
     printer: &mut Printer,
     out: &mut Vec<u8>,
 ) -> Result<(), AllocError>
-    ensures { OnOk result (out.new.items ≡ out.old.items ++ order_text order.now (state_of core.now).replies) }
+    ensures { OnOk result (out.new.items ≡ out.old.items ++ order_text path.now order.now (state_of core.now).replies) }
 {
     match order {
-        Effect::End(end) => write_end(end, out),
-        Effect::Reply(call) => printer.print(order, core.reply(*call), out),
-        _ => printer.print(order, None, out),
+        Effect::Start(name, number) => write_child_order(b"start ", path, name, *number, out),
+        Effect::Ask(name, number) => write_child_order(b"ask ", path, name, *number, out),
+        Effect::Kill(name, number) => write_child_order(b"kill ", path, name, *number, out),
+        Effect::Reply(call) => {
+            write_heading(path, out)?;
+            printer.print(order, core.reply(*call), out)
+        }
+        Effect::Ready => {
+            write_heading(path, out)?;
+            out.extend_from_slice(b"ready\n")
+        }
+        Effect::End(end) => {
+            write_heading(path, out)?;
+            write_end(end, out)
+        }
     }
 }
 
@@ -104,31 +151,33 @@ fn write_order(
 #[tactic(auto, unfolding(crate::specs::Story::told_line))]
 fn write_told(
     time: u64,
+    path: &[u8],
     core: &Core,
     order: &Effect,
     printer: &mut Printer,
     out: &mut Vec<u8>,
 ) -> Result<(), AllocError>
-    ensures { OnOk result (out.new.items ≡ out.old.items ++ told_line time (state_of core.now).replies order.now) }
+    ensures { OnOk result (out.new.items ≡ out.old.items ++ told_line time path.now (state_of core.now).replies order.now) }
 {
     write_time(time, out)?;
     out.extend_from_slice(b"  ")?;
-    write_order(core, order, printer, out)
+    write_order(path, core, order, printer, out)
 }
 
-/// Appends the lines of the orders that a core gave at this time.
+/// Appends the lines of the orders that the core of the supervisor with this path gave at this time.
 #[tactic(auto, unfolding(crate::specs::Story::told_lines))]
 fn write_all(
     time: u64,
+    path: &[u8],
     core: &Core,
     orders: &[Effect],
     printer: &mut Printer,
     out: &mut Vec<u8>,
 ) -> Result<(), AllocError>
-    ensures { OnOk result (out.new.items ≡ out.old.items ++ told_lines time (state_of core.now).replies orders.now) }
+    ensures { OnOk result (out.new.items ≡ out.old.items ++ told_lines time path.now (state_of core.now).replies orders.now) }
 {
     for order in orders {
-        write_told(time, core, order, printer, out)?;
+        write_told(time, path, core, order, printer, out)?;
     }
     Ok(())
 }
@@ -136,11 +185,12 @@ fn write_all(
 /// Appends the lines of the orders of a core that were not cleared, given at this time.
 pub(crate) fn tell(
     time: u64,
+    path: &[u8],
     core: &Core,
     printer: &mut Printer,
     out: &mut Vec<u8>,
 ) -> Result<(), AllocError>
-    ensures { OnOk result (out.new.items ≡ out.old.items ++ told_lines time (state_of core.now).replies core.now.effects) }
+    ensures { OnOk result (out.new.items ≡ out.old.items ++ told_lines time path.now (state_of core.now).replies core.now.effects) }
 {
-    write_all(time, core, core.effects(), printer, out)
+    write_all(time, path, core, core.effects(), printer, out)
 }

@@ -1,23 +1,20 @@
-//! A supervisor's core that is played.
+//! A tree that is tried.
 
-ghost use Rattle.std.specs.Prelude.{ℕ, ◌≡◌, ◌+◌, ◌<◌, ◌≤◌, ◌^◌, None, OnOk, IfOk, IfSome, length};
-ghost use Rattle.otp_rules.specs.Opening.{open_fault};
-ghost use Rattle.otp_rules.specs.State.{is_over};
+ghost use Rattle.std.specs.Prelude.{ℕ, List, [], ◌≡◌, ◌<◌, ◌≤◌, ◌^◌, OnOk, IfOk, IfSome, length};
 ghost use Rattle.otp_rules.specs.declared.event.Item.TheVariants as item;
 ghost use Rattle.otp_rules.specs.declared.event.Kind.TheVariants as kind;
-ghost use Rattle.otp_try.specs.Played.{Acts, Begins, Ends, Tells, found_for, state_in, unplayed};
+ghost use Rattle.otp_try.specs.Played.{ActsAt, AddsTree, Begins, EndsAt, Seated, Tells, unplayed};
 ghost use Rattle.otp_try.specs.Texts.{taken_text};
 ghost use Rattle.otp_try.specs.declared.trial.Taken.TheVariants.{Done};
 
 use crate::finding::{Found, found_for};
+use crate::planting::plant;
 use crate::script::{Action, Child};
-use crate::telling::tell;
-use crate::world::World;
-use otp_core::{Core, Counter, MAX_EVENTS};
+use crate::seat::Seat;
+use crate::world::{Deed, What, World};
+use otp_file::TreeSpec;
 use otp_reason::{Note, Reason};
 use otp_rules::{Call, Item, Kind};
-use otp_spec::{ChildSpec, SupFlags};
-use otp_table::Row;
 use otp_text::Printer;
 use std::alloc::{AllocError, Global};
 use std::marker::Model;
@@ -71,82 +68,102 @@ impl Taken {
     }
 }
 
-/// A supervisor in a world whose processes do what a script says, and else what is best: each start succeeds, and each
-/// process that is asked to shut down ends. The core decides, as it does for `sim`; nothing is decided twice.
+/// A tree of supervisors in a world whose processes do what a script says, and else what is best: each start succeeds, and
+/// each process that is asked to shut down ends. A supervisor below the root is a child of another: its start opens its
+/// core, and its end is told to its parent. The cores decide, as one does for `sim`; nothing is decided twice.
 #[derive(Drop)]
 pub struct Trial {
-    core: Core,
+    alloc: Global,
+    /// The root first, and each before its children.
+    seats: Vec<Seat>,
     printer: Printer,
     world: World,
     /// The clock, in milliseconds.
     time: u64,
     /// The greatest call number given.
     calls: u64,
-    is_stopping: bool,
+    /// The greatest process number given.
+    last: u64,
 }
 
 impl Model for Trial {
-    ghost use Rattle.otp_try.specs.Played.{Played};
+    ghost use Rattle.std.specs.Prelude.{List};
+    ghost use Rattle.otp_try.specs.Played.{Seated};
 
-    ghost Value = { Played };
+    ghost Value = { List Seated };
 
-    ghost use Rattle.otp_try.specs.Inside.{IsTrial, played_of};
+    ghost use Rattle.otp_try.specs.TrialInside.{IsTrial, seats_of};
 
-    ghost view = { played_of };
+    ghost view = { seats_of };
 
     ghost invariant = { IsTrial };
 }
 
 impl Trial {
-    /// A supervisor that was opened, and whose children have started as far as they do.
+    /// A tree whose root was opened, and whose children have started as far as they do.
     ///
     /// # Errors
     ///
     /// Where memory is refused.
-    pub fn open(
-        alloc: Global,
-        flags: SupFlags,
-        specs: &[ChildSpec],
-        out: &mut Vec<u8>,
-    ) -> Result<Self, Halt>
-        requires { open_fault flags specs.now ≡ None }
-        ensures { IfOk result (λ trial. Tells (unplayed flags specs.now) trial out.old.items out.new.items) }
+    pub fn open(alloc: Global, tree: TreeSpec, out: &mut Vec<u8>) -> Result<Self, Halt>
+        ensures { IfOk result (λ trial. (before : List Seated) × AddsTree (unplayed [] tree.flags tree.specs) [] before × Tells before trial out.old.items out.new.items) }
     {
-        let core = match Core::open(alloc, flags, specs) {
-            Ok(core) => core,
-            Err(_) => return Err(Halt::OutOfMemory),
-        };
+        let plants = plant(alloc, tree)?;
+        if plants.seats.is_empty() {
+            return Err(Halt::OutOfMemory);
+        }
         let mut trial = Trial {
-            core,
+            alloc,
+            seats: plants.seats,
             printer: Printer::new(alloc),
-            world: World::new(alloc),
+            world: World::new(alloc, plants.homes),
             time: 0,
             calls: 0,
-            is_stopping: false,
+            last: 0,
         };
-        trial.play(Kind::Opened(0), out)?;
+        trial.play(0, Kind::Opened(0), out)?;
         Ok(trial)
     }
 
-    /// The children in start order.
-    pub fn rows(&self) -> &[Row]
-        ensures { result.now ≡ (state_in self.now).rows }
+    /// The supervisors, the root first, and each before its children.
+    pub(crate) fn seats(&self) -> &[Seat]
+        ensures { result.now ≡ self.now }
     {
-        self.core.rows()
+        self.seats.as_slice()
     }
 
-    /// The times in milliseconds of all restarts.
-    pub fn restarts(&self) -> &[u64]
-        ensures { result.now ≡ (state_in self.now).stamps }
+    /// The place of the supervisor whose children's names stand behind this path, as `sub/`; the root's is empty.
+    pub fn place_of(&self, path: &[u8]) -> Option<usize>
+        ensures { IfSome result (λ place. place < length self.now) }
     {
-        self.core.restarts()
+        self.seats.iter().position(|seat| seat.path() == path)
     }
 
-    /// Whether the supervisor has ended.
-    pub fn has_ended(&self) -> bool
-        ensures { result ≡ is_over (state_in self.now).phase }
+    /// The place of the supervisor of which a child has a process of this number; the root's where there is none.
+    pub fn place_of_process(&self, process: u64) -> usize
+        ensures { result < length self.now }
     {
-        self.core.has_ended()
+        for place in 0..self.seats.len() {
+            if self.world.has_process(place) && has_child(&self.seats[place], process) {
+                return place;
+            }
+        }
+        0
+    }
+
+    /// The root.
+    pub(crate) fn root(&self) -> &Seat {
+        &self.seats[0]
+    }
+
+    /// Whether the supervisor at this place has a process.
+    pub fn has_process(&self, place: usize) -> bool {
+        self.world.has_process(place)
+    }
+
+    /// Whether the root has ended.
+    pub fn has_ended(&self) -> bool {
+        self.seats[0].has_ended()
     }
 
     /// The clock, in milliseconds since the beginning.
@@ -156,34 +173,64 @@ impl Trial {
         self.time
     }
 
-    /// Something happens now, and is told.
-    fn happen(&mut self, kind: Kind, out: &mut Vec<u8>) -> Result<(), Halt>
+    /// Something happens now at the supervisor at this place, and is told.
+    fn happen(&mut self, place: usize, kind: Kind, out: &mut Vec<u8>) -> Result<(), Halt>
+        requires { place < length self.old }
         ensures told { OnOk result (Tells self.old self.new out.old.items out.new.items) }
-        ensures first { OnOk result (Begins kind self.old self.new) }
+        ensures first { OnOk result (Begins place kind self.old self.new) }
     {
-        if self.core.is_full() {
-            return Err(Halt::HistoryFull);
-        }
-        self.core.prepare()?;
-        let mut numbers = Counter {
-            last: self.core.last_number(),
-        };
-        self.core.step_with(self.time, kind, &mut numbers);
-        let told = tell(self.time, &self.core, &mut self.printer, out);
-        let obeyed = self.world.obey(self.core.effects());
-        self.core.clear_effects();
-        told?;
-        obeyed?;
+        self.last = self.seats[place].happen(self.time, kind, self.last, &mut self.printer, out)?;
+        let seat = &self.seats[place];
+        self.world.obey(place, seat.rows(), seat.orders())?;
         Ok(())
     }
 
-    /// What happens next by itself, if something does: what a process tells, a deadline, a stop that is wanted, what waits.
-    fn next_kind(&mut self) -> Option<Kind>
+    /// The supervisor at this place starts under this number, as a child of its parent.
+    fn begin(&mut self, place: usize, process: u64, out: &mut Vec<u8>) -> Result<(), Halt>
+        requires { place < length self.old }
+        ensures { OnOk result (Tells self.old self.new out.old.items out.new.items) }
+    {
+        self.seats[place].renew(self.alloc)?;
+        self.world.begin(place, process);
+        self.happen(place, Kind::Opened(process), out)
+    }
+
+    /// What a supervisor does next though nobody tells it anything: a deadline, a stop that is wanted, what waits.
+    fn next_of_seats(&self) -> Option<Deed> {
+        for place in 0..self.seats.len() {
+            if self.world.has_process(place) {
+                let is_stopping = self.world.is_stopping(place);
+                if let Some(kind) = self.seats[place].next_kind(self.time, is_stopping) {
+                    return Some(Deed {
+                        place,
+                        what: What::Happen(kind),
+                    });
+                }
+            }
+        }
+        None
+    }
+
+    /// What happens next by itself, if something does.
+    fn next_deed(&mut self) -> Option<Deed>
         ensures { self.new ≡ self.old }
     {
-        match self.world.next_note() {
-            Some(note) => Some(Kind::Took(Item::Note(note))),
-            None => self.core.next_kind(self.time, self.is_stopping),
+        match self.world.next_deed() {
+            Some(deed) => Some(deed),
+            None => self.next_of_seats(),
+        }
+    }
+
+    /// What comes next is done.
+    fn take(&mut self, deed: Deed, out: &mut Vec<u8>) -> Result<(), Halt>
+        ensures { OnOk result (Tells self.old self.new out.old.items out.new.items) }
+    {
+        if deed.place >= self.seats.len() {
+            return Ok(());
+        }
+        match deed.what {
+            What::Start(process) => self.begin(deed.place, process, out),
+            What::Happen(kind) => self.happen(deed.place, kind, out),
         }
     }
 
@@ -191,21 +238,22 @@ impl Trial {
     fn settle(&mut self, out: &mut Vec<u8>) -> Result<(), Halt>
         ensures { OnOk result (Tells self.old self.new out.old.items out.new.items) }
     {
-        for _ in 0..=MAX_EVENTS {
-            let Some(kind) = self.next_kind() else {
+        for _ in 0..u64::MAX {
+            let Some(deed) = self.next_deed() else {
                 return Ok(());
             };
-            self.happen(kind, out)?;
+            self.take(deed, out)?;
         }
         Err(Halt::HistoryFull)
     }
 
-    /// Something happens, and all that follows from it.
-    fn play(&mut self, kind: Kind, out: &mut Vec<u8>) -> Result<(), Halt>
+    /// Something happens at the supervisor at this place, and all that follows from it.
+    fn play(&mut self, place: usize, kind: Kind, out: &mut Vec<u8>) -> Result<(), Halt>
+        requires { place < length self.old }
         ensures told { OnOk result (Tells self.old self.new out.old.items out.new.items) }
-        ensures first { OnOk result (Begins kind self.old self.new) }
+        ensures first { OnOk result (Begins place kind self.old self.new) }
     {
-        self.happen(kind, out)?;
+        self.happen(place, kind, out)?;
         self.settle(out)
     }
 
@@ -213,7 +261,13 @@ impl Trial {
     fn next_deadline(&self, time: u64) -> Option<u64>
         ensures { IfSome result (λ deadline. deadline ≤ time) }
     {
-        let deadline = self.core.next_deadline()?;
+        let mut next = None;
+        for place in 0..self.seats.len() {
+            if self.world.has_process(place) {
+                next = earlier(next, self.seats[place].next_deadline());
+            }
+        }
+        let deadline = next?;
         if deadline <= time {
             Some(deadline)
         } else {
@@ -227,7 +281,7 @@ impl Trial {
         requires { time ≤ 2 ^ 62 }
         ensures { OnOk result (Tells self.old self.new out.old.items out.new.items) }
     {
-        for _ in 0..=MAX_EVENTS {
+        for _ in 0..u64::MAX {
             let Some(deadline) = self.next_deadline(time) else {
                 self.time = self.time.max(time);
                 return Ok(());
@@ -238,43 +292,52 @@ impl Trial {
         Err(Halt::HistoryFull)
     }
 
-    /// An action happens now, and all that follows from it.
+    /// An action happens now, and all that follows from it. It is said to the supervisor at this place, and means its
+    /// children.
     #[tactic(auto, unfolding(crate::specs::Played::Acts))]
-    pub fn act(&mut self, action: Action, out: &mut Vec<u8>) -> Result<Taken, Halt>
+    pub fn act(&mut self, place: usize, action: Action, out: &mut Vec<u8>) -> Result<Taken, Halt>
+        requires { place < length self.old }
         ensures told { OnOk result (Tells self.old self.new out.old.items out.new.items) }
-        ensures acted { IfOk result (λ taken. Acts action self.old taken self.new) }
+        ensures acted { IfOk result (λ taken. ActsAt action place self.old taken self.new) }
     {
         match action {
             Action::Nothing => Ok(Taken::Done),
-            Action::Exit(child, reason) => self.end_process(&child, reason, out),
+            Action::Exit(child, reason) => self.end_process(place, &child, reason, out),
             Action::Start(id, start) => {
-                self.world.plan_start(id, start)?;
+                self.world.plan_start(place, id, start)?;
                 Ok(Taken::Done)
             }
-            Action::Hang(child) => self.hang(child),
+            Action::Hang(child) => self.hang(place, child),
             Action::Stop => {
-                self.is_stopping = true;
+                self.world.stop(place);
                 self.settle(out)?;
                 Ok(Taken::Done)
             }
-            Action::Call(call) => self.call(call, out),
+            Action::Call(call) => self.call(place, call, out),
         }
     }
 
-    /// The process of a child ends.
+    /// The process of a child of the supervisor at this place ends.
     #[tactic(auto, unfolding(crate::specs::Played::Ends))]
     fn end_process(
         &mut self,
+        place: usize,
         child: &Child,
         reason: Reason,
         out: &mut Vec<u8>,
     ) -> Result<Taken, Halt>
+        requires { place < length self.old }
         ensures told { OnOk result (Tells self.old self.new out.old.items out.new.items) }
-        ensures ends { IfOk result (λ taken. Ends reason (found_for child.now (state_in self.old).rows) self.old taken self.new) }
+        ensures ends { IfOk result (λ taken. EndsAt place reason child.now self.old taken self.new) }
     {
-        match found_for(child, self.core.rows()) {
+        match found_for(child, self.seats[place].rows()) {
             Found::Process(process) => {
-                self.play(Kind::Took(Item::Note(Note::Exit(process, reason))), out)?;
+                self.world.lose(place, process);
+                self.play(
+                    place,
+                    Kind::Took(Item::Note(Note::Exit(process, reason))),
+                    out,
+                )?;
                 Ok(Taken::Done)
             }
             Found::NoProcess => Ok(Taken::NoProcess),
@@ -282,25 +345,41 @@ impl Trial {
         }
     }
 
-    /// A child will not end when it is next asked to shut down.
-    fn hang(&mut self, child: Child) -> Result<Taken, Halt>
+    /// A child of the supervisor at this place will not end when it is next asked to shut down.
+    fn hang(&mut self, place: usize, child: Child) -> Result<Taken, Halt>
+        requires { place < length self.old }
         ensures { self.new ≡ self.old }
     {
-        if found_for(&child, self.core.rows()) == Found::NoChild {
+        if found_for(&child, self.seats[place].rows()) == Found::NoChild {
             return Ok(Taken::NoChild);
         }
-        self.world.plan_hang(child)?;
+        self.world.plan_hang(place, child)?;
         Ok(Taken::Done)
     }
 
-    /// Somebody calls the supervisor.
-    fn call(&mut self, call: Call, out: &mut Vec<u8>) -> Result<Taken, Halt>
+    /// Somebody calls the supervisor at this place.
+    fn call(&mut self, place: usize, call: Call, out: &mut Vec<u8>) -> Result<Taken, Halt>
+        requires { place < length self.old }
         ensures told { OnOk result (Tells self.old self.new out.old.items out.new.items) }
-        ensures called { IfOk result (λ taken. (taken ≡ Done) × ((n : ℕ) × Begins (kind.Took (item.Call n call)) self.old self.new)) }
+        ensures called { IfOk result (λ taken. (taken ≡ Done) × ((n : ℕ) × Begins place (kind.Took (item.Call n call)) self.old self.new)) }
     {
         self.calls = self.calls.saturating_add(1);
         let number = self.calls;
-        self.play(Kind::Took(Item::Call(number, call)), out)?;
+        self.play(place, Kind::Took(Item::Call(number, call)), out)?;
         Ok(Taken::Done)
+    }
+}
+
+/// Whether a child of this supervisor has a process of this number.
+fn has_child(seat: &Seat, process: u64) -> bool {
+    seat.rows().iter().any(|row| row.state.has_process(process))
+}
+
+/// The earlier of two times, where there are any.
+fn earlier(one: Option<u64>, other: Option<u64>) -> Option<u64> {
+    match (one, other) {
+        (Some(one), Some(other)) => Some(one.min(other)),
+        (Some(one), None) => Some(one),
+        (None, other) => other,
     }
 }

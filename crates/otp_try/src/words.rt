@@ -34,6 +34,19 @@ fn end_of_words(line: &[u8]) -> usize
     end
 }
 
+/// The place after the last `/`, or 0 where there is none.
+pub(crate) fn end_of_path(word: &[u8]) -> usize
+    ensures { result ≤ length word.now }
+{
+    let mut end = 0;
+    for place in 0..word.len() {
+        if word[place] == b'/' {
+            end = place + 1;
+        }
+    }
+    end
+}
+
 /// The line without what stands after its last word.
 pub(crate) fn strip_end(line: &[u8]) -> &[u8] {
     &line[..end_of_words(line)]

@@ -1,27 +1,33 @@
-//! Three worked uses of what threads share and run, short enough to copy: an inbox between two threads, a signal from
-//! one thread to another, and a job whose process is taken turn by turn.
+//! Five worked uses, short enough to copy: a supervisor that is driven by hand, an inbox between two threads, a signal
+//! from one thread to another, a tree of supervisors that two hands serve, and a job whose process is taken turn by turn.
 //!
-//! Each use of what is shared is a function that is generic in a name. The call of it at `Brand`, here in `main`, picks
+//! Each use of what threads share is a function that is generic in a name. The call of it at `Brand`, here in `main`, picks
 //! the name: whose inbox, words or deques. A file of `proofs/` says which one that is (`proofs/main/Invariants.antt`).
 #![tactic(auto)]
 
 mod countdown;
 mod mailbox;
 mod signalling;
+mod supervising;
+mod tree;
 
 use countdown::{Countdown, run_all, step};
 use mailbox::{Number, exchange};
+use otp_core::Core;
 use otp_inbox::UnnamedInbox;
 use otp_job::{Body, BoxedJob, Process};
 use otp_signals::{OpenWords, Signal};
 use signalling::stop_from_outside;
+use std::alloc::{AllocError, Global};
 use std::io;
 use std::marker::Brand;
+use tree::{Run, up_and_down};
 
 /// How many numbers are sent.
 const COUNT: usize = 1000;
 
 fn main(rt: HostRuntime) -> io::Result<()> {
+    supervise(rt)?;
     let inbox = UnnamedInbox::<usize, Number>::open(rt.alloc())?;
     let came = exchange::<Brand, _>(&rt, rt.alloc(), inbox, COUNT)?;
     let last = came.last().map_or(0, |number| number.value);
@@ -31,7 +37,41 @@ fn main(rt: HostRuntime) -> io::Result<()> {
         Ok(Signal::Shutdown) => println!(rt; "the process saw its shutdown")?,
         _ => println!(rt; "no number was left")?,
     }
+    match up_and_down(&rt, rt.alloc()) {
+        Ok(
+            Run {
+                up: Some(up),
+                end: Some(end),
+            },
+        ) => println!(rt; "the tree: {up:?}, then {end:?}")?,
+        Ok(_) => println!(rt; "the tree had too few turns")?,
+        Err(fault) => println!(rt; "the tree was not opened: {fault:?}")?,
+    }
     count_down(rt)
+}
+
+// A supervisor of three children: the second crashes, and then all are stopped.
+fn supervise(rt: HostRuntime) -> io::Result<()> {
+    let mut core = supervising::open(rt.alloc())?;
+    println!(rt; "opened:{}", children(rt.alloc(), &core)?)?;
+    supervising::crash(rt.alloc(), &mut core, 2)?;
+    println!(rt; "the second crashed:{}", children(rt.alloc(), &core)?)?;
+    supervising::stop(rt.alloc(), &mut core)?;
+    println!(rt;
+        "stopped: {} children are left, it ended: {}",
+        core.rows().len(),
+        core.has_ended()
+    )
+}
+
+// The process numbers of the children in start order.
+fn children(alloc: Global, core: &Core) -> Result<String, AllocError> {
+    let mut text = String::new(alloc);
+    for row in core.rows() {
+        let number = row.state.number().unwrap_or(0);
+        text.push_str(format!(in alloc; " #{number}")?.as_str())?;
+    }
+    Ok(text)
 }
 
 // Three processes that are stepped by hand, and ten at a scheduler.

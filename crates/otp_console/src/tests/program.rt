@@ -159,7 +159,7 @@ fn orders_and_sentences(rt: HostRuntime) -> Result<(), Fail> {
     Ok(())
 }
 
-/// What `check`, `tree` and `try` write, tell and end with.
+/// What `check`, `tree`, `try` and `limits` write, tell and end with.
 #[test]
 fn checks_and_pictures(rt: HostRuntime) -> Result<(), Fail> {
     let alloc = rt.alloc();
@@ -178,6 +178,15 @@ fn checks_and_pictures(rt: HostRuntime) -> Result<(), Fail> {
         ),
         (["try", "tree"], TREE, UP, "", 0),
         (["try", "three"], TREE, "", NO_FILE, 1),
+        (["limits", "tree"], TREE, LIMITS, "", 0),
+        (["limits", "three"], TREE, "", NO_FILE, 1),
+        (
+            ["limits", "tree"],
+            "period = 0\n",
+            "",
+            "tree refused: E1\n",
+            1,
+        ),
     ];
     for (words, tree, printed, told, status) in rows {
         let [command, name] = words;
@@ -201,6 +210,35 @@ const NO_FILE: &str = "error: three can't be read: there is no such file\n";
 const PICTURE: &str = "one_for_one, 1 restarts in 5 s\n`-- a  permanent  worker      5000 ms\n";
 
 const UP: &str = "0.000 s  start a #1\n0.000 s  ready\n0.000 s  1 up, 0/1 restarts in 5 s\n";
+
+const LIMITS: &str =
+    "child                             burst      interval  stops  starts  gives up\na                                     1       5001 ms      0       1  supervisor\na crash of a\n  stops  nothing\n  starts a\n";
+
+/// A file of a byte more than 1 MiB is not parsed by what people use, and one of 1 MiB is.
+#[test]
+fn large_files(rt: HostRuntime) -> Result<(), Fail> {
+    let alloc = rt.alloc();
+    let mut text = String::from_str(alloc, TREE)?;
+    while text.len() < 1_048_576 {
+        text.push('\n').map_err(|_| AllocError)?;
+    }
+    for command in ["check", "tree", "try", "limits"] {
+        let words = words_in(alloc, &["otp", command, "tree"])?;
+        assert_eq!(rt;
+            seen(alloc, Ok(words), &text, None, "").status,
+            0,
+            "{command}"
+        );
+    }
+    text.push('\n').map_err(|_| AllocError)?;
+    for command in ["check", "tree", "try", "limits"] {
+        let words = words_in(alloc, &["otp", command, "tree"])?;
+        let seen = seen(alloc, Ok(words), &text, None, "");
+        assert_eq!(rt; seen.status, 1, "{command}");
+        assert!(rt; has(&seen.errors, "1048576 bytes"), "{command}");
+    }
+    Ok(())
+}
 
 /// Whether a text has this part.
 fn has(text: &[u8], part: &str) -> bool {

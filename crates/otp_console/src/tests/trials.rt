@@ -1,7 +1,7 @@
 //! The scripts of the repository. `examples/check --table` writes this file from theirs.
 
 /// The name of each script, its tree file, its lines, and what is told, with the status.
-pub(super) const TRIALS: [(&str, &str, &str, &str); 4] = [
+pub(super) const TRIALS: [(&str, &str, &str, &str); 6] = [
     (
         "first",
         r##"# One worker, which may be restarted once within 5 seconds.
@@ -24,6 +24,142 @@ line 1: at 1s crash db
 line 2: at 2s crash db
 2.000 s  end shutdown: more than 1 restarts within 5 s: at 1.000 s, 2.000 s
 2.000 s  the supervisor has ended
+status 0
+"##,
+    ),
+    (
+        "nested_given_up",
+        r##"# A database, and a pool of two workers under a supervisor of its own. The pool allows one restart within 10 seconds, the
+# root two within 60.
+# Look for: in `nested_restarted.script` the pool's second restart is one too many: it ends, and its parent starts it
+# again with both workers. In `nested_given_up.script` that happens once too often for the root too, and all end.
+
+intensity = 2
+period = 60
+
+[[child]]
+id = "db"
+start = "db"
+
+[[child]]
+id = "pool"
+start = "pool"
+
+[child.tree]
+intensity = 1
+period = 10
+
+[[child.tree.child]]
+id = "a"
+start = "worker"
+
+[[child.tree.child]]
+id = "b"
+start = "worker"
+"##,
+        r##"# Each pair of crashes ends the pool: how many bring the root down?
+at 1s crash pool/a
++1s crash pool/a
++1s crash pool/a
++1s crash pool/a
++1s crash pool/a
++1s crash pool/a
+"##,
+        r##"0.000 s  start db #1
+0.000 s  start pool #2
+0.000 s  start pool/a #3
+0.000 s  start pool/b #4
+0.000 s  pool/ ready
+0.000 s  ready
+line 2: at 1s crash pool/a
+1.000 s  start pool/a #5
+line 3: +1s crash pool/a
+2.000 s  ask pool/b #4
+2.000 s  pool/ end shutdown: more than 1 restarts within 10 s: at 1.000 s, 2.000 s
+2.000 s  start pool #6
+2.000 s  start pool/a #7
+2.000 s  start pool/b #8
+2.000 s  pool/ ready
+line 4: +1s crash pool/a
+3.000 s  start pool/a #9
+line 5: +1s crash pool/a
+4.000 s  ask pool/b #8
+4.000 s  pool/ end shutdown: more than 1 restarts within 10 s: at 3.000 s, 4.000 s
+4.000 s  start pool #10
+4.000 s  start pool/a #11
+4.000 s  start pool/b #12
+4.000 s  pool/ ready
+line 6: +1s crash pool/a
+5.000 s  start pool/a #13
+line 7: +1s crash pool/a
+6.000 s  ask pool/b #12
+6.000 s  pool/ end shutdown: more than 1 restarts within 10 s: at 5.000 s, 6.000 s
+6.000 s  ask db #1
+6.000 s  end shutdown: more than 2 restarts within 60 s: at 2.000 s, 4.000 s, 6.000 s
+6.000 s  the supervisor has ended
+status 0
+"##,
+    ),
+    (
+        "nested_restarted",
+        r##"# A database, and a pool of two workers under a supervisor of its own. The pool allows one restart within 10 seconds, the
+# root two within 60.
+# Look for: in `nested_restarted.script` the pool's second restart is one too many: it ends, and its parent starts it
+# again with both workers. In `nested_given_up.script` that happens once too often for the root too, and all end.
+
+intensity = 2
+period = 60
+
+[[child]]
+id = "db"
+start = "db"
+
+[[child]]
+id = "pool"
+start = "pool"
+
+[child.tree]
+intensity = 1
+period = 10
+
+[[child.tree.child]]
+id = "a"
+start = "worker"
+
+[[child.tree.child]]
+id = "b"
+start = "worker"
+"##,
+        r##"# The pool gives up once, and its parent starts it again.
+at 1s crash pool/a
++1s crash pool/b
++1s crash pool/a
+pool/ count
+count
+"##,
+        r##"0.000 s  start db #1
+0.000 s  start pool #2
+0.000 s  start pool/a #3
+0.000 s  start pool/b #4
+0.000 s  pool/ ready
+0.000 s  ready
+line 2: at 1s crash pool/a
+1.000 s  start pool/a #5
+line 3: +1s crash pool/b
+2.000 s  ask pool/a #5
+2.000 s  pool/ end shutdown: more than 1 restarts within 10 s: at 1.000 s, 2.000 s
+2.000 s  start pool #6
+2.000 s  start pool/a #7
+2.000 s  start pool/b #8
+2.000 s  pool/ ready
+line 4: +1s crash pool/a
+3.000 s  start pool/a #9
+line 5: pool/ count
+3.000 s  pool/ reply 1 count specs 2 active 2 supervisors 0 workers 2
+line 6: count
+3.000 s  reply 2 count specs 2 active 2 supervisors 1 workers 1
+3.000 s  2 up, 1/2 restarts in 60 s
+3.000 s  pool/ 2 up, 1/1 restarts in 10 s
 status 0
 "##,
     ),

@@ -37,3 +37,20 @@ returns-in-Tree-clause-done g c =
     } in
     subst (λ (command : Command). Does (g.F.TreeFiles.holds c.args.files.now) command c.draw_named.result old new) (sym c.in-Tree.is)
     (c.draw_named.ensures.done (g.R.Input.remaining c.args.input.now) (g.R.Input.failures c.args.input.now))
+
+pub returns-in-Limits-clause-done : goal.returns-in-Limits-clause-done
+returns-in-Limits-clause-done g c =
+    let old : Devices = record {
+      left = g.R.Input.remaining c.args.input.now;
+      written = g.W.Output.contents c.args.output.now;
+      read_failures = g.R.Input.failures c.args.input.now;
+      write_failures = g.W.Output.failures c.args.output.now;
+    } in
+    let new : Devices = record {
+      left = g.R.Input.remaining c.args.input.now;
+      written = g.W.Output.contents c.limit_named.new.output;
+      read_failures = g.R.Input.failures c.args.input.now;
+      write_failures = g.W.Output.failures c.limit_named.new.output;
+    } in
+    subst (λ (command : Command). Does (g.F.TreeFiles.holds c.args.files.now) command c.limit_named.result old new) (sym c.in-Limits.is)
+    (c.limit_named.ensures.done (g.R.Input.remaining c.args.input.now) (g.R.Input.failures c.args.input.now))

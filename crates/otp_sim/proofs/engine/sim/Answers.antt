@@ -6,7 +6,7 @@ use Rattle.otp_sim.proofs.engine.sim.Goals as goal
 
 pub serve-requires : goal.serve-requires
 serve-requires g c =
-    ap (λ (s : Sim). s.lines) c.new-session.ensures ∙ ap (λ (s : Sim). s.lines) c.in-Ok.ensures ∙ opened_lines c.args.flags.now c.args.specs.now
+    ap (λ (s : Sim). s.lines) c.new-session.ensures ∙ ap (λ (s : Sim). s.lines) c.in-Ok.ensures ∙ opened_lines c.args.supervisor.flags c.args.supervisor.specs
 
 pub returns-in_default : goal.returns-in_default
 returns-in_default g c =
@@ -16,9 +16,9 @@ returns-in_default g c =
       read_failures = g.R.Input.failures c.args.input.now;
       write_failures = g.W.Output.failures c.args.output.now;
     } in
-    nothing_written (opened c.args.flags.now c.args.specs.now) devices
+    nothing_written (opened c.args.supervisor.flags c.args.supervisor.specs) devices
 
 pub returns : goal.returns
 returns g c =
-    writes_from c.serve.result (with_text c.open.new.out.items c.new-session.result.player) (opened c.args.flags.now c.args.specs.now) _ _
+    writes_from c.serve.result (with_text c.open.new.out.items c.new-session.result.player) (opened c.args.supervisor.flags c.args.supervisor.specs) _ _
     (ap (with_text c.open.new.out.items) c.new-session.ensures ∙ c.in-Ok.ensures) c.serve.ensures

@@ -6,5 +6,5 @@ use Rattle.otp_try.proofs.telling.write_all.Given as goal
 
 abbrev pub invariant-loop-order : goal.invariant-loop-order
 invariant-loop-order l =
-    l.out.items ++ flat_map (told_line l.time (state_of l.core).replies) (drop l.order-index l.orders)
-    ≡ l.fn.out.items ++ flat_map (told_line l.time (state_of l.core).replies) l.orders
+    l.out.items ++ flat_map (told_line l.time l.path (state_of l.core).replies) (drop l.order-index l.orders)
+    ≡ l.fn.out.items ++ flat_map (told_line l.time l.path (state_of l.core).replies) l.orders

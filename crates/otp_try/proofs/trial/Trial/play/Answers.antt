@@ -17,7 +17,7 @@ pub returns-clause-first : goal.returns-clause-first
 returns-clause-first c =
     (elim c.settle.result as (λ r.
     OnOk r (Tells c.happen.new.self c.settle.new.self c.happen.new.out.items c.settle.new.out.items) →
-    OnOk r (Begins c.args.kind c.args.self.now c.settle.new.self)) [
-      | Ok _ ↦ λ later. begins-then c.args.kind c.args.self.now c.happen.new.self c.settle.new.self c.happen.new.out.items c.settle.new.out.items c.in_ok-happen.ensures.first later
+    OnOk r (Begins c.args.place c.args.kind c.args.self.now c.settle.new.self)) [
+      | Ok _ ↦ λ later. begins-then c.args.place c.args.kind c.args.self.now c.happen.new.self c.settle.new.self c.happen.new.out.items c.settle.new.out.items c.in_ok-happen.ensures.first later
       | Err _ ↦ λ x. x
     ]) c.settle.ensures

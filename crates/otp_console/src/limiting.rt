@@ -1,0 +1,46 @@
+//! `limits`: what does each child's failure cost?
+
+ghost use Rattle.std.specs.Prelude.{ℕ, List, Option, ◌≡◌};
+ghost use Rattle.otp_console.specs.Limited.{ending_of_halt};
+ghost use Rattle.otp_console.specs.Runs.{IsLimited};
+
+use crate::ending::Ending;
+use otp_file::read_tree;
+use otp_limits::{Halt, write_limits};
+use otp_sim::{Failed, Output, write_all};
+use std::alloc::Global;
+
+/// Reads the tree of a file, plays crashes of each child of its supervisor, and writes what they cost.
+#[tactic(auto, unfolding(otp_spec::specs::Supervisor::supervisor_fault))]
+pub fn limit_file<W: Output>(alloc: Global, file: &[u8], output: &mut W) -> Ending
+    ensures { (left : Option (List ℕ)) (failures : ℕ) → IsLimited result file.now
+        (record { left = left; written = W.contents output.old; read_failures = failures; write_failures = W.failures output.old })
+        (record { left = left; written = W.contents output.new; read_failures = failures; write_failures = W.failures output.new }) }
+{
+    let tree = match read_tree(alloc, file) {
+        Ok(tree) => tree,
+        Err(fault) => return Ending::of_tree(fault),
+    };
+    let supervisor = tree.supervisor();
+    let mut table = Vec::new(alloc);
+    match write_limits(alloc, &supervisor.flags(), supervisor.specs(), &mut table) {
+        Ok(()) => {}
+        Err(halt) => return Ending::of_halt(halt),
+    }
+    match write_all(output, table.as_slice()) {
+        Ok(()) => Ending::Done,
+        Err(Failed) => Ending::OutputFailed,
+    }
+}
+
+impl Ending {
+    /// The end for a core that can't be played on.
+    fn of_halt(halt: Halt) -> Self
+        ensures { result ≡ ending_of_halt halt }
+    {
+        match halt {
+            Halt::HistoryFull => Ending::HistoryFull,
+            Halt::OutOfMemory => Ending::OutOfMemory,
+        }
+    }
+}

@@ -1,0 +1,60 @@
+-- One event of a scene.
+use Rattle.std.specs.Prelude.{◌≡◌, ℕ, ◌+◌, ◌≤◌, Bool, true, false, List, [], ◌∷◌, ◌++◌, Option, Some, None, MatchOption, refl, is_some, length, unwrap_or, if◌then◌else◌}
+use Rattle.std.proofs.Common.{◌∙◌, ap, sym, arith, length-append}
+use Rattle.std.specs.List.{filter_map}
+use Rattle.otp_machine.specs.declared.numbers.Counter.{Counter}
+use Rattle.otp_reason.specs.declared.note.Note.{Note}
+use Rattle.otp_rules.specs.Needs.{last_from, last_number}
+use Rattle.otp_rules.specs.declared.event.Effect.{Effect}
+use Rattle.otp_rules.specs.declared.event.Event.{Event}
+use Rattle.otp_rules.specs.declared.event.Kind.{Kind}
+use Rattle.otp_rules.specs.Run.{state_after}
+use Rattle.otp_rules.specs.State.{State}
+use Rattle.otp_rules.specs.Step.{step}
+use Rattle.otp_limits.specs.Scene.{Scene, after_event, event_for, happened, note_of}
+
+-- the state after one event more
+pub pushed : (s : State) (es : List Event) (e : Event) → state_after s (es ++ e ∷ []) ≡ (step (state_after s es) e).state
+pushed s [] e = refl
+pushed s (x ∷ xs) e = pushed (step s x).state xs e
+
+pub last_pushed : (p : ℕ) (es : List Event) (e : Event) → last_from p (es ++ e ∷ []) ≡ unwrap_or e.number (last_from p es)
+last_pushed p [] e = refl
+last_pushed p (x ∷ xs) e = last_pushed (unwrap_or x.number p) xs e
+
+-- a counter that was asked where a number is needed gave the next one
+pub given : (needs : Bool) (number : Option ℕ) (last : ℕ) (old new : Counter) → old.last ≡ last → is_some number ≡ needs
+    → MatchOption number (new ≡ old) (λ n. (n ≡ old.last + 1) × (new ≡ record { last = old.last + 1 }))
+    → number ≡ (if needs then Some (last + 1) else None)
+given false None last old new same is h = refl
+given true None last old new same is h = cc
+given false (Some n) last old new same is h = cc
+given true (Some n) last old new same is (is_next, is_new) = ap (λ (m : ℕ). Some m) (is_next ∙ ap (λ (m : ℕ). m + 1) same)
+
+at_most_next : (number : Option ℕ) (needs : Bool) (last : ℕ) → number ≡ (if needs then Some (last + 1) else None) → unwrap_or number last ≤ last + 1
+at_most_next None needs last h = omega arith
+at_most_next (Some n) false last h = cc
+at_most_next (Some n) true last h = let e : n ≡ last + 1 = cc in omega (arith, e)
+
+-- what a stage keeps of its history, one event more
+pub still : (history longer : List Event) (e : Event) (needs : Bool) → longer ≡ history ++ e ∷ [] → e.number ≡ (if needs then Some (last_number history + 1) else None)
+    → last_number history ≤ length history → ¬ (65536 ≤ length history)
+    → (length longer ≤ 65536) × (last_number longer ≤ length longer)
+still history longer e needs more next few room =
+    let count : length longer ≡ length history + 1 = ap (λ (h : List Event). length h) more ∙ length-append history (e ∷ []) in
+    let last : last_number longer ≡ unwrap_or e.number (last_number history) = ap last_number more ∙ last_pushed 0 history e in
+    let most : unwrap_or e.number (last_number history) ≤ last_number history + 1 = at_most_next e.number needs (last_number history) next in
+    (omega (arith, count, room), omega (arith, count, last, most, few))
+
+-- a scene by its parts
+pub happened-is : (time : ℕ) (kind : Kind) (old : Scene) (event : Event) (state : State) (last : ℕ) (orders : List Effect) (notes : List Note)
+    → event ≡ event_for time kind old → state ≡ (step old.state event).state → last ≡ unwrap_or event.number old.last
+    → orders ≡ old.orders ++ (step old.state event).orders → notes ≡ old.notes ++ filter_map note_of (step old.state event).orders
+    → record { state = state; last = last; orders = orders; notes = notes } ≡ happened time kind old
+unfolding happened after_event
+happened-is time kind old event state last orders notes is is_state is_last is_orders is_notes =
+    ap (λ (s : State). record { state = s; last = last; orders = orders; notes = notes }) is_state
+    ∙ ap (λ (n : ℕ). record { state = (step old.state event).state; last = n; orders = orders; notes = notes }) is_last
+    ∙ ap (λ (os : List Effect). record { state = (step old.state event).state; last = unwrap_or event.number old.last; orders = os; notes = notes }) is_orders
+    ∙ ap (λ (ns : List Note). record { state = (step old.state event).state; last = unwrap_or event.number old.last; orders = old.orders ++ (step old.state event).orders; notes = ns }) is_notes
+    ∙ ap (λ (e : Event). after_event e old) is

@@ -1,0 +1,6 @@
+use Rattle.std.proofs.Common.{◌≡◌, ℕ, false}
+use Rattle.otp_limits.specs.Fates.{RunsAfter}
+use Rattle.otp_limits.proofs.fate.fare.Given as goal
+
+abbrev pub invariant-loop-count : goal.invariant-loop-count
+invariant-loop-count l = RunsAfter l.id l.gap l.count l.fn.stage l.stage

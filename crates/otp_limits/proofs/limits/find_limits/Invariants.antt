@@ -1,0 +1,8 @@
+use Rattle.std.proofs.Common.{◌≡◌, List, [], take}
+use Rattle.otp_limits.specs.Costs.{AreCosts, ranked}
+use Rattle.otp_limits.specs.declared.cost.Cost.{Cost}
+use Rattle.otp_limits.proofs.limits.find_limits.Given as goal
+
+abbrev pub invariant-loop-spec : goal.invariant-loop-spec
+invariant-loop-spec l =
+    (each : List Cost) × (AreCosts l.flags l.specs (take l.spec-index l.specs) each × (l.costs.items ≡ ranked [] each))

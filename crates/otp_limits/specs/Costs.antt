@@ -1,0 +1,125 @@
+-- What a child's failure costs (own).
+use Rattle.std.specs.Prelude.{◌≡◌, ℕ, ◌+◌, ◌*◌, ◌≤◌, ◌<◌, ◌^◌, Bool, true, false, ◌&&◌, ◌||◌, ◌==◌, nat_lt, min, List, [], ◌∷◌, ◌++◌, insert, Option, Some, None, position, length}
+use Rattle.std.specs.List.{filter_map}
+use Rattle.otp_reason.specs.declared.name.Name.{Name}
+use Rattle.otp_rules.specs.declared.event.Effect.{Effect}
+use Rattle.otp_rules.specs.declared.event.Effect.TheVariants as effect
+use Rattle.otp_spec.specs.declared.child.ChildSpec.{ChildSpec}
+use Rattle.otp_spec.specs.declared.flags.SupFlags.{SupFlags}
+use Rattle.otp_spec.specs.declared.limits.TheConstants.{MAX_INTENSITY, MAX_PERIOD}
+use Rattle.otp_limits.specs.declared.cost.Cost.{Cost}
+use Rattle.otp_limits.specs.declared.cost.TheConstants.{MOST_CRASHES}
+use Rattle.otp_limits.specs.declared.fate.Fate.{Fate}
+use Rattle.otp_limits.specs.declared.fate.Fate.TheVariants as fate
+use Rattle.otp_limits.specs.declared.steady.Steady.{Steady}
+use Rattle.otp_limits.specs.declared.steady.Steady.TheVariants as steady
+use Rattle.otp_limits.specs.declared.steady.Verdict.{Verdict}
+use Rattle.otp_limits.specs.declared.steady.Verdict.TheVariants.{Lasts, Falls, Unplayed}
+use Rattle.otp_limits.specs.Fates.{Crashes, Plays}
+use Rattle.otp_limits.specs.Scene.{Opens, Scene}
+
+-- the longest interval that is tried, in milliseconds: a second longer than the period
+abbrev pub longest_gap : SupFlags → ℕ
+longest_gap flags = (min flags.period MAX_PERIOD + 1) * 1000
+
+-- how many crashes are played at an interval: so many that a period which holds them holds one more than the intensity,
+-- and one after those
+abbrev pub steady_crashes : SupFlags → ℕ
+steady_crashes flags = min flags.intensity MAX_INTENSITY + 2
+
+-- what a run that went so shows
+unfoldable pub verdict_of : Fate → Verdict
+verdict_of fate.Survived = Lasts
+verdict_of (fate.Ended _) = Falls
+verdict_of (fate.Gone _) = Lasts
+verdict_of (fate.Unplayed _) = Unplayed
+
+-- what a run of crashes at this interval shows
+abbrev pub IsJudged : SupFlags → List ChildSpec → Name → ℕ → Verdict → Type 0
+IsJudged flags specs id gap verdict = (ending : Fate) × (Plays flags specs id gap (steady_crashes flags) ending × (verdict_of ending ≡ verdict))
+
+-- the shortest interval: with one millisecond less the run ends the supervisor
+unfoldable pub IsSteady : SupFlags → List ChildSpec → Name → Steady → Type 0
+IsSteady flags specs id steady.Always = IsJudged flags specs id 0 Lasts
+IsSteady flags specs id (steady.Apart gap) = IsJudged flags specs id gap Lasts × ((less : ℕ) × ((less + 1 ≡ gap) × IsJudged flags specs id less Falls))
+IsSteady flags specs id steady.Never = IsJudged flags specs id (longest_gap flags) Falls
+IsSteady flags specs id steady.Unplayed = (gap : ℕ) × IsJudged flags specs id gap Unplayed
+
+-- the child that an order stops, and the one that it starts
+unfoldable pub stopped_by : Effect → Option Name
+stopped_by (effect.Start _ _) = None
+stopped_by (effect.Ask id _) = id
+stopped_by (effect.Kill id _) = id
+stopped_by (effect.Reply _) = None
+stopped_by effect.Ready = None
+stopped_by (effect.End _) = None
+
+unfoldable pub started_by : Effect → Option Name
+started_by (effect.Start id _) = id
+started_by (effect.Ask _ _) = None
+started_by (effect.Kill _ _) = None
+started_by (effect.Reply _) = None
+started_by effect.Ready = None
+started_by (effect.End _) = None
+
+-- what one crash of a child stops, and starts again, in this order
+pub record Affects (flags : SupFlags) (specs : List ChildSpec) (id : Name) (stops starts : List Name) : Type 0 where
+  pub opened : Scene
+  pub opens : Opens flags specs opened
+  pub after : Scene
+  pub crashes : Crashes id 0 1 opened after
+  pub stopped : stops ≡ filter_map stopped_by after.orders
+  pub started : starts ≡ filter_map started_by after.orders
+
+-- what the failure of the child with this id costs
+pub record IsCost (flags : SupFlags) (specs : List ChildSpec) (id : Name) (cost : Cost) : Type 0 where
+  pub named : cost.id ≡ id
+  pub affects : Affects flags specs id cost.stops cost.starts
+  pub burst : Plays flags specs id 0 MOST_CRASHES cost.burst
+  pub steady : IsSteady flags specs id cost.steady
+
+-- how many crashes are survived; a number above all where it is any
+unfoldable pub survived_in : Fate → ℕ
+survived_in fate.Survived = MOST_CRASHES
+survived_in (fate.Ended count) = count
+survived_in (fate.Gone _) = MOST_CRASHES
+survived_in (fate.Unplayed count) = count
+
+-- how far apart crashes must be; a number above all where no crash is survived
+unfoldable pub apart_in : Steady → ℕ
+apart_in steady.Always = 0
+apart_in (steady.Apart gap) = gap
+apart_in steady.Never = 2 ^ 31
+apart_in steady.Unplayed = 0
+
+-- fewer crashes are survived; or as many, and they must be further apart; or no further, and more children are stopped
+unfoldable pub is_worse : Cost → Cost → Bool
+is_worse a b =
+    nat_lt (survived_in a.burst) (survived_in b.burst)
+    || ((survived_in a.burst == survived_in b.burst)
+    && (nat_lt (apart_in b.steady) (apart_in a.steady)
+    || ((apart_in a.steady == apart_in b.steady) && nat_lt (length b.stops) (length a.stops))))
+
+-- a cost before the first that it is worse than
+abbrev pub put_at : Option ℕ → Cost → List Cost → List Cost
+put_at None cost costs = costs ++ cost ∷ []
+put_at (Some place) cost costs = insert costs place cost
+
+unfoldable pub put_in : Cost → List Cost → List Cost
+put_in cost costs = put_at (position (is_worse cost) costs) cost costs
+
+-- the worst first; of those that are alike the earlier child first
+abbrev pub ranked : List Cost → List Cost → List Cost
+ranked done [] = done
+ranked done (cost ∷ costs) = ranked (put_in cost done) costs
+
+-- a cost for each of these children, in their order
+abbrev pub AreCosts : SupFlags → List ChildSpec → List ChildSpec → List Cost → Type 0
+AreCosts flags all [] [] = Unit {0}
+AreCosts flags all [] (cost ∷ costs) = ⊥
+AreCosts flags all (spec ∷ specs) [] = ⊥
+AreCosts flags all (spec ∷ specs) (cost ∷ costs) = IsCost flags all spec.id cost × AreCosts flags all specs costs
+
+-- a cost for each child, the worst first
+abbrev pub AreLimits : SupFlags → List ChildSpec → List Cost → Type 0
+AreLimits flags specs costs = (each : List Cost) × (AreCosts flags specs specs each × (costs ≡ ranked [] each))

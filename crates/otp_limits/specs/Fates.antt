@@ -1,0 +1,66 @@
+-- A child that crashes again and again, and how its supervisor fares (own).
+use Rattle.std.specs.Prelude.{◌≡◌, ℕ, ◌+◌, ◌*◌, ◌≤◌, ◌<◌, true, false, List, [], Option, Some, None, position, slice_get}
+use Prim.Native.Nat.{zero, suc}
+use Rattle.otp_reason.specs.declared.name.Name.{Name}
+use Rattle.otp_reason.specs.declared.note.Note.TheVariants as note
+use Rattle.otp_reason.specs.declared.reason.Reason.TheVariants as reason
+use Rattle.otp_rules.specs.declared.event.Item.TheVariants as item
+use Rattle.otp_rules.specs.declared.event.Kind.TheVariants as kind
+use Rattle.otp_rules.specs.State.{State, is_over}
+use Rattle.otp_spec.specs.declared.child.ChildSpec.{ChildSpec}
+use Rattle.otp_spec.specs.declared.flags.SupFlags.{SupFlags}
+use Rattle.otp_table.specs.declared.row.Row.{Row}
+use Rattle.otp_table.specs.Rows.{has_id, up_number}
+use Rattle.otp_limits.specs.declared.fate.Fate.{Fate}
+use Rattle.otp_limits.specs.declared.fate.Fate.TheVariants as fate
+use Rattle.otp_limits.specs.Scene.{Opens, Scene, Settles, happened}
+
+unfoldable pub running : Option Row → Option ℕ
+running None = None
+running (Some row) = up_number row.state
+
+unfoldable pub running_at : List Row → Option ℕ → Option ℕ
+running_at rows None = None
+running_at rows (Some place) = running (slice_get rows place)
+
+-- the process of the child with this id, if it runs
+unfoldable pub process_of : Name → List Row → Option ℕ
+process_of id rows = running_at rows (position (has_id id) rows)
+
+abbrev pub cleared : Scene → Scene
+cleared s = record s { orders = [] }
+
+unfoldable pub crashed_at : ℕ → Option ℕ → Scene → Scene
+crashed_at time None s = s
+crashed_at time (Some p) s = happened time (kind.Took (item.Note (note.Exit p reason.Killed))) s
+
+-- the process of this child is killed at this time; nothing happens where it has none
+abbrev pub crashed : Name → ℕ → Scene → Scene
+crashed id time s = crashed_at time (process_of id s.state.rows) (cleared s)
+
+-- so many crashes of this child, one at the end of each interval of so many milliseconds, with all that follows from each
+abbrev pub Crashes : Name → ℕ → ℕ → Scene → Scene → Type 0
+Crashes id gap zero old new = new ≡ old
+Crashes id gap (suc n) old new =
+    (before : Scene) × Crashes id gap n old before × Settles ((n + 1) * gap) (crashed id ((n + 1) * gap) before) new
+
+-- the supervisor runs after so many crashes
+abbrev pub RunsAfter : Name → ℕ → ℕ → Scene → Scene → Type 0
+RunsAfter id gap n old new = Crashes id gap n old new × (is_over new.state.phase ≡ false)
+
+-- the supervisor has ended after so many crashes
+abbrev pub IsOverAfter : Name → ℕ → ℕ → Scene → Type 0
+IsOverAfter id gap n old = (new : Scene) × Crashes id gap n old new × (is_over new.state.phase ≡ true)
+
+-- how an opened supervisor fares where a child crashes so often, at such an interval
+unfoldable pub Fares : Name → ℕ → ℕ → Scene → Fate → Type 0
+Fares id gap crashes s fate.Survived = (new : Scene) × RunsAfter id gap crashes s new
+Fares id gap crashes s (fate.Ended n) = (n < crashes) × (((new : Scene) × RunsAfter id gap n s new) × IsOverAfter id gap (n + 1) s)
+Fares id gap crashes s (fate.Gone n) = (new : Scene) × (RunsAfter id gap n s new × (process_of id new.state.rows ≡ None))
+Fares id gap crashes s (fate.Unplayed n) = (new : Scene) × RunsAfter id gap n s new
+
+-- the same from the opening on
+pub record Plays (flags : SupFlags) (specs : List ChildSpec) (id : Name) (gap crashes : ℕ) (ending : Fate) : Type 0 where
+  pub opened : Scene
+  pub opens : Opens flags specs opened
+  pub fares : Fares id gap crashes opened ending

@@ -1,0 +1,15 @@
+-- What a stage stands for, and what it keeps.
+use Rattle.std.specs.Prelude.{◌≡◌, ℕ, ◌≤◌, length}
+use Rattle.otp_core.specs.View.{state_of}
+use Rattle.otp_rules.specs.Needs.{last_number}
+use Rattle.otp_limits.specs.declared.stage.Stage.TheInside.{Inside}
+use Rattle.otp_limits.specs.Scene.{Scene}
+
+abbrev pub scene_of : Inside → Scene
+scene_of a =
+    record { state = state_of a.core; last = last_number a.core.history; orders = a.core.effects; notes = a.notes.items }
+
+pub record IsStage (a : Inside) : Type 0 where
+  pub history : length a.core.history ≤ 65536
+  -- a number is given to an event at the most
+  pub numbers : last_number a.core.history ≤ length a.core.history

@@ -1,0 +1,5 @@
+pub mod Scene
+pub mod Fates
+pub mod Costs
+pub mod Table
+pub mod Inside

@@ -1,0 +1,94 @@
+-- A supervisor that is played in a world where all goes well: each start succeeds, and each process that is asked to shut
+-- down ends, or is killed, at once (own).
+use Rattle.std.specs.Prelude.{◌≡◌, ℕ, ◌+◌, List, [], ◌∷◌, ◌++◌, Option, Some, None, drop, slice_get, unwrap_or, false, if◌then◌else◌}
+use Prim.Native.Nat.{zero, suc}
+use Rattle.std.specs.List.{filter_map}
+use Rattle.otp_reason.specs.declared.note.Note.{Note}
+use Rattle.otp_reason.specs.declared.note.Note.TheVariants as note
+use Rattle.otp_reason.specs.declared.reason.Reason.TheVariants as reason
+use Rattle.otp_rules.specs.declared.event.Effect.{Effect}
+use Rattle.otp_rules.specs.declared.event.Effect.TheVariants as effect
+use Rattle.otp_rules.specs.declared.event.Event.{Event}
+use Rattle.otp_rules.specs.declared.event.Item.TheVariants as item
+use Rattle.otp_rules.specs.declared.event.Kind.{Kind}
+use Rattle.otp_rules.specs.declared.event.Kind.TheVariants as kind
+use Rattle.otp_rules.specs.Needs.{needs_number}
+use Rattle.otp_rules.specs.Next.{next_kind}
+use Rattle.otp_rules.specs.Run.{empty_state}
+use Rattle.otp_rules.specs.State.{State}
+use Rattle.otp_rules.specs.Step.{step}
+use Rattle.otp_spec.specs.declared.child.ChildSpec.{ChildSpec}
+use Rattle.otp_spec.specs.declared.flags.SupFlags.{SupFlags}
+
+-- a supervisor, and what the processes of its children tell next
+pub record Scene : Type 0 where
+  pub state : State
+  -- the greatest process number that was given
+  pub last : ℕ
+  -- the orders since the last crash
+  pub orders : List Effect
+  -- what processes tell and the supervisor has not yet heard, in order
+  pub notes : List Note
+
+-- what the process of a child does by an order
+unfoldable pub note_of : Effect → Option Note
+note_of (effect.Start _ number) = Some (note.Up number)
+note_of (effect.Ask _ number) = Some (note.Exit number reason.Shutdown)
+note_of (effect.Kill _ number) = Some (note.Exit number reason.Killed)
+note_of (effect.Reply _) = None
+note_of effect.Ready = None
+note_of (effect.End _) = None
+
+-- an event, which has the next process number where it starts a child
+unfoldable pub event_for : ℕ → Kind → Scene → Event
+event_for time kind s =
+    record { reading = time; number = if needs_number s.state time kind then Some (s.last + 1) else None; kind = kind }
+
+-- after an event: processes do what its orders ask
+unfoldable pub after_event : Event → Scene → Scene
+after_event e s =
+    record {
+      state = (step s.state e).state;
+      last = unwrap_or e.number s.last;
+      orders = s.orders ++ (step s.state e).orders;
+      notes = s.notes ++ filter_map note_of (step s.state e).orders;
+    }
+
+-- something happens at this time, in milliseconds
+unfoldable pub happened : ℕ → Kind → Scene → Scene
+happened time kind s = after_event (event_for time kind s) s
+
+-- what happens next by itself: what a process tells, or else what the supervisor does
+unfoldable pub next_of : ℕ → State → Option Note → Option Kind
+next_of time s (Some told) = Some (kind.Took (item.Note told))
+next_of time s None = next_kind s time false
+
+abbrev pub next_in : ℕ → Scene → Option Kind
+next_in time s = next_of time s.state (slice_get s.notes 0)
+
+-- the first note is heard
+abbrev pub heard : Scene → Scene
+heard s = record s { notes = drop 1 s.notes }
+
+unfoldable pub turned : ℕ → Scene → Option Kind → Scene
+turned time s None = s
+turned time s (Some kind) = happened time kind (heard s)
+
+-- so often what comes next by itself
+unfoldable pub turns : ℕ → ℕ → Scene → Scene
+turns zero time s = s
+turns (suc n) time s = turned time (turns n time s) (next_in time (turns n time s))
+
+-- all that follows by itself has happened, at this time
+pub record Settles (time : ℕ) (old new : Scene) : Type 0 where
+  pub count : ℕ
+  pub runs : new ≡ turns count time old
+  pub done : next_in time new ≡ None
+
+-- a supervisor that was never opened
+abbrev pub unopened : SupFlags → List ChildSpec → Scene
+unopened flags specs = record { state = empty_state flags specs; last = 0; orders = []; notes = [] }
+
+-- a supervisor with these flags and children that was opened, and whose children run
+abbrev pub Opens : SupFlags → List ChildSpec → Scene → Type 0
+Opens flags specs s = Settles 0 (happened 0 (kind.Opened 0) (unopened flags specs)) s

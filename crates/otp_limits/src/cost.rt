@@ -1,0 +1,171 @@
+//! What the failure of one child costs.
+
+ghost use Rattle.std.specs.Prelude.{◌≡◌, ◌≤◌, ◌^◌, ◌++◌, None, IfOk, OnOk, length};
+ghost use Rattle.std.specs.List.{filter_map};
+ghost use Rattle.otp_limits.specs.Costs.{Affects, IsCost, apart_in, is_worse, started_by, stopped_by, survived_in};
+ghost use Rattle.otp_spec.specs.Supervisor.{supervisor_fault};
+
+use crate::fate::{Fate, play};
+use crate::names::Names;
+use crate::stage::{Halt, Stage};
+use crate::steady::{Steady, find_steady};
+use otp_reason::Name;
+use otp_rules::Effect;
+use otp_spec::{ChildSpec, SupFlags};
+use std::alloc::{AllocError, Global};
+
+/// The most crashes of a burst that are played: more than the greatest intensity.
+pub const MOST_CRASHES: u64 = 1024;
+
+/// A number of milliseconds above each interval that is tried.
+const NO_INTERVAL: u64 = 2_147_483_648;
+
+/// What the failure of a child costs.
+#[derive(Debug, Drop)]
+pub struct Cost {
+    /// The child.
+    pub id: Name,
+    /// The children that a crash of it stops, in the order in which they are told to end.
+    pub stops: Names,
+    /// The children that are started again, in their order.
+    pub starts: Names,
+    /// How its supervisor fares where it crashes again and again, with no time between.
+    pub burst: Fate,
+    /// How far apart its crashes must be.
+    pub steady: Steady,
+}
+
+/// The child that an order stops.
+#[tactic(auto, unfolding(crate::specs::Costs::stopped_by))]
+fn stopped_by(order: &Effect) -> Option<Name>
+    ensures { result ≡ stopped_by order.now }
+{
+    match order {
+        Effect::Ask(id, _) | Effect::Kill(id, _) => *id,
+        Effect::Start(..) | Effect::Reply(_) | Effect::Ready | Effect::End(_) => None,
+    }
+}
+
+/// The child that an order starts.
+#[tactic(auto, unfolding(crate::specs::Costs::started_by))]
+fn started_by(order: &Effect) -> Option<Name>
+    ensures { result ≡ started_by order.now }
+{
+    match order {
+        Effect::Start(id, _) => *id,
+        Effect::Ask(..) | Effect::Kill(..) => None,
+        Effect::Reply(_) | Effect::Ready | Effect::End(_) => None,
+    }
+}
+
+/// Puts the children that these orders stop behind others.
+fn put_stopped(orders: &[Effect], names: &mut Names) -> Result<(), AllocError>
+    ensures { OnOk result (names.new ≡ names.old ++ filter_map stopped_by orders.now) }
+{
+    for order in orders {
+        if let Some(id) = stopped_by(order) {
+            names.push(id)?;
+        }
+    }
+    Ok(())
+}
+
+/// Puts the children that these orders start behind others.
+fn put_started(orders: &[Effect], names: &mut Names) -> Result<(), AllocError>
+    ensures { OnOk result (names.new ≡ names.old ++ filter_map started_by orders.now) }
+{
+    for order in orders {
+        if let Some(id) = started_by(order) {
+            names.push(id)?;
+        }
+    }
+    Ok(())
+}
+
+/// What one crash of a child stops, and what is started again.
+fn find_affected(
+    alloc: Global,
+    flags: &SupFlags,
+    specs: &[ChildSpec],
+    id: &Name,
+) -> Result<(Names, Names), Halt>
+    requires { supervisor_fault flags.now specs.now ≡ None }
+    ensures { IfOk result (λ found. Affects flags.now specs.now id.now found.0 found.1) }
+{
+    let mut stage = Stage::open(alloc, *flags, specs)?;
+    stage.crash(id, 0)?;
+    let mut stops = Names::new(alloc);
+    put_stopped(stage.orders(), &mut stops)?;
+    let mut starts = Names::new(alloc);
+    put_started(stage.orders(), &mut starts)?;
+    Ok((stops, starts))
+}
+
+/// What the failure of the child with this id costs.
+///
+/// # Errors
+///
+/// Where memory is refused, or a core's history has no room for the opening and one crash.
+pub fn find_cost(
+    alloc: Global,
+    flags: &SupFlags,
+    specs: &[ChildSpec],
+    id: &Name,
+) -> Result<Cost, Halt>
+    requires { supervisor_fault flags.now specs.now ≡ None }
+    ensures { IfOk result (λ cost. IsCost flags.now specs.now id.now cost) }
+{
+    let (stops, starts) = find_affected(alloc, flags, specs, id)?;
+    let burst = play(alloc, flags, specs, id, 0, MOST_CRASHES)?;
+    let steady = find_steady(alloc, flags, specs, id)?;
+    Ok(Cost {
+        id: *id,
+        stops,
+        starts,
+        burst,
+        steady,
+    })
+}
+
+impl Fate {
+    /// How many crashes are survived; a number above all where it is any.
+    #[tactic(auto, unfolding(crate::specs::Costs::survived_in))]
+    fn survived(self) -> u64
+        ensures { result ≡ survived_in self }
+    {
+        match self {
+            Fate::Survived | Fate::Gone(_) => MOST_CRASHES,
+            Fate::Ended(count) | Fate::Unplayed(count) => count,
+        }
+    }
+}
+
+impl Steady {
+    /// How far apart crashes must be, in milliseconds; a number above all where no crash is survived.
+    #[tactic(auto, unfolding(crate::specs::Costs::apart_in))]
+    fn apart(self) -> u64
+        ensures { result ≡ apart_in self }
+    {
+        match self {
+            Steady::Always | Steady::Unplayed => 0,
+            Steady::Apart(gap) => gap,
+            Steady::Never => NO_INTERVAL,
+        }
+    }
+}
+
+impl Cost {
+    /// Fewer crashes are survived; or as many, and they must be further apart; or no further, and more children are stopped.
+    #[tactic(auto, unfolding(crate::specs::Costs::is_worse))]
+    pub(crate) fn is_worse(&self, other: &Cost) -> bool
+        ensures { result ≡ is_worse self.now other.now }
+    {
+        let (survived, others) = (self.burst.survived(), other.burst.survived());
+        let (apart, apart_other) = (self.steady.apart(), other.steady.apart());
+        survived < others
+            || (survived == others
+                && (apart_other < apart
+                    || (apart == apart_other
+                        && other.stops.as_slice().len() < self.stops.as_slice().len())))
+    }
+}

@@ -1,0 +1,216 @@
+//! A supervisor that is played in a world where all goes well, but for one child that crashes.
+
+ghost use Rattle.std.specs.Prelude.{ℕ, ◌≡◌, ◌≤◌, ◌<◌, ◌^◌, ◌++◌, None, OnOk, IfOk, IfSome, length, position, option_map, slice_get};
+ghost use Rattle.std.specs.List.{filter_map};
+ghost use Rattle.otp_limits.specs.Fates.{crashed, process_of, running_at};
+ghost use Rattle.otp_limits.specs.Scene.{Opens, Settles, happened, heard, next_in, note_of};
+ghost use Rattle.otp_spec.specs.Supervisor.{supervisor_fault};
+ghost use Rattle.otp_rules.specs.State.{is_over};
+ghost use Rattle.otp_table.specs.Rows.{has_id};
+
+use otp_core::{Core, Counter, MAX_EVENTS};
+use otp_reason::{Name, Note, Reason};
+use otp_rules::{Effect, Item, Kind};
+use otp_spec::{ChildSpec, SupFlags};
+use otp_table::Row;
+use std::alloc::{AllocError, Global};
+use std::collections::VecDeque;
+use std::marker::Model;
+
+/// Why a supervisor can't be played on.
+#[derive(Clone, Copy, Debug, PartialEq, Eq)]
+pub enum Halt {
+    /// The history has no room for another event.
+    HistoryFull,
+    OutOfMemory,
+}
+
+impl From<AllocError> for Halt {
+    fn from(_error: AllocError) -> Self {
+        Halt::OutOfMemory
+    }
+}
+
+/// What the process of a child does by an order.
+#[tactic(auto, unfolding(crate::specs::Scene::note_of))]
+fn note_of(order: &Effect) -> Option<Note>
+    ensures { result ≡ note_of order.now }
+{
+    match order {
+        Effect::Start(_, number) => Some(Note::Up(*number)),
+        Effect::Ask(_, number) => Some(Note::Exit(*number, Reason::Shutdown)),
+        Effect::Kill(_, number) => Some(Note::Exit(*number, Reason::Killed)),
+        Effect::Reply(_) | Effect::Ready | Effect::End(_) => None,
+    }
+}
+
+/// Processes do what these orders ask, in order.
+fn obey(orders: &[Effect], notes: &mut VecDeque<Note>) -> Result<(), AllocError>
+    ensures { OnOk result (notes.new.items ≡ notes.old.items ++ filter_map note_of orders.now) }
+{
+    for order in orders {
+        if let Some(note) = note_of(order) {
+            notes.push_back(note).map_err(|_| AllocError)?;
+        }
+    }
+    Ok(())
+}
+
+/// The place of the child with this id.
+fn place_of(rows: &[Row], id: &Name) -> Option<usize>
+    ensures place { result ≡ position (has_id id.now) rows.now }
+    ensures inside { IfSome result (λ place. place < length rows.now) }
+{
+    rows.iter().position(|row| row.has_id(id))
+}
+
+/// The process of the child at this place, if it runs.
+#[tactic(auto, unfolding(crate::specs::Fates::running_at, crate::specs::Fates::running))]
+fn running_at(rows: &[Row], place: Option<usize>) -> Option<u64>
+    requires { IfSome place (λ at. at < length rows.now) }
+    ensures { result ≡ running_at rows.now place }
+{
+    match place {
+        None => None,
+        Some(place) => {
+            let row = &rows[place];
+            row.state.up_number()
+        }
+    }
+}
+
+/// The process of the child with this id, if it runs.
+#[tactic(auto, unfolding(crate::specs::Fates::process_of))]
+fn process_of(rows: &[Row], id: &Name) -> Option<u64>
+    ensures { result ≡ process_of id.now rows.now }
+{
+    running_at(rows, place_of(rows, id))
+}
+
+/// A supervisor, and what the processes of its children tell next.
+#[derive(Drop)]
+pub(crate) struct Stage {
+    core: Core,
+    notes: VecDeque<Note>,
+}
+
+impl Model for Stage {
+    ghost use Rattle.otp_limits.specs.Scene.{Scene};
+
+    ghost Value = { Scene };
+
+    ghost use Rattle.otp_limits.specs.Inside.{IsStage, scene_of};
+
+    ghost view = { scene_of };
+
+    ghost invariant = { IsStage };
+}
+
+impl Stage {
+    /// A supervisor that was opened, and whose children run.
+    pub fn open(alloc: Global, flags: SupFlags, specs: &[ChildSpec]) -> Result<Self, Halt>
+        requires { supervisor_fault flags specs.now ≡ None }
+        ensures { IfOk result (λ stage. Opens flags specs.now stage) }
+    {
+        let core = match Core::open(alloc, flags, specs) {
+            Ok(core) => core,
+            Err(_) => return Err(Halt::OutOfMemory),
+        };
+        let mut stage = Stage {
+            core,
+            notes: VecDeque::new(alloc),
+        };
+        stage.happen(0, Kind::Opened(0))?;
+        stage.settle(0)?;
+        Ok(stage)
+    }
+
+    /// Whether the supervisor has ended.
+    pub fn has_ended(&self) -> bool
+        ensures { result ≡ is_over self.now.state.phase }
+    {
+        self.core.has_ended()
+    }
+
+    /// The orders since the last crash.
+    pub fn orders(&self) -> &[Effect]
+        ensures { result.now ≡ self.now.orders }
+    {
+        self.core.effects()
+    }
+
+    /// The process of the child with this id, if it runs.
+    pub fn process_of(&self, id: &Name) -> Option<u64>
+        ensures { result ≡ process_of id.now self.now.state.rows }
+    {
+        process_of(self.core.rows(), id)
+    }
+
+    /// Something happens at this time, in milliseconds.
+    fn happen(&mut self, time: u64, kind: Kind) -> Result<(), Halt>
+        requires { time ≤ 2 ^ 62 }
+        ensures { OnOk result (self.new ≡ happened time kind self.old) }
+    {
+        if self.core.is_full() {
+            return Err(Halt::HistoryFull);
+        }
+        self.core.prepare()?;
+        let from = self.core.effects().len();
+        let mut numbers = Counter {
+            last: self.core.last_number(),
+        };
+        self.core.step_with(time, kind, &mut numbers);
+        obey(&self.core.effects()[from..], &mut self.notes)?;
+        Ok(())
+    }
+
+    /// What happens next by itself: what a process tells, or else what the supervisor does.
+    #[tactic(auto, unfolding(crate::specs::Scene::next_of))]
+    fn next_kind(&self, time: u64) -> Option<Kind>
+        ensures { result ≡ next_in time self.now }
+    {
+        match self.notes.front() {
+            Some(note) => Some(Kind::Took(Item::Note(*note))),
+            None => self.core.next_kind(time, false),
+        }
+    }
+
+    /// The first note is heard.
+    fn hear(&mut self)
+        ensures { self.new ≡ heard self.old }
+    {
+        let _note = self.notes.pop_front();
+    }
+
+    /// All that follows by itself happens.
+    fn settle(&mut self, time: u64) -> Result<(), Halt>
+        requires { time ≤ 2 ^ 62 }
+        ensures { OnOk result (Settles time self.old self.new) }
+    {
+        for _ in 0..=MAX_EVENTS {
+            let Some(kind) = self.next_kind(time) else {
+                return Ok(());
+            };
+            self.hear();
+            self.happen(time, kind)?;
+        }
+        Err(Halt::HistoryFull)
+    }
+
+    /// The process of a child is killed, and all that follows happens; nothing happens where it has none.
+    #[tactic(auto, unfolding(crate::specs::Fates::crashed_at))]
+    pub fn crash(&mut self, id: &Name, time: u64) -> Result<(), Halt>
+        requires { time ≤ 2 ^ 62 }
+        ensures { OnOk result (Settles time (crashed id.now time self.old) self.new) }
+    {
+        let process = self.process_of(id);
+        self.core.clear_effects();
+        if let Some(process) = process {
+            self.happen(
+                time,
+                Kind::Took(Item::Note(Note::Exit(process, Reason::Killed))),
+            )?;
+        }
+        self.settle(time)
+    }
+}

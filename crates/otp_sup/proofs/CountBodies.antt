@@ -1,0 +1,126 @@
+-- How many bodies a supervisor has after an event, and once a body has left.
+use Rattle.std.specs.Prelude.{◌≡◌, ℕ, ◌+◌, ◌++◌, ◌||◌, Bool, true, false, List, [], ◌∷◌, Option, None, Some, refl, if◌then◌else◌, is_some, length, map}
+use Rattle.std.specs.List.{list_any}
+use Rattle.std.proofs.Common.{◌∙◌, ap, sym, subst, arith, cond, ⊎_elim}
+use Rattle.std.proofs.lemmas.Bool.{false≢true, cases_Bool, cond_both}
+use Rattle.std.proofs.lemmas.List.Sums.{sum_by-append, sum_by-cons}
+use Rattle.otp_rules.specs.declared.event.Item.TheVariants as item
+use Rattle.otp_rules.specs.declared.event.Kind.{Kind}
+use Rattle.otp_rules.specs.declared.event.Kind.TheVariants as kind
+use Rattle.otp_rules.specs.Homes.{is_start_call}
+use Rattle.otp_rules.specs.State.{State}
+use Rattle.otp_table.specs.declared.row.Row.{Row}
+use Rattle.otp_sup.specs.declared.bodies.Kept.{Kept}
+use Rattle.otp_sup.specs.declared.bodies.Origin.TheVariants as origin
+use Rattle.otp_sup.specs.declared.bodies.Place.{Place}
+use Rattle.otp_sup.specs.declared.bodies.Place.TheVariants as placed
+use Rattle.otp_sup.specs.Letters.{is_end_note, one_if}
+use Rattle.otp_sup.specs.Bodies.{bodies_after, bodies_in, brings_body, came_for, home_of, home_or_free, is_any_waiting, is_at_home, is_away, is_away_from, is_here, is_taken_up, is_waited_for, is_waiting, let_go, move_first, moved, opened, opened_place, place_among, place_of_call, settled, slot_given, stray, taken_up}
+use Rattle.otp_sup.proofs.Keeping.{home_is_here, opened_place-here, or_false, place_among-here, waiting_is_here}
+
+abbrev one : Place → ℕ
+one at = cond (is_here at) 1 0
+
+counted : (b : Kept) (bs : List Kept) → bodies_in (b ∷ bs) ≡ one b.place + bodies_in bs
+counted b bs = sum_by-cons (λ (x : Kept). one x.place) b bs
+
+-- one body more
+put_count : (kept : List Kept) (b : Kept) → is_here b.place ≡ true → bodies_in (kept ++ b ∷ []) ≡ bodies_in kept + 1
+put_count kept b here =
+    let e : ◌≡◌ {A = ℕ} (one b.place) 1 = ap (λ (x : Bool). cond x 1 0) here in
+    omega (arith, e, sum_by-append (λ (x : Kept). one x.place) kept (b ∷ []), counted b [])
+
+-- the first that passes moves: away from here, or to here, or neither
+pub moved_count : (test : Kept → Bool) (to : Place) (from : Bool) (kept : List Kept) → ((b : Kept) → test b ≡ true → is_here b.place ≡ from) → list_any test kept ≡ true
+    → bodies_in (move_first test to kept) + cond from 1 0 ≡ bodies_in kept + one to
+moved_count test to from [] was any = absurd (false≢true any)
+moved_count test to from (b ∷ bs) was any =
+    ⊎_elim
+    (λ (t : test b ≡ true).
+    let h : ◌≡◌ {A = ℕ} (one b.place) (cond from 1 0) = ap (λ (x : Bool). cond x 1 0) (was b t) in
+    let n : bodies_in (move_first test to (b ∷ bs)) ≡ bodies_in (record b { place = to } ∷ bs) = ap (λ (x : Bool). bodies_in (if x then record b { place = to } ∷ bs else b ∷ move_first test to bs)) t in
+    omega (arith, h, n, counted b bs, counted (record b { place = to }) bs))
+    (λ (f : test b ≡ false).
+    let n : bodies_in (move_first test to (b ∷ bs)) ≡ bodies_in (b ∷ move_first test to bs) = ap (λ (x : Bool). bodies_in (if x then record b { place = to } ∷ bs else b ∷ move_first test to bs)) f in
+    let rest : list_any test bs ≡ true = sym (ap (λ (x : Bool). x || list_any test bs) f) ∙ any in
+    omega (arith, n, counted b bs, counted b (move_first test to bs), moved_count test to from bs was rest))
+    (cases_Bool (test b))
+
+away_gone : (slot : ℕ) (at : Place) → is_away_from slot at ≡ true → is_here at ≡ false
+away_gone slot (placed.Home k) h = absurd (false≢true h)
+away_gone slot placed.Waiting h = absurd (false≢true h)
+away_gone slot placed.Free h = absurd (false≢true h)
+away_gone slot (placed.Away k) h = refl
+away_gone slot placed.Gone h = refl
+
+came_count : (home : Option ℕ) (kept : List Kept) → bodies_in (came_for home kept) ≡ bodies_in kept + 1
+came_count None kept = put_count kept stray refl
+came_count (Some slot) kept =
+    cond_both (list_any (is_away slot) kept) (move_first (is_away slot) (placed.Home slot) kept) (kept ++ stray ∷ []) (λ (l : List Kept). bodies_in l ≡ bodies_in kept + 1)
+    (λ any. omega (arith, moved_count (is_away slot) (placed.Home slot) false kept (λ b t. away_gone slot b.place t) any))
+    (λ _. put_count kept stray refl)
+
+free_here : (slot : Option ℕ) → is_here (home_or_free slot) ≡ true
+free_here None = refl
+free_here (Some slot) = refl
+
+call_here : (waits : Bool) (slot : Option ℕ) → is_here (place_of_call waits slot) ≡ true
+call_here true slot = refl
+call_here false slot = free_here slot
+
+-- none passes, or the one that does stays here
+stays_count : (test : Kept → Bool) (to : Place) (kept : List Kept) → is_here to ≡ true → ((b : Kept) → test b ≡ true → is_here b.place ≡ true) → bodies_in (move_first test to kept) ≡ bodies_in kept
+stays_count test to [] here was = refl
+stays_count test to (b ∷ bs) here was =
+    cond_both (test b) (record b { place = to } ∷ bs) (b ∷ move_first test to bs) (λ (l : List Kept). bodies_in l ≡ bodies_in (b ∷ bs))
+    (λ t.
+    let h : ◌≡◌ {A = ℕ} (one b.place) 1 = ap (λ (x : Bool). cond x 1 0) (was b t) in
+    let k : ◌≡◌ {A = ℕ} (one to) 1 = ap (λ (x : Bool). cond x 1 0) here in
+    omega (arith, h, k, counted b bs, counted (record b { place = to }) bs))
+    (λ _. omega (arith, counted b bs, counted b (move_first test to bs), stays_count test to bs here was))
+
+taken_count : (is : Bool) (slot : Option ℕ) (kept : List Kept) → bodies_in (taken_up is slot kept) ≡ bodies_in kept
+taken_count true slot kept = stays_count is_waiting (home_or_free slot) kept (free_here slot) (λ b w. waiting_is_here b.origin b.place w)
+taken_count false slot kept = refl
+
+moved_bodies : (s : State) (rows : List Row) (k : Kind) (kept : List Kept) → bodies_in (moved s rows k kept) ≡ bodies_in kept + one_if (brings_body k)
+moved_bodies s rows (kind.Opened own) kept = omega arith
+moved_bodies s rows (kind.Took (item.Note x)) kept =
+    cond_both (is_end_note x) (came_for (home_of s x) kept) kept (λ (l : List Kept). bodies_in l ≡ bodies_in kept + one_if (is_end_note x))
+    (λ e. let n : ◌≡◌ {A = ℕ} (one_if (is_end_note x)) 1 = ap (λ (b : Bool). one_if b) e in omega (arith, n, came_count (home_of s x) kept))
+    (λ e. let n : ◌≡◌ {A = ℕ} (one_if (is_end_note x)) 0 = ap (λ (b : Bool). one_if b) e in omega (arith, n))
+moved_bodies s rows (kind.Took (item.Call c call)) kept =
+    let b : Kept = record { origin = origin.Call c; place = place_of_call (is_waited_for s) (slot_given s.rows rows) } in
+    cond_both (is_start_call call) (kept ++ b ∷ []) kept (λ (l : List Kept). bodies_in l ≡ bodies_in kept + one_if (is_start_call call))
+    (λ e. let n : ◌≡◌ {A = ℕ} (one_if (is_start_call call)) 1 = ap (λ (b : Bool). one_if b) e in omega (arith, n, put_count kept b (call_here (is_waited_for s) (slot_given s.rows rows))))
+    (λ e. let n : ◌≡◌ {A = ℕ} (one_if (is_start_call call)) 0 = ap (λ (b : Bool). one_if b) e in omega (arith, n))
+moved_bodies s rows kind.Resumed kept = omega (arith, taken_count (is_taken_up s) (slot_given s.rows rows) kept)
+moved_bodies s rows kind.Ticked kept = omega arith
+moved_bodies s rows kind.Stopped kept = omega arith
+
+settled_count : (rows : List Row) (any : Bool) (kept : List Kept) → bodies_in (settled rows any kept) ≡ bodies_in kept
+settled_count rows any [] = refl
+settled_count rows any (b ∷ bs) =
+    let h : ◌≡◌ {A = ℕ} (one (place_among rows any b.place)) (one b.place) = ap (λ (x : Bool). cond x 1 0) (place_among-here rows any b.place) in
+    omega (arith, h, counted b bs, counted (record b { place = place_among rows any b.place }) (settled rows any bs), settled_count rows any bs)
+
+opened_count : (n : ℕ) (kept : List Kept) → bodies_in (opened n kept) ≡ bodies_in kept
+opened_count n [] = refl
+opened_count n (b ∷ bs) =
+    let h : ◌≡◌ {A = ℕ} (one (opened_place n b.origin b.place)) (one b.place) = ap (λ (x : Bool). cond x 1 0) (opened_place-here n b.origin b.place) in
+    omega (arith, h, counted b bs, counted (record b { place = opened_place n b.origin b.place }) (opened n bs), opened_count n bs)
+
+let_go_count : (later : State) (k : Kind) (kept : List Kept) → bodies_in (let_go later k kept) ≡ bodies_in kept
+let_go_count later (kind.Opened own) kept = opened_count (length later.rows) (settled [] (is_any_waiting later) kept) ∙ settled_count [] (is_any_waiting later) kept
+let_go_count later (kind.Took x) kept = settled_count later.rows (is_any_waiting later) kept
+let_go_count later kind.Resumed kept = settled_count later.rows (is_any_waiting later) kept
+let_go_count later kind.Ticked kept = settled_count later.rows (is_any_waiting later) kept
+let_go_count later kind.Stopped kept = settled_count later.rows (is_any_waiting later) kept
+
+-- exactly the body that the event brings is more
+pub count_after : (s later : State) (k : Kind) (kept : List Kept) → bodies_in (bodies_after s later k kept) ≡ bodies_in kept + one_if (brings_body k)
+count_after s later k kept = let_go_count later k (moved s later.rows k kept) ∙ moved_bodies s later.rows k kept
+
+-- the body that leaves is one less
+pub left_count : (slot : ℕ) (kept : List Kept) → list_any (is_at_home slot) kept ≡ true → bodies_in (move_first (is_at_home slot) (placed.Away slot) kept) + 1 ≡ bodies_in kept
+left_count slot kept any = omega (arith, moved_count (is_at_home slot) (placed.Away slot) true kept (λ b t. home_is_here slot b.place t) any)

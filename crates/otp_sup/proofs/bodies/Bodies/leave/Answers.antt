@@ -1,0 +1,34 @@
+use Rattle.std.proofs.Common.{◌≡◌, ℕ, ◌+◌, ◌<◌, ◌++◌, ◌∷◌, [], List, Option, Some, None, Bool, true, false, ap, sym, ◌∙◌, subst, refl, arith, get_or, map, length}
+use Rattle.std.specs.Prelude.{is_some, remove, slice_get, slice_set, position, if◌then◌else◌}
+use Rattle.std.specs.List.{list_any}
+use Rattle.otp_sup.specs.declared.bodies.Kept.{Kept}
+use Rattle.otp_sup.specs.declared.bodies.Place.{Place}
+use Rattle.otp_sup.specs.declared.bodies.Place.TheVariants as placed
+use Rattle.otp_sup.specs.Facts.{BodiesView}
+use Rattle.otp_sup.specs.Bodies.{is_here, is_at_home, is_away, is_waiting, move_first, home_or_free, stray}
+use Rattle.otp_sup.proofs.Keeping.{IsFirstAt, first_at, home_is_here, moved_at, put_back, within_moved}
+use Rattle.otp_sup.proofs.bodies.Bodies.leave.Goals as goal
+
+pub returns-clause-kept : goal.returns-clause-kept
+returns-clause-kept g c =
+    let xs : List Kept = c.args.self.now.kept in
+    let t : Kept → Bool = is_at_home c.args.slot in
+    c.take_out.ensures.kept stray ∙ moved_at t (placed.Away c.args.slot) xs c.args.at stray (first_at t xs c.args.at stray c.requires)
+
+pub returns-clause-body : goal.returns-clause-body
+returns-clause-body g c =
+    let xs : List Kept = c.args.self.now.kept in
+    let first : IsFirstAt (is_at_home c.args.slot) xs c.args.at stray = first_at (is_at_home c.args.slot) xs c.args.at stray c.requires in
+    c.take_out.ensures.body stray ∙ home_is_here c.args.slot (get_or xs c.args.at stray).place first.passes
+
+pub returns-clause-back : goal.returns-clause-back
+returns-clause-back g c =
+    let xs : List Kept = c.args.self.now.kept in
+    let first : IsFirstAt (is_at_home c.args.slot) xs c.args.at stray = first_at (is_at_home c.args.slot) xs c.args.at stray c.requires in
+    put_back xs c.take_out.new.self.kept c.args.at c.args.slot (placed.Away c.args.slot) stray (c.take_out.ensures.kept stray) first
+
+pub returns-clause-within : goal.returns-clause-within
+returns-clause-within g c =
+    let xs : List Kept = c.args.self.now.kept in
+    let first : IsFirstAt (is_at_home c.args.slot) xs c.args.at stray = first_at (is_at_home c.args.slot) xs c.args.at stray c.requires in
+    within_moved xs c.take_out.new.self.kept c.args.at (record (get_or xs c.args.at stray) { place = placed.Away c.args.slot }) (c.take_out.ensures.kept stray) first.within

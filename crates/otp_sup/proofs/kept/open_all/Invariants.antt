@@ -1,0 +1,6 @@
+use Rattle.std.proofs.Common.{◌≡◌, ◌++◌, take, drop}
+use Rattle.otp_sup.specs.Bodies.{opened}
+use Rattle.otp_sup.proofs.kept.open_all.Given as goal
+
+abbrev pub invariant-loop-one : goal.invariant-loop-one
+invariant-loop-one l = take l.one-index l.kept ++ opened l.children (drop l.one-index l.kept) ≡ opened l.children l.fn.kept

@@ -1,0 +1,182 @@
+//! Searches over the bodies that a supervisor keeps, and what an event does to all of them.
+ghost use Rattle.std.specs.Prelude.{◌≡◌, true, position};
+ghost use Rattle.otp_sup.specs.Bodies.{home_or_free, is_at_home, is_here, is_away, is_left_of, is_stray, is_waiting, opened, opened_place, place_among, place_of_call, settled};
+ghost use Rattle.otp_sup.specs.Slots.{AreBelow, AreTaken};
+
+use crate::bodies::{Kept, Origin, Place};
+use crate::rows::{is_taken, taken_slots};
+use otp_table::Row;
+
+fn is_at_home(kept: &Kept, slot: usize) -> bool
+    ensures { result ≡ is_at_home slot kept.now }
+{
+    match kept.place {
+        Place::Home(home) => home == slot,
+        _ => false,
+    }
+}
+
+fn is_away(kept: &Kept, slot: usize) -> bool
+    ensures { result ≡ is_away slot kept.now }
+{
+    match kept.place {
+        Place::Away(home) => home == slot,
+        _ => false,
+    }
+}
+
+fn is_waiting(kept: &Kept) -> bool
+    ensures { result ≡ is_waiting kept.now }
+{
+    match (kept.origin, kept.place) {
+        (Origin::Call(_), Place::Waiting) => true,
+        _ => false,
+    }
+}
+
+fn is_left_of(kept: &Kept, call: u64) -> bool
+    ensures { result ≡ is_left_of call kept.now }
+{
+    match (kept.origin, kept.place) {
+        (Origin::Call(brought), Place::Free) => brought == call,
+        _ => false,
+    }
+}
+
+fn is_stray(kept: &Kept) -> bool
+    ensures { result ≡ is_stray kept.now }
+{
+    match (kept.origin, kept.place) {
+        (Origin::Nobody, Place::Free) => true,
+        _ => false,
+    }
+}
+
+pub(crate) fn home_or_free(slot: Option<usize>) -> Place
+    ensures place { result ≡ home_or_free slot }
+    ensures here { is_here result ≡ true }
+{
+    match slot {
+        Some(slot) => Place::Home(slot),
+        None => Place::Free,
+    }
+}
+
+/// Where a start call's body is: with the call while that waits, and then at its child's home, if it has a child.
+pub(crate) fn place_of_call(waits: bool, slot: Option<usize>) -> Place
+    ensures place { result ≡ place_of_call waits slot }
+    ensures here { is_here result ≡ true }
+{
+    if waits {
+        Place::Waiting
+    } else {
+        home_or_free(slot)
+    }
+}
+
+/// The place in the list of the body of the child in this slot, which has no process.
+pub(crate) fn find_home(kept: &[Kept], slot: usize) -> Option<usize>
+    ensures { result ≡ position (is_at_home slot) kept.now }
+{
+    kept.iter().position(|one| is_at_home(one, slot))
+}
+
+/// That of the body of the child in this slot, which is with its process.
+pub(crate) fn find_away(kept: &[Kept], slot: usize) -> Option<usize>
+    ensures { result ≡ position (is_away slot) kept.now }
+{
+    kept.iter().position(|one| is_away(one, slot))
+}
+
+/// That of the first body that waits with its call.
+pub(crate) fn find_waiting(kept: &[Kept]) -> Option<usize>
+    ensures { result ≡ position is_waiting kept.now }
+{
+    kept.iter().position(|one| is_waiting(one))
+}
+
+/// That of a body that this call brought and that no child has.
+pub(crate) fn find_left(kept: &[Kept], call: u64) -> Option<usize>
+    ensures { result ≡ position (is_left_of call) kept.now }
+{
+    kept.iter().position(|one| is_left_of(one, call))
+}
+
+/// That of a body that is nobody's.
+pub(crate) fn find_stray(kept: &[Kept]) -> Option<usize>
+    ensures { result ≡ position is_stray kept.now }
+{
+    kept.iter().position(|one| is_stray(one))
+}
+
+/// Where the body is once these are the rows, whose slots are those marked.
+fn settle_one(one: &mut Kept, rows: &[Row], taken: &[bool; 256], is_any_waiting: bool)
+    requires taken { AreTaken rows.now taken.now }
+    requires below { AreBelow rows.now }
+    ensures { one.new ≡ record one.old { place = place_among rows.now is_any_waiting one.old.place } }
+{
+    match one.place {
+        Place::Home(slot) => {
+            if !is_taken(rows, taken, slot) {
+                one.place = Place::Free;
+            }
+        }
+        Place::Away(slot) => {
+            if !is_taken(rows, taken, slot) {
+                one.place = Place::Gone;
+            }
+        }
+        Place::Waiting => {
+            if !is_any_waiting {
+                one.place = Place::Free;
+            }
+        }
+        Place::Free | Place::Gone => {}
+    }
+}
+
+/// Once these are the rows: no body is at home, or away, in a slot that none of them has; and none waits where nothing
+/// waits any more.
+fn settle_all(kept: &mut [Kept], rows: &[Row], is_any_waiting: bool)
+    requires { AreBelow rows.now }
+    ensures { kept.new ≡ settled rows.now is_any_waiting kept.old }
+{
+    let taken = taken_slots(rows);
+    for one in kept.iter_mut() {
+        settle_one(one, rows, &taken, is_any_waiting);
+    }
+}
+
+/// The same for the whole list.
+pub(crate) fn settle_items(kept: &mut Vec<Kept>, rows: &[Row], is_any_waiting: bool)
+    requires { AreBelow rows.now }
+    ensures { kept.new.items ≡ settled rows.now is_any_waiting kept.old.items }
+{
+    settle_all(kept, rows, is_any_waiting);
+}
+
+fn open_one(one: &mut Kept, children: usize)
+    ensures { one.new ≡ record one.old { place = opened_place children one.old.origin one.old.place } }
+{
+    if let (Origin::Spec(place), Place::Free) = (one.origin, one.place) {
+        if place < children {
+            one.place = Place::Home(place);
+        }
+    }
+}
+
+/// At an opening with so many children.
+fn open_all(kept: &mut [Kept], children: usize)
+    ensures { kept.new ≡ opened children kept.old }
+{
+    for one in kept.iter_mut() {
+        open_one(one, children);
+    }
+}
+
+/// The same for the whole list.
+pub(crate) fn open_items(kept: &mut Vec<Kept>, children: usize)
+    ensures { kept.new.items ≡ opened children kept.old.items }
+{
+    open_all(kept, children);
+}

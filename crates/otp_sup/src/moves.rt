@@ -1,0 +1,148 @@
+//! Where bodies go: at an event, and when an order is sent.
+ghost use Rattle.std.specs.Prelude.{◌≡◌, ◌+◌, ◌++◌, ◌∷◌, ◌<◌, ◌≤◌, ◌^◌, List, [], if◌then◌else◌, is_some, length, position, IsSome, IsTrue, IfSome, MatchOption, None};
+ghost use Rattle.otp_core.specs.View.{state_of};
+ghost use Rattle.otp_rules.specs.State.{State};
+ghost use Rattle.otp_rules.specs.Waits.{starts_waiting};
+ghost use Rattle.otp_table.specs.declared.row.Row.{Row};
+ghost use Rattle.otp_sup.specs.Bodies.{CanComeBack, IsPlan, bodies_after, bodies_in, brings_body, calls_waiting, came_for, is_at_home, left_home, let_go, moved, place_of_call, slot_given, taken_up};
+ghost use Rattle.otp_sup.specs.declared.bodies.Kept.{Kept};
+ghost use Rattle.otp_sup.specs.declared.bodies.Origin.TheVariants as origin;
+ghost use Rattle.otp_sup.specs.Letters.{one_if};
+ghost use Rattle.otp_sup.specs.Turns.{Happened};
+
+use crate::bodies::Bodies;
+use crate::office::{Office, Plan};
+use otp_rules::{Item, Kind, laws};
+use otp_signals::{Words, WordsNaming};
+
+/// One event, with the body that its item brought: each body is where the event puts it.
+pub(crate) fn happen<N: WordsNaming, B: Drop>(
+    office: &mut Office<N>,
+    bodies: &mut Bodies<B>,
+    words: &Words<N>,
+    reading: u64,
+    kind: Kind,
+    body: Option<B>,
+)
+    requires prepared { IsTrue office.old.core.prepared }
+    requires room { length office.old.core.history < 65536 }
+    requires quota { 0 < office.old.owner.quota }
+    requires reading { reading ≤ 2 ^ 62 }
+    requires outbox { office.old.outbox ≡ [] }
+    requires space { 0 < bodies.old.room }
+    requires carries { is_some body ≡ brings_body kind }
+    ensures happened { Happened reading kind office.old office.new }
+    ensures bodies { bodies.new.kept ≡ bodies_after (state_of office.old.core) (state_of office.new.core) kind bodies.old.kept }
+    ensures count { bodies_in bodies.new.kept ≡ bodies_in bodies.old.kept + one_if (brings_body kind) }
+    ensures calls { calls_waiting bodies.old.kept ≡ starts_waiting (state_of office.old.core).waiting → calls_waiting bodies.new.kept ≡ starts_waiting (state_of office.new.core).waiting }
+{
+    laws::start_calls_wait();
+    laws::runs_are_joined();
+    let plan = office.plan(&kind);
+    office.happen(words, reading, kind);
+    let slot = office.slot_given(plan.free);
+    move_bodies(bodies, &kind, &plan, slot, body);
+    let_go(bodies, office, &kind);
+}
+
+/// The body that the event brought goes where it belongs, and so does that of a call that was taken up.
+fn move_bodies<B: Drop>(
+    bodies: &mut Bodies<B>,
+    kind: &Kind,
+    plan: &Plan,
+    slot: Option<usize>,
+    body: Option<B>,
+)
+    requires space { 0 < bodies.old.room }
+    requires carries { is_some body ≡ brings_body kind.now }
+    ensures { (s : State) (rows : List Row) → IsPlan s kind.now plan.now → slot ≡ slot_given s.rows rows → bodies.new.kept ≡ moved s rows kind.now bodies.old.kept }
+{
+    match kind {
+        Kind::Took(Item::Note(_)) => come(bodies, plan.home, body),
+        Kind::Took(Item::Call(call, _)) => bring(bodies, *call, plan.waits, slot, body),
+        Kind::Resumed => take_up(bodies, plan.is_taken_up, slot),
+        Kind::Opened(_) | Kind::Ticked | Kind::Stopped => {}
+    }
+}
+
+/// An end note brought this body, another note none.
+fn come<B: Drop>(bodies: &mut Bodies<B>, home: Option<usize>, body: Option<B>)
+    requires { 0 < bodies.old.room }
+    ensures { bodies.new.kept ≡ (if is_some body then came_for home bodies.old.kept else bodies.old.kept) }
+{
+    if let Some(body) = body {
+        bodies.come(home, body);
+    }
+}
+
+/// A start call brought this body, another call none.
+fn bring<B: Drop>(
+    bodies: &mut Bodies<B>,
+    call: u64,
+    waits: bool,
+    slot: Option<usize>,
+    body: Option<B>,
+)
+    requires { 0 < bodies.old.room }
+    ensures { bodies.new.kept ≡ (if is_some body then bodies.old.kept ++ record { origin = origin.Call call; place = place_of_call waits slot } ∷ [] else bodies.old.kept) }
+{
+    if let Some(body) = body {
+        bodies.bring(call, waits, slot, body);
+    }
+}
+
+/// The first call that waited, if it is one that brought a body, was taken up.
+fn take_up<B: Drop>(bodies: &mut Bodies<B>, is_taken_up: bool, slot: Option<usize>)
+    ensures { bodies.new.kept ≡ taken_up is_taken_up slot bodies.old.kept }
+{
+    if is_taken_up {
+        bodies.take_up(slot);
+    }
+}
+
+/// Bodies of children that are gone are whose they were before; at an opening all children are new.
+fn let_go<N: WordsNaming, B: Drop>(bodies: &mut Bodies<B>, office: &Office<N>, kind: &Kind)
+    ensures { bodies.new.kept ≡ let_go (state_of office.now.core) kind.now bodies.old.kept }
+{
+    let rows = office.rows();
+    let is_any_waiting = office.has_waiting();
+    if let Kind::Opened(_) = kind {
+        bodies.settle(&[], is_any_waiting);
+        bodies.open(rows.len());
+    } else {
+        bodies.settle(rows, is_any_waiting);
+    }
+}
+
+/// The body at this place among the bodies leaves, with the process of the child in this slot.
+pub(crate) fn leave<B: Drop>(
+    bodies: &mut Bodies<B>,
+    slot: Option<usize>,
+    at: Option<usize>,
+) -> Option<B>
+    requires { MatchOption slot (at ≡ None) (λ k. at ≡ position (is_at_home k) bodies.old.kept) }
+    ensures kept { bodies.new.kept ≡ left_home slot bodies.old.kept }
+    ensures none { result ≡ None → bodies.new.kept ≡ bodies.old.kept }
+    ensures back { IsSome result → CanComeBack slot at bodies.new.kept bodies.old.kept }
+    ensures count { bodies_in bodies.new.kept + one_if (is_some result) ≡ bodies_in bodies.old.kept }
+{
+    let slot = slot?;
+    let at = at?;
+    bodies.leave(at, slot)
+}
+
+/// What the port didn't take goes back.
+pub(crate) fn come_back<B: Drop>(
+    bodies: &mut Bodies<B>,
+    slot: Option<usize>,
+    at: Option<usize>,
+    back: Option<B>,
+)
+    requires { IsSome back → IfSome at (λ i. i < length bodies.old.kept) }
+    ensures none { back ≡ None → bodies.new.kept ≡ bodies.old.kept }
+    ensures back { (older : List Kept) → IsSome back → CanComeBack slot at bodies.old.kept older → bodies.new.kept ≡ older }
+{
+    if let (Some(slot), Some(at), Some(body)) = (slot, at, back) {
+        bodies.come_back(at, slot, body);
+    }
+}

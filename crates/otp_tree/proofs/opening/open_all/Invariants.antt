@@ -1,0 +1,19 @@
+use Rattle.std.proofs.Common.{◌≡◌, ℕ, [], ◌+◌, length}
+use Rattle.std.specs.Prelude.{slice_get, Contains}
+use Rattle.otp_inbox.specs.Tokens.{first_sender}
+use Rattle.otp_run.specs.Lists.{AllAt}
+use Rattle.otp_signals.specs.Lists.{EachBetween}
+use Rattle.otp_tree.specs.Opens.{first_slot, slots_of}
+use Rattle.otp_tree.proofs.opening.open_all.Given as goal
+
+abbrev pub invariant-loop-inbox : goal.invariant-loop-inbox
+invariant-loop-inbox g l =
+    record {
+      rest : (k : ℕ) → slice_get l.inbox-iterator.rest.items k ≡ slice_get l.fn.inboxes.items (l.number + k);
+      count : l.number + length l.inbox-iterator.rest.items ≡ length l.fn.inboxes.items;
+      many : length l.senders.items ≡ l.number;
+      seated : AllAt (λ k s. s ≡ first_sender k) l.senders.items;
+      root : Contains l.owner.slots 0;
+      slots : EachBetween (first_slot l.number) (slots_of (length l.fn.inboxes.items)) (Contains l.owner.slots);
+      unposted : l.owner.posts ≡ [];
+    }

@@ -1,0 +1,54 @@
+//! Who calls the supervisors of a tree from outside.
+ghost use Rattle.std.specs.Prelude.{◌≡◌, is_some};
+
+use crate::senders::Senders;
+use otp_inbox::{InboxNaming, Taker};
+use otp_rules::Item;
+use otp_signals::{Owner, Signal, Words, WordsNaming};
+use otp_sup::Letter;
+use std::marker::Model;
+
+/// What a user of the tree needs: numbers for calls, a sender to each supervisor, and the first client's right to stop
+/// the root.
+#[derive(Drop)]
+pub struct Client<N: WordsNaming + InboxNaming, B: Drop> {
+    pub(crate) owner: Owner<N>,
+    pub(crate) senders: Senders<N, B>,
+    /// The root's process number, which the first client drew.
+    pub(crate) root: Option<u64>,
+    /// What the first client takes the root's notes by.
+    pub(crate) waiter: Option<Taker<N, Item, Letter<B>>>,
+}
+
+impl<N: WordsNaming + InboxNaming, B: Drop> Model for Client<N, B> {
+    ghost use Rattle.std.specs.Prelude.{Contains, IfSome};
+    ghost use Rattle.otp_tree.specs.Hands.{ClientView};
+
+    ghost Value = { ClientView };
+
+    ghost view = { λ c. record { owner = c.owner; senders = c.senders; root = c.root } };
+
+    ghost invariant = { λ c. IfSome c.root (λ number. Contains c.owner.slots 0 × Contains c.owner.drawn number) };
+}
+
+impl<N: WordsNaming + InboxNaming, B: Drop> Client<N, B> {
+    /// Whether it is the client that the tree was opened with, which alone can stop it.
+    pub fn is_first(&self) -> bool
+        ensures { result ≡ is_some self.now.root }
+    {
+        self.root.is_some()
+    }
+
+    /// Asks the root to shut down. False, and nothing changes, where it isn't the first client.
+    pub(crate) fn stop(&mut self, words: &Words<N>) -> bool
+        ensures told { result ≡ is_some self.old.root }
+        ensures senders { self.new.senders ≡ self.old.senders }
+        ensures root { self.new.root ≡ self.old.root }
+    {
+        let Some(number) = self.root else {
+            return false;
+        };
+        words.post(&mut self.owner, 0, number, Signal::Shutdown);
+        true
+    }
+}

@@ -1,0 +1,254 @@
+//! What one thread needs to serve a tree.
+ghost use Rattle.std.specs.Prelude.{◌≡◌, ◌<◌, ◌≤◌, ◌^◌, ◌++◌, ◌∷◌, [], None, Some, is_some, true, false, IsTrue, OnErr, OnOk, IfErr, IfSome};
+ghost use Rattle.otp_sup.specs.Ports.{launched};
+ghost use Rattle.otp_sup.specs.Letters.{carries_body};
+ghost use Rattle.otp_rules.specs.declared.event.Item.TheVariants as item;
+
+use crate::senders::Senders;
+use otp_bridge::Subsystem;
+use otp_inbox::InboxNaming;
+use otp_job::{After, Body, EndNote, Job, Process, one_turn};
+use otp_reason::Note;
+use otp_rules::Item;
+use otp_run::{RunNaming, SHARE_LIMIT, Scheduler};
+use otp_signals::{Signal, Viewer, Words, WordsNaming};
+use otp_sup::{Letter, NewProcess, Port};
+use otp_tally::Tally;
+use std::marker::Model;
+use std::sync::Wait;
+
+/// A letter that was not sent yet, and the number of the supervisor to which it goes.
+#[derive(Drop)]
+pub(crate) struct Unsent<J: Drop, S: Drop> {
+    pub table: usize,
+    pub letter: Letter<Body<J, S>>,
+}
+
+/// What one thread needs to serve: a scheduler, a viewer of the signals, and a sender to each supervisor.
+///
+/// It has at most one process out, the one whose turn it is; where that can't be given back for want of memory it stays
+/// in the hand and comes first. So does a note that was refused.
+#[derive(Drop)]
+pub struct Hand<N: WordsNaming + InboxNaming + RunNaming, J: Drop, S: Drop> {
+    pub(crate) scheduler: Scheduler<N, J, S>,
+    pub(crate) viewer: Viewer<N>,
+    pub(crate) senders: Senders<N, Body<J, S>>,
+    pub(crate) turning: Option<Process<J, S>>,
+    pub(crate) unsent: Option<Unsent<J, S>>,
+    pub(crate) refusals: Tally,
+}
+
+impl<N: WordsNaming + InboxNaming + RunNaming, J: Drop, S: Drop> Model for Hand<N, J, S> {
+    ghost use Rattle.std.specs.Prelude.{◌≡◌, is_some};
+    ghost use Rattle.otp_run.specs.Schedulers.{out};
+    ghost use Rattle.otp_tree.specs.Hands.{HandView, one_if};
+
+    ghost Value = { HandView J S };
+
+    ghost view = { λ h. record { scheduler = h.scheduler; senders = h.senders; turning = h.turning; unsent = h.unsent; refusals = h.refusals.count } };
+
+    ghost invariant = { λ h. out h.scheduler ≡ one_if (is_some h.turning) };
+}
+
+impl<N: WordsNaming + InboxNaming + RunNaming, J: Drop, S: Drop> Port<Body<J, S>>
+    for Hand<N, J, S> {
+    ghost use Rattle.std.specs.Prelude.{map};
+    ghost use Rattle.otp_tree.specs.Hands.{launched_of, notes_by};
+
+    ghost processes = { λ h. map launched_of h.scheduler.own.puts };
+
+    ghost notes = { λ h. notes_by h };
+
+    ghost refusals = { λ h. h.refusals };
+
+    fn put(&mut self, process: NewProcess<Body<J, S>>) -> Result<(), NewProcess<Body<J, S>>>
+        ensures took { OnOk result (map launched_of self.new.scheduler.own.puts ≡ map launched_of self.old.scheduler.own.puts ++ launched process.number process.slot (is_some process.body) ∷ []) }
+        ensures kept { OnErr result (map launched_of self.new.scheduler.own.puts ≡ map launched_of self.old.scheduler.own.puts) }
+        ensures refused { OnErr result (self.old.refusals < self.new.refusals) }
+        ensures counted { OnOk result (self.new.refusals ≡ self.old.refusals) }
+        ensures back { IfErr result (λ back. back ≡ process) }
+        ensures notes { notes_by self.new ≡ notes_by self.old }
+    {
+        let NewProcess { number, slot, body } = process;
+        let Some(body) = body else {
+            self.refusals.raise();
+            return Err(NewProcess {
+                number,
+                slot,
+                body: None,
+            });
+        };
+        let table = nested_in(&self.turning);
+        match self.scheduler.put(Process::new(number, slot, table, body)) {
+            Ok(()) => Ok(()),
+            Err(process) => {
+                self.refusals.raise();
+                Err(NewProcess {
+                    number,
+                    slot,
+                    body: process.into_body(),
+                })
+            }
+        }
+    }
+
+    fn send(&mut self, note: Note) -> Result<(), Note>
+        ensures took { OnOk result (notes_by self.new ≡ notes_by self.old ++ note ∷ []) }
+        ensures kept { OnErr result (notes_by self.new ≡ notes_by self.old) }
+        ensures refused { OnErr result (self.old.refusals < self.new.refusals) }
+        ensures counted { OnOk result (self.new.refusals ≡ self.old.refusals) }
+        ensures processes { map launched_of self.new.scheduler.own.puts ≡ map launched_of self.old.scheduler.own.puts }
+    {
+        if let (None, Some(process)) = (&self.unsent, &mut self.turning) {
+            if let Some(letter) = letter_of(note, process) {
+                let table = process.table();
+                self.unsent = Some(Unsent { table, letter });
+                return Ok(());
+            }
+        }
+        self.refusals.raise();
+        Err(note)
+    }
+}
+
+/// The number of the supervisor that runs in the process that is out: its children's notes go to it.
+fn nested_in<J: Drop, S: Drop>(turning: &Option<Process<J, S>>) -> usize {
+    match turning {
+        Some(process) => process.nested_table().unwrap_or(usize::MAX),
+        None => usize::MAX,
+    }
+}
+
+/// The letter that tells a supervisor's parent of its start or its end. With its end its number goes home; None where
+/// that has gone already.
+fn letter_of<J: Drop, S: Drop>(
+    note: Note,
+    process: &mut Process<J, S>,
+) -> Option<Letter<Body<J, S>>>
+    ensures letter { IfSome result (λ letter. letter.item ≡ item.Note note) }
+    ensures ticket { process.new.ticket ≡ process.old.ticket }
+{
+    if let Note::Up(_) = note {
+        return Some(Letter {
+            item: Item::Note(note),
+            body: None,
+        });
+    }
+    let table = process.take_table()?;
+    Some(Letter {
+        item: Item::Note(note),
+        body: Some(Body::Sup(table)),
+    })
+}
+
+impl<N: WordsNaming + InboxNaming + RunNaming, J: Drop, S: Drop> Hand<N, J, S> {
+    /// Makes sure that it has a process out. False where none was found.
+    pub(crate) fn find(&mut self) -> bool
+        ensures found { IsTrue result → is_some self.new.turning ≡ true }
+        ensures unsent { self.new.unsent ≡ self.old.unsent }
+    {
+        if self.turning.is_some() {
+            return true;
+        }
+        if self.scheduler.share().ended >= SHARE_LIMIT {
+            return false;
+        }
+        self.turning = self.scheduler.next();
+        self.turning.is_some()
+    }
+
+    /// Puts the process that it has out back into its deque, or counts its end. Where it can't be put, it stays.
+    pub(crate) fn hand_back(&mut self)
+        ensures unsent { self.new.unsent ≡ self.old.unsent }
+    {
+        let Some(process) = self.turning.take() else {
+            return;
+        };
+        if !process.has_body() && self.scheduler.share().ended < SHARE_LIMIT {
+            match process.retire() {
+                Ok(spent) => self.scheduler.finish(spent),
+                Err(process) => self.turning = Some(process),
+            }
+            return;
+        }
+        if let Err(process) = self.scheduler.give_back(process) {
+            self.turning = Some(process);
+        }
+    }
+
+    /// The supervisor that runs in the process that it has out, and that process's number.
+    pub(crate) fn nested(&self) -> Option<(usize, u64)> {
+        let process = self.turning.as_ref()?;
+        let table = process.nested_table()?;
+        Some((table, process.number()))
+    }
+
+    /// What the process that it has out is told by its supervisor.
+    pub(crate) fn look(&mut self, words: &Words<N>) -> Signal
+        ensures turning { self.new.turning ≡ self.old.turning }
+        ensures unsent { self.new.unsent ≡ self.old.unsent }
+    {
+        let Some(process) = &self.turning else {
+            return Signal::None;
+        };
+        let (slot, number) = (process.slot(), process.number());
+        if slot >= words.slots() {
+            return Signal::None;
+        }
+        words.look(&mut self.viewer, slot, number)
+    }
+}
+
+impl<N: WordsNaming + InboxNaming + RunNaming, J: Job, S: Subsystem> Hand<N, J, S> {
+    /// A turn of the worker or the bridge that it has out.
+    pub(crate) fn work(&mut self, told: Signal)
+        requires { self.old.unsent ≡ None }
+    {
+        let Some(process) = self.turning.take() else {
+            return;
+        };
+        if !process.is_runnable() || self.scheduler.share().ended >= SHARE_LIMIT {
+            self.turning = Some(process);
+            return;
+        }
+        let table = process.table();
+        match one_turn(process, told) {
+            After::Again(process) => self.turning = Some(process),
+            After::Begun(process, note) => {
+                self.turning = Some(process);
+                self.unsent = Some(Unsent {
+                    table,
+                    letter: started(note),
+                });
+            }
+            After::Done(end, spent) => {
+                self.scheduler.finish(spent);
+                self.unsent = Some(Unsent {
+                    table,
+                    letter: ended(end),
+                });
+            }
+        }
+    }
+}
+
+/// The letter that a process has started.
+fn started<J: Drop, S: Drop>(note: Note) -> Letter<Body<J, S>>
+    requires { carries_body (item.Note note) ≡ false }
+{
+    Letter {
+        item: Item::Note(note),
+        body: None,
+    }
+}
+
+/// The letter of a process's end, which brings the body home.
+fn ended<J: Drop, S: Drop>(end: EndNote<J, S>) -> Letter<Body<J, S>>
+    requires { carries_body (item.Note end.note) ≡ true }
+{
+    let EndNote { note, body } = end;
+    Letter {
+        item: Item::Note(note),
+        body: Some(body),
+    }
+}

@@ -1,0 +1,312 @@
+//! A tree is opened: its parts without a name first, then the tree under a name.
+ghost use Rattle.std.specs.Prelude.{◌≡◌, ◌+◌, ◌*◌, ◌<◌, ◌≤◌, ◌^◌, ◌++◌, ◌∷◌, [], Contains, IfOk, OnOk, IfSome, length, is_some, true};
+ghost use Rattle.otp_inbox.specs.Tokens.{first_sender};
+ghost use Rattle.otp_run.specs.Lists.{AllAt};
+ghost use Rattle.otp_run.specs.Rule.{all_parts};
+ghost use Rattle.otp_run.specs.Schedulers.{out};
+ghost use Rattle.otp_signals.specs.Lists.{EachBetween, StayBelow, StayFrom};
+ghost use Rattle.otp_tree.specs.Opens.{slots_of, first_slot};
+
+use crate::client::Client;
+use crate::hand::Hand;
+use crate::plan::TablePlan;
+use crate::senders::Senders;
+use crate::system::System;
+use otp_core::OpenFault;
+use otp_inbox::{Inbox, InboxNaming, Sender, UnnamedInbox};
+use otp_job::{Body, Process, TableNo};
+use otp_rules::Item;
+use otp_run::{RunNaming, RunQueue, Scheduler};
+use otp_signals::{OpenWords, Owner, Viewer, Words, WordsNaming};
+use otp_sup::{Bodies, Letter, Office, Sup, Table};
+use otp_tally::Tally;
+use std::alloc::{AllocError, Global};
+
+/// How many slots of signal words each supervisor has: one for each child that there can be.
+const SLOTS: usize = 256;
+
+/// How many numbers each supervisor may draw.
+const TABLE_QUOTA: u64 = 1 << 55;
+
+/// The most supervisors of a tree.
+pub const MAX_TABLES: usize = 64;
+
+/// Why a tree was not opened.
+#[derive(Clone, Copy, Debug, PartialEq, Eq)]
+pub enum TreeFault {
+    /// E0: memory was refused.
+    OutOfMemory,
+    /// The flags or the child specifications of this supervisor are refused.
+    Table { table: usize, fault: OpenFault },
+}
+
+impl From<AllocError> for TreeFault {
+    fn from(_: AllocError) -> TreeFault {
+        TreeFault::OutOfMemory
+    }
+}
+
+/// The parts of a tree, without a name.
+#[derive(Drop)]
+pub struct Parts<J: Drop, S: Drop> {
+    pub(crate) words: OpenWords,
+    pub(crate) inboxes: Vec<UnnamedInbox<Item, Letter<Body<J, S>>>>,
+    pub(crate) outer: UnnamedInbox<Item, Letter<Body<J, S>>>,
+    pub(crate) queue: RunQueue<J, S>,
+    pub(crate) plans: Vec<TablePlan<J, S>>,
+}
+
+/// All that opening gives.
+#[derive(Drop)]
+pub struct Opened<N: WordsNaming + InboxNaming + RunNaming, J: Drop, S: Drop> {
+    pub system: System<N, J, S>,
+    pub hands: Vec<Hand<N, J, S>>,
+    pub client: Client<N, Body<J, S>>,
+}
+
+impl<J: Drop, S: Drop> Parts<J, S> {
+    /// The parts of a tree of 1 to [`MAX_TABLES`] supervisors, the root first, for 1 to 8 hands.
+    pub fn open(
+        alloc: Global,
+        plans: Vec<TablePlan<J, S>>,
+        hands: usize,
+    ) -> Result<Parts<J, S>, AllocError>
+        requires tables { length plans.items ≤ 64 }
+        requires some { 0 < hands }
+        requires few { hands ≤ all_parts }
+        ensures slots { IfOk result (λ p. p.words.slots ≡ slots_of (length p.inboxes.items)) }
+        ensures few { IfOk result (λ p. length p.inboxes.items ≤ 64) }
+    {
+        Ok(Parts {
+            words: OpenWords::open(alloc, 1 + SLOTS * plans.len())?,
+            inboxes: open_inboxes(alloc, plans.len())?,
+            outer: UnnamedInbox::open(alloc)?,
+            queue: RunQueue::open(alloc, hands)?,
+            plans,
+        })
+    }
+}
+
+/// So many inboxes.
+fn open_inboxes<B: Drop>(
+    alloc: Global,
+    count: usize,
+) -> Result<Vec<UnnamedInbox<Item, Letter<B>>>, AllocError>
+    ensures { IfOk result (λ inboxes. length inboxes.items ≡ count) }
+{
+    let mut inboxes = Vec::new(alloc);
+    for _ in 0..count {
+        inboxes.push(UnnamedInbox::open(alloc)?)?;
+    }
+    Ok(inboxes)
+}
+
+/// One supervisor under its number, and the first sender to it. Its seat is cut off the owner.
+fn open_one<N: WordsNaming + InboxNaming, J: Drop, S: Drop>(
+    alloc: Global,
+    words: &Words<N>,
+    owner: &mut Owner<N>,
+    inbox: UnnamedInbox<Item, Letter<Body<J, S>>>,
+    number: usize,
+    plan: TablePlan<J, S>,
+) -> Result<(Sup<N, Body<J, S>>, Sender<N, Item, Letter<Body<J, S>>>), TreeFault>
+    requires named { inbox ≡ N.inbox number }
+    requires few { number < 64 }
+    requires slots { EachBetween (first_slot number) (first_slot (number + 1)) (Contains owner.old.slots) }
+    requires unposted { owner.old.posts ≡ [] }
+    ensures sender { IfOk result (λ r. r.1 ≡ first_sender number) }
+    ensures lower { OnOk result (StayBelow (first_slot number) owner.old.slots owner.new.slots) }
+    ensures upper { OnOk result (StayFrom (first_slot (number + 1)) owner.old.slots owner.new.slots) }
+    ensures posts { OnOk result (owner.new.posts ≡ []) }
+{
+    let first = 1 + SLOTS * number;
+    let Ok(seat) = words.split(owner, first..first + SLOTS, TABLE_QUOTA) else {
+        return Err(TreeFault::OutOfMemory);
+    };
+    let TablePlan {
+        flags,
+        specs,
+        bodies,
+    } = plan;
+    let (inbox, taker, sender) = inbox.named::<N>(number);
+    let office = match Office::open(alloc, flags, specs.as_slice(), seat, first) {
+        Ok(office) => office,
+        Err(fault) => return Err(TreeFault::Table {
+            table: number,
+            fault,
+        }),
+    };
+    let bodies = hand_in_all(alloc, bodies)?;
+    let sup = Sup::new(inbox, Table::new(office, taker, bodies));
+    Ok((sup, sender))
+}
+
+/// Puts it last. Where memory is refused it is dropped.
+fn keep<T: Drop>(list: &mut Vec<T>, item: T) -> Result<(), AllocError>
+    ensures { OnOk result (list.new.items ≡ list.old.items ++ item ∷ []) }
+{
+    list.push(item)?;
+    Ok(())
+}
+
+fn hand_in_all<B: Drop>(alloc: Global, bodies: Vec<B>) -> Result<Bodies<B>, AllocError> {
+    let mut all = Bodies::new(alloc);
+    let count = bodies.len();
+    let mut bodies = bodies.into_iter();
+    for place in 0..count {
+        let Some(body) = bodies.next() else {
+            break;
+        };
+        if all.hand_in(place, body).is_err() {
+            return Err(AllocError);
+        }
+    }
+    Ok(all)
+}
+
+/// All supervisors under their numbers, and the first sender to each.
+#[derive(Drop)]
+struct Named<N: WordsNaming + InboxNaming, J: Drop, S: Drop> {
+    sups: Vec<Sup<N, Body<J, S>>>,
+    senders: Vec<Sender<N, Item, Letter<Body<J, S>>>>,
+}
+
+fn open_all<N: WordsNaming + InboxNaming, J: Drop, S: Drop>(
+    alloc: Global,
+    words: &Words<N>,
+    owner: &mut Owner<N>,
+    inboxes: Vec<UnnamedInbox<Item, Letter<Body<J, S>>>>,
+    plans: Vec<TablePlan<J, S>>,
+) -> Result<Named<N, J, S>, TreeFault>
+    requires named { AllAt (λ k id. id ≡ N.inbox k) inboxes.items }
+    requires few { length inboxes.items ≤ 64 }
+    requires slots { EachBetween 0 (slots_of (length inboxes.items)) (Contains owner.old.slots) }
+    requires unposted { owner.old.posts ≡ [] }
+    ensures senders { IfOk result (λ r. AllAt (λ k s. s ≡ first_sender k) r.senders.items) }
+    ensures count { IfOk result (λ r. length r.senders.items ≡ length inboxes.items) }
+    ensures root { OnOk result (Contains owner.new.slots 0) }
+{
+    let mut sups = Vec::new(alloc);
+    let mut senders = Vec::new(alloc);
+    let mut plans = plans.into_iter();
+    let mut number = 0;
+    for inbox in inboxes {
+        let Some(plan) = plans.next() else {
+            return Err(TreeFault::OutOfMemory);
+        };
+        let (sup, sender) = open_one(alloc, words, owner, inbox, number, plan)?;
+        keep(&mut sups, sup)?;
+        keep(&mut senders, sender)?;
+        number += 1;
+    }
+    Ok(Named { sups, senders })
+}
+
+/// The first sender to each supervisor, and the one that sends to whoever opened the tree.
+fn seat<N: InboxNaming, B: Drop>(
+    mut senders: Vec<Sender<N, Item, Letter<B>>>,
+    outer: Sender<N, Item, Letter<B>>,
+) -> Result<Senders<N, B>, AllocError>
+    requires seated { AllAt (λ k s. s ≡ first_sender k) senders.items }
+    requires outer { outer ≡ first_sender (length senders.items) }
+{
+    senders.push(outer)?;
+    Ok(Senders { list: senders })
+}
+
+/// Puts the root's process, if that is still to be put.
+fn begin<N: RunNaming, J: Drop, S: Drop>(
+    scheduler: &mut Scheduler<N, J, S>,
+    root: &mut Option<Process<J, S>>,
+) -> Result<(), AllocError>
+    requires { out scheduler.old ≡ 0 }
+    ensures { OnOk result (out scheduler.new ≡ 0) }
+{
+    let Some(process) = root.take() else {
+        return Ok(());
+    };
+    match scheduler.put(process) {
+        Ok(()) => Ok(()),
+        Err(_) => Err(AllocError),
+    }
+}
+
+/// A hand for each scheduler, each with a viewer and a sender to each supervisor. The first has the root's process.
+fn make_hands<N: WordsNaming + InboxNaming + RunNaming, J: Drop, S: Drop>(
+    alloc: Global,
+    system: &System<N, J, S>,
+    schedulers: Vec<Scheduler<N, J, S>>,
+    senders: &mut Senders<N, Body<J, S>>,
+    mut viewer: Viewer<N>,
+    root: Process<J, S>,
+) -> Result<Vec<Hand<N, J, S>>, TreeFault>
+    requires { AllAt (λ k s. out s ≡ 0) schedulers.items }
+{
+    let mut hands = Vec::new(alloc);
+    let mut root = Some(root);
+    for scheduler in schedulers {
+        let mut scheduler = scheduler;
+        begin(&mut scheduler, &mut root)?;
+        let Some(senders) = system.split_senders(alloc, senders, 1)? else {
+            return Err(TreeFault::OutOfMemory);
+        };
+        let hand = Hand {
+            scheduler,
+            viewer: system.words.split_viewer(&mut viewer),
+            senders,
+            turning: None,
+            unsent: None,
+            refusals: Tally::new(),
+        };
+        keep(&mut hands, hand)?;
+    }
+    Ok(hands)
+}
+
+impl<J: Drop, S: Drop> Parts<J, S> {
+    /// The tree under a name, with its hands and its first client.
+    pub fn named<N: WordsNaming + InboxNaming + RunNaming>(
+        self,
+        alloc: Global,
+    ) -> Result<Opened<N, J, S>, TreeFault>
+        requires words { self.words.words ≡ N.words }
+        requires inboxes { AllAt (λ k id. id ≡ N.inbox k) self.inboxes.items }
+        requires outer { self.outer ≡ N.inbox (length self.inboxes.items) }
+        requires deques { AllAt (λ k id. id ≡ N.deque k) self.queue }
+        requires slots { self.words.slots ≡ slots_of (length self.inboxes.items) }
+        requires few { length self.inboxes.items ≤ 64 }
+        ensures root { IfOk result (λ o. is_some o.client.root ≡ true) }
+    {
+        let Parts {
+            words,
+            inboxes,
+            outer,
+            queue,
+            plans,
+        } = self;
+        let tables = inboxes.len();
+        let (words, mut owner) = words.named::<N>();
+        let viewer = words.viewer(&mut owner);
+        let Named { sups, senders } = open_all(alloc, &words, &mut owner, inboxes, plans)?;
+        let Ok(root) = words.draw(&mut owner) else {
+            return Err(TreeFault::OutOfMemory);
+        };
+        let (outer, waiter, sender) = outer.named::<N>(tables);
+        let mut senders = seat(senders, sender)?;
+        let system = System { words, sups, outer };
+        let schedulers = queue.named::<N>(alloc)?;
+        let process = Process::new(root, 0, tables, Body::Sup(TableNo::new(0)));
+        let hands = make_hands(alloc, &system, schedulers, &mut senders, viewer, process)?;
+        let client = Client {
+            owner,
+            senders,
+            root: Some(root),
+            waiter: Some(waiter),
+        };
+        Ok(Opened {
+            system,
+            hands,
+            client,
+        })
+    }
+}

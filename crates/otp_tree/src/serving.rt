@@ -1,0 +1,115 @@
+//! How hands serve a tree: a turn at a time, each hand in a thread of its own.
+ghost use Rattle.std.specs.Prelude.{◌≤◌, ◌^◌, ◌≡◌, IsTrue, None};
+
+use crate::clock::{Gate, Millis};
+use crate::hand::{Hand, Unsent};
+use crate::system::System;
+use otp_bridge::Subsystem;
+use otp_inbox::InboxNaming;
+use otp_job::Job;
+use otp_run::RunNaming;
+use otp_signals::WordsNaming;
+use std::sync::Wait;
+use std::thread;
+use std::thread::Threads;
+
+impl<N: WordsNaming + InboxNaming, J: Job, S: Subsystem> System<N, J, S> {
+    /// Gives a hand so many turns, in the thread that calls.
+    ///
+    /// A turn first sends a note that was refused before. Then it takes the process that the hand has out, or the next of
+    /// the run queue: a worker's or a bridge's has one turn ([`otp_job::one_turn`]), a supervisor's one too
+    /// ([`otp_sup::Sup::turn`]). Where there is no process, the turn does nothing.
+    pub fn serve<R: Wait, M: Millis>(
+        &self,
+        rt: &R,
+        hand: &mut Hand<N, J, S>,
+        clock: &mut M,
+        turns: u64,
+    )
+    where
+        N: RunNaming,
+    {
+        for _ in 0..turns {
+            let reading = clock.now();
+            self.turn(rt, hand, reading);
+        }
+    }
+
+    /// One turn of a hand, at this reading of the clock in milliseconds.
+    pub fn turn<R: Wait>(&self, rt: &R, hand: &mut Hand<N, J, S>, reading: u64)
+    where
+        N: RunNaming,
+        requires { reading ≤ 2 ^ 62 }
+    {
+        if !self.send_unsent(rt, hand) || !hand.find() {
+            return;
+        }
+        let told = hand.look(&self.words);
+        match hand.nested() {
+            Some((table, number)) => {
+                if let Some(sup) = self.sups.get(table) {
+                    let _ = sup.turn(rt, &self.words, hand, number, reading, told);
+                }
+            }
+            None => hand.work(told),
+        }
+        if self.send_unsent(rt, hand) {
+            hand.hand_back();
+        }
+    }
+
+    /// Sends the letter that a hand still has to send. False where it was refused again.
+    fn send_unsent<R: Wait>(&self, rt: &R, hand: &mut Hand<N, J, S>) -> bool
+    where
+        N: RunNaming,
+        ensures { IsTrue result → hand.new.unsent ≡ None }
+    {
+        let Some(Unsent { table, letter }) = hand.unsent.take() else {
+            return true;
+        };
+        let inbox = self.inbox_of(table);
+        if inbox.number() >= hand.senders.len() {
+            hand.unsent = Some(Unsent { table, letter });
+            return false;
+        }
+        match hand.senders.send(rt, inbox, letter) {
+            Ok(()) => true,
+            Err(letter) => {
+                hand.unsent = Some(Unsent { table, letter });
+                false
+            }
+        }
+    }
+}
+
+/// The most hands that serve at once.
+pub const MAX_HANDS: usize = 8;
+
+/// Gives each hand so many turns, each hand in a thread of its own. Each turn begins with the gate's answer, which is
+/// the reading of the clock for it.
+pub fn pool_run<N, J, S, R, G>(
+    rt: &R,
+    system: &System<N, J, S>,
+    hands: &mut [Hand<N, J, S>],
+    gate: &G,
+    turns: u64,
+)
+where
+    N: WordsNaming + InboxNaming + RunNaming + Send + Sync,
+    J: Job + Send,
+    S: Subsystem + Send,
+    R: Threads + Wait + Sync,
+    G: Gate + Sync,
+{
+    thread::for_each_mut(
+        rt,
+        hands,
+        MAX_HANDS,
+        &|index, hand| {
+            for _ in 0..turns {
+                let reading = gate.before_turn(index);
+                system.turn(rt, hand, reading);
+            }
+        },
+    );
+}

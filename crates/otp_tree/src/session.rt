@@ -1,0 +1,73 @@
+//! A tree for one call: the name is picked here, so that no caller has to.
+ghost use Rattle.std.specs.Prelude.{◌≡◌, ◌<◌, ◌≤◌, length};
+ghost use Rattle.otp_run.specs.Lists.{AllAt};
+ghost use Rattle.otp_run.specs.Rule.{all_parts};
+ghost use Rattle.otp_tree.specs.Opens.{slots_of};
+
+use crate::client::Client;
+use crate::hand::Hand;
+use crate::opening::{Opened, Parts, TreeFault};
+use crate::plan::TablePlan;
+use crate::system::System;
+use otp_inbox::InboxNaming;
+use otp_job::Body;
+use otp_run::RunNaming;
+use otp_signals::WordsNaming;
+use std::alloc::Global;
+use std::marker::Brand;
+
+/// What is done with a tree, from its opening to its close.
+///
+/// All that belongs to one tree bears one name, `N`, in its type; so nothing of it can be mixed up with another's.
+/// The library picks the name, and an implementer is generic in it.
+pub trait Session<R, J: Drop, S: Drop>: Drop {
+    /// What comes out: whatever has no `N` in its type, as a report.
+    type Output;
+
+    /// Is called once, with the open tree.
+    fn run<N: WordsNaming + InboxNaming + RunNaming + Send + Sync>(
+        self,
+        rt: &R,
+        system: System<N, J, S>,
+        hands: Vec<Hand<N, J, S>>,
+        client: Client<N, Body<J, S>>,
+    ) -> Self::Output;
+}
+
+/// Opens a tree of 1 to 64 supervisors, the root first, for 1 to 8 hands, and runs a session with it.
+pub fn with_system<R, J: Drop, S: Drop, T: Session<R, J, S>>(
+    rt: &R,
+    alloc: Global,
+    plans: Vec<TablePlan<J, S>>,
+    hands: usize,
+    session: T,
+) -> Result<T::Output, TreeFault>
+    requires tables { length plans.items ≤ 64 }
+    requires some { 0 < hands }
+    requires few { hands ≤ all_parts }
+{
+    let parts = Parts::open(alloc, plans, hands)?;
+    run_named::<Brand, R, J, S, T>(rt, alloc, parts, session)
+}
+
+fn run_named<
+    N: WordsNaming + InboxNaming + RunNaming + Send + Sync,
+    R,
+    J: Drop,
+    S: Drop,
+    T: Session<R, J, S>,
+>(rt: &R, alloc: Global, parts: Parts<J, S>, session: T) -> Result<T::Output, TreeFault>
+    requires words { parts.words.words ≡ N.words }
+    requires inboxes { AllAt (λ k id. id ≡ N.inbox k) parts.inboxes.items }
+    requires outer { parts.outer ≡ N.inbox (length parts.inboxes.items) }
+    requires deques { AllAt (λ k id. id ≡ N.deque k) parts.queue }
+    requires slots { parts.words.slots ≡ slots_of (length parts.inboxes.items) }
+    requires few { length parts.inboxes.items ≤ 64 }
+{
+    let Opened {
+        system,
+        hands,
+        client,
+    } = parts.named::<N>(alloc)?;
+    Ok(session.run::<N>(rt, system, hands, client))
+}

@@ -1,0 +1,89 @@
+//! The tree: its supervisors, which the hands share.
+ghost use Rattle.std.specs.Prelude.{◌≡◌, ◌<◌, is_some, length};
+
+use crate::client::Client;
+use crate::senders::Senders;
+use otp_inbox::{Inbox, InboxNaming};
+use otp_job::Body;
+use otp_reason::Note;
+use otp_rules::Item;
+use otp_signals::{Words, WordsNaming};
+use otp_sup::{Letter, Sup};
+use std::alloc::{AllocError, Global};
+use std::sync::Wait;
+
+/// The signal words and the supervisors of a tree, which all hands share.
+#[derive(Drop)]
+pub struct System<N: WordsNaming + InboxNaming, J: Drop, S: Drop> {
+    pub(crate) words: Words<N>,
+    pub(crate) sups: Vec<Sup<N, Body<J, S>>>,
+    /// To which the root's notes go.
+    pub(crate) outer: Inbox<N, Item, Letter<Body<J, S>>>,
+}
+
+impl<N: WordsNaming + InboxNaming, J: Drop, S: Drop> System<N, J, S> {
+    /// How many supervisors the tree has.
+    pub fn tables(&self) -> usize {
+        self.sups.len()
+    }
+
+    /// Asks the root to shut down: it stops its children, and ends. False, and nothing happens, where this isn't the
+    /// client that the tree was opened with.
+    pub fn stop(&self, client: &mut Client<N, Body<J, S>>) -> bool
+        ensures told { result ≡ is_some client.old.root }
+        ensures senders { client.new.senders ≡ client.old.senders }
+        ensures root { client.new.root ≡ client.old.root }
+    {
+        client.stop(&self.words)
+    }
+
+    /// The next thing that the root told: `Up` once all its children have started, `Exit` when it has ended. None where
+    /// there is nothing new, or this isn't the client that the tree was opened with.
+    pub fn root_note<R: Wait>(&self, rt: &R, client: &mut Client<N, Body<J, S>>) -> Option<Note>
+        ensures senders { client.new.senders ≡ client.old.senders }
+        ensures root { client.new.root ≡ client.old.root }
+    {
+        let waiter = client.waiter.as_mut()?;
+        if waiter.number() != self.outer.number() {
+            return None;
+        }
+        let letter = self.outer.take(rt, waiter)?;
+        match letter.item {
+            Item::Note(note) => Some(note),
+            Item::Call(..) => None,
+        }
+    }
+
+    /// A sender to each supervisor and to whoever opened the tree, with so many parts of the right to send. None where
+    /// not more are there.
+    pub(crate) fn split_senders(
+        &self,
+        alloc: Global,
+        senders: &mut Senders<N, Body<J, S>>,
+        parts: u64,
+    ) -> Result<Option<Senders<N, Body<J, S>>>, AllocError>
+        requires { 0 < parts }
+        ensures len { length senders.new ≡ length senders.old }
+    {
+        let mut list = Vec::new(alloc);
+        for place in 0..senders.len() {
+            let inbox = self.inbox_of(place);
+            if inbox.number() != place {
+                return Ok(None);
+            }
+            let Some(sender) = senders.split_at(inbox, parts) else {
+                return Ok(None);
+            };
+            list.push(sender)?;
+        }
+        Ok(Some(Senders { list }))
+    }
+
+    /// The inbox of the supervisor with this number, or of whoever opened the tree.
+    pub(crate) fn inbox_of(&self, table: usize) -> &Inbox<N, Item, Letter<Body<J, S>>> {
+        match self.sups.get(table) {
+            Some(sup) => sup.inbox(),
+            None => &self.outer,
+        }
+    }
+}

@@ -1,0 +1,12 @@
+-- What a trial stands for, and what it keeps.
+use Rattle.std.specs.Prelude.{ℕ, ◌<◌, ◌≤◌, ◌^◌, List, length}
+use Rattle.otp_try.specs.declared.trial.Trial.TheInside.{Inside}
+use Rattle.otp_try.specs.Played.{Seated}
+
+abbrev pub seats_of : Inside → List Seated
+seats_of t = t.seats.items
+
+pub record IsTrial (t : Inside) : Type 0 where
+  -- the root is the first
+  pub root : 0 < length t.seats.items
+  pub time : t.time ≤ 2 ^ 62

@@ -1,0 +1,147 @@
+//! A supervisor of a tree that is tried.
+
+ghost use Rattle.std.specs.Prelude.{◌≡◌, ◌≤◌, ◌^◌, [], false, IfOk, OnOk};
+ghost use Rattle.otp_rules.specs.Run.{empty_state};
+ghost use Rattle.otp_rules.specs.State.{is_over};
+ghost use Rattle.otp_try.specs.Played.{Happens, state_in, unplayed};
+
+use crate::telling::tell;
+use crate::trial::Halt;
+use otp_core::{Core, Counter};
+use otp_rules::{Effect, Kind};
+use otp_spec::{SupFlags, SupSpec};
+use otp_table::Row;
+use otp_text::Printer;
+use std::alloc::Global;
+use std::marker::Model;
+
+/// Above all numbers that processes may have: 2^62.
+const END_OF_NUMBERS: u64 = 4_611_686_018_427_387_904;
+
+/// A supervisor with its core: what it is opened with whenever it starts, and what has happened to it since then.
+#[derive(Drop)]
+pub(crate) struct Seat {
+    /// What stands in front of the names of its children: the ids of the supervisors from the root's child on, each with
+    /// a `/` behind it.
+    path: Vec<u8>,
+    supervisor: SupSpec,
+    core: Core,
+}
+
+impl Model for Seat {
+    ghost use Rattle.otp_try.specs.Played.{Seated};
+
+    ghost Value = { Seated };
+
+    ghost use Rattle.otp_try.specs.Inside.{IsSeat, seated_of};
+
+    ghost view = { seated_of };
+
+    ghost invariant = { IsSeat };
+}
+
+/// A core that was never opened.
+fn core_of(alloc: Global, supervisor: &SupSpec) -> Result<Core, Halt>
+    ensures { IfOk result (λ core. core ≡ record { base = empty_state supervisor.now.flags supervisor.now.specs; history = []; effects = []; prepared = false }) }
+{
+    match Core::open(alloc, supervisor.flags(), supervisor.specs()) {
+        Ok(core) => Ok(core),
+        Err(_) => Err(Halt::OutOfMemory),
+    }
+}
+
+impl Seat {
+    /// A supervisor that was never opened.
+    pub fn new(alloc: Global, path: Vec<u8>, supervisor: SupSpec) -> Result<Self, Halt>
+        ensures { IfOk result (λ seat. seat ≡ unplayed path.items supervisor.flags supervisor.specs) }
+    {
+        let core = core_of(alloc, &supervisor)?;
+        Ok(Seat {
+            path,
+            supervisor,
+            core,
+        })
+    }
+
+    /// The supervisor is started anew: nothing has happened to it.
+    pub fn renew(&mut self, alloc: Global) -> Result<(), Halt>
+        ensures { OnOk result (self.new ≡ record self.old { history = [] }) }
+    {
+        self.core = core_of(alloc, &self.supervisor)?;
+        Ok(())
+    }
+
+    /// Something happens at this time, and all its orders are told. A child that is started gets the next number after
+    /// `last`; the answer is the last number then.
+    pub fn happen(
+        &mut self,
+        time: u64,
+        kind: Kind,
+        last: u64,
+        printer: &mut Printer,
+        out: &mut Vec<u8>,
+    ) -> Result<u64, Halt>
+        requires { time ≤ 2 ^ 62 }
+        ensures { OnOk result (Happens kind self.old self.new out.old.items out.new.items) }
+    {
+        if self.core.is_full() {
+            return Err(Halt::HistoryFull);
+        }
+        let last = last.max(self.core.last_number());
+        if last >= END_OF_NUMBERS {
+            return Err(Halt::HistoryFull);
+        }
+        self.core.prepare()?;
+        self.core.clear_effects();
+        let mut numbers = Counter { last };
+        self.core.step_with(time, kind, &mut numbers);
+        tell(time, self.path.as_slice(), &self.core, printer, out)?;
+        Ok(numbers.last)
+    }
+
+    /// The orders of what happened last.
+    pub fn orders(&self) -> &[Effect] {
+        self.core.effects()
+    }
+
+    pub fn path(&self) -> &[u8]
+        ensures { result.now ≡ self.now.path }
+    {
+        self.path.as_slice()
+    }
+
+    pub fn flags(&self) -> SupFlags {
+        self.supervisor.flags()
+    }
+
+    /// The children in start order.
+    pub fn rows(&self) -> &[Row]
+        ensures { result.now ≡ (state_in self.now).rows }
+    {
+        self.core.rows()
+    }
+
+    /// The times in milliseconds of all restarts.
+    pub fn restarts(&self) -> &[u64]
+        ensures { result.now ≡ (state_in self.now).stamps }
+    {
+        self.core.restarts()
+    }
+
+    /// Whether the supervisor has ended.
+    pub fn has_ended(&self) -> bool
+        ensures { result ≡ is_over (state_in self.now).phase }
+    {
+        self.core.has_ended()
+    }
+
+    /// What happens next at this time though no process tells anything.
+    pub fn next_kind(&self, time: u64, is_stopping: bool) -> Option<Kind> {
+        self.core.next_kind(time, is_stopping)
+    }
+
+    /// The next deadline of a child that was asked to shut down.
+    pub fn next_deadline(&self) -> Option<u64> {
+        self.core.next_deadline()
+    }
+}

@@ -1,0 +1,89 @@
+//! One supervisor, driven by hand. Here its children are no processes at all: each starts when it is ordered to, and ends
+//! when it is asked to. Whoever has real ones carries out the same orders, and gets the same notes from them.
+
+use otp_core::{Core, Counter, MAX_EVENTS};
+use otp_reason::{Name, Note, Reason, Text};
+use otp_rules::{Effect, Item, Kind};
+use otp_spec::{ChildSpec, Strategy, SupFlags};
+use std::alloc::{AllocError, Global};
+use std::collections::VecDeque;
+
+/// A supervisor of three children, where those that were started after one that crashed are restarted with it.
+pub fn open(alloc: Global) -> Result<Core, AllocError> {
+    let mut specs = Vec::new(alloc);
+    for id in [b"db".as_slice(), b"cache", b"web"] {
+        let name = Name::new(id).ok_or(AllocError)?;
+        specs.push(ChildSpec::new(name, name))?;
+    }
+    let flags = SupFlags {
+        strategy: Strategy::RestForOne,
+        ..SupFlags::default()
+    };
+    let mut core = Core::open(alloc, flags, specs.as_slice()).map_err(|_| AllocError)?;
+    drive(alloc, &mut core, Kind::Opened(0))?;
+    Ok(core)
+}
+
+/// A process of a child ends by an error.
+pub fn crash(alloc: Global, core: &mut Core, number: u64) -> Result<(), AllocError> {
+    let text = Text::new(b"crash").ok_or(AllocError)?;
+    let note = Note::Exit(number, Reason::Error(text));
+    drive(alloc, core, Kind::Took(Item::Note(note)))
+}
+
+/// The supervisor is told to end, and stops its children.
+pub fn stop(alloc: Global, core: &mut Core) -> Result<(), AllocError> {
+    drive(alloc, core, Kind::Stopped)
+}
+
+/// Something happens, and all that follows, until nothing does.
+fn drive(alloc: Global, core: &mut Core, first: Kind) -> Result<(), AllocError> {
+    let mut inbox = VecDeque::new(alloc);
+    let mut next = Some(first);
+    for _ in 0..MAX_EVENTS {
+        let Some(kind) = next else {
+            return Ok(());
+        };
+        happen(core, kind)?;
+        carry_out(core, &mut inbox)?;
+        next = match core.next_kind(0, false) {
+            Some(kind) => Some(kind),
+            None => inbox.pop_front().map(|note| Kind::Took(Item::Note(note))),
+        };
+    }
+    Ok(())
+}
+
+/// One event: its memory first, and then the step, which draws a number where it starts a child. The clock stands still.
+fn happen(core: &mut Core, kind: Kind) -> Result<(), AllocError> {
+    core.prepare()?;
+    let mut numbers = Counter {
+        last: core.last_number(),
+    };
+    if core.is_full() || numbers.last == u64::MAX {
+        return Ok(());
+    }
+    core.step_with(0, kind, &mut numbers);
+    Ok(())
+}
+
+/// The orders are carried out: what the children tell of that comes into the inbox.
+fn carry_out(core: &mut Core, inbox: &mut VecDeque<Note>) -> Result<(), AllocError> {
+    for order in core.effects() {
+        if let Some(note) = answer_of(order) {
+            inbox.push_back(note)?;
+        }
+    }
+    core.clear_effects();
+    Ok(())
+}
+
+/// What a child tells of an order.
+fn answer_of(order: &Effect) -> Option<Note> {
+    match order {
+        Effect::Start(_, number) => Some(Note::Up(*number)),
+        Effect::Ask(_, number) => Some(Note::Exit(*number, Reason::Shutdown)),
+        Effect::Kill(_, number) => Some(Note::Exit(*number, Reason::Killed)),
+        Effect::Reply(_) | Effect::Ready | Effect::End(_) => None,
+    }
+}

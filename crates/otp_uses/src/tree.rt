@@ -1,0 +1,123 @@
+//! A tree of jobs of one's own: opened, served by two hands in turn, asked to stop, and ended.
+ghost use Rattle.std.specs.Prelude.{◌≡◌, true, length, IfOk};
+
+use otp_bridge::BoxedSubsystem;
+use otp_inbox::InboxNaming;
+use otp_job::{Body, Job, Told, Turn};
+use otp_reason::{Name, Note, Reason, Started};
+use otp_run::RunNaming;
+use otp_signals::WordsNaming;
+use otp_spec::{ChildSpec, SupFlags};
+use otp_tree::{Client, Hand, Millis, Session, System, TablePlan, TreeFault, with_system};
+use std::alloc::{AllocError, Global};
+use std::sync::Wait;
+
+/// Works on until it is asked to shut down.
+#[derive(Drop)]
+struct Steady;
+
+impl Job for Steady {
+    ghost is_trapping = { λ _. true };
+
+    fn traps(&self) -> bool {
+        true
+    }
+
+    fn start(&mut self, _number: u64) -> Started {
+        Started::Up
+    }
+
+    fn turn(&mut self, told: Told) -> Turn {
+        match told {
+            Told::Shutdown => Turn::End(Reason::Shutdown),
+            Told::Nothing => Turn::Again,
+        }
+    }
+}
+
+/// The plan of a tree: one supervisor, of two steady workers.
+fn plans(alloc: Global) -> Result<Vec<TablePlan<Steady, BoxedSubsystem>>, AllocError>
+    ensures { IfOk result (λ plans. length plans.items ≡ 1) }
+{
+    let mut specs = Vec::new(alloc);
+    let mut bodies: Vec<Body<Steady, BoxedSubsystem>> = Vec::new(alloc);
+    for id in [b"a", b"b"] {
+        if let Some(id) = Name::new(id) {
+            specs.push(ChildSpec::new(id, id))?;
+            bodies.push(Body::Worker(Steady))?;
+        }
+    }
+    let mut plans = Vec::new(alloc);
+    plans.push(TablePlan {
+        flags: SupFlags::default(),
+        specs,
+        bodies,
+    })?;
+    Ok(plans)
+}
+
+/// A clock that stands still.
+#[derive(Drop)]
+struct Still;
+
+impl Millis for Still {
+    fn now(&mut self) -> u64 {
+        0
+    }
+}
+
+/// What a tree told: when it was up, and at its end.
+#[derive(Drop)]
+pub struct Run {
+    pub up: Option<Note>,
+    pub end: Option<Note>,
+}
+
+/// Serves the tree until its root tells that it is up, asks it to stop, and serves it until it tells its end.
+#[derive(Drop)]
+struct UpAndDown;
+
+impl<R: Wait> Session<R, Steady, BoxedSubsystem> for UpAndDown {
+    type Output = Run;
+
+    fn run<N: WordsNaming + InboxNaming + RunNaming + Send + Sync>(
+        self,
+        rt: &R,
+        system: System<N, Steady, BoxedSubsystem>,
+        hands: Vec<Hand<N, Steady, BoxedSubsystem>>,
+        client: Client<N, Body<Steady, BoxedSubsystem>>,
+    ) -> Self::Output {
+        let (mut hands, mut client) = (hands, client);
+        let up = next_note(rt, &system, &mut hands, &mut client);
+        system.stop(&mut client);
+        let end = next_note(rt, &system, &mut hands, &mut client);
+        Run { up, end }
+    }
+}
+
+/// Serves until the root tells something: at most a hundred times a hundred turns of each hand.
+fn next_note<N, R>(
+    rt: &R,
+    system: &System<N, Steady, BoxedSubsystem>,
+    hands: &mut Vec<Hand<N, Steady, BoxedSubsystem>>,
+    client: &mut Client<N, Body<Steady, BoxedSubsystem>>,
+) -> Option<Note>
+where
+    N: WordsNaming + InboxNaming + RunNaming,
+    R: Wait,
+{
+    for _ in 0..100 {
+        for place in 0..hands.len() {
+            system.serve(rt, &mut hands[place], &mut Still, 100);
+        }
+        if let Some(note) = system.root_note(rt, client) {
+            return Some(note);
+        }
+    }
+    None
+}
+
+/// A tree of one supervisor, for two hands.
+pub fn up_and_down<R: Wait>(rt: &R, alloc: Global) -> Result<Run, TreeFault> {
+    with_system(rt, alloc, plans(alloc)?, 2, UpAndDown)
+}
