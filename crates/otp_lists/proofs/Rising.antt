@@ -6,32 +6,32 @@ use Rattle.std.proofs.lemmas.List.{get_or_default, get_or-drop, length-drop}
 use Rattle.otp_rules.specs.declared.call.Reply.{Reply}
 use Rattle.otp_rules.specs.declared.call.Reply.TheVariants as reply
 use Rattle.otp_rules.specs.Run.{answered, reply_of}
-use Rattle.otp_lists.specs.declared.answers.Told.{Told}
+use Rattle.otp_lists.specs.declared.answers.Answer.{Answer}
 use Rattle.otp_lists.specs.AnswersInside.{answer_in}
 use Rattle.otp_lists.proofs.Replies.{found}
 
-abbrev Rises : List Told → Type 0
+abbrev Rises : List Answer → Type 0
 Rises ts = AllPairs (λ one later. one.call < later.call) ts
 
-upto : (ts : List Told) → Rises ts → (k m : ℕ) (d : Told) → k ≤ m → m < length ts → (get_or ts k d).call ≤ (get_or ts m d).call
+upto : (ts : List Answer) → Rises ts → (k m : ℕ) (d : Answer) → k ≤ m → m < length ts → (get_or ts k d).call ≤ (get_or ts m d).call
 upto ts rise k m d le within =
     elim (cases_lt k m) [
       | inl lt ↦ let less : (get_or ts k d).call < (get_or ts m d).call = rise k m d lt within in omega (arith, less)
       | inr ge ↦ let same : k ≡ m = omega (arith, le, ge) in subst (λ n. (get_or ts k d).call ≤ (get_or ts n d).call) same (omega arith)
     ]
 
-call_default : (ts : List Told) (m : ℕ) (d e : Told) → m < length ts → (get_or ts m d).call ≡ (get_or ts m e).call
-call_default ts m d e within = ap (λ (t : Told). t.call) (get_or_default ts m d e within)
+call_default : (ts : List Answer) (m : ℕ) (d e : Answer) → m < length ts → (get_or ts m d).call ≡ (get_or ts m e).call
+call_default ts m d e within = ap (λ (t : Answer). t.call) (get_or_default ts m d e within)
 
 -- all up to a number below the call's are below it
-pub before : (call : ℕ) (ts : List Told) → Rises ts → (m : ℕ) (e : Told) → m < length ts → (get_or ts m e).call < call → (k : ℕ) (d : Told) → k < m + 1 → (get_or ts k d).call < call
+pub before : (call : ℕ) (ts : List Answer) → Rises ts → (m : ℕ) (e : Answer) → m < length ts → (get_or ts m e).call < call → (k : ℕ) (d : Answer) → k < m + 1 → (get_or ts k d).call < call
 before call ts rise m e within less k d below =
     let same : (get_or ts m d).call ≡ (get_or ts m e).call = call_default ts m d e within in
     let up : (get_or ts k d).call ≤ (get_or ts m d).call = upto ts rise k m d (omega (arith, below)) within in
     omega (arith, up, same, less)
 
 -- all from a number on that isn't below the call's aren't below it
-pub after : (call : ℕ) (ts : List Told) → Rises ts → (m : ℕ) (e : Told) → call ≤ (get_or ts m e).call → (k : ℕ) (d : Told) → m ≤ k → k < length ts → call ≤ (get_or ts k d).call
+pub after : (call : ℕ) (ts : List Answer) → Rises ts → (m : ℕ) (e : Answer) → call ≤ (get_or ts m e).call → (k : ℕ) (d : Answer) → m ≤ k → k < length ts → call ≤ (get_or ts k d).call
 after call ts rise m e more k d from within =
     let same : (get_or ts m d).call ≡ (get_or ts m e).call = call_default ts m d e (omega (arith, from, within)) in
     let up : (get_or ts m d).call ≤ (get_or ts k d).call = upto ts rise m k d from within in
@@ -41,20 +41,20 @@ not_same : (a b : ℕ) → (a ≡ b → ⊥) → (a == b) ≡ false
 not_same a b other = (elim (a == b) as (λ v. (a == b) ≡ v → v ≡ false) [ true ↦ λ e. absurd (other (eqb-true a b e)) | false ↦ λ e. refl ]) refl
 
 -- no answer is to a call that none of them has
-none_of : (call : ℕ) (ts : List Told) → ((k : ℕ) (d : Told) → k < length ts → (get_or ts k d).call ≡ call → ⊥) → (replies : List Reply) → reply_of call (map (answer_in replies) ts) ≡ None
+none_of : (call : ℕ) (ts : List Answer) → ((k : ℕ) (d : Answer) → k < length ts → (get_or ts k d).call ≡ call → ⊥) → (replies : List Reply) → reply_of call (map (answer_in replies) ts) ≡ None
 none_of call [] other replies = refl
 none_of call (t ∷ ts) other replies =
     ap (λ (later : Option Reply). answered call (answer_in replies t) later) (none_of call ts (λ k d within e. other (suc k) d (omega (arith, within)) e) replies)
     ∙ ap (λ (b : Bool). if b then Some (answer_in replies t).reply else None) (not_same t.call call (λ e. other 0 t (omega arith) e))
 
 -- the answer at a place that has the call is the last to it
-pub found_at : (call : ℕ) (ts : List Told) → Rises ts → (i : ℕ) (e : Told) → i < length ts → (get_or ts i e).call ≡ call → (replies : List Reply) →
+pub found_at : (call : ℕ) (ts : List Answer) → Rises ts → (i : ℕ) (e : Answer) → i < length ts → (get_or ts i e).call ≡ call → (replies : List Reply) →
     reply_of call (map (answer_in replies) ts) ≡ Some (get_or replies (get_or ts i e).place reply.Ok)
 found_at call ts rise i e within has replies =
     let back : suc i - 1 ≡ i = omega arith in
     found call (suc i) replies ts e e (omega arith) (omega (arith, within)) (subst (λ n. (get_or ts n e).call ≡ call) (sym back) has)
     (none_of call (drop (suc i) ts) (λ k d inside same.
-    let there : (get_or (drop (suc i) ts) k d).call ≡ (get_or ts (suc i + k) d).call = ap (λ (t : Told). t.call) (get_or-drop (suc i) ts k d) in
+    let there : (get_or (drop (suc i) ts) k d).call ≡ (get_or ts (suc i + k) d).call = ap (λ (t : Answer). t.call) (get_or-drop (suc i) ts k d) in
     let here : (get_or ts i d).call ≡ (get_or ts i e).call = call_default ts i d e within in
     elim (cases_lt (suc i + k) (length ts)) [
       | inl lt ↦ let less : (get_or ts i d).call < (get_or ts (suc i + k) d).call = rise i (suc i + k) d (omega arith) lt in omega (arith, less, there, here, has, same)
@@ -63,8 +63,8 @@ found_at call ts rise i e within has replies =
     ∙ ap (λ n. Some (get_or replies (get_or ts n e).place reply.Ok)) back
 
 -- where all before a place are below the call's number, all from it on aren't, and the one there isn't the call's, none is
-pub none_at : (call : ℕ) (ts : List Told) → Rises ts → (i : ℕ) (e : Told) → ((k : ℕ) (d : Told) → k < i → (get_or ts k d).call < call) →
-    ((k : ℕ) (d : Told) → i ≤ k → k < length ts → call ≤ (get_or ts k d).call) → (i < length ts → (get_or ts i e).call ≡ call → ⊥) →
+pub none_at : (call : ℕ) (ts : List Answer) → Rises ts → (i : ℕ) (e : Answer) → ((k : ℕ) (d : Answer) → k < i → (get_or ts k d).call < call) →
+    ((k : ℕ) (d : Answer) → i ≤ k → k < length ts → call ≤ (get_or ts k d).call) → (i < length ts → (get_or ts i e).call ≡ call → ⊥) →
     (replies : List Reply) → reply_of call (map (answer_in replies) ts) ≡ None
 none_at call ts rise i e less more other replies =
     none_of call ts (λ k d within same.

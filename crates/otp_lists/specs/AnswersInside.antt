@@ -4,12 +4,12 @@ use Rattle.otp_rules.specs.declared.call.Answered.{Answered}
 use Rattle.otp_rules.specs.declared.call.ChildLine.{ChildLine}
 use Rattle.otp_rules.specs.declared.call.Reply.{Reply}
 use Rattle.otp_rules.specs.declared.call.Reply.TheVariants as reply
-use Rattle.otp_lists.specs.declared.answers.Told.{Told}
+use Rattle.otp_lists.specs.declared.answers.Answer.{Answer}
 use Rattle.otp_lists.specs.declared.answers.Answers.TheInside.{Inside}
 use Rattle.otp_lists.specs.Kept.{Kept, list_of}
 
 -- the answer that tells of one of these replies
-abbrev pub answer_in : List Reply → Told → Answered
+abbrev pub answer_in : List Reply → Answer → Answered
 answer_in replies t = record { call = t.call; reply = get_or replies t.place reply.Ok }
 
 -- the list of children that the reply at the place is

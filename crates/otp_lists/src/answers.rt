@@ -6,7 +6,7 @@ ghost use Rattle.otp_rules.specs.declared.call.Reply.{Reply};
 ghost use Rattle.otp_rules.specs.declared.call.Reply.TheVariants as reply;
 ghost use Rattle.otp_rules.specs.Counts.{which_of};
 ghost use Rattle.otp_rules.specs.Run.{reply_of};
-ghost use Rattle.otp_lists.specs.declared.answers.Told.{Told};
+ghost use Rattle.otp_lists.specs.declared.answers.Answer.{Answer};
 ghost use Rattle.otp_lists.specs.AnswersInside.{answer_in, list_at};
 ghost use Rattle.otp_lists.specs.Kept.{list_after};
 
@@ -18,7 +18,7 @@ use std::marker::Model;
 
 /// An answer: the call's number, and the place of the reply.
 #[derive(Clone, Copy, Debug)]
-pub struct Told {
+pub struct Answer {
     pub call: u64,
     pub place: usize,
 }
@@ -26,7 +26,7 @@ pub struct Told {
 /// The answers given, in their order.
 #[derive(Drop)]
 pub struct Answers {
-    told: Vec<Told>,
+    told: Vec<Answer>,
     replies: Vec<Reply>,
     /// Where the last list of children stands, if one was told.
     children: usize,
@@ -167,7 +167,7 @@ fn is_list(told: &Reply, rows: &[Row]) -> bool
 }
 
 /// Adds an answer to a list with room. Whether the numbers of all calls rise, if those before did so.
-fn add_told(told: &mut Vec<Told>, is_rising: bool, call: u64, place: usize) -> bool
+fn add_told(told: &mut Vec<Answer>, is_rising: bool, call: u64, place: usize) -> bool
     requires room { vec_len told.old < vec_capacity told.old }
     requires rising { IsTrue is_rising → AllPairs (λ one later. one.call < later.call) told.old.items }
     ensures items { told.new.items ≡ told.old.items ++ record { call = call; place = place } ∷ [] }
@@ -176,20 +176,20 @@ fn add_told(told: &mut Vec<Told>, is_rising: bool, call: u64, place: usize) -> b
     ensures rising { IsTrue result → AllPairs (λ one later. one.call < later.call) told.new.items }
 {
     let rises = is_rising && is_above(told, call);
-    told.push_reserved(Told { call, place });
+    told.push_reserved(Answer { call, place });
     rises
 }
 
 /// Whether the number is above those of these calls, which rise.
-fn is_above(told: &[Told], call: u64) -> bool
+fn is_above(told: &[Answer], call: u64) -> bool
     requires { AllPairs (λ one later. one.call < later.call) told.now }
-    ensures { IsTrue result → (k : ℕ) (d : Told) → k < length told.now → (get_or told.now k d).call < call }
+    ensures { IsTrue result → (k : ℕ) (d : Answer) → k < length told.now → (get_or told.now k d).call < call }
 {
     told.is_empty() || told[told.len() - 1].call < call
 }
 
 /// Where the reply of the last answer to this call stands.
-fn find_told(told: &[Told], is_rising: bool, call: u64) -> Option<usize>
+fn find_told(told: &[Answer], is_rising: bool, call: u64) -> Option<usize>
     requires { IsTrue is_rising → AllPairs (λ one later. one.call < later.call) told.now }
     ensures none { result ≡ None → (replies : List Reply) → reply_of call (map (answer_in replies) told.now) ≡ None }
     ensures some { IfSome result (λ place. (replies : List Reply) → reply_of call (map (answer_in replies) told.now) ≡ Some (get_or replies place reply.Ok)) }
@@ -203,7 +203,7 @@ fn find_told(told: &[Told], is_rising: bool, call: u64) -> Option<usize>
 }
 
 /// The same, of calls whose numbers rise.
-fn find_rising(told: &[Told], call: u64) -> Option<usize>
+fn find_rising(told: &[Answer], call: u64) -> Option<usize>
     requires { AllPairs (λ one later. one.call < later.call) told.now }
     ensures none { result ≡ None → (replies : List Reply) → reply_of call (map (answer_in replies) told.now) ≡ None }
     ensures some { IfSome result (λ place. (replies : List Reply) → reply_of call (map (answer_in replies) told.now) ≡ Some (get_or replies place reply.Ok)) }
@@ -218,11 +218,11 @@ fn find_rising(told: &[Told], call: u64) -> Option<usize>
 }
 
 /// The first place from which on the calls' numbers, which rise, are this one or above it.
-fn first_from(told: &[Told], call: u64) -> usize
+fn first_from(told: &[Answer], call: u64) -> usize
     requires { AllPairs (λ one later. one.call < later.call) told.now }
     ensures inside { result ≤ length told.now }
-    ensures before { (k : ℕ) (d : Told) → k < result → (get_or told.now k d).call < call }
-    ensures after { (k : ℕ) (d : Told) → result ≤ k → k < length told.now → call ≤ (get_or told.now k d).call }
+    ensures before { (k : ℕ) (d : Answer) → k < result → (get_or told.now k d).call < call }
+    ensures after { (k : ℕ) (d : Answer) → result ≤ k → k < length told.now → call ≤ (get_or told.now k d).call }
 {
     let mut low = 0;
     let mut high = told.len();
@@ -238,7 +238,7 @@ fn first_from(told: &[Told], call: u64) -> usize
 }
 
 /// The same, by a walk. It begins at the end, where a fresh answer is.
-fn find_last(told: &[Told], call: u64) -> Option<usize>
+fn find_last(told: &[Answer], call: u64) -> Option<usize>
     ensures none { result ≡ None → (replies : List Reply) → reply_of call (map (answer_in replies) told.now) ≡ None }
     ensures some { IfSome result (λ place. (replies : List Reply) → reply_of call (map (answer_in replies) told.now) ≡ Some (get_or replies place reply.Ok)) }
     ensures inside { IfSome result (λ place. (n : ℕ) → All (λ t. t.place < n) told.now → place < n) }

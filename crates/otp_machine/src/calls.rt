@@ -5,7 +5,7 @@ ghost use Rattle.otp_rules.specs.Calls.{fault_at, is_named};
 
 use crate::machine::Machine;
 use otp_reason::Name;
-use otp_rules::{After, Call, CallFault, Due, Reply};
+use otp_rules::{Call, CallFault, Due, Reply, Sequel};
 use otp_spec::{ChildSpec, check_childspecs};
 use otp_table::{Row, RowState};
 
@@ -14,7 +14,7 @@ impl Machine {
     ghost use Rattle.otp_machine.specs.Seen.{outcome_of, CanAdvance, CanDecide};
     ghost use Rattle.otp_rules.specs.State.{with_work};
     ghost use Rattle.otp_rules.specs.Calls.{add_child, call_at, call_child, carry_out, get_childspec, get_shared, refuse, start_child, start_dynamic, start_lawful, stop_process, take_call, terminate_process};
-    ghost use Rattle.otp_rules.specs.declared.work.After.TheVariants as after;
+    ghost use Rattle.otp_rules.specs.declared.work.Sequel.TheVariants as sequel;
 
     pub(crate) fn refuse(&mut self, call: u64, fault: CallFault)
         requires { CanDecide self.old }
@@ -42,7 +42,7 @@ impl Machine {
                 self.to_stop.clear();
                 self.to_start.clear();
                 self.to_start.push_reserved(Due { id, kept: None });
-                self.follows = Some(After::Added(call));
+                self.follows = Some(Sequel::Added(call));
             }
         }
     }
@@ -99,7 +99,7 @@ impl Machine {
     /// The child is to be started, and then the call is answered.
     fn start_again(&mut self, call: u64, id: Name)
         requires { CanDecide self.old }
-        ensures outcome { outcome_of self.new ≡ with_work [] (record { id = Some id; kept = None } ∷ []) (Some (after.Restarted call)) (outcome_of self.old) }
+        ensures outcome { outcome_of self.new ≡ with_work [] (record { id = Some id; kept = None } ∷ []) (Some (sequel.Restarted call)) (outcome_of self.old) }
         ensures room { CanAdvance self.new }
     {
         self.to_stop.clear();
@@ -108,7 +108,7 @@ impl Machine {
             id: Some(id),
             kept: None,
         });
-        self.follows = Some(After::Restarted(call));
+        self.follows = Some(Sequel::Restarted(call));
     }
 
     /// The process is to be stopped, and then the call is answered.
@@ -121,7 +121,7 @@ impl Machine {
         self.to_start.clear();
         self.to_stop.clear();
         self.to_stop.push_reserved(number);
-        self.follows = Some(After::Stopped(call));
+        self.follows = Some(Sequel::Stopped(call));
     }
 
     /// What a call does at the child at the place.

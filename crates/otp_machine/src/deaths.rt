@@ -5,7 +5,7 @@ ghost use Rattle.std.specs.Prelude.{◌≡◌, ◌<◌, ◌≤◌, Some, length,
 use crate::machine::Machine;
 use otp_lists::restarts::{affected, ends_by_significance, is_restarted, list_dues, list_running};
 use otp_reason::{Note, Reason};
-use otp_rules::{After, Ending, Item, Waiting};
+use otp_rules::{Ending, Item, Sequel, Waiting};
 use otp_table::{Row, RowState};
 use otp_window::Within;
 
@@ -39,7 +39,7 @@ impl Machine {
             &mut self.to_start,
         );
         self.rows.calm(from, to);
-        self.follows = Some(After::Nothing);
+        self.follows = Some(Sequel::Nothing);
     }
 
     /// The child at the place, which has no process, is restarted: the restart counts once.

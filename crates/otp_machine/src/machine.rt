@@ -3,7 +3,7 @@
 ghost use Rattle.std.specs.Prelude.{◌≡◌, ◌+◌, ◌<◌, ◌≤◌, ◌^◌, OnOk, vec_len, vec_capacity};
 
 use otp_lists::answers::Answers;
-use otp_rules::{After, ChildLine, Due, Effect, Phase, Reply, SupEnd, Waiting};
+use otp_rules::{ChildLine, Due, Effect, Phase, Reply, Sequel, SupEnd, Waiting};
 use otp_spec::{AutoShutdown, ChildSpec, Strategy, SupFlags};
 use otp_table::Rows;
 use otp_window::Window;
@@ -23,7 +23,7 @@ pub struct Machine {
     pub to_stop: Vec<u64>,
     /// In start order.
     pub to_start: Vec<Due>,
-    pub follows: Option<After>,
+    pub follows: Option<Sequel>,
     pub waiting: VecDeque<Waiting>,
     pub replies: Answers,
     /// The ends of all openings that ended, under the supervisor's own number.

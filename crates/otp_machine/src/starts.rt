@@ -5,7 +5,7 @@ ghost use Rattle.std.specs.Prelude.{◌≡◌, ◌<◌, Some, length, slice_get,
 use crate::machine::Machine;
 use otp_lists::starts::find_due;
 use otp_reason::Reason;
-use otp_rules::{After, CallFault, Due, Effect, Ending, Reply, Waiting};
+use otp_rules::{CallFault, Due, Effect, Ending, Reply, Sequel, Waiting};
 use otp_table::RowState;
 
 impl Machine {
@@ -33,7 +33,7 @@ impl Machine {
         ensures outcome { outcome_of self.new ≡ up_after number self.old.follows (outcome_of self.old) }
         ensures room { CanAdvance self.new }
     {
-        if let Some(After::Added(call)) | Some(After::Restarted(call)) = self.follows {
+        if let Some(Sequel::Added(call)) | Some(Sequel::Restarted(call)) = self.follows {
             self.close();
             self.answer(call, Reply::OkProcess(number));
         }
@@ -80,23 +80,23 @@ impl Machine {
         ensures room { CanAdvance self.new }
     {
         match self.follows {
-            None | Some(After::Stopped(_)) | Some(After::End(_)) => {}
-            Some(After::Ready) => {
+            None | Some(Sequel::Stopped(_)) | Some(Sequel::End(_)) => {}
+            Some(Sequel::Ready) => {
                 let id = self.rows.get(place).spec.id;
                 self.rows.set_state(place, RowState::Undefined);
                 self.terminate(Ending::InitFailed(id));
             }
-            Some(After::Nothing) => {
+            Some(Sequel::Nothing) => {
                 self.rows.set_state(place, RowState::Restarting(kept));
                 self.put_last(Waiting::Retry(kept));
                 self.close();
             }
-            Some(After::Added(call)) => {
+            Some(Sequel::Added(call)) => {
                 self.rows.remove(place);
                 self.close();
                 self.answer(call, Reply::Refused(CallFault::Start(reason)));
             }
-            Some(After::Restarted(call)) => {
+            Some(Sequel::Restarted(call)) => {
                 self.rows.set_state(place, RowState::Undefined);
                 self.close();
                 self.answer(call, Reply::Refused(CallFault::Start(reason)));

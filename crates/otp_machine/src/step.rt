@@ -8,7 +8,7 @@ use otp_lists::state::is_over;
 use otp_lists::step::{kill_late, list_children, order_kills};
 use otp_reason::Note;
 use otp_rules::laws::number_starts_work;
-use otp_rules::{After, Call, Ending, Item, Kind, Phase, Reply, Waiting};
+use otp_rules::{Call, Ending, Item, Kind, Phase, Reply, Sequel, Waiting};
 
 impl Machine {
     ghost use Rattle.otp_machine.specs.Seen.{outcome_of, CanAdvance, CanDecide, HasMemory, IsSound};
@@ -100,7 +100,7 @@ impl Machine {
         if !self.strategy.is_simple() {
             list_children(&self.specs, &mut self.rows, &mut self.to_start);
         }
-        self.follows = Some(After::Ready);
+        self.follows = Some(Sequel::Ready);
     }
 
     /// Each child whose deadline has come is killed.

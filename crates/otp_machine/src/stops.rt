@@ -6,7 +6,7 @@ ghost use Rattle.std.specs.VecDeque.{deque_len};
 use crate::machine::Machine;
 use otp_lists::restarts::list_running;
 use otp_lists::stops::{find_exit, stop_order, told};
-use otp_rules::{After, Ending};
+use otp_rules::{Ending, Sequel};
 use std::mem;
 
 impl Machine {
@@ -82,7 +82,7 @@ impl Machine {
         self.to_stop.clear();
         list_running(self.rows.as_slice(), &mut self.to_stop);
         self.to_start.clear();
-        self.follows = Some(After::End(ending));
+        self.follows = Some(Sequel::End(ending));
         self.calm();
     }
 
@@ -97,7 +97,7 @@ impl Machine {
         numbers.clear();
         list_running(self.rows.as_slice(), &mut numbers);
         self.to_start.clear();
-        self.follows = Some(After::End(ending));
+        self.follows = Some(Sequel::End(ending));
         self.calm();
         self.stop_each(&numbers);
         numbers.clear();

@@ -5,7 +5,7 @@ ghost use Rattle.std.specs.Prelude.{◌≡◌, ◌&&◌, IsTrue, MatchOption, is
 use crate::machine::Machine;
 use crate::numbers::Numbers;
 use otp_lists::stops::find_exit;
-use otp_rules::{After, Effect, Reply};
+use otp_rules::{Effect, Reply, Sequel};
 
 impl Machine {
     ghost use Rattle.otp_machine.specs.Seen.{outcome_of, CanAdvance};
@@ -20,20 +20,20 @@ impl Machine {
     {
         match self.follows {
             None => {}
-            Some(After::Ready) => {
+            Some(Sequel::Ready) => {
                 self.close();
                 self.orders.push_reserved(Effect::Ready);
             }
-            Some(After::Nothing) => self.close(),
-            Some(After::Added(call)) | Some(After::Restarted(call)) => {
+            Some(Sequel::Nothing) => self.close(),
+            Some(Sequel::Added(call)) | Some(Sequel::Restarted(call)) => {
                 self.close();
                 self.answer(call, Reply::OkUndefined);
             }
-            Some(After::Stopped(call)) => {
+            Some(Sequel::Stopped(call)) => {
                 self.close();
                 self.answer(call, Reply::Ok);
             }
-            Some(After::End(ending)) => self.end_all(ending),
+            Some(Sequel::End(ending)) => self.end_all(ending),
         }
     }
 

@@ -15,8 +15,8 @@ use Rattle.otp_table.specs.Rows.{calm_rows, calmed, has_process, is_awaited, is_
 use Rattle.otp_rules.specs.declared.ending.Ending.{Ending}
 use Rattle.otp_rules.specs.declared.event.Waiting.{Waiting}
 use Rattle.otp_rules.specs.declared.work.Due.{Due}
-use Rattle.otp_rules.specs.declared.work.After.{After}
-use Rattle.otp_rules.specs.declared.work.After.TheVariants as after
+use Rattle.otp_rules.specs.declared.work.Sequel.{Sequel}
+use Rattle.otp_rules.specs.declared.work.Sequel.TheVariants as sequel
 use Rattle.otp_rules.specs.declared.ending.Ending.TheVariants as ending
 use Rattle.otp_rules.specs.Deaths.{after_end}
 use Rattle.otp_reason.specs.declared.name.Name.{Name}
@@ -139,7 +139,7 @@ pub terminate_starts_none : (e : Ending) (o : Outcome) → work_starts (terminat
 unfolding terminate terminate_together terminate_ordered
 terminate_starts_none e o =
     elim (is_simple o.state.flags.strategy) as (λ b. work_starts (if b then terminate_together e o else terminate_ordered e o) ≡ false) [
-      | true ↦ no_due (terminate_together e o) (stop_each-dues [] (running o.state.rows) (calm_all (with_work [] [] (Some (after.End e)) o)) refl)
+      | true ↦ no_due (terminate_together e o) (stop_each-dues [] (running o.state.rows) (calm_all (with_work [] [] (Some (sequel.End e)) o)) refl)
       | false ↦ no_due (terminate_ordered e o) refl
     ]
 
@@ -279,7 +279,7 @@ end_of_starts_none place row o h =
 -- where no work is open, none goes on
 pub idle_starts_none : (o : Outcome) → o.state.follows ≡ None → work_starts o ≡ false
 unfolding work_starts
-idle_starts_none o h = ap (λ (f : Option After). is_some f && (not (awaits o.state.rows) && (ends_wait o.state.to_stop o.state.waiting && has_due o.state.to_start))) h
+idle_starts_none o h = ap (λ (f : Option Sequel). is_some f && (not (awaits o.state.rows) && (ends_wait o.state.to_stop o.state.waiting && has_due o.state.to_start))) h
 
 -- a child that ended for good starts none
 pub ended_starts_none : (p place : ℕ) (row : Row) (o : Outcome) → o.state.follows ≡ None → work_starts (after_end p row (end_row place row o)) ≡ false
@@ -292,26 +292,26 @@ ended_starts_none p place row o h =
     ]
 
 -- a child that runs: the call that started it is answered, or the work goes on
-pub up_after_starts : (p : ℕ) (f : Option After) (o : Outcome) → work_starts (up_after p f o) ≡ (outlives_up f && work_starts o)
+pub up_after_starts : (p : ℕ) (f : Option Sequel) (o : Outcome) → work_starts (up_after p f o) ≡ (outlives_up f && work_starts o)
 unfolding up_after answer work_starts
 up_after_starts p None o = refl
-up_after_starts p (Some after.Ready) o = refl
-up_after_starts p (Some after.Nothing) o = refl
-up_after_starts p (Some (after.Added c)) o = refl
-up_after_starts p (Some (after.Restarted c)) o = refl
-up_after_starts p (Some (after.Stopped c)) o = refl
-up_after_starts p (Some (after.End e)) o = refl
+up_after_starts p (Some sequel.Ready) o = refl
+up_after_starts p (Some sequel.Nothing) o = refl
+up_after_starts p (Some (sequel.Added c)) o = refl
+up_after_starts p (Some (sequel.Restarted c)) o = refl
+up_after_starts p (Some (sequel.Stopped c)) o = refl
+up_after_starts p (Some (sequel.End e)) o = refl
 
 -- a child that did not start
-pub failed_after_starts : (r : Reason) (k place : ℕ) (row : Row) (f : Option After) (o : Outcome) → work_starts (failed_after r k place row f o) ≡ (outlives_failure f && work_starts o)
+pub failed_after_starts : (r : Reason) (k place : ℕ) (row : Row) (f : Option Sequel) (o : Outcome) → work_starts (failed_after r k place row f o) ≡ (outlives_failure f && work_starts o)
 unfolding failed_after answer work_starts
 failed_after_starts r k place row None o = refl
-failed_after_starts r k place row (Some after.Ready) o = terminate_starts_none (ending.InitFailed row.spec.id) (set_row place row Undefined o)
-failed_after_starts r k place row (Some after.Nothing) o = refl
-failed_after_starts r k place row (Some (after.Added c)) o = refl
-failed_after_starts r k place row (Some (after.Restarted c)) o = refl
-failed_after_starts r k place row (Some (after.Stopped c)) o = refl
-failed_after_starts r k place row (Some (after.End e)) o = refl
+failed_after_starts r k place row (Some sequel.Ready) o = terminate_starts_none (ending.InitFailed row.spec.id) (set_row place row Undefined o)
+failed_after_starts r k place row (Some sequel.Nothing) o = refl
+failed_after_starts r k place row (Some (sequel.Added c)) o = refl
+failed_after_starts r k place row (Some (sequel.Restarted c)) o = refl
+failed_after_starts r k place row (Some (sequel.Stopped c)) o = refl
+failed_after_starts r k place row (Some (sequel.End e)) o = refl
 
 answer_starts : (c : ℕ) (r : Reply) (o : Outcome) → work_starts (answer c r o) ≡ work_starts o
 unfolding answer work_starts
@@ -323,7 +323,7 @@ answered_starts_none c r o h = answer_starts c r o ∙ idle_starts_none o h
 
 -- the work that an added child opens
 abbrev added : ℕ → Option Name → ChildSpec → Outcome → Outcome
-added c id spec o = with_work [] (record { id = id; kept = None } ∷ []) (Some (after.Added c)) (with_rows (o.state.rows ++ new_row (free_slot o.state.rows) id spec ∷ []) o)
+added c id spec o = with_work [] (record { id = id; kept = None } ∷ []) (Some (sequel.Added c)) (with_rows (o.state.rows ++ new_row (free_slot o.state.rows) id spec ∷ []) o)
 
 added_starts : (c : ℕ) (id : Option Name) (spec : ChildSpec) (o : Outcome) → work_starts (added c id spec o) ≡ not (awaits o.state.rows)
 unfolding work_starts
@@ -376,7 +376,7 @@ at_row-none test missing f o m h each =
 
 stop_process_none : (c p : ℕ) (o : Outcome) → work_starts (stop_process c p o) ≡ false
 unfolding stop_process
-stop_process_none c p o = no_due (with_work (p ∷ []) [] (Some (after.Stopped c)) o) refl
+stop_process_none c p o = no_due (with_work (p ∷ []) [] (Some (sequel.Stopped c)) o) refl
 
 stop_child_none : (c : ℕ) (state : RowState) (gone o : Outcome) → gone.state.follows ≡ None → work_starts (stop_child c state gone o) ≡ false
 stop_child_none c Undefined gone o h = answered_starts_none c reply.Ok gone h

@@ -5,8 +5,8 @@ use Rattle.otp_table.specs.declared.row.Row.{Row}
 use Rattle.otp_table.specs.Rows.{calm_rows, is_awaited, row_has}
 use Rattle.otp_rules.specs.declared.event.Waiting.{Waiting}
 use Rattle.otp_spec.specs.declared.child.ChildSpec.{ChildSpec}
-use Rattle.otp_rules.specs.declared.work.After.{After}
-use Rattle.otp_rules.specs.declared.work.After.TheVariants as after
+use Rattle.otp_rules.specs.declared.work.Sequel.{Sequel}
+use Rattle.otp_rules.specs.declared.work.Sequel.TheVariants as sequel
 use Rattle.otp_rules.specs.State.{Outcome, is_busy}
 use Rattle.otp_rules.specs.Needs.{ends_wait, has_due}
 use Rattle.otp_rules.specs.Restarts.{restart_list, running}
@@ -23,24 +23,24 @@ goes_on_beside place o =
     is_busy o && (not (list_any (row_has is_awaited) (remove o.state.rows place)) && (ends_wait o.state.to_stop o.state.waiting && has_due o.state.to_start))
 
 -- the work that goes on once a child runs
-abbrev pub outlives_up : Option After → Bool
+abbrev pub outlives_up : Option Sequel → Bool
 outlives_up None = true
-outlives_up (Some after.Ready) = true
-outlives_up (Some after.Nothing) = true
-outlives_up (Some (after.Added _)) = false
-outlives_up (Some (after.Restarted _)) = false
-outlives_up (Some (after.Stopped _)) = true
-outlives_up (Some (after.End _)) = true
+outlives_up (Some sequel.Ready) = true
+outlives_up (Some sequel.Nothing) = true
+outlives_up (Some (sequel.Added _)) = false
+outlives_up (Some (sequel.Restarted _)) = false
+outlives_up (Some (sequel.Stopped _)) = true
+outlives_up (Some (sequel.End _)) = true
 
 -- the work that goes on though a child did not start
-abbrev pub outlives_failure : Option After → Bool
+abbrev pub outlives_failure : Option Sequel → Bool
 outlives_failure None = true
-outlives_failure (Some after.Ready) = false
-outlives_failure (Some after.Nothing) = false
-outlives_failure (Some (after.Added _)) = false
-outlives_failure (Some (after.Restarted _)) = false
-outlives_failure (Some (after.Stopped _)) = true
-outlives_failure (Some (after.End _)) = true
+outlives_failure (Some sequel.Ready) = false
+outlives_failure (Some sequel.Nothing) = false
+outlives_failure (Some (sequel.Added _)) = false
+outlives_failure (Some (sequel.Restarted _)) = false
+outlives_failure (Some (sequel.Stopped _)) = true
+outlives_failure (Some (sequel.End _)) = true
 
 abbrev pub has_spec : List ChildSpec → Bool
 has_spec [] = false

@@ -30,7 +30,7 @@ use otp_lists::state::is_over;
 use otp_machine::Machine;
 use otp_reason::{Name, Note, Reason};
 use otp_rules::laws::number_starts_work;
-use otp_rules::{After, Call, Item, Kind, Waiting};
+use otp_rules::{Call, Item, Kind, Sequel, Waiting};
 use otp_spec::{ChildSpec, check_childspecs};
 use otp_table::{Row, RowState};
 
@@ -389,21 +389,21 @@ pub fn needs_number(machine: &Machine, reading: u64, kind: &Kind) -> bool
 }
 
 /// Whether the work goes on once a child runs.
-fn outlives_up(follows: Option<After>) -> bool
+fn outlives_up(follows: Option<Sequel>) -> bool
     ensures { result ≡ outlives_up follows }
 {
     match follows {
-        Some(After::Added(_)) | Some(After::Restarted(_)) => false,
+        Some(Sequel::Added(_)) | Some(Sequel::Restarted(_)) => false,
         _ => true,
     }
 }
 
 /// Whether the work goes on though a child did not start.
-fn outlives_failure(follows: Option<After>) -> bool
+fn outlives_failure(follows: Option<Sequel>) -> bool
     ensures { result ≡ outlives_failure follows }
 {
     match follows {
-        None | Some(After::Stopped(_)) | Some(After::End(_)) => true,
+        None | Some(Sequel::Stopped(_)) | Some(Sequel::End(_)) => true,
         _ => false,
     }
 }

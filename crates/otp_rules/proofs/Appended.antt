@@ -32,8 +32,8 @@ use Rattle.otp_rules.specs.declared.event.Kind.TheVariants as kind
 use Rattle.otp_rules.specs.declared.event.Waiting.{Waiting}
 use Rattle.otp_rules.specs.declared.event.Waiting.TheVariants as waiting
 use Rattle.otp_rules.specs.declared.work.Due.{Due}
-use Rattle.otp_rules.specs.declared.work.After.{After}
-use Rattle.otp_rules.specs.declared.work.After.TheVariants as after
+use Rattle.otp_rules.specs.declared.work.Sequel.{Sequel}
+use Rattle.otp_rules.specs.declared.work.Sequel.TheVariants as sequel
 use Rattle.otp_spec.specs.Flags.{is_simple}
 use Rattle.otp_rules.specs.State.{Outcome, answer, closed, emit, is_busy, is_over, own_number, put_last, with_end, with_phase, with_rows, with_stamps, with_waiting, with_work}
 use Rattle.otp_rules.specs.Places.{at_place, at_found, at_row, at_number, end_row, end_process, is_removed, set_row}
@@ -138,15 +138,15 @@ end_all-behind xs e o =
     ap (λ (x : Outcome). emit (effect.End end) (ended x)) (refuse_all-behind xs (closed o))
     ∙ emit-behind xs (effect.End end) (ended (refuse_all (closed o)))
 
-follow-behind : (xs : List Effect) (f : Option After) (o : Outcome) → follow f (behind xs o) ≡ behind xs (follow f o)
+follow-behind : (xs : List Effect) (f : Option Sequel) (o : Outcome) → follow f (behind xs o) ≡ behind xs (follow f o)
 unfolding follow
 follow-behind xs None o = refl
-follow-behind xs (Some after.Ready) o = emit-behind xs effect.Ready (closed o)
-follow-behind xs (Some after.Nothing) o = refl
-follow-behind xs (Some (after.Added c)) o = answer-behind xs c reply.OkUndefined (closed o)
-follow-behind xs (Some (after.Restarted c)) o = answer-behind xs c reply.OkUndefined (closed o)
-follow-behind xs (Some (after.Stopped c)) o = answer-behind xs c reply.Ok (closed o)
-follow-behind xs (Some (after.End e)) o = end_all-behind xs e o
+follow-behind xs (Some sequel.Ready) o = emit-behind xs effect.Ready (closed o)
+follow-behind xs (Some sequel.Nothing) o = refl
+follow-behind xs (Some (sequel.Added c)) o = answer-behind xs c reply.OkUndefined (closed o)
+follow-behind xs (Some (sequel.Restarted c)) o = answer-behind xs c reply.OkUndefined (closed o)
+follow-behind xs (Some (sequel.Stopped c)) o = answer-behind xs c reply.Ok (closed o)
+follow-behind xs (Some (sequel.End e)) o = end_all-behind xs e o
 
 start_first-behind : (xs : List Effect) (dues : List Due) (n : ℕ) (o : Outcome) → start_first dues n (behind xs o) ≡ behind xs (start_first dues n o)
 unfolding start_first
@@ -189,7 +189,7 @@ terminate-behind : (xs : List Effect) (e : Ending) (o : Outcome) → terminate e
 unfolding terminate terminate_together terminate_ordered
 terminate-behind xs e o =
     either xs (is_simple o.state.flags.strategy) (terminate_together e (behind xs o)) (terminate_ordered e (behind xs o)) (terminate_together e o) (terminate_ordered e o)
-    (stop_each-behind xs (running o.state.rows) (calm_all (with_work [] [] (Some (after.End e)) o)))
+    (stop_each-behind xs (running o.state.rows) (calm_all (with_work [] [] (Some (sequel.End e)) o)))
     refl
 
 restart_or_end-behind : (xs : List Effect) (place k : ℕ) (o : Outcome) → restart_or_end place k (behind xs o) ≡ behind xs (restart_or_end place k o)
@@ -256,15 +256,15 @@ at_starting-behind : (xs : List Effect) (p : ℕ) (f : ℕ → ℕ → Row → O
 unfolding at_starting
 at_starting-behind xs p f o h = at_number-behind xs p (λ place row. if_starting (λ k. f k place row) row.state) o (λ place row. if_starting-behind xs f place row row.state o h)
 
-up_after-behind : (xs : List Effect) (p : ℕ) (f : Option After) (o : Outcome) → up_after p f (behind xs o) ≡ behind xs (up_after p f o)
+up_after-behind : (xs : List Effect) (p : ℕ) (f : Option Sequel) (o : Outcome) → up_after p f (behind xs o) ≡ behind xs (up_after p f o)
 unfolding up_after
 up_after-behind xs p None o = refl
-up_after-behind xs p (Some after.Ready) o = refl
-up_after-behind xs p (Some after.Nothing) o = refl
-up_after-behind xs p (Some (after.Added c)) o = answer-behind xs c (reply.OkProcess p) (closed o)
-up_after-behind xs p (Some (after.Restarted c)) o = answer-behind xs c (reply.OkProcess p) (closed o)
-up_after-behind xs p (Some (after.Stopped _)) o = refl
-up_after-behind xs p (Some (after.End _)) o = refl
+up_after-behind xs p (Some sequel.Ready) o = refl
+up_after-behind xs p (Some sequel.Nothing) o = refl
+up_after-behind xs p (Some (sequel.Added c)) o = answer-behind xs c (reply.OkProcess p) (closed o)
+up_after-behind xs p (Some (sequel.Restarted c)) o = answer-behind xs c (reply.OkProcess p) (closed o)
+up_after-behind xs p (Some (sequel.Stopped _)) o = refl
+up_after-behind xs p (Some (sequel.End _)) o = refl
 
 take_up-behind : (xs : List Effect) (p : ℕ) (o : Outcome) → take_up p (behind xs o) ≡ behind xs (take_up p o)
 unfolding take_up
@@ -275,15 +275,15 @@ take_ignored-behind : (xs : List Effect) (p : ℕ) (o : Outcome) → take_ignore
 unfolding take_ignored
 take_ignored-behind xs p o = at_starting-behind xs p (λ k. end_row) o (λ k place row. end_row-behind xs place row o)
 
-failed_after-behind : (xs : List Effect) (r : Reason) (k place : ℕ) (row : Row) (f : Option After) (o : Outcome) → failed_after r k place row f (behind xs o) ≡ behind xs (failed_after r k place row f o)
+failed_after-behind : (xs : List Effect) (r : Reason) (k place : ℕ) (row : Row) (f : Option Sequel) (o : Outcome) → failed_after r k place row f (behind xs o) ≡ behind xs (failed_after r k place row f o)
 unfolding failed_after
 failed_after-behind xs r k place row None o = refl
-failed_after-behind xs r k place row (Some after.Ready) o = terminate-behind xs (ending.InitFailed row.spec.id) (set_row place row Undefined o)
-failed_after-behind xs r k place row (Some after.Nothing) o = refl
-failed_after-behind xs r k place row (Some (after.Added c)) o = answer-behind xs c (reply.Refused (fault.Start r)) (closed (with_rows (remove o.state.rows place) o))
-failed_after-behind xs r k place row (Some (after.Restarted c)) o = answer-behind xs c (reply.Refused (fault.Start r)) (closed (set_row place row Undefined o))
-failed_after-behind xs r k place row (Some (after.Stopped _)) o = refl
-failed_after-behind xs r k place row (Some (after.End _)) o = refl
+failed_after-behind xs r k place row (Some sequel.Ready) o = terminate-behind xs (ending.InitFailed row.spec.id) (set_row place row Undefined o)
+failed_after-behind xs r k place row (Some sequel.Nothing) o = refl
+failed_after-behind xs r k place row (Some (sequel.Added c)) o = answer-behind xs c (reply.Refused (fault.Start r)) (closed (with_rows (remove o.state.rows place) o))
+failed_after-behind xs r k place row (Some (sequel.Restarted c)) o = answer-behind xs c (reply.Refused (fault.Start r)) (closed (set_row place row Undefined o))
+failed_after-behind xs r k place row (Some (sequel.Stopped _)) o = refl
+failed_after-behind xs r k place row (Some (sequel.End _)) o = refl
 
 take_failed-behind : (xs : List Effect) (p : ℕ) (r : Reason) (o : Outcome) → take_failed p r (behind xs o) ≡ behind xs (take_failed p r o)
 unfolding take_failed
@@ -303,7 +303,7 @@ refuse-behind xs c why o = answer-behind xs c (reply.Refused why) o
 add_child-behind : (xs : List Effect) (c : ℕ) (id : Option Name) (spec : ChildSpec) (o : Outcome) → add_child c id spec (behind xs o) ≡ behind xs (add_child c id spec o)
 unfolding add_child
 add_child-behind xs c id spec o =
-    let fresh : Outcome → Outcome = λ x. with_work [] (record { id = id; kept = None } ∷ []) (Some (after.Added c)) (with_rows (o.state.rows ++ new_row (free_slot o.state.rows) id spec ∷ []) x) in
+    let fresh : Outcome → Outcome = λ x. with_work [] (record { id = id; kept = None } ∷ []) (Some (sequel.Added c)) (with_rows (o.state.rows ++ new_row (free_slot o.state.rows) id spec ∷ []) x) in
     either xs (nat_le 256 (length o.state.rows)) (refuse c fault.TooManyChildren (behind xs o)) (fresh (behind xs o)) (refuse c fault.TooManyChildren o) (fresh o)
     (refuse-behind xs c fault.TooManyChildren o) refl
 

@@ -26,8 +26,8 @@ use Rattle.otp_rules.specs.declared.event.Kind.{Kind}
 use Rattle.otp_rules.specs.declared.event.Kind.TheVariants as kind
 use Rattle.otp_rules.specs.declared.event.Waiting.{Waiting}
 use Rattle.otp_rules.specs.declared.event.Waiting.TheVariants as waiting
-use Rattle.otp_rules.specs.declared.work.After.{After}
-use Rattle.otp_rules.specs.declared.work.After.TheVariants as after
+use Rattle.otp_rules.specs.declared.work.Sequel.{Sequel}
+use Rattle.otp_rules.specs.declared.work.Sequel.TheVariants as sequel
 use Rattle.otp_rules.specs.declared.call.Reply.{Reply}
 use Rattle.otp_rules.specs.declared.call.Reply.TheVariants as reply
 use Rattle.otp_rules.specs.declared.call.CallFault.{CallFault}
@@ -94,12 +94,12 @@ pub record SurvivesEvent (k : Kind) (G : Item → Type 0) (old : Outcome) (P : O
   pub exit_waits : (p : ℕ) (r : Reason) (o : Outcome) → IsUnmoved old o → G (item.Note (note.Exit p r)) → P o → P (put_last (waiting.Item (item.Note (note.Exit p r))) o)
   -- answers to a start
   pub up : (p place : ℕ) (row : Row) (q kept : ℕ) (o : Outcome) → IsUnmoved old o → StandsAt place row o → row.state ≡ Starting q kept → (q == p) ≡ true → G (item.Note (note.Up p)) → P o → P (set_row place row (Up p) o)
-  pub up_closed : (p place : ℕ) (row : Row) (q kept c : ℕ) (o : Outcome) → IsUnmoved old o → StandsAt place row o → row.state ≡ Starting q kept → (q == p) ≡ true → (o.state.follows ≡ Some (after.Added c)) ⊎ (o.state.follows ≡ Some (after.Restarted c)) → G (item.Note (note.Up p)) → P o → P (closed (set_row place row (Up p) o))
+  pub up_closed : (p place : ℕ) (row : Row) (q kept c : ℕ) (o : Outcome) → IsUnmoved old o → StandsAt place row o → row.state ≡ Starting q kept → (q == p) ≡ true → (o.state.follows ≡ Some (sequel.Added c)) ⊎ (o.state.follows ≡ Some (sequel.Restarted c)) → G (item.Note (note.Up p)) → P o → P (closed (set_row place row (Up p) o))
   pub ignored : (p place : ℕ) (row : Row) (q kept : ℕ) (o : Outcome) → IsUnmoved old o → StandsAt place row o → row.state ≡ Starting q kept → (q == p) ≡ true → G (item.Note (note.Ignored p)) → P o → P (end_row place row o)
-  pub opening_failed : (place : ℕ) (row : Row) (q kept : ℕ) (o : Outcome) → IsUnmoved old o → IsRunning o → StandsAt place row o → row.state ≡ Starting q kept → o.state.follows ≡ Some after.Ready → BringsFailure G q → P o → P (terminate (ending.InitFailed row.spec.id) (set_row place row Undefined o))
-  pub restart_failed : (place : ℕ) (row : Row) (q kept : ℕ) (o : Outcome) → IsUnmoved old o → StandsAt place row o → row.state ≡ Starting q kept → o.state.follows ≡ Some after.Nothing → BringsFailure G q → P o → P (closed (put_last (waiting.Retry kept) (set_row place row (Restarting kept) o)))
-  pub added_failed : (place : ℕ) (row : Row) (q kept c : ℕ) (o : Outcome) → IsUnmoved old o → StandsAt place row o → row.state ≡ Starting q kept → o.state.follows ≡ Some (after.Added c) → BringsFailure G q → P o → P (closed (with_rows (remove o.state.rows place) o))
-  pub restarted_failed : (place : ℕ) (row : Row) (q kept c : ℕ) (o : Outcome) → IsUnmoved old o → StandsAt place row o → row.state ≡ Starting q kept → o.state.follows ≡ Some (after.Restarted c) → BringsFailure G q → P o → P (closed (set_row place row Undefined o))
+  pub opening_failed : (place : ℕ) (row : Row) (q kept : ℕ) (o : Outcome) → IsUnmoved old o → IsRunning o → StandsAt place row o → row.state ≡ Starting q kept → o.state.follows ≡ Some sequel.Ready → BringsFailure G q → P o → P (terminate (ending.InitFailed row.spec.id) (set_row place row Undefined o))
+  pub restart_failed : (place : ℕ) (row : Row) (q kept : ℕ) (o : Outcome) → IsUnmoved old o → StandsAt place row o → row.state ≡ Starting q kept → o.state.follows ≡ Some sequel.Nothing → BringsFailure G q → P o → P (closed (put_last (waiting.Retry kept) (set_row place row (Restarting kept) o)))
+  pub added_failed : (place : ℕ) (row : Row) (q kept c : ℕ) (o : Outcome) → IsUnmoved old o → StandsAt place row o → row.state ≡ Starting q kept → o.state.follows ≡ Some (sequel.Added c) → BringsFailure G q → P o → P (closed (with_rows (remove o.state.rows place) o))
+  pub restarted_failed : (place : ℕ) (row : Row) (q kept c : ℕ) (o : Outcome) → IsUnmoved old o → StandsAt place row o → row.state ≡ Starting q kept → o.state.follows ≡ Some (sequel.Restarted c) → BringsFailure G q → P o → P (closed (set_row place row Undefined o))
   -- ends
   pub stopped : (p : ℕ) (r : Reason) (place : ℕ) (row : Row) (o : Outcome) → IsUnmoved old o → StandsAt place row o → is_told p row.state ≡ true → G (item.Note (note.Exit p r)) → P o → P (end_row place row o)
   pub died : (p place : ℕ) (row : Row) (o : Outcome) → IsUnmoved old o → IsIdle (is_busy old) o → IsRunning o → StandsAt place row o → row.state ≡ Up p → BringsExit G p → P o → P (end_row place row o)
@@ -108,11 +108,11 @@ pub record SurvivesEvent (k : Kind) (G : Item → Type 0) (old : Outcome) (P : O
   pub ticks : k ≡ kind.Ticked → P old → P (tick old)
   pub opens : (own : ℕ) → k ≡ kind.Opened own → is_over old.state.phase ≡ true → P old → P (open_rows own old)
   -- calls
-  pub adds : (c : ℕ) (id : Option Name) (spec : ChildSpec) (o : Outcome) → IsUnmoved old o → IsIdle (is_busy old) o → IsRunning o → is_some id ≡ not (is_simple o.state.flags.strategy) → nat_le 256 (length o.state.rows) ≡ false → BringsStart G old c o → P o → P (with_work [] (record { id = id; kept = None } ∷ []) (Some (after.Added c)) (with_rows (o.state.rows ++ new_row (free_slot o.state.rows) id spec ∷ []) o))
-  pub starts_again : (c : ℕ) (id : Name) (place : ℕ) (row : Row) (o : Outcome) → IsUnmoved old o → IsIdle (is_busy old) o → IsRunning o → StandsAt place row o → has_id id row ≡ true → row.state ≡ Undefined → P o → P (with_work [] (record { id = Some id; kept = None } ∷ []) (Some (after.Restarted c)) o)
+  pub adds : (c : ℕ) (id : Option Name) (spec : ChildSpec) (o : Outcome) → IsUnmoved old o → IsIdle (is_busy old) o → IsRunning o → is_some id ≡ not (is_simple o.state.flags.strategy) → nat_le 256 (length o.state.rows) ≡ false → BringsStart G old c o → P o → P (with_work [] (record { id = id; kept = None } ∷ []) (Some (sequel.Added c)) (with_rows (o.state.rows ++ new_row (free_slot o.state.rows) id spec ∷ []) o))
+  pub starts_again : (c : ℕ) (id : Name) (place : ℕ) (row : Row) (o : Outcome) → IsUnmoved old o → IsIdle (is_busy old) o → IsRunning o → StandsAt place row o → has_id id row ≡ true → row.state ≡ Undefined → P o → P (with_work [] (record { id = Some id; kept = None } ∷ []) (Some (sequel.Restarted c)) o)
   pub removed : (place : ℕ) (row : Row) (o : Outcome) → IsUnmoved old o → IsIdle (is_busy old) o → IsRunning o → StandsAt place row o → is_down row.state ≡ true → P o → P (with_rows (remove o.state.rows place) o)
   pub given_up : (place : ℕ) (row : Row) (o : Outcome) → IsUnmoved old o → IsIdle (is_busy old) o → IsRunning o → StandsAt place row o → is_down row.state ≡ true → P o → P (set_row place row Undefined o)
-  pub stops_child : (c p place : ℕ) (row : Row) (o : Outcome) → IsUnmoved old o → IsIdle (is_busy old) o → IsRunning o → StandsAt place row o → (is_awaited row.state ≡ true) ⊎ (row.state ≡ Up p) → P o → P (with_work (p ∷ []) [] (Some (after.Stopped c)) o)
+  pub stops_child : (c p place : ℕ) (row : Row) (o : Outcome) → IsUnmoved old o → IsIdle (is_busy old) o → IsRunning o → StandsAt place row o → (is_awaited row.state ≡ true) ⊎ (row.state ≡ Up p) → P o → P (with_work (p ∷ []) [] (Some (sequel.Stopped c)) o)
 
 -- the same, for a property that needs less: the kind of the event, and whether work was open when it came
 pub record Survives (k : Kind) (b : Bool) (P : Outcome → Type 0) : Type 0 where
@@ -122,12 +122,12 @@ pub record Survives (k : Kind) (b : Bool) (P : Outcome → Type 0) : Type 0 wher
   pub exit_waits : (p : ℕ) (r : Reason) (o : Outcome) → IsNoted k b (note.Exit p r) o → P o → P (put_last (waiting.Item (item.Note (note.Exit p r))) o)
   -- answers to a start
   pub up : (p place : ℕ) (row : Row) (q kept : ℕ) (o : Outcome) → StandsAt place row o → row.state ≡ Starting q kept → (q == p) ≡ true → IsNoted k b (note.Up p) o → P o → P (set_row place row (Up p) o)
-  pub up_closed : (p place : ℕ) (row : Row) (q kept c : ℕ) (o : Outcome) → StandsAt place row o → row.state ≡ Starting q kept → (q == p) ≡ true → (o.state.follows ≡ Some (after.Added c)) ⊎ (o.state.follows ≡ Some (after.Restarted c)) → P o → P (closed (set_row place row (Up p) o))
+  pub up_closed : (p place : ℕ) (row : Row) (q kept c : ℕ) (o : Outcome) → StandsAt place row o → row.state ≡ Starting q kept → (q == p) ≡ true → (o.state.follows ≡ Some (sequel.Added c)) ⊎ (o.state.follows ≡ Some (sequel.Restarted c)) → P o → P (closed (set_row place row (Up p) o))
   pub ignored : (p place : ℕ) (row : Row) (q kept : ℕ) (o : Outcome) → StandsAt place row o → row.state ≡ Starting q kept → (q == p) ≡ true → IsNoted k b (note.Ignored p) o → P o → P (end_row place row o)
-  pub opening_failed : (place : ℕ) (row : Row) (q kept : ℕ) (o : Outcome) → IsRunning o → StandsAt place row o → row.state ≡ Starting q kept → o.state.follows ≡ Some after.Ready → P o → P (terminate (ending.InitFailed row.spec.id) (set_row place row Undefined o))
-  pub restart_failed : (place : ℕ) (row : Row) (q kept : ℕ) (o : Outcome) → StandsAt place row o → row.state ≡ Starting q kept → o.state.follows ≡ Some after.Nothing → P o → P (closed (put_last (waiting.Retry kept) (set_row place row (Restarting kept) o)))
-  pub added_failed : (place : ℕ) (row : Row) (q kept c : ℕ) (o : Outcome) → StandsAt place row o → row.state ≡ Starting q kept → o.state.follows ≡ Some (after.Added c) → P o → P (closed (with_rows (remove o.state.rows place) o))
-  pub restarted_failed : (place : ℕ) (row : Row) (q kept c : ℕ) (o : Outcome) → StandsAt place row o → row.state ≡ Starting q kept → o.state.follows ≡ Some (after.Restarted c) → P o → P (closed (set_row place row Undefined o))
+  pub opening_failed : (place : ℕ) (row : Row) (q kept : ℕ) (o : Outcome) → IsRunning o → StandsAt place row o → row.state ≡ Starting q kept → o.state.follows ≡ Some sequel.Ready → P o → P (terminate (ending.InitFailed row.spec.id) (set_row place row Undefined o))
+  pub restart_failed : (place : ℕ) (row : Row) (q kept : ℕ) (o : Outcome) → StandsAt place row o → row.state ≡ Starting q kept → o.state.follows ≡ Some sequel.Nothing → P o → P (closed (put_last (waiting.Retry kept) (set_row place row (Restarting kept) o)))
+  pub added_failed : (place : ℕ) (row : Row) (q kept c : ℕ) (o : Outcome) → StandsAt place row o → row.state ≡ Starting q kept → o.state.follows ≡ Some (sequel.Added c) → P o → P (closed (with_rows (remove o.state.rows place) o))
+  pub restarted_failed : (place : ℕ) (row : Row) (q kept c : ℕ) (o : Outcome) → StandsAt place row o → row.state ≡ Starting q kept → o.state.follows ≡ Some (sequel.Restarted c) → P o → P (closed (set_row place row Undefined o))
   -- ends
   pub stopped : (p : ℕ) (r : Reason) (place : ℕ) (row : Row) (o : Outcome) → StandsAt place row o → is_told p row.state ≡ true → IsNoted k b (note.Exit p r) o → P o → P (end_row place row o)
   pub died : (p place : ℕ) (row : Row) (o : Outcome) → IsIdle b o → IsRunning o → StandsAt place row o → row.state ≡ Up p → P o → P (end_row place row o)
@@ -136,11 +136,11 @@ pub record Survives (k : Kind) (b : Bool) (P : Outcome → Type 0) : Type 0 wher
   pub ticks : (o : Outcome) → k ≡ kind.Ticked → P o → P (tick o)
   pub opens : (own : ℕ) (o : Outcome) → k ≡ kind.Opened own → is_busy o ≡ b → is_over o.state.phase ≡ true → P o → P (open_rows own o)
   -- calls
-  pub adds : (c : ℕ) (id : Option Name) (spec : ChildSpec) (o : Outcome) → IsIdle b o → IsRunning o → is_some id ≡ not (is_simple o.state.flags.strategy) → P o → P (with_work [] (record { id = id; kept = None } ∷ []) (Some (after.Added c)) (with_rows (o.state.rows ++ new_row (free_slot o.state.rows) id spec ∷ []) o))
-  pub starts_again : (c : ℕ) (id : Name) (place : ℕ) (row : Row) (o : Outcome) → IsIdle b o → IsRunning o → StandsAt place row o → has_id id row ≡ true → row.state ≡ Undefined → P o → P (with_work [] (record { id = Some id; kept = None } ∷ []) (Some (after.Restarted c)) o)
+  pub adds : (c : ℕ) (id : Option Name) (spec : ChildSpec) (o : Outcome) → IsIdle b o → IsRunning o → is_some id ≡ not (is_simple o.state.flags.strategy) → P o → P (with_work [] (record { id = id; kept = None } ∷ []) (Some (sequel.Added c)) (with_rows (o.state.rows ++ new_row (free_slot o.state.rows) id spec ∷ []) o))
+  pub starts_again : (c : ℕ) (id : Name) (place : ℕ) (row : Row) (o : Outcome) → IsIdle b o → IsRunning o → StandsAt place row o → has_id id row ≡ true → row.state ≡ Undefined → P o → P (with_work [] (record { id = Some id; kept = None } ∷ []) (Some (sequel.Restarted c)) o)
   pub removed : (place : ℕ) (row : Row) (o : Outcome) → IsIdle b o → IsRunning o → StandsAt place row o → is_down row.state ≡ true → P o → P (with_rows (remove o.state.rows place) o)
   pub given_up : (place : ℕ) (row : Row) (o : Outcome) → IsIdle b o → IsRunning o → StandsAt place row o → is_down row.state ≡ true → P o → P (set_row place row Undefined o)
-  pub stops_child : (c p place : ℕ) (row : Row) (o : Outcome) → IsIdle b o → IsRunning o → StandsAt place row o → (is_awaited row.state ≡ true) ⊎ (row.state ≡ Up p) → P o → P (with_work (p ∷ []) [] (Some (after.Stopped c)) o)
+  pub stops_child : (c p place : ℕ) (row : Row) (o : Outcome) → IsIdle b o → IsRunning o → StandsAt place row o → (is_awaited row.state ≡ true) ⊎ (row.state ≡ Up p) → P o → P (with_work (p ∷ []) [] (Some (sequel.Stopped c)) o)
 
 -- either branch, each where its test says so
 pub by_test : (P : Outcome → Type 0) (b : Bool) (x y : Outcome) → (b ≡ true → P x) → (b ≡ false → P y) → P (if b then x else y)
@@ -252,17 +252,17 @@ at_starting-survives : (P : Outcome → Type 0) (p : ℕ) (f : ℕ → ℕ → R
 unfolding at_starting
 at_starting-survives P p f o each x = at_number-survives P p _ o x (λ place row at h. if_starting-survives P p f place row row.state o refl h at each x)
 
-up_after-survives : (k : Kind) (G : Item → Type 0) (old : Outcome) (P : Outcome → Type 0) → SurvivesEvent k G old P → (p place : ℕ) (row : Row) (q kept : ℕ) (f : Option After) (o : Outcome) → IsUnmoved old o → o.state.follows ≡ f → StandsAt place row o → row.state ≡ Starting q kept → (q == p) ≡ true → G (item.Note (note.Up p)) → P o → P (up_after p f (set_row place row (Up p) o))
+up_after-survives : (k : Kind) (G : Item → Type 0) (old : Outcome) (P : Outcome → Type 0) → SurvivesEvent k G old P → (p place : ℕ) (row : Row) (q kept : ℕ) (f : Option Sequel) (o : Outcome) → IsUnmoved old o → o.state.follows ≡ f → StandsAt place row o → row.state ≡ Starting q kept → (q == p) ≡ true → G (item.Note (note.Up p)) → P o → P (up_after p f (set_row place row (Up p) o))
 unfolding up_after
 up_after-survives k G old P s p place row q kept None o u is at starts same noted x = s.up p place row q kept o u at starts same noted x
-up_after-survives k G old P s p place row q kept (Some after.Ready) o u is at starts same noted x = s.up p place row q kept o u at starts same noted x
-up_after-survives k G old P s p place row q kept (Some after.Nothing) o u is at starts same noted x = s.up p place row q kept o u at starts same noted x
-up_after-survives k G old P s p place row q kept (Some (after.Added c)) o u is at starts same noted x =
+up_after-survives k G old P s p place row q kept (Some sequel.Ready) o u is at starts same noted x = s.up p place row q kept o u at starts same noted x
+up_after-survives k G old P s p place row q kept (Some sequel.Nothing) o u is at starts same noted x = s.up p place row q kept o u at starts same noted x
+up_after-survives k G old P s p place row q kept (Some (sequel.Added c)) o u is at starts same noted x =
     s.answered c (reply.OkProcess p) (closed (set_row place row (Up p) o)) (s.up_closed p place row q kept c o u at starts same (inl is) noted x)
-up_after-survives k G old P s p place row q kept (Some (after.Restarted c)) o u is at starts same noted x =
+up_after-survives k G old P s p place row q kept (Some (sequel.Restarted c)) o u is at starts same noted x =
     s.answered c (reply.OkProcess p) (closed (set_row place row (Up p) o)) (s.up_closed p place row q kept c o u at starts same (inr is) noted x)
-up_after-survives k G old P s p place row q kept (Some (after.Stopped _)) o u is at starts same noted x = s.up p place row q kept o u at starts same noted x
-up_after-survives k G old P s p place row q kept (Some (after.End _)) o u is at starts same noted x = s.up p place row q kept o u at starts same noted x
+up_after-survives k G old P s p place row q kept (Some (sequel.Stopped _)) o u is at starts same noted x = s.up p place row q kept o u at starts same noted x
+up_after-survives k G old P s p place row q kept (Some (sequel.End _)) o u is at starts same noted x = s.up p place row q kept o u at starts same noted x
 
 take_up-survives : (k : Kind) (G : Item → Type 0) (old : Outcome) (P : Outcome → Type 0) → SurvivesEvent k G old P → (p : ℕ) (o : Outcome) → IsUnmoved old o → G (item.Note (note.Up p)) → P o → P (take_up p o)
 unfolding take_up
@@ -272,17 +272,17 @@ take_ignored-survives : (k : Kind) (G : Item → Type 0) (old : Outcome) (P : Ou
 unfolding take_ignored
 take_ignored-survives k G old P s p o u noted x = at_starting-survives P p _ o (λ q kept place row at is same. s.ignored p place row q kept o u at is same noted x) x
 
-failed_after-survives : (k : Kind) (G : Item → Type 0) (old : Outcome) (P : Outcome → Type 0) → SurvivesEvent k G old P → (r : Reason) (kept place : ℕ) (row : Row) (q : ℕ) (f : Option After) (o : Outcome) → IsUnmoved old o → o.state.follows ≡ f → IsRunning o → StandsAt place row o → row.state ≡ Starting q kept → BringsFailure G q → P o → P (failed_after r kept place row f o)
+failed_after-survives : (k : Kind) (G : Item → Type 0) (old : Outcome) (P : Outcome → Type 0) → SurvivesEvent k G old P → (r : Reason) (kept place : ℕ) (row : Row) (q : ℕ) (f : Option Sequel) (o : Outcome) → IsUnmoved old o → o.state.follows ≡ f → IsRunning o → StandsAt place row o → row.state ≡ Starting q kept → BringsFailure G q → P o → P (failed_after r kept place row f o)
 unfolding failed_after
 failed_after-survives k G old P s r kept place row q None o u is runs at starts noted x = x
-failed_after-survives k G old P s r kept place row q (Some after.Ready) o u is runs at starts noted x = s.opening_failed place row q kept o u runs at starts is noted x
-failed_after-survives k G old P s r kept place row q (Some after.Nothing) o u is runs at starts noted x = s.restart_failed place row q kept o u at starts is noted x
-failed_after-survives k G old P s r kept place row q (Some (after.Added c)) o u is runs at starts noted x =
+failed_after-survives k G old P s r kept place row q (Some sequel.Ready) o u is runs at starts noted x = s.opening_failed place row q kept o u runs at starts is noted x
+failed_after-survives k G old P s r kept place row q (Some sequel.Nothing) o u is runs at starts noted x = s.restart_failed place row q kept o u at starts is noted x
+failed_after-survives k G old P s r kept place row q (Some (sequel.Added c)) o u is runs at starts noted x =
     s.answered c (reply.Refused (fault.Start r)) (closed (with_rows (remove o.state.rows place) o)) (s.added_failed place row q kept c o u at starts is noted x)
-failed_after-survives k G old P s r kept place row q (Some (after.Restarted c)) o u is runs at starts noted x =
+failed_after-survives k G old P s r kept place row q (Some (sequel.Restarted c)) o u is runs at starts noted x =
     s.answered c (reply.Refused (fault.Start r)) (closed (set_row place row Undefined o)) (s.restarted_failed place row q kept c o u at starts is noted x)
-failed_after-survives k G old P s r kept place row q (Some (after.Stopped _)) o u is runs at starts noted x = x
-failed_after-survives k G old P s r kept place row q (Some (after.End _)) o u is runs at starts noted x = x
+failed_after-survives k G old P s r kept place row q (Some (sequel.Stopped _)) o u is runs at starts noted x = x
+failed_after-survives k G old P s r kept place row q (Some (sequel.End _)) o u is runs at starts noted x = x
 
 take_failed-survives : (k : Kind) (G : Item → Type 0) (old : Outcome) (P : Outcome → Type 0) → SurvivesEvent k G old P → (p : ℕ) (r : Reason) (o : Outcome) → IsUnmoved old o → G (item.Note (note.Failed p r)) → IsRunning o → P o → P (take_failed p r o)
 unfolding take_failed

@@ -18,8 +18,8 @@ use Rattle.otp_rules.specs.declared.event.Kind.{Kind}
 use Rattle.otp_rules.specs.declared.event.Kind.TheVariants as kind
 use Rattle.otp_rules.specs.declared.event.Waiting.{Waiting}
 use Rattle.otp_rules.specs.declared.event.Waiting.TheVariants as waiting
-use Rattle.otp_rules.specs.declared.work.After.{After}
-use Rattle.otp_rules.specs.declared.work.After.TheVariants as after
+use Rattle.otp_rules.specs.declared.work.Sequel.{Sequel}
+use Rattle.otp_rules.specs.declared.work.Sequel.TheVariants as sequel
 use Rattle.otp_rules.specs.State.{Outcome, State, answer, is_busy, is_over, own_number}
 use Rattle.otp_rules.specs.Stops.{stop_order}
 use Rattle.otp_rules.specs.Ends.{end_all, refusal, refuse_all, sup_end_of}
@@ -68,15 +68,15 @@ answered-ends : (n : ℕ) (before : List (ℕ × SupEnd)) (c : ℕ) (r : Reply) 
 unfolding answer
 answered-ends n before c r o h = (quiet n before o (effect.Reply c ∷ []) refl h.0, h.1)
 
-followed-ends : (n : ℕ) (before : List (ℕ × SupEnd)) (f : Option After) (o : Outcome) → HasEnds n before o → HasEnds n before (follow f o)
+followed-ends : (n : ℕ) (before : List (ℕ × SupEnd)) (f : Option Sequel) (o : Outcome) → HasEnds n before o → HasEnds n before (follow f o)
 unfolding follow end_all refuse_all answer
 followed-ends n before None o h = h
-followed-ends n before (Some after.Ready) o h = (quiet n before o (effect.Ready ∷ []) refl h.0, h.1)
-followed-ends n before (Some after.Nothing) o h = h
-followed-ends n before (Some (after.Added c)) o h = (quiet n before o (effect.Reply c ∷ []) refl h.0, h.1)
-followed-ends n before (Some (after.Restarted c)) o h = (quiet n before o (effect.Reply c ∷ []) refl h.0, h.1)
-followed-ends n before (Some (after.Stopped c)) o h = (quiet n before o (effect.Reply c ∷ []) refl h.0, h.1)
-followed-ends n before (Some (after.End x)) o h =
+followed-ends n before (Some sequel.Ready) o h = (quiet n before o (effect.Ready ∷ []) refl h.0, h.1)
+followed-ends n before (Some sequel.Nothing) o h = h
+followed-ends n before (Some (sequel.Added c)) o h = (quiet n before o (effect.Reply c ∷ []) refl h.0, h.1)
+followed-ends n before (Some (sequel.Restarted c)) o h = (quiet n before o (effect.Reply c ∷ []) refl h.0, h.1)
+followed-ends n before (Some (sequel.Stopped c)) o h = (quiet n before o (effect.Reply c ∷ []) refl h.0, h.1)
+followed-ends n before (Some (sequel.End x)) o h =
     let end : SupEnd = sup_end_of o.state.flags o.state.stamps x in
     let told : List Effect = o.orders ++ filter_map refusal o.state.waiting in (
       ap (λ (own : ℕ). o.state.ends ++ (own, end) ∷ []) h.1

@@ -10,8 +10,8 @@ use Rattle.otp_rules.specs.declared.call.Reply.{Reply}
 use Rattle.otp_rules.specs.declared.ending.Ending.TheVariants as ending
 use Rattle.otp_rules.specs.declared.event.Event.{Event}
 use Rattle.otp_rules.specs.declared.event.Kind.{Kind}
-use Rattle.otp_rules.specs.declared.work.After.{After}
-use Rattle.otp_rules.specs.declared.work.After.TheVariants as after
+use Rattle.otp_rules.specs.declared.work.Sequel.{Sequel}
+use Rattle.otp_rules.specs.declared.work.Sequel.TheVariants as sequel
 use Rattle.otp_rules.specs.declared.work.Due.{Due}
 use Rattle.otp_rules.specs.State.{Outcome, State, answer, is_busy, is_over, with_work}
 use Rattle.otp_rules.specs.Places.{end_row, set_row}
@@ -74,7 +74,7 @@ bare-survives k b =
       opening_failed = λ place row q kept o runs at is follows h.
           let down : Outcome = set_row place row Undefined o in
           let sound = s.opening_failed place row q kept o runs at is follows h.0 in
-          (sound, busy_bare (terminate (ending.InitFailed row.spec.id) down).state sound (ap (λ (f : Option After). is_some f) (terminate-follows (ending.InitFailed row.spec.id) down)));
+          (sound, busy_bare (terminate (ending.InitFailed row.spec.id) down).state sound (ap (λ (f : Option Sequel). is_some f) (terminate-follows (ending.InitFailed row.spec.id) down)));
       restart_failed = λ place row q kept o at is follows h. (s.restart_failed place row q kept o at is follows h.0, λ over. absurd (no_row place row o at (h.1 over)));
       added_failed = λ place row q kept c o at is follows h. (s.added_failed place row q kept c o at is follows h.0, λ over. absurd (no_row place row o at (h.1 over)));
       restarted_failed = λ place row q kept c o at is follows h. (s.restarted_failed place row q kept c o at is follows h.0, λ over. absurd (no_row place row o at (h.1 over)));
@@ -85,7 +85,7 @@ bare-survives k b =
           (sound, busy_bare (restart p place row o).state sound (restart-busy p place row o));
       ends = λ e o other idle runs h.
           let sound = s.ends e o other idle runs h.0 in
-          (sound, busy_bare (terminate e o).state sound (ap (λ (f : Option After). is_some f) (terminate-follows e o)));
+          (sound, busy_bare (terminate e o).state sound (ap (λ (f : Option Sequel). is_some f) (terminate-follows e o)));
       ticks = λ o is h. (s.ticks o is h.0, tick-bare o h.1);
       opens = λ own o is link over h.
           let sound = s.opens own o is link over h.0 in
@@ -101,15 +101,15 @@ bare-survives k b =
 abbrev GoesBare : Outcome → Type 0
 GoesBare o = (is_some o.state.follows ≡ true) ⊎ IsBare o.state
 
-follow-bare : (f : Option After) (o : Outcome) → is_over o.state.phase ≡ false → GoesBare (follow f o)
+follow-bare : (f : Option Sequel) (o : Outcome) → is_over o.state.phase ≡ false → GoesBare (follow f o)
 unfolding follow end_all refuse_all answer
 follow-bare None o runs = inr (λ over. absurd (false≢true (sym runs ∙ over)))
-follow-bare (Some after.Ready) o runs = inr (λ over. absurd (false≢true (sym runs ∙ over)))
-follow-bare (Some after.Nothing) o runs = inr (λ over. absurd (false≢true (sym runs ∙ over)))
-follow-bare (Some (after.Added c)) o runs = inr (λ over. absurd (false≢true (sym runs ∙ over)))
-follow-bare (Some (after.Restarted c)) o runs = inr (λ over. absurd (false≢true (sym runs ∙ over)))
-follow-bare (Some (after.Stopped c)) o runs = inr (λ over. absurd (false≢true (sym runs ∙ over)))
-follow-bare (Some (after.End e)) o runs = inr (λ over. refl)
+follow-bare (Some sequel.Ready) o runs = inr (λ over. absurd (false≢true (sym runs ∙ over)))
+follow-bare (Some sequel.Nothing) o runs = inr (λ over. absurd (false≢true (sym runs ∙ over)))
+follow-bare (Some (sequel.Added c)) o runs = inr (λ over. absurd (false≢true (sym runs ∙ over)))
+follow-bare (Some (sequel.Restarted c)) o runs = inr (λ over. absurd (false≢true (sym runs ∙ over)))
+follow-bare (Some (sequel.Stopped c)) o runs = inr (λ over. absurd (false≢true (sym runs ∙ over)))
+follow-bare (Some (sequel.End e)) o runs = inr (λ over. refl)
 
 start_first-bare : (dues : List Due) (n : ℕ) (o : Outcome) → is_some o.state.follows ≡ true → is_over o.state.phase ≡ false → GoesBare (start_first dues n o)
 unfolding start_first start start_row
@@ -127,8 +127,8 @@ stop_first-bare (p ∷ ps) n o busy runs =
     let used = use_exit-alike p place left in
     let asked = tell-alike p left in
     by_test GoesBare (is_some place) (stop_first ps n (use_exit p place left)) (tell p left)
-    (λ _. stop_first-bare ps n (use_exit p place left) (ap (λ (f : Option After). is_some f) used.4 ∙ busy) (ap is_over used.1 ∙ runs))
-    (λ _. inl (ap (λ (f : Option After). is_some f) asked.4 ∙ busy))
+    (λ _. stop_first-bare ps n (use_exit p place left) (ap (λ (f : Option Sequel). is_some f) used.4 ∙ busy) (ap is_over used.1 ∙ runs))
+    (λ _. inl (ap (λ (f : Option Sequel). is_some f) asked.4 ∙ busy))
 
 -- a sound state whose work is open runs
 busy_runs : (s : State) (b : Bool) → is_over s.phase ≡ b → IsSound s → is_some s.follows ≡ true → b ≡ false

@@ -24,8 +24,8 @@ use Rattle.otp_rules.specs.declared.event.Kind.TheVariants as kind
 use Rattle.otp_rules.specs.declared.event.Waiting.{Waiting}
 use Rattle.otp_rules.specs.declared.event.Waiting.TheVariants as waiting
 use Rattle.otp_rules.specs.declared.work.Due.{Due}
-use Rattle.otp_rules.specs.declared.work.After.{After}
-use Rattle.otp_rules.specs.declared.work.After.TheVariants as after
+use Rattle.otp_rules.specs.declared.work.Sequel.{Sequel}
+use Rattle.otp_rules.specs.declared.work.Sequel.TheVariants as sequel
 use Rattle.otp_spec.specs.Flags.{is_simple}
 use Rattle.otp_rules.specs.State.{Outcome, answer, is_busy, is_over, with_rows, with_stamps, with_waiting, with_work}
 use Rattle.otp_rules.specs.Effects.{OrdersFew, is_order}
@@ -129,7 +129,7 @@ terminate-adds : (e : Ending) (o : Outcome) → Adds (length o.state.rows) o (te
 unfolding terminate terminate_together terminate_ordered
 terminate-adds e o =
     by_test (Adds (length o.state.rows) o) (is_simple o.state.flags.strategy) (terminate_together e o) (terminate_ordered e o)
-    (λ _. let all = stop_each-adds (running o.state.rows) (calm_all (with_work [] [] (Some (after.End e)) o)) in
+    (λ _. let all = stop_each-adds (running o.state.rows) (calm_all (with_work [] [] (Some (sequel.End e)) o)) in
     (omega (arith, all.0, running-few o.state.rows), omega (arith, all.1, calm-length o.state.rows)))
     (λ _. (omega arith, omega (arith, calm-length o.state.rows)))
 
@@ -137,7 +137,7 @@ terminate-busy : (e : Ending) (o : Outcome) → is_busy (terminate e o) ≡ true
 unfolding terminate terminate_together terminate_ordered
 terminate-busy e o =
     by_test (λ (x : Outcome). is_busy x ≡ true) (is_simple o.state.flags.strategy) (terminate_together e o) (terminate_ordered e o)
-    (λ _. ap (λ (f : Option After). is_some f) (stop_each-alike (running o.state.rows) (calm_all (with_work [] [] (Some (after.End e)) o))).4)
+    (λ _. ap (λ (f : Option Sequel). is_some f) (stop_each-alike (running o.state.rows) (calm_all (with_work [] [] (Some (sequel.End e)) o))).4)
     (λ _. refl)
 
 restart-adds : (p place : ℕ) (row : Row) (o : Outcome) → (orders_in (restart p place row o).orders ≤ orders_in o.orders + length o.state.rows) × (is_busy (restart p place row o) ≡ true)
@@ -238,15 +238,15 @@ decide-few k o none = by_kind k refl
     by_kind kind.Stopped is = other_kind (λ own as_opened. absurd (search (rules, sym is ∙ as_opened)))
 
 -- work that goes on gives one order at most
-follow-one : (f : Option After) (o : Outcome) → orders_in (follow f o).orders ≤ orders_in o.orders + 1
+follow-one : (f : Option Sequel) (o : Outcome) → orders_in (follow f o).orders ≤ orders_in o.orders + 1
 unfolding follow end_all refuse_all answer
 follow-one None o = omega arith
-follow-one (Some after.Ready) o = one_more o.orders effect.Ready
-follow-one (Some after.Nothing) o = omega arith
-follow-one (Some (after.Added c)) o = one_more o.orders (effect.Reply c)
-follow-one (Some (after.Restarted c)) o = one_more o.orders (effect.Reply c)
-follow-one (Some (after.Stopped c)) o = one_more o.orders (effect.Reply c)
-follow-one (Some (after.End e)) o =
+follow-one (Some sequel.Ready) o = one_more o.orders effect.Ready
+follow-one (Some sequel.Nothing) o = omega arith
+follow-one (Some (sequel.Added c)) o = one_more o.orders (effect.Reply c)
+follow-one (Some (sequel.Restarted c)) o = one_more o.orders (effect.Reply c)
+follow-one (Some (sequel.Stopped c)) o = one_more o.orders (effect.Reply c)
+follow-one (Some (sequel.End e)) o =
     let refused : List Effect = filter_map refusal o.state.waiting in
     let none : orders_in refused ≡ 0 = refusals-few o.state.waiting in
     omega (arith, none, orders-append o.orders refused, one_more (o.orders ++ refused) (effect.End (sup_end_of o.state.flags o.state.stamps e)))

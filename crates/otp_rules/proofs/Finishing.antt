@@ -17,8 +17,8 @@ use Rattle.otp_rules.specs.declared.call.Reply.{Reply}
 use Rattle.otp_rules.specs.declared.ending.Ending.{Ending}
 use Rattle.otp_rules.specs.declared.ending.Ending.TheVariants as ending
 use Rattle.otp_rules.specs.declared.event.Kind.{Kind}
-use Rattle.otp_rules.specs.declared.work.After.{After}
-use Rattle.otp_rules.specs.declared.work.After.TheVariants as after
+use Rattle.otp_rules.specs.declared.work.Sequel.{Sequel}
+use Rattle.otp_rules.specs.declared.work.Sequel.TheVariants as sequel
 use Rattle.otp_rules.specs.declared.work.Due.{Due}
 use Rattle.otp_spec.specs.Flags.{is_simple}
 use Rattle.otp_rules.specs.State.{Outcome, State, answer, is_busy, with_stamps, with_waiting, with_work}
@@ -200,13 +200,13 @@ terminate-finishes e o one none =
     let calm : rows_in is_begun (calm_rows o.state.rows) ≡ 0 = calm_begun o.state.rows ∙ none in
     by_test (λ (x : Outcome). Finishes x.state) (is_simple o.state.flags.strategy) (terminate_together e o) (terminate_ordered e o)
     (λ _ _.
-    let opened : Outcome = calm_all (with_work [] [] (Some (after.End e)) o) in
+    let opened : Outcome = calm_all (with_work [] [] (Some (sequel.End e)) o) in
     let done : IsStopping [] (stop_each (running o.state.rows) opened).state.rows =
     stop_each-stopping (running o.state.rows) opened (λ q. omega (arith, one q, calm_process q o.state.rows)) (λ q. calm_counted q o.state.rows, calm) in
     (λ q. omega (arith, done.0 q), done.1))
     (λ _ _. (λ q. omega (arith, times-reverse q (running o.state.rows), calm_counted q o.state.rows), calm))
 
-end_busy : (f : Option After) → is_end f ≡ true → is_some f ≡ true
+end_busy : (f : Option Sequel) → is_end f ≡ true → is_some f ≡ true
 end_busy None h = absurd (false≢true h)
 end_busy (Some f) h = refl
 
@@ -277,7 +277,7 @@ finishing-survives old k b first =
       ignored = λ p place row q kept o at is same noted h. (s.ignored p place row q kept o at is same noted h.0, n.ignored p place row q kept o at is same noted h.1, end-finishes place row o at h.2);
       opening_failed = λ place row q kept o runs at is follows h.
           let one : ◌≡◌ {A = ℕ} (cond (is_awaited row.state) 1 0) 1 = ap (λ (t : RowState). cond (is_awaited t) 1 0) is in
-          let few : rows_in is_awaited o.state.rows ≤ 1 = subst (λ (x : Option After). IsLimited x (rows_in is_awaited o.state.rows)) follows h.0.0 in
+          let few : rows_in is_awaited o.state.rows ≤ 1 = subst (λ (x : Option Sequel). IsLimited x (rows_in is_awaited o.state.rows)) follows h.0.0 in
           let less : NoMore o (set_row place row Undefined o) = set-no_more place row Undefined o o at (λ q. omega arith) (λ q. omega arith) in (
             s.opening_failed place row q kept o runs at is follows h.0,
             n.opening_failed place row q kept o runs at is follows h.1,
@@ -329,15 +329,15 @@ tell-finishes p ps o h e =
     let done : IsStopping ps (tell p left).state.rows = tell-stopping p ps left h.1 (h.2 (sym (ap is_end same.4) ∙ e)) in
     (λ q. let t : times q (tell p left).state.to_stop ≡ times q ps = ap (λ (xs : List ℕ). times q xs) same.2 in omega (arith, t, done.0 q), done.1)
 
-follow-finishes : (f : Option After) (o : Outcome) → o.state.follows ≡ f → Finishes (follow f o).state
+follow-finishes : (f : Option Sequel) (o : Outcome) → o.state.follows ≡ f → Finishes (follow f o).state
 unfolding follow end_all refuse_all answer
 follow-finishes None o is e = absurd (false≢true (sym (ap is_end is) ∙ e))
-follow-finishes (Some after.Ready) o is e = absurd (false≢true e)
-follow-finishes (Some after.Nothing) o is e = absurd (false≢true e)
-follow-finishes (Some (after.Added c)) o is e = absurd (false≢true e)
-follow-finishes (Some (after.Restarted c)) o is e = absurd (false≢true e)
-follow-finishes (Some (after.Stopped c)) o is e = absurd (false≢true e)
-follow-finishes (Some (after.End x)) o is e = absurd (false≢true e)
+follow-finishes (Some sequel.Ready) o is e = absurd (false≢true e)
+follow-finishes (Some sequel.Nothing) o is e = absurd (false≢true e)
+follow-finishes (Some (sequel.Added c)) o is e = absurd (false≢true e)
+follow-finishes (Some (sequel.Restarted c)) o is e = absurd (false≢true e)
+follow-finishes (Some (sequel.Stopped c)) o is e = absurd (false≢true e)
+follow-finishes (Some (sequel.End x)) o is e = absurd (false≢true e)
 
 start_first-finishes : (dues : List Due) (n : ℕ) (o : Outcome) → o.state.to_start ≡ dues → IsSound o.state → Finishes (start_first dues n o).state
 unfolding start_first start start_row

@@ -44,7 +44,7 @@ use Rattle.std.proofs.lemmas.Slice.Eq.{bytes_eq-Decides}
 use Rattle.otp_rules.proofs.Numbers.{counted_length}
 use Rattle.otp_rules.proofs.Fits.{fits-front, fits-after, fits-append, fits-before, fits-map, fits-set, fits-remove}
 use Rattle.otp_rules.specs.declared.ending.Ending.TheVariants as ending
-use Rattle.otp_rules.specs.declared.work.After.TheVariants as after
+use Rattle.otp_rules.specs.declared.work.Sequel.TheVariants as sequel
 
 abbrev pub Stands : Outcome → Type 0
 Stands o = IsSound o.state × IsFitted o.state
@@ -115,12 +115,12 @@ terminate-starts : (e : Ending) (o : Outcome) → (terminate e o).state.to_start
 unfolding terminate terminate_together terminate_ordered
 terminate-starts e o =
     by_test (λ x. x.state.to_start ≡ []) (is_simple o.state.flags.strategy) (terminate_together e o) (terminate_ordered e o)
-    (λ _. (stop_each-alike (running o.state.rows) (calm_all (with_work [] [] (Some (after.End e)) o))).3)
+    (λ _. (stop_each-alike (running o.state.rows) (calm_all (with_work [] [] (Some (sequel.End e)) o))).3)
     (λ _. refl)
 
 together-flags : (e : Ending) (o : Outcome) → (terminate_together e o).state.flags ≡ o.state.flags
 unfolding terminate_together
-together-flags e o = (stop_each-alike (running o.state.rows) (calm_all (with_work [] [] (Some (after.End e)) o))).0
+together-flags e o = (stop_each-alike (running o.state.rows) (calm_all (with_work [] [] (Some (sequel.End e)) o))).0
 
 terminate-named : (e : Ending) (o : Outcome) → IsNamed o.state → IsNamed (terminate e o).state
 unfolding terminate terminate_ordered

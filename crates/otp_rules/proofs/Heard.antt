@@ -22,8 +22,8 @@ use Rattle.otp_rules.specs.declared.event.Kind.{Kind}
 use Rattle.otp_rules.specs.declared.event.Kind.TheVariants as kind
 use Rattle.otp_rules.specs.declared.event.Waiting.{Waiting}
 use Rattle.otp_rules.specs.declared.event.Waiting.TheVariants as waiting
-use Rattle.otp_rules.specs.declared.work.After.{After}
-use Rattle.otp_rules.specs.declared.work.After.TheVariants as after
+use Rattle.otp_rules.specs.declared.work.Sequel.{Sequel}
+use Rattle.otp_rules.specs.declared.work.Sequel.TheVariants as sequel
 use Rattle.otp_rules.specs.declared.work.Due.{Due}
 use Rattle.otp_spec.specs.Flags.{is_simple}
 use Rattle.otp_rules.specs.State.{Outcome, State, answer, is_busy, is_over, with_stamps, with_work}
@@ -77,7 +77,7 @@ pub terminate-less : (p : ℕ) (e : Ending) (o : Outcome) → Less p o (terminat
 unfolding terminate terminate_together terminate_ordered
 terminate-less p e o =
     by_test (Less p o) (is_simple o.state.flags.strategy) (terminate_together e o) (terminate_ordered e o)
-    (λ _. stop_each-less p (running o.state.rows) (calm_all (with_work [] [] (Some (after.End e)) o)))
+    (λ _. stop_each-less p (running o.state.rows) (calm_all (with_work [] [] (Some (sequel.End e)) o)))
     (λ _ h. h)
 
 pub restart-less : (p q place : ℕ) (row : Row) (o : Outcome) → Less p o (restart q place row o)
@@ -152,15 +152,15 @@ decided-heard k old p =
     decide-survives_event k G old (IsHeard G old p) (heard-survives k G old p) (λ i b idle. b) (λ w. inl w)
 
 -- no more ends wait when the work goes on
-pub follow-less : (p : ℕ) (f : Option After) (o : Outcome) → Less p o (follow f o)
+pub follow-less : (p : ℕ) (f : Option Sequel) (o : Outcome) → Less p o (follow f o)
 unfolding follow end_all refuse_all answer
 follow-less p None o h = h
-follow-less p (Some after.Ready) o h = h
-follow-less p (Some after.Nothing) o h = h
-follow-less p (Some (after.Added c)) o h = h
-follow-less p (Some (after.Restarted c)) o h = h
-follow-less p (Some (after.Stopped c)) o h = h
-follow-less p (Some (after.End e)) o h = absurd (false≢true h)
+follow-less p (Some sequel.Ready) o h = h
+follow-less p (Some sequel.Nothing) o h = h
+follow-less p (Some (sequel.Added c)) o h = h
+follow-less p (Some (sequel.Restarted c)) o h = h
+follow-less p (Some (sequel.Stopped c)) o h = h
+follow-less p (Some (sequel.End e)) o h = absurd (false≢true h)
 
 start_first-less : (p : ℕ) (dues : List Due) (n : ℕ) (o : Outcome) → Less p o (start_first dues n o)
 unfolding start_first start start_row

@@ -29,8 +29,8 @@ use Rattle.otp_rules.specs.declared.event.Kind.TheVariants as kind
 use Rattle.otp_rules.specs.declared.event.Waiting.{Waiting}
 use Rattle.otp_rules.specs.declared.event.Waiting.TheVariants as waiting
 use Rattle.otp_rules.specs.declared.work.Due.{Due}
-use Rattle.otp_rules.specs.declared.work.After.{After}
-use Rattle.otp_rules.specs.declared.work.After.TheVariants as after
+use Rattle.otp_rules.specs.declared.work.Sequel.{Sequel}
+use Rattle.otp_rules.specs.declared.work.Sequel.TheVariants as sequel
 use Rattle.otp_spec.specs.Flags.{is_simple}
 use Rattle.otp_rules.specs.State.{is_over, Outcome, State, answer, is_busy, put_last, with_rows, with_stamps, with_waiting, with_work}
 use Rattle.otp_rules.specs.Places.{at_number, end_row, end_process, set_row, is_removed}
@@ -315,7 +315,7 @@ terminate-known : (what : Kind) (s : State) (G : Item → Type 0) (e : Ending) (
 unfolding terminate terminate_together terminate_ordered
 terminate-known what s G e o h =
     by_test (AllKnown what s G) (is_simple o.state.flags.strategy) (terminate_together e o) (terminate_ordered e o)
-    (λ _. stop_each-known what s G (running o.state.rows) (calm_all (with_work [] [] (Some (after.End e)) o)) (calm-known what s G o.state.waiting o.state.rows h))
+    (λ _. stop_each-known what s G (running o.state.rows) (calm_all (with_work [] [] (Some (sequel.End e)) o)) (calm-known what s G o.state.waiting o.state.rows h))
     (λ _. calm-known what s G o.state.waiting o.state.rows h)
 
 restart-known : (what : Kind) (s : State) (G : Item → Type 0) (p place : ℕ) (row : Row) (o : Outcome) → StandsAt place row o → IsDone G o.state.waiting row → AllKnown what s G o → AllKnown what s G (restart p place row o)
@@ -502,15 +502,15 @@ AllTold what s G n o = Each (Told what s G n o.state.waiting) o.state.rows
 known-told : (what : Kind) (s : State) (G : Item → Type 0) (n : Option ℕ) → IsNewNumber n s.rows → (o : Outcome) → AllKnown what s G o → AllTold what s G n o
 known-told what s G n free o h = each-more (Known what s G o.state.waiting) (Told what s G n o.state.waiting) (λ row k. told-known what s G n o.state.waiting free row k) o.state.rows h
 
-follow-told : (what : Kind) (s : State) (G : Item → Type 0) (n : Option ℕ) (f : Option After) (o : Outcome) → AllTold what s G n o → AllTold what s G n (follow f o)
+follow-told : (what : Kind) (s : State) (G : Item → Type 0) (n : Option ℕ) (f : Option Sequel) (o : Outcome) → AllTold what s G n o → AllTold what s G n (follow f o)
 unfolding follow end_all refuse_all answer
 follow-told what s G n None o h = h
-follow-told what s G n (Some after.Ready) o h = h
-follow-told what s G n (Some after.Nothing) o h = h
-follow-told what s G n (Some (after.Added c)) o h = h
-follow-told what s G n (Some (after.Restarted c)) o h = h
-follow-told what s G n (Some (after.Stopped c)) o h = h
-follow-told what s G n (Some (after.End e)) o h = tt
+follow-told what s G n (Some sequel.Ready) o h = h
+follow-told what s G n (Some sequel.Nothing) o h = h
+follow-told what s G n (Some (sequel.Added c)) o h = h
+follow-told what s G n (Some (sequel.Restarted c)) o h = h
+follow-told what s G n (Some (sequel.Stopped c)) o h = h
+follow-told what s G n (Some (sequel.End e)) o h = tt
 
 undefined_home : (ws : List Waiting) (state : RowState) → is_undefined state ≡ true → is_home ws state ≡ true
 undefined_home ws Undefined h = refl
@@ -559,22 +559,22 @@ advance-told what s G n free o h =
     (λ _. by_test (AllTold what s G n) (list_any (row_has is_awaited) o.state.rows) o go (λ _. known-told what s G n free o h) (λ _. stop_first-told what s G n free o.state.to_stop o h))
     (λ _. known-told what s G n free o h)
 
+ends_it : (x : Note) (p : ℕ) → end_number x ≡ Some p → is_ended p (waiting.Item (item.Note x)) ≡ true
+ends_it (note.Up _) p h = absurd (search (rules, h))
+ends_it (note.Ignored q) p h = subst (λ (n : ℕ). (q == n) ≡ true) (ap (λ (o : Option ℕ). unwrap_or o q) h) (same_number q)
+ends_it (note.Failed q _) p h = subst (λ (n : ℕ). (q == n) ≡ true) (ap (λ (o : Option ℕ). unwrap_or o q) h) (same_number q)
+ends_it (note.Exit q _) p h = subst (λ (n : ℕ). (q == n) ≡ true) (ap (λ (o : Option ℕ). unwrap_or o q) h) (same_number q)
+
+pub first_ends : (ws : List Waiting) (x : Note) (p : ℕ) → IsFirst ws (item.Note x) → end_number x ≡ Some p → list_any (is_ended p) ws ≡ true
+first_ends [] x p first h = absurd first
+first_ends (w ∷ ws) x p first h = ap (λ (b : Bool). b || list_any (is_ended p) ws) (ap (λ (y : Waiting). is_ended p y) first ∙ ends_it x p h)
+
 -- what the event brings home
 brings_home : (s : State) (k : Kind) (old : Row) → (is_home s.waiting old.state ≡ true) ⊎ Ends (Brings k s.waiting) old → ComesHome s k old
 brings_home s k old (inl h) = inl h
 brings_home s (kind.Opened _) old (inr e) = absurd e.1
 brings_home s (kind.Took j) old (inr e) = inr (e.0, ap (λ (i : Item). kind.Took i) e.1, e.2)
 brings_home s kind.Resumed old (inr e) = inl (home_by s.waiting e.2.p old.state e.2.has (first_ends s.waiting e.0 e.2.p e.1 e.2.ends))
-  where
-    ends_it : (x : Note) (p : ℕ) → end_number x ≡ Some p → is_ended p (waiting.Item (item.Note x)) ≡ true
-    ends_it (note.Up _) p h = absurd (search (rules, h))
-    ends_it (note.Ignored q) p h = subst (λ (n : ℕ). (q == n) ≡ true) (ap (λ (o : Option ℕ). unwrap_or o q) h) (same_number q)
-    ends_it (note.Failed q _) p h = subst (λ (n : ℕ). (q == n) ≡ true) (ap (λ (o : Option ℕ). unwrap_or o q) h) (same_number q)
-    ends_it (note.Exit q _) p h = subst (λ (n : ℕ). (q == n) ≡ true) (ap (λ (o : Option ℕ). unwrap_or o q) h) (same_number q)
-
-    first_ends : (ws : List Waiting) (x : Note) (p : ℕ) → IsFirst ws (item.Note x) → end_number x ≡ Some p → list_any (is_ended p) ws ≡ true
-    first_ends [] x p first h = absurd first
-    first_ends (w ∷ ws) x p first h = ap (λ (b : Bool). b || list_any (is_ended p) ws) (ap (λ (y : Waiting). is_ended p y) first ∙ ends_it x p h)
 brings_home s kind.Ticked old (inr e) = absurd e.1
 brings_home s kind.Stopped old (inr e) = absurd e.1
 

@@ -20,7 +20,7 @@ use Rattle.otp_rules.specs.declared.event.Event.{Event}
 use Rattle.otp_rules.specs.declared.event.Kind.{Kind}
 use Rattle.otp_rules.specs.declared.event.Waiting.{Waiting}
 use Rattle.otp_rules.specs.declared.work.Due.{Due}
-use Rattle.otp_rules.specs.declared.work.After.{After}
+use Rattle.otp_rules.specs.declared.work.Sequel.{Sequel}
 use Rattle.otp_spec.specs.Flags.{is_simple}
 use Rattle.otp_rules.specs.State.{Outcome, State, answer, emit, is_busy, with_stamps, with_work}
 use Rattle.otp_rules.specs.Places.{at_row, at_number, end_row, set_row}
@@ -48,7 +48,7 @@ use Rattle.otp_rules.specs.declared.event.Effect.TheVariants as effect
 use Rattle.otp_rules.specs.declared.event.Item.TheVariants as item
 use Rattle.otp_rules.specs.declared.event.Kind.TheVariants as kind
 use Rattle.otp_rules.specs.declared.event.Waiting.TheVariants as waiting
-use Rattle.otp_rules.specs.declared.work.After.TheVariants as after
+use Rattle.otp_rules.specs.declared.work.Sequel.TheVariants as sequel
 
 -- orders of a kind that replies, Ready and End are of
 abbrev pub TakesReplies : (Effect → Type 0) → Type 0
@@ -60,27 +60,27 @@ refusals Q t (waiting.Item (item.Note x) ∷ ws) = refusals Q t ws
 refusals Q t (waiting.Item (item.Call c x) ∷ ws) = All-cons Q (effect.Reply c) (filter_map refusal ws) (t.0 c) (refusals Q t ws)
 refusals Q t (waiting.Retry k ∷ ws) = refusals Q t ws
 
-pub follow-orders : (Q : Effect → Type 0) → TakesReplies Q → (f : Option After) (o : Outcome) → All Q o.orders → All Q (follow f o).orders
+pub follow-orders : (Q : Effect → Type 0) → TakesReplies Q → (f : Option Sequel) (o : Outcome) → All Q o.orders → All Q (follow f o).orders
 unfolding follow end_all refuse_all answer
 follow-orders Q t None o h = h
-follow-orders Q t (Some after.Ready) o h = All-push Q o.orders effect.Ready h t.1
-follow-orders Q t (Some after.Nothing) o h = h
-follow-orders Q t (Some (after.Added c)) o h = All-push Q o.orders (effect.Reply c) h (t.0 c)
-follow-orders Q t (Some (after.Restarted c)) o h = All-push Q o.orders (effect.Reply c) h (t.0 c)
-follow-orders Q t (Some (after.Stopped c)) o h = All-push Q o.orders (effect.Reply c) h (t.0 c)
-follow-orders Q t (Some (after.End e)) o h =
+follow-orders Q t (Some sequel.Ready) o h = All-push Q o.orders effect.Ready h t.1
+follow-orders Q t (Some sequel.Nothing) o h = h
+follow-orders Q t (Some (sequel.Added c)) o h = All-push Q o.orders (effect.Reply c) h (t.0 c)
+follow-orders Q t (Some (sequel.Restarted c)) o h = All-push Q o.orders (effect.Reply c) h (t.0 c)
+follow-orders Q t (Some (sequel.Stopped c)) o h = All-push Q o.orders (effect.Reply c) h (t.0 c)
+follow-orders Q t (Some (sequel.End e)) o h =
     All-push Q (o.orders ++ filter_map refusal o.state.waiting) (effect.End (sup_end_of o.state.flags o.state.stamps e))
     (All-append Q o.orders (filter_map refusal o.state.waiting) h (refusals Q t o.state.waiting)) (t.2 (sup_end_of o.state.flags o.state.stamps e))
 
-pub follow-closes : (f : Option After) (o : Outcome) → o.state.follows ≡ f → is_some (follow f o).state.follows ≡ false
+pub follow-closes : (f : Option Sequel) (o : Outcome) → o.state.follows ≡ f → is_some (follow f o).state.follows ≡ false
 unfolding follow end_all refuse_all answer
-follow-closes None o is = ap (λ (x : Option After). is_some x) is
-follow-closes (Some after.Ready) o is = refl
-follow-closes (Some after.Nothing) o is = refl
-follow-closes (Some (after.Added c)) o is = refl
-follow-closes (Some (after.Restarted c)) o is = refl
-follow-closes (Some (after.Stopped c)) o is = refl
-follow-closes (Some (after.End e)) o is = refl
+follow-closes None o is = ap (λ (x : Option Sequel). is_some x) is
+follow-closes (Some sequel.Ready) o is = refl
+follow-closes (Some sequel.Nothing) o is = refl
+follow-closes (Some (sequel.Added c)) o is = refl
+follow-closes (Some (sequel.Restarted c)) o is = refl
+follow-closes (Some (sequel.Stopped c)) o is = refl
+follow-closes (Some (sequel.End e)) o is = refl
 
 -- orders that the open work may give: a stop in its turn, and each start, reply, Ready and End
 abbrev Allows : Progress → (Effect → Type 0) → Type 0
@@ -272,45 +272,45 @@ NoStop (effect.Kill _ _) = ⊥
 NoStop _ = Unit {0}
 
 -- dynamic children end together, in this event
-abbrev together_now : Option After → State → Bool
+abbrev together_now : Option Sequel → State → Bool
 together_now f s = ends_together s && is_opened f s.follows
 
 -- the decision itself tells no child to stop, but at a deadline and where dynamic children end together
-abbrev QuietIn : Kind → Option After → Outcome → Type 0
+abbrev QuietIn : Kind → Option Sequel → Outcome → Type 0
 QuietIn k f o = (k ≡ kind.Ticked → ⊥) → together_now f o.state ≡ false → All NoStop o.orders
 
 -- the same where nobody is told together
 abbrev Calm : Kind → Outcome → Type 0
 Calm k o = (k ≡ kind.Ticked → ⊥) → All NoStop o.orders
 
-answer-quiet : (k : Kind) (f : Option After) (c : ℕ) (r : Reply) (o : Outcome) → QuietIn k f o → QuietIn k f (answer c r o)
+answer-quiet : (k : Kind) (f : Option Sequel) (c : ℕ) (r : Reply) (o : Outcome) → QuietIn k f o → QuietIn k f (answer c r o)
 unfolding answer
 answer-quiet k f c r o h other apart = All-push NoStop o.orders (effect.Reply c) (h other apart) tt
 
-now_apart : (f : Option After) (s : State) → ends_together s ≡ false → together_now f s ≡ false
+now_apart : (f : Option Sequel) (s : State) → ends_together s ≡ false → together_now f s ≡ false
 now_apart f s apart = ap (λ (x : Bool). x && is_opened f s.follows) apart
 
-follows_apart : (f : Option After) (o : Outcome) (x : Option After) → is_end x ≡ false → o.state.follows ≡ x → together_now f o.state ≡ false
+follows_apart : (f : Option Sequel) (o : Outcome) (x : Option Sequel) → is_end x ≡ false → o.state.follows ≡ x → together_now f o.state ≡ false
 follows_apart f o x other is =
-    now_apart f o.state (ap (λ (y : Option After). is_end y && is_simple o.state.flags.strategy) is ∙ ap (λ (y : Bool). y && is_simple o.state.flags.strategy) other)
+    now_apart f o.state (ap (λ (y : Option Sequel). is_end y && is_simple o.state.flags.strategy) is ∙ ap (λ (y : Bool). y && is_simple o.state.flags.strategy) other)
 
-idle_apart : (b : Bool) (f : Option After) (o : Outcome) → IsIdle b o → together_now f o.state ≡ false
+idle_apart : (b : Bool) (f : Option Sequel) (o : Outcome) → IsIdle b o → together_now f o.state ≡ false
 idle_apart b f o idle = follows_apart f o None refl (no_after o.state.follows idle.1)
 
-end_row-quiet-in : (k : Kind) (f : Option After) (place : ℕ) (row : Row) (o : Outcome) → QuietIn k f o → QuietIn k f (end_row place row o)
+end_row-quiet-in : (k : Kind) (f : Option Sequel) (place : ℕ) (row : Row) (o : Outcome) → QuietIn k f o → QuietIn k f (end_row place row o)
 end_row-quiet-in k f place row o h other apart =
     let same : Alike (end_row place row o) o = end_row-alike place row o in
     subst (λ (xs : List Effect). All NoStop xs) (sym (end_row-quiet place row o).1)
-    (h other (sym (ap (λ (b : Bool). b && is_opened f (end_row place row o).state.follows) (apart-alike (end_row place row o) o same) ∙ ap (λ (y : Option After). ends_together o.state && is_opened f y) same.4) ∙ apart))
+    (h other (sym (ap (λ (b : Bool). b && is_opened f (end_row place row o).state.follows) (apart-alike (end_row place row o) o same) ∙ ap (λ (y : Option Sequel). ends_together o.state && is_opened f y) same.4) ∙ apart))
 
-terminate-quiet : (k : Kind) (f : Option After) (e : Ending) (o : Outcome) → is_opened f (Some (after.End e)) ≡ true → Calm k o → QuietIn k f (terminate e o)
+terminate-quiet : (k : Kind) (f : Option Sequel) (e : Ending) (o : Outcome) → is_opened f (Some (sequel.End e)) ≡ true → Calm k o → QuietIn k f (terminate e o)
 unfolding terminate terminate_ordered
 terminate-quiet k f e o opened h =
     by_test (QuietIn k f) (is_simple o.state.flags.strategy) (terminate_together e o) (terminate_ordered e o)
-    (λ simple other apart. absurd (false≢true (sym apart ∙ and_from (ends_together (terminate_together e o).state) (is_opened f (terminate_together e o).state.follows) (together e o simple) (ap (λ (x : Option After). is_opened f x) (together-follows e o) ∙ opened))))
+    (λ simple other apart. absurd (false≢true (sym apart ∙ and_from (ends_together (terminate_together e o).state) (is_opened f (terminate_together e o).state.follows) (together e o simple) (ap (λ (x : Option Sequel). is_opened f x) (together-follows e o) ∙ opened))))
     (λ plain other apart. h other)
 
-restart-quiet : (k : Kind) (f : Option After) (p place : ℕ) (row : Row) (o : Outcome) → is_opened f (Some (after.End ending.Intensity)) ≡ true → Calm k o → QuietIn k f (restart p place row o)
+restart-quiet : (k : Kind) (f : Option Sequel) (p place : ℕ) (row : Row) (o : Outcome) → is_opened f (Some (sequel.End ending.Intensity)) ≡ true → Calm k o → QuietIn k f (restart p place row o)
 unfolding restart restart_or_end restart_rows
 restart-quiet k f p place row o opened h =
     let counted : Outcome = with_stamps (o.state.stamps ++ o.state.last ∷ []) (set_row place row Undefined o) in
@@ -318,14 +318,14 @@ restart-quiet k f p place row o opened h =
     (λ _. terminate-quiet k f ending.Intensity counted opened h)
     (λ _ other apart. h other)
 
-open-quiet : (k : Kind) (f : Option After) (own : ℕ) (o : Outcome) → Calm k o → QuietIn k f (open_rows own o)
+open-quiet : (k : Kind) (f : Option Sequel) (own : ℕ) (o : Outcome) → Calm k o → QuietIn k f (open_rows own o)
 unfolding open_rows open_with
 open-quiet k f own o h other apart = h other
 
-quiet-survives : (k : Kind) (b : Bool) (f : Option After) (g : Progress) → b ≡ is_some f → Survives k b (λ o. Carried f (went_on k g) o × QuietIn k f o)
+quiet-survives : (k : Kind) (b : Bool) (f : Option Sequel) (g : Progress) → b ≡ is_some f → Survives k b (λ o. Carried f (went_on k g) o × QuietIn k f o)
 quiet-survives k b f g is_base =
     let s : Survives k b (Carried f (went_on k g)) = carried-survives k b f g is_base in
-    let ends_now : (e : Ending) → b ≡ false → is_opened f (Some (after.End e)) ≡ true = λ e idle. opens_none f b (Some (after.End e)) is_base idle refl in
+    let ends_now : (e : Ending) → b ≡ false → is_opened f (Some (sequel.End e)) ≡ true = λ e idle. opens_none f b (Some (sequel.End e)) is_base idle refl in
     record {
       answered = λ c r o x. (s.answered c r o x.0, answer-quiet k f c r o x.1);
       taken = λ w ws o idle runs is x. (s.taken w ws o idle runs is x.0, x.1);
@@ -333,15 +333,15 @@ quiet-survives k b f g is_base =
       exit_waits = λ p r o noted x. (s.exit_waits p r o noted x.0, x.1);
       up = λ p place row q kept o at is same noted x. (s.up p place row q kept o at is same noted x.0, x.1);
       up_closed = λ p place row q kept c o at is same follows x.
-          (s.up_closed p place row q kept c o at is same follows x.0, λ other _. x.1 other (⊎_elim (λ y. follows_apart f o (Some (after.Added c)) refl y) (λ y. follows_apart f o (Some (after.Restarted c)) refl y) follows));
+          (s.up_closed p place row q kept c o at is same follows x.0, λ other _. x.1 other (⊎_elim (λ y. follows_apart f o (Some (sequel.Added c)) refl y) (λ y. follows_apart f o (Some (sequel.Restarted c)) refl y) follows));
       ignored = λ p place row q kept o at is same noted x. (s.ignored p place row q kept o at is same noted x.0, end_row-quiet-in k f place row o x.1);
       opening_failed = λ place row q kept o runs at is follows x. (
         s.opening_failed place row q kept o runs at is follows x.0,
-        terminate-quiet k f (ending.InitFailed row.spec.id) (set_row place row Undefined o) (fails_opening f (ending.InitFailed row.spec.id) o.state x.0.1 follows) (λ other. x.1 other (follows_apart f o (Some after.Ready) refl follows)),
+        terminate-quiet k f (ending.InitFailed row.spec.id) (set_row place row Undefined o) (fails_opening f (ending.InitFailed row.spec.id) o.state x.0.1 follows) (λ other. x.1 other (follows_apart f o (Some sequel.Ready) refl follows)),
       );
-      restart_failed = λ place row q kept o at is follows x. (s.restart_failed place row q kept o at is follows x.0, λ other _. x.1 other (follows_apart f o (Some after.Nothing) refl follows));
-      added_failed = λ place row q kept c o at is follows x. (s.added_failed place row q kept c o at is follows x.0, λ other _. x.1 other (follows_apart f o (Some (after.Added c)) refl follows));
-      restarted_failed = λ place row q kept c o at is follows x. (s.restarted_failed place row q kept c o at is follows x.0, λ other _. x.1 other (follows_apart f o (Some (after.Restarted c)) refl follows));
+      restart_failed = λ place row q kept o at is follows x. (s.restart_failed place row q kept o at is follows x.0, λ other _. x.1 other (follows_apart f o (Some sequel.Nothing) refl follows));
+      added_failed = λ place row q kept c o at is follows x. (s.added_failed place row q kept c o at is follows x.0, λ other _. x.1 other (follows_apart f o (Some (sequel.Added c)) refl follows));
+      restarted_failed = λ place row q kept c o at is follows x. (s.restarted_failed place row q kept c o at is follows x.0, λ other _. x.1 other (follows_apart f o (Some (sequel.Restarted c)) refl follows));
       stopped = λ p r place row o at h noted x. (s.stopped p r place row o at h noted x.0, end_row-quiet-in k f place row o x.1);
       died = λ p place row o idle runs at is x. (s.died p place row o idle runs at is x.0, end_row-quiet-in k f place row o x.1);
       restarts = λ p place row o idle runs at h x.

@@ -6,8 +6,8 @@ use Rattle.std.proofs.lemmas.List.Elements.{All-nil, All-push}
 use Rattle.otp_rules.specs.declared.call.Reply.{Reply}
 use Rattle.otp_rules.specs.declared.event.Event.{Event}
 use Rattle.otp_rules.specs.declared.event.Kind.{Kind}
-use Rattle.otp_rules.specs.declared.work.After.{After}
-use Rattle.otp_rules.specs.declared.work.After.TheVariants as after
+use Rattle.otp_rules.specs.declared.work.Sequel.{Sequel}
+use Rattle.otp_rules.specs.declared.work.Sequel.TheVariants as sequel
 use Rattle.otp_rules.specs.State.{Outcome, State, answer, is_busy, with_stamps}
 use Rattle.otp_rules.specs.Ends.{refuse_all, end_all}
 use Rattle.otp_rules.specs.Work.{follow}
@@ -30,15 +30,15 @@ answered-keeps : (old : Outcome) (c : ℕ) (r : Reply) (o : Outcome) → Keeps o
 unfolding answer
 answered-keeps old c r o h = h
 
-followed-keeps : (old : Outcome) (f : Option After) (o : Outcome) → Keeps o old → Keeps (follow f o) old
+followed-keeps : (old : Outcome) (f : Option Sequel) (o : Outcome) → Keeps o old → Keeps (follow f o) old
 unfolding follow end_all refuse_all answer
 followed-keeps old None o h = h
-followed-keeps old (Some after.Ready) o h = h
-followed-keeps old (Some after.Nothing) o h = h
-followed-keeps old (Some (after.Added _)) o h = h
-followed-keeps old (Some (after.Restarted _)) o h = h
-followed-keeps old (Some (after.Stopped _)) o h = h
-followed-keeps old (Some (after.End _)) o h = h
+followed-keeps old (Some sequel.Ready) o h = h
+followed-keeps old (Some sequel.Nothing) o h = h
+followed-keeps old (Some (sequel.Added _)) o h = h
+followed-keeps old (Some (sequel.Restarted _)) o h = h
+followed-keeps old (Some (sequel.Stopped _)) o h = h
+followed-keeps old (Some (sequel.End _)) o h = h
 
 ticks-keeps : (old o : Outcome) → Keeps o old → Keeps (tick o) old
 unfolding tick

@@ -25,8 +25,8 @@ use Rattle.otp_rules.specs.declared.event.Kind.TheVariants as kind
 use Rattle.otp_rules.specs.declared.event.Waiting.{Waiting}
 use Rattle.otp_rules.specs.declared.event.Waiting.TheVariants as waiting
 use Rattle.otp_rules.specs.declared.call.Reply.{Reply}
-use Rattle.otp_rules.specs.declared.work.After.{After}
-use Rattle.otp_rules.specs.declared.work.After.TheVariants as after
+use Rattle.otp_rules.specs.declared.work.Sequel.{Sequel}
+use Rattle.otp_rules.specs.declared.work.Sequel.TheVariants as sequel
 use Rattle.otp_rules.specs.declared.work.Due.{Due}
 use Rattle.otp_spec.specs.Flags.{is_simple}
 use Rattle.otp_rules.specs.State.{Outcome, State, answer, is_busy, with_rows, with_stamps, with_waiting, with_work}
@@ -50,7 +50,7 @@ use Rattle.otp_rules.proofs.Counting.{none_in, remove_count, rows_in-cons, set_c
 use Rattle.otp_rules.proofs.EndedRows.{IsBare, run-bare, step-bare}
 use Rattle.otp_rules.proofs.Finishing.{AreOne, Finishes, IsFinishing, Stops, advance-finishes, decided-finishing, used-stops}
 use Rattle.otp_rules.proofs.Heard.{Waits, answer-less, end-less, exit_put, open-less, tell-less, tick-less, use_exit-less}
-use Rattle.otp_rules.proofs.Homes.{has_starting, or_right, quiet_more, same_number, told_has, waits_there}
+use Rattle.otp_rules.proofs.Homes.{first_ends, has_starting, or_right, quiet_more, same_number, told_has, waits_there}
 use Rattle.otp_rules.proofs.Numbers.{affected_in_order, counted_length, numbered-distinct, told_process, unnumbered-distinct}
 use Rattle.otp_rules.proofs.Sound.{empty-sound}
 use Rattle.otp_rules.proofs.StartTurn.{pairs_first, pairs_rest}
@@ -201,7 +201,7 @@ unfolding terminate terminate_together terminate_ordered
 terminate-lasts D slot p e o h =
     let calm : Has D slot p (calm_rows o.state.rows) = has_more D slot p o.state.rows (calm_rows o.state.rows) (omega (arith, calm-lives slot p o.state.rows)) h.1 in
     by_test (Lasts D slot p) (is_simple o.state.flags.strategy) (terminate_together e o) (terminate_ordered e o)
-    (λ _. stop_each-lasts D slot p (running o.state.rows) (calm_all (with_work [] [] (Some (after.End e)) o)) (h.0, calm))
+    (λ _. stop_each-lasts D slot p (running o.state.rows) (calm_all (with_work [] [] (Some (sequel.End e)) o)) (h.0, calm))
     (λ _. (h.0, calm))
 
 restarted-lives : (slot p from to : ℕ) (rows : List Row) → from ≤ to → lives slot p rows ≤ lives slot p (take from rows ++ calm_rows (slice_range rows from to) ++ drop to rows)
@@ -320,15 +320,15 @@ live_counts slot p (row ∷ rows) =
     one (Killed x) b = omega (arith, at_most (b && (x == p)))
     one (Restarting _) b = omega (arith, with_slot b false)
 
-follow-lasts : (D : Type 0) (slot p : ℕ) (f : Option After) (o : Outcome) → (is_end f ≡ true → lives slot p o.state.rows ≡ 0) → Lasts D slot p o → Lasts D slot p (follow f o)
+follow-lasts : (D : Type 0) (slot p : ℕ) (f : Option Sequel) (o : Outcome) → (is_end f ≡ true → lives slot p o.state.rows ≡ 0) → Lasts D slot p o → Lasts D slot p (follow f o)
 unfolding follow end_all refuse_all answer
 follow-lasts D slot p None o none h = h
-follow-lasts D slot p (Some after.Ready) o none h = h
-follow-lasts D slot p (Some after.Nothing) o none h = h
-follow-lasts D slot p (Some (after.Added c)) o none h = h
-follow-lasts D slot p (Some (after.Restarted c)) o none h = h
-follow-lasts D slot p (Some (after.Stopped c)) o none h = h
-follow-lasts D slot p (Some (after.End e)) o none h = (λ w. absurd (false≢true w), ⊎_elim (λ (some : 0 < lives slot p o.state.rows). absurd (omega (arith, some, none refl))) (λ d. inr d) h.1)
+follow-lasts D slot p (Some sequel.Ready) o none h = h
+follow-lasts D slot p (Some sequel.Nothing) o none h = h
+follow-lasts D slot p (Some (sequel.Added c)) o none h = h
+follow-lasts D slot p (Some (sequel.Restarted c)) o none h = h
+follow-lasts D slot p (Some (sequel.Stopped c)) o none h = h
+follow-lasts D slot p (Some (sequel.End e)) o none h = (λ w. absurd (false≢true w), ⊎_elim (λ (some : 0 < lives slot p o.state.rows). absurd (omega (arith, some, none refl))) (λ d. inr d) h.1)
 
 start_first-lasts : (D : Type 0) (slot p : ℕ) (dues : List Due) (n : ℕ) (o : Outcome) → (is_end o.state.follows ≡ true → lives slot p o.state.rows ≡ 0) → Lasts D slot p o → Lasts D slot p (start_first dues n o)
 unfolding start_first start start_row
@@ -406,16 +406,6 @@ counts_contain t (x ∷ xs) h =
     let r : (row : Row) × Contains xs row × (t row ≡ true) = counts_contain t xs (omega (arith, none, h, sum_by-cons (λ (r : Row). cond (t r) 1 0) x xs)) in
     (r.0, (suc r.1.0, omega (arith, r.1.1), r.1.2), r.2))
     (cases_Bool (t x))
-
-ends_it : (x : Note) (p : ℕ) → end_number x ≡ Some p → is_ended p (waiting.Item (item.Note x)) ≡ true
-ends_it (note.Up _) p h = absurd (search (rules, h))
-ends_it (note.Ignored q) p h = subst (λ (n : ℕ). (q == n) ≡ true) (ap (λ (o : Option ℕ). unwrap_or o q) h) (same_number q)
-ends_it (note.Failed q _) p h = subst (λ (n : ℕ). (q == n) ≡ true) (ap (λ (o : Option ℕ). unwrap_or o q) h) (same_number q)
-ends_it (note.Exit q _) p h = subst (λ (n : ℕ). (q == n) ≡ true) (ap (λ (o : Option ℕ). unwrap_or o q) h) (same_number q)
-
-first_ends : (ws : List Waiting) (x : Note) (p : ℕ) → IsFirst ws (item.Note x) → end_number x ≡ Some p → list_any (is_ended p) ws ≡ true
-first_ends [] x p first h = absurd first
-first_ends (w ∷ ws) x p first h = ap (λ (b : Bool). b || list_any (is_ended p) ws) (ap (λ (y : Waiting). is_ended p y) first ∙ ends_it x p h)
 
 ended_then : (s : State) (k : Kind) (p : ℕ) → (x : Note) × Brings k s.waiting (item.Note x) × (end_number x ≡ Some p) → HasEnded s k p
 ended_then s (kind.Opened own) p h = absurd h.1

@@ -24,8 +24,8 @@ use Rattle.otp_rules.specs.declared.event.Waiting.{Waiting}
 use Rattle.otp_rules.specs.declared.event.Waiting.TheVariants as waiting
 use Rattle.otp_rules.specs.declared.event.Kind.{Kind}
 use Rattle.otp_rules.specs.declared.work.Due.{Due}
-use Rattle.otp_rules.specs.declared.work.After.{After}
-use Rattle.otp_rules.specs.declared.work.After.TheVariants as after
+use Rattle.otp_rules.specs.declared.work.Sequel.{Sequel}
+use Rattle.otp_rules.specs.declared.work.Sequel.TheVariants as sequel
 use Rattle.otp_spec.specs.Flags.{is_simple}
 use Rattle.otp_rules.specs.State.{Outcome, State, answer, is_busy, with_rows, with_stamps, with_waiting, with_work}
 use Rattle.otp_rules.specs.Places.{at_row, end_row, end_process, set_row, is_removed}
@@ -107,7 +107,7 @@ terminate-held : (n : ℕ) (e : Ending) (old o : Outcome) → Held n old o → H
 unfolding terminate terminate_together terminate_ordered
 terminate-held n e old o h =
     by_test (Held n old) (is_simple o.state.flags.strategy) (terminate_together e o) (terminate_ordered e o)
-    (λ _. stop_each-held n (running o.state.rows) old (calm_all (with_work [] [] (Some (after.End e)) o)) ((λ q. omega (arith, h.0 q, calm_process q o.state.rows)), h.1))
+    (λ _. stop_each-held n (running o.state.rows) old (calm_all (with_work [] [] (Some (sequel.End e)) o)) ((λ q. omega (arith, h.0 q, calm_process q o.state.rows)), h.1))
     (λ _. ((λ q. omega (arith, h.0 q, calm_process q o.state.rows)), h.1))
 
 restart-held : (n p place : ℕ) (row : Row) (old o : Outcome) → StandsAt place row o → Held n old o → Held n old (restart p place row o)
@@ -224,15 +224,15 @@ refusals-held n old (w ∷ ws) =
         subst G (ap (λ (z : Option Effect). unwrap_or z e) is) (unnamed n old (effect.Reply c) refl)
     refusal_held (waiting.Retry y) e is = absurd (search (rules, is))
 
-follow-held : (n : ℕ) (old : Outcome) (f : Option After) (o : Outcome) → All (IsHeld n old) o.orders → All (IsHeld n old) (follow f o).orders
+follow-held : (n : ℕ) (old : Outcome) (f : Option Sequel) (o : Outcome) → All (IsHeld n old) o.orders → All (IsHeld n old) (follow f o).orders
 unfolding follow end_all refuse_all answer
 follow-held n old None o h = h
-follow-held n old (Some after.Ready) o h = All-push (IsHeld n old) o.orders effect.Ready h (unnamed n old effect.Ready refl)
-follow-held n old (Some after.Nothing) o h = h
-follow-held n old (Some (after.Added c)) o h = All-push (IsHeld n old) o.orders (effect.Reply c) h (unnamed n old (effect.Reply c) refl)
-follow-held n old (Some (after.Restarted c)) o h = All-push (IsHeld n old) o.orders (effect.Reply c) h (unnamed n old (effect.Reply c) refl)
-follow-held n old (Some (after.Stopped c)) o h = All-push (IsHeld n old) o.orders (effect.Reply c) h (unnamed n old (effect.Reply c) refl)
-follow-held n old (Some (after.End e)) o h =
+follow-held n old (Some sequel.Ready) o h = All-push (IsHeld n old) o.orders effect.Ready h (unnamed n old effect.Ready refl)
+follow-held n old (Some sequel.Nothing) o h = h
+follow-held n old (Some (sequel.Added c)) o h = All-push (IsHeld n old) o.orders (effect.Reply c) h (unnamed n old (effect.Reply c) refl)
+follow-held n old (Some (sequel.Restarted c)) o h = All-push (IsHeld n old) o.orders (effect.Reply c) h (unnamed n old (effect.Reply c) refl)
+follow-held n old (Some (sequel.Stopped c)) o h = All-push (IsHeld n old) o.orders (effect.Reply c) h (unnamed n old (effect.Reply c) refl)
+follow-held n old (Some (sequel.End e)) o h =
     let more : All (IsHeld n old) (o.orders ++ filter_map refusal o.state.waiting) = All-append (IsHeld n old) o.orders (filter_map refusal o.state.waiting) h (refusals-held n old o.state.waiting) in
     All-push (IsHeld n old) (o.orders ++ filter_map refusal o.state.waiting) (effect.End (sup_end_of o.state.flags o.state.stamps e)) more (unnamed n old (effect.End (sup_end_of o.state.flags o.state.stamps e)) refl)
 

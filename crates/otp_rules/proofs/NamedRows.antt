@@ -22,7 +22,7 @@ use Rattle.otp_rules.specs.declared.event.Item.{Item}
 use Rattle.otp_rules.specs.declared.event.Kind.{Kind}
 use Rattle.otp_rules.specs.declared.event.Waiting.{Waiting}
 use Rattle.otp_rules.specs.declared.event.Waiting.TheVariants as waiting
-use Rattle.otp_rules.specs.declared.work.After.TheVariants as after
+use Rattle.otp_rules.specs.declared.work.Sequel.TheVariants as sequel
 use Rattle.otp_rules.specs.declared.work.Due.{Due}
 use Rattle.otp_spec.specs.Flags.{is_simple}
 use Rattle.otp_rules.specs.State.{Outcome, State, answer, closed, emit, is_busy, put_last, with_rows, with_stamps, with_waiting, with_work}
@@ -171,7 +171,7 @@ nothing-tells new none = subst (λ (xs : List Effect). All (Has is_told new.stat
 terminate-tells : (e : Ending) (o : Outcome) → o.orders ≡ [] → Tells (terminate e o)
 unfolding terminate terminate_together terminate_ordered
 terminate-tells e o none =
-    let begun : Outcome = calm_all (with_work [] [] (Some (after.End e)) o) in
+    let begun : Outcome = calm_all (with_work [] [] (Some (sequel.End e)) o) in
     by_test Tells (is_simple o.state.flags.strategy) (terminate_together e o) (terminate_ordered e o)
     (λ _. told-tells (terminate_together e o) (stop_each-told (running o.state.rows) begun (subst (λ (xs : List Effect). All (IsTold begun) xs) (sym none) (λ j d within. absurd (omega (arith, within))))))
     (λ _. nothing-tells (terminate_ordered e o) none)
@@ -232,7 +232,7 @@ tells-survive k G old none =
       ticks = λ is h. tick-tells old none;
       opens = λ own is over h. nothing-tells (open_rows own old) (open-orders (λ (xs : List Effect). xs ≡ []) own old none);
       adds = λ c id spec o u idle runs named few got h.
-          nothing-tells (with_work [] (record { id = id; kept = None } ∷ []) (Some (after.Added c)) (with_rows (o.state.rows ++ new_row (free_slot o.state.rows) id spec ∷ []) o)) (u.0 ∙ none);
+          nothing-tells (with_work [] (record { id = id; kept = None } ∷ []) (Some (sequel.Added c)) (with_rows (o.state.rows ++ new_row (free_slot o.state.rows) id spec ∷ []) o)) (u.0 ∙ none);
       starts_again = λ c id place row o u idle runs at has is h. h;
       removed = λ place row o u idle runs at down h. still (with_rows (remove o.state.rows place) o) o refl u;
       given_up = λ place row o u idle runs at down h. still (set_row place row Undefined o) o refl u;

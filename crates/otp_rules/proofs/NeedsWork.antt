@@ -22,8 +22,8 @@ use Rattle.otp_rules.specs.declared.event.Kind.{Kind}
 use Rattle.otp_rules.specs.declared.event.Waiting.{Waiting}
 use Rattle.otp_rules.specs.declared.event.Waiting.TheVariants as waiting
 use Rattle.otp_rules.specs.declared.work.Due.{Due}
-use Rattle.otp_rules.specs.declared.work.After.{After}
-use Rattle.otp_rules.specs.declared.work.After.TheVariants as after
+use Rattle.otp_rules.specs.declared.work.Sequel.{Sequel}
+use Rattle.otp_rules.specs.declared.work.Sequel.TheVariants as sequel
 use Rattle.otp_spec.specs.Flags.{is_simple}
 use Rattle.otp_rules.specs.State.{Outcome, answer, closed, is_busy, with_rows, with_waiting, with_work}
 use Rattle.otp_rules.specs.Places.{at_row, end_row, end_process, is_removed, set_row}
@@ -95,15 +95,15 @@ end_all-quiet : (e : Ending) (o : Outcome) → Starts false o → Starts false (
 unfolding end_all refuse_all
 end_all-quiet e o h = starts_pushed (o.orders ++ filter_map refusal o.state.waiting) _ false (starts_after o.orders (filter_map refusal o.state.waiting) false h (quiet_refusals o.state.waiting)) refl
 
-follow-quiet : (f : Option After) (o : Outcome) → Starts false o → Starts false (follow f o)
+follow-quiet : (f : Option Sequel) (o : Outcome) → Starts false o → Starts false (follow f o)
 unfolding follow
 follow-quiet None o h = h
-follow-quiet (Some after.Ready) o h = starts_pushed o.orders effect.Ready false h refl
-follow-quiet (Some after.Nothing) o h = h
-follow-quiet (Some (after.Added c)) o h = answer-quiet c reply.OkUndefined (closed o) h
-follow-quiet (Some (after.Restarted c)) o h = answer-quiet c reply.OkUndefined (closed o) h
-follow-quiet (Some (after.Stopped c)) o h = answer-quiet c reply.Ok (closed o) h
-follow-quiet (Some (after.End e)) o h = end_all-quiet e o h
+follow-quiet (Some sequel.Ready) o h = starts_pushed o.orders effect.Ready false h refl
+follow-quiet (Some sequel.Nothing) o h = h
+follow-quiet (Some (sequel.Added c)) o h = answer-quiet c reply.OkUndefined (closed o) h
+follow-quiet (Some (sequel.Restarted c)) o h = answer-quiet c reply.OkUndefined (closed o) h
+follow-quiet (Some (sequel.Stopped c)) o h = answer-quiet c reply.Ok (closed o) h
+follow-quiet (Some (sequel.End e)) o h = end_all-quiet e o h
 
 started-quiet : (due : Due) (n : ℕ) (o : Outcome) → Starts false o → Starts false (at_row (is_due due) o (start_row due n) o)
 unfolding start_row
@@ -173,7 +173,7 @@ terminate-quiet : (e : Ending) (o : Outcome) → Starts false o → Starts false
 unfolding terminate terminate_together terminate_ordered
 terminate-quiet e o h =
     elim (is_simple o.state.flags.strategy) as (λ b. Starts false (if b then terminate_together e o else terminate_ordered e o)) [
-      | true ↦ stop_each-quiet (running o.state.rows) (calm_all (with_work [] [] (Some (after.End e)) o)) h
+      | true ↦ stop_each-quiet (running o.state.rows) (calm_all (with_work [] [] (Some (sequel.End e)) o)) h
       | false ↦ h
     ]
 

@@ -20,7 +20,7 @@ use Rattle.otp_rules.specs.declared.ending.Ending.{Ending}
 use Rattle.otp_rules.specs.declared.event.Event.{Event}
 use Rattle.otp_rules.specs.declared.event.Kind.{Kind}
 use Rattle.otp_rules.specs.declared.work.Due.{Due}
-use Rattle.otp_rules.specs.declared.work.After.{After}
+use Rattle.otp_rules.specs.declared.work.Sequel.{Sequel}
 use Rattle.otp_spec.specs.Flags.{is_simple}
 use Rattle.otp_rules.specs.State.{Outcome, State, answer, is_busy, with_rows, with_stamps, with_waiting, with_work}
 use Rattle.otp_rules.specs.Places.{at_row, end_row, end_process, set_row}
@@ -41,7 +41,7 @@ use Rattle.std.proofs.lemmas.List.{length-set}
 use Rattle.otp_rules.specs.Needs.{is_start, needs_number}
 use Rattle.otp_rules.specs.declared.ending.Ending.TheVariants as ending
 use Rattle.otp_rules.specs.declared.event.Effect.TheVariants as effect
-use Rattle.otp_rules.specs.declared.work.After.TheVariants as after
+use Rattle.otp_rules.specs.declared.work.Sequel.TheVariants as sequel
 
 -- how many rows have this process
 abbrev pub holders : ℕ → Outcome → ℕ
@@ -119,7 +119,7 @@ pub terminate-no_more : (e : Ending) (old o : Outcome) → NoMore old o → NoMo
 unfolding terminate terminate_together terminate_ordered
 terminate-no_more e old o h =
     by_test (NoMore old) (is_simple o.state.flags.strategy) (terminate_together e o) (terminate_ordered e o)
-    (λ _. stop_each-no_more (running o.state.rows) old (calm_all (with_work [] [] (Some (after.End e)) o)) (λ q. omega (arith, h q, calm_process q o.state.rows)))
+    (λ _. stop_each-no_more (running o.state.rows) old (calm_all (with_work [] [] (Some (sequel.End e)) o)) (λ q. omega (arith, h q, calm_process q o.state.rows)))
     (λ _ q. omega (arith, h q, calm_process q o.state.rows))
 
 pub restart_rows-no_more : (from to place k : ℕ) (old o : Outcome) → from ≤ to → NoMore old o → NoMore old (restart_rows from to place k o)
@@ -224,15 +224,15 @@ started-grown due n o =
     or_true true = refl
     or_true false = refl
 
-pub follow-no_more : (f : Option After) (o : Outcome) → NoMore o (follow f o)
+pub follow-no_more : (f : Option Sequel) (o : Outcome) → NoMore o (follow f o)
 unfolding follow end_all refuse_all answer
 follow-no_more None o q = omega arith
-follow-no_more (Some after.Ready) o q = omega arith
-follow-no_more (Some after.Nothing) o q = omega arith
-follow-no_more (Some (after.Added c)) o q = omega arith
-follow-no_more (Some (after.Restarted c)) o q = omega arith
-follow-no_more (Some (after.Stopped c)) o q = omega arith
-follow-no_more (Some (after.End e)) o q = omega arith
+follow-no_more (Some sequel.Ready) o q = omega arith
+follow-no_more (Some sequel.Nothing) o q = omega arith
+follow-no_more (Some (sequel.Added c)) o q = omega arith
+follow-no_more (Some (sequel.Restarted c)) o q = omega arith
+follow-no_more (Some (sequel.Stopped c)) o q = omega arith
+follow-no_more (Some (sequel.End e)) o q = omega arith
 
 start_first-grown : (dues : List Due) (n : ℕ) (o : Outcome) → Grown n o (start_first dues n o)
 unfolding start_first

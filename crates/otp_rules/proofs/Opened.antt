@@ -29,7 +29,7 @@ use Rattle.otp_rules.specs.declared.event.Event.{Event}
 use Rattle.otp_rules.specs.declared.event.Kind.{Kind}
 use Rattle.otp_rules.specs.declared.event.Kind.TheVariants as kind
 use Rattle.otp_rules.specs.declared.work.Due.{Due}
-use Rattle.otp_rules.specs.declared.work.After.{After}
+use Rattle.otp_rules.specs.declared.work.Sequel.{Sequel}
 use Rattle.otp_spec.specs.Flags.{is_simple}
 use Rattle.otp_rules.specs.State.{Outcome, State, answer, closed, put_last, with_rows, with_stamps, with_waiting, with_work}
 use Rattle.otp_rules.specs.Places.{end_row, is_temporary, set_row}
@@ -48,38 +48,38 @@ use Rattle.otp_rules.proofs.Stopping.{Carried, apart-alike, carried-survives, wa
 use Rattle.otp_rules.proofs.WhileOpen.{Tracks, fails_opening, no_after, opens_none, restart-busy, terminate-follows}
 use Rattle.otp_rules.specs.declared.ending.Ending.TheVariants as ending
 use Rattle.otp_rules.specs.declared.event.Waiting.TheVariants as waiting
-use Rattle.otp_rules.specs.declared.work.After.TheVariants as after
+use Rattle.otp_rules.specs.declared.work.Sequel.TheVariants as sequel
 
 -- work that has just been opened awaits no answer and has the lists of its children
 abbrev IsFresh : State → Type 0
 IsFresh s = (rows_in is_awaited s.rows ≡ 0) × IsListed s
 
-abbrev Fresh : Kind → Option After → Outcome → Type 0
+abbrev Fresh : Kind → Option Sequel → Outcome → Type 0
 Fresh k f o =
     IsSound o.state × Tracks f o.state
     × ((k ≡ kind.Ticked → ⊥) → is_opened f o.state.follows ≡ true → ends_together o.state ≡ false → IsFresh o.state)
 
 -- where no work is open, none was opened
-pub opens_nothing : (f : Option After) → is_opened f None ≡ false
+pub opens_nothing : (f : Option Sequel) → is_opened f None ≡ false
 opens_nothing None = refl
-opens_nothing (Some after.Ready) = refl
-opens_nothing (Some after.Nothing) = refl
-opens_nothing (Some (after.Added _)) = refl
-opens_nothing (Some (after.Restarted _)) = refl
-opens_nothing (Some (after.Stopped _)) = refl
-opens_nothing (Some (after.End _)) = refl
+opens_nothing (Some sequel.Ready) = refl
+opens_nothing (Some sequel.Nothing) = refl
+opens_nothing (Some (sequel.Added _)) = refl
+opens_nothing (Some (sequel.Restarted _)) = refl
+opens_nothing (Some (sequel.Stopped _)) = refl
+opens_nothing (Some (sequel.End _)) = refl
 
-idle-fresh : (k : Kind) (f : Option After) (new : Outcome) → new.state.follows ≡ None → IsSound new.state → Fresh k f new
+idle-fresh : (k : Kind) (f : Option Sequel) (new : Outcome) → new.state.follows ≡ None → IsSound new.state → Fresh k f new
 idle-fresh k f new idle sound =
-    (sound, inr (inl idle), λ _ opened. absurd (false≢true (sym (opens_nothing f) ∙ sym (ap (λ (x : Option After). is_opened f x) idle) ∙ opened)))
+    (sound, inr (inl idle), λ _ opened. absurd (false≢true (sym (opens_nothing f) ∙ sym (ap (λ (x : Option Sequel). is_opened f x) idle) ∙ opened)))
 
 -- while an answer is awaited no work has just been opened
-awaits-fresh : (k : Kind) (f : Option After) (place : ℕ) (row : Row) (o new : Outcome) → StandsAt place row o → is_awaited row.state ≡ true → Alike new o → IsSound new.state → Fresh k f o → Fresh k f new
+awaits-fresh : (k : Kind) (f : Option Sequel) (place : ℕ) (row : Row) (o new : Outcome) → StandsAt place row o → is_awaited row.state ≡ true → Alike new o → IsSound new.state → Fresh k f o → Fresh k f new
 awaits-fresh k f place row o new at awaits same sound x = (
   sound,
-  subst (λ (y : Option After). (y ≡ f) ⊎ ((y ≡ None) ⊎ (is_opened f y ≡ true))) (sym same.4) x.1,
+  subst (λ (y : Option Sequel). (y ≡ f) ⊎ ((y ≡ None) ⊎ (is_opened f y ≡ true))) (sym same.4) x.1,
   λ other opened plain.
-      let had : IsFresh o.state = x.2 other (ap (λ (y : Option After). is_opened f y) (sym same.4) ∙ opened) (sym (apart-alike new o same) ∙ plain) in
+      let had : IsFresh o.state = x.2 other (ap (λ (y : Option Sequel). is_opened f y) (sym same.4) ∙ opened) (sym (apart-alike new o same) ∙ plain) in
       let one : ◌≡◌ {A = ℕ} (cond (is_awaited row.state) 1 0) 1 = ap (λ (b : Bool). cond b 1 0) awaits in
       absurd (omega (arith, rows_in-at is_awaited place row o.state.rows at, one, had.0)),
 )
@@ -261,15 +261,15 @@ restarted-listed place k row o at none =
       ),
     )
 
-pub together-follows : (e : Ending) (o : Outcome) → (terminate_together e o).state.follows ≡ Some (after.End e)
+pub together-follows : (e : Ending) (o : Outcome) → (terminate_together e o).state.follows ≡ Some (sequel.End e)
 unfolding terminate_together
-together-follows e o = (stop_each-alike (running o.state.rows) (calm_all (with_work [] [] (Some (after.End e)) o))).4
+together-follows e o = (stop_each-alike (running o.state.rows) (calm_all (with_work [] [] (Some (sequel.End e)) o))).4
 
 pub together : (e : Ending) (o : Outcome) → is_simple o.state.flags.strategy ≡ true → ends_together (terminate_together e o).state ≡ true
 unfolding terminate_together
 together e o simple =
-    apart-alike (stop_each (running o.state.rows) (calm_all (with_work [] [] (Some (after.End e)) o))) (calm_all (with_work [] [] (Some (after.End e)) o))
-    (stop_each-alike (running o.state.rows) (calm_all (with_work [] [] (Some (after.End e)) o)))
+    apart-alike (stop_each (running o.state.rows) (calm_all (with_work [] [] (Some (sequel.End e)) o))) (calm_all (with_work [] [] (Some (sequel.End e)) o))
+    (stop_each-alike (running o.state.rows) (calm_all (with_work [] [] (Some (sequel.End e)) o)))
     ∙ simple
 
 -- the end's work, but that of dynamic children
@@ -327,7 +327,7 @@ opened-listed own o =
 
 -- a child that is added
 added-listed : (c : ℕ) (id : Option Name) (spec : ChildSpec) (o : Outcome) → rows_in is_awaited o.state.rows ≡ 0
-    → IsFresh (with_work [] (record { id = id; kept = None } ∷ []) (Some (after.Added c)) (with_rows (o.state.rows ++ new_row (free_slot o.state.rows) id spec ∷ []) o)).state
+    → IsFresh (with_work [] (record { id = id; kept = None } ∷ []) (Some (sequel.Added c)) (with_rows (o.state.rows ++ new_row (free_slot o.state.rows) id spec ∷ []) o)).state
 added-listed c id spec o none =
     let row : Row = new_row (free_slot o.state.rows) id spec in (
       omega (arith, rows_in-append is_awaited o.state.rows (row ∷ []), rows_in-cons is_awaited row [], none),
@@ -349,7 +349,7 @@ same_id id None h = absurd (false≢true h)
 same_id id (Some name) h = ap (λ (bytes : List ℕ). Some bytes) (sym ((bytes_eq-Decides (name_bytes name) (name_bytes id)).0 h))
 
 again-listed : (c : ℕ) (id : Name) (place : ℕ) (row : Row) (o : Outcome) → StandsAt place row o → has_id id row ≡ true → row.state ≡ Undefined → rows_in is_awaited o.state.rows ≡ 0
-    → IsFresh (with_work [] (record { id = Some id; kept = None } ∷ []) (Some (after.Restarted c)) o).state
+    → IsFresh (with_work [] (record { id = Some id; kept = None } ∷ []) (Some (sequel.Restarted c)) o).state
 again-listed c id place row o at has down none =
     let nobody : processes (row ∷ []) ≡ [] = ap (λ (s : RowState). cons_option (process_number s) []) down in (
       none,
@@ -408,7 +408,7 @@ process_in p (x ∷ rows) (suc i) row at is = more (process_number x.state) (pro
     more (Some m) h = omega (arith, h, times-cons p m (processes rows))
 
 -- a child that is stopped
-stopped-listed : (c p place : ℕ) (row : Row) (o : Outcome) → StandsAt place row o → row.state ≡ Up p → rows_in is_awaited o.state.rows ≡ 0 → IsFresh (with_work (p ∷ []) [] (Some (after.Stopped c)) o).state
+stopped-listed : (c p place : ℕ) (row : Row) (o : Outcome) → StandsAt place row o → row.state ≡ Up p → rows_in is_awaited o.state.rows ≡ 0 → IsFresh (with_work (p ∷ []) [] (Some (sequel.Stopped c)) o).state
 stopped-listed c p place row o at up none =
     let there : IsIn p (processes o.state.rows) = process_in p o.state.rows place row at (ap process_number up) in
     let it : (place : ℕ) × (row : Row) × (slice_get o.state.rows place ≡ Some row) × (process_number row.state ≡ Some p) × (earlier : List ℕ) × (later : List ℕ) × (processes o.state.rows ≡ earlier ++ p ∷ later) × (IsIn p later → ⊥) = has_last p o.state.rows there in
@@ -450,7 +450,7 @@ down_calm place row state o at calm few =
     let z : ◌≡◌ {A = ℕ} (cond (is_awaited state) 1 0) 0 = ap (λ (b : Bool). cond b 1 0) calm in
     omega (arith, e, z, few)
 
-answer-fresh : (k : Kind) (f : Option After) (c : ℕ) (r : Reply) (o : Outcome) → Fresh k f o → IsSound (answer c r o).state → Fresh k f (answer c r o)
+answer-fresh : (k : Kind) (f : Option Sequel) (c : ℕ) (r : Reply) (o : Outcome) → Fresh k f o → IsSound (answer c r o).state → Fresh k f (answer c r o)
 unfolding answer
 answer-fresh k f c r o x sound = (sound, x.1, x.2)
 
@@ -468,7 +468,7 @@ restart-fresh p place row o at none =
     (λ _ _. restarted-listed place p row counted here calm)
 
 -- work opens where none was open
-opens-fresh : (k : Kind) (b : Bool) (f : Option After) (o new : Outcome) → b ≡ is_some f → b ≡ false → is_some new.state.follows ≡ true → IsSound new.state → (ends_together new.state ≡ false → IsFresh new.state) → Fresh k f new
+opens-fresh : (k : Kind) (b : Bool) (f : Option Sequel) (o new : Outcome) → b ≡ is_some f → b ≡ false → is_some new.state.follows ≡ true → IsSound new.state → (ends_together new.state ≡ false → IsFresh new.state) → Fresh k f new
 opens-fresh k b f o new is idle busy sound h = (sound, inr (inr (opens_none f b new.state.follows is idle busy)), λ _ _. h)
 
 pub open_rows-busy : (own : ℕ) (o : Outcome) → is_some (open_rows own o).state.follows ≡ true
@@ -479,7 +479,7 @@ pub tick-follows : (o : Outcome) → (tick o).state.follows ≡ o.state.follows
 unfolding tick
 tick-follows o = refl
 
-fresh-survives : (k : Kind) (b : Bool) (f : Option After) → b ≡ is_some f → Survives k b (Fresh k f)
+fresh-survives : (k : Kind) (b : Bool) (f : Option Sequel) → b ≡ is_some f → Survives k b (Fresh k f)
 fresh-survives k b f is_base =
     let s : Survives k b (λ o. IsSound o.state) = sound-survives k b in
     record {
@@ -492,9 +492,9 @@ fresh-survives k b f is_base =
       ignored = λ p place row q kept o at is same noted x. awaits-fresh k f place row o (end_row place row o) at (starting row q kept is) (end_row-alike place row o) (s.ignored p place row q kept o at is same noted x.0) x;
       opening_failed = λ place row q kept o runs at is follows x. (
         s.opening_failed place row q kept o runs at is follows x.0,
-        inr (inr (ap (λ (y : Option After). is_opened f y) (terminate-follows (ending.InitFailed row.spec.id) (set_row place row Undefined o)) ∙ fails_opening f (ending.InitFailed row.spec.id) o.state x.1 follows)),
+        inr (inr (ap (λ (y : Option Sequel). is_opened f y) (terminate-follows (ending.InitFailed row.spec.id) (set_row place row Undefined o)) ∙ fails_opening f (ending.InitFailed row.spec.id) o.state x.1 follows)),
         λ _ _ plain.
-            let few : rows_in is_awaited o.state.rows ≤ 1 = subst (λ (y : Option After). IsLimited y (rows_in is_awaited o.state.rows)) follows x.0.0 in
+            let few : rows_in is_awaited o.state.rows ≤ 1 = subst (λ (y : Option Sequel). IsLimited y (rows_in is_awaited o.state.rows)) follows x.0.0 in
             let one : ◌≡◌ {A = ℕ} (cond (is_awaited row.state) 1 0) 1 = ap (λ (t : Bool). cond t 1 0) (starting row q kept is) in
             ended-listed (ending.InitFailed row.spec.id) (set_row place row Undefined o) (down_calm place row Undefined o at refl (omega (arith, few, one))) plain,
       );
@@ -506,20 +506,20 @@ fresh-survives k b f is_base =
       restarts = λ p place row o idle runs at h x.
           opens-fresh k b f o (restart p place row o) is_base idle.0 (restart-busy p place row o) (s.restarts p place row o idle runs at h x.0) (restart-fresh p place row o at (awaits_nothing b o idle x.0));
       ends = λ e o other idle runs x.
-          opens-fresh k b f o (terminate e o) is_base idle.0 (ap (λ (y : Option After). is_some y) (terminate-follows e o)) (s.ends e o other idle runs x.0) (ended-listed e o (awaits_nothing b o idle x.0));
-      ticks = λ o is x. (s.ticks o is x.0, subst (λ (y : Option After). (y ≡ f) ⊎ ((y ≡ None) ⊎ (is_opened f y ≡ true))) (sym (tick-follows o)) x.1, λ other. absurd (other is));
+          opens-fresh k b f o (terminate e o) is_base idle.0 (ap (λ (y : Option Sequel). is_some y) (terminate-follows e o)) (s.ends e o other idle runs x.0) (ended-listed e o (awaits_nothing b o idle x.0));
+      ticks = λ o is x. (s.ticks o is x.0, subst (λ (y : Option Sequel). (y ≡ f) ⊎ ((y ≡ None) ⊎ (is_opened f y ≡ true))) (sym (tick-follows o)) x.1, λ other. absurd (other is));
       opens = λ own o is link over x.
           opens-fresh k b f o (open_rows own o) is_base (sym link ∙ x.0.3 over) (open_rows-busy own o) (s.opens own o is link over x.0) (λ _. opened-listed own o);
       adds = λ c id spec o idle runs named x.
-          opens-fresh k b f o (with_work [] (record { id = id; kept = None } ∷ []) (Some (after.Added c)) (with_rows (o.state.rows ++ new_row (free_slot o.state.rows) id spec ∷ []) o)) is_base idle.0 refl (s.adds c id spec o idle runs named x.0)
+          opens-fresh k b f o (with_work [] (record { id = id; kept = None } ∷ []) (Some (sequel.Added c)) (with_rows (o.state.rows ++ new_row (free_slot o.state.rows) id spec ∷ []) o)) is_base idle.0 refl (s.adds c id spec o idle runs named x.0)
           (λ _. added-listed c id spec o (awaits_nothing b o idle x.0));
       starts_again = λ c id place row o idle runs at h is x.
-          opens-fresh k b f o (with_work [] (record { id = Some id; kept = None } ∷ []) (Some (after.Restarted c)) o) is_base idle.0 refl (s.starts_again c id place row o idle runs at h is x.0)
+          opens-fresh k b f o (with_work [] (record { id = Some id; kept = None } ∷ []) (Some (sequel.Restarted c)) o) is_base idle.0 refl (s.starts_again c id place row o idle runs at h is x.0)
           (λ _. again-listed c id place row o at h is (awaits_nothing b o idle x.0));
       removed = λ place row o idle runs at h x. idle-fresh k f (with_rows (remove o.state.rows place) o) (no_after o.state.follows idle.1) (s.removed place row o idle runs at h x.0);
       given_up = λ place row o idle runs at h x. idle-fresh k f (set_row place row Undefined o) (no_after o.state.follows idle.1) (s.given_up place row o idle runs at h x.0);
       stops_child = λ c p place row o idle runs at h x.
-          opens-fresh k b f o (with_work (p ∷ []) [] (Some (after.Stopped c)) o) is_base idle.0 refl (s.stops_child c p place row o idle runs at h x.0)
+          opens-fresh k b f o (with_work (p ∷ []) [] (Some (sequel.Stopped c)) o) is_base idle.0 refl (s.stops_child c p place row o idle runs at h x.0)
           (λ _. ⊎_elim
           (λ awaits.
           let one : ◌≡◌ {A = ℕ} (cond (is_awaited row.state) 1 0) 1 = ap (λ (y : Bool). cond y 1 0) awaits in
@@ -528,18 +528,18 @@ fresh-survives k b f is_base =
     }
 
 -- an event that ticks opens no work
-pub opens_not_again : (f : Option After) → is_opened f f ≡ false
+pub opens_not_again : (f : Option Sequel) → is_opened f f ≡ false
 opens_not_again None = refl
-opens_not_again (Some after.Ready) = refl
-opens_not_again (Some after.Nothing) = refl
-opens_not_again (Some (after.Added _)) = refl
-opens_not_again (Some (after.Restarted _)) = refl
-opens_not_again (Some (after.Stopped _)) = refl
-opens_not_again (Some (after.End _)) = refl
+opens_not_again (Some sequel.Ready) = refl
+opens_not_again (Some sequel.Nothing) = refl
+opens_not_again (Some (sequel.Added _)) = refl
+opens_not_again (Some (sequel.Restarted _)) = refl
+opens_not_again (Some (sequel.Stopped _)) = refl
+opens_not_again (Some (sequel.End _)) = refl
 
 ticked_opens_none : (s : State) (e : Event) → e.kind ≡ kind.Ticked → is_opened s.follows (decided s e).follows ≡ false
 unfolding decide
-ticked_opens_none s e is = ap (λ (k : Kind). is_opened s.follows (decide k (record { state = stamped e.reading s; orders = [] })).state.follows) is ∙ ap (λ (f : Option After). is_opened s.follows f) (tick-follows (record { state = stamped e.reading s; orders = [] })) ∙ opens_not_again s.follows
+ticked_opens_none s e is = ap (λ (k : Kind). is_opened s.follows (decide k (record { state = stamped e.reading s; orders = [] })).state.follows) is ∙ ap (λ (f : Option Sequel). is_opened s.follows f) (tick-follows (record { state = stamped e.reading s; orders = [] })) ∙ opens_not_again s.follows
 
 -- the work that an event opens
 decided-listed : (s : State) (e : Event) → IsSound s → is_opened s.follows (decided s e).follows ≡ true → ends_together (decided s e) ≡ false → IsListed (decided s e)

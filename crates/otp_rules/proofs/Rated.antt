@@ -8,7 +8,7 @@ use Rattle.otp_rules.specs.declared.call.Reply.{Reply}
 use Rattle.otp_rules.specs.declared.ending.Ending.{Ending}
 use Rattle.otp_rules.specs.declared.event.Event.{Event}
 use Rattle.otp_rules.specs.declared.event.Kind.{Kind}
-use Rattle.otp_rules.specs.declared.work.After.{After}
+use Rattle.otp_rules.specs.declared.work.Sequel.{Sequel}
 use Rattle.otp_rules.specs.declared.work.Phase.TheVariants.{Ended}
 use Rattle.otp_rules.specs.State.{Outcome, State, answer, is_over, own_number}
 use Rattle.otp_rules.specs.Ends.{refuse_all, end_all}
@@ -22,22 +22,22 @@ use Rattle.otp_rules.proofs.Decisions.{IsIdle, IsRunning}
 use Rattle.otp_rules.proofs.Period.{IsBounded-push}
 use Rattle.otp_rules.proofs.Steady.{Steady, step-steady}
 use Rattle.otp_rules.specs.declared.ending.Ending.TheVariants as ending
-use Rattle.otp_rules.specs.declared.work.After.TheVariants as after
+use Rattle.otp_rules.specs.declared.work.Sequel.TheVariants as sequel
 
 -- the stamps are in order and keep the rate
 abbrev Good : Outcome → Type 0
 Good o = IsStamped o.state × IsRated o.state
 
 -- what follows the open work is another end, or none
-other_work : (s : State) (f : Option After) → s.follows ≡ f → is_some f ≡ true → (f ≡ Some (after.End ending.Intensity) → ⊥) → EndsByIntensity s → ⊥
+other_work : (s : State) (f : Option Sequel) → s.follows ≡ f → is_some f ≡ true → (f ≡ Some (sequel.End ending.Intensity) → ⊥) → EndsByIntensity s → ⊥
 other_work s f is busy other (inl h) = other (sym is ∙ h)
-other_work s f is busy other (inr (own, h, k)) = false≢true (sym (ap (λ (x : Option After). is_some x) (sym is ∙ h)) ∙ busy)
+other_work s f is busy other (inr (own, h, k)) = false≢true (sym (ap (λ (x : Option Sequel). is_some x) (sym is ∙ h)) ∙ busy)
 
-no_end : (f : After) → is_end (Some f) ≡ false → Some f ≡ Some (after.End ending.Intensity) → ⊥
+no_end : (f : Sequel) → is_end (Some f) ≡ false → Some f ≡ Some (sequel.End ending.Intensity) → ⊥
 no_end f stays h = false≢true (sym stays ∙ ap is_end h)
 
 idle_not_ending : (b : Bool) (o : Outcome) → IsIdle b o → IsRunning o → EndsByIntensity o.state → ⊥
-idle_not_ending b o idle runs (inl e) = false≢true (sym idle.1 ∙ ap (λ (f : Option After). is_some f) e)
+idle_not_ending b o idle runs (inl e) = false≢true (sym idle.1 ∙ ap (λ (f : Option Sequel). is_some f) e)
 idle_not_ending b o idle runs (inr (own, e, p)) = false≢true (sym runs ∙ ap is_over p)
 
 -- a supervisor that doesn't end by intensity
@@ -56,20 +56,20 @@ answered-good : (c : ℕ) (r : Reply) (o : Outcome) → Good o → Good (answer 
 unfolding answer
 answered-good c r o g = g
 
-followed-good : (f : Option After) (o : Outcome) → o.state.follows ≡ f → Good o → Good (follow f o)
+followed-good : (f : Option Sequel) (o : Outcome) → o.state.follows ≡ f → Good o → Good (follow f o)
 unfolding follow end_all refuse_all answer
 followed-good None o e g = g
-followed-good (Some after.Ready) o e g = (g.0, inl (bounded o.state (other_work o.state (Some after.Ready) e refl (λ h. cc)) g.1))
-followed-good (Some after.Nothing) o e g = (g.0, inl (bounded o.state (other_work o.state (Some after.Nothing) e refl (λ h. cc)) g.1))
-followed-good (Some (after.Added c)) o e g = (g.0, inl (bounded o.state (other_work o.state (Some (after.Added c)) e refl (λ h. cc)) g.1))
-followed-good (Some (after.Restarted c)) o e g = (g.0, inl (bounded o.state (other_work o.state (Some (after.Restarted c)) e refl (λ h. cc)) g.1))
-followed-good (Some (after.Stopped c)) o e g = (g.0, inl (bounded o.state (other_work o.state (Some (after.Stopped c)) e refl (λ h. cc)) g.1))
-followed-good (Some (after.End x)) o e g =
-    (g.0, rated-as (follow (Some (after.End x)) o).state o.state refl refl (λ h. inr (own_number o.state.phase, refl, ap (λ (y : Ending). Ended (own_number o.state.phase) y) (ends_so h))) g.1)
+followed-good (Some sequel.Ready) o e g = (g.0, inl (bounded o.state (other_work o.state (Some sequel.Ready) e refl (λ h. cc)) g.1))
+followed-good (Some sequel.Nothing) o e g = (g.0, inl (bounded o.state (other_work o.state (Some sequel.Nothing) e refl (λ h. cc)) g.1))
+followed-good (Some (sequel.Added c)) o e g = (g.0, inl (bounded o.state (other_work o.state (Some (sequel.Added c)) e refl (λ h. cc)) g.1))
+followed-good (Some (sequel.Restarted c)) o e g = (g.0, inl (bounded o.state (other_work o.state (Some (sequel.Restarted c)) e refl (λ h. cc)) g.1))
+followed-good (Some (sequel.Stopped c)) o e g = (g.0, inl (bounded o.state (other_work o.state (Some (sequel.Stopped c)) e refl (λ h. cc)) g.1))
+followed-good (Some (sequel.End x)) o e g =
+    (g.0, rated-as (follow (Some (sequel.End x)) o).state o.state refl refl (λ h. inr (own_number o.state.phase, refl, ap (λ (y : Ending). Ended (own_number o.state.phase) y) (ends_so h))) g.1)
   where
     ends_so : EndsByIntensity o.state → x ≡ ending.Intensity
-    ends_so (inl k) = let l : ◌≡◌ {A = Option After} (Some (after.End x)) (Some (after.End ending.Intensity)) = sym e ∙ k in cc
-    ends_so (inr (n, k, l)) = absurd (let m : ◌≡◌ {A = Option After} (Some (after.End x)) None = sym e ∙ k in cc)
+    ends_so (inl k) = let l : ◌≡◌ {A = Option Sequel} (Some (sequel.End x)) (Some (sequel.End ending.Intensity)) = sym e ∙ k in cc
+    ends_so (inr (n, k, l)) = absurd (let m : ◌≡◌ {A = Option Sequel} (Some (sequel.End x)) None = sym e ∙ k in cc)
 
 ticks-good : (o : Outcome) → Good o → Good (tick o)
 unfolding tick
@@ -92,7 +92,7 @@ steady k b =
       opens = λ ps ds f o idle runs stays g. (g.0, inl (bounded o.state (idle_not_ending b o idle runs) g.1));
       ends = λ ps e o other when g. (
         g.0,
-        inl (bounded o.state (⊎_elim (λ (rests : IsIdle b o × IsRunning o). idle_not_ending b o rests.0 rests.1) (λ (ready : o.state.follows ≡ Some after.Ready). other_work o.state (Some after.Ready) ready refl (λ h. cc)) when) g.1),
+        inl (bounded o.state (⊎_elim (λ (rests : IsIdle b o × IsRunning o). idle_not_ending b o rests.0 rests.1) (λ (ready : o.state.follows ≡ Some sequel.Ready). other_work o.state (Some sequel.Ready) ready refl (λ h. cc)) when) g.1),
       );
       exceeds = λ ps o idle runs many g. (counted o g.0, inr (o.state.stamps, o.state.last, refl, bounded o.state (idle_not_ending b o idle runs) g.1, inl refl));
       restarts = λ ps ds o idle runs few g. (

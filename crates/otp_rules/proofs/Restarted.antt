@@ -16,8 +16,8 @@ use Rattle.otp_rules.specs.declared.event.Event.{Event}
 use Rattle.otp_rules.specs.declared.event.Item.TheVariants as item
 use Rattle.otp_rules.specs.declared.event.Kind.{Kind}
 use Rattle.otp_rules.specs.declared.event.Waiting.TheVariants as waiting
-use Rattle.otp_rules.specs.declared.work.After.{After}
-use Rattle.otp_rules.specs.declared.work.After.TheVariants as after
+use Rattle.otp_rules.specs.declared.work.Sequel.{Sequel}
+use Rattle.otp_rules.specs.declared.work.Sequel.TheVariants as sequel
 use Rattle.otp_spec.specs.Flags.{is_simple}
 use Rattle.otp_rules.specs.State.{Outcome, State, answer, closed, put_last, with_rows, with_stamps, with_waiting, with_work}
 use Rattle.otp_rules.specs.Places.{end_row, set_row}
@@ -42,35 +42,35 @@ use Rattle.otp_rules.proofs.Keeps.{decide-keeps}
 use Rattle.otp_rules.proofs.Rated.{restart_rate_law}
 
 -- the stamps are those of the restarts so far, where this was to follow the open work when the event came
-abbrev IsCounted : Option After → List ℕ → State → Type 0
+abbrev IsCounted : Option Sequel → List ℕ → State → Type 0
 IsCounted f times s = s.stamps ≡ restarts_by f s.follows s.last times
 
 -- and while an answer is awaited no work that ends nobody has just been opened
-abbrev Counted : Option After → List ℕ → Outcome → Type 0
+abbrev Counted : Option Sequel → List ℕ → Outcome → Type 0
 Counted f times o =
     IsSound o.state × Tracks f o.state
     × (is_opened f o.state.follows ≡ true → is_end o.state.follows ≡ false → rows_in is_awaited o.state.rows ≡ 0)
     × IsCounted f times o.state
 
 -- where no work was opened
-not_opened : (f x : Option After) (now : ℕ) (times : List ℕ) → is_opened f x ≡ false → restarts_by f x now times ≡ times
+not_opened : (f x : Option Sequel) (now : ℕ) (times : List ℕ) → is_opened f x ≡ false → restarts_by f x now times ≡ times
 not_opened f x now times closed_still = cond_both (is_opened f x) (restarted x now times) times (λ ts. ts ≡ times) (λ yes. absurd (false≢true (sym closed_still ∙ yes))) (λ _. refl)
 
-was_opened : (f x : Option After) (now : ℕ) (times : List ℕ) → is_opened f x ≡ true → restarts_by f x now times ≡ restarted x now times
+was_opened : (f x : Option Sequel) (now : ℕ) (times : List ℕ) → is_opened f x ≡ true → restarts_by f x now times ≡ restarted x now times
 was_opened f x now times opened = cond_both (is_opened f x) (restarted x now times) times (λ ts. ts ≡ restarted x now times) (λ _. refl) (λ no. absurd (false≢true (sym no ∙ opened)))
 
 -- no work is open: none was opened
-idle-counted : (f : Option After) (times : List ℕ) (new : Outcome) → new.state.follows ≡ None → IsSound new.state → new.state.stamps ≡ times → Counted f times new
+idle-counted : (f : Option Sequel) (times : List ℕ) (new : Outcome) → new.state.follows ≡ None → IsSound new.state → new.state.stamps ≡ times → Counted f times new
 idle-counted f times new idle sound is =
-    let nothing : is_opened f new.state.follows ≡ false = ap (λ (x : Option After). is_opened f x) idle ∙ opens_nothing f in
+    let nothing : is_opened f new.state.follows ≡ false = ap (λ (x : Option Sequel). is_opened f x) idle ∙ opens_nothing f in
     (sound, inr (inl idle), (λ opened. absurd (false≢true (sym nothing ∙ opened))), is ∙ sym (not_opened f new.state.follows new.state.last times nothing))
 
 -- the stamps of a state in which no work is open, or an answer is awaited
-rests : (b : Bool) (f : Option After) (times : List ℕ) (o : Outcome) → IsIdle b o → Counted f times o → o.state.stamps ≡ times
+rests : (b : Bool) (f : Option Sequel) (times : List ℕ) (o : Outcome) → IsIdle b o → Counted f times o → o.state.stamps ≡ times
 rests b f times o idle x =
-    x.3 ∙ not_opened f o.state.follows o.state.last times (ap (λ (y : Option After). is_opened f y) (no_after o.state.follows idle.1) ∙ opens_nothing f)
+    x.3 ∙ not_opened f o.state.follows o.state.last times (ap (λ (y : Option Sequel). is_opened f y) (no_after o.state.follows idle.1) ∙ opens_nothing f)
 
-awaits : (f : Option After) (times : List ℕ) (place : ℕ) (row : Row) (o : Outcome) → StandsAt place row o → is_awaited row.state ≡ true → is_end o.state.follows ≡ false → Counted f times o → o.state.stamps ≡ times
+awaits : (f : Option Sequel) (times : List ℕ) (place : ℕ) (row : Row) (o : Outcome) → StandsAt place row o → is_awaited row.state ≡ true → is_end o.state.follows ≡ false → Counted f times o → o.state.stamps ≡ times
 awaits f times place row o at awaited stays x =
     ⊎_elim
     (λ yes. absurd (
@@ -80,25 +80,25 @@ awaits f times place row o at awaited stays x =
     (cases_Bool (is_opened f o.state.follows))
 
 -- the work stays as it is
-still-counted : (f : Option After) (times : List ℕ) (o new : Outcome) → Alike new o → IsSound new.state → rows_in is_awaited new.state.rows ≤ rows_in is_awaited o.state.rows → Counted f times o → Counted f times new
+still-counted : (f : Option Sequel) (times : List ℕ) (o new : Outcome) → Alike new o → IsSound new.state → rows_in is_awaited new.state.rows ≤ rows_in is_awaited o.state.rows → Counted f times o → Counted f times new
 still-counted f times o new same sound fewer x = (
   sound,
-  subst (λ (y : Option After). (y ≡ f) ⊎ ((y ≡ None) ⊎ (is_opened f y ≡ true))) (sym same.4) x.1,
+  subst (λ (y : Option Sequel). (y ≡ f) ⊎ ((y ≡ None) ⊎ (is_opened f y ≡ true))) (sym same.4) x.1,
   (λ opened stays.
-      let none : rows_in is_awaited o.state.rows ≡ 0 = x.2 (ap (λ (y : Option After). is_opened f y) (sym same.4) ∙ opened) (ap is_end (sym same.4) ∙ stays) in
+      let none : rows_in is_awaited o.state.rows ≡ 0 = x.2 (ap (λ (y : Option Sequel). is_opened f y) (sym same.4) ∙ opened) (ap is_end (sym same.4) ∙ stays) in
       omega (arith, fewer, none)),
-  same.5 ∙ x.3 ∙ sym (ap (λ (y : Option After). restarts_by f y new.state.last times) same.4 ∙ ap (λ (n : ℕ). restarts_by f o.state.follows n times) same.6),
+  same.5 ∙ x.3 ∙ sym (ap (λ (y : Option Sequel). restarts_by f y new.state.last times) same.4 ∙ ap (λ (n : ℕ). restarts_by f o.state.follows n times) same.6),
 )
 
 -- work opens where none was open
-opens-counted : (b : Bool) (f : Option After) (times : List ℕ) (new : Outcome) → b ≡ is_some f → b ≡ false → is_some new.state.follows ≡ true → IsSound new.state → (is_end new.state.follows ≡ false → rows_in is_awaited new.state.rows ≡ 0)
+opens-counted : (b : Bool) (f : Option Sequel) (times : List ℕ) (new : Outcome) → b ≡ is_some f → b ≡ false → is_some new.state.follows ≡ true → IsSound new.state → (is_end new.state.follows ≡ false → rows_in is_awaited new.state.rows ≡ 0)
     → new.state.stamps ≡ restarted new.state.follows new.state.last times → Counted f times new
 opens-counted b f times new is idle busy sound calm stamps =
     let opened : is_opened f new.state.follows ≡ true = opens_none f b new.state.follows is idle busy in
     (sound, inr (inr opened), (λ _. calm), stamps ∙ sym (was_opened f new.state.follows new.state.last times opened))
 
 -- an end that isn't one restart too many
-other_end : (e : Ending) (now : ℕ) (times : List ℕ) → (e ≡ ending.Intensity → ⊥) → restarted (Some (after.End e)) now times ≡ times
+other_end : (e : Ending) (now : ℕ) (times : List ℕ) → (e ≡ ending.Intensity → ⊥) → restarted (Some (sequel.End e)) now times ≡ times
 other_end ending.Intensity now times other = absurd (other refl)
 other_end (ending.Significant _) now times other = refl
 other_end ending.Asked now times other = refl
@@ -108,15 +108,15 @@ other_end (ending.InitFailed _) now times other = refl
 abbrev HasTimes : List ℕ → ℕ → Outcome → Type 0
 HasTimes stamps last x = (x.state.stamps ≡ stamps) × (x.state.last ≡ last)
 
-follow-times : (stamps : List ℕ) (last : ℕ) (f : Option After) (o : Outcome) → HasTimes stamps last o → HasTimes stamps last (follow f o)
+follow-times : (stamps : List ℕ) (last : ℕ) (f : Option Sequel) (o : Outcome) → HasTimes stamps last o → HasTimes stamps last (follow f o)
 unfolding follow end_all refuse_all answer
 follow-times stamps last None o h = h
-follow-times stamps last (Some after.Ready) o h = h
-follow-times stamps last (Some after.Nothing) o h = h
-follow-times stamps last (Some (after.Added _)) o h = h
-follow-times stamps last (Some (after.Restarted _)) o h = h
-follow-times stamps last (Some (after.Stopped _)) o h = h
-follow-times stamps last (Some (after.End _)) o h = h
+follow-times stamps last (Some sequel.Ready) o h = h
+follow-times stamps last (Some sequel.Nothing) o h = h
+follow-times stamps last (Some (sequel.Added _)) o h = h
+follow-times stamps last (Some (sequel.Restarted _)) o h = h
+follow-times stamps last (Some (sequel.Stopped _)) o h = h
+follow-times stamps last (Some (sequel.End _)) o h = h
 
 -- open work and an end restart nobody
 going : (stamps : List ℕ) (last : ℕ) → Goes (HasTimes stamps last)
@@ -125,21 +125,21 @@ going stamps last = record { rows = λ rows o h. h; waiting = λ items o h. h; l
 terminate-times : (e : Ending) (o : Outcome) → HasTimes o.state.stamps o.state.last (terminate e o)
 terminate-times e o = terminate-goes (HasTimes o.state.stamps o.state.last) (going o.state.stamps o.state.last) e o (λ ps. (refl, refl))
 
-ended-counted : (f : Option After) (times : List ℕ) (e : Ending) (o : Outcome) → is_opened f (Some (after.End e)) ≡ true → IsSound (terminate e o).state → o.state.stamps ≡ restarted (Some (after.End e)) o.state.last times → Counted f times (terminate e o)
+ended-counted : (f : Option Sequel) (times : List ℕ) (e : Ending) (o : Outcome) → is_opened f (Some (sequel.End e)) ≡ true → IsSound (terminate e o).state → o.state.stamps ≡ restarted (Some (sequel.End e)) o.state.last times → Counted f times (terminate e o)
 ended-counted f times e o opened sound stamps =
-    let ends : (terminate e o).state.follows ≡ Some (after.End e) = terminate-follows e o in
-    let opens : is_opened f (terminate e o).state.follows ≡ true = ap (λ (x : Option After). is_opened f x) ends ∙ opened in
+    let ends : (terminate e o).state.follows ≡ Some (sequel.End e) = terminate-follows e o in
+    let opens : is_opened f (terminate e o).state.follows ≡ true = ap (λ (x : Option Sequel). is_opened f x) ends ∙ opened in
     let same : ((terminate e o).state.stamps ≡ o.state.stamps) × ((terminate e o).state.last ≡ o.state.last) = terminate-times e o in (
       sound,
       inr (inr opens),
       (λ _ stays. absurd (false≢true (sym stays ∙ ap is_end ends))),
       same.0 ∙ stamps
           ∙ sym (was_opened f (terminate e o).state.follows (terminate e o).state.last times opens
-          ∙ ap (λ (x : Option After). restarted x (terminate e o).state.last times) ends
-          ∙ ap (λ (n : ℕ). restarted (Some (after.End e)) n times) same.1),
+          ∙ ap (λ (x : Option Sequel). restarted x (terminate e o).state.last times) ends
+          ∙ ap (λ (n : ℕ). restarted (Some (sequel.End e)) n times) same.1),
     )
 
-opened-restart : (b : Bool) (f : Option After) (times : List ℕ) (from to place k : ℕ) (o : Outcome) → b ≡ is_some f → b ≡ false → IsSound (restart_rows from to place k o).state → rows_in is_awaited o.state.rows ≡ 0 → o.state.stamps ≡ times ++ o.state.last ∷ []
+opened-restart : (b : Bool) (f : Option Sequel) (times : List ℕ) (from to place k : ℕ) (o : Outcome) → b ≡ is_some f → b ≡ false → IsSound (restart_rows from to place k o).state → rows_in is_awaited o.state.rows ≡ 0 → o.state.stamps ≡ times ++ o.state.last ∷ []
     → Counted f times (restart_rows from to place k o)
 unfolding restart_rows
 opened-restart b f times from to place k o is idle sound none stamps =
@@ -151,7 +151,7 @@ opened-restart b f times from to place k o is idle sound none stamps =
     stamps
 
 -- a restart counts once
-restart-counted : (b : Bool) (f : Option After) (times : List ℕ) (p place : ℕ) (row : Row) (o : Outcome) → b ≡ is_some f → b ≡ false → StandsAt place row o → rows_in is_awaited o.state.rows ≡ 0 → o.state.stamps ≡ times → IsSound (restart p place row o).state
+restart-counted : (b : Bool) (f : Option Sequel) (times : List ℕ) (p place : ℕ) (row : Row) (o : Outcome) → b ≡ is_some f → b ≡ false → StandsAt place row o → rows_in is_awaited o.state.rows ≡ 0 → o.state.stamps ≡ times → IsSound (restart p place row o).state
     → Counted f times (restart p place row o)
 unfolding restart restart_or_end
 restart-counted b f times p place row o is idle at none stamps =
@@ -161,29 +161,29 @@ restart-counted b f times p place row o is idle at none stamps =
     let more : o.state.stamps ++ o.state.last ∷ [] ≡ times ++ o.state.last ∷ [] = ap (λ (ts : List ℕ). ts ++ o.state.last ∷ []) stamps in
     by_test (λ x. IsSound x.state → Counted f times x) (nat_lt o.state.flags.intensity (in_period o.state.flags.period (o.state.stamps ++ o.state.last ∷ []) o.state.last))
     (terminate ending.Intensity counted) (restart_rows from to place p counted)
-    (λ _ sound. ended-counted f times ending.Intensity counted (opens_none f b (Some (after.End ending.Intensity)) is idle refl) sound more)
+    (λ _ sound. ended-counted f times ending.Intensity counted (opens_none f b (Some (sequel.End ending.Intensity)) is idle refl) sound more)
     (λ _ sound. opened-restart b f times from to place p counted is idle sound (down_calm place row Undefined o at refl (omega (arith, none))) more)
 
 fewer : (place : ℕ) (row : Row) (o : Outcome) → StandsAt place row o → rows_in is_awaited (end_row place row o).state.rows ≤ rows_in is_awaited o.state.rows
 fewer place row o at = let e : rows_in is_awaited (end_row place row o).state.rows + cond (is_awaited row.state) 1 0 ≡ rows_in is_awaited o.state.rows = rows_in-end is_awaited refl place row o at in omega (arith, e)
 
-answer-counted : (f : Option After) (times : List ℕ) (c : ℕ) (r : Reply) (o : Outcome) → IsSound (answer c r o).state → Counted f times o → Counted f times (answer c r o)
+answer-counted : (f : Option Sequel) (times : List ℕ) (c : ℕ) (r : Reply) (o : Outcome) → IsSound (answer c r o).state → Counted f times o → Counted f times (answer c r o)
 unfolding answer
 answer-counted f times c r o sound x = (sound, x.1, x.2, x.3)
 
-tick-counted : (f : Option After) (times : List ℕ) (o : Outcome) → IsSound (tick o).state → rows_in is_awaited (tick o).state.rows ≡ rows_in is_awaited o.state.rows → Counted f times o → Counted f times (tick o)
+tick-counted : (f : Option Sequel) (times : List ℕ) (o : Outcome) → IsSound (tick o).state → rows_in is_awaited (tick o).state.rows ≡ rows_in is_awaited o.state.rows → Counted f times o → Counted f times (tick o)
 unfolding tick
 tick-counted f times o sound same x = still-counted f times o (tick o) (alike o) sound (omega (arith, same)) x
 
-open-counted : (b : Bool) (f : Option After) (times : List ℕ) (own : ℕ) (o : Outcome) → b ≡ is_some f → b ≡ false → IsSound (open_rows own o).state → Counted f times (open_rows own o)
+open-counted : (b : Bool) (f : Option Sequel) (times : List ℕ) (own : ℕ) (o : Outcome) → b ≡ is_some f → b ≡ false → IsSound (open_rows own o).state → Counted f times (open_rows own o)
 unfolding open_rows open_with
 open-counted b f times own o is idle sound =
     opens-counted b f times (open_rows own o) is idle refl sound (λ _. new-awaited 0 (opening_specs (is_simple o.state.flags.strategy) o.state.specs)) refl
 
-counted-survives : (k : Kind) (b : Bool) (f : Option After) (times : List ℕ) → b ≡ is_some f → Survives k b (Counted f times)
+counted-survives : (k : Kind) (b : Bool) (f : Option Sequel) (times : List ℕ) → b ≡ is_some f → Survives k b (Counted f times)
 counted-survives k b f times is_base =
     let s : Survives k b (λ o. IsSound o.state) = sound-survives k b in
-    let closing : (place : ℕ) (row : Row) (q kept : ℕ) (x : After) (o new : Outcome) → StandsAt place row o → row.state ≡ Starting q kept → o.state.follows ≡ Some x → is_end (Some x) ≡ false → new.state.follows ≡ None → new.state.stamps ≡ o.state.stamps → IsSound new.state → Counted f times o → Counted f times new =
+    let closing : (place : ℕ) (row : Row) (q kept : ℕ) (x : Sequel) (o new : Outcome) → StandsAt place row o → row.state ≡ Starting q kept → o.state.follows ≡ Some x → is_end (Some x) ≡ false → new.state.follows ≡ None → new.state.stamps ≡ o.state.stamps → IsSound new.state → Counted f times o → Counted f times new =
     λ place row q kept x o new at is follows stays none same sound c. idle-counted f times new none sound (same ∙ awaits f times place row o at (starting row q kept is) (ap is_end follows ∙ stays) c) in
     record {
       answered = λ c r o x. answer-counted f times c r o (s.answered c r o x.0) x;
@@ -195,35 +195,35 @@ counted-survives k b f times is_base =
           (let e : rows_in is_awaited (slice_set o.state.rows place (with_state (Up p) row)) + cond (is_awaited row.state) 1 0 ≡ rows_in is_awaited o.state.rows + 0 = rows_in-set is_awaited place row (Up p) o.state.rows at in omega (arith, e)) x;
       up_closed = λ p place row q kept c o at is same follows x.
           elim follows as (λ _. Counted f times (closed (set_row place row (Up p) o))) [
-            | inl e ↦ closing place row q kept (after.Added c) o (closed (set_row place row (Up p) o)) at is e refl refl refl (s.up_closed p place row q kept c o at is same (inl e) x.0) x
-            | inr e ↦ closing place row q kept (after.Restarted c) o (closed (set_row place row (Up p) o)) at is e refl refl refl (s.up_closed p place row q kept c o at is same (inr e) x.0) x
+            | inl e ↦ closing place row q kept (sequel.Added c) o (closed (set_row place row (Up p) o)) at is e refl refl refl (s.up_closed p place row q kept c o at is same (inl e) x.0) x
+            | inr e ↦ closing place row q kept (sequel.Restarted c) o (closed (set_row place row (Up p) o)) at is e refl refl refl (s.up_closed p place row q kept c o at is same (inr e) x.0) x
           ];
       ignored = λ p place row q kept o at is same noted x. still-counted f times o (end_row place row o) (end_row-alike place row o) (s.ignored p place row q kept o at is same noted x.0) (fewer place row o at) x;
       opening_failed = λ place row q kept o runs at is follows x.
           ended-counted f times (ending.InitFailed row.spec.id) (set_row place row Undefined o) (fails_opening f (ending.InitFailed row.spec.id) o.state x.1 follows) (s.opening_failed place row q kept o runs at is follows x.0)
           (awaits f times place row o at (starting row q kept is) (ap is_end follows) x);
       restart_failed = λ place row q kept o at is follows x.
-          closing place row q kept after.Nothing o (closed (put_last (waiting.Retry kept) (set_row place row (Restarting kept) o))) at is follows refl refl refl (s.restart_failed place row q kept o at is follows x.0) x;
+          closing place row q kept sequel.Nothing o (closed (put_last (waiting.Retry kept) (set_row place row (Restarting kept) o))) at is follows refl refl refl (s.restart_failed place row q kept o at is follows x.0) x;
       added_failed = λ place row q kept c o at is follows x.
-          closing place row q kept (after.Added c) o (closed (with_rows (remove o.state.rows place) o)) at is follows refl refl refl (s.added_failed place row q kept c o at is follows x.0) x;
+          closing place row q kept (sequel.Added c) o (closed (with_rows (remove o.state.rows place) o)) at is follows refl refl refl (s.added_failed place row q kept c o at is follows x.0) x;
       restarted_failed = λ place row q kept c o at is follows x.
-          closing place row q kept (after.Restarted c) o (closed (set_row place row Undefined o)) at is follows refl refl refl (s.restarted_failed place row q kept c o at is follows x.0) x;
+          closing place row q kept (sequel.Restarted c) o (closed (set_row place row Undefined o)) at is follows refl refl refl (s.restarted_failed place row q kept c o at is follows x.0) x;
       stopped = λ p r place row o at h noted x. still-counted f times o (end_row place row o) (end_row-alike place row o) (s.stopped p r place row o at h noted x.0) (fewer place row o at) x;
       died = λ p place row o idle runs at is x. still-counted f times o (end_row place row o) (end_row-alike place row o) (s.died p place row o idle runs at is x.0) (fewer place row o at) x;
       restarts = λ p place row o idle runs at h x. restart-counted b f times p place row o is_base idle.0 at (awaits_nothing b o idle x.0) (rests b f times o idle x) (s.restarts p place row o idle runs at h x.0);
       ends = λ e o other idle runs x.
-          ended-counted f times e o (opens_none f b (Some (after.End e)) is_base idle.0 refl) (s.ends e o other idle runs x.0) (rests b f times o idle x ∙ sym (other_end e o.state.last times other));
+          ended-counted f times e o (opens_none f b (Some (sequel.End e)) is_base idle.0 refl) (s.ends e o other idle runs x.0) (rests b f times o idle x ∙ sym (other_end e o.state.last times other));
       ticks = λ o is x. tick-counted f times o (s.ticks o is x.0) (tick_count is_awaited (λ p d. refl) o) x;
       opens = λ own o is link over x. open-counted b f times own o is_base (sym link ∙ x.0.3 over) (s.opens own o is link over x.0);
       adds = λ c id spec o idle runs named x.
-          opens-counted b f times (with_work [] (record { id = id; kept = None } ∷ []) (Some (after.Added c)) (with_rows (o.state.rows ++ new_row (free_slot o.state.rows) id spec ∷ []) o)) is_base idle.0 refl (s.adds c id spec o idle runs named x.0)
+          opens-counted b f times (with_work [] (record { id = id; kept = None } ∷ []) (Some (sequel.Added c)) (with_rows (o.state.rows ++ new_row (free_slot o.state.rows) id spec ∷ []) o)) is_base idle.0 refl (s.adds c id spec o idle runs named x.0)
           (λ _. omega (arith, awaits_nothing b o idle x.0, rows_in-append is_awaited o.state.rows (new_row (free_slot o.state.rows) id spec ∷ []), rows_in-cons is_awaited (new_row (free_slot o.state.rows) id spec) [])) (rests b f times o idle x);
       starts_again = λ c id place row o idle runs at h is x.
-          opens-counted b f times (with_work [] (record { id = Some id; kept = None } ∷ []) (Some (after.Restarted c)) o) is_base idle.0 refl (s.starts_again c id place row o idle runs at h is x.0) (λ _. awaits_nothing b o idle x.0) (rests b f times o idle x);
+          opens-counted b f times (with_work [] (record { id = Some id; kept = None } ∷ []) (Some (sequel.Restarted c)) o) is_base idle.0 refl (s.starts_again c id place row o idle runs at h is x.0) (λ _. awaits_nothing b o idle x.0) (rests b f times o idle x);
       removed = λ place row o idle runs at h x. idle-counted f times (with_rows (remove o.state.rows place) o) (no_after o.state.follows idle.1) (s.removed place row o idle runs at h x.0) (rests b f times o idle x);
       given_up = λ place row o idle runs at h x. idle-counted f times (set_row place row Undefined o) (no_after o.state.follows idle.1) (s.given_up place row o idle runs at h x.0) (rests b f times o idle x);
       stops_child = λ c p place row o idle runs at h x.
-          opens-counted b f times (with_work (p ∷ []) [] (Some (after.Stopped c)) o) is_base idle.0 refl (s.stops_child c p place row o idle runs at h x.0) (λ _. awaits_nothing b o idle x.0) (rests b f times o idle x);
+          opens-counted b f times (with_work (p ∷ []) [] (Some (sequel.Stopped c)) o) is_base idle.0 refl (s.stops_child c p place row o idle runs at h x.0) (λ _. awaits_nothing b o idle x.0) (rests b f times o idle x);
     }
 
 step-counted : (s : State) (e : Event) → IsSound s → IsSound (step s e).state × ((step s e).state.stamps ≡ restarts_by s.follows (decided s e).follows (max e.reading s.last) s.stamps)

@@ -21,7 +21,7 @@ use Rattle.otp_rules.specs.declared.event.Event.{Event}
 use Rattle.otp_rules.specs.declared.event.Kind.{Kind}
 use Rattle.otp_rules.specs.declared.event.Item.TheVariants as item
 use Rattle.otp_rules.specs.declared.event.Waiting.{Waiting}
-use Rattle.otp_rules.specs.declared.work.After.{After}
+use Rattle.otp_rules.specs.declared.work.Sequel.{Sequel}
 use Rattle.otp_rules.specs.State.{Outcome, State, answer, closed}
 use Rattle.otp_rules.specs.Ends.{last_stamps, sup_end_of, refusal, refuse_all, end_all}
 use Rattle.otp_rules.specs.Evidence.{EndEvidence, EndEvidenceFromEmpty, IsShowing, IsEvidence, IsEvident, IsTooMany}
@@ -33,7 +33,7 @@ use Rattle.otp_rules.specs.Progress.{is_end}
 use Rattle.otp_rules.proofs.Steady.{Steady, step-steady}
 use Rattle.otp_rules.specs.declared.ending.Ending.TheVariants as ending
 use Rattle.otp_rules.specs.declared.event.Waiting.TheVariants as waiting
-use Rattle.otp_rules.specs.declared.work.After.TheVariants as after
+use Rattle.otp_rules.specs.declared.work.Sequel.TheVariants as sequel
 
 -- of stamps that never fall, the last are one too many within a period where more than the intensity lie in it
 too_many : (intensity period t : ℕ) (stamps : List ℕ) → IsNonDecreasing stamps → All (λ s. s ≤ t) stamps → nat_lt intensity (in_period period stamps t) ≡ true
@@ -65,10 +65,10 @@ abbrev Evident : Outcome → Type 0
 Evident o = IsShowing o.state × All IsEvident o.orders
 
 -- what follows the open work is another end, or none
-no_work : ◌≡◌ {A = Option After} None (Some (after.End ending.Intensity)) → ⊥
+no_work : ◌≡◌ {A = Option Sequel} None (Some (sequel.End ending.Intensity)) → ⊥
 no_work h = cc
 
-other_follows : (f : After) → (f ≡ after.End ending.Intensity → ⊥) → ◌≡◌ {A = Option After} (Some f) (Some (after.End ending.Intensity)) → ⊥
+other_follows : (f : Sequel) → (f ≡ sequel.End ending.Intensity → ⊥) → ◌≡◌ {A = Option Sequel} (Some f) (Some (sequel.End ending.Intensity)) → ⊥
 other_follows f other h = other cc
 
 stop_evident : (id : Option Name) (p : ℕ) (how : Shutdown) → IsEvident (stop_order id p how)
@@ -77,7 +77,7 @@ stop_evident id p (Milliseconds m) = tt
 stop_evident id p Infinity = tt
 
 -- each end shows why
-sup_evident : (x : Ending) (s : State) → s.follows ≡ Some (after.End x) → IsShowing s → IsEvidence (sup_end_of s.flags s.stamps x)
+sup_evident : (x : Ending) (s : State) → s.follows ≡ Some (sequel.End x) → IsShowing s → IsEvidence (sup_end_of s.flags s.stamps x)
 sup_evident ending.Intensity s e shown = (refl, shown.2 e)
 sup_evident (ending.Significant p) s e shown = refl
 sup_evident ending.Asked s e shown = refl
@@ -106,15 +106,15 @@ answered-evident c r o g = (g.0, All-push IsEvident o.orders (effect.Reply c) g.
 idle : (o : Outcome) → IsShowing o.state → IsShowing (closed o).state
 idle o g = (g.0, g.1, λ h. absurd (no_work h))
 
-followed-evident : (f : Option After) (o : Outcome) → o.state.follows ≡ f → Evident o → Evident (follow f o)
+followed-evident : (f : Option Sequel) (o : Outcome) → o.state.follows ≡ f → Evident o → Evident (follow f o)
 unfolding follow end_all refuse_all answer
 followed-evident None o e g = g
-followed-evident (Some after.Ready) o e g = (idle o g.0, All-push IsEvident o.orders effect.Ready g.1 tt)
-followed-evident (Some after.Nothing) o e g = (idle o g.0, g.1)
-followed-evident (Some (after.Added c)) o e g = (idle o g.0, All-push IsEvident o.orders (effect.Reply c) g.1 tt)
-followed-evident (Some (after.Restarted c)) o e g = (idle o g.0, All-push IsEvident o.orders (effect.Reply c) g.1 tt)
-followed-evident (Some (after.Stopped c)) o e g = (idle o g.0, All-push IsEvident o.orders (effect.Reply c) g.1 tt)
-followed-evident (Some (after.End x)) o e g = (
+followed-evident (Some sequel.Ready) o e g = (idle o g.0, All-push IsEvident o.orders effect.Ready g.1 tt)
+followed-evident (Some sequel.Nothing) o e g = (idle o g.0, g.1)
+followed-evident (Some (sequel.Added c)) o e g = (idle o g.0, All-push IsEvident o.orders (effect.Reply c) g.1 tt)
+followed-evident (Some (sequel.Restarted c)) o e g = (idle o g.0, All-push IsEvident o.orders (effect.Reply c) g.1 tt)
+followed-evident (Some (sequel.Stopped c)) o e g = (idle o g.0, All-push IsEvident o.orders (effect.Reply c) g.1 tt)
+followed-evident (Some (sequel.End x)) o e g = (
   idle o g.0,
   All-push IsEvident (o.orders ++ filter_map refusal o.state.waiting) (effect.End (sup_end_of o.state.flags o.state.stamps x))
       (All-append IsEvident o.orders (filter_map refusal o.state.waiting) g.1 (refusals_evident o.state.waiting)) (sup_evident x o.state e g.0),
@@ -126,7 +126,7 @@ ticks-evident o g = (g.0, All-append IsEvident o.orders (filter_map (λ row. kil
 
 opened-evident : (own : ℕ) (o : Outcome) → Evident o → Evident (open_rows own o)
 unfolding open_rows open_with
-opened-evident own o g = ((IsNonDecreasingBy-short (λ x. x) [] (omega arith), All-nil (λ t. t ≤ o.state.last), λ h. absurd (other_follows after.Ready (λ k. cc) h)), g.1)
+opened-evident own o g = ((IsNonDecreasingBy-short (λ x. x) [] (omega arith), All-nil (λ t. t ≤ o.state.last), λ h. absurd (other_follows sequel.Ready (λ k. cc) h)), g.1)
 
 -- one restart more
 rising : (o : Outcome) → IsShowing o.state → IsNonDecreasing (o.state.stamps ++ o.state.last ∷ [])
@@ -149,12 +149,12 @@ steady k b =
       answered = answered-evident;
       closes = λ f o is stays g. (idle o g.0, g.1);
       opens = λ ps ds f o idle runs stays g. ((g.0.0, g.0.1, λ h. absurd (false≢true (sym stays ∙ ap is_end h))), g.1);
-      ends = λ ps e o other when g. ((g.0.0, g.0.1, λ h. absurd (other_follows (after.End e) (λ k. other cc) h)), g.1);
+      ends = λ ps e o other when g. ((g.0.0, g.0.1, λ h. absurd (other_follows (sequel.End e) (λ k. other cc) h)), g.1);
       exceeds = λ ps o idle runs many g. (
         (rising o g.0, below o g.0, λ _. too_many o.state.flags.intensity o.state.flags.period o.state.last (o.state.stamps ++ o.state.last ∷ []) (rising o g.0) (below o g.0) many),
         g.1,
       );
-      restarts = λ ps ds o idle runs few g. ((rising o g.0, below o g.0, λ h. absurd (other_follows after.Nothing (λ k. cc) h)), g.1);
+      restarts = λ ps ds o idle runs few g. ((rising o g.0, below o g.0, λ h. absurd (other_follows sequel.Nothing (λ k. cc) h)), g.1);
       ticks = ticks-evident;
       opened = λ own o is x. opened-evident own o x;
     }

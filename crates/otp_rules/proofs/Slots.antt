@@ -21,8 +21,8 @@ use Rattle.otp_rules.specs.declared.event.Event.{Event}
 use Rattle.otp_rules.specs.declared.event.Item.{Item}
 use Rattle.otp_rules.specs.declared.event.Kind.{Kind}
 use Rattle.otp_rules.specs.declared.work.Due.{Due}
-use Rattle.otp_rules.specs.declared.work.After.{After}
-use Rattle.otp_rules.specs.declared.work.After.TheVariants as after
+use Rattle.otp_rules.specs.declared.work.Sequel.{Sequel}
+use Rattle.otp_rules.specs.declared.work.Sequel.TheVariants as sequel
 use Rattle.otp_spec.specs.Flags.{is_simple}
 use Rattle.otp_rules.specs.State.{Outcome, State, answer, is_busy, with_rows, with_stamps, with_waiting, with_work}
 use Rattle.otp_rules.specs.Places.{end_row, end_process, set_row, is_removed}
@@ -208,7 +208,7 @@ terminate-slots : (e : Ending) (o : Outcome) → AllSlotted o → AllSlotted (te
 unfolding terminate terminate_together terminate_ordered
 terminate-slots e o h =
     by_test AllSlotted (is_simple o.state.flags.strategy) (terminate_together e o) (terminate_ordered e o)
-    (λ _. stop_each-slots (running o.state.rows) (calm_all (with_work [] [] (Some (after.End e)) o)) (calmed-slots o.state.rows h))
+    (λ _. stop_each-slots (running o.state.rows) (calm_all (with_work [] [] (Some (sequel.End e)) o)) (calmed-slots o.state.rows h))
     (λ _. calmed-slots o.state.rows h)
 
 restart_rows-slots : (from to place k : ℕ) (o : Outcome) → from ≤ to → AllSlotted o → AllSlotted (restart_rows from to place k o)
@@ -332,15 +332,15 @@ slots-survive k G old few =
       stops_child = λ c p place row o u idle runs at up h. h;
     }
 
-follow-slots : (f : Option After) (o : Outcome) → AllSlotted o → AllSlotted (follow f o)
+follow-slots : (f : Option Sequel) (o : Outcome) → AllSlotted o → AllSlotted (follow f o)
 unfolding follow end_all refuse_all answer
 follow-slots None o h = h
-follow-slots (Some after.Ready) o h = h
-follow-slots (Some after.Nothing) o h = h
-follow-slots (Some (after.Added c)) o h = h
-follow-slots (Some (after.Restarted c)) o h = h
-follow-slots (Some (after.Stopped c)) o h = h
-follow-slots (Some (after.End e)) o h = (λ k. omega arith, λ k high. refl)
+follow-slots (Some sequel.Ready) o h = h
+follow-slots (Some sequel.Nothing) o h = h
+follow-slots (Some (sequel.Added c)) o h = h
+follow-slots (Some (sequel.Restarted c)) o h = h
+follow-slots (Some (sequel.Stopped c)) o h = h
+follow-slots (Some (sequel.End e)) o h = (λ k. omega arith, λ k high. refl)
 
 start_first-slots : (dues : List Due) (n : ℕ) (o : Outcome) → AllSlotted o → AllSlotted (start_first dues n o)
 unfolding start_first start start_row

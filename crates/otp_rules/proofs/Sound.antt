@@ -14,7 +14,7 @@ use Rattle.otp_rules.specs.declared.call.Reply.{Reply}
 use Rattle.otp_rules.specs.declared.ending.Ending.{Ending}
 use Rattle.otp_rules.specs.declared.event.Kind.{Kind}
 use Rattle.otp_rules.specs.declared.work.Due.{Due}
-use Rattle.otp_rules.specs.declared.work.After.{After}
+use Rattle.otp_rules.specs.declared.work.Sequel.{Sequel}
 use Rattle.otp_spec.specs.Flags.{is_simple}
 use Rattle.otp_rules.specs.State.{Outcome, State, answer, closed, is_busy, is_over, with_rows, with_stamps, with_waiting, with_work}
 use Rattle.otp_rules.specs.Places.{end_row, end_process, set_row}
@@ -32,27 +32,27 @@ use Rattle.otp_rules.specs.Fit.{is_told, rows_in, times, runs_as, IsLimited, IsC
 use Rattle.otp_rules.proofs.Decisions.{IsIdle, IsRunning, StandsAt, Survives, at_row-survives, at_number-survives, by_test}
 use Rattle.otp_rules.proofs.Counting.{times-cons, rows_in-cons, rows_in-append, remove_count, rows_in-set, rows_in-at, rows_in-end, Alike, end_row-alike, stop_each-alike, told-runs, runs_number, times-reverse, running_counted, calm_awaited, tick_count, take_rows, drop_rows, none_in, there}
 use Rattle.otp_rules.specs.declared.ending.Ending.TheVariants as ending
-use Rattle.otp_rules.specs.declared.work.After.TheVariants as after
+use Rattle.otp_rules.specs.declared.work.Sequel.TheVariants as sequel
 
-limited-less : (f : Option After) (m n : ℕ) → m ≤ n → IsLimited f n → IsLimited f m
+limited-less : (f : Option Sequel) (m n : ℕ) → m ≤ n → IsLimited f n → IsLimited f m
 limited-less None m n h k = omega (arith, h, k)
-limited-less (Some after.Ready) m n h k = omega (arith, h, k)
-limited-less (Some after.Nothing) m n h k = omega (arith, h, k)
-limited-less (Some (after.Added _)) m n h k = omega (arith, h, k)
-limited-less (Some (after.Restarted _)) m n h k = omega (arith, h, k)
-limited-less (Some (after.Stopped _)) m n h k = omega (arith, h, k)
-limited-less (Some (after.End _)) m n h k = tt
+limited-less (Some sequel.Ready) m n h k = omega (arith, h, k)
+limited-less (Some sequel.Nothing) m n h k = omega (arith, h, k)
+limited-less (Some (sequel.Added _)) m n h k = omega (arith, h, k)
+limited-less (Some (sequel.Restarted _)) m n h k = omega (arith, h, k)
+limited-less (Some (sequel.Stopped _)) m n h k = omega (arith, h, k)
+limited-less (Some (sequel.End _)) m n h k = tt
 
-pub limited-one : (f : Option After) (n : ℕ) → is_some f ≡ true → n ≤ 1 → IsLimited f n
+pub limited-one : (f : Option Sequel) (n : ℕ) → is_some f ≡ true → n ≤ 1 → IsLimited f n
 limited-one None n busy h = absurd (false≢true busy)
-limited-one (Some after.Ready) n busy h = h
-limited-one (Some after.Nothing) n busy h = h
-limited-one (Some (after.Added _)) n busy h = h
-limited-one (Some (after.Restarted _)) n busy h = h
-limited-one (Some (after.Stopped _)) n busy h = h
-limited-one (Some (after.End _)) n busy h = tt
+limited-one (Some sequel.Ready) n busy h = h
+limited-one (Some sequel.Nothing) n busy h = h
+limited-one (Some (sequel.Added _)) n busy h = h
+limited-one (Some (sequel.Restarted _)) n busy h = h
+limited-one (Some (sequel.Stopped _)) n busy h = h
+limited-one (Some (sequel.End _)) n busy h = tt
 
-limited-none : (f : Option After) (n : ℕ) → is_some f ≡ false → IsLimited f n → n ≡ 0
+limited-none : (f : Option Sequel) (n : ℕ) → is_some f ≡ false → IsLimited f n → n ≡ 0
 limited-none None n idle h = h
 limited-none (Some f) n idle h = absurd (false≢true (sym idle))
 
@@ -70,17 +70,17 @@ ended-sound place row o at loose g =
     let same : Alike (end_row place row o) o = end_row-alike place row o in
     let fewer : rows_in is_awaited (end_row place row o).state.rows ≤ rows_in is_awaited o.state.rows =
     (let e : rows_in is_awaited (end_row place row o).state.rows + cond (is_awaited row.state) 1 0 ≡ rows_in is_awaited o.state.rows = rows_in-end is_awaited refl place row o at in omega (arith, e)) in (
-      subst (λ (f : Option After). IsLimited f (rows_in is_awaited (end_row place row o).state.rows)) (sym same.4)
+      subst (λ (f : Option Sequel). IsLimited f (rows_in is_awaited (end_row place row o).state.rows)) (sym same.4)
           (limited-less o.state.follows _ _ fewer g.0),
       λ q.
           let e : rows_in (runs_as q) (end_row place row o).state.rows + cond (runs_as q row.state) 1 0 ≡ rows_in (runs_as q) o.state.rows = rows_in-end (runs_as q) refl place row o at in
           let z : ◌≡◌ {A = ℕ} (cond (runs_as q row.state) 1 0) 0 = ap (λ (b : Bool). cond b 1 0) (loose q) in
           let t : times q (end_row place row o).state.to_stop ≡ times q o.state.to_stop = ap (λ (ps : List ℕ). times q ps) same.2 in
           omega (arith, e, z, t, g.1 q),
-      λ idle. let k : (o.state.to_stop ≡ []) × (o.state.to_start ≡ []) = g.2 (sym (ap (λ (f : Option After). is_some f) same.4) ∙ idle) in (same.2 ∙ k.0, same.3 ∙ k.1),
-      λ over. ap (λ (f : Option After). is_some f) same.4 ∙ g.3 (sym (ap is_over same.1) ∙ over),
+      λ idle. let k : (o.state.to_stop ≡ []) × (o.state.to_start ≡ []) = g.2 (sym (ap (λ (f : Option Sequel). is_some f) same.4) ∙ idle) in (same.2 ∙ k.0, same.3 ∙ k.1),
+      λ over. ap (λ (f : Option Sequel). is_some f) same.4 ∙ g.3 (sym (ap is_over same.1) ∙ over),
       λ e. same.3 ∙ g.4 (sym (ap is_end same.4) ∙ e),
-      λ e. same.2 ∙ g.5 (sym (ap (λ (f : Option After). is_end f && is_simple (end_row place row o).state.flags.strategy) same.4 ∙ ap (λ (x : SupFlags). is_end o.state.follows && is_simple x.strategy) same.0) ∙ e),
+      λ e. same.2 ∙ g.5 (sym (ap (λ (f : Option Sequel). is_end f && is_simple (end_row place row o).state.flags.strategy) same.4 ∙ ap (λ (x : SupFlags). is_end o.state.follows && is_simple x.strategy) same.0) ∙ e),
     )
 
 -- what the open work may await is there: a change of rows that awaits less and has what is to stop
@@ -100,11 +100,11 @@ unfolding terminate terminate_together terminate_ordered
 terminate-sound e o runs =
     by_test (λ x. IsSound x.state) (is_simple o.state.flags.strategy) (terminate_together e o) (terminate_ordered e o)
     (λ _.
-    let opened : Outcome = calm_all (with_work [] [] (Some (after.End e)) o) in
+    let opened : Outcome = calm_all (with_work [] [] (Some (sequel.End e)) o) in
     let same : Alike (stop_each (running o.state.rows) opened) opened = stop_each-alike (running o.state.rows) opened in (
-      subst (λ (f : Option After). IsLimited f (rows_in is_awaited (stop_each (running o.state.rows) opened).state.rows)) (sym same.4) tt,
+      subst (λ (f : Option Sequel). IsLimited f (rows_in is_awaited (stop_each (running o.state.rows) opened).state.rows)) (sym same.4) tt,
       covered-none (stop_each (running o.state.rows) opened).state.to_stop (stop_each (running o.state.rows) opened).state.rows same.2,
-      λ idle. absurd (false≢true (sym idle ∙ ap (λ (f : Option After). is_some f) same.4)),
+      λ idle. absurd (false≢true (sym idle ∙ ap (λ (f : Option Sequel). is_some f) same.4)),
       λ over. absurd (false≢true (sym runs ∙ sym (ap is_over same.1) ∙ over)),
       λ _. same.3,
       λ _. same.2,
@@ -150,19 +150,19 @@ restart-sound b p place row o idle runs at g =
     (omega (arith, awaits_nothing b o idle g, down-awaited p place row o at)))
 
 -- work that doesn't end the supervisor awaits one answer at most
-at_most : (f : After) (n : ℕ) → is_end (Some f) ≡ false → IsLimited (Some f) n → n ≤ 1
-at_most after.Ready n stays h = h
-at_most after.Nothing n stays h = h
-at_most (after.Added _) n stays h = h
-at_most (after.Restarted _) n stays h = h
-at_most (after.Stopped _) n stays h = h
-at_most (after.End _) n stays h = absurd (false≢true (sym stays))
+at_most : (f : Sequel) (n : ℕ) → is_end (Some f) ≡ false → IsLimited (Some f) n → n ≤ 1
+at_most sequel.Ready n stays h = h
+at_most sequel.Nothing n stays h = h
+at_most (sequel.Added _) n stays h = h
+at_most (sequel.Restarted _) n stays h = h
+at_most (sequel.Stopped _) n stays h = h
+at_most (sequel.End _) n stays h = absurd (false≢true (sym stays))
 
 -- the open work awaits one row, whose answer comes, and then it closes
-answered-closes : (f : After) (place : ℕ) (row : Row) (q kept : ℕ) (rows : List Row) (o : Outcome) → o.state.follows ≡ Some f → is_end (Some f) ≡ false → StandsAt place row o → row.state ≡ Starting q kept → rows_in is_awaited rows + cond (is_awaited row.state) 1 0 ≡ rows_in is_awaited o.state.rows + 0 → IsSound o.state → IsSound (closed (with_rows rows o)).state
+answered-closes : (f : Sequel) (place : ℕ) (row : Row) (q kept : ℕ) (rows : List Row) (o : Outcome) → o.state.follows ≡ Some f → is_end (Some f) ≡ false → StandsAt place row o → row.state ≡ Starting q kept → rows_in is_awaited rows + cond (is_awaited row.state) 1 0 ≡ rows_in is_awaited o.state.rows + 0 → IsSound o.state → IsSound (closed (with_rows rows o)).state
 answered-closes f place row q kept rows o is stays at starts e g =
     let one : ◌≡◌ {A = ℕ} (cond (is_awaited row.state) 1 0) 1 = ap (λ (s : RowState). cond (is_awaited s) 1 0) starts in
-    let limit : rows_in is_awaited o.state.rows ≤ 1 = at_most f (rows_in is_awaited o.state.rows) stays (subst (λ (x : Option After). IsLimited x (rows_in is_awaited o.state.rows)) is g.0) in
+    let limit : rows_in is_awaited o.state.rows ≤ 1 = at_most f (rows_in is_awaited o.state.rows) stays (subst (λ (x : Option Sequel). IsLimited x (rows_in is_awaited o.state.rows)) is g.0) in
     closed-sound (with_rows rows o) (omega (arith, e, one, limit))
 
 up-sound : (p place : ℕ) (row : Row) (q kept : ℕ) (o : Outcome) → StandsAt place row o → row.state ≡ Starting q kept → IsSound o.state → IsSound (set_row place row (Up p) o).state
@@ -198,16 +198,16 @@ open-sound own o =
     (omega (arith, new_rows 0 specs), covered-none [] (rows_from 0 specs) refl, λ idle. absurd (false≢true (sym idle)), λ over. absurd (false≢true over), λ e. absurd (false≢true e), λ e. absurd (false≢true e))
 
 -- work opens for a supervisor that runs and has none
-opened-sound : (b : Bool) (ps : List ℕ) (ds : List Due) (f : After) (rows : List Row) (o : Outcome) → IsIdle b o → IsRunning o → is_end (Some f) ≡ false → rows_in is_awaited rows ≤ rows_in is_awaited o.state.rows → IsCovered ps rows → IsSound o.state → IsSound (with_work ps ds (Some f) (with_rows rows o)).state
+opened-sound : (b : Bool) (ps : List ℕ) (ds : List Due) (f : Sequel) (rows : List Row) (o : Outcome) → IsIdle b o → IsRunning o → is_end (Some f) ≡ false → rows_in is_awaited rows ≤ rows_in is_awaited o.state.rows → IsCovered ps rows → IsSound o.state → IsSound (with_work ps ds (Some f) (with_rows rows o)).state
 opened-sound b ps ds f rows o idle runs stays fewer covered g =
     (limited-one (Some f) (rows_in is_awaited rows) refl (omega (arith, fewer, awaits_nothing b o idle g)), covered, λ k. absurd (false≢true (sym k)), λ over. absurd (false≢true (sym runs ∙ over)), λ e. absurd (false≢true (sym stays ∙ e)), λ e. absurd (false≢true (sym stays ∙ (and_parts (is_end (Some f)) (is_simple o.state.flags.strategy) e).0)))
 
-stops_child-sound : (b : Bool) (c p place : ℕ) (row : Row) (o : Outcome) → IsIdle b o → IsRunning o → StandsAt place row o → (is_awaited row.state ≡ true) ⊎ (row.state ≡ Up p) → IsSound o.state → IsSound (with_work (p ∷ []) [] (Some (after.Stopped c)) o).state
+stops_child-sound : (b : Bool) (c p place : ℕ) (row : Row) (o : Outcome) → IsIdle b o → IsRunning o → StandsAt place row o → (is_awaited row.state ≡ true) ⊎ (row.state ≡ Up p) → IsSound o.state → IsSound (with_work (p ∷ []) [] (Some (sequel.Stopped c)) o).state
 stops_child-sound b c p place row o idle runs at (inl awaits) g =
     let one : ◌≡◌ {A = ℕ} (cond (is_awaited row.state) 1 0) 1 = ap (λ (x : Bool). cond x 1 0) awaits in
     absurd (omega (arith, rows_in-at is_awaited place row o.state.rows at, one, awaits_nothing b o idle g))
 stops_child-sound b c p place row o idle runs at (inr up) g =
-    opened-sound b (p ∷ []) [] (after.Stopped c) o.state.rows o idle runs refl (omega arith)
+    opened-sound b (p ∷ []) [] (sequel.Stopped c) o.state.rows o idle runs refl (omega arith)
     (λ q.
     let e : ◌≡◌ {A = ℕ} (cond (runs_as q row.state) 1 0) (cond (p == q) 1 0) = ap (λ (s : RowState). cond (runs_as q s) 1 0) up in
     omega (arith, times-cons q p [], e, rows_in-at (runs_as q) place row o.state.rows at))
@@ -239,26 +239,26 @@ sound-survives k b =
       up_closed = λ p place row q kept c o at is same f g.
           let e : rows_in is_awaited (slice_set o.state.rows place (with_state (Up p) row)) + cond (is_awaited row.state) 1 0 ≡ rows_in is_awaited o.state.rows + 0 = rows_in-set is_awaited place row (Up p) o.state.rows at in
           elim f as (λ _. IsSound (closed (set_row place row (Up p) o)).state) [
-            | inl h ↦ answered-closes (after.Added c) place row q kept (slice_set o.state.rows place (with_state (Up p) row)) o h refl at is e g
-            | inr h ↦ answered-closes (after.Restarted c) place row q kept (slice_set o.state.rows place (with_state (Up p) row)) o h refl at is e g
+            | inl h ↦ answered-closes (sequel.Added c) place row q kept (slice_set o.state.rows place (with_state (Up p) row)) o h refl at is e g
+            | inr h ↦ answered-closes (sequel.Restarted c) place row q kept (slice_set o.state.rows place (with_state (Up p) row)) o h refl at is e g
           ];
       ignored = λ p place row q kept o at is same noted g. ended-sound place row o at (λ x. ap (λ (s : RowState). runs_as x s) is) g;
       opening_failed = λ place row q kept o runs at is f g. terminate-sound (ending.InitFailed row.spec.id) (set_row place row Undefined o) runs;
       restart_failed = λ place row q kept o at is f g.
-          answered-closes after.Nothing place row q kept (slice_set o.state.rows place (with_state (Restarting kept) row)) o f refl at is (rows_in-set is_awaited place row (Restarting kept) o.state.rows at) g;
+          answered-closes sequel.Nothing place row q kept (slice_set o.state.rows place (with_state (Restarting kept) row)) o f refl at is (rows_in-set is_awaited place row (Restarting kept) o.state.rows at) g;
       added_failed = λ place row q kept c o at is f g.
-          answered-closes (after.Added c) place row q kept (remove o.state.rows place) o f refl at is (let e : rows_in is_awaited (remove o.state.rows place) + cond (is_awaited row.state) 1 0 ≡ rows_in is_awaited o.state.rows = remove_count (row_has is_awaited) o.state.rows place row at in omega (arith, e)) g;
+          answered-closes (sequel.Added c) place row q kept (remove o.state.rows place) o f refl at is (let e : rows_in is_awaited (remove o.state.rows place) + cond (is_awaited row.state) 1 0 ≡ rows_in is_awaited o.state.rows = remove_count (row_has is_awaited) o.state.rows place row at in omega (arith, e)) g;
       restarted_failed = λ place row q kept c o at is f g.
-          answered-closes (after.Restarted c) place row q kept (slice_set o.state.rows place (with_state Undefined row)) o f refl at is (rows_in-set is_awaited place row Undefined o.state.rows at) g;
+          answered-closes (sequel.Restarted c) place row q kept (slice_set o.state.rows place (with_state Undefined row)) o f refl at is (rows_in-set is_awaited place row Undefined o.state.rows at) g;
       stopped = λ p r place row o at h noted g. ended-sound place row o at (λ q. told-loose p q row.state h) g;
       died = λ p place row o idle runs at is g.
           let same : Alike (end_row place row o) o = end_row-alike place row o in
           let e : rows_in is_awaited (end_row place row o).state.rows + cond (is_awaited row.state) 1 0 ≡ rows_in is_awaited o.state.rows = rows_in-end is_awaited refl place row o at in
           let none : rows_in is_awaited (end_row place row o).state.rows ≡ 0 = omega (arith, e, awaits_nothing b o idle g) in (
-            subst (λ (f : Option After). IsLimited f (rows_in is_awaited (end_row place row o).state.rows)) (sym same.4) (limited-less o.state.follows _ _ (omega (arith, e)) g.0),
+            subst (λ (f : Option Sequel). IsLimited f (rows_in is_awaited (end_row place row o).state.rows)) (sym same.4) (limited-less o.state.follows _ _ (omega (arith, e)) g.0),
             covered-none (end_row place row o).state.to_stop (end_row place row o).state.rows (same.2 ∙ (g.2 idle.1).0),
             λ _. (same.2 ∙ (g.2 idle.1).0, same.3 ∙ (g.2 idle.1).1),
-            λ _. ap (λ (f : Option After). is_some f) same.4 ∙ idle.1,
+            λ _. ap (λ (f : Option Sequel). is_some f) same.4 ∙ idle.1,
             λ _. same.3 ∙ (g.2 idle.1).1,
             λ _. same.2 ∙ (g.2 idle.1).0,
           );
@@ -267,10 +267,10 @@ sound-survives k b =
       ticks = λ o is g. tick-sound o g;
       opens = λ own o is link over g. open-sound own o;
       adds = λ c id spec o idle runs named g.
-          opened-sound b [] (record { id = id; kept = None } ∷ []) (after.Added c) (o.state.rows ++ new_row (free_slot o.state.rows) id spec ∷ []) o idle runs refl
+          opened-sound b [] (record { id = id; kept = None } ∷ []) (sequel.Added c) (o.state.rows ++ new_row (free_slot o.state.rows) id spec ∷ []) o idle runs refl
           (omega (arith, rows_in-append is_awaited o.state.rows (new_row (free_slot o.state.rows) id spec ∷ []), rows_in-cons is_awaited (new_row (free_slot o.state.rows) id spec) []))
           (λ q. omega arith) g;
-      starts_again = λ c id place row o idle runs at h is g. opened-sound b [] (record { id = Some id; kept = None } ∷ []) (after.Restarted c) o.state.rows o idle runs refl (omega arith) (λ q. omega arith) g;
+      starts_again = λ c id place row o idle runs at h is g. opened-sound b [] (record { id = Some id; kept = None } ∷ []) (sequel.Restarted c) o.state.rows o idle runs refl (omega arith) (λ q. omega arith) g;
       removed = λ place row o idle runs at h g. idle-sound b (remove o.state.rows place) o idle (less_removed place row o at) g;
       given_up = λ place row o idle runs at h g. idle-sound b (slice_set o.state.rows place (with_state Undefined row)) o idle (down-awaited 0 place row o at) g;
       stops_child = λ c p place row o idle runs at h g. stops_child-sound b c p place row o idle runs at h g;
@@ -311,7 +311,7 @@ used-ready p ps place o r =
     let e : (q : ℕ) → rows_in (runs_as q) (end_row i row left).state.rows + cond (runs_as q row.state) 1 0 ≡ rows_in (runs_as q) left.state.rows = λ q. rows_in-end (runs_as q) refl i row left at in
     let a : rows_in is_awaited (end_row i row left).state.rows + cond (is_awaited row.state) 1 0 ≡ rows_in is_awaited left.state.rows = rows_in-end is_awaited refl i row left at in
     let none : rows_in is_awaited (end_row i row left).state.rows ≡ 0 = omega (arith, a, r.1) in
-    let busy : is_some (end_row i row left).state.follows ≡ true = ap (λ (f : Option After). is_some f) same.4 ∙ r.3 in
+    let busy : is_some (end_row i row left).state.follows ≡ true = ap (λ (f : Option Sequel). is_some f) same.4 ∙ r.3 in
     let there : IsCovered ps (end_row i row left).state.rows = popped-covered p ps i row o (end_row i row left).state.rows r h e in (
       (
         limited-one (end_row i row left).state.follows (rows_in is_awaited (end_row i row left).state.rows) busy (omega (arith, none)),
@@ -319,7 +319,7 @@ used-ready p ps place o r =
         (λ idle. absurd (false≢true (sym idle ∙ busy))),
         (λ over. absurd (false≢true (sym (start.0.3 (sym (ap is_over same.1) ∙ over)) ∙ r.3))),
         (λ x. same.3 ∙ start.0.4 (sym (ap is_end same.4) ∙ x)),
-        λ x. same.2 ∙ start.0.5 (sym (ap (λ (f : Option After). is_end f && is_simple (end_row i row left).state.flags.strategy) same.4 ∙ ap (λ (y : SupFlags). is_end left.state.follows && is_simple y.strategy) same.0) ∙ x),
+        λ x. same.2 ∙ start.0.5 (sym (ap (λ (f : Option Sequel). is_end f && is_simple (end_row i row left).state.flags.strategy) same.4 ∙ ap (λ (y : SupFlags). is_end left.state.follows && is_simple y.strategy) same.0) ∙ x),
       ),
       none,
       same.2,
@@ -368,15 +368,15 @@ ordered-sound due dues n o is r =
       sound.5,
     ))
 
-follow-sound : (f : Option After) (o : Outcome) → rows_in is_awaited o.state.rows ≡ 0 → IsSound o.state → IsSound (follow f o).state
+follow-sound : (f : Option Sequel) (o : Outcome) → rows_in is_awaited o.state.rows ≡ 0 → IsSound o.state → IsSound (follow f o).state
 unfolding follow end_all refuse_all answer
 follow-sound None o none g = g
-follow-sound (Some after.Ready) o none g = closed-sound o none
-follow-sound (Some after.Nothing) o none g = closed-sound o none
-follow-sound (Some (after.Added c)) o none g = closed-sound o none
-follow-sound (Some (after.Restarted c)) o none g = closed-sound o none
-follow-sound (Some (after.Stopped c)) o none g = closed-sound o none
-follow-sound (Some (after.End e)) o none g = (refl, covered-none [] [] refl, λ _. (refl, refl), λ _. refl, λ _. refl, λ _. refl)
+follow-sound (Some sequel.Ready) o none g = closed-sound o none
+follow-sound (Some sequel.Nothing) o none g = closed-sound o none
+follow-sound (Some (sequel.Added c)) o none g = closed-sound o none
+follow-sound (Some (sequel.Restarted c)) o none g = closed-sound o none
+follow-sound (Some (sequel.Stopped c)) o none g = closed-sound o none
+follow-sound (Some (sequel.End e)) o none g = (refl, covered-none [] [] refl, λ _. (refl, refl), λ _. refl, λ _. refl, λ _. refl)
 
 start_first-sound : (dues : List Due) (n : ℕ) (o : Outcome) → o.state.to_start ≡ dues → IsReady [] o → IsSound (start_first dues n o).state
 unfolding start_first

@@ -17,7 +17,7 @@ use Rattle.otp_table.specs.Rows.{has_process, is_awaited, row_has, with_state}
 use Rattle.otp_rules.specs.declared.event.Effect.{Effect}
 use Rattle.otp_rules.specs.declared.event.Event.{Event}
 use Rattle.otp_rules.specs.declared.work.Due.{Due}
-use Rattle.otp_rules.specs.declared.work.After.{After}
+use Rattle.otp_rules.specs.declared.work.Sequel.{Sequel}
 use Rattle.otp_spec.specs.Flags.{is_simple}
 use Rattle.otp_rules.specs.State.{Outcome, State, answer, emit, is_busy, with_rows, with_waiting, with_work}
 use Rattle.otp_rules.specs.Places.{at_number, end_row, end_process, is_removed, set_row}
@@ -46,7 +46,7 @@ use Rattle.otp_rules.proofs.Fitted.{set-named, named-less, end-named, Stands, fi
 use Rattle.otp_rules.proofs.Starting.{idle_keeps, decided-starts}
 use Rattle.otp_rules.specs.declared.event.Effect.TheVariants as effect
 use Rattle.otp_rules.specs.declared.event.Waiting.TheVariants as waiting
-use Rattle.otp_rules.specs.declared.work.After.TheVariants as after
+use Rattle.otp_rules.specs.declared.work.Sequel.TheVariants as sequel
 
 -- the order starts nobody
 abbrev NoStart : Effect → Type 0
@@ -116,15 +116,15 @@ MayStart g ps o =
 keeps_answered : (g : Progress) (o : Outcome) (s : State) → s.to_start ≡ o.state.to_start → AllAnswered g o → KeepsStarts s g
 keeps_answered g o s same h busy = (h.0, h.1 ∙ ap (λ (ds : List Due). h.0 ++ ds) (sym same), h.2, λ i d within. inl (h.3 i d within))
 
-follow-fitted : (f : Option After) (o : Outcome) → IsFitted o.state → IsFitted (follow f o).state
+follow-fitted : (f : Option Sequel) (o : Outcome) → IsFitted o.state → IsFitted (follow f o).state
 unfolding follow end_all refuse_all answer
 follow-fitted None o h = h
-follow-fitted (Some after.Ready) o h = (h.0, tt)
-follow-fitted (Some after.Nothing) o h = (h.0, tt)
-follow-fitted (Some (after.Added c)) o h = (h.0, tt)
-follow-fitted (Some (after.Restarted c)) o h = (h.0, tt)
-follow-fitted (Some (after.Stopped c)) o h = (h.0, tt)
-follow-fitted (Some (after.End e)) o h = (λ _. refl, tt)
+follow-fitted (Some sequel.Ready) o h = (h.0, tt)
+follow-fitted (Some sequel.Nothing) o h = (h.0, tt)
+follow-fitted (Some (sequel.Added c)) o h = (h.0, tt)
+follow-fitted (Some (sequel.Restarted c)) o h = (h.0, tt)
+follow-fitted (Some (sequel.Stopped c)) o h = (h.0, tt)
+follow-fitted (Some (sequel.End e)) o h = (λ _. refl, tt)
 
 -- as the ids of the lists agree, so do their parts
 same_parts : (first : List Due) (due : Due) (rest : List Due) (rows : List Row) → map (λ (x : Due). id_bytes x.id) (first ++ due ∷ rest) ≡ map (λ (x : Row). id_bytes x.id) rows

@@ -18,8 +18,8 @@ use Rattle.otp_rules.specs.declared.event.Event.{Event}
 use Rattle.otp_rules.specs.declared.event.Kind.{Kind}
 use Rattle.otp_rules.specs.declared.event.Kind.TheVariants as kind
 use Rattle.otp_rules.specs.declared.event.Waiting.{Waiting}
-use Rattle.otp_rules.specs.declared.work.After.{After}
-use Rattle.otp_rules.specs.declared.work.After.TheVariants as after
+use Rattle.otp_rules.specs.declared.work.Sequel.{Sequel}
+use Rattle.otp_rules.specs.declared.work.Sequel.TheVariants as sequel
 use Rattle.otp_rules.specs.declared.work.Due.{Due}
 use Rattle.otp_spec.specs.Flags.{is_simple}
 use Rattle.otp_rules.specs.State.{Outcome, State, answer, closed, emit, is_busy, with_rows, with_stamps, with_waiting, with_work}
@@ -40,19 +40,19 @@ pub record Goes (P : Outcome → Type 0) : Type 0 where
   pub left : (ps : List ℕ) (ds : List Due) (o : Outcome) → P o → P (with_work ps ds o.state.follows o)
   pub told : (id : Option Name) (p : ℕ) (s : Shutdown) (o : Outcome) → P o → P (emit (stop_order id p s) o)
   pub started : (id : Option Name) (n : ℕ) (o : Outcome) → P o → P (emit (effect.Start id n) o)
-  pub followed : (f : Option After) (o : Outcome) → o.state.follows ≡ f → P o → P (follow f o)
+  pub followed : (f : Option Sequel) (o : Outcome) → o.state.follows ≡ f → P o → P (follow f o)
 
 -- and so does each kind of change that a decision makes; k: the kind of the event, b: work was open when it came
 pub record Steady (k : Kind) (b : Bool) (P : Outcome → Type 0) : Type 0 where
   pub goes : Goes P
   pub answered : (c : ℕ) (r : Reply) (o : Outcome) → P o → P (answer c r o)
   -- work closes, opens, and ends the supervisor
-  pub closes : (f : After) (o : Outcome) → o.state.follows ≡ Some f → is_end (Some f) ≡ false → P o → P (closed o)
-  pub opens : (ps : List ℕ) (ds : List Due) (f : After) (o : Outcome) → IsIdle b o → IsRunning o → is_end (Some f) ≡ false → P o → P (with_work ps ds (Some f) o)
-  pub ends : (ps : List ℕ) (e : Ending) (o : Outcome) → (e ≡ ending.Intensity → ⊥) → (IsIdle b o × IsRunning o) ⊎ (o.state.follows ≡ Some after.Ready) → P o → P (with_work ps [] (Some (after.End e)) o)
+  pub closes : (f : Sequel) (o : Outcome) → o.state.follows ≡ Some f → is_end (Some f) ≡ false → P o → P (closed o)
+  pub opens : (ps : List ℕ) (ds : List Due) (f : Sequel) (o : Outcome) → IsIdle b o → IsRunning o → is_end (Some f) ≡ false → P o → P (with_work ps ds (Some f) o)
+  pub ends : (ps : List ℕ) (e : Ending) (o : Outcome) → (e ≡ ending.Intensity → ⊥) → (IsIdle b o × IsRunning o) ⊎ (o.state.follows ≡ Some sequel.Ready) → P o → P (with_work ps [] (Some (sequel.End e)) o)
   -- a restart: one too many, or not
-  pub exceeds : (ps : List ℕ) (o : Outcome) → IsIdle b o → IsRunning o → nat_lt o.state.flags.intensity (in_period o.state.flags.period (o.state.stamps ++ o.state.last ∷ []) o.state.last) ≡ true → P o → P (with_work ps [] (Some (after.End ending.Intensity)) (with_stamps (o.state.stamps ++ o.state.last ∷ []) o))
-  pub restarts : (ps : List ℕ) (ds : List Due) (o : Outcome) → IsIdle b o → IsRunning o → nat_lt o.state.flags.intensity (in_period o.state.flags.period (o.state.stamps ++ o.state.last ∷ []) o.state.last) ≡ false → P o → P (with_work ps ds (Some after.Nothing) (with_stamps (o.state.stamps ++ o.state.last ∷ []) o))
+  pub exceeds : (ps : List ℕ) (o : Outcome) → IsIdle b o → IsRunning o → nat_lt o.state.flags.intensity (in_period o.state.flags.period (o.state.stamps ++ o.state.last ∷ []) o.state.last) ≡ true → P o → P (with_work ps [] (Some (sequel.End ending.Intensity)) (with_stamps (o.state.stamps ++ o.state.last ∷ []) o))
+  pub restarts : (ps : List ℕ) (ds : List Due) (o : Outcome) → IsIdle b o → IsRunning o → nat_lt o.state.flags.intensity (in_period o.state.flags.period (o.state.stamps ++ o.state.last ∷ []) o.state.last) ≡ false → P o → P (with_work ps ds (Some sequel.Nothing) (with_stamps (o.state.stamps ++ o.state.last ∷ []) o))
   -- a tick, an opening
   pub ticks : (o : Outcome) → P o → P (tick o)
   pub opened : (own : ℕ) (o : Outcome) → k ≡ kind.Opened own → P o → P (open_rows own o)
@@ -109,12 +109,12 @@ stop_each-goes P t (p ∷ ps) o x =
     (λ _. stop_each-goes P t ps (tell p o) (tell-goes P t p o x))
 
 -- the supervisor ends: what the work that ends it keeps, its decision keeps
-pub terminate-goes : (P : Outcome → Type 0) → Goes P → (e : Ending) (o : Outcome) → ((ps : List ℕ) → P (with_work ps [] (Some (after.End e)) o)) → P (terminate e o)
+pub terminate-goes : (P : Outcome → Type 0) → Goes P → (e : Ending) (o : Outcome) → ((ps : List ℕ) → P (with_work ps [] (Some (sequel.End e)) o)) → P (terminate e o)
 unfolding terminate terminate_together terminate_ordered
 terminate-goes P t e o x =
     by_test P (is_simple o.state.flags.strategy) (terminate_together e o) (terminate_ordered e o)
-    (λ _. stop_each-goes P t (running o.state.rows) (calm_all (with_work [] [] (Some (after.End e)) o)) (t.rows _ (with_work [] [] (Some (after.End e)) o) (x [])))
-    (λ _. t.rows (calm_rows o.state.rows) (with_work (reverse (running o.state.rows)) [] (Some (after.End e)) o) (x (reverse (running o.state.rows))))
+    (λ _. stop_each-goes P t (running o.state.rows) (calm_all (with_work [] [] (Some (sequel.End e)) o)) (t.rows _ (with_work [] [] (Some (sequel.End e)) o) (x [])))
+    (λ _. t.rows (calm_rows o.state.rows) (with_work (reverse (running o.state.rows)) [] (Some (sequel.End e)) o) (x (reverse (running o.state.rows))))
 
 -- a restart
 restart-steady : (e : Kind) (b : Bool) (P : Outcome → Type 0) → Steady e b P → (k place : ℕ) (row : Row) (o : Outcome) → IsIdle b o → IsRunning o → P o → P (restart k place row o)
@@ -136,27 +136,27 @@ steady-survives k b P t =
       up = λ p place row q kept o at is same noted x. t.goes.rows _ o x;
       up_closed = λ p place row q kept c o at is same follows x.
           elim follows as (λ _. P _) [
-            | inl e ↦ t.closes (after.Added c) _ e refl (t.goes.rows _ o x)
-            | inr e ↦ t.closes (after.Restarted c) _ e refl (t.goes.rows _ o x)
+            | inl e ↦ t.closes (sequel.Added c) _ e refl (t.goes.rows _ o x)
+            | inr e ↦ t.closes (sequel.Restarted c) _ e refl (t.goes.rows _ o x)
           ];
       ignored = λ p place row q kept o at is same noted x. end_row-goes P t.goes place row o x;
       opening_failed = λ place row q kept o runs at is follows x.
           let down : Outcome = set_row place row Undefined o in
           terminate-goes P t.goes (ending.InitFailed row.spec.id) down (λ ps. t.ends ps (ending.InitFailed row.spec.id) down (λ h. cc) (inr follows) (t.goes.rows _ o x));
-      restart_failed = λ place row q kept o at is follows x. t.closes after.Nothing _ follows refl (t.goes.waiting _ _ (t.goes.rows _ o x));
-      added_failed = λ place row q kept c o at is follows x. t.closes (after.Added c) _ follows refl (t.goes.rows _ o x);
-      restarted_failed = λ place row q kept c o at is follows x. t.closes (after.Restarted c) _ follows refl (t.goes.rows _ o x);
+      restart_failed = λ place row q kept o at is follows x. t.closes sequel.Nothing _ follows refl (t.goes.waiting _ _ (t.goes.rows _ o x));
+      added_failed = λ place row q kept c o at is follows x. t.closes (sequel.Added c) _ follows refl (t.goes.rows _ o x);
+      restarted_failed = λ place row q kept c o at is follows x. t.closes (sequel.Restarted c) _ follows refl (t.goes.rows _ o x);
       stopped = λ p r place row o at h noted x. end_row-goes P t.goes place row o x;
       died = λ p place row o idle runs at is x. end_row-goes P t.goes place row o x;
       restarts = λ p place row o idle runs at h x. restart-steady k b P t p place row o idle runs x;
       ends = λ e o other idle runs x. terminate-goes P t.goes e o (λ ps. t.ends ps e o other (inl (idle, runs)) x);
       ticks = λ o is x. t.ticks o x;
       opens = λ own o is link over x. t.opened own o is x;
-      adds = λ c id spec o idle runs named x. t.opens _ _ (after.Added c) _ idle runs refl (t.goes.rows _ o x);
-      starts_again = λ c id place row o idle runs at h is x. t.opens _ _ (after.Restarted c) o idle runs refl x;
+      adds = λ c id spec o idle runs named x. t.opens _ _ (sequel.Added c) _ idle runs refl (t.goes.rows _ o x);
+      starts_again = λ c id place row o idle runs at h is x. t.opens _ _ (sequel.Restarted c) o idle runs refl x;
       removed = λ place row o idle runs at h x. t.goes.rows _ o x;
       given_up = λ place row o idle runs at h x. t.goes.rows _ o x;
-      stops_child = λ c p place row o idle runs at h x. t.opens _ _ (after.Stopped c) o idle runs refl x;
+      stops_child = λ c p place row o idle runs at h x. t.opens _ _ (sequel.Stopped c) o idle runs refl x;
     }
 
 -- what holds when the event's stamp is taken holds after the event

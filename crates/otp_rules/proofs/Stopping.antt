@@ -13,7 +13,7 @@ use Rattle.otp_table.specs.Rows.{with_state}
 use Rattle.otp_rules.specs.declared.call.Reply.{Reply}
 use Rattle.otp_rules.specs.declared.event.Kind.{Kind}
 use Rattle.otp_rules.specs.declared.event.Waiting.{Waiting}
-use Rattle.otp_rules.specs.declared.work.After.{After}
+use Rattle.otp_rules.specs.declared.work.Sequel.{Sequel}
 use Rattle.otp_spec.specs.Flags.{is_simple}
 use Rattle.otp_rules.specs.State.{Outcome, State, answer, put_last}
 use Rattle.otp_rules.specs.Places.{end_row, set_row}
@@ -32,7 +32,7 @@ use Rattle.otp_rules.specs.declared.event.Waiting.TheVariants as waiting
 abbrev Stopped : Progress → State → Type 0
 Stopped g s = HasWaiting s g × HasStops s g
 
-abbrev pub Carried : Option After → Progress → Outcome → Type 0
+abbrev pub Carried : Option Sequel → Progress → Outcome → Type 0
 Carried f g = While (Stopped g) f
 
 pub not_busy : (s : State) (g : Progress) → is_some s.follows ≡ false → Keeps s g
@@ -40,7 +40,7 @@ not_busy s g idle busy = absurd (false≢true (sym idle ∙ busy))
 
 pub apart-alike : (new old : Outcome) → Alike new old → ends_together new.state ≡ ends_together old.state
 apart-alike new old same =
-    ap (λ (f : Option After). is_end f && is_simple new.state.flags.strategy) same.4 ∙ ap (λ (x : SupFlags). is_end old.state.follows && is_simple x.strategy) same.0
+    ap (λ (f : Option Sequel). is_end f && is_simple new.state.flags.strategy) same.4 ∙ ap (λ (x : SupFlags). is_end old.state.follows && is_simple x.strategy) same.0
 
 -- what waits or was told stays so, or has ended
 stays-stopped : (g : Progress) (o new : Outcome) → Alike new o
@@ -125,7 +125,7 @@ stays k b g =
       ticks = λ o x. tick-stopped g1 o (λ q. tick_count (is_told q) (λ p d. refl) o) x;
     }
 
-pub carried-survives : (k : Kind) (b : Bool) (f : Option After) (g : Progress) → b ≡ is_some f → Survives k b (Carried f (went_on k g))
+pub carried-survives : (k : Kind) (b : Bool) (f : Option Sequel) (g : Progress) → b ≡ is_some f → Survives k b (Carried f (went_on k g))
 carried-survives k b f g is_base = while-survives k b f (Stopped (went_on k g)) is_base (stays k b g)
 
 -- the Exits that wait are those of the list

@@ -24,8 +24,8 @@ use Rattle.otp_rules.specs.declared.event.Kind.TheVariants as kind
 use Rattle.otp_rules.specs.declared.event.Waiting.{Waiting}
 use Rattle.otp_rules.specs.declared.event.Waiting.TheVariants as waiting
 use Rattle.otp_rules.specs.declared.work.Due.{Due}
-use Rattle.otp_rules.specs.declared.work.After.{After}
-use Rattle.otp_rules.specs.declared.work.After.TheVariants as after
+use Rattle.otp_rules.specs.declared.work.Sequel.{Sequel}
+use Rattle.otp_rules.specs.declared.work.Sequel.TheVariants as sequel
 use Rattle.otp_spec.specs.Flags.{is_simple}
 use Rattle.otp_rules.specs.State.{Outcome, State, answer, is_busy, is_over, put_last, with_stamps, with_waiting, with_work}
 use Rattle.otp_rules.specs.Places.{end_row, set_row}
@@ -97,7 +97,7 @@ terminate-same : (e : Ending) (o : Outcome) → Same o (terminate e o)
 unfolding terminate terminate_together terminate_ordered
 terminate-same e o =
     by_test (Same o) (is_simple o.state.flags.strategy) (terminate_together e o) (terminate_ordered e o)
-    (λ _. stop_each-same (running o.state.rows) (calm_all (with_work [] [] (Some (after.End e)) o)))
+    (λ _. stop_each-same (running o.state.rows) (calm_all (with_work [] [] (Some (sequel.End e)) o)))
     (λ _. refl)
 
 restart-same : (p place : ℕ) (row : Row) (o : Outcome) → Same o (restart p place row o)
@@ -227,15 +227,15 @@ decide-left kind.Stopped old = decided-same kind.Stopped old (λ resumed. absurd
 abbrev Left : Outcome → Outcome → Type 0
 Left o new = Same o new ⊎ ((new.state.waiting ≡ []) × (is_over new.state.phase ≡ true))
 
-follow-left : (f : Option After) (o : Outcome) → Left o (follow f o)
+follow-left : (f : Option Sequel) (o : Outcome) → Left o (follow f o)
 unfolding follow end_all refuse_all answer
 follow-left None o = inl refl
-follow-left (Some after.Ready) o = inl refl
-follow-left (Some after.Nothing) o = inl refl
-follow-left (Some (after.Added c)) o = inl refl
-follow-left (Some (after.Restarted c)) o = inl refl
-follow-left (Some (after.Stopped c)) o = inl refl
-follow-left (Some (after.End e)) o = inr (refl, refl)
+follow-left (Some sequel.Ready) o = inl refl
+follow-left (Some sequel.Nothing) o = inl refl
+follow-left (Some (sequel.Added c)) o = inl refl
+follow-left (Some (sequel.Restarted c)) o = inl refl
+follow-left (Some (sequel.Stopped c)) o = inl refl
+follow-left (Some (sequel.End e)) o = inr (refl, refl)
 
 start_first-left : (dues : List Due) (n : ℕ) (o : Outcome) → Left o (start_first dues n o)
 unfolding start_first start start_row

@@ -12,7 +12,7 @@ use Rattle.otp_rules.specs.declared.call.Call.{Call}
 use Rattle.otp_rules.specs.declared.call.Reply.{Reply}
 use Rattle.otp_rules.specs.declared.ending.Ending.{Ending}
 use Rattle.otp_rules.specs.declared.event.Kind.{Kind}
-use Rattle.otp_rules.specs.declared.work.After.{After}
+use Rattle.otp_rules.specs.declared.work.Sequel.{Sequel}
 use Rattle.otp_spec.specs.Flags.{is_simple}
 use Rattle.otp_rules.specs.State.{Outcome, State, answer, closed, put_last, with_rows, with_stamps, with_waiting, with_work}
 use Rattle.otp_rules.specs.Places.{end_row, set_row}
@@ -30,18 +30,18 @@ use Rattle.otp_reason.specs.declared.note.Note.TheVariants as note
 use Rattle.otp_rules.specs.declared.ending.Ending.TheVariants as ending
 use Rattle.otp_rules.specs.declared.event.Item.TheVariants as item
 use Rattle.otp_rules.specs.declared.event.Waiting.TheVariants as waiting
-use Rattle.otp_rules.specs.declared.work.After.TheVariants as after
+use Rattle.otp_rules.specs.declared.work.Sequel.TheVariants as sequel
 
 -- the work that was open is open, or has closed, or work was opened
-abbrev pub Tracks : Option After → State → Type 0
+abbrev pub Tracks : Option Sequel → State → Type 0
 Tracks f s = (s.follows ≡ f) ⊎ ((s.follows ≡ None) ⊎ (is_opened f s.follows ≡ true))
 
-pub no_after : (f : Option After) → is_some f ≡ false → f ≡ None
+pub no_after : (f : Option Sequel) → is_some f ≡ false → f ≡ None
 no_after None h = refl
 no_after (Some x) h = absurd (false≢true (sym h))
 
 -- the work is sound and tracked, and this holds while it stays open
-abbrev pub While : (State → Type 0) → Option After → Outcome → Type 0
+abbrev pub While : (State → Type 0) → Option Sequel → Outcome → Type 0
 While Q f o = IsSound o.state × Tracks f o.state × (is_opened f o.state.follows ≡ false → is_some o.state.follows ≡ true → Q o.state)
 
 -- each change that leaves the work open keeps it
@@ -54,13 +54,13 @@ pub record Stays (k : Kind) (b : Bool) (Q : State → Type 0) : Type 0 where
   pub stopped : (p : ℕ) (r : Reason) (place : ℕ) (row : Row) (o : Outcome) → StandsAt place row o → is_told p row.state ≡ true → IsNoted k b (note.Exit p r) o → is_some o.state.follows ≡ true → Q o.state → Q (end_row place row o).state
   pub ticks : (o : Outcome) → Q o.state → Q (tick o).state
 
-still : (Q : State → Type 0) (f : Option After) (o new : Outcome) → Alike new o → IsSound new.state → (is_some o.state.follows ≡ true → Q o.state → Q new.state) → While Q f o → While Q f new
+still : (Q : State → Type 0) (f : Option Sequel) (o new : Outcome) → Alike new o → IsSound new.state → (is_some o.state.follows ≡ true → Q o.state → Q new.state) → While Q f o → While Q f new
 still Q f o new same sound keeps c = (
   sound,
-  subst (λ (x : Option After). (x ≡ f) ⊎ ((x ≡ None) ⊎ (is_opened f x ≡ true))) (sym same.4) c.1,
+  subst (λ (x : Option Sequel). (x ≡ f) ⊎ ((x ≡ None) ⊎ (is_opened f x ≡ true))) (sym same.4) c.1,
   λ not busy.
-      let open_too : is_some o.state.follows ≡ true = ap (λ (x : Option After). is_some x) (sym same.4) ∙ busy in
-      keeps open_too (c.2 (ap (λ (x : Option After). is_opened f x) (sym same.4) ∙ not) open_too),
+      let open_too : is_some o.state.follows ≡ true = ap (λ (x : Option Sequel). is_some x) (sym same.4) ∙ busy in
+      keeps open_too (c.2 (ap (λ (x : Option Sequel). is_opened f x) (sym same.4) ∙ not) open_too),
 )
 
 answer-alike : (c : ℕ) (r : Reply) (o : Outcome) → Alike (answer c r o) o
@@ -72,22 +72,22 @@ unfolding tick
 tick-alike o = alike o
 
 -- no work is open
-shut : (Q : State → Type 0) (f : Option After) (new : Outcome) → is_some new.state.follows ≡ false → IsSound new.state → While Q f new
+shut : (Q : State → Type 0) (f : Option Sequel) (new : Outcome) → is_some new.state.follows ≡ false → IsSound new.state → While Q f new
 shut Q f new idle sound = (sound, inr (inl (no_after new.state.follows idle)), λ _ busy. absurd (false≢true (sym idle ∙ busy)))
 
 -- other work was opened
-other : (Q : State → Type 0) (f : Option After) (new : Outcome) → is_opened f new.state.follows ≡ true → IsSound new.state → While Q f new
+other : (Q : State → Type 0) (f : Option Sequel) (new : Outcome) → is_opened f new.state.follows ≡ true → IsSound new.state → While Q f new
 other Q f new opened sound = (sound, inr (inr opened), λ not. absurd (false≢true (sym not ∙ opened)))
 
 -- work opens where none was open
-pub opens_none : (f : Option After) (b : Bool) (new : Option After) → b ≡ is_some f → b ≡ false → is_some new ≡ true → is_opened f new ≡ true
-opens_none f b new is idle busy = subst (λ (x : Option After). is_opened x new ≡ true) (sym (no_after f (sym is ∙ idle))) busy
+pub opens_none : (f : Option Sequel) (b : Bool) (new : Option Sequel) → b ≡ is_some f → b ≡ false → is_some new ≡ true → is_opened f new ≡ true
+opens_none f b new is idle busy = subst (λ (x : Option Sequel). is_opened x new ≡ true) (sym (no_after f (sym is ∙ idle))) busy
 
-pub terminate-follows : (e : Ending) (o : Outcome) → (terminate e o).state.follows ≡ Some (after.End e)
+pub terminate-follows : (e : Ending) (o : Outcome) → (terminate e o).state.follows ≡ Some (sequel.End e)
 unfolding terminate terminate_together terminate_ordered
 terminate-follows e o =
-    by_test (λ x. x.state.follows ≡ Some (after.End e)) (is_simple o.state.flags.strategy) (terminate_together e o) (terminate_ordered e o)
-    (λ _. (stop_each-alike (running o.state.rows) (calm_all (with_work [] [] (Some (after.End e)) o))).4)
+    by_test (λ x. x.state.follows ≡ Some (sequel.End e)) (is_simple o.state.flags.strategy) (terminate_together e o) (terminate_ordered e o)
+    (λ _. (stop_each-alike (running o.state.rows) (calm_all (with_work [] [] (Some (sequel.End e)) o))).4)
     (λ _. refl)
 
 pub restart-busy : (p place : ℕ) (row : Row) (o : Outcome) → is_some (restart p place row o).state.follows ≡ true
@@ -95,7 +95,7 @@ unfolding restart restart_or_end restart_rows
 restart-busy p place row o =
     let counted : Outcome = with_stamps (o.state.stamps ++ o.state.last ∷ []) (set_row place row Undefined o) in
     cond_both (nat_lt o.state.flags.intensity (in_period o.state.flags.period (o.state.stamps ++ o.state.last ∷ []) o.state.last)) _ _ (λ (x : Outcome). is_some x.state.follows ≡ true)
-    (λ _. ap (λ (f : Option After). is_some f) (terminate-follows ending.Intensity counted))
+    (λ _. ap (λ (f : Option Sequel). is_some f) (terminate-follows ending.Intensity counted))
     (λ _. refl)
 
 open_rows-busy : (own : ℕ) (o : Outcome) → is_some (open_rows own o).state.follows ≡ true
@@ -103,21 +103,21 @@ unfolding open_rows open_with
 open_rows-busy own o = refl
 
 -- a supervisor's opening fails
-pub fails_opening : (f : Option After) (e : Ending) (s : State) → Tracks f s → s.follows ≡ Some after.Ready → is_opened f (Some (after.End e)) ≡ true
-fails_opening f e s (inl same) is = subst (λ (x : Option After). is_opened x (Some (after.End e)) ≡ true) (sym is ∙ same) refl
-fails_opening f e s (inr (inl none)) is = absurd (let k : ◌≡◌ {A = Option After} None (Some after.Ready) = sym none ∙ is in cc)
-fails_opening f e s (inr (inr opened)) is = ready_opens f (sym (ap (λ (x : Option After). is_opened f x) is) ∙ opened)
+pub fails_opening : (f : Option Sequel) (e : Ending) (s : State) → Tracks f s → s.follows ≡ Some sequel.Ready → is_opened f (Some (sequel.End e)) ≡ true
+fails_opening f e s (inl same) is = subst (λ (x : Option Sequel). is_opened x (Some (sequel.End e)) ≡ true) (sym is ∙ same) refl
+fails_opening f e s (inr (inl none)) is = absurd (let k : ◌≡◌ {A = Option Sequel} None (Some sequel.Ready) = sym none ∙ is in cc)
+fails_opening f e s (inr (inr opened)) is = ready_opens f (sym (ap (λ (x : Option Sequel). is_opened f x) is) ∙ opened)
   where
-    ready_opens : (f : Option After) → is_opened f (Some after.Ready) ≡ true → is_opened f (Some (after.End e)) ≡ true
+    ready_opens : (f : Option Sequel) → is_opened f (Some sequel.Ready) ≡ true → is_opened f (Some (sequel.End e)) ≡ true
     ready_opens None h = refl
-    ready_opens (Some after.Ready) h = refl
-    ready_opens (Some after.Nothing) h = h
-    ready_opens (Some (after.Added _)) h = h
-    ready_opens (Some (after.Restarted _)) h = h
-    ready_opens (Some (after.Stopped _)) h = h
-    ready_opens (Some (after.End _)) h = h
+    ready_opens (Some sequel.Ready) h = refl
+    ready_opens (Some sequel.Nothing) h = h
+    ready_opens (Some (sequel.Added _)) h = h
+    ready_opens (Some (sequel.Restarted _)) h = h
+    ready_opens (Some (sequel.Stopped _)) h = h
+    ready_opens (Some (sequel.End _)) h = h
 
-pub while-survives : (k : Kind) (b : Bool) (f : Option After) (Q : State → Type 0) → b ≡ is_some f → Stays k b Q → Survives k b (While Q f)
+pub while-survives : (k : Kind) (b : Bool) (f : Option Sequel) (Q : State → Type 0) → b ≡ is_some f → Stays k b Q → Survives k b (While Q f)
 while-survives k b f Q is_base t =
     let s : Survives k b (λ o. IsSound o.state) = sound-survives k b in
     record {
@@ -130,27 +130,27 @@ while-survives k b f Q is_base t =
       ignored = λ p place row q kept o at is same noted x. still Q f o (end_row place row o) (end_row-alike place row o) (s.ignored p place row q kept o at is same noted x.0) (t.ignored p place row q kept o at is same noted) x;
       opening_failed = λ place row q kept o runs at is follows x.
           other Q f (terminate (ending.InitFailed row.spec.id) (set_row place row Undefined o))
-          (ap (λ (y : Option After). is_opened f y) (terminate-follows (ending.InitFailed row.spec.id) (set_row place row Undefined o)) ∙ fails_opening f (ending.InitFailed row.spec.id) o.state x.1 follows)
+          (ap (λ (y : Option Sequel). is_opened f y) (terminate-follows (ending.InitFailed row.spec.id) (set_row place row Undefined o)) ∙ fails_opening f (ending.InitFailed row.spec.id) o.state x.1 follows)
           (s.opening_failed place row q kept o runs at is follows x.0);
       restart_failed = λ place row q kept o at is follows x. shut Q f (closed (put_last (waiting.Retry kept) (set_row place row (Restarting kept) o))) refl (s.restart_failed place row q kept o at is follows x.0);
       added_failed = λ place row q kept c o at is follows x. shut Q f (closed (with_rows (remove o.state.rows place) o)) refl (s.added_failed place row q kept c o at is follows x.0);
       restarted_failed = λ place row q kept c o at is follows x. shut Q f (closed (set_row place row Undefined o)) refl (s.restarted_failed place row q kept c o at is follows x.0);
       stopped = λ p r place row o at h noted x. still Q f o (end_row place row o) (end_row-alike place row o) (s.stopped p r place row o at h noted x.0) (t.stopped p r place row o at h noted) x;
-      died = λ p place row o idle runs at is x. shut Q f (end_row place row o) (ap (λ (y : Option After). is_some y) (end_row-alike place row o).4 ∙ idle.1) (s.died p place row o idle runs at is x.0);
+      died = λ p place row o idle runs at is x. shut Q f (end_row place row o) (ap (λ (y : Option Sequel). is_some y) (end_row-alike place row o).4 ∙ idle.1) (s.died p place row o idle runs at is x.0);
       restarts = λ p place row o idle runs at h x.
           other Q f (restart p place row o) (opens_none f b (restart p place row o).state.follows is_base idle.0 (restart-busy p place row o)) (s.restarts p place row o idle runs at h x.0);
       ends = λ e o apart idle runs x.
-          other Q f (terminate e o) (opens_none f b (terminate e o).state.follows is_base idle.0 (ap (λ (y : Option After). is_some y) (terminate-follows e o))) (s.ends e o apart idle runs x.0);
+          other Q f (terminate e o) (opens_none f b (terminate e o).state.follows is_base idle.0 (ap (λ (y : Option Sequel). is_some y) (terminate-follows e o))) (s.ends e o apart idle runs x.0);
       ticks = λ o is x. still Q f o (tick o) (tick-alike o) (s.ticks o is x.0) (λ _. t.ticks o) x;
       opens = λ own o is link over x. other Q f (open_rows own o) (opens_none f b (open_rows own o).state.follows is_base (sym link ∙ x.0.3 over) (open_rows-busy own o)) (s.opens own o is link over x.0);
       adds = λ c id spec o idle runs named x.
-          other Q f (with_work [] (record { id = id; kept = None } ∷ []) (Some (after.Added c)) (with_rows (o.state.rows ++ new_row (free_slot o.state.rows) id spec ∷ []) o))
-          (opens_none f b (Some (after.Added c)) is_base idle.0 refl) (s.adds c id spec o idle runs named x.0);
+          other Q f (with_work [] (record { id = id; kept = None } ∷ []) (Some (sequel.Added c)) (with_rows (o.state.rows ++ new_row (free_slot o.state.rows) id spec ∷ []) o))
+          (opens_none f b (Some (sequel.Added c)) is_base idle.0 refl) (s.adds c id spec o idle runs named x.0);
       starts_again = λ c id place row o idle runs at h is x.
-          other Q f (with_work [] (record { id = Some id; kept = None } ∷ []) (Some (after.Restarted c)) o)
-          (opens_none f b (Some (after.Restarted c)) is_base idle.0 refl) (s.starts_again c id place row o idle runs at h is x.0);
+          other Q f (with_work [] (record { id = Some id; kept = None } ∷ []) (Some (sequel.Restarted c)) o)
+          (opens_none f b (Some (sequel.Restarted c)) is_base idle.0 refl) (s.starts_again c id place row o idle runs at h is x.0);
       removed = λ place row o idle runs at h x. shut Q f (with_rows (remove o.state.rows place) o) idle.1 (s.removed place row o idle runs at h x.0);
       given_up = λ place row o idle runs at h x. shut Q f (set_row place row Undefined o) idle.1 (s.given_up place row o idle runs at h x.0);
       stops_child = λ c p place row o idle runs at h x.
-          other Q f (with_work (p ∷ []) [] (Some (after.Stopped c)) o) (opens_none f b (Some (after.Stopped c)) is_base idle.0 refl) (s.stops_child c p place row o idle runs at h x.0);
+          other Q f (with_work (p ∷ []) [] (Some (sequel.Stopped c)) o) (opens_none f b (Some (sequel.Stopped c)) is_base idle.0 refl) (s.stops_child c p place row o idle runs at h x.0);
     }

@@ -16,7 +16,7 @@ use Rattle.otp_rules.specs.declared.call.Call.TheVariants as call
 use Rattle.otp_rules.specs.declared.call.CallFault.{CallFault}
 use Rattle.otp_rules.specs.declared.call.CallFault.TheVariants as fault
 use Rattle.otp_rules.specs.declared.call.Reply.TheVariants as reply
-use Rattle.otp_rules.specs.declared.work.After.TheVariants as after
+use Rattle.otp_rules.specs.declared.work.Sequel.TheVariants as sequel
 use Rattle.otp_spec.specs.Flags.{is_simple}
 use Rattle.otp_rules.specs.State.{Outcome, answer, with_rows, with_work}
 use Rattle.otp_rules.specs.Places.{at_row, set_row}
@@ -36,7 +36,7 @@ unfoldable pub add_child : ℕ → Option Name → ChildSpec → Outcome → Out
 add_child c id spec o =
     if nat_le MAX_CHILDREN (length o.state.rows) then refuse c fault.TooManyChildren o
     else
-    with_work [] (record { id = id; kept = None } ∷ []) (Some (after.Added c))
+    with_work [] (record { id = id; kept = None } ∷ []) (Some (sequel.Added c))
     (with_rows (o.state.rows ++ new_row (free_slot o.state.rows) id spec ∷ []) o)
 
 -- Why a call is refused at the child that it names, by the child's state; None: it is carried out
@@ -56,7 +56,7 @@ fault_at _ _ = None
 
 -- the process is to be stopped, and then the call is answered
 unfoldable pub stop_process : ℕ → ℕ → Outcome → Outcome
-stop_process c p o = with_work (p ∷ []) [] (Some (after.Stopped c)) o
+stop_process c p o = with_work (p ∷ []) [] (Some (sequel.Stopped c)) o
 
 -- a child with a process is stopped; at one without, the call is answered, and this is how it leaves the supervisor
 abbrev pub stop_child : ℕ → RowState → Outcome → Outcome → Outcome
@@ -68,7 +68,7 @@ stop_child c _ gone o = answer c reply.Ok gone
 
 -- what a call does at the child that it names
 abbrev pub carry_out : ℕ → Call → ℕ → Row → Outcome → Outcome
-carry_out c (call.RestartChild id) place row o = with_work [] (record { id = Some id; kept = None } ∷ []) (Some (after.Restarted c)) o
+carry_out c (call.RestartChild id) place row o = with_work [] (record { id = Some id; kept = None } ∷ []) (Some (sequel.Restarted c)) o
 carry_out c (call.DeleteChild _) place row o = answer c reply.Ok (with_rows (remove o.state.rows place) o)
 carry_out c (call.TerminateChild _) place row o = stop_child c row.state (set_row place row Undefined o) o
 carry_out c (call.TerminateProcess _) place row o = stop_child c row.state (with_rows (remove o.state.rows place) o) o

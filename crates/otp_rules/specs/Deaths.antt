@@ -5,7 +5,7 @@ use Rattle.otp_table.specs.declared.row.Row.{Row}
 use Rattle.otp_table.specs.declared.row.RowState.{RowState}
 use Rattle.otp_table.specs.declared.row.RowState.TheVariants.{Asked, Killed, Starting, Undefined, Up}
 use Rattle.otp_table.specs.Rows.{awaits_retry, calm_rows, row_has}
-use Rattle.otp_rules.specs.declared.work.After.TheVariants as after
+use Rattle.otp_rules.specs.declared.work.Sequel.TheVariants as sequel
 use Rattle.otp_rules.specs.State.{Outcome, is_busy, put_last, with_rows, with_stamps, with_work}
 use Rattle.otp_rules.specs.Places.{at_number, at_row, end_row, set_row}
 use Rattle.otp_reason.specs.declared.reason.Reason.{Reason}
@@ -24,7 +24,7 @@ restart_rows from to place k o =
     (with_work
     (reverse (running (slice_range o.state.rows from to)))
     (restart_list from to place k o.state.rows)
-    (Some after.Nothing) o)
+    (Some sequel.Nothing) o)
 
 -- one restart too many within the period ends the supervisor
 unfoldable pub restart_or_end : ℕ → ℕ → Outcome → Outcome

@@ -15,7 +15,7 @@ use Rattle.otp_rules.specs.Ends.{init_failed, last_stamps}
 use Rattle.otp_rules.specs.Frames.{IsStamped}
 use Rattle.otp_rules.specs.State.{State}
 use Rattle.otp_rules.specs.declared.ending.Ending.TheVariants.{Intensity}
-use Rattle.otp_rules.specs.declared.work.After.TheVariants as after
+use Rattle.otp_rules.specs.declared.work.Sequel.TheVariants as sequel
 use Rattle.otp_rules.specs.Run.{empty_state, state_after}
 use Rattle.otp_rules.specs.Step.{step}
 
@@ -45,7 +45,7 @@ IsEvident _ = Unit {0}
 abbrev pub IsShowing : State → Type 0
 IsShowing s =
     IsNonDecreasing s.stamps × IsStamped s
-    × (s.follows ≡ Some (after.End Intensity) → IsTooMany s.flags.intensity s.flags.period (last_stamps s.flags.intensity s.stamps))
+    × (s.follows ≡ Some (sequel.End Intensity) → IsTooMany s.flags.intensity s.flags.period (last_stamps s.flags.intensity s.stamps))
 
 -- whatever happens from such a state on, each end that is ordered shows why, and the state stays such
 abbrev pub EndEvidence : Type 0

@@ -11,8 +11,8 @@ use Rattle.otp_table.specs.declared.row.RowState.{RowState}
 use Rattle.otp_table.specs.declared.row.RowState.TheVariants.{Undefined, Starting, Up, Asked, Killed, Restarting}
 use Rattle.otp_table.specs.Rows.{has_process, is_awaited, row_has}
 use Rattle.otp_rules.specs.declared.event.Event.{Event}
-use Rattle.otp_rules.specs.declared.work.After.{After}
-use Rattle.otp_rules.specs.declared.work.After.TheVariants as after
+use Rattle.otp_rules.specs.declared.work.Sequel.{Sequel}
+use Rattle.otp_rules.specs.declared.work.Sequel.TheVariants as sequel
 use Rattle.otp_rules.specs.declared.work.Due.{Due}
 use Rattle.otp_spec.specs.Flags.{is_simple}
 use Rattle.otp_rules.specs.State.{State, is_over}
@@ -48,9 +48,9 @@ is_starting m _ = false
 
 -- how many answers of children may be awaited, by what follows the open work: none where no work is open, one while
 -- children are stopped and started one after another, any number while the supervisor ends
-abbrev pub IsLimited : Option After → ℕ → Type 0
+abbrev pub IsLimited : Option Sequel → ℕ → Type 0
 IsLimited None n = n ≡ 0
-IsLimited (Some (after.End _)) n = Unit {0}
+IsLimited (Some (sequel.End _)) n = Unit {0}
 IsLimited _ n = n ≤ 1
 
 -- each process still to stop is a child's, as often as it is to stop

@@ -22,8 +22,8 @@ use Rattle.otp_rules.specs.declared.event.Kind.{Kind}
 use Rattle.otp_rules.specs.declared.event.Kind.TheVariants as kind
 use Rattle.otp_rules.specs.declared.event.Waiting.{Waiting}
 use Rattle.otp_rules.specs.declared.event.Waiting.TheVariants as waiting
-use Rattle.otp_rules.specs.declared.work.After.{After}
-use Rattle.otp_rules.specs.declared.work.After.TheVariants as after
+use Rattle.otp_rules.specs.declared.work.Sequel.{Sequel}
+use Rattle.otp_rules.specs.declared.work.Sequel.TheVariants as sequel
 use Rattle.otp_spec.specs.Flags.{is_simple}
 use Rattle.otp_rules.specs.State.{State}
 use Rattle.otp_rules.specs.Step.{decide, stamped, step}
@@ -48,14 +48,14 @@ abbrev pub no_progress : State → Progress
 no_progress s = record { opened = s; ended = []; ordered = [] }
 
 -- the work ends the supervisor
-abbrev pub is_end : Option After → Bool
-is_end (Some (after.End _)) = true
+abbrev pub is_end : Option Sequel → Bool
+is_end (Some (sequel.End _)) = true
 is_end _ = false
 
 -- work opens where none was open, and where a supervisor's opening fails and it ends
-abbrev pub is_opened : Option After → Option After → Bool
+abbrev pub is_opened : Option Sequel → Option Sequel → Bool
 is_opened None f = is_some f
-is_opened (Some after.Ready) f = is_end f
+is_opened (Some sequel.Ready) f = is_end f
 is_opened _ f = false
 
 -- all dynamic children are told to stop together (supervisor, Supervision Principles)
@@ -177,14 +177,14 @@ IsRestarted strategy rows part =
 
 -- the children that the work is about, by what is to follow it: all at the opening and at the end of the supervisor,
 -- those that a restart affects, the one that was added, or the one that a call names
-abbrev pub IsAbout : Option After → Strategy → List Row → List Row → Type 0
+abbrev pub IsAbout : Option Sequel → Strategy → List Row → List Row → Type 0
 IsAbout None strategy rows part = part ≡ []
-IsAbout (Some after.Ready) strategy rows part = part ≡ rows
-IsAbout (Some after.Nothing) strategy rows part = IsRestarted strategy rows part
-IsAbout (Some (after.Added _)) strategy rows part = IsLast rows part
-IsAbout (Some (after.Restarted _)) strategy rows part = IsOneOf rows part
-IsAbout (Some (after.Stopped _)) strategy rows part = IsOneOf rows part
-IsAbout (Some (after.End _)) strategy rows part = part ≡ rows
+IsAbout (Some sequel.Ready) strategy rows part = part ≡ rows
+IsAbout (Some sequel.Nothing) strategy rows part = IsRestarted strategy rows part
+IsAbout (Some (sequel.Added _)) strategy rows part = IsLast rows part
+IsAbout (Some (sequel.Restarted _)) strategy rows part = IsOneOf rows part
+IsAbout (Some (sequel.Stopped _)) strategy rows part = IsOneOf rows part
+IsAbout (Some (sequel.End _)) strategy rows part = part ≡ rows
 
 -- a child of this type is started again when it was stopped by a restart (Child Specification, restart)
 abbrev pub comes_back : Restart → Bool
@@ -193,14 +193,14 @@ comes_back Transient = true
 comes_back Temporary = false
 
 -- which of the children that the work is about are to be started, in start order
-abbrev pub start_list : Option After → List Row → List Row
+abbrev pub start_list : Option Sequel → List Row → List Row
 start_list None part = []
-start_list (Some after.Ready) part = part
-start_list (Some after.Nothing) part = filter (λ row. comes_back row.spec.restart) part
-start_list (Some (after.Added _)) part = part
-start_list (Some (after.Restarted _)) part = part
-start_list (Some (after.Stopped _)) part = []
-start_list (Some (after.End _)) part = []
+start_list (Some sequel.Ready) part = part
+start_list (Some sequel.Nothing) part = filter (λ row. comes_back row.spec.restart) part
+start_list (Some (sequel.Added _)) part = part
+start_list (Some (sequel.Restarted _)) part = part
+start_list (Some (sequel.Stopped _)) part = []
+start_list (Some (sequel.End _)) part = []
 
 -- these are the children that the open work is about
 abbrev pub IsPart : Progress → List Row → Type 0

@@ -5,8 +5,8 @@ use Rattle.otp_spec.specs.declared.flags.SupFlags.{SupFlags}
 use Rattle.otp_window.specs.Period.{in_period}
 use Rattle.otp_rules.specs.declared.ending.Ending.TheVariants.{Intensity}
 use Rattle.otp_rules.specs.declared.event.Event.{Event}
-use Rattle.otp_rules.specs.declared.work.After.{After}
-use Rattle.otp_rules.specs.declared.work.After.TheVariants as after
+use Rattle.otp_rules.specs.declared.work.Sequel.{Sequel}
+use Rattle.otp_rules.specs.declared.work.Sequel.TheVariants as sequel
 use Rattle.otp_rules.specs.declared.work.Phase.TheVariants.{Ended}
 use Rattle.otp_rules.specs.State.{State}
 use Rattle.otp_rules.specs.Run.{empty_state, state_after}
@@ -21,7 +21,7 @@ IsBounded flags stamps = (t : ℕ) → in_period flags.period stamps t ≤ flags
 
 -- the supervisor is ending, or has ended, since it restarted its children too often
 abbrev pub EndsByIntensity : State → Type 0
-EndsByIntensity s = (s.follows ≡ Some (after.End Intensity)) ⊎ ((own : ℕ) × (s.follows ≡ None) × (s.phase ≡ Ended own Intensity))
+EndsByIntensity s = (s.follows ≡ Some (sequel.End Intensity)) ⊎ ((own : ℕ) × (s.follows ≡ None) × (s.phase ≡ Ended own Intensity))
 
 -- the last restart was one too many, those before it were not, and the supervisor ends by it
 abbrev pub IsExceeded : State → Type 0
@@ -32,14 +32,14 @@ IsRated s = IsBounded s.flags s.stamps ⊎ IsExceeded s
 
 -- the times of the restarts since the last opening, where work was opened at this time: an opening begins anew, and a
 -- restart, also the one that is one too many, counts once
-abbrev pub restarted : Option After → ℕ → List ℕ → List ℕ
-restarted (Some after.Ready) now times = []
-restarted (Some after.Nothing) now times = times ++ now ∷ []
-restarted (Some (after.End Intensity)) now times = times ++ now ∷ []
+abbrev pub restarted : Option Sequel → ℕ → List ℕ → List ℕ
+restarted (Some sequel.Ready) now times = []
+restarted (Some sequel.Nothing) now times = times ++ now ∷ []
+restarted (Some (sequel.End Intensity)) now times = times ++ now ∷ []
 restarted _ now times = times
 
 -- where this was to follow the open work, and that is now
-abbrev pub restarts_by : Option After → Option After → ℕ → List ℕ → List ℕ
+abbrev pub restarts_by : Option Sequel → Option Sequel → ℕ → List ℕ → List ℕ
 restarts_by f follows now times = if is_opened f follows then restarted follows now times else times
 
 -- the times of the restarts after these events, seen from outside

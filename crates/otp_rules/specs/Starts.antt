@@ -9,8 +9,8 @@ use Rattle.otp_table.specs.Rows.{is_undefined}
 use Rattle.otp_rules.specs.declared.call.CallFault.TheVariants as fault
 use Rattle.otp_rules.specs.declared.call.Reply.TheVariants as reply
 use Rattle.otp_rules.specs.declared.work.Due.{Due}
-use Rattle.otp_rules.specs.declared.work.After.{After}
-use Rattle.otp_rules.specs.declared.work.After.TheVariants as after
+use Rattle.otp_rules.specs.declared.work.Sequel.{Sequel}
+use Rattle.otp_rules.specs.declared.work.Sequel.TheVariants as sequel
 use Rattle.otp_rules.specs.State.{Outcome, answer, closed, emit, put_last, with_rows}
 use Rattle.otp_rules.specs.Places.{at_number, at_row, end_row, set_row}
 use Rattle.otp_reason.specs.declared.reason.Reason.{Reason}
@@ -42,9 +42,9 @@ unfoldable pub at_starting : ℕ → (ℕ → ℕ → Row → Outcome → Outcom
 at_starting p f o = at_number p (λ place row. if_starting (λ k. f k place row) row.state) o
 
 -- process p runs: a call that started it is answered, other work goes on
-unfoldable pub up_after : ℕ → Option After → Outcome → Outcome
-up_after p (Some (after.Added call)) o = answer call (reply.OkProcess p) (closed o)
-up_after p (Some (after.Restarted call)) o = answer call (reply.OkProcess p) (closed o)
+unfoldable pub up_after : ℕ → Option Sequel → Outcome → Outcome
+up_after p (Some (sequel.Added call)) o = answer call (reply.OkProcess p) (closed o)
+up_after p (Some (sequel.Restarted call)) o = answer call (reply.OkProcess p) (closed o)
 up_after p _ o = o
 
 -- the note Up of process p
@@ -57,12 +57,12 @@ take_ignored p o = at_starting p (λ k. end_row) o
 
 -- the start failed. At the opening the supervisor ends; in a restart the next try waits (own: OTP sends itself
 -- a message); a call is answered with the reason, and the child that it added is removed
-unfoldable pub failed_after : Reason → ℕ → ℕ → Row → Option After → Outcome → Outcome
-failed_after r k place row (Some after.Ready) o = terminate (InitFailed row.spec.id) (set_row place row Undefined o)
-failed_after r k place row (Some after.Nothing) o = closed (put_last (waiting.Retry k) (set_row place row (Restarting k) o))
-failed_after r k place row (Some (after.Added call)) o =
+unfoldable pub failed_after : Reason → ℕ → ℕ → Row → Option Sequel → Outcome → Outcome
+failed_after r k place row (Some sequel.Ready) o = terminate (InitFailed row.spec.id) (set_row place row Undefined o)
+failed_after r k place row (Some sequel.Nothing) o = closed (put_last (waiting.Retry k) (set_row place row (Restarting k) o))
+failed_after r k place row (Some (sequel.Added call)) o =
     answer call (reply.Refused (fault.Start r)) (closed (with_rows (remove o.state.rows place) o))
-failed_after r k place row (Some (after.Restarted call)) o =
+failed_after r k place row (Some (sequel.Restarted call)) o =
     answer call (reply.Refused (fault.Start r)) (closed (set_row place row Undefined o))
 failed_after r k place row _ o = o
 

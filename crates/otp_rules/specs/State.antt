@@ -12,7 +12,7 @@ use Rattle.otp_rules.specs.declared.event.Waiting.{Waiting}
 use Rattle.otp_rules.specs.declared.event.Effect.{Effect}
 use Rattle.otp_rules.specs.declared.event.Effect.TheVariants as effect
 use Rattle.otp_rules.specs.declared.work.Due.{Due}
-use Rattle.otp_rules.specs.declared.work.After.{After}
+use Rattle.otp_rules.specs.declared.work.Sequel.{Sequel}
 use Rattle.otp_rules.specs.declared.work.Phase.{Phase}
 use Rattle.otp_rules.specs.declared.work.Phase.TheVariants.{Unopened, Open, Ended}
 
@@ -30,7 +30,7 @@ pub record State : Type 0 where
   -- the children still to be started, in start order
   pub to_start : List Due
   -- what follows the open work, if there is open work
-  pub follows : Option After
+  pub follows : Option Sequel
   -- what waits until no work is open
   pub waiting : List Waiting
   -- the answers to calls, in the order in which they were given
@@ -82,7 +82,7 @@ abbrev pub with_phase : Phase → Outcome → Outcome
 with_phase phase o = record o { state = record o.state { phase = phase } }
 
 -- the children still to stop and to start, and what follows
-abbrev pub with_work : List ℕ → List Due → Option After → Outcome → Outcome
+abbrev pub with_work : List ℕ → List Due → Option Sequel → Outcome → Outcome
 with_work to_stop to_start follows o =
     record o { state = record o.state { to_stop = to_stop; to_start = to_start; follows = follows } }
 

@@ -21,7 +21,7 @@ use Rattle.otp_rules.specs.declared.event.Kind.TheVariants as kind
 use Rattle.otp_rules.specs.declared.event.Waiting.{Waiting}
 use Rattle.otp_rules.specs.declared.event.Waiting.TheVariants as waiting
 use Rattle.otp_rules.specs.declared.work.Due.{Due}
-use Rattle.otp_rules.specs.declared.work.After.TheVariants as after
+use Rattle.otp_rules.specs.declared.work.Sequel.TheVariants as sequel
 use Rattle.otp_rules.specs.declared.work.Phase.TheVariants.{Open}
 use Rattle.otp_spec.specs.Flags.{is_simple}
 use Rattle.otp_rules.specs.State.{Outcome, State, answer, is_busy, is_over, put_last, with_rows, with_stamps, with_waiting, with_work, with_phase}
@@ -73,7 +73,7 @@ opening_specs false specs = specs
 
 unfoldable pub open_with : List ChildSpec → ℕ → Outcome → Outcome
 open_with specs own o =
-    with_work [] (map due_of specs) (Some after.Ready)
+    with_work [] (map due_of specs) (Some sequel.Ready)
     (with_rows (rows_from 0 specs) (with_stamps [] (with_phase (Open own) o)))
 
 -- the supervisor opens anew under its own number: all children are to be started, in order

@@ -6,7 +6,7 @@ use Rattle.otp_table.specs.declared.row.Row.{Row}
 use Rattle.otp_table.specs.declared.row.RowState.{RowState}
 use Rattle.otp_table.specs.declared.row.RowState.TheVariants.{Asked, Killed}
 use Rattle.otp_table.specs.Rows.{calm_rows}
-use Rattle.otp_rules.specs.declared.work.After.TheVariants as after
+use Rattle.otp_rules.specs.declared.work.Sequel.TheVariants as sequel
 use Rattle.otp_spec.specs.Flags.{is_simple}
 use Rattle.otp_rules.specs.State.{Outcome, emit, with_rows, with_waiting, with_work}
 use Rattle.otp_rules.specs.Places.{at_number, end_process, set_row}
@@ -67,13 +67,13 @@ calm_all o = with_rows (calm_rows o.state.rows) o
 
 -- all children are to be stopped one after another, and then the supervisor ends
 unfoldable pub terminate_ordered : Ending → Outcome → Outcome
-terminate_ordered ending o = calm_all (with_work (reverse (running o.state.rows)) [] (Some (after.End ending)) o)
+terminate_ordered ending o = calm_all (with_work (reverse (running o.state.rows)) [] (Some (sequel.End ending)) o)
 
 -- all dynamic children are told to stop together, and when all have ended the supervisor ends
 -- (supervisor, Supervision Principles: children of simple_one_for_one are terminated asynchronously, in an order
 -- that is not defined; start order is own)
 unfoldable pub terminate_together : Ending → Outcome → Outcome
-terminate_together ending o = stop_each (running o.state.rows) (calm_all (with_work [] [] (Some (after.End ending)) o))
+terminate_together ending o = stop_each (running o.state.rows) (calm_all (with_work [] [] (Some (sequel.End ending)) o))
 
 unfoldable pub terminate : Ending → Outcome → Outcome
 terminate ending o =

@@ -4,8 +4,8 @@ use Rattle.std.specs.Prelude.{ℕ, ◌∷◌, List, None, Option, Some, [], if�
 use Rattle.otp_table.specs.Rows.{is_awaited, row_has}
 use Rattle.otp_rules.specs.declared.call.Reply.TheVariants as reply
 use Rattle.otp_rules.specs.declared.work.Due.{Due}
-use Rattle.otp_rules.specs.declared.work.After.{After}
-use Rattle.otp_rules.specs.declared.work.After.TheVariants as after
+use Rattle.otp_rules.specs.declared.work.Sequel.{Sequel}
+use Rattle.otp_rules.specs.declared.work.Sequel.TheVariants as sequel
 use Rattle.otp_rules.specs.State.{Outcome, answer, closed, emit, is_busy, with_work}
 use Rattle.otp_rules.specs.Stops.{is_exit, tell, use_exit}
 use Rattle.otp_rules.specs.declared.event.Effect.TheVariants as effect
@@ -14,14 +14,14 @@ use Rattle.otp_rules.specs.Ends.{end_all}
 use Rattle.otp_rules.specs.Starts.{start}
 
 -- what follows the work, which closes
-unfoldable pub follow : Option After → Outcome → Outcome
+unfoldable pub follow : Option Sequel → Outcome → Outcome
 follow None o = o
-follow (Some after.Ready) o = emit effect.Ready (closed o)
-follow (Some after.Nothing) o = closed o
-follow (Some (after.Added call)) o = answer call reply.OkUndefined (closed o)
-follow (Some (after.Restarted call)) o = answer call reply.OkUndefined (closed o)
-follow (Some (after.Stopped call)) o = answer call reply.Ok (closed o)
-follow (Some (after.End ending)) o = end_all ending o
+follow (Some sequel.Ready) o = emit effect.Ready (closed o)
+follow (Some sequel.Nothing) o = closed o
+follow (Some (sequel.Added call)) o = answer call reply.OkUndefined (closed o)
+follow (Some (sequel.Restarted call)) o = answer call reply.OkUndefined (closed o)
+follow (Some (sequel.Stopped call)) o = answer call reply.Ok (closed o)
+follow (Some (sequel.End ending)) o = end_all ending o
 
 -- the first child to start gets the number
 unfoldable pub start_first : List Due → ℕ → Outcome → Outcome

@@ -14,4 +14,4 @@ pub mod work;
 pub use call::{Answered, Call, CallFault, ChildLine, ChildLines, ChildProcess, CountsNow, Reply};
 pub use ending::{Cause, Ending, Stamps, SupEnd};
 pub use event::{Effect, Event, Item, Kind, Waiting};
-pub use work::{After, Due, Phase};
+pub use work::{Due, Phase, Sequel};

@@ -12,7 +12,7 @@ pub struct Due {
 
 /// What follows once the children to stop have ended and those to start have been started.
 #[derive(Clone, Copy, Debug, PartialEq, Eq)]
-pub enum After {
+pub enum Sequel {
     /// The opening is done.
     Ready,
     /// A restart is done.

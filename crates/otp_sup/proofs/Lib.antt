@@ -1,7 +1,6 @@
 pub mod Keeps
 pub mod Sends
 pub mod Slots
-pub mod FreeSlots
 pub mod Keeping
 pub mod Putting
 pub mod Calls

@@ -15,14 +15,14 @@ ghost use Rattle.otp_sup.specs.Turns.{is_told, may_open, due_kind, early_answer,
 
 use crate::client::is_start_call;
 use crate::orders::first_order;
-use crate::rows::{free_slot, has_slot, slot_heeding};
+use crate::rows::{has_slot, slot_heeding};
 use crate::turns::{TurnAnswer, TurnFault};
 use otp_core::{Core, OpenFault};
 use otp_reason::Note;
 use otp_rules::{Event, Item, Kind, Phase, Reply, Waiting, laws};
 use otp_signals::{Owner, Signal, Words, WordsNaming};
 use otp_spec::{ChildSpec, SupFlags};
-use otp_table::Row;
+use otp_table::{Row, free_slot};
 use otp_tally::Tally;
 use std::alloc::Global;
 use std::marker::{Model, PhantomData};

@@ -1,7 +1,7 @@
 //! Which child has a process, and which slots the children have.
 ghost use Rattle.std.specs.Prelude.{◌≡◌, ◌≤◌, length, position};
 ghost use Rattle.std.specs.List.{list_any};
-ghost use Rattle.otp_table.specs.Rows.{free_slot, has_process, has_slot, row_has};
+ghost use Rattle.otp_table.specs.Rows.{has_process, has_slot, row_has};
 ghost use Rattle.otp_sup.specs.Bodies.{is_heeded, is_starting_as, slot_heeding};
 ghost use Rattle.otp_sup.specs.Slots.{AreBelow, AreTaken, slot_of};
 
@@ -46,23 +46,6 @@ pub(crate) fn is_taken(rows: &[Row], taken: &[bool; 256], slot: usize) -> bool
     ensures { result ≡ list_any (has_slot slot) rows.now }
 {
     slot < 256 && taken[slot]
-}
-
-/// The least slot that no row has.
-#[tactic(auto, unfolding(otp_table::specs::Rows::free_slot))]
-pub(crate) fn free_slot(rows: &[Row]) -> usize
-    requires { length rows.now ≤ 256 }
-    ensures { result ≡ free_slot rows.now }
-{
-    let taken = taken_slots(rows);
-    let mut slot = 0;
-    while slot < rows.len() {
-        if !taken[slot] {
-            return slot;
-        }
-        slot += 1;
-    }
-    slot
 }
 
 /// Whether a row has this slot.

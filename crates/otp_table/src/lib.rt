@@ -8,4 +8,4 @@ mod search;
 pub use otp_spec::MAX_CHILDREN;
 pub use row::{Row, RowState};
 pub use rows::Rows;
-pub use search::slot_of;
+pub use search::{free_slot, slot_of};

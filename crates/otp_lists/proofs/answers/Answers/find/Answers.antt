@@ -2,7 +2,7 @@ use Rattle.std.proofs.Common.{ap, sym, ◌∙◌, List, Some, get_or, map}
 use Rattle.otp_rules.specs.declared.call.Reply.{Reply}
 use Rattle.otp_rules.specs.declared.call.Reply.TheVariants as reply
 use Rattle.otp_rules.specs.Run.{reply_of}
-use Rattle.otp_lists.specs.declared.answers.Told.{Told}
+use Rattle.otp_lists.specs.declared.answers.Answer.{Answer}
 use Rattle.otp_lists.specs.AnswersInside.{answer_in}
 use Rattle.otp_lists.specs.Kept.{Kept}
 use Rattle.otp_lists.proofs.Replies.{within_list}
@@ -16,7 +16,7 @@ reply_at-requires c =
 pub returns-in-Some : goal.returns-in-Some
 returns-in-Some c =
     sym (ap (λ (k : Kept). reply_of c.args.call k.answers) c.self.view_is)
-    ∙ ap (λ (ts : List Told). reply_of c.args.call (map (answer_in c.self.inside.replies.items) ts)) (sym c.deref.ensures.value)
+    ∙ ap (λ (ts : List Answer). reply_of c.args.call (map (answer_in c.self.inside.replies.items) ts)) (sym c.deref.ensures.value)
     ∙ (c.in-Some.ensures {u = tt}).some c.self.inside.replies.items
     ∙ ap (λ (r : Reply). Some r)
     (ap (λ (rs : List Reply). get_or rs c.in-Some.place reply.Ok) (sym c.deref-in-Some.ensures.value) ∙ sym c.reply_at.ensures)
