@@ -109,13 +109,18 @@ impl Halves {
     }
 }
 
+/// What stands between a number of restarts and the period.
+fn restarts_words(count: u64) -> &'static str {
+    if count == 1 { " restart in " } else { " restarts in " }
+}
+
 /// What is said of a supervisor: how it restarts, and when it ends by itself.
 fn halves_of_flags(alloc: Global, flags: &SupFlags) -> Result<Halves, AllocError> {
     let mut first = Vec::new(alloc);
     first.extend_from_slice(strategy_word(flags.strategy).as_bytes())?;
     first.extend_from_slice(b", ")?;
     write_number(flags.intensity, &mut first)?;
-    first.extend_from_slice(b" restarts in ")?;
+    first.extend_from_slice(restarts_words(flags.intensity).as_bytes())?;
     write_number(flags.period, &mut first)?;
     first.extend_from_slice(b" s")?;
     let mut second = Vec::new(alloc);

@@ -1,5 +1,5 @@
 -- What the program did to its input, its output and the standard error, by how it ended (own).
-use Rattle.std.specs.Prelude.{◌≡◌, ◌⊎◌, ℕ, ◌<◌, ◌≤◌, length, Bool, true, false, List, [], ◌++◌, Option, Some, None, option_map, Ok, Err}
+use Rattle.std.specs.Prelude.{◌≡◌, ◌⊎◌, ℕ, ◌<◌, ◌≤◌, length, Bool, true, false, List, [], ◌∷◌, ◌++◌, Option, Some, None, option_map, Ok, Err}
 use Rattle.std.specs.Io.KnownBytes.{Appends}
 use Rattle.otp_file.specs.declared.fault.TreeFault.{TreeFault}
 use Rattle.otp_file.specs.declared.fault.TreeFault.TheVariants.{NotToml}
@@ -16,6 +16,8 @@ use Rattle.otp_console.specs.declared.ending.Ending.TheVariants.{Done, WordsRefu
 use Rattle.otp_console.specs.declared.files.TheConstants.{LARGEST_TREE}
 use Rattle.otp_console.specs.declared.words.Command.{Command}
 use Rattle.otp_console.specs.declared.words.Command.TheVariants as command
+use Rattle.otp_console.specs.declared.words.Usage.{Usage}
+use Rattle.otp_console.specs.declared.words.Usage.TheVariants as usage
 
 -- the file says a tree, and its supervisor was played to this end
 abbrev pub Played : SimEnd → List ℕ → Devices → Devices → Type 0
@@ -62,17 +64,9 @@ Answers WordsRefused old new = new ≡ old
 Answers NoCommand old new = new ≡ old
 Answers WordNotText old new = new ≡ old
 Answers FileAsCommand old new = new ≡ old
-Answers TreeNotRead old new = ⊥
-Answers FileNotRead old new = ⊥
-Answers (TreeRefused why) old new = ⊥
-Answers FaultsFound old new = ⊥
-Answers (LineRefused line) old new = ⊥
-Answers (ScriptRefused line why) old new = ⊥
-Answers (ScriptMissed line why) old new = ⊥
-Answers HistoryFull old new = ⊥
-Answers InputFailed old new = ⊥
 Answers OutputFailed old new = IsUnread old new × (old.write_failures < new.write_failures)
 Answers OutOfMemory old new = new ≡ old
+Answers _ old new = ⊥
 
 -- a tree file that is parsed by what people use: it is not too large for a tree
 abbrev pub IsSmall : List ℕ → Type 0
@@ -85,118 +79,112 @@ HasTree file = (tree : Tree) × Says file (Ok tree)
 -- a tree was tried by the lines of a script; want of memory may end it before, and says nothing of the file
 abbrev pub IsTrial : Ending → List ℕ → Devices → Devices → Type 0
 IsTrial Done file old new = HasTree file
-IsTrial WordsRefused file old new = ⊥
-IsTrial NoCommand file old new = ⊥
-IsTrial WordNotText file old new = ⊥
-IsTrial FileAsCommand file old new = ⊥
-IsTrial TreeNotRead file old new = ⊥
-IsTrial FileNotRead file old new = ⊥
 IsTrial (TreeRefused why) file old new = (new ≡ old) × IsRefused why file
-IsTrial FaultsFound file old new = ⊥
-IsTrial (LineRefused line) file old new = ⊥
 IsTrial (ScriptRefused line why) file old new = HasTree file
 IsTrial (ScriptMissed line why) file old new = HasTree file
 IsTrial HistoryFull file old new = HasTree file
 IsTrial InputFailed file old new = HasTree file
 IsTrial OutputFailed file old new = HasTree file
 IsTrial OutOfMemory file old new = (new ≡ old) ⊎ HasTree file
+IsTrial _ file old new = ⊥
 
--- of a script in a file nothing of the input was read
-abbrev pub ReadsScript : Option (List ℕ) → Devices → Devices → Type 0
-ReadsScript None old new = Unit {0}
-ReadsScript (Some name) old new = IsUnread old new
+-- what a writer shows: the bytes that were written, where they are known, and how often it has failed
+pub record Written : Type 0 where
+  pub bytes : Option (List ℕ)
+  pub failures : ℕ
 
--- the trial of a file whose bytes are known to be so, by a script: one of the two can't be read, or the tree was tried
-abbrev pub Tries : (List ℕ → Type 0) → Option (List ℕ) → Ending → Devices → Devices → Type 0
-Tries Holds script ending old new =
-    ((ending ≡ FileNotRead) × (new ≡ old)) ⊎ ((ending ≡ OutOfMemory) × (new ≡ old))
-    ⊎ ((file : List ℕ) × ((Holds file × IsSmall file) × IsTrial ending file old new × ReadsScript script old new))
+abbrev pub writer_of : Devices → Written
+writer_of devices = record { bytes = devices.written; failures = devices.write_failures }
 
 -- a text was written, and so it ends well; or the writer failed
 abbrev pub IsWritten : Ending → Ending → ℕ → ℕ → Type 0
 IsWritten ending well failures_before failures_now = (ending ≡ well) ⊎ ((ending ≡ OutputFailed) × (failures_before < failures_now))
 
+-- what is said of a tree could not be: the file says none, there is no memory, or the writer failed
+abbrev pub IsNotSaid : Ending → List ℕ → Written → Written → Type 0
+IsNotSaid (TreeRefused why) file old new = (new ≡ old) × IsRefused why file
+IsNotSaid OutputFailed file old new = HasTree file × (old.failures < new.failures)
+IsNotSaid OutOfMemory file old new = new ≡ old
+IsNotSaid _ file old new = ⊥
+
+-- a tree was drawn
+abbrev pub IsDrawn : Ending → List ℕ → Written → Written → Type 0
+IsDrawn Done file old new = HasTree file
+IsDrawn ending file old new = IsNotSaid ending file old new
+
+-- the limits of a tree were written
+abbrev pub IsLimited : Ending → List ℕ → Written → Written → Type 0
+IsLimited Done file old new = (text : List ℕ) × (HasLimits file text × Appends old.bytes new.bytes text)
+IsLimited HistoryFull file old new = (new ≡ old) × HasTree file
+IsLimited ending file old new = IsNotSaid ending file old new
+
+-- the script is in another file, of which nothing of the input is read: that can't be read, or the tree was tried by it
+abbrev pub IsTrialOf : Option (List ℕ) → Ending → List ℕ → Devices → Devices → Type 0
+IsTrialOf None ending file old new = IsTrial ending file old new
+IsTrialOf (Some script) ending file old new =
+    ((ending ≡ FileNotRead) × (new ≡ old)) ⊎ ((ending ≡ OutOfMemory) × (new ≡ old))
+    ⊎ (IsTrial ending file old new × IsUnread old new)
+
+-- a tree file was used so
+abbrev pub IsUsed : Usage → Ending → List ℕ → Devices → Devices → Type 0
+IsUsed (usage.Try script writer) ending file old new = IsTrialOf (option_map (λ name. name.now) script) ending file old new
+IsUsed usage.Draw ending file old new = IsUnread old new × IsDrawn ending file (writer_of old) (writer_of new)
+IsUsed usage.Limit ending file old new = IsUnread old new × IsLimited ending file (writer_of old) (writer_of new)
+
+-- the same of a file whose bytes are known to be so: it can't be read, or it was used
+abbrev pub Uses : (List ℕ → Type 0) → Usage → Ending → Devices → Devices → Type 0
+Uses Holds usage ending old new =
+    ((ending ≡ FileNotRead) × (new ≡ old)) ⊎ ((ending ≡ OutOfMemory) × (new ≡ old))
+    ⊎ ((file : List ℕ) × ((Holds file × IsSmall file) × IsUsed usage ending file old new))
+
 -- a file was checked: nothing is written to be wrong in it exactly where it says a tree
-abbrev pub IsChecked : Ending → List ℕ → Devices → Devices → Type 0
-IsChecked Done file old new = HasTree file × IsUnread old new
-IsChecked WordsRefused file old new = ⊥
-IsChecked NoCommand file old new = ⊥
-IsChecked WordNotText file old new = ⊥
-IsChecked FileAsCommand file old new = ⊥
-IsChecked TreeNotRead file old new = ⊥
-IsChecked FileNotRead file old new = ⊥
-IsChecked (TreeRefused why) file old new = ⊥
-IsChecked FaultsFound file old new = ((why : TreeFault) × IsRefused why file) × IsUnread old new
-IsChecked (LineRefused line) file old new = ⊥
-IsChecked (ScriptRefused line why) file old new = ⊥
-IsChecked (ScriptMissed line why) file old new = ⊥
-IsChecked HistoryFull file old new = ⊥
-IsChecked InputFailed file old new = ⊥
-IsChecked OutputFailed file old new = IsUnread old new × (old.write_failures < new.write_failures)
-IsChecked OutOfMemory file old new = IsUnread old new
+abbrev pub IsChecked : Ending → List ℕ → Written → Written → Type 0
+IsChecked Done file old new = HasTree file
+IsChecked FaultsFound file old new = (why : TreeFault) × IsRefused why file
+IsChecked OutputFailed file old new = old.failures < new.failures
+IsChecked OutOfMemory file old new = new ≡ old
+IsChecked _ file old new = ⊥
 
 -- the check of a file whose bytes are known to be so: it can't be read, or it was checked
-abbrev pub Checks : (List ℕ → Type 0) → Ending → Devices → Devices → Type 0
+abbrev pub Checks : (List ℕ → Type 0) → Ending → Written → Written → Type 0
 Checks Holds ending old new =
     ((ending ≡ FileNotRead) × (new ≡ old)) ⊎ ((ending ≡ OutOfMemory) × (new ≡ old))
     ⊎ ((file : List ℕ) × ((Holds file × IsSmall file) × IsChecked ending file old new))
 
--- a tree was drawn, or its file says none
-abbrev pub IsDrawn : Ending → List ℕ → Devices → Devices → Type 0
-IsDrawn Done file old new = HasTree file × IsUnread old new
-IsDrawn WordsRefused file old new = ⊥
-IsDrawn NoCommand file old new = ⊥
-IsDrawn WordNotText file old new = ⊥
-IsDrawn FileAsCommand file old new = ⊥
-IsDrawn TreeNotRead file old new = ⊥
-IsDrawn FileNotRead file old new = ⊥
-IsDrawn (TreeRefused why) file old new = (new ≡ old) × IsRefused why file
-IsDrawn FaultsFound file old new = ⊥
-IsDrawn (LineRefused line) file old new = ⊥
-IsDrawn (ScriptRefused line why) file old new = ⊥
-IsDrawn (ScriptMissed line why) file old new = ⊥
-IsDrawn HistoryFull file old new = ⊥
-IsDrawn InputFailed file old new = ⊥
-IsDrawn OutputFailed file old new = IsUnread old new × (old.write_failures < new.write_failures)
-IsDrawn OutOfMemory file old new = new ≡ old
+-- whether the next file is checked after a check that ended so
+abbrev pub goes_on : Ending → Bool
+goes_on Done = true
+goes_on FaultsFound = true
+goes_on _ = false
 
-abbrev pub Draws : (List ℕ → Type 0) → Ending → Devices → Devices → Type 0
-Draws Holds ending old new =
-    ((ending ≡ FileNotRead) × (new ≡ old)) ⊎ ((ending ≡ OutOfMemory) × (new ≡ old))
-    ⊎ ((file : List ℕ) × ((Holds file × IsSmall file) × IsDrawn ending file old new))
+-- how two checks end, one after the other: faults in one are faults of both
+abbrev pub worse : Ending → Ending → Ending
+worse first Done = first
+worse first rest = rest
 
--- the limits of a tree were written, or its file says none
-abbrev pub IsLimited : Ending → List ℕ → Devices → Devices → Type 0
-IsLimited Done file old new = ((text : List ℕ) × (HasLimits file text × Appends old.written new.written text)) × IsUnread old new
-IsLimited WordsRefused file old new = ⊥
-IsLimited NoCommand file old new = ⊥
-IsLimited WordNotText file old new = ⊥
-IsLimited FileAsCommand file old new = ⊥
-IsLimited TreeNotRead file old new = ⊥
-IsLimited FileNotRead file old new = ⊥
-IsLimited (TreeRefused why) file old new = (new ≡ old) × IsRefused why file
-IsLimited FaultsFound file old new = ⊥
-IsLimited (LineRefused line) file old new = ⊥
-IsLimited (ScriptRefused line why) file old new = ⊥
-IsLimited (ScriptMissed line why) file old new = ⊥
-IsLimited HistoryFull file old new = (new ≡ old) × HasTree file
-IsLimited InputFailed file old new = ⊥
-IsLimited OutputFailed file old new = IsUnread old new × (old.write_failures < new.write_failures)
-IsLimited OutOfMemory file old new = new ≡ old
+-- these files were checked, one after the other, and after each the next could be; before them it was to end so
+abbrev pub ChecksEach : {T : Type 0} → (T → List ℕ → Type 0) → List T → Ending → Ending → Written → Written → Type 0
+ChecksEach Holds [] so_far ending old new = (ending ≡ so_far) × (new ≡ old)
+ChecksEach Holds (name ∷ names) so_far ending old new =
+    (next : Ending) × (mid : Written) × (goes_on next ≡ true) × Checks (Holds name) next old mid
+    × ChecksEach Holds names (worse so_far next) ending mid new
 
--- the same of a file whose bytes are known to be so: it can't be read, or its limits were written
-abbrev pub Limits : (List ℕ → Type 0) → Ending → Devices → Devices → Type 0
-Limits Holds ending old new =
-    ((ending ≡ FileNotRead) × (new ≡ old)) ⊎ ((ending ≡ OutOfMemory) × (new ≡ old))
-    ⊎ ((file : List ℕ) × ((Holds file × IsSmall file) × IsLimited ending file old new))
+-- the first of these files were checked so, and the check of the next one ended it
+abbrev pub ChecksFirst : {T : Type 0} → (T → List ℕ → Type 0) → List T → Ending → Written → Written → Type 0
+ChecksFirst {T} Holds names ending old new =
+    (first : List T) × (name : T) × (others : List T) × (so_far : Ending) × (mid : Written)
+    × (names ≡ first ++ name ∷ others) × ChecksEach Holds first Done so_far old mid × (goes_on ending ≡ false) × Checks (Holds name) ending mid new
+
+-- these files were checked, or the first of them up to one whose check ended it
+abbrev pub ChecksAll : {T : Type 0} → (T → List ℕ → Type 0) → List T → Ending → Written → Written → Type 0
+ChecksAll Holds names ending old new = ChecksEach Holds names Done ending old new ⊎ ChecksFirst Holds names ending old new
 
 -- what a command asks for was done
 abbrev pub Does : (List ℕ → List ℕ → Type 0) → Command → Ending → Devices → Devices → Type 0
 Does Holds (command.Sim file) ending old new = Simulates (Holds file.now) ending old new
-Does Holds (command.Check file) ending old new = Checks (Holds file.now) ending old new
-Does Holds (command.Tree file) ending old new = Draws (Holds file.now) ending old new
-Does Holds (command.Limits file) ending old new = Limits (Holds file.now) ending old new
-Does Holds (command.Try file script writer) ending old new = Tries (Holds file.now) (option_map (λ name. name.now) script) ending old new
+Does Holds (command.Check files) ending old new =
+    IsUnread old new × ChecksAll (λ name. Holds name.now) files.items ending (writer_of old) (writer_of new)
+Does Holds (command.Use file usage) ending old new = Uses (Holds file.now) usage ending old new
 
 -- what the words ask for was done, for some command; or the words alone were answered
 abbrev pub Obeys : (List ℕ → List ℕ → Type 0) → Ending → Devices → Devices → Type 0
@@ -208,22 +196,9 @@ IsTold text before now failures_before failures_now = (failures_before < failure
 
 -- what is told before the program ends: why `clap` refuses the words, and why a file can't be read
 abbrev pub is_told_first : Ending → Bool
-is_told_first Done = false
 is_told_first WordsRefused = true
-is_told_first NoCommand = false
-is_told_first WordNotText = false
-is_told_first FileAsCommand = false
-is_told_first TreeNotRead = false
 is_told_first FileNotRead = true
-is_told_first (TreeRefused why) = false
-is_told_first FaultsFound = false
-is_told_first (LineRefused line) = false
-is_told_first (ScriptRefused line why) = false
-is_told_first (ScriptMissed line why) = false
-is_told_first HistoryFull = false
-is_told_first InputFailed = false
-is_told_first OutputFailed = false
-is_told_first OutOfMemory = false
+is_told_first _ = false
 
 -- before the program ends nothing else is told
 abbrev pub TellsFirst : Ending → Option (List ℕ) → Option (List ℕ) → ℕ → ℕ → Type 0

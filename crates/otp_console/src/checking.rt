@@ -1,6 +1,6 @@
 //! `check` and `tree`: what a tree file says, and what is wrong in it.
 
-ghost use Rattle.std.specs.Prelude.{ℕ, List, Option, ◌≤◌, ◌<◌, OnErr};
+ghost use Rattle.std.specs.Prelude.{◌≤◌, ◌<◌, OnErr};
 ghost use Rattle.otp_console.specs.Runs.{IsChecked, IsDrawn, IsWritten};
 ghost use Rattle.otp_console.specs.declared.ending.Ending.TheVariants.{Done, FaultsFound};
 
@@ -12,9 +12,9 @@ use std::alloc::Global;
 
 /// Writes all that is wrong in a file, a line for each fault, that for which its tree is refused first.
 pub fn check_file<W: Output>(alloc: Global, name: &str, file: &[u8], output: &mut W) -> Ending
-    ensures { (left : Option (List ℕ)) (failures : ℕ) → IsChecked result file.now
-        (record { left = left; written = W.contents output.old; read_failures = failures; write_failures = W.failures output.old })
-        (record { left = left; written = W.contents output.new; read_failures = failures; write_failures = W.failures output.new }) }
+    ensures { IsChecked result file.now
+        (record { bytes = W.contents output.old; failures = W.failures output.old })
+        (record { bytes = W.contents output.new; failures = W.failures output.new }) }
 {
     let Ok(findings) = check(alloc, file) else {
         return Ending::OutOfMemory;
@@ -74,9 +74,9 @@ fn write_line<W: Output>(name: &str, text: &[u8], output: &mut W) -> Result<(), 
 
 /// Draws the tree that a file says.
 pub fn draw_file<W: Output>(alloc: Global, file: &[u8], output: &mut W) -> Ending
-    ensures { (left : Option (List ℕ)) (failures : ℕ) → IsDrawn result file.now
-        (record { left = left; written = W.contents output.old; read_failures = failures; write_failures = W.failures output.old })
-        (record { left = left; written = W.contents output.new; read_failures = failures; write_failures = W.failures output.new }) }
+    ensures { IsDrawn result file.now
+        (record { bytes = W.contents output.old; failures = W.failures output.old })
+        (record { bytes = W.contents output.new; failures = W.failures output.new }) }
 {
     let tree = match read_tree(alloc, file) {
         Ok(tree) => tree,

@@ -3,7 +3,7 @@
 ghost use Rattle.std.specs.Prelude.{◌≡◌, ◌⊎◌, ◌≤◌, ◌<◌, ◌++◌, decimal, OnOk, OnErr};
 ghost use Rattle.std.specs.IoError.{error_kind};
 ghost use Rattle.std.specs.Io.KnownBytes.{Appends};
-ghost use Rattle.otp_console.specs.Runs.{IsTold};
+ghost use Rattle.otp_console.specs.Runs.{IsTold, goes_on, worse};
 ghost use Rattle.otp_console.specs.Statuses.{IsOfFile, line_text, sentence_of, status_of};
 ghost use Rattle.otp_console.specs.declared.ending.Ending.TheVariants.{OutOfMemory, TreeNotRead};
 
@@ -62,6 +62,23 @@ impl Ending {
             Ending::LineRefused(_) | Ending::HistoryFull | Ending::InputFailed => 3,
             Ending::OutputFailed | Ending::OutOfMemory => 4,
             Ending::ScriptRefused(..) | Ending::ScriptMissed(..) => 5,
+        }
+    }
+
+    /// Whether the next file is checked after a check that ended so.
+    pub(crate) fn goes_on(&self) -> bool
+        ensures { result ≡ goes_on self.now }
+    {
+        matches!(self, Ending::Done | Ending::FaultsFound)
+    }
+
+    /// How two checks end, one after the other.
+    pub(crate) fn worse(self, next: Ending) -> Self
+        ensures { result ≡ worse self next }
+    {
+        match next {
+            Ending::Done => self,
+            _ => next,
         }
     }
 

@@ -1,6 +1,6 @@
 //! The files that the program reads.
 
-ghost use Rattle.std.specs.Prelude.{ℕ, List, ◌≡◌, ◌≤◌, ◌<◌, ◌++◌, ◌⊎◌, IfErr, IfOk, OnOk, OnErr, vec_len};
+ghost use Rattle.std.specs.Prelude.{ℕ, List, ◌≡◌, ◌≤◌, ◌<◌, ◌++◌, ◌⊎◌, IfErr, IfOk, OnOk, OnErr, codes, vec_len};
 ghost use Rattle.std.specs.Io.KnownBytes.{Appends};
 ghost use Rattle.otp_console.specs.Runs.{TellsFirst};
 ghost use Rattle.otp_console.specs.Statuses.{not_read_text};
@@ -27,9 +27,26 @@ pub trait TreeFiles {
     /// The bytes of a file.
     fn read(&self, name: &str) -> io::Result<Vec<u8>>
         ensures { IfOk result (λ file. holds self.now name.now file.items) };
+
+    /// The bytes of standard input, which is the file `-`. Of more than a tree file may have not all are read.
+    fn read_input(&self) -> io::Result<Vec<u8>>
+        ensures { IfOk result (λ file. holds self.now (codes "-") file.items) };
+
+    /// Whether somebody writes the lines of standard input at a terminal.
+    fn is_terminal(&self) -> bool;
 }
 
-/// The bytes of a file.
+/// The bytes of the file of this name; `-` is standard input.
+fn read_named<F: TreeFiles>(files: &F, name: &str) -> io::Result<Vec<u8>>
+    ensures { IfOk result (λ file. F.holds files.now name.now file.items) }
+{
+    match name.as_bytes() {
+        b"-" => files.read_input(),
+        _ => files.read(name),
+    }
+}
+
+/// The bytes of a file; `-` is standard input.
 ///
 /// # Errors
 ///
@@ -45,7 +62,7 @@ pub(crate) fn read_file<F: TreeFiles, E: Output>(
     ensures first { IfErr result (λ ending. TellsFirst ending (E.contents errors.old) (E.contents errors.new) (E.failures errors.old) (E.failures errors.new)) }
     ensures kept { E.failures errors.old ≤ E.failures errors.new }
 {
-    let error = match files.read(name) {
+    let error = match read_named(files, name) {
         Ok(file) => return Ok(file),
         Err(error) => error,
     };

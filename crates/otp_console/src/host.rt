@@ -1,9 +1,10 @@
 //! The program on the system that it is run on.
 
-use crate::files::TreeFiles;
+use crate::files::{LARGEST_TREE, TreeFiles};
 use crate::program::run;
 use crate::words::words_of;
 use otp_sim::Counted;
+use std::io::{IsTerminal, Read};
 use std::process::ExitCode;
 use std::{fs, io};
 
@@ -29,5 +30,17 @@ impl TreeFiles for HostRuntime {
 
     fn read(&self, name: &str) -> io::Result<Vec<u8>> {
         fs::read(self, name)
+    }
+
+    fn read_input(&self) -> io::Result<Vec<u8>> {
+        let most = LARGEST_TREE as u64;
+        let mut bytes = Vec::new(self.alloc());
+        let mut input = self.stdin().take(most.saturating_add(1));
+        input.read_to_end(&mut bytes)?;
+        Ok(bytes)
+    }
+
+    fn is_terminal(&self) -> bool {
+        self.stdin().is_terminal()
     }
 }

@@ -1,6 +1,6 @@
 //! `limits`: what does each child's failure cost?
 
-ghost use Rattle.std.specs.Prelude.{ℕ, List, Option, ◌≡◌};
+ghost use Rattle.std.specs.Prelude.{◌≡◌};
 ghost use Rattle.otp_console.specs.Limited.{ending_of_halt};
 ghost use Rattle.otp_console.specs.Runs.{IsLimited};
 
@@ -13,9 +13,9 @@ use std::alloc::Global;
 /// Reads the tree of a file, plays crashes of each child of its supervisor, and writes what they cost.
 #[tactic(auto, unfolding(otp_spec::specs::Supervisor::supervisor_fault))]
 pub fn limit_file<W: Output>(alloc: Global, file: &[u8], output: &mut W) -> Ending
-    ensures { (left : Option (List ℕ)) (failures : ℕ) → IsLimited result file.now
-        (record { left = left; written = W.contents output.old; read_failures = failures; write_failures = W.failures output.old })
-        (record { left = left; written = W.contents output.new; read_failures = failures; write_failures = W.failures output.new }) }
+    ensures { IsLimited result file.now
+        (record { bytes = W.contents output.old; failures = W.failures output.old })
+        (record { bytes = W.contents output.new; failures = W.failures output.new }) }
 {
     let tree = match read_tree(alloc, file) {
         Ok(tree) => tree,

@@ -1,7 +1,7 @@
 //! The program but for the system under it: what it does for which words, and what it tells on which stream.
 
-ghost use Rattle.std.specs.Prelude.{ℕ, List, Option, ◌≡◌, ◌≤◌, ◌⊎◌, IfErr, IfOk, OnOk, option_map};
-ghost use Rattle.otp_console.specs.Runs.{Answers, Checks, Does, Draws, IsProgramRun, IsTrial, Limits, Obeys, Simulates, TellsFirst, Tries};
+ghost use Rattle.std.specs.Prelude.{ℕ, List, Option, ◌≡◌, ◌≤◌, ◌⊎◌, IfErr, IfOk, OnOk, option_map, true};
+ghost use Rattle.otp_console.specs.Runs.{Answers, Checks, ChecksAll, Does, IsProgramRun, IsTrial, IsTrialOf, IsUsed, Obeys, Simulates, TellsFirst, Uses, goes_on};
 ghost use Rattle.otp_console.specs.declared.ending.Ending.TheVariants as end;
 ghost use Rattle.otp_console.specs.Words.{EndsFor};
 ghost use Rattle.otp_console.specs.declared.words.WordsFault.TheVariants.{Clap};
@@ -12,7 +12,7 @@ use crate::ending::{Ending, tell};
 use crate::files::{TreeFiles, read_file, read_tree_file};
 use crate::limiting::limit_file;
 use crate::trying::try_file;
-use crate::words::{Command, WordsFault, read_words};
+use crate::words::{Command, Usage, WordsFault, read_words};
 use clap::Error;
 use otp_sim::{Counted, Failed, Input, Output, write_all};
 use otp_try::Writer;
@@ -80,14 +80,8 @@ pub fn do_command<F: TreeFiles, R: Input, W: Output, E: Output>(
 {
     match command {
         Command::Sim { file } => simulate(alloc, files, file, input, output),
-        Command::Try {
-            file,
-            script,
-            writer,
-        } => try_named(alloc, files, file, script, writer, input, output, errors),
-        Command::Check { file } => check_named(alloc, files, file, output, errors),
-        Command::Tree { file } => draw_named(alloc, files, file, output, errors),
-        Command::Limits { file } => limit_named(alloc, files, file, output, errors),
+        Command::Check { files: names } => check_all(alloc, files, names.as_slice(), output, errors),
+        Command::Use { file, usage } => use_named(alloc, files, file, usage, input, output, errors),
     }
 }
 
@@ -109,33 +103,83 @@ fn simulate<F: TreeFiles, R: Input, W: Output>(
     }
 }
 
-/// Tries the tree of a file by the lines of a script, which is another file or the input.
-fn try_named<F: TreeFiles, R: Input, W: Output, E: Output>(
+/// Uses the tree file of this name.
+fn use_named<F: TreeFiles, R: Input, W: Output, E: Output>(
     alloc: Global,
     files: &F,
     name: &str,
+    usage: Usage<'_>,
+    input: &mut R,
+    output: &mut W,
+    errors: &mut E,
+) -> Ending
+    ensures done { Uses (F.holds files.now name.now) usage.entry result
+        (record { left = R.remaining input.old; written = W.contents output.old; read_failures = R.failures input.old; write_failures = W.failures output.old })
+        (record { left = R.remaining input.new; written = W.contents output.new; read_failures = R.failures input.new; write_failures = W.failures output.new }) }
+    ensures first { TellsFirst result (E.contents errors.old) (E.contents errors.new) (E.failures errors.old) (E.failures errors.new) }
+    ensures kept { E.failures errors.old ≤ E.failures errors.new }
+{
+    match read_tree_file(files, name, errors) {
+        Ok(file) => use_file(alloc, files, &file, usage, input, output, errors),
+        Err(ending) => ending,
+    }
+}
+
+/// Uses a tree file that was read.
+fn use_file<F: TreeFiles, R: Input, W: Output, E: Output>(
+    alloc: Global,
+    files: &F,
+    file: &[u8],
+    usage: Usage<'_>,
+    input: &mut R,
+    output: &mut W,
+    errors: &mut E,
+) -> Ending
+    ensures done { IsUsed usage.entry result file.now
+        (record { left = R.remaining input.old; written = W.contents output.old; read_failures = R.failures input.old; write_failures = W.failures output.old })
+        (record { left = R.remaining input.new; written = W.contents output.new; read_failures = R.failures input.new; write_failures = W.failures output.new }) }
+    ensures first { TellsFirst result (E.contents errors.old) (E.contents errors.new) (E.failures errors.old) (E.failures errors.new) }
+    ensures kept { E.failures errors.old ≤ E.failures errors.new }
+{
+    match usage {
+        Usage::Try { script, writer } => try_by(alloc, files, file, script, writer, input, output, errors),
+        Usage::Draw => draw_file(alloc, file, output),
+        Usage::Limit => limit_file(alloc, file, output),
+    }
+}
+
+/// Tries the tree of a file by the lines of a script, which is another file or the input.
+fn try_by<F: TreeFiles, R: Input, W: Output, E: Output>(
+    alloc: Global,
+    files: &F,
+    file: &[u8],
     script: Option<&str>,
     writer: Writer,
     input: &mut R,
     output: &mut W,
     errors: &mut E,
 ) -> Ending
-    ensures done { Tries (F.holds files.now name.now) (option_map (λ script. script.now) script.entry) result
+    ensures done { IsTrialOf (option_map (λ script. script.now) script.entry) result file.now
         (record { left = R.remaining input.old; written = W.contents output.old; read_failures = R.failures input.old; write_failures = W.failures output.old })
         (record { left = R.remaining input.new; written = W.contents output.new; read_failures = R.failures input.new; write_failures = W.failures output.new }) }
     ensures first { TellsFirst result (E.contents errors.old) (E.contents errors.new) (E.failures errors.old) (E.failures errors.new) }
     ensures kept { E.failures errors.old ≤ E.failures errors.new }
 {
-    let file = match read_tree_file(files, name, errors) {
-        Ok(file) => file,
-        Err(ending) => return ending,
-    };
     let Some(script) = script else {
-        return try_file(alloc, &file, writer, input, output);
+        return try_file(alloc, file, writer_at(files, writer), input, output);
     };
     match read_file(files, script, errors) {
-        Ok(lines) => try_lines(alloc, &file, writer, &lines, output),
+        Ok(lines) => try_lines(alloc, file, writer, &lines, output),
         Err(ending) => ending,
+    }
+}
+
+/// Who writes the lines of the input: a person at a terminal does, whatever the words say.
+fn writer_at<F: TreeFiles>(files: &F, writer: Writer) -> Writer {
+    if files.is_terminal() {
+        Writer::Person
+    } else {
+        writer
     }
 }
 
@@ -155,6 +199,31 @@ fn try_lines<W: Output>(
     try_file(alloc, file, writer, &mut script, output)
 }
 
+/// Checks files, one after the other, as long as they can be read and it can be written what is wrong in them.
+fn check_all<F: TreeFiles, W: Output, E: Output>(
+    alloc: Global,
+    files: &F,
+    names: &[&str],
+    output: &mut W,
+    errors: &mut E,
+) -> Ending
+    ensures done { ChecksAll (λ name. F.holds files.now name.now) names.now result
+        (record { bytes = W.contents output.old; failures = W.failures output.old })
+        (record { bytes = W.contents output.new; failures = W.failures output.new }) }
+    ensures first { TellsFirst result (E.contents errors.old) (E.contents errors.new) (E.failures errors.old) (E.failures errors.new) }
+    ensures kept { E.failures errors.old ≤ E.failures errors.new }
+{
+    let mut ending = Ending::Done;
+    for name in names {
+        let next = check_named(alloc, files, name, output, errors);
+        if !next.goes_on() {
+            return next;
+        }
+        ending = ending.worse(next);
+    }
+    ending
+}
+
 /// Checks a file.
 fn check_named<F: TreeFiles, W: Output, E: Output>(
     alloc: Global,
@@ -163,54 +232,15 @@ fn check_named<F: TreeFiles, W: Output, E: Output>(
     output: &mut W,
     errors: &mut E,
 ) -> Ending
-    ensures done { (left : Option (List ℕ)) (failures : ℕ) → Checks (F.holds files.now name.now) result
-        (record { left = left; written = W.contents output.old; read_failures = failures; write_failures = W.failures output.old })
-        (record { left = left; written = W.contents output.new; read_failures = failures; write_failures = W.failures output.new }) }
+    ensures done { Checks (F.holds files.now name.now) result
+        (record { bytes = W.contents output.old; failures = W.failures output.old })
+        (record { bytes = W.contents output.new; failures = W.failures output.new }) }
+    ensures silent { goes_on result ≡ true → errors.new ≡ errors.old }
     ensures first { TellsFirst result (E.contents errors.old) (E.contents errors.new) (E.failures errors.old) (E.failures errors.new) }
     ensures kept { E.failures errors.old ≤ E.failures errors.new }
 {
     match read_tree_file(files, name, errors) {
         Ok(file) => check_file(alloc, name, &file, output),
-        Err(ending) => ending,
-    }
-}
-
-/// Draws the tree of a file.
-fn draw_named<F: TreeFiles, W: Output, E: Output>(
-    alloc: Global,
-    files: &F,
-    name: &str,
-    output: &mut W,
-    errors: &mut E,
-) -> Ending
-    ensures done { (left : Option (List ℕ)) (failures : ℕ) → Draws (F.holds files.now name.now) result
-        (record { left = left; written = W.contents output.old; read_failures = failures; write_failures = W.failures output.old })
-        (record { left = left; written = W.contents output.new; read_failures = failures; write_failures = W.failures output.new }) }
-    ensures first { TellsFirst result (E.contents errors.old) (E.contents errors.new) (E.failures errors.old) (E.failures errors.new) }
-    ensures kept { E.failures errors.old ≤ E.failures errors.new }
-{
-    match read_tree_file(files, name, errors) {
-        Ok(file) => draw_file(alloc, &file, output),
-        Err(ending) => ending,
-    }
-}
-
-/// Writes what the failure of each child of a file's tree costs.
-fn limit_named<F: TreeFiles, W: Output, E: Output>(
-    alloc: Global,
-    files: &F,
-    name: &str,
-    output: &mut W,
-    errors: &mut E,
-) -> Ending
-    ensures done { (left : Option (List ℕ)) (failures : ℕ) → Limits (F.holds files.now name.now) result
-        (record { left = left; written = W.contents output.old; read_failures = failures; write_failures = W.failures output.old })
-        (record { left = left; written = W.contents output.new; read_failures = failures; write_failures = W.failures output.new }) }
-    ensures first { TellsFirst result (E.contents errors.old) (E.contents errors.new) (E.failures errors.old) (E.failures errors.new) }
-    ensures kept { E.failures errors.old ≤ E.failures errors.new }
-{
-    match read_tree_file(files, name, errors) {
-        Ok(file) => limit_file(alloc, &file, output),
         Err(ending) => ending,
     }
 }

@@ -26,10 +26,14 @@ const TRY_ABOUT: &str = "Says what a tree does where a script says what goes wro
 const TRY_EXAMPLE: &str =
     "Example: otp try examples/storm.toml examples/storm_survived.script\nA script has lines as `at 1s crash db`, `+500ms fail db`, `hang db`, `stop`; docs/FORMATS.md has them all.\nStatus 5: a line can't be read or could do nothing.";
 
-const CHECK_ABOUT: &str = "Says all that is wrong in a tree file, and where";
+const FILE_ALONE: &str = "The tree file, in TOML";
+
+const FILE_OR_INPUT: &str = "The tree file, in TOML; - is standard input";
+
+const CHECK_ABOUT: &str = "Says all that is wrong in tree files, and where";
 
 const CHECK_EXAMPLE: &str =
-    "Example: otp check examples/storm.toml\nStatus 0: the file says a tree; 1: it says none.";
+    "Example: otp check examples/storm.toml examples/shop.toml\nStatus 0: each file says a tree; 1: one says none, or can't be read, after which none is checked.";
 
 const TREE_ABOUT: &str = "Draws a tree as text";
 
@@ -48,30 +52,35 @@ const SIM_ABOUT: &str =
 const SIM_EXAMPLE: &str =
     "Example: otp sim examples/three_workers.toml < examples/three_workers.events\nStatus 3: a line is refused.";
 
-/// What the words ask for.
+/// What a tree file is used for.
 #[derive(Clone, Copy, Debug, PartialEq, Eq)]
+pub enum Usage<'a> {
+    /// Its tree is tried by the script of another file, or of the input where none is named.
+    Try {
+        script: Option<&'a str>,
+        writer: Writer,
+    },
+    /// Its tree is drawn.
+    Draw,
+    /// It is found what the failure of each child costs.
+    Limit,
+}
+
+/// What the words ask for.
+#[derive(Drop)]
 pub enum Command<'a> {
     /// A run of `sim`, on the tree file of this name.
     Sim {
         file: &'a str,
     },
-    /// A trial of the tree file of this name, by the script of another file, or of the input where none is named.
-    Try {
-        file: &'a str,
-        script: Option<&'a str>,
-        writer: Writer,
-    },
-    /// All that is wrong in the tree file of this name.
+    /// All that is wrong in the tree files of these names.
     Check {
-        file: &'a str,
+        files: Vec<&'a str>,
     },
-    /// A picture of the tree in the file of this name.
-    Tree {
+    /// Something else, of the tree file of this name.
+    Use {
         file: &'a str,
-    },
-    /// What the failure of each child costs, of the tree file of this name.
-    Limits {
-        file: &'a str,
+        usage: Usage<'a>,
     },
 }
 
@@ -149,71 +158,105 @@ fn is_file_alone<S: AsStr>(words: &[S]) -> bool {
     }
 }
 
-/// A command over a tree file: its name, what it does, and an example.
+/// A command: its name, what it does, and an example.
+fn new_command<'a>(
+    alloc: Global,
+    name: &'a str,
+    about: &'a str,
+    example: &'a str,
+) -> clap::Command<'a> {
+    clap::Command::new(alloc, name)
+        .about(about)
+        .after_help(example)
+}
+
+/// A command over a tree file, by these words for it.
 fn file_command<'a>(
     alloc: Global,
     name: &'a str,
     about: &'a str,
     example: &'a str,
+    help: &'a str,
 ) -> Result<clap::Command<'a>, AllocError> {
     let file = Arg::new(alloc, "FILE")
         .required(true)
-        .help("The tree file, in TOML");
-    clap::Command::new(alloc, name)
-        .about(about)
-        .after_help(example)
-        .arg(file)
+        .help(help);
+    new_command(alloc, name, about, example).arg(file)
+}
+
+/// `check FILE..`.
+fn check_command<'a>(alloc: Global) -> Result<clap::Command<'a>, AllocError> {
+    let files = Arg::new(alloc, "FILE")
+        .required(true)
+        .num_args(1..)
+        .help("Tree files, in TOML; - is standard input");
+    new_command(alloc, "check", CHECK_ABOUT, CHECK_EXAMPLE).arg(files)
 }
 
 /// `try FILE [SCRIPT]`.
 fn try_command<'a>(alloc: Global) -> Result<clap::Command<'a>, AllocError> {
     let script = Arg::new(alloc, "SCRIPT").help(
-        "A script; without one its lines are standard input",
+        "A script; without one, or for -, its lines are standard input",
     );
     let prompt = Arg::new(alloc, "prompt")
         .long("prompt")
         .action(ArgAction::SetTrue)
         .help(
-            "Shows how the supervisor stands before each line, and goes on after one that is refused",
+            "Shows how the supervisor stands before each line, and goes on after one that is refused; so it is at a terminal",
         );
-    file_command(alloc, "try", TRY_ABOUT, TRY_EXAMPLE)?
+    file_command(alloc, "try", TRY_ABOUT, TRY_EXAMPLE, FILE_OR_INPUT)?
         .arg(script)?
         .arg(prompt)
 }
 
 /// What the words after `try` ask for.
-fn read_try<'a>(found: &ArgMatches<'a>) -> Result<Command<'a>, WordsFault>
-    ensures { IfErr result IsHandedOn }
-{
+fn read_try<'a>(found: &ArgMatches<'a>) -> Usage<'a> {
     let writer = if found.get_flag("prompt") {
         Writer::Person
     } else {
         Writer::Script
     };
-    match found.get_str("FILE") {
-        Some(file) => Ok(Command::Try {
-            file,
-            script: found.get_str("SCRIPT"),
-            writer,
-        }),
+    let script = match found.get_str("SCRIPT") {
+        Some("-") => None,
+        script => script,
+    };
+    Usage::Try { script, writer }
+}
+
+/// The files that the words after `check` name.
+fn read_check<'a>(alloc: Global, found: &ArgMatches<'a>) -> Result<Command<'a>, WordsFault>
+    ensures { IfErr result IsHandedOn }
+{
+    match found.get_strs("FILE") {
+        Some(names) => {
+            let files = Vec::from_slice(alloc, names)?;
+            Ok(Command::Check { files })
+        }
         None => Err(WordsFault::NoCommand),
     }
 }
 
 /// What the words after a command ask for.
-fn read_command<'a>(name: &str, found: &ArgMatches<'a>) -> Result<Command<'a>, WordsFault>
+fn read_command<'a>(
+    alloc: Global,
+    name: &str,
+    found: &ArgMatches<'a>,
+) -> Result<Command<'a>, WordsFault>
     ensures { IfErr result IsHandedOn }
 {
+    if name == "check" {
+        return read_check(alloc, found);
+    }
     let Some(file) = found.get_str("FILE") else {
         return Err(WordsFault::NoCommand);
     };
-    match name {
+    let usage = match name {
         "try" => read_try(found),
-        "check" => Ok(Command::Check { file }),
-        "tree" => Ok(Command::Tree { file }),
-        "limits" => Ok(Command::Limits { file }),
-        _ => Ok(Command::Sim { file }),
-    }
+        "tree" => Usage::Draw,
+        "limits" => Usage::Limit,
+        _ => return Ok(Command::Sim { file }),
+    };
+    Ok(Command::Use { file, usage })
 }
 
 /// The program's command.
@@ -223,10 +266,10 @@ fn otp_command<'a>(alloc: Global) -> Result<clap::Command<'a>, AllocError> {
         .version(VERSION)
         .after_help(OTP_STATUSES)
         .subcommand(try_command(alloc)?)?
-        .subcommand(file_command(alloc, "check", CHECK_ABOUT, CHECK_EXAMPLE)?)?
-        .subcommand(file_command(alloc, "tree", TREE_ABOUT, TREE_EXAMPLE)?)?
-        .subcommand(file_command(alloc, "limits", LIMITS_ABOUT, LIMITS_EXAMPLE)?)?
-        .subcommand(file_command(alloc, "sim", SIM_ABOUT, SIM_EXAMPLE)?)
+        .subcommand(check_command(alloc)?)?
+        .subcommand(file_command(alloc, "tree", TREE_ABOUT, TREE_EXAMPLE, FILE_OR_INPUT)?)?
+        .subcommand(file_command(alloc, "limits", LIMITS_ABOUT, LIMITS_EXAMPLE, FILE_OR_INPUT)?)?
+        .subcommand(file_command(alloc, "sim", SIM_ABOUT, SIM_EXAMPLE, FILE_ALONE)?)
 }
 
 /// Reads the words of the command line, the program's own name first.
@@ -244,7 +287,7 @@ pub fn read_words<'a, S: AsStr>(alloc: Global, words: &'a [S]) -> Result<Command
     let command = otp_command(alloc)?;
     let matches = command.try_get_matches_from(words)?;
     match matches.subcommand() {
-        Some((name, found)) => read_command(name, found),
+        Some((name, found)) => read_command(alloc, name, found),
         None => Err(WordsFault::NoCommand),
     }
 }

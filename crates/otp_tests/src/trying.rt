@@ -131,7 +131,7 @@ fn missed_lines(rt: HostRuntime) -> Result<(), Fail> {
         rt.alloc(),
         Writer::Person,
         "crash bd\n",
-        "0.000 s  start db #1\n0.000 s  ready\n0.000 s  1 up, 0/3 restarts in 10 s> \
+        "0.000 s  start db #1\n0.000 s  ready\nhelp lists what may be written here\n0.000 s  1 up, 0/3 restarts in 10 s> \
 ignored: there is no such child; which lists the children\n0.000 s  1 up, 0/3 restarts in 10 s> 0.000 s  1 up, 0/3 restarts in 10 s\n",
         TryEnd::Done,
     )
@@ -153,8 +153,8 @@ fn nested_tree(rt: HostRuntime) -> Result<(), Fail> {
 line 1: crash sub\n0.000 s  start sub #3\n0.000 s  start sub/x #4\n0.000 s  sub/ ready\n\
 line 2: sub/ which\n0.000 s  sub/ reply 1 which x,#4,worker,x\nline 3: +1s hang #4\nline 4: fail sub/x\n\
 line 5: crash sub/x\n1.000 s  start sub/x #5\n\
-1.000 s  sub/ end shutdown: more than 1 restarts within 5 s: at 1.000 s, 1.000 s\n\
-1.000 s  end shutdown: more than 1 restarts within 10 s: at 0.000 s, 1.000 s\n1.000 s  the supervisor has ended\n",
+1.000 s  sub/ end shutdown: more than 1 restart within 5 s: at 1.000 s, 1.000 s\n\
+1.000 s  end shutdown: more than 1 restart within 10 s: at 0.000 s, 1.000 s\n1.000 s  the supervisor has ended\n",
         TryEnd::Done,
     )
 }

@@ -1,5 +1,5 @@
 -- What is told of a run: each order as a line, at the time at which it was given, with the path of its supervisor (own).
-use Rattle.std.specs.Prelude.{ℕ, ◌/◌, ◌%◌, List, [], ◌∷◌, ◌++◌, Option, codes, decimal, if◌then◌else◌, nat_lt}
+use Rattle.std.specs.Prelude.{ℕ, ◌==◌, ◌/◌, ◌%◌, List, [], ◌∷◌, ◌++◌, Option, codes, decimal, if◌then◌else◌, nat_lt}
 use Rattle.std.specs.List.{flat_map}
 use Rattle.otp_reason.specs.declared.name.Name.{Name}
 use Rattle.otp_reason.specs.Names.{name_bytes}
@@ -38,9 +38,14 @@ times_text (time ∷ times) = time_text time ++ flat_map next_time_text times
 unfoldable pub number_after : List ℕ → ℕ → List ℕ
 number_after before number = before ++ decimal number
 
+-- the word behind a number of restarts
+unfoldable pub restarts_word : ℕ → List ℕ
+restarts_word n = if n == 1 then codes " restart" else codes " restarts"
+
 -- the intensity and the period in seconds
 unfoldable pub limit_text : SupFlags → List ℕ
-limit_text flags = number_after (codes "more than ") flags.intensity ++ number_after (codes " restarts within ") flags.period
+limit_text flags =
+    number_after (codes "more than ") flags.intensity ++ restarts_word flags.intensity ++ number_after (codes " within ") flags.period
 
 -- more restarts than the intensity within the period, and when they were
 unfoldable pub restarts_text : SupFlags → List ℕ → List ℕ

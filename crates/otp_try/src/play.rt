@@ -3,13 +3,17 @@
 ghost use Rattle.std.specs.Prelude.{◌≡◌, ◌≤◌, ◌<◌, ◌^◌, IfOk, IfSome, length, vec_len};
 
 use crate::awaited::write_awaited;
+use crate::finding::{Found, found_for};
 use crate::script::{Action, Child, ScriptFault, Step, When, read_step};
 use crate::seat::Seat;
 use crate::state::write_state;
 use crate::telling::write_heading;
 use crate::time::write_time;
 use crate::trial::{Halt, LAST_TIME, Taken, Trial};
+use crate::words::next_word;
 use otp_file::TreeSpec;
+use otp_reason::Name;
+use otp_rules::Call;
 use otp_sim::{Failed, Input, Output, write_all};
 use otp_text::{LONGEST_LINE, write_number};
 use std::alloc::{AllocError, Global};
@@ -61,6 +65,26 @@ pub enum Writer {
     Person,
 }
 
+/// What a person may write at the prompt.
+const HELP: &str = "\
+crash CHILD [REASON]   its process ends, with error:crash if no reason is given\n\
+exit CHILD REASON      its process ends with this reason\n\
+fail ID [REASON]       its next start fails\n\
+ignore ID              its next start answers ignore\n\
+hang CHILD             it doesn't end when it is next asked to\n\
+stop                   the supervisor is asked to shut down\n\
+which, count, get ID, restart ID, terminate ID, delete ID, start ..\n\
+                       calls of the supervisor\n\
+at 10s, +500ms         the clock goes there, alone or before other words\n\
+CHILD is an id, or a process number as #3; below the root it has its path, as\n\
+sub/x. The end of the input ends the trial.\n";
+
+/// What a person is told first.
+const WELCOME: &str = "help lists what may be written here\n";
+
+/// What stands behind the number of a line that names a child which isn't there.
+const UNKNOWN_NAME: &str = ": there is no such child; which lists the children\n";
+
 /// How many bytes are read at once.
 const PIECE: usize = 65536;
 
@@ -79,6 +103,10 @@ impl Play {
     /// A line of the script: what it does is put on the page.
     fn take_line(&mut self, line: &[u8]) -> Result<(), TryEnd> {
         self.lines = self.lines.saturating_add(1);
+        if self.writer == Writer::Person && is_help(line) {
+            self.page.extend_from_slice(HELP.as_bytes())?;
+            return Ok(());
+        }
         match read_step(line) {
             Ok(step) => self.take_step(line, step),
             Err(fault) => self.refuse(fault),
@@ -102,10 +130,35 @@ impl Play {
             return self.miss(Taken::TooLate);
         };
         self.trial.go_to(time, &mut self.page)?;
+        let is_unknown = self.means_nobody(step);
         match self.act(step)? {
+            Taken::Done if is_unknown => self.tell_unknown(),
             Taken::Done => Ok(()),
             taken => self.miss(taken),
         }
+    }
+
+    /// Whether a line is a call that names a child which the supervisor doesn't have. The answer is the core's; whoever
+    /// mistyped the name is told so beside it.
+    fn means_nobody(&self, step: Step<'_>) -> bool {
+        let Some(id) = named_in(step.action) else {
+            return false;
+        };
+        if self.trial.has_ended() {
+            return false;
+        }
+        match self.place_of(step) {
+            None => false,
+            Some(place) => !has_child(self.trial.seats(), place, &id),
+        }
+    }
+
+    /// Puts on the page that a line names a child that isn't there.
+    fn tell_unknown(&mut self) -> Result<(), TryEnd> {
+        self.page.extend_from_slice(b"line ")?;
+        write_number(self.lines, &mut self.page)?;
+        self.page.extend_from_slice(UNKNOWN_NAME.as_bytes())?;
+        Ok(())
     }
 
     /// What a line says is done at the supervisor that it means.
@@ -206,6 +259,14 @@ impl Play {
         Ok(())
     }
 
+    /// Puts on the page how to go on, for a person.
+    fn write_welcome(&mut self) -> Result<(), AllocError> {
+        if self.writer == Writer::Script {
+            return Ok(());
+        }
+        self.page.extend_from_slice(WELCOME.as_bytes())
+    }
+
     /// Puts the prompt on the page, for a person.
     fn write_prompt(&mut self) -> Result<(), AllocError> {
         if self.writer == Writer::Script {
@@ -232,6 +293,33 @@ fn write_standing(seat: &Seat, now: u64, out: &mut Vec<u8>) -> Result<(), AllocE
         return out.extend_from_slice(b"the supervisor has ended");
     }
     write_state(&seat.flags(), seat.rows(), seat.restarts(), now, out)
+}
+
+/// Whether a line asks for help.
+fn is_help(line: &[u8]) -> bool {
+    match next_word(line) {
+        None => false,
+        Some((word, _)) => word == b"help".as_slice(),
+    }
+}
+
+/// The child that a call names, which has to be there for the call.
+fn named_in(action: Action) -> Option<Name> {
+    match action {
+        Action::Call(Call::RestartChild(id)) => Some(id),
+        Action::Call(Call::DeleteChild(id)) => Some(id),
+        Action::Call(Call::GetChildspec(id)) => Some(id),
+        Action::Call(Call::TerminateChild(id)) => Some(id),
+        _ => None,
+    }
+}
+
+/// Whether the supervisor at this place has a child with this id.
+fn has_child(seats: &[Seat], place: usize, id: &Name) -> bool {
+    match seats.get(place) {
+        None => false,
+        Some(seat) => found_for(&Child::Named(*id), seat.rows()) != Found::NoChild,
+    }
 }
 
 /// The line says nothing: it is empty, or a comment.
@@ -268,6 +356,7 @@ impl Play {
         input: &mut R,
         output: &mut W,
     ) -> Result<(), TryEnd> {
+        self.write_welcome()?;
         let mut buffer = zeros(alloc, PIECE)?;
         let mut kept = Vec::new(alloc);
         for _ in 0..u64::MAX {

@@ -2,7 +2,7 @@
 
 ghost use Rattle.std.specs.Prelude.{◌≡◌, ◌++◌, OnOk};
 ghost use Rattle.otp_core.specs.View.{state_of};
-ghost use Rattle.otp_try.specs.Story.{cause_text, child_order, end_text, heading, limit_text, number_after, number_between, order_text, restarts_text, told_line, told_lines};
+ghost use Rattle.otp_try.specs.Story.{cause_text, child_order, end_text, heading, limit_text, number_after, number_between, order_text, restarts_text, restarts_word, told_line, told_lines};
 
 use crate::time::{write_time, write_times};
 use otp_core::Core;
@@ -21,13 +21,26 @@ fn write_after(before: &[u8], number: u64, out: &mut Vec<u8>) -> Result<(), Allo
     write_number(number, out)
 }
 
+/// Appends the word behind a number of restarts.
+#[tactic(auto, unfolding(crate::specs::Story::restarts_word))]
+fn write_restarts_word(count: u64, out: &mut Vec<u8>) -> Result<(), AllocError>
+    ensures { OnOk result (out.new.items ≡ out.old.items ++ restarts_word count) }
+{
+    if count == 1 {
+        out.extend_from_slice(b" restart")
+    } else {
+        out.extend_from_slice(b" restarts")
+    }
+}
+
 /// Appends the intensity and the period.
 #[tactic(auto, unfolding(crate::specs::Story::limit_text))]
 fn write_limit(flags: &SupFlags, out: &mut Vec<u8>) -> Result<(), AllocError>
     ensures { OnOk result (out.new.items ≡ out.old.items ++ limit_text flags.now) }
 {
     write_after(b"more than ", flags.intensity, out)?;
-    write_after(b" restarts within ", flags.period, out)
+    write_restarts_word(flags.intensity, out)?;
+    write_after(b" within ", flags.period, out)
 }
 
 /// Appends that there were more restarts than the intensity within the period, and when they were.

@@ -2,6 +2,8 @@
 
 use crate::files::TreeFiles;
 use crate::program::run;
+use crate::tests::commands::{COMMANDS, FILES};
+use crate::tests::with_status;
 use crate::words::WordsFault;
 use otp_sim::Counted;
 use std::alloc::{AllocError, Global};
@@ -30,6 +32,41 @@ impl<'a> TreeFiles for Shelf<'a> {
             Some(kind) => Err(Error::from(kind)),
             None => Ok(Vec::from_slice(self.alloc, self.text.as_bytes())?),
         }
+    }
+
+    fn read_input(&self) -> io::Result<Vec<u8>> {
+        Ok(Vec::from_slice(self.alloc, self.text.as_bytes())?)
+    }
+
+    fn is_terminal(&self) -> bool {
+        false
+    }
+}
+
+/// The tree files that the words of transcripts name.
+#[derive(Drop)]
+struct Folder {
+    alloc: Global,
+}
+
+impl TreeFiles for Folder {
+    ghost holds = { λ _ _ _. Unit {0} };
+
+    fn read(&self, name: &str) -> io::Result<Vec<u8>> {
+        for (known, text) in FILES {
+            if name == known {
+                return Ok(Vec::from_slice(self.alloc, text.as_bytes())?);
+            }
+        }
+        Err(Error::from(ErrorKind::NotFound))
+    }
+
+    fn read_input(&self) -> io::Result<Vec<u8>> {
+        Ok(Vec::new(self.alloc))
+    }
+
+    fn is_terminal(&self) -> bool {
+        false
     }
 }
 
@@ -83,10 +120,20 @@ fn seen(
         text,
         fault,
     };
+    seen_on(alloc, &files, words, lines)
+}
+
+/// Runs the program on these files.
+fn seen_on<F: TreeFiles>(
+    alloc: Global,
+    files: &F,
+    words: Result<Vec<String>, WordsFault>,
+    lines: &str,
+) -> Streams {
     let mut input = Counted::new(lines.as_bytes());
     let mut output = Counted::new(Vec::new(alloc));
     let mut errors = Counted::new(Vec::new(alloc));
-    let status = run(alloc, words, &files, &mut input, &mut output, &mut errors);
+    let status = run(alloc, words, files, &mut input, &mut output, &mut errors);
     Streams {
         output: output.into_device(),
         errors: errors.into_device(),
@@ -168,6 +215,8 @@ fn checks_and_pictures(rt: HostRuntime) -> Result<(), Fail> {
         (["check", "tree"], "perod = 1\n", UNKNOWN_KEY, "", 1),
         (["check", "tree"], "", NOTHING_STANDS, "", 0),
         (["check", "three"], TREE, "", NO_FILE, 1),
+        (["check", "-"], TREE, "-: a lawful tree\n", "", 0),
+        (["limits", "-"], TREE, LIMITS, "", 0),
         (["tree", "tree"], TREE, PICTURE, "", 0),
         (
             ["tree", "tree"],
@@ -199,6 +248,23 @@ fn checks_and_pictures(rt: HostRuntime) -> Result<(), Fail> {
     Ok(())
 }
 
+/// The words of `examples/`: slips, and what is told of each.
+#[test]
+fn words_are_obeyed(rt: HostRuntime) -> Result<(), Fail> {
+    let alloc = rt.alloc();
+    let files = Folder { alloc };
+    for (line, shown) in COMMANDS {
+        let mut words = words_in(alloc, &["otp"])?;
+        for word in line.split(' ') {
+            words.push(word.to_string(alloc)?).map_err(|_| AllocError)?;
+        }
+        let seen = seen_on(alloc, &files, Ok(words), "");
+        let text = with_status(alloc, seen.output, seen.errors, seen.status)?;
+        assert_eq!(rt; text.as_slice(), shown.as_bytes(), "{line}");
+    }
+    Ok(())
+}
+
 const UNKNOWN_KEY: &str =
     "tree: E11: supervisor: unknown key perod; allowed: strategy intensity period auto_shutdown child; did you mean period?\n";
 
@@ -207,7 +273,7 @@ const NOTHING_STANDS: &str =
 
 const NO_FILE: &str = "error: three can't be read: there is no such file\n";
 
-const PICTURE: &str = "one_for_one, 1 restarts in 5 s\n`-- a  permanent  worker      5000 ms\n";
+const PICTURE: &str = "one_for_one, 1 restart in 5 s\n`-- a  permanent  worker      5000 ms\n";
 
 const UP: &str = "0.000 s  start a #1\n0.000 s  ready\n0.000 s  1 up, 0/1 restarts in 5 s\n";
 

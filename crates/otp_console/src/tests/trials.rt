@@ -1,7 +1,7 @@
 //! The scripts of the repository. `examples/check --table` writes this file from theirs.
 
 /// The name of each script, its tree file, its lines, and what is told, with the status.
-pub(super) const TRIALS: [(&str, &str, &str, &str); 6] = [
+pub(super) const TRIALS: [(&str, &str, &str, &str); 7] = [
     (
         "first",
         r##"# One worker, which may be restarted once within 5 seconds.
@@ -22,7 +22,7 @@ at 2s crash db
 line 1: at 1s crash db
 1.000 s  start db #2
 line 2: at 2s crash db
-2.000 s  end shutdown: more than 1 restarts within 5 s: at 1.000 s, 2.000 s
+2.000 s  end shutdown: more than 1 restart within 5 s: at 1.000 s, 2.000 s
 2.000 s  the supervisor has ended
 status 0
 "##,
@@ -75,7 +75,7 @@ line 2: at 1s crash pool/a
 1.000 s  start pool/a #5
 line 3: +1s crash pool/a
 2.000 s  ask pool/b #4
-2.000 s  pool/ end shutdown: more than 1 restarts within 10 s: at 1.000 s, 2.000 s
+2.000 s  pool/ end shutdown: more than 1 restart within 10 s: at 1.000 s, 2.000 s
 2.000 s  start pool #6
 2.000 s  start pool/a #7
 2.000 s  start pool/b #8
@@ -84,7 +84,7 @@ line 4: +1s crash pool/a
 3.000 s  start pool/a #9
 line 5: +1s crash pool/a
 4.000 s  ask pool/b #8
-4.000 s  pool/ end shutdown: more than 1 restarts within 10 s: at 3.000 s, 4.000 s
+4.000 s  pool/ end shutdown: more than 1 restart within 10 s: at 3.000 s, 4.000 s
 4.000 s  start pool #10
 4.000 s  start pool/a #11
 4.000 s  start pool/b #12
@@ -93,7 +93,7 @@ line 6: +1s crash pool/a
 5.000 s  start pool/a #13
 line 7: +1s crash pool/a
 6.000 s  ask pool/b #12
-6.000 s  pool/ end shutdown: more than 1 restarts within 10 s: at 5.000 s, 6.000 s
+6.000 s  pool/ end shutdown: more than 1 restart within 10 s: at 5.000 s, 6.000 s
 6.000 s  ask db #1
 6.000 s  end shutdown: more than 2 restarts within 60 s: at 2.000 s, 4.000 s, 6.000 s
 6.000 s  the supervisor has ended
@@ -147,7 +147,7 @@ line 2: at 1s crash pool/a
 1.000 s  start pool/a #5
 line 3: +1s crash pool/b
 2.000 s  ask pool/a #5
-2.000 s  pool/ end shutdown: more than 1 restarts within 10 s: at 1.000 s, 2.000 s
+2.000 s  pool/ end shutdown: more than 1 restart within 10 s: at 1.000 s, 2.000 s
 2.000 s  start pool #6
 2.000 s  start pool/a #7
 2.000 s  start pool/b #8
@@ -225,6 +225,45 @@ status 5
 "##,
     ),
     (
+        "storm_not_running",
+        r##"# A database and what stands on it, under one_for_all: at most 3 restarts within 10 seconds. Any crash restarts all three,
+# and counts once.
+# `storm_survived.script` crashes the database five times, four seconds apart; `storm_given_up.script` crashes it a
+# second apart. Look for: the fourth restart within 10 seconds is one too many, and the end says so.
+
+strategy = "one_for_all"
+intensity = 3
+period = 10
+
+[[child]]
+id = "db"
+start = "db"
+
+[[child]]
+id = "cache"
+start = "cache"
+
+[[child]]
+id = "web"
+start = "web"
+"##,
+        r##"# A database that was terminated has no process, so a crash finds nobody.
+terminate db
+crash db
+"##,
+        r##"0.000 s  start db #1
+0.000 s  start cache #2
+0.000 s  start web #3
+0.000 s  ready
+line 2: terminate db
+0.000 s  ask db #1
+0.000 s  reply 1 ok
+line 3: crash db
+line 3: ignored: this child has no process now; restart ID starts it again, which lists what runs
+status 5
+"##,
+    ),
+    (
         "storm_slips",
         r##"# A database and what stands on it, under one_for_all: at most 3 restarts within 10 seconds. Any crash restarts all three,
 # and counts once.
@@ -259,6 +298,7 @@ at 6s restart db
 0.000 s  ready
 line 2: restart bd
 0.000 s  reply 1 error not_found
+line 2: there is no such child; which lists the children
 line 3: hang db
 line 4: terminate db
 0.000 s  ask db #1
