@@ -111,7 +111,7 @@ status 1
 slip_word.toml: E13: supervisor, strategy: read "one_for_al"; allowed: "one_for_one", "one_for_all", "rest_for_one", "simple_one_for_one"; did you mean one_for_all?
 slip_number.toml: E1: supervisor, intensity: read 1001; allowed: 0 to 1000
 slip_twice.toml: E3: child 2 (db): an earlier child has this id; each id stands once
-slip_quote.toml: E10: 
+slip_quote.toml: E10: TOML parse error at line 4, column 9: invalid string
 storm.toml: a lawful tree
 status 1
 "##,
