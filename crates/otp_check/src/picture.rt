@@ -111,7 +111,11 @@ impl Halves {
 
 /// What stands between a number of restarts and the period.
 fn restarts_words(count: u64) -> &'static str {
-    if count == 1 { " restart in " } else { " restarts in " }
+    if count == 1 {
+        " restart in "
+    } else {
+        " restarts in "
+    }
 }
 
 /// What is said of a supervisor: how it restarts, and when it ends by itself.

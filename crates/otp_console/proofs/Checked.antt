@@ -22,7 +22,7 @@ pub checked_next : {T : Type 0} (Holds : T → List ℕ → Type 0) (names : Lis
     → ChecksEach Holds (take (i + 1) names) Done (worse so_far next) old new
 checked_next {T} Holds names i d so_far next old mid new inside before goes done =
     subst (λ (some : List T). ChecksEach Holds some Done (worse so_far next) old new) (sym (take_more names i d inside))
-        (checked_more Holds (take i names) (get_or names i d) Done so_far next old mid new before goes done)
+    (checked_more Holds (take i names) (get_or names i d) Done so_far next old mid new before goes done)
 
 -- the check of the file at a place ended it
 pub checked_first : {T : Type 0} (Holds : T → List ℕ → Type 0) (names : List T) (i : ℕ) (d : T) (so_far ending : Ending) (old mid new : Written) → i < length names

@@ -80,7 +80,13 @@ pub fn do_command<F: TreeFiles, R: Input, W: Output, E: Output>(
 {
     match command {
         Command::Sim { file } => simulate(alloc, files, file, input, output),
-        Command::Check { files: names } => check_all(alloc, files, names.as_slice(), output, errors),
+        Command::Check { files: names } => check_all(
+            alloc,
+            files,
+            names.as_slice(),
+            output,
+            errors,
+        ),
         Command::Use { file, usage } => use_named(alloc, files, file, usage, input, output, errors),
     }
 }
@@ -142,7 +148,9 @@ fn use_file<F: TreeFiles, R: Input, W: Output, E: Output>(
     ensures kept { E.failures errors.old ≤ E.failures errors.new }
 {
     match usage {
-        Usage::Try { script, writer } => try_by(alloc, files, file, script, writer, input, output, errors),
+        Usage::Try { script, writer } => try_by(
+            alloc, files, file, script, writer, input, output, errors,
+        ),
         Usage::Draw => draw_file(alloc, file, output),
         Usage::Limit => limit_file(alloc, file, output),
     }

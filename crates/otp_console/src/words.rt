@@ -70,18 +70,11 @@ pub enum Usage<'a> {
 #[derive(Drop)]
 pub enum Command<'a> {
     /// A run of `sim`, on the tree file of this name.
-    Sim {
-        file: &'a str,
-    },
+    Sim { file: &'a str },
     /// All that is wrong in the tree files of these names.
-    Check {
-        files: Vec<&'a str>,
-    },
+    Check { files: Vec<&'a str> },
     /// Something else, of the tree file of this name.
-    Use {
-        file: &'a str,
-        usage: Usage<'a>,
-    },
+    Use { file: &'a str, usage: Usage<'a> },
 }
 
 /// Why the words are refused.
@@ -178,9 +171,7 @@ fn file_command<'a>(
     example: &'a str,
     help: &'a str,
 ) -> Result<clap::Command<'a>, AllocError> {
-    let file = Arg::new(alloc, "FILE")
-        .required(true)
-        .help(help);
+    let file = Arg::new(alloc, "FILE").required(true).help(help);
     new_command(alloc, name, about, example).arg(file)
 }
 

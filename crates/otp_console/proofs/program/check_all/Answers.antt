@@ -11,9 +11,9 @@ loop-name-preserved g c = (
   subst (λ (ending : Ending). ChecksEach (λ (name : Bor (List ℕ)). g.F.TreeFiles.holds c.args.files.now name.now) (take (c.loop-name.name-index + 1) c.args.names.now) Done ending
       (record { bytes = g.W.Output.contents c.args.output.now; failures = g.W.Output.failures c.args.output.now })
       (record { bytes = g.W.Output.contents c.check_named-next.new.output; failures = g.W.Output.failures c.check_named-next.new.output }))
-    (sym c.worse-ending.ensures)
-    (checked_next (λ (name : Bor (List ℕ)). g.F.TreeFiles.holds c.args.files.now name.now) c.args.names.now c.loop-name.name-index _ c.loop-name.ending
-        c.check_named-next.result _ _ _ c.loop-name-test.true c.loop-name.invariant.1 (search rules) c.check_named-next.ensures.done),
+      (sym c.worse-ending.ensures)
+      (checked_next (λ (name : Bor (List ℕ)). g.F.TreeFiles.holds c.args.files.now name.now) c.args.names.now c.loop-name.name-index _ c.loop-name.ending
+      c.check_named-next.result _ _ _ c.loop-name-test.true c.loop-name.invariant.1 (search rules) c.check_named-next.ensures.done),
 )
 
 pub returns-then-not-goes_on-clause-done : goal.returns-then-not-goes_on-clause-done

@@ -19,8 +19,8 @@ returns-in-Check-clause-done g c =
       write_failures = g.W.Output.failures c.check_all.new.output;
     } in
     subst (λ (command : Command). Does (g.F.TreeFiles.holds c.args.files.now) command c.check_all.result old new) (sym c.in-Check.is) (
-      record { left = refl; failures = refl; },
+      record { left = refl; failures = refl },
       subst (λ (names : List (Bor (List ℕ))). ChecksAll (λ (name : Bor (List ℕ)). g.F.TreeFiles.holds c.args.files.now name.now) names c.check_all.result
           (record { bytes = old.written; failures = old.write_failures }) (record { bytes = new.written; failures = new.write_failures }))
-        c.as_slice.ensures.value c.check_all.ensures.done,
+          c.as_slice.ensures.value c.check_all.ensures.done,
     )
