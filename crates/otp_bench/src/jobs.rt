@@ -174,13 +174,15 @@ fn measure_puts_in<N: RunNaming, R: Runtime>(
     let start = Instant::now(rt)?;
     let mut ended = 0u64;
     for number in 0..count {
-        if put_and_end(&mut owner, number) {
+        if put_and_end(alloc, &mut owner, number) {
             ended = ended.wrapping_add(1);
         }
     }
     report(rt, "put, take and end", 1, ended, start)?;
     for number in 0..count {
-        let _ = owner.put(numbered(number));
+        if let Some(process) = numbered(alloc, number) {
+            let _ = owner.put(process);
+        }
     }
     let start = Instant::now(rt)?;
     let mut stolen = 0u64;
@@ -193,13 +195,16 @@ fn measure_puts_in<N: RunNaming, R: Runtime>(
 }
 
 // A process that has nothing to do.
-fn numbered(number: u64) -> AnyProcess {
-    Process::new(number, 0, 0, Body::Sup(TableNo::new(0)))
+fn numbered(alloc: Global, number: u64) -> Option<AnyProcess> {
+    Process::new(alloc, number, 0, 0, Body::Sup(TableNo::new(0))).ok()
 }
 
 // Puts a process, takes it, and counts its end.
-fn put_and_end<N: RunNaming>(scheduler: &mut AnyScheduler<N>, number: u64) -> bool {
-    if let Err(_) = scheduler.put(numbered(number)) {
+fn put_and_end<N: RunNaming>(alloc: Global, scheduler: &mut AnyScheduler<N>, number: u64) -> bool {
+    let Some(process) = numbered(alloc, number) else {
+        return false;
+    };
+    if let Err(_) = scheduler.put(process) {
         return false;
     }
     let Some(mut process) = scheduler.next() else {

@@ -15,6 +15,7 @@ mod signal_words;
 
 use jobs::{Idle, JOBS};
 use otp_job::{Body, BoxedJob, Process};
+use std::alloc::AllocError;
 use std::process::ExitCode;
 use std::{env, io};
 
@@ -36,7 +37,8 @@ fn main(rt: HostRuntime) -> io::Result<ExitCode> {
             let mut processes = Vec::with_capacity(rt.alloc(), JOBS)?;
             for number in 0..JOBS {
                 let job: BoxedJob = Box::new(rt.alloc(), Idle { turns: 0 })?;
-                processes.push(Process::new(number as u64, 0, 0, Body::Worker(job)))?;
+                let process = Process::new(rt.alloc(), number as u64, 0, 0, Body::Worker(job));
+                processes.push(process.map_err(|_| AllocError)?)?;
             }
             jobs::measure_turns(&rt, rt.alloc(), threads, processes, count)?;
         }

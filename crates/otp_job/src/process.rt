@@ -3,6 +3,7 @@ ghost use Rattle.otp_job.specs.Processes.{fresh_process, IsRunnable, nested_tabl
 ghost use Rattle.otp_job.specs.declared.body.Body.TheVariants.{Sup};
 
 use crate::body::{Body, TableNo};
+use std::alloc::Global;
 use std::marker::Model;
 
 /// Which process it is, without its body: what is shown of it where the body doesn't matter.
@@ -33,6 +34,13 @@ pub enum Phase {
 /// body, and the bridge is up.
 #[derive(Drop)]
 pub struct Process<J: Drop, S: Drop> {
+    pub(crate) inside: Box<Inside<J, S>, Global>,
+}
+
+// What a process is made of. It stays where it was made, while the process goes from queue to queue: a move of a
+// process is a move of one pointer.
+#[derive(Drop)]
+pub(crate) struct Inside<J: Drop, S: Drop> {
     pub(crate) ticket: Ticket,
     pub(crate) body: Option<Body<J, S>>,
     pub(crate) phase: Phase,
@@ -43,75 +51,87 @@ impl<J: Drop, S: Drop> Model for Process<J, S> {
 
     ghost Value = { ProcessState J S };
 
-    ghost view = { λ p. record { ticket = p.ticket; body = p.body; phase = p.phase } };
+    ghost view = { λ p. record { ticket = p.inside.value.ticket; body = p.inside.value.body; phase = p.inside.value.phase } };
 
-    ghost invariant = { λ p. IsSettled p.phase p.body };
+    ghost invariant = { λ p. IsSettled p.inside.value.phase p.inside.value.body };
 }
 
 impl<J: Drop, S: Drop> Process<J, S> {
-    /// A process that has not started. Nothing is called.
-    pub fn new(number: u64, slot: usize, table: usize, body: Body<J, S>) -> Process<J, S>
-        ensures { result ≡ fresh_process (record { number = number; slot = slot; table = table }) body }
+    /// A process that has not started. Nothing is called. Refused where there is no memory; the body comes back.
+    pub fn new(
+        alloc: Global,
+        number: u64,
+        slot: usize,
+        table: usize,
+        body: Body<J, S>,
+    ) -> Result<Process<J, S>, Body<J, S>>
+        ensures made { IfOk result (λ process. process ≡ fresh_process (record { number = number; slot = slot; table = table }) body) }
+        ensures refused { IfErr result (λ back. back ≡ body) }
     {
         let ticket = Ticket {
             number,
             slot,
             table,
         };
-        Process {
+        let empty = Inside {
             ticket,
-            body: Some(body),
+            body: None,
             phase: Phase::Fresh,
-        }
+        };
+        let Ok(mut inside) = Box::new(alloc, empty) else {
+            return Err(body);
+        };
+        inside.body = Some(body);
+        Ok(Process { inside })
     }
 
     /// Which process it is.
     pub fn ticket(&self) -> Ticket
         ensures { result ≡ self.now.ticket }
     {
-        self.ticket
+        self.inside.ticket
     }
 
     /// Its number.
     pub fn number(&self) -> u64
         ensures { result ≡ self.now.ticket.number }
     {
-        self.ticket.number
+        self.inside.ticket.number
     }
 
     /// The slot of its signal word.
     pub fn slot(&self) -> usize
         ensures { result ≡ self.now.ticket.slot }
     {
-        self.ticket.slot
+        self.inside.ticket.slot
     }
 
     /// The table of its supervisor.
     pub fn table(&self) -> usize
         ensures { result ≡ self.now.ticket.table }
     {
-        self.ticket.table
+        self.inside.ticket.table
     }
 
     /// How far it has come.
     pub fn phase(&self) -> Phase
         ensures { result ≡ self.now.phase }
     {
-        self.phase
+        self.inside.phase
     }
 
     /// Whether a worker or a bridge runs in it, so that [`one_turn`](crate::one_turn) may be called.
     pub fn is_runnable(&self) -> bool
         ensures { IsTrue result ↔ IsRunnable self.now.body }
     {
-        matches!(&self.body, Some(Body::Worker(_) | Body::Bridge(_)))
+        matches!(&self.inside.body, Some(Body::Worker(_) | Body::Bridge(_)))
     }
 
     /// The table of the nested supervisor that runs in it, if that is still here.
     pub fn nested_table(&self) -> Option<usize>
         ensures { result ≡ nested_table_of self.now.body }
     {
-        match &self.body {
+        match &self.inside.body {
             Some(Body::Sup(table)) => Some(table.number()),
             _ => None,
         }
@@ -121,7 +141,7 @@ impl<J: Drop, S: Drop> Process<J, S> {
     pub fn has_body(&self) -> bool
         ensures { IsTrue result ↔ (self.now.body ≢ None) }
     {
-        self.body.is_some()
+        self.inside.body.is_some()
     }
 }
 
@@ -133,10 +153,10 @@ impl<J: Drop, S: Drop> Process<J, S> {
         ensures taken { nested_table_of self.old.body ≢ None → self.new ≡ record self.old { body = None } }
         ensures none { nested_table_of self.old.body ≡ None → self.new ≡ self.old }
     {
-        match self.body.take()? {
+        match self.inside.body.take()? {
             Body::Sup(table) => Some(table),
             body => {
-                self.body = Some(body);
+                self.inside.body = Some(body);
                 None
             }
         }
@@ -147,7 +167,7 @@ impl<J: Drop, S: Drop> Process<J, S> {
         requires { self.old.body ≡ None }
         ensures { self.new ≡ record self.old { body = Some (Sup table) } }
     {
-        self.body = Some(Body::Sup(table));
+        self.inside.body = Some(Body::Sup(table));
     }
 
     /// Ends a process whose body has gone home. One that still has its body comes back as it was.
@@ -156,10 +176,10 @@ impl<J: Drop, S: Drop> Process<J, S> {
         ensures back { IfErr result (λ process. process ≡ self) }
         ensures only { IsOk result ↔ (self.body ≡ None) }
     {
-        if self.body.is_some() {
+        if self.inside.body.is_some() {
             return Err(self);
         }
-        Ok(Spent::of(self.ticket.number))
+        Ok(Spent::of(self.inside.ticket.number))
     }
 
     /// Takes it apart: its body, if that is still here. For whoever was handed a process back that was refused before
@@ -167,11 +187,12 @@ impl<J: Drop, S: Drop> Process<J, S> {
     pub fn into_body(self) -> Option<Body<J, S>>
         ensures { result ≡ self.body }
     {
-        let Process {
+        let Process { inside } = self;
+        let Inside {
             ticket: _,
             body,
             phase: _,
-        } = self;
+        } = Box::into_inner(inside);
         body
     }
 }

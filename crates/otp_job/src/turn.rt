@@ -7,10 +7,14 @@ ghost use Rattle.otp_job.specs.Turns.{done, exited, after_start, StartsJob, Tell
 
 use crate::body::Body;
 use crate::job::{Job, Told, Turn};
-use crate::process::{Phase, Process, Spent, Ticket};
+use crate::process::{Inside, Phase, Process, Spent};
 use otp_bridge::{Bridge, Subsystem};
 use otp_reason::{Delivery, Note, Reason, Started, deliver};
 use otp_signals::Signal;
+use std::alloc::Global;
+
+// What a process is made of, while its body has a turn.
+type Emptied<J, S> = Box<Inside<J, S>, Global>;
 
 /// The note of an end, which brings the body home.
 #[derive(Drop)]
@@ -41,136 +45,152 @@ pub fn one_turn<J: Job, S: Subsystem>(process: Process<J, S>, signal: Signal) ->
     ensures first { process.phase ≡ Fresh → FirstTurn J.started S.inited process.ticket process.body result }
     ensures later { process.phase ≢ Fresh → LaterTurn J.is_trapping J.turned S.polled S.terminated process.ticket process.phase signal process.body result }
 {
-    let Process {
-        ticket,
-        body,
-        phase,
-    } = process;
-    let Some(body) = body else {
+    let Process { mut inside } = process;
+    let Some(body) = inside.body.take() else {
         unreachable!();
     };
-    if phase == Phase::Fresh {
-        return first_turn(ticket, body);
+    if inside.phase == Phase::Fresh {
+        return first_turn(inside, body);
     }
-    later_turn(ticket, phase, signal, body)
+    later_turn(inside, signal, body)
 }
 
-fn first_turn<J: Job, S: Subsystem>(ticket: Ticket, body: Body<J, S>) -> After<J, S>
+fn first_turn<J: Job, S: Subsystem>(inside: Emptied<J, S>, body: Body<J, S>) -> After<J, S>
     requires { IsRunnable (Some body) }
-    ensures { FirstTurn J.started S.inited ticket (Some body) result }
+    ensures { FirstTurn J.started S.inited inside.value.ticket (Some body) result }
 {
     match body {
-        Body::Worker(job) => start_job(ticket, job),
-        Body::Bridge(bridge) => start_bridge(ticket, bridge),
+        Body::Worker(job) => start_job(inside, job),
+        Body::Bridge(bridge) => start_bridge(inside, bridge),
         Body::Sup(_) => unreachable!(),
     }
 }
 
 fn later_turn<J: Job, S: Subsystem>(
-    ticket: Ticket,
-    phase: Phase,
+    inside: Emptied<J, S>,
     signal: Signal,
     body: Body<J, S>,
 ) -> After<J, S>
-    requires started { phase ≢ Fresh }
+    requires started { inside.value.phase ≢ Fresh }
     requires settled { IsUp (Some body) }
-    ensures { LaterTurn J.is_trapping J.turned S.polled S.terminated ticket phase signal (Some body) result }
+    ensures { LaterTurn J.is_trapping J.turned S.polled S.terminated inside.value.ticket inside.value.phase signal (Some body) result }
 {
     match body {
-        Body::Worker(job) => turn_job(ticket, phase, signal, job),
-        Body::Bridge(bridge) => turn_bridge(ticket, phase, signal, bridge),
+        Body::Worker(job) => turn_job(inside, signal, job),
+        Body::Bridge(bridge) => turn_bridge(inside, signal, bridge),
         Body::Sup(_) => unreachable!(),
     }
 }
 
-fn start_job<J: Job, S: Drop>(ticket: Ticket, mut job: J) -> After<J, S>
-    ensures { StartsJob J.started ticket job result }
+fn start_job<J: Job, S: Drop>(inside: Emptied<J, S>, mut job: J) -> After<J, S>
+    ensures { StartsJob J.started inside.value.ticket job result }
 {
-    let answer = job.start(ticket.number);
-    begin(ticket, answer, Body::Worker(job))
+    let answer = job.start(inside.ticket.number);
+    begin(inside, answer, Body::Worker(job))
 }
 
-fn turn_job<J: Job, S: Drop>(ticket: Ticket, phase: Phase, signal: Signal, job: J) -> After<J, S>
-    ensures { TurnsJob J.is_trapping J.turned ticket phase signal job result }
+fn turn_job<J: Job, S: Drop>(inside: Emptied<J, S>, signal: Signal, job: J) -> After<J, S>
+    ensures { TurnsJob J.is_trapping J.turned inside.value.ticket inside.value.phase signal job result }
 {
+    let phase = inside.phase;
     match signal {
-        Signal::Kill => exit(ticket, Reason::Killed, Body::Worker(job)),
+        Signal::Kill => exit(inside, Reason::Killed, Body::Worker(job)),
         Signal::Shutdown if phase != Phase::Asked => {
             match deliver(Reason::Shutdown, job.traps()) {
-                Delivery::Dies(reason) => exit(ticket, reason, Body::Worker(job)),
-                Delivery::Message(_) => tell_job(ticket, Phase::Asked, Told::Shutdown, job),
-                Delivery::Ignored => tell_job(ticket, phase, Told::Nothing, job),
+                Delivery::Dies(reason) => exit(inside, reason, Body::Worker(job)),
+                Delivery::Message(_) => tell_job(inside, Phase::Asked, Told::Shutdown, job),
+                Delivery::Ignored => tell_job(inside, phase, Told::Nothing, job),
             }
         }
-        _ => tell_job(ticket, phase, Told::Nothing, job),
+        _ => tell_job(inside, phase, Told::Nothing, job),
     }
 }
 
-fn tell_job<J: Job, S: Drop>(ticket: Ticket, phase: Phase, told: Told, mut job: J) -> After<J, S>
-    ensures { TellsJob J.turned ticket phase told job result }
+fn tell_job<J: Job, S: Drop>(
+    inside: Emptied<J, S>,
+    phase: Phase,
+    told: Told,
+    mut job: J,
+) -> After<J, S>
+    ensures { TellsJob J.turned inside.value.ticket phase told job result }
 {
     match job.turn(told) {
-        Turn::Again => After::Again(process(ticket, phase, Body::Worker(job))),
-        Turn::End(reason) => exit(ticket, reason, Body::Worker(job)),
+        Turn::Again => After::Again(process(inside, phase, Body::Worker(job))),
+        Turn::End(reason) => exit(inside, reason, Body::Worker(job)),
     }
 }
 
-fn start_bridge<J: Drop, S: Subsystem>(ticket: Ticket, mut bridge: Bridge<S>) -> After<J, S>
-    ensures { StartsBridge S.inited ticket bridge result }
+fn start_bridge<J: Drop, S: Subsystem>(inside: Emptied<J, S>, mut bridge: Bridge<S>) -> After<J, S>
+    ensures { StartsBridge S.inited inside.value.ticket bridge result }
 {
     let answer = bridge.start();
-    begin(ticket, answer, Body::Bridge(bridge))
+    begin(inside, answer, Body::Bridge(bridge))
 }
 
 fn turn_bridge<J: Drop, S: Subsystem>(
-    ticket: Ticket,
-    phase: Phase,
+    inside: Emptied<J, S>,
     signal: Signal,
     mut bridge: Bridge<S>,
 ) -> After<J, S>
     requires { bridge.phase ≡ bridge_phase.Up }
-    ensures { TurnsBridge S.polled S.terminated ticket phase signal bridge result }
+    ensures { TurnsBridge S.polled S.terminated inside.value.ticket inside.value.phase signal bridge result }
 {
     match bridge.turn(signal) {
-        None => After::Again(process(ticket, phase, Body::Bridge(bridge))),
-        Some(reason) => exit(ticket, reason, Body::Bridge(bridge)),
+        None => After::Again(refill(inside, Body::Bridge(bridge))),
+        Some(reason) => exit(inside, reason, Body::Bridge(bridge)),
     }
 }
 
 // What follows from the answer of a start.
-fn begin<J: Drop, S: Drop>(ticket: Ticket, answer: Started, body: Body<J, S>) -> After<J, S>
+fn begin<J: Drop, S: Drop>(
+    inside: Emptied<J, S>,
+    answer: Started,
+    body: Body<J, S>,
+) -> After<J, S>
     requires { answer ≡ Up → IsUp (Some body) }
-    ensures { result ≡ after_start ticket answer body }
+    ensures { result ≡ after_start inside.value.ticket answer body }
 {
+    let number = inside.ticket.number;
     match answer {
-        Started::Up => After::Begun(
-            process(ticket, Phase::Running, body),
-            Note::Up(ticket.number),
-        ),
-        Started::Ignore => end(ticket, Note::Ignored(ticket.number), body),
-        Started::Fail(reason) => end(ticket, Note::Failed(ticket.number, reason), body),
+        Started::Up => After::Begun(process(inside, Phase::Running, body), Note::Up(number)),
+        Started::Ignore => end(inside, Note::Ignored(number), body),
+        Started::Fail(reason) => end(inside, Note::Failed(number, reason), body),
     }
 }
 
-fn process<J: Drop, S: Drop>(ticket: Ticket, phase: Phase, body: Body<J, S>) -> Process<J, S>
+// The process goes on, in this phase.
+fn process<J: Drop, S: Drop>(
+    mut inside: Emptied<J, S>,
+    phase: Phase,
+    body: Body<J, S>,
+) -> Process<J, S>
     requires { IsSettled phase (Some body) }
-    ensures { result ≡ process_at ticket phase body }
+    ensures { result ≡ process_at inside.value.ticket phase body }
 {
-    Process {
-        ticket,
-        body: Some(body),
-        phase,
-    }
+    inside.phase = phase;
+    refill(inside, body)
 }
 
-fn exit<J: Drop, S: Drop>(ticket: Ticket, reason: Reason, body: Body<J, S>) -> After<J, S>
-    ensures { result ≡ exited ticket reason body }
+// The process goes on as far as it had come.
+fn refill<J: Drop, S: Drop>(mut inside: Emptied<J, S>, body: Body<J, S>) -> Process<J, S>
+    requires { IsSettled inside.value.phase (Some body) }
+    ensures { result ≡ process_at inside.value.ticket inside.value.phase body }
 {
-    end(ticket, Note::Exit(ticket.number, reason), body)
+    inside.body = Some(body);
+    Process { inside }
 }
 
-fn end<J: Drop, S: Drop>(ticket: Ticket, note: Note, body: Body<J, S>) -> After<J, S>
-    ensures { result ≡ done ticket note body }
+fn exit<J: Drop, S: Drop>(inside: Emptied<J, S>, reason: Reason, body: Body<J, S>) -> After<J, S>
+    ensures { result ≡ exited inside.value.ticket reason body }
 {
-    After::Done(EndNote { note, body }, Spent::of(ticket.number))
+    let number = inside.ticket.number;
+    end(inside, Note::Exit(number, reason), body)
+}
+
+fn end<J: Drop, S: Drop>(inside: Emptied<J, S>, note: Note, body: Body<J, S>) -> After<J, S>
+    ensures { result ≡ done inside.value.ticket note body }
+{
+    let number = inside.ticket.number;
+    drop(inside);
+    After::Done(EndNote { note, body }, Spent::of(number))
 }

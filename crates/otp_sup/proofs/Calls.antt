@@ -1,12 +1,10 @@
 -- The calls with which bodies wait, and how many bodies there are, after an event.
-use Rattle.std.specs.Prelude.{◌≡◌, ◌⊎◌, ℕ, ◌+◌, ◌<◌, ◌++◌, ◌&&◌, ◌||◌, not, Bool, true, false, List, [], ◌∷◌, Option, None, Some, refl, if◌then◌else◌, is_some, length, map, drop, nat_lt, slice_get, count_by}
-use Rattle.std.specs.List.{cons_option, filter_map, list_any}
-use Rattle.std.proofs.Common.{◌∙◌, ap, sym, subst, arith, cond, append-nil, inl, inr, ⊎_elim}
+use Rattle.std.specs.Prelude.{◌≡◌, ◌⊎◌, ℕ, ◌++◌, ◌&&◌, not, Bool, true, false, List, [], ◌∷◌, Option, None, Some, refl, if◌then◌else◌, is_some, length, drop, nat_lt, slice_get}
+use Rattle.std.specs.List.{cons_option, list_any}
+use Rattle.std.proofs.Common.{◌∙◌, ap, sym, arith, append-nil, inl, inr, ⊎_elim}
 use Rattle.std.proofs.lemmas.Bool.{false≢true, cond_both, lt-ltb}
 use Rattle.std.proofs.lemmas.List.Elements.{filter_map-append}
-use Rattle.std.proofs.lemmas.List.Sums.{sum_by-append, sum_by-cons}
 use Rattle.otp_reason.specs.declared.note.Note.{Note}
-use Rattle.otp_rules.specs.declared.call.Call.{Call}
 use Rattle.otp_rules.specs.declared.event.Item.{Item}
 use Rattle.otp_rules.specs.declared.event.Item.TheVariants as item
 use Rattle.otp_rules.specs.declared.event.Kind.{Kind}
@@ -32,7 +30,7 @@ use Rattle.otp_sup.specs.declared.bodies.Origin.TheVariants as origin
 use Rattle.otp_sup.specs.declared.bodies.Place.{Place}
 use Rattle.otp_sup.specs.declared.bodies.Place.TheVariants as placed
 use Rattle.otp_sup.specs.Letters.{is_end_note}
-use Rattle.otp_sup.specs.Bodies.{bodies_after, bodies_sent, calls_waiting, came_for, come_home, home_of, home_or_free, is_any_waiting, is_at_home, is_away, is_away_from, is_free_place, is_home_of, is_start_item, is_start_waiting, is_taken_up, is_waited_for, is_waiting, left_home, let_go, move_first, moved, opened, opened_place, place_among, place_of_call, received, settled, slot_given, stray, taken_up, waiting_as, waiting_call, without_first}
+use Rattle.otp_sup.specs.Bodies.{bodies_after, bodies_sent, calls_waiting, came_for, home_of, home_or_free, is_any_waiting, is_at_home, is_away, is_away_from, is_free_place, is_home_of, is_start_item, is_start_waiting, is_waited_for, is_waiting, left_home, let_go, move_first, moved, opened, opened_place, place_among, place_of_call, received, settled, slot_given, stray, taken_up, waiting_as, waiting_call, without_first}
 
 -- a body more: it waits with no call
 put_calls : (kept : List Kept) (b : Kept) → waiting_call b ≡ None → calls_waiting (kept ++ b ∷ []) ≡ calls_waiting kept

@@ -1,7 +1,7 @@
 -- How many bodies a supervisor has after an event, and once a body has left.
-use Rattle.std.specs.Prelude.{◌≡◌, ℕ, ◌+◌, ◌++◌, ◌||◌, Bool, true, false, List, [], ◌∷◌, Option, None, Some, refl, if◌then◌else◌, is_some, length, map}
+use Rattle.std.specs.Prelude.{◌≡◌, ℕ, ◌+◌, ◌++◌, ◌||◌, Bool, true, false, List, [], ◌∷◌, Option, None, Some, refl, if◌then◌else◌, length}
 use Rattle.std.specs.List.{list_any}
-use Rattle.std.proofs.Common.{◌∙◌, ap, sym, subst, arith, cond, ⊎_elim}
+use Rattle.std.proofs.Common.{◌∙◌, ap, sym, arith, cond, ⊎_elim}
 use Rattle.std.proofs.lemmas.Bool.{false≢true, cases_Bool, cond_both}
 use Rattle.std.proofs.lemmas.List.Sums.{sum_by-append, sum_by-cons}
 use Rattle.otp_rules.specs.declared.event.Item.TheVariants as item
@@ -16,7 +16,7 @@ use Rattle.otp_sup.specs.declared.bodies.Place.{Place}
 use Rattle.otp_sup.specs.declared.bodies.Place.TheVariants as placed
 use Rattle.otp_sup.specs.Letters.{is_end_note, one_if}
 use Rattle.otp_sup.specs.Bodies.{bodies_after, bodies_in, brings_body, came_for, home_of, home_or_free, is_any_waiting, is_at_home, is_away, is_away_from, is_here, is_taken_up, is_waited_for, is_waiting, let_go, move_first, moved, opened, opened_place, place_among, place_of_call, settled, slot_given, stray, taken_up}
-use Rattle.otp_sup.proofs.Keeping.{home_is_here, opened_place-here, or_false, place_among-here, waiting_is_here}
+use Rattle.otp_sup.proofs.Keeping.{home_is_here, opened_place-here, place_among-here, waiting_is_here}
 
 abbrev one : Place → ℕ
 one at = cond (is_here at) 1 0

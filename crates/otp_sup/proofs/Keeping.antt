@@ -1,5 +1,5 @@
 -- The first body that passes a test, and what is done to it.
-use Rattle.std.proofs.Common.{◌≡◌, ℕ, zero, suc, ◌+◌, ◌<◌, ◌++◌, ◌||◌, ⊎_elim, List, [], ◌∷◌, Option, None, Some, Bool, true, false, cond, refl, ap, sym, ◌∙◌, subst, arith, rules, length, get_or, map}
+use Rattle.std.proofs.Common.{◌≡◌, ℕ, zero, suc, ◌+◌, ◌<◌, ◌||◌, ⊎_elim, List, [], ◌∷◌, Option, None, Some, Bool, true, false, cond, refl, ap, sym, ◌∙◌, arith, rules, length, get_or, map}
 use Rattle.std.specs.Prelude.{position, slice_get, slice_set, remove, if◌then◌else◌, is_some}
 use Rattle.std.specs.List.{list_any}
 use Rattle.std.proofs.lemmas.Bool.{eqb-true, false≢true, cases_Bool, cond_both}

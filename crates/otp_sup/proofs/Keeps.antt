@@ -1,7 +1,7 @@
 -- What an office keeps from event to event.
-use Rattle.std.proofs.Common.{◌≡◌, ℕ, zero, suc, ◌+◌, ◌<◌, ◌≤◌, ◌++◌, List, [], ◌∷◌, Option, None, Some, Bool, not, append-nil, append_assoc, refl, ap, sym, ◌∙◌, subst, arith, length, take, drop, length-append, length-drop, rules, false}
+use Rattle.std.proofs.Common.{◌≡◌, ℕ, zero, suc, ◌+◌, ◌≤◌, ◌++◌, List, [], ◌∷◌, Option, None, Some, not, append-nil, append_assoc, refl, ap, sym, ◌∙◌, subst, arith, length, take, drop, length-append, length-drop, rules, false}
 use Rattle.std.specs.List.{All, Contains, filter, filter_map}
-use Rattle.std.proofs.lemmas.List.Elements.{filter-append, filter_map-append, Contains-append_left, All-push}
+use Rattle.std.proofs.lemmas.List.Elements.{filter-append, filter_map-append, Contains-append_left}
 use Rattle.std.proofs.Math.Seq.{drop-append_seam}
 use Rattle.otp_rules.specs.declared.event.Effect.{Effect}
 use Rattle.otp_rules.specs.declared.event.Event.{Event}
@@ -16,8 +16,8 @@ use Rattle.otp_signals.specs.Lists.{EachBetween}
 use Rattle.otp_rules.specs.declared.event.Item.{Item}
 use Rattle.otp_rules.specs.declared.event.Kind.{Kind}
 use Rattle.otp_rules.specs.declared.event.Kind.TheVariants as kind
-use Rattle.otp_sup.specs.Facts.{TableView, IsTable, item_of, items_of, OfficeView, IsOffice, Begins, orders_in, orders_along, word_ordered, IsOrdered}
-use Rattle.otp_sup.specs.Turns.{Readied, Happened, has_some}
+use Rattle.otp_sup.specs.Facts.{item_of, items_of, OfficeView, IsOffice, Begins, orders_in, orders_along, word_ordered, IsOrdered}
+use Rattle.otp_sup.specs.Turns.{Readied, Happened, drawn_by, has_some}
 
 -- the orders of one event more
 pub orders_on : (s : State) (es : List Event) (e : Event) → orders_of s (es ++ e ∷ []) ≡ orders_of s es ++ (step (state_after s es) e).orders
@@ -84,6 +84,16 @@ drawn_on drawn next h longer reading (Some n) kind e more none some =
 
 empty_from : (n : ℕ) (l : List Effect) → [] ≡ drop n l → n ≤ length l → n ≡ length l
 empty_from n l e le = let k : length (drop n l) ≡ 0 = ap (λ (x : List Effect). length x) (sym e) in let d = length-drop n l in omega arith
+
+-- what the drawing of a number leaves as it was
+
+pub drawn_posts : (number : Option ℕ) (h : Holding) → (drawn_by number h).posts ≡ h.posts
+drawn_posts None h = refl
+drawn_posts (Some n) h = refl
+
+pub drawn_slots : (number : Option ℕ) (h : Holding) → (drawn_by number h).slots ≡ h.slots
+drawn_slots None h = refl
+drawn_slots (Some n) h = refl
 
 -- one event happened, and all orders before it were sent
 pub happened : (old new : OfficeView) (e : Event)

@@ -1,5 +1,5 @@
 -- The body that leaves with a process, or comes back where the port refused.
-use Rattle.std.specs.Prelude.{◌≡◌, ℕ, ◌+◌, Bool, true, false, List, [], ◌∷◌, Option, None, Some, IsSome, MatchOption, refl, is_some, position}
+use Rattle.std.specs.Prelude.{◌≡◌, ℕ, List, Option, None, Some, IsSome, refl, position}
 use Rattle.std.proofs.Common.{◌∙◌, ap, sym, subst}
 use Rattle.otp_sup.specs.declared.bodies.Kept.{Kept}
 use Rattle.otp_sup.specs.declared.bodies.Place.TheVariants as placed

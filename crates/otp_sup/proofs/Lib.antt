@@ -6,3 +6,4 @@ pub mod Putting
 pub mod Calls
 pub mod CountBodies
 pub mod Leaving
+pub mod More

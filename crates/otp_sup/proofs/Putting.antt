@@ -1,5 +1,5 @@
 -- Which child the first order starts.
-use Rattle.std.specs.Prelude.{◌≡◌, ℕ, List, Option, Some, None, refl}
+use Rattle.std.specs.Prelude.{◌≡◌, ℕ, Option, Some, None, refl}
 use Rattle.std.proofs.Common.{◌∙◌, ap}
 use Rattle.otp_core.specs.View.{state_of}
 use Rattle.otp_rules.specs.declared.event.Effect.{Effect}

@@ -1,13 +1,12 @@
 -- The orders that are sent, one by one.
-use Rattle.std.proofs.Common.{◌≡◌, ℕ, zero, suc, ◌+◌, ◌<◌, ◌≤◌, ◌⊎◌, ◌++◌, List, [], ◌∷◌, Option, None, Some, Bool, true, false, cond, not, append-nil, append_assoc, refl, ap, sym, ◌∙◌, subst, arith, rules, length, take, drop, get_or, add-one, inl, inr, length-append, length-drop, length-take, drop-cons}
-use Rattle.std.specs.Prelude.{slice_get, IfSome, MatchOption}
+use Rattle.std.proofs.Common.{◌≡◌, ℕ, zero, suc, ◌+◌, ◌<◌, ◌≤◌, ◌++◌, List, [], ◌∷◌, Option, None, Some, Bool, true, false, cond, not, append-nil, refl, ap, sym, ◌∙◌, subst, arith, rules, length, take, drop, get_or, add-one, length-drop, drop-cons}
+use Rattle.std.specs.Prelude.{slice_get, MatchOption}
 use Rattle.otp_rules.specs.declared.event.Effect.TheVariants as effect
 use Rattle.std.specs.List.{All, Contains, filter, filter_map}
-use Rattle.std.proofs.lemmas.List.Elements.{filter-append, filter_map-append, Contains-append_left, Contains-push, All-push}
+use Rattle.std.proofs.lemmas.List.Elements.{filter_map-append, Contains-push, All-push}
 use Rattle.std.proofs.lemmas.List.Sums.{sum_by-append, sum_by-cons}
-use Rattle.std.proofs.lemmas.Option.{slice_get_within, slice_get_past, slice_get-get_or, get_or_from_slice_get}
+use Rattle.std.proofs.lemmas.Option.{slice_get_within, get_or_from_slice_get}
 use Rattle.otp_rules.specs.declared.event.Effect.{Effect}
-use Rattle.otp_rules.specs.declared.event.Event.{Event}
 use Rattle.otp_rules.specs.Effects.{is_reply}
 use Rattle.otp_rules.specs.Needs.{IsLawfulHistory, numbers_of}
 use Rattle.otp_rules.specs.Named.{OrdersNumbered, NamesOneOf, named_by}
@@ -23,7 +22,6 @@ use Rattle.otp_sup.specs.Letters.{one_if}
 use Rattle.otp_sup.specs.declared.port.Launched.{Launched}
 use Rattle.otp_sup.specs.Ports.{Taken, carried}
 use Rattle.otp_sup.specs.declared.orders.Sending.{Sending}
-use Rattle.std.specs.Prelude.{ltb}
 use Rattle.otp_sup.specs.Turns.{has_some}
 use Rattle.otp_sup.proofs.Keeps.{ordered_longer}
 
@@ -181,9 +179,9 @@ pub found_order : (xs : List Effect) (from r : ℕ) (x : Effect) → orders_in (
 found_order xs from r x e first = ap (λ (l : List Effect). has_some l) (sym e ∙ first)
 
 -- the first order left the outbox
-pub sent_first : (old mid new : OfficeView) (how : Sending) (before after : Taken) → IsFirst old how → mid.outbox ≡ old.outbox → mid.sent ≡ old.sent → mid.core ≡ old.core
+pub sent_first : (old mid new : OfficeView) (how : Sending) (before after : Taken) → IsFirst old how → mid.outbox ≡ old.outbox → mid.sent ≡ old.sent → mid.core ≡ old.core → mid.first_slot ≡ old.first_slot
     → new ≡ record mid { outbox = drop 1 mid.outbox; sent = mid.sent + 1 } → IsSent how old new before after → SentFirst old new before after
-sent_first old mid new how before after f outbox sent core stepped is_sent =
+sent_first old mid new how before after f outbox sent core slot stepped is_sent =
     let rest : new.outbox ≡ f.rest = ap (λ (o : OfficeView). o.outbox) stepped ∙ ap (λ (l : List Effect). drop 1 l) (outbox ∙ f.outbox) in
     record {
       how = how;
@@ -191,6 +189,7 @@ sent_first old mid new how before after f outbox sent core stepped is_sent =
       outbox = f.outbox ∙ ap (λ (l : List Effect). f.order ∷ l) (sym rest);
       count = ap (λ (o : OfficeView). o.sent) stepped ∙ ap (λ n. n + 1) sent;
       core = ap (λ (o : OfficeView). o.core) stepped ∙ core;
+      first_slot = ap (λ (o : OfficeView). o.first_slot) stepped ∙ slot;
       is_sent = is_sent;
     }
 
@@ -198,7 +197,7 @@ sent_first old mid new how before after f outbox sent core stepped is_sent =
 pub last_post : (old mid new : OfficeView) (number slot : ℕ) (told : Signal) → Posted old mid number told slot → new ≡ record mid { outbox = drop 1 mid.outbox; sent = mid.sent + 1 }
     → IsPosted number told slot old new
 last_post old mid new number slot told p stepped = record {
-  posts = ap (λ (o : OfficeView). o.owner.posts) stepped ∙ ap (λ (o : OfficeView). o.owner.posts) p.owner;
+  owner = ap (λ (o : OfficeView). o.owner) stepped ∙ ap (λ (o : OfficeView). o.owner) p.owner;
   of_row = p.of_row;
 }
 

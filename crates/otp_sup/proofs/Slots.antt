@@ -1,20 +1,14 @@
 -- The slot of the row that has a process.
-use Rattle.std.specs.Prelude.{◌≡◌, ◌⊎◌, ℕ, ◌<◌, ◌≤◌, ◌||◌, Bool, true, false, List, [], ◌∷◌, Option, Some, None, Contains, All, count_by, refl, length, position, slice_get}
-use Rattle.std.proofs.Common.{◌∙◌, ap, sym, subst, inl, inr, arith, ⊎_elim, get_or}
+use Rattle.std.specs.Prelude.{◌≡◌, ℕ, ◌<◌, ◌||◌, Bool, true, false, List, [], ◌∷◌, Option, Some, None, All, count_by, refl, length, position, slice_get}
+use Rattle.std.proofs.Common.{◌∙◌, ap, sym, subst, arith, ⊎_elim, get_or}
 use Rattle.std.specs.List.{list_any}
 use Rattle.std.proofs.lemmas.Bool.{cases_Bool, eqb-true, false≢true}
 use Rattle.std.proofs.lemmas.List.Elements.{All-head, All-tail}
 use Rattle.std.proofs.lemmas.Option.{slice_get_within}
 use Rattle.std.proofs.lemmas.Option.{get_or_from_slice_get, slice_get-get_or}
 use Rattle.std.proofs.lemmas.List.Quantifiers.{position-Some}
-use Rattle.otp_reason.specs.declared.note.Note.{Note}
 use Rattle.otp_table.specs.declared.row.Row.{Row}
 use Rattle.otp_table.specs.Rows.{row_has, has_process, has_slot}
-use Rattle.otp_rules.specs.declared.event.Event.{Event}
-use Rattle.otp_rules.specs.declared.event.Item.TheVariants as item
-use Rattle.otp_rules.specs.declared.event.Kind.TheVariants as kind
-use Rattle.otp_rules.specs.State.{State}
-use Rattle.otp_rules.specs.Step.{step}
 use Rattle.otp_rules.specs.Slots.{AreSlotted}
 use Rattle.otp_sup.specs.Slots.{AreBelow, slot_at, slot_in, slot_of}
 

@@ -15,3 +15,8 @@ pub record ClientView : Type 0 where
 pub record Submitted (number : ℕ) (call : Call) (old new : ClientView) : Type 0 where
   pub drawn : new.owner ≡ after_draw number old.owner
   pub sent : new.sender ≡ record old.sender { sent = old.sender.sent ++ item.Call number call ∷ [] }
+
+-- one number was drawn, and nothing was sent
+pub record DrewOne (old new : ClientView) : Type 0 where
+  pub number : ℕ
+  pub drawn : new ≡ record old { owner = after_draw number old.owner }

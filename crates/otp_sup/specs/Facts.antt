@@ -1,5 +1,5 @@
 -- What an office and a table stand for, and what they keep.
-use Rattle.std.specs.Prelude.{◌≡◌, ◌↔◌, ℕ, ◌+◌, ◌<◌, ◌≤◌, ◌⊎◌, Bool, true, false, not, List, [], ◌∷◌, ◌++◌, Option, Some, None, length, take, drop, All, Contains, IfSome, ◌^◌}
+use Rattle.std.specs.Prelude.{◌≡◌, ◌↔◌, ℕ, ◌+◌, ◌<◌, ◌≤◌, true, false, not, List, [], ◌++◌, Option, Some, None, length, take, drop, All, Contains, ◌^◌}
 use Rattle.std.specs.List.{filter, filter_map}
 use Rattle.otp_spec.specs.declared.child.ChildSpec.{ChildSpec}
 use Rattle.otp_spec.specs.declared.flags.SupFlags.{SupFlags}
@@ -10,7 +10,7 @@ use Rattle.otp_rules.specs.declared.event.Item.{Item}
 use Rattle.otp_rules.specs.declared.event.Kind.{Kind}
 use Rattle.otp_rules.specs.declared.event.Kind.TheVariants as kind
 use Rattle.otp_rules.specs.Effects.{is_reply}
-use Rattle.otp_rules.specs.Needs.{IsLawfulHistory, numbers_of}
+use Rattle.otp_rules.specs.Needs.{numbers_of}
 use Rattle.otp_rules.specs.Run.{empty_state, orders_of}
 use Rattle.otp_rules.specs.State.{State}
 use Rattle.otp_rules.specs.Rate.{IsRated}

@@ -63,7 +63,7 @@ pub record Posted (old new : OfficeView) (number : ℕ) (told : Signal) (slot : 
 
 -- one word more was posted: this signal for this number, to the slot of the row that has the process
 pub record IsPosted (number : ℕ) (told : Signal) (slot : ℕ) (old new : OfficeView) : Type 0 where
-  pub posts : new.owner.posts ≡ old.owner.posts ++ (slot, word_of number told) ∷ []
+  pub owner : new.owner ≡ after_post slot (word_of number told) old.owner
   pub of_row : slot ≡ old.first_slot + slot_of (state_of old.core).rows number
 
 -- the process stands last in what the port took
@@ -97,12 +97,30 @@ pub record SentFirst (old new : OfficeView) (before after : Taken) : Type 0 wher
   pub outbox : old.outbox ≡ first.order ∷ new.outbox
   pub count : new.sent ≡ old.sent + 1
   pub core : new.core ≡ old.core
+  pub first_slot : new.first_slot ≡ old.first_slot
   pub is_sent : IsSent how old new before after
 
+-- the word of a start was posted, as it will be again when the start is sent
+pub record IsPrepared (number : ℕ) (old new : OfficeView) : Type 0 where
+  pub slot : ℕ
+  pub posted : IsPosted number signal.None slot old new
+
+-- what a port that refuses leaves behind of an order: a start has posted its word, a note nothing
+abbrev pub IsRefused : Sending → OfficeView → OfficeView → Type 0
+IsRefused (sending.Start n) old new = IsPrepared n old new
+IsRefused (sending.Ask _) old new = ⊥
+IsRefused (sending.Kill _) old new = ⊥
+IsRefused (sending.Tell _) old new = new.owner ≡ old.owner
+
+-- the first order stays in the outbox
 pub record SentNone (old new : OfficeView) : Type 0 where
+  pub how : Sending
+  pub first : IsFirst old how
   pub outbox : new.outbox ≡ old.outbox
   pub count : new.sent ≡ old.sent
   pub core : new.core ≡ old.core
+  pub first_slot : new.first_slot ≡ old.first_slot
+  pub refused : IsRefused how old new
 
 abbrev pub Flushes : Flushed → OfficeView → OfficeView → Taken → Taken → ℕ → ℕ → Type 0
 Flushes flushed.Empty old new before after refusals later = (old.outbox ≡ []) × (new ≡ old) × (after ≡ before) × (later ≡ refusals)

@@ -1,5 +1,5 @@
 -- What a port took.
-use Rattle.std.specs.Prelude.{ℕ, Bool, List, is_some, map, sum_by}
+use Rattle.std.specs.Prelude.{◌≡◌, ℕ, ◌≤◌, ◌++◌, Bool, List, is_some, map, sum_by}
 use Rattle.otp_reason.specs.declared.note.Note.{Note}
 use Rattle.otp_sup.specs.declared.port.Launched.{Launched}
 use Rattle.otp_sup.specs.declared.port.NewProcess.{NewProcess}
@@ -23,3 +23,10 @@ taken_by processes notes = record { processes = processes; notes = notes }
 -- how many bodies a port took
 abbrev pub carried : List Launched → ℕ
 carried processes = sum_by (λ (p : Launched). one_if p.body) processes
+
+-- the port took these besides, in this order, and has refused as often as before or more often
+pub record TookMore (before after : Taken) (refusals later : ℕ) : Type 0 where
+  pub processes : List Launched
+  pub notes : List Note
+  pub took : after ≡ taken_by (before.processes ++ processes) (before.notes ++ notes)
+  pub refused : refusals ≤ later

@@ -1,5 +1,5 @@
 -- Which slots rows have.
-use Rattle.std.specs.Prelude.{◌≡◌, ℕ, ◌<◌, Bool, true, false, List, Option, Some, None, get_or, length, position, slice_get}
+use Rattle.std.specs.Prelude.{◌≡◌, ℕ, ◌<◌, Bool, true, false, List, Option, Some, None, get_or, position, slice_get}
 use Rattle.std.specs.List.{list_any}
 use Rattle.otp_table.specs.declared.row.Row.{Row}
 use Rattle.otp_table.specs.Rows.{row_has, has_process, has_slot}

@@ -1,5 +1,5 @@
 -- What a turn of a table does.
-use Rattle.std.specs.Prelude.{◌≡◌, ℕ, ⊤, ◌+◌, ◌<◌, ◌≤◌, Bool, true, false, not, ◌&&◌, ◌||◌, ltb, nat_lt, nat_le, max, is_some, List, [], ◌∷◌, ◌++◌, Option, Some, None, Result, Ok, Err, length, if◌then◌else◌, MatchOption, MatchResult}
+use Rattle.std.specs.Prelude.{◌≡◌, ℕ, ⊤, ◌+◌, Bool, true, false, not, ◌&&◌, nat_lt, nat_le, max, is_some, List, [], ◌∷◌, ◌++◌, Option, Some, None, Result, Ok, Err, length, if◌then◌else◌, MatchOption, MatchResult}
 use Rattle.std.specs.List.{list_any}
 use Rattle.otp_rules.specs.declared.event.Item.{Item}
 use Rattle.otp_rules.specs.declared.event.Kind.{Kind}
@@ -8,8 +8,10 @@ use Rattle.otp_rules.specs.declared.work.Phase.{Phase}
 use Rattle.otp_rules.specs.declared.work.Phase.TheVariants.{Unopened, Open, Ended}
 use Rattle.otp_rules.specs.State.{State, is_over, own_number}
 use Rattle.otp_rules.specs.Step.{is_late}
-use Rattle.otp_core.specs.View.{View, state_of}
+use Rattle.otp_core.specs.View.{state_of}
 use Rattle.otp_signals.specs.declared.signal.Signal.{Signal}
+use Rattle.otp_signals.specs.declared.view.Holding.{Holding}
+use Rattle.otp_signals.specs.Holdings.{after_draw}
 use Rattle.otp_signals.specs.declared.signal.Signal.TheVariants as signal
 use Rattle.otp_sup.specs.declared.turns.TurnAnswer.{TurnAnswer}
 use Rattle.otp_sup.specs.declared.turns.TurnAnswer.TheVariants as answer
@@ -17,7 +19,7 @@ use Rattle.otp_sup.specs.declared.turns.TurnFault.{TurnFault}
 use Rattle.otp_sup.specs.declared.turns.TurnFault.TheVariants as fault
 use Rattle.otp_sup.specs.Letters.{carries_body, one_if}
 use Rattle.otp_sup.specs.Bodies.{bodies_after, bodies_in}
-use Rattle.otp_sup.specs.Facts.{OfficeView, TableView}
+use Rattle.otp_sup.specs.Facts.{KeepsRules, OfficeView, TableView}
 
 abbrev pub is_told : Signal → Bool
 is_told signal.None = false
@@ -60,13 +62,18 @@ early_answer o number =
     else if nat_le 65536 (length o.core.history) then Some (Ok answer.Full)
     else None
 
+-- the number of an event was drawn, if it has one
+abbrev pub drawn_by : Option ℕ → Holding → Holding
+drawn_by None h = h
+drawn_by (Some n) h = after_draw n h
+
 -- one event of this kind happened: it stands last in the history
 pub record Happened (reading : ℕ) (kind : Kind) (old new : OfficeView) : Type 0 where
   pub number : Option ℕ
   pub history : new.core.history ≡ old.core.history ++ record { reading = reading; number = number; kind = kind } ∷ []
   pub base : new.core.base ≡ old.core.base
   pub sent : new.sent ≡ old.sent
-  pub posts : new.owner.posts ≡ old.owner.posts
+  pub owner : new.owner ≡ drawn_by number old.owner
   pub first_slot : new.first_slot ≡ old.first_slot
 
 -- nothing but that memory was taken
@@ -134,3 +141,11 @@ Turned number reading told old new result =
     (λ said. MatchOption (due_kind (state_of old.office.core) number reading told) (TookOrEmpty reading old new said) (λ kind. Did reading kind old new said))
     (λ why. Refused old new × IsRefusal old.office why))
     (λ early. (result ≡ early) × (new ≡ old))
+
+-- a table of this inbox, which kept the rules, had such a turn
+pub record TurnedUnder (inbox number reading : ℕ) (told : Signal) (result : Result TurnAnswer TurnFault) : Type 0 where
+  pub old : TableView
+  pub new : TableView
+  pub rules : KeepsRules old
+  pub of_inbox : old.taker.inbox ≡ inbox
+  pub turned : Turned number reading told old new result

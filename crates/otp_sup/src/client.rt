@@ -1,7 +1,8 @@
 //! Who sends calls to supervisors.
-ghost use Rattle.std.specs.Prelude.{◌≡◌, ◌<◌, ◌≤◌, ◌⊎◌, [], is_some, IfOk, IfErr, OnOk, OnErr};
+ghost use Rattle.std.specs.Prelude.{◌≡◌, ◌+◌, ◌<◌, ◌≤◌, ◌⊎◌, [], is_some, IfOk, IfErr, OnOk, OnErr};
 ghost use Rattle.otp_rules.specs.Homes.{is_start_call};
-ghost use Rattle.otp_sup.specs.Clients.{Submitted};
+ghost use Rattle.otp_signals.specs.Holdings.{cut_of, kept_of};
+ghost use Rattle.otp_sup.specs.Clients.{DrewOne, Submitted};
 ghost use Rattle.otp_sup.specs.declared.client.SplitFault.TheVariants as refused;
 ghost use Rattle.otp_sup.specs.declared.client.SubmitCause.TheVariants as cause;
 
@@ -95,11 +96,15 @@ impl<N: WordsNaming + InboxNaming, B: Drop> Client<N, B> {
         ensures sent { IfOk result (λ number. Submitted number call self.old self.new) }
         ensures unsent { OnErr result (self.new.sender ≡ self.old.sender) }
         ensures back { IfErr result (λ fault. fault.body ≡ body) }
+        // Only where memory was refused a number was drawn.
+        ensures undrawn { IfErr result (λ fault. (fault.cause ≡ cause.OutOfMemory) ⊎ (self.new ≡ self.old)) }
+        ensures spent { IfErr result (λ fault. fault.cause ≡ cause.OutOfMemory → DrewOne self.old self.new) }
         ensures wrong_body { IfErr result (λ fault. fault.cause ≡ cause.WrongBody → ¬ (is_some body ≡ is_start_call call)) }
         ensures right_body { OnOk result (is_some body ≡ is_start_call call) }
         ensures tested_first { IfErr result (λ fault. (fault.cause ≡ cause.WrongBody) ⊎ (is_some body ≡ is_start_call call)) }
         ensures some_quota { OnOk result (0 < self.old.owner.quota) }
         ensures exhausted { IfErr result (λ fault. fault.cause ≡ cause.Exhausted → self.old.owner.quota ≡ 0) }
+        ensures memory { IfErr result (λ fault. fault.cause ≡ cause.OutOfMemory → 0 < self.old.owner.quota) }
     {
         if body.is_some() != is_start_call(&call) {
             return Err(fault(SubmitCause::WrongBody, body));
@@ -126,8 +131,15 @@ impl<N: WordsNaming + InboxNaming, B: Drop> Client<N, B> {
         quota: u64,
     ) -> Result<Client<N, B>, SplitFault>
         requires { inbox.now ≡ self.old.sender.inbox }
-        ensures new { IfOk result (λ new. (new.owner.quota ≡ quota) × (new.sender.inbox ≡ self.old.sender.inbox) × (new.sender.sent ≡ [])) }
+        ensures new { IfOk result (λ new. (new.owner ≡ cut_of 0 0 quota self.old.owner) × (new.sender.inbox ≡ self.old.sender.inbox) × (new.sender.sent ≡ [])) }
+        // What this client has left: the other one has the rest.
+        ensures owner { OnOk result (self.new.owner ≡ kept_of 0 0 quota self.old.owner) }
+        ensures parts { IfOk result (λ new. (self.new.sender.parts + new.sender.parts ≡ self.old.sender.parts) × (0 < new.sender.parts)) }
+        ensures sender { OnOk result (self.new.sender ≡ record self.old.sender { parts = self.new.sender.parts }) }
+        // It is refused exactly where the numbers don't reach or there is one part only, which is looked at first.
         ensures enough { OnOk result (quota ≤ self.old.owner.quota) }
+        ensures two_parts { OnOk result (2 ≤ self.old.sender.parts) }
+        ensures parts_first { IfErr result (λ why. (why ≡ refused.OnePart) ⊎ (2 ≤ self.old.sender.parts)) }
         ensures kept { OnErr result (self.new ≡ self.old) }
         ensures exhausted { IfErr result (λ why. why ≡ refused.Exhausted → self.old.owner.quota < quota) }
         ensures one_part { IfErr result (λ why. why ≡ refused.OnePart → self.old.sender.parts < 2) }

@@ -11,7 +11,7 @@ ghost use Rattle.otp_sup.specs.Facts.{item_of, new_office, KeepsOffice};
 ghost use Rattle.otp_sup.specs.Bodies.{IsPlan, given_in, home_of, is_any_waiting, is_start_item, is_start_waiting, is_taken_up, is_waited_for};
 ghost use Rattle.otp_sup.specs.Slots.{AreBelow};
 ghost use Rattle.otp_sup.specs.declared.turns.TurnFault.TheVariants as fault;
-ghost use Rattle.otp_sup.specs.Turns.{is_told, may_open, due_kind, early_answer, Happened, Readied, IsRefusal};
+ghost use Rattle.otp_sup.specs.Turns.{is_told, may_open, drawn_by, due_kind, early_answer, Happened, Readied, IsRefusal};
 
 use crate::client::is_start_call;
 use crate::orders::first_order;
@@ -79,10 +79,7 @@ fn draw_for<N: WordsNaming>(
     requires { 0 < owner.old.quota }
     ensures given { is_some result ≡ needs_number (state_of core.now) reading kind.now }
     ensures above { (n : ℕ) → result ≡ Some n → All (λ m. m < n) owner.old.drawn }
-    ensures drawn { (n : ℕ) → result ≡ Some n → owner.new.drawn ≡ owner.old.drawn ++ n ∷ [] }
-    ensures none { result ≡ None → owner.new.drawn ≡ owner.old.drawn }
-    ensures posts { owner.new.posts ≡ owner.old.posts }
-    ensures slots { owner.new.slots ≡ owner.old.slots }
+    ensures owner { owner.new ≡ drawn_by result owner.old }
 {
     if !core.needs_number(reading, kind) {
         return None;

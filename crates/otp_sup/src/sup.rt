@@ -1,5 +1,8 @@
 //! A table under its lock, beside its inbox.
-ghost use Rattle.std.specs.Prelude.{◌≡◌, ◌≤◌, ◌^◌};
+ghost use Rattle.std.specs.Prelude.{◌≡◌, ◌⊎◌, ◌≤◌, ◌^◌, Ok};
+ghost use Rattle.otp_sup.specs.Ports.{TookMore, taken_by};
+ghost use Rattle.otp_sup.specs.Turns.{TurnedUnder};
+ghost use Rattle.otp_sup.specs.declared.turns.TurnAnswer.TheVariants as answer;
 
 use crate::letter::Letter;
 use crate::port::{Flushed, Port};
@@ -40,7 +43,9 @@ impl<N: WordsNaming + InboxNaming, B: Drop> Sup<N, B> {
     }
 
     /// Takes the lock once, for a turn of the table ([`Table::turn`]) and then for its orders, until none is left or
-    /// the port refuses. What the turn did under the lock no contract can say; its answer is that of `Table::turn`.
+    /// the port refuses. Of what lies under a lock a caller knows its type alone: that the table keeps OTP's rules
+    /// ([`Table::keeps_rules`]). So contracts say that the answer is that of a turn of such a table, not which table it
+    /// was; and that the port has what it had, and what it took besides.
     pub fn turn<R: Wait, P: Port<B>>(
         &self,
         rt: &R,
@@ -51,9 +56,12 @@ impl<N: WordsNaming + InboxNaming, B: Drop> Sup<N, B> {
         told: Signal,
     ) -> Result<TurnAnswer, TurnFault>
         requires { reading ≤ 2 ^ 62 }
+        ensures turned { (result ≡ Ok answer.Pending) ⊎ TurnedUnder self.now.inbox number reading told result }
+        ensures port { TookMore (taken_by (P.processes port.old) (P.notes port.old)) (taken_by (P.processes port.new) (P.notes port.new)) (P.refusals port.old) (P.refusals port.new) }
     {
         let mut guard = self.table.lock(rt);
         let table = &mut *guard;
+        table.keeps_rules();
         // What lies under the lock is known by its type alone, which doesn't say the number of its inbox.
         if table.number() != self.inbox.number() {
             return Ok(TurnAnswer::Pending);
@@ -98,7 +106,9 @@ fn flush_all<N: WordsNaming + InboxNaming, B: Drop, P: Port<B>>(
     table: &mut Table<N, B>,
     words: &Words<N>,
     port: &mut P,
-) {
+)
+    ensures { TookMore (taken_by (P.processes port.old) (P.notes port.old)) (taken_by (P.processes port.new) (P.notes port.new)) (P.refusals port.old) (P.refusals port.new) }
+{
     for _ in 0..u64::MAX {
         if table.flush_one(words, port) != Flushed::Sent {
             return;

@@ -32,7 +32,7 @@ fn each_end_of_a_bridge(rt: HostRuntime) -> Result<(), Fail> {
     ] {
         let calls: Calls = Arc::new(alloc, AtomicU64::new(0))?;
         let body = bridge_body(alloc, &calls, ended)?;
-        let (note, body) = run(&rt, body, &[Signal::None, signal]);
+        let (note, body) = run(&rt, alloc, body, &[Signal::None, signal])?;
         assert_eq!(rt; note, Some(Note::Exit(7, reason)));
         assert_eq!(rt; calls.load(Ordering::SeqCst), wanted);
         let Some(Body::Bridge(bridge)) = body else {
@@ -40,7 +40,7 @@ fn each_end_of_a_bridge(rt: HostRuntime) -> Result<(), Fail> {
         };
         assert_eq!(rt; bridge.phase(), phase);
         // A second start calls `init` again.
-        let (note, _) = run(&rt, Body::Bridge(bridge), &[Signal::None]);
+        let (note, _) = run(&rt, alloc, Body::Bridge(bridge), &[Signal::None])?;
         assert_eq!(rt; note, Some(Note::Up(7)));
         assert_eq!(rt; calls.load(Ordering::SeqCst), wanted * 10 + 1);
     }

@@ -3,15 +3,22 @@ use crate::probes::{AnyBody, AnyProcess, Calls, Pipe, Probe, worker_body};
 use otp_job::{After, Body, Phase, Process, TableNo, one_turn};
 use otp_reason::{Note, Reason, Started};
 use otp_signals::Signal;
+use std::alloc::{AllocError, Global};
 use std::process::Abort;
 use std::sync::Arc;
 use std::sync::atomic::{AtomicU64, Ordering};
 use std::test::*;
 
 /// The notes of a process, turn by turn, and the body that came home.
-pub fn run<R: Abort>(rt: &R, body: AnyBody, signals: &[Signal]) -> (Option<Note>, Option<AnyBody>) {
+pub fn run<R: Abort>(
+    rt: &R,
+    alloc: Global,
+    body: AnyBody,
+    signals: &[Signal],
+) -> Result<(Option<Note>, Option<AnyBody>), AllocError> {
     let mut last = None;
-    let mut going: Option<AnyProcess> = Some(Process::new(7, 3, 1, body));
+    let process: AnyProcess = Process::new(alloc, 7, 3, 1, body).map_err(|_| AllocError)?;
+    let mut going = Some(process);
     for signal in signals {
         let Some(process) = going else {
             panic!(rt; "a process that ended has no turn");
@@ -31,11 +38,11 @@ pub fn run<R: Abort>(rt: &R, body: AnyBody, signals: &[Signal]) -> (Option<Note>
             }
             After::Done(end, spent) => {
                 assert_eq!(rt; spent.into_number(), 7);
-                return (Some(end.note), Some(end.body));
+                return Ok((Some(end.note), Some(end.body)));
             }
         }
     }
-    (last, None)
+    Ok((last, None))
 }
 
 #[test]
@@ -44,16 +51,18 @@ fn first_turn_starts_and_a_later_kill_calls_nothing(rt: HostRuntime) -> Result<(
     let calls: Calls = Arc::new(alloc, AtomicU64::new(0))?;
     let (note, body) = run(
         &rt,
+        alloc,
         worker_body(alloc, &calls, true, Started::Up)?,
         &[Signal::Kill],
-    );
+    )?;
     assert_eq!(rt; note, Some(Note::Up(7)));
     assert!(rt; body.is_none());
     let (note, body) = run(
         &rt,
+        alloc,
         worker_body(alloc, &calls, true, Started::Up)?,
         &[Signal::Kill, Signal::Kill],
-    );
+    )?;
     assert_eq!(rt; note, Some(Note::Exit(7, Reason::Killed)));
     assert!(rt; body.is_some());
     assert_eq!(rt; calls.load(Ordering::SeqCst), 11);
@@ -76,7 +85,7 @@ fn trapping_job_is_told_once(rt: HostRuntime) -> Result<(), Fail> {
             Signal::Shutdown,
         ];
         let turns = if traps { 4 } else { 2 };
-        let (note, body) = run(&rt, body, &signals[..turns]);
+        let (note, body) = run(&rt, alloc, body, &signals[..turns])?;
         assert_eq!(rt; note, end);
         assert_eq!(rt; body.is_some(), !traps);
         assert_eq!(rt; calls.load(Ordering::SeqCst), wanted);
@@ -97,9 +106,10 @@ fn refused_start_brings_the_body_home(rt: HostRuntime) -> Result<(), Fail> {
         let calls: Calls = Arc::new(alloc, AtomicU64::new(0))?;
         let (end, body) = run(
             &rt,
+            alloc,
             worker_body(alloc, &calls, false, answer)?,
             &[Signal::None],
-        );
+        )?;
         assert_eq!(rt; end, Some(note));
         assert!(rt; body.is_some());
     }
@@ -107,9 +117,9 @@ fn refused_start_brings_the_body_home(rt: HostRuntime) -> Result<(), Fail> {
 }
 
 #[test]
-fn table_goes_home_before_its_process_retires(rt: HostRuntime) {
+fn table_goes_home_before_its_process_retires(rt: HostRuntime) -> Result<(), Fail> {
     let body: Body<Probe, Pipe> = Body::Sup(TableNo::new(5));
-    let mut process = Process::new(9, 0, 0, body);
+    let mut process = Process::new(rt.alloc(), 9, 0, 0, body).map_err(|_| AllocError)?;
     assert_eq!(rt; process.nested_table(), Some(5));
     assert!(rt; !process.is_runnable());
     let Some(table) = process.take_table() else {
@@ -131,4 +141,5 @@ fn table_goes_home_before_its_process_retires(rt: HostRuntime) {
             }
         }
     }
+    Ok(())
 }

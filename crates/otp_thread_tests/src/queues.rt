@@ -22,16 +22,30 @@ type AnyProcess = Process<BoxedJob, BoxedSubsystem>;
 type AnyScheduler<N> = Scheduler<N, BoxedJob, BoxedSubsystem>;
 
 // A process that is told from others by its number alone.
-fn numbered(number: u64) -> AnyProcess {
-    Process::new(number, 0, 0, Body::Sup(TableNo::new(0)))
+// Where a refused growth was to meet it, there is memory the second time.
+fn numbered<R: Abort>(rt: &R, alloc: Global, number: u64) -> AnyProcess {
+    match Process::new(alloc, number, 0, 0, Body::Sup(TableNo::new(0))) {
+        Ok(process) => process,
+        Err(body) => {
+            let Ok(process) = Process::new(alloc, number, 0, 0, body) else {
+                panic!(rt; "there is memory now");
+            };
+            process
+        }
+    }
 }
 
 // Puts a process. Under a refused growth it comes back whole, nothing is counted, and it can be put again.
-fn put_one<N: RunNaming, R: Abort>(rt: &R, scheduler: &mut AnyScheduler<N>, number: u64)
+fn put_one<N: RunNaming, R: Abort>(
+    rt: &R,
+    alloc: Global,
+    scheduler: &mut AnyScheduler<N>,
+    number: u64,
+)
     ensures { out scheduler.new ≡ out scheduler.old }
 {
     let before = scheduler.share();
-    if let Err(process) = scheduler.put(numbered(number)) {
+    if let Err(process) = scheduler.put(numbered(rt, alloc, number)) {
         assert_eq!(rt; process.number(), number);
         assert_eq!(rt; scheduler.share(), before);
         if let Err(_) = scheduler.put(process) {
@@ -41,9 +55,15 @@ fn put_one<N: RunNaming, R: Abort>(rt: &R, scheduler: &mut AnyScheduler<N>, numb
     assert_eq!(rt; scheduler.share().begun, before.begun + 1);
 }
 
-fn put_all<N: RunNaming, R: Abort>(rt: &R, scheduler: &mut AnyScheduler<N>, first: u64, end: u64) {
+fn put_all<N: RunNaming, R: Abort>(
+    rt: &R,
+    alloc: Global,
+    scheduler: &mut AnyScheduler<N>,
+    first: u64,
+    end: u64,
+) {
     for number in first..end {
-        put_one(rt, scheduler, number);
+        put_one(rt, alloc, scheduler, number);
     }
 }
 
@@ -80,7 +100,7 @@ fn two_threads<N: RunNaming + Send, R: Threads + Abort + Sync>(
     let mut schedulers = queue.named::<N>(alloc)?;
     let second = schedulers.pop().ok_or("two schedulers")?;
     let mut first = schedulers.pop().ok_or("two schedulers")?;
-    put_all(rt, &mut first, 0, MANY);
+    put_all(rt, alloc, &mut first, 0, MANY);
     let (mine, others) = (
         Vec::with_capacity(alloc, 2_000)?,
         Vec::with_capacity(alloc, 2_000)?,
@@ -137,7 +157,7 @@ fn order_of_thefts<N: RunNaming, R: Abort>(
             (index, 4)
         );
         let first = index as u64 * 10;
-        put_all(rt, &mut schedulers[index], first, first + 2);
+        put_all(rt, alloc, &mut schedulers[index], first, first + 2);
     }
     for wanted in [20, 21, 30, 31, 0, 1, 10, 11] {
         let found = schedulers[2].next();
@@ -181,9 +201,9 @@ fn grow<N: RunNaming, R: Abort>(
     let mut schedulers = queue.named::<N>(alloc)?;
     let mut only = schedulers.pop().ok_or("one scheduler")?;
     for round in 0..150 {
-        put_one(rt, &mut only, 2 * round);
+        put_one(rt, alloc, &mut only, 2 * round);
         if let Some(process) = only.next() {
-            put_one(rt, &mut only, 2 * round + 1);
+            put_one(rt, alloc, &mut only, 2 * round + 1);
             give_back(rt, &mut only, process);
         }
     }
@@ -230,7 +250,7 @@ fn end_and_gather<N: RunNaming, R: Abort>(
     let mut schedulers = queue.named::<N>(alloc)?;
     let away = schedulers.pop().ok_or("two schedulers")?;
     let mut first = schedulers.pop().ok_or("two schedulers")?;
-    put_all(rt, &mut first, 0, 2);
+    put_all(rt, alloc, &mut first, 0, 2);
     assert!(rt; first.share().ended < SHARE_LIMIT);
     let Some(mut process) = first.next() else {
         panic!(rt; "two were put");

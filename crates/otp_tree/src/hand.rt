@@ -14,6 +14,7 @@ use otp_run::{RunNaming, SHARE_LIMIT, Scheduler};
 use otp_signals::{Signal, Viewer, Words, WordsNaming};
 use otp_sup::{Letter, NewProcess, Port};
 use otp_tally::Tally;
+use std::alloc::Global;
 use std::marker::Model;
 use std::sync::Wait;
 
@@ -36,6 +37,7 @@ pub struct Hand<N: WordsNaming + InboxNaming + RunNaming, J: Drop, S: Drop> {
     pub(crate) turning: Option<Process<J, S>>,
     pub(crate) unsent: Option<Unsent<J, S>>,
     pub(crate) refusals: Tally,
+    pub(crate) alloc: Global,
 }
 
 impl<N: WordsNaming + InboxNaming + RunNaming, J: Drop, S: Drop> Model for Hand<N, J, S> {
@@ -79,17 +81,15 @@ impl<N: WordsNaming + InboxNaming + RunNaming, J: Drop, S: Drop> Port<Body<J, S>
             });
         };
         let table = nested_in(&self.turning);
-        match self.scheduler.put(Process::new(number, slot, table, body)) {
-            Ok(()) => Ok(()),
-            Err(process) => {
-                self.refusals.raise();
-                Err(NewProcess {
-                    number,
-                    slot,
-                    body: process.into_body(),
-                })
-            }
-        }
+        let body = match Process::new(self.alloc, number, slot, table, body) {
+            Ok(process) => match self.scheduler.put(process) {
+                Ok(()) => return Ok(()),
+                Err(process) => process.into_body(),
+            },
+            Err(body) => Some(body),
+        };
+        self.refusals.raise();
+        Err(NewProcess { number, slot, body })
     }
 
     fn send(&mut self, note: Note) -> Result<(), Note>

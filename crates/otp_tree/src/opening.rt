@@ -257,6 +257,7 @@ fn make_hands<N: WordsNaming + InboxNaming + RunNaming, J: Drop, S: Drop>(
             turning: None,
             unsent: None,
             refusals: Tally::new(),
+            alloc,
         };
         keep(&mut hands, hand)?;
     }
@@ -295,7 +296,10 @@ impl<J: Drop, S: Drop> Parts<J, S> {
         let mut senders = seat(senders, sender)?;
         let system = System { words, sups, outer };
         let schedulers = queue.named::<N>(alloc)?;
-        let process = Process::new(root, 0, tables, Body::Sup(TableNo::new(0)));
+        let body = Body::Sup(TableNo::new(0));
+        let Ok(process) = Process::new(alloc, root, 0, tables, body) else {
+            return Err(TreeFault::OutOfMemory);
+        };
         let hands = make_hands(alloc, &system, schedulers, &mut senders, viewer, process)?;
         let client = Client {
             owner,

@@ -78,7 +78,8 @@ fn children(alloc: Global, core: &Core) -> Result<String, AllocError> {
 fn count_down(rt: HostRuntime) -> io::Result<()> {
     for signal in [Signal::None, Signal::Shutdown, Signal::Kill] {
         let job: BoxedJob = Box::new(rt.alloc(), Countdown { left: 3 })?;
-        let process = Process::new(1, 0, 0, Body::Worker(job));
+        let process = Process::new(rt.alloc(), 1, 0, 0, Body::Worker(job));
+        let process = process.map_err(|_| AllocError)?;
         if let Some((note, turns)) = step(process, signal) {
             println!(rt; "{signal:?}, {turns} turns: {note:?}")?;
         }
@@ -86,7 +87,8 @@ fn count_down(rt: HostRuntime) -> io::Result<()> {
     let mut processes = Vec::new(rt.alloc());
     for left in 1..=10 {
         let job: BoxedJob = Box::new(rt.alloc(), Countdown { left })?;
-        processes.push(Process::new(u64::from(left), 0, 0, Body::Worker(job)))?;
+        let process = Process::new(rt.alloc(), u64::from(left), 0, 0, Body::Worker(job));
+        processes.push(process.map_err(|_| AllocError)?)?;
     }
     let live = run_all(rt.alloc(), processes)?;
     println!(rt; "of 10 countdowns {live} are left")?;

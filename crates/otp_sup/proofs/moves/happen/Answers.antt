@@ -1,6 +1,6 @@
-use Rattle.std.proofs.Common.{◌≡◌, ℕ, ◌+◌, List, ap, sym, ◌∙◌}
+use Rattle.std.proofs.Common.{ℕ, List, ap, ◌∙◌}
 use Rattle.otp_core.specs.View.{state_of}
-use Rattle.otp_sup.specs.Bodies.{bodies_after, bodies_in, calls_waiting, given_in, let_go}
+use Rattle.otp_sup.specs.Bodies.{bodies_in, calls_waiting, given_in, let_go}
 use Rattle.otp_sup.specs.declared.bodies.Kept.{Kept}
 use Rattle.otp_sup.proofs.Calls.{calls_happened}
 use Rattle.otp_sup.proofs.CountBodies.{count_after}

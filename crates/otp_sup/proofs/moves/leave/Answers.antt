@@ -1,4 +1,4 @@
-use Rattle.std.proofs.Common.{◌≡◌, ℕ, ◌+◌, Bool, List, Option, Some, None, ap, sym, ◌∙◌, subst, arith, MatchOption}
+use Rattle.std.proofs.Common.{◌≡◌, ℕ, Bool, List, Option, Some, None, ap, sym, ◌∙◌, subst, arith, MatchOption}
 use Rattle.std.specs.Prelude.{is_some, position}
 use Rattle.otp_sup.specs.Bodies.{bodies_in, is_at_home, left_home, move_first, stray}
 use Rattle.otp_sup.specs.declared.bodies.Place.TheVariants as placed

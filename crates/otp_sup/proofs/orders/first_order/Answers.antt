@@ -1,9 +1,6 @@
-use Rattle.std.proofs.Common.{◌≡◌, ℕ, ◌<◌, ◌≤◌, ◌+◌, ap, sym, ◌∙◌, arith, true, Some, get_or, length, rules}
-use Rattle.std.specs.Prelude.{slice_get, ltb}
+use Rattle.std.proofs.Common.{◌≡◌, sym, ◌∙◌, arith, true, length}
+use Rattle.std.specs.Prelude.{ltb}
 use Rattle.std.proofs.lemmas.Option.{slice_get_within}
-use Rattle.otp_rules.specs.declared.event.Effect.{Effect}
-use Rattle.otp_rules.specs.declared.event.Effect.TheVariants as effect
-use Rattle.otp_sup.specs.Turns.{has_some}
 use Rattle.otp_sup.proofs.Sends.{at_order, at_reply, is_not, is_so, some_at, found_order}
 use Rattle.otp_sup.proofs.orders.first_order.Goals as goal
 

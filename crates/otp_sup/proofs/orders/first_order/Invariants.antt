@@ -1,4 +1,4 @@
-use Rattle.std.proofs.Common.{length, ◌-◌, ◌≡◌, ◌≤◌, drop}
+use Rattle.std.proofs.Common.{length, ◌-◌, ◌≡◌, drop}
 use Rattle.otp_sup.specs.Facts.{orders_in}
 use Rattle.otp_sup.proofs.orders.first_order.Given as goal
 

@@ -1,4 +1,4 @@
-use Rattle.std.proofs.Common.{◌≡◌, ℕ, Option, ap, sym, ◌∙◌}
+use Rattle.std.proofs.Common.{ℕ, Option, ap, sym, ◌∙◌}
 use Rattle.otp_sup.specs.Slots.{slot_at}
 use Rattle.otp_sup.proofs.Slots.{slot_read}
 use Rattle.otp_sup.proofs.rows.slot_of.Goals as goal

@@ -1,11 +1,7 @@
-use Rattle.std.proofs.Common.{◌≡◌, ℕ, ◌+◌, ◌<◌, ◌++◌, ◌∷◌, [], List, Option, Some, None, Bool, true, false, ap, sym, ◌∙◌, subst, refl, arith, get_or, map, length}
-use Rattle.std.specs.Prelude.{is_some, remove, slice_get, slice_set, position, if◌then◌else◌}
-use Rattle.std.specs.List.{list_any}
+use Rattle.std.proofs.Common.{List, Bool, ◌∙◌, get_or}
 use Rattle.otp_sup.specs.declared.bodies.Kept.{Kept}
-use Rattle.otp_sup.specs.declared.bodies.Place.{Place}
 use Rattle.otp_sup.specs.declared.bodies.Place.TheVariants as placed
-use Rattle.otp_sup.specs.Facts.{BodiesView}
-use Rattle.otp_sup.specs.Bodies.{is_here, is_at_home, is_away, is_waiting, move_first, home_or_free, stray}
+use Rattle.otp_sup.specs.Bodies.{is_at_home, stray}
 use Rattle.otp_sup.proofs.Keeping.{IsFirstAt, first_at, home_is_here, moved_at, put_back, within_moved}
 use Rattle.otp_sup.proofs.bodies.Bodies.leave.Goals as goal
 

@@ -1,4 +1,4 @@
-use Rattle.std.proofs.Common.{◌≡◌, ℕ, ◌<◌, List, Bool, ap, sym, ◌∙◌, arith, get_or, map, length}
+use Rattle.std.proofs.Common.{List, Bool, ap, sym, ◌∙◌, arith, get_or, map, length}
 use Rattle.std.specs.Prelude.{is_some, remove}
 use Rattle.otp_sup.specs.declared.bodies.Kept.{Kept}
 use Rattle.otp_sup.specs.Facts.{BodiesView}

@@ -1,11 +1,9 @@
-use Rattle.std.proofs.Common.{◌≡◌, ℕ, ◌++◌, ◌∷◌, [], List, Option, Some, None, Bool, ap, sym, ◌∙◌, get_or}
-use Rattle.std.specs.Prelude.{position, if◌then◌else◌}
+use Rattle.std.proofs.Common.{◌≡◌, List, Some, None, Bool, ap, sym, ◌∙◌, get_or}
+use Rattle.std.specs.Prelude.{position}
 use Rattle.otp_sup.specs.declared.bodies.Kept.{Kept}
-use Rattle.otp_sup.specs.declared.bodies.Place.{Place}
-use Rattle.otp_sup.specs.declared.bodies.Place.TheVariants as placed
 use Rattle.otp_sup.specs.Facts.{BodiesView}
 use Rattle.std.proofs.lemmas.Bool.{and_parts}
-use Rattle.otp_sup.specs.Bodies.{is_here, is_left_of, is_stray, stray}
+use Rattle.otp_sup.specs.Bodies.{is_stray, stray}
 use Rattle.otp_sup.proofs.Keeping.{IsFirstAt, any_at, first_at, none_passes, removed_at, free_is_here, without_none}
 use Rattle.otp_sup.proofs.bodies.Bodies.take_of_nobody.Goals as goal
 

@@ -1,6 +1,5 @@
-use Rattle.std.proofs.Common.{◌≡◌, ℕ, ◌<◌, List, Bool, ap, sym, ◌∙◌, arith, get_or, map, length}
+use Rattle.std.proofs.Common.{ap, ◌∙◌, arith, get_or, map, length}
 use Rattle.std.specs.Prelude.{is_some, slice_set}
-use Rattle.otp_sup.specs.declared.bodies.Kept.{Kept}
 use Rattle.otp_sup.specs.Facts.{BodiesView}
 use Rattle.otp_sup.specs.Bodies.{is_here}
 use Rattle.otp_sup.proofs.Keeping.{here_at, put_out}

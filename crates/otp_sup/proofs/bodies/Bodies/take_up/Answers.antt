@@ -1,10 +1,9 @@
-use Rattle.std.proofs.Common.{◌≡◌, ℕ, ◌++◌, ◌∷◌, [], List, Option, Some, None, Bool, ap, sym, ◌∙◌, get_or}
-use Rattle.std.specs.Prelude.{position, if◌then◌else◌}
+use Rattle.std.proofs.Common.{◌≡◌, List, Some, None, Bool, ap, sym, ◌∙◌, get_or}
+use Rattle.std.specs.Prelude.{position}
 use Rattle.otp_sup.specs.declared.bodies.Kept.{Kept}
 use Rattle.otp_sup.specs.declared.bodies.Place.{Place}
-use Rattle.otp_sup.specs.declared.bodies.Place.TheVariants as placed
 use Rattle.otp_sup.specs.Facts.{BodiesView}
-use Rattle.otp_sup.specs.Bodies.{home_or_free, is_here, is_waiting, move_first, stray}
+use Rattle.otp_sup.specs.Bodies.{home_or_free, is_waiting, move_first, stray}
 use Rattle.otp_sup.proofs.Keeping.{IsFirstAt, first_at, move_none, moved_at, none_passes, waiting_is_here}
 use Rattle.otp_sup.proofs.bodies.Bodies.take_up.Goals as goal
 

@@ -1,4 +1,4 @@
-use Rattle.std.proofs.Common.{◌≡◌, arith, refl, ap, sym, ◌∙◌, List, inr, subst, Some, Option, drop, ◌∷◌, []}
+use Rattle.std.proofs.Common.{◌≡◌, arith, refl, ap, sym, ◌∙◌, List, subst, Some, Option, drop, []}
 use Rattle.std.specs.Prelude.{slice_get, MatchOption}
 use Rattle.std.proofs.lemmas.Option.{slice_get_read}
 use Rattle.otp_rules.specs.declared.event.Effect.{Effect}

@@ -1,11 +1,10 @@
-use Rattle.std.proofs.Common.{◌≡◌, ℕ, ◌+◌, refl, ap, sym, ◌∙◌, List, [], ◌∷◌, ◌++◌, subst, arith, Bool}
+use Rattle.std.proofs.Common.{◌≡◌, refl, ap, sym, ◌∙◌, List, [], ◌∷◌, ◌++◌, subst, arith}
 use Rattle.std.specs.Prelude.{is_some}
 use Rattle.otp_reason.specs.declared.note.Note.{Note}
 use Rattle.otp_signals.specs.declared.signal.Signal.TheVariants as signal
 use Rattle.otp_sup.specs.declared.orders.Sending.{Sending}
 use Rattle.otp_sup.specs.Facts.{OfficeView}
 use Rattle.otp_sup.specs.Flushes.{IsSent}
-use Rattle.otp_sup.specs.Letters.{one_if}
 use Rattle.otp_sup.specs.declared.port.Launched.{Launched}
 use Rattle.otp_sup.specs.Ports.{Taken, taken_by, carried}
 use Rattle.otp_sup.proofs.Sends.{sent_first, last_post, carried_last}
@@ -19,7 +18,7 @@ returns-in-Ask-clause-flushed g c =
     let stepped = c.advance-in-Ask.ensures in
     let taken : Taken = taken_by (g.P.Port.processes c.args.port.now) (g.P.Port.notes c.args.port.now) in
     let S : Sending → Type 0 = λ h. IsSent h old new taken taken in (
-      sent_first old _ new c.in-Some.how taken taken (c.in-Some.ensures {u = tt}) (ap (λ (o : OfficeView). o.outbox) p.owner) (ap (λ (o : OfficeView). o.sent) p.owner) (ap (λ (o : OfficeView). o.core) p.owner) stepped
+      sent_first old _ new c.in-Some.how taken taken (c.in-Some.ensures {u = tt}) (ap (λ (o : OfficeView). o.outbox) p.owner) (ap (λ (o : OfficeView). o.sent) p.owner) (ap (λ (o : OfficeView). o.core) p.owner) (ap (λ (o : OfficeView). o.first_slot) p.owner) stepped
           (subst S (sym c.in-Ask.is) (record { slot = c.post.result; posted = last_post old _ new c.in-Ask.number c.post.result signal.Shutdown p stepped; took = refl })),
       refl,
     )
@@ -32,7 +31,7 @@ returns-in-Kill-clause-flushed g c =
     let stepped = c.advance-in-Kill.ensures in
     let taken : Taken = taken_by (g.P.Port.processes c.args.port.now) (g.P.Port.notes c.args.port.now) in
     let S : Sending → Type 0 = λ h. IsSent h old new taken taken in (
-      sent_first old _ new c.in-Some.how taken taken (c.in-Some.ensures {u = tt}) (ap (λ (o : OfficeView). o.outbox) p.owner) (ap (λ (o : OfficeView). o.sent) p.owner) (ap (λ (o : OfficeView). o.core) p.owner) stepped
+      sent_first old _ new c.in-Some.how taken taken (c.in-Some.ensures {u = tt}) (ap (λ (o : OfficeView). o.outbox) p.owner) (ap (λ (o : OfficeView). o.sent) p.owner) (ap (λ (o : OfficeView). o.core) p.owner) (ap (λ (o : OfficeView). o.first_slot) p.owner) stepped
           (subst S (sym c.in-Kill.is) (record { slot = c.post-in-Kill.result; posted = last_post old _ new c.in-Kill.number c.post-in-Kill.result signal.Kill p stepped; took = refl })),
       refl,
     )
@@ -50,7 +49,7 @@ returns-in_default-put-clause-flushed g c =
     let took : after ≡ record before { processes = before.processes ++ put ∷ [] } =
     ap (λ (l : List Launched). taken_by l (g.P.Port.notes c.put.new.self)) h.took ∙ ap (λ (l : List Note). taken_by (before.processes ++ put ∷ []) l) h.notes in
     let S : Sending → Type 0 = λ w. IsSent w old new before after in (
-      sent_first old _ new c.in-Some.how before after (c.in-Some.ensures {u = tt}) (ap (λ (o : OfficeView). o.outbox) p.owner) (ap (λ (o : OfficeView). o.sent) p.owner) (ap (λ (o : OfficeView). o.core) p.owner) stepped
+      sent_first old _ new c.in-Some.how before after (c.in-Some.ensures {u = tt}) (ap (λ (o : OfficeView). o.outbox) p.owner) (ap (λ (o : OfficeView). o.sent) p.owner) (ap (λ (o : OfficeView). o.core) p.owner) (ap (λ (o : OfficeView). o.first_slot) p.owner) stepped
           (subst S (sym c.in-Start.is) (record { slot = c.post-slot.result; body = is_some c.args.body; posted = last_post old _ new c.in-Start.number c.post-slot.result signal.None p stepped; took = took })),
       h.counted,
     )
@@ -73,7 +72,7 @@ returns-in_default-send-clause-flushed g c =
     let took : after ≡ record before { notes = before.notes ++ c.in-Tell.note ∷ [] } =
     ap (λ (l : List Launched). taken_by l (g.P.Port.notes c.send.new.self)) h.processes ∙ ap (λ (l : List Note). taken_by before.processes l) h.took in
     let S : Sending → Type 0 = λ w. IsSent w old new before after in (
-      sent_first old old new c.in-Some.how before after (c.in-Some.ensures {u = tt}) refl refl refl stepped
+      sent_first old old new c.in-Some.how before after (c.in-Some.ensures {u = tt}) refl refl refl refl stepped
           (subst S (sym c.in-Tell.is) (record { owner = ap (λ (o : OfficeView). o.owner) stepped; took = took })),
       h.counted,
     )

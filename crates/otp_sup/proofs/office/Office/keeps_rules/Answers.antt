@@ -1,4 +1,4 @@
-use Rattle.std.proofs.Common.{◌≡◌, ℕ, ◌+◌, ◌++◌, List, take, drop, take-append-drop, ap, sym, ◌∙◌, subst, arith}
+use Rattle.std.proofs.Common.{ℕ, ◌+◌, ◌++◌, List, take, take-append-drop, ap, sym, ◌∙◌, subst, arith}
 use Rattle.otp_rules.specs.declared.event.Effect.{Effect}
 use Rattle.otp_rules.specs.Fit.{IsDistinct}
 use Rattle.otp_rules.specs.Needs.{IsLawfulHistory}

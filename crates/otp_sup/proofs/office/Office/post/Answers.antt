@@ -1,4 +1,4 @@
-use Rattle.std.proofs.Common.{◌≡◌, refl, ap, sym, ◌∙◌, List, drop, inr, subst}
+use Rattle.std.proofs.Common.{sym, drop, inr, subst}
 use Rattle.otp_signals.specs.declared.view.Holding.{Holding}
 use Rattle.otp_sup.specs.Facts.{OfficeView, IsOffice, orders_in}
 use Rattle.otp_sup.specs.Flushes.{Posts}

@@ -3,7 +3,6 @@ use Rattle.otp_core.specs.View.{View, state_of}
 use Rattle.otp_rules.specs.Waits.{starts_waiting}
 use Rattle.otp_sup.specs.Bodies.{calls_waiting}
 use Rattle.otp_sup.specs.Facts.{OfficeView, items_of}
-use Rattle.otp_sup.specs.Ports.{taken_by}
 use Rattle.otp_sup.specs.declared.bodies.Kept.{Kept}
 use Rattle.otp_sup.proofs.Calls.{sent_calls}
 use Rattle.otp_sup.proofs.Leaving.{Left, flushes_core, flushes_none, left_or_not}

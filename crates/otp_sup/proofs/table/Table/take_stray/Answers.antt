@@ -1,6 +1,6 @@
 use Rattle.std.proofs.Common.{ap, ◌∙◌}
 use Rattle.std.proofs.lemmas.Bool.{and_parts}
-use Rattle.otp_sup.specs.Bodies.{calls_waiting, is_left_of, is_stray}
+use Rattle.otp_sup.specs.Bodies.{calls_waiting, is_stray}
 use Rattle.otp_sup.proofs.Calls.{without_calls}
 use Rattle.otp_sup.proofs.table.Table.take_stray.Goals as goal
 

@@ -1,0 +1,63 @@
+-- A port has what it had, and what it took besides.
+use Rattle.std.specs.Prelude.{◌≡◌, ℕ, ◌≤◌, ◌++◌, List, [], ◌∷◌}
+use Rattle.std.proofs.Common.{◌∙◌, ap, arith, append-nil, append_assoc, sym}
+use Rattle.otp_reason.specs.declared.note.Note.{Note}
+use Rattle.otp_sup.specs.declared.orders.Sending.{Sending}
+use Rattle.otp_sup.specs.declared.orders.Sending.TheVariants as sending
+use Rattle.otp_sup.specs.declared.port.Flushed.{Flushed}
+use Rattle.otp_sup.specs.declared.port.Flushed.TheVariants as flushed
+use Rattle.otp_sup.specs.declared.port.Launched.{Launched}
+use Rattle.otp_sup.specs.Facts.{OfficeView}
+use Rattle.otp_sup.specs.Flushes.{Flushes, IsSent}
+use Rattle.otp_sup.specs.Ports.{Taken, TookMore, launched, taken_by}
+
+-- nothing besides
+pub took_none : (before after : Taken) (refusals later : ℕ) → after ≡ before → refusals ≤ later → TookMore before after refusals later
+took_none before after refusals later same le = record {
+  processes = [];
+  notes = [];
+  took = same ∙ ap (λ (l : List Launched). taken_by l before.notes) (sym (append-nil before.processes)) ∙ ap (λ (l : List Note). taken_by (before.processes ++ []) l) (sym (append-nil before.notes));
+  refused = le;
+}
+
+took_process : (before after : Taken) (refusals later : ℕ) (p : Launched) → after ≡ record before { processes = before.processes ++ p ∷ [] } → refusals ≤ later → TookMore before after refusals later
+took_process before after refusals later p is le = record {
+  processes = p ∷ [];
+  notes = [];
+  took = is ∙ ap (λ (l : List Note). taken_by (before.processes ++ p ∷ []) l) (sym (append-nil before.notes));
+  refused = le;
+}
+
+took_note : (before after : Taken) (refusals later : ℕ) (n : Note) → after ≡ record before { notes = before.notes ++ n ∷ [] } → refusals ≤ later → TookMore before after refusals later
+took_note before after refusals later n is le = record {
+  processes = [];
+  notes = n ∷ [];
+  took = is ∙ ap (λ (l : List Launched). taken_by l (before.notes ++ n ∷ [])) (sym (append-nil before.processes));
+  refused = le;
+}
+
+sent_more : (how : Sending) (old new : OfficeView) (before after : Taken) (refusals later : ℕ) → IsSent how old new before after → refusals ≤ later → TookMore before after refusals later
+sent_more (sending.Start n) old new before after refusals later s le = took_process before after refusals later (launched n s.slot s.body) s.took le
+sent_more (sending.Ask n) old new before after refusals later s le = took_none before after refusals later s.took le
+sent_more (sending.Kill n) old new before after refusals later s le = took_none before after refusals later s.took le
+sent_more (sending.Tell x) old new before after refusals later s le = took_note before after refusals later x s.took le
+
+-- so it is after each order
+pub flushes_more : (how : Flushed) (old new : OfficeView) (before after : Taken) (refusals later : ℕ) → Flushes how old new before after refusals later → TookMore before after refusals later
+flushes_more flushed.Empty old new before after refusals later h = let same = h.3 in took_none before after refusals later h.2 (omega (arith, same))
+flushes_more flushed.Sent old new before after refusals later h = let same = h.1 in sent_more h.0.how old new before after refusals later h.0.is_sent (omega (arith, same))
+flushes_more flushed.Refused old new before after refusals later h = let less = h.2 in took_none before after refusals later h.1 (omega (arith, less))
+
+-- and after two
+pub more_again : (one two three : Taken) (a b c : ℕ) → TookMore one two a b → TookMore two three b c → TookMore one three a c
+more_again one two three a b c first second =
+    let x = first.refused in let y = second.refused in
+    record {
+      processes = first.processes ++ second.processes;
+      notes = first.notes ++ second.notes;
+      took = second.took
+          ∙ ap (λ (t : Taken). taken_by (t.processes ++ second.processes) (t.notes ++ second.notes)) first.took
+          ∙ ap (λ (l : List Launched). taken_by l ((one.notes ++ first.notes) ++ second.notes)) (append_assoc one.processes first.processes second.processes)
+          ∙ ap (λ (l : List Note). taken_by (one.processes ++ (first.processes ++ second.processes)) l) (append_assoc one.notes first.notes second.notes);
+      refused = omega (arith, x, y);
+    }
