@@ -97,7 +97,7 @@ fn take_turn<N: RunNaming>(
         return Ok(());
     };
     if !process.is_runnable() || scheduler.share().ended >= SHARE_LIMIT {
-        return Ok(());
+        return scheduler.give_back(process).map_err(|_| AllocError);
     }
     match one_turn(process, Signal::None) {
         After::Again(process) | After::Begun(process, _) => {
