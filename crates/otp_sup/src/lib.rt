@@ -11,6 +11,7 @@
 
 pub mod bodies;
 pub mod client;
+mod draws;
 mod kept;
 pub mod letter;
 mod moves;

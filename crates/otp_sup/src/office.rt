@@ -1,9 +1,8 @@
 //! A core with the seat that draws its numbers, and its orders on their way.
-ghost use Rattle.std.specs.Prelude.{◌≡◌, ℕ, ◌+◌, ◌<◌, ◌≤◌, ◌^◌, ◌↔◌, [], ◌∷◌, ◌++◌, true, length, All, Contains, is_some, IsTrue, IfSome, IfOk, IfErr, OnOk, MatchOption, Some, None, option_map};
+ghost use Rattle.std.specs.Prelude.{◌≡◌, ◌+◌, ◌<◌, ◌≤◌, ◌^◌, [], true, length, Contains, IsTrue, IfSome, IfOk, IfErr, OnOk, MatchOption, Some, None, option_map};
 ghost use Rattle.otp_core.specs.Opened.{IsOpenFault};
 ghost use Rattle.otp_core.specs.View.{state_of};
 ghost use Rattle.otp_spec.specs.Supervisor.{supervisor_fault};
-ghost use Rattle.otp_rules.specs.Needs.{needs_number};
 ghost use Rattle.otp_rules.specs.State.{own_number, is_over};
 ghost use Rattle.otp_rules.specs.Run.{reply_of};
 ghost use Rattle.otp_signals.specs.Lists.{EachBetween};
@@ -11,15 +10,16 @@ ghost use Rattle.otp_sup.specs.Facts.{item_of, new_office, KeepsOffice};
 ghost use Rattle.otp_sup.specs.Bodies.{IsPlan, given_in, home_of, is_any_waiting, is_start_item, is_start_waiting, is_taken_up, is_waited_for};
 ghost use Rattle.otp_sup.specs.Slots.{AreBelow};
 ghost use Rattle.otp_sup.specs.declared.turns.TurnFault.TheVariants as fault;
-ghost use Rattle.otp_sup.specs.Turns.{is_told, may_open, drawn_by, due_kind, early_answer, Happened, Readied, IsRefusal};
+ghost use Rattle.otp_sup.specs.Turns.{is_told, may_open, due_kind, early_answer, Happened, Readied, IsRefusal};
 
 use crate::client::is_start_call;
+use crate::draws::step_drawing;
 use crate::orders::first_order;
 use crate::rows::{has_slot, slot_heeding};
 use crate::turns::{TurnAnswer, TurnFault};
 use otp_core::{Core, OpenFault};
 use otp_reason::Note;
-use otp_rules::{Event, Item, Kind, Phase, Reply, Waiting, laws};
+use otp_rules::{Item, Kind, Phase, Reply, Waiting, laws};
 use otp_signals::{Owner, Signal, Words, WordsNaming};
 use otp_spec::{ChildSpec, SupFlags};
 use otp_table::{Row, free_slot};
@@ -66,28 +66,6 @@ pub(crate) struct Plan {
     pub waits: bool,
     /// The first start call that waits is taken up.
     pub is_taken_up: bool,
-}
-
-/// The number of an event, drawn where the event starts a child.
-fn draw_for<N: WordsNaming>(
-    core: &Core,
-    words: &Words<N>,
-    owner: &mut Owner<N>,
-    reading: u64,
-    kind: &Kind,
-) -> Option<u64>
-    requires { 0 < owner.old.quota }
-    ensures given { is_some result ≡ needs_number (state_of core.now) reading kind.now }
-    ensures above { (n : ℕ) → result ≡ Some n → All (λ m. m < n) owner.old.drawn }
-    ensures owner { owner.new ≡ drawn_by result owner.old }
-{
-    if !core.needs_number(reading, kind) {
-        return None;
-    }
-    match words.draw(owner) {
-        Ok(number) => Some(number),
-        Err(_) => unreachable!(),
-    }
 }
 
 /// Takes the memory of the next event. A refusal leaves the core as it was.
@@ -239,12 +217,7 @@ impl<N: WordsNaming> Office<N> {
         ensures { Happened reading kind self.old self.new }
     {
         self.core.clear_effects();
-        let number = draw_for(&self.core, words, &mut self.owner, reading, &kind);
-        self.core.step(Event {
-            reading,
-            number,
-            kind,
-        });
+        step_drawing(&mut self.core, words, &mut self.owner, reading, kind);
         self.next = 0;
     }
 
