@@ -1,40 +1,38 @@
 //! A tree of supervisors that runs on threads: opened, served by 1 to 8 hands, and stopped.
 //!
-//! A tree is a list of [`TablePlan`]s, the root first. A job is any type that is a [`otp_job::Job`]. What is done with the
-//! open tree stands in a [`Session`], and [`with_system`] opens it:
+//! A tree is a list of [`TablePlan`]s, the root first. A job is any type that is a [`otp_job::Job`]. [`lead`] opens the
+//! tree and serves it with each hand in a thread of its own, and a [`Leader`] says what each round is:
 //!
 //! ```text
+//! /// Serves until the root is up, then asks it to stop, and serves until it has ended.
 //! #[derive(Drop)]
 //! struct UpAndDown;
 //!
-//! impl<R: Wait> Session<R, Steady, BoxedSubsystem> for UpAndDown {
-//!     type Output = Run;
-//!
-//!     fn run<N: WordsNaming + InboxNaming + RunNaming + Send + Sync>(
-//!         self,
-//!         rt: &R,
-//!         system: System<N, Steady, BoxedSubsystem>,
-//!         mut hands: Vec<Hand<N, Steady, BoxedSubsystem>>,
-//!         mut client: Client<N, Body<Steady, BoxedSubsystem>>,
-//!     ) -> Run {
-//!         let up = next_note(rt, &system, &mut hands, &mut client);
-//!         system.stop(&mut client);
-//!         let end = next_note(rt, &system, &mut hands, &mut client);
-//!         Run { up, end }
+//! impl Leader for UpAndDown {
+//!     fn next(&mut self, told: Option<Note>) -> Round {
+//!         match told {
+//!             Some(Note::Up(_)) => Round::Stop(1000),
+//!             Some(_) => Round::Leave,
+//!             None => Round::Serve(1000),
+//!         }
 //!     }
 //! }
 //!
-//! let run = with_system(rt, alloc, plans, 2, UpAndDown)?;
+//! lead(&rt, rt.alloc(), plans, 4, &clock, 100, UpAndDown)?;
 //! ```
 //!
-//! `crates/otp_uses/src/tree.rt` has the whole of it: the job, the plan, and `next_note`, which gives each hand turns
-//! ([`System::serve`]) until the root tells something ([`System::root_note`]). In OTP's words the root is a supervisor that
-//! `supervisor:start_link` started, turns are the time that passes, `stop` is its parent's `shutdown`, and `root_note` is
-//! what its parent hears (OTP Design Principles, Supervisor Behaviour).
+//! Nothing else is to be written, and no proof: `plans` are the trees' supervisors with their jobs, 4 the hands, `clock` is
+//! a [`Gate`], which is asked the time before each turn, and 100 the most rounds.
 //!
-//! All that belongs to one tree bears one name, `N`, in its type, so that nothing of it can be mixed up with another's.
-//! The library picks the name; that is why a session is a trait with one generic method. [`pool_run`] serves with each hand
-//! in a thread of its own; the prover doesn't cover a call of it in a trait's method yet, so a session serves hand by hand.
+//! Whoever wants to serve in one thread, or to do more with the open tree, writes a [`Session`] for [`with_system`]. All
+//! that belongs to one tree bears one name, `N`, in its type, so that nothing of it can be mixed up with another's, and the
+//! library picks the name; that is why a session is a trait with one generic method. In it [`System::serve`] gives a hand
+//! turns, [`System::root_note`] is the next thing that the root tells, and [`System::stop`] asks it to shut down.
+//! `crates/otp_uses/src/tree.rt` has a whole session, with its job and its plan. The prover doesn't cover a call of
+//! [`pool_run`] in a trait's method yet, so a session serves hand by hand.
+//!
+//! In OTP's words the root is a supervisor that `supervisor:start_link` started, turns are the time that passes, `stop` is
+//! its parent's `shutdown`, and the root's note is what its parent hears (OTP Design Principles, Supervisor Behaviour).
 #![tactic(auto)]
 
 pub mod client;
@@ -42,6 +40,7 @@ pub mod clock;
 pub mod hand;
 pub mod opening;
 pub mod plan;
+pub mod rounds;
 pub mod senders;
 pub mod serving;
 pub mod session;
@@ -52,6 +51,7 @@ pub use clock::{Gate, Millis};
 pub use hand::Hand;
 pub use opening::{MAX_TABLES, Opened, Parts, TreeFault};
 pub use plan::TablePlan;
+pub use rounds::{Leader, Round, lead};
 pub use senders::Senders;
 pub use serving::{MAX_HANDS, pool_run};
 pub use session::{Session, with_system};

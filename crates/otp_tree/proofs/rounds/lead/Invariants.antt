@@ -1,0 +1,13 @@
+use Rattle.std.specs.Prelude.{◌++◌, ◌∷◌, []}
+use Rattle.otp_inbox.specs.Names as inboxes
+use Rattle.otp_run.specs.Names as deques
+use Rattle.otp_tree.proofs.rounds.lead.Given as goal
+
+abbrev pub ghosts-lead_named-N-WordsNaming : goal.ghosts-lead_named-N-WordsNaming
+ghosts-lead_named-N-WordsNaming g a = record { words = a.parts.words.words }
+
+abbrev pub ghosts-lead_named-N-InboxNaming : goal.ghosts-lead_named-N-InboxNaming
+ghosts-lead_named-N-InboxNaming g a = record { inbox = inboxes.numbered (a.parts.inboxes.items ++ a.parts.outer ∷ []) }
+
+abbrev pub ghosts-lead_named-N-RunNaming : goal.ghosts-lead_named-N-RunNaming
+ghosts-lead_named-N-RunNaming g a = record { deque = deques.numbered a.parts.queue }

@@ -1,0 +1,132 @@
+//! A whole tree on threads, in one call.
+ghost use Rattle.std.specs.Prelude.{◌≡◌, ◌<◌, ◌≤◌, length};
+ghost use Rattle.otp_run.specs.Lists.{AllAt};
+ghost use Rattle.otp_run.specs.Rule.{all_parts};
+ghost use Rattle.otp_tree.specs.Opens.{slots_of};
+
+use crate::client::Client;
+use crate::clock::Gate;
+use crate::hand::Hand;
+use crate::opening::{Opened, Parts, TreeFault};
+use crate::plan::TablePlan;
+use crate::serving::pool_run;
+use crate::system::System;
+use otp_bridge::Subsystem;
+use otp_inbox::InboxNaming;
+use otp_job::{Body, Job};
+use otp_reason::Note;
+use otp_run::RunNaming;
+use otp_signals::WordsNaming;
+use std::alloc::Global;
+use std::marker::Brand;
+use std::sync::Wait;
+use std::thread::Threads;
+
+/// What is done with a tree next.
+#[derive(Clone, Copy, Debug, PartialEq, Eq)]
+pub enum Round {
+    /// Each hand makes so many turns, all hands at once.
+    Serve(u64),
+    /// The root is asked to shut down, and then each hand makes so many turns, all hands at once.
+    Stop(u64),
+    /// Nothing more: the tree is left as it is.
+    Leave,
+}
+
+/// Who leads a tree from round to round. No hand makes a turn while it is asked.
+pub trait Leader: Drop {
+    /// The next round, given what the root told since it was asked last: `Up` once all its children have started, `Exit`
+    /// when it has ended, None where there is nothing new.
+    fn next(&mut self, told: Option<Note>) -> Round;
+}
+
+/// Opens a tree of 1 to 64 supervisors, the root first, for 1 to 8 hands, and serves it with each hand in a thread of its
+/// own ([`pool_run`]), round by round as the leader says: at most so many rounds. The leader comes back.
+///
+/// A round ends when each hand has made its turns. The gate is asked before each turn of a hand, in the hand's own thread.
+pub fn lead<R, J, S, G, L>(
+    rt: &R,
+    alloc: Global,
+    plans: Vec<TablePlan<J, S>>,
+    hands: usize,
+    gate: &G,
+    rounds: u64,
+    leader: L,
+) -> Result<L, TreeFault>
+where
+    R: Threads + Wait + Sync,
+    J: Job + Send,
+    S: Subsystem + Send,
+    G: Gate + Sync,
+    L: Leader,
+    requires tables { length plans.items ≤ 64 }
+    requires some { 0 < hands }
+    requires few { hands ≤ all_parts }
+{
+    let parts = Parts::open(alloc, plans, hands)?;
+    lead_named::<Brand, R, J, S, G, L>(rt, alloc, parts, gate, rounds, leader)
+}
+
+fn lead_named<N, R, J, S, G, L>(
+    rt: &R,
+    alloc: Global,
+    parts: Parts<J, S>,
+    gate: &G,
+    rounds: u64,
+    mut leader: L,
+) -> Result<L, TreeFault>
+where
+    N: WordsNaming + InboxNaming + RunNaming + Send + Sync,
+    R: Threads + Wait + Sync,
+    J: Job + Send,
+    S: Subsystem + Send,
+    G: Gate + Sync,
+    L: Leader,
+    requires words { parts.words.words ≡ N.words }
+    requires inboxes { AllAt (λ k id. id ≡ N.inbox k) parts.inboxes.items }
+    requires outer { parts.outer ≡ N.inbox (length parts.inboxes.items) }
+    requires deques { AllAt (λ k id. id ≡ N.deque k) parts.queue }
+    requires slots { parts.words.slots ≡ slots_of (length parts.inboxes.items) }
+    requires few { length parts.inboxes.items ≤ 64 }
+{
+    let Opened {
+        system,
+        mut hands,
+        mut client,
+    } = parts.named::<N>(alloc)?;
+    for _ in 0..rounds {
+        let round = leader.next(system.root_note(rt, &mut client));
+        if !make_round(rt, &system, &mut hands, &mut client, gate, round) {
+            break;
+        }
+    }
+    Ok(leader)
+}
+
+/// Makes a round. False where nothing more is wanted.
+fn make_round<N, R, J, S, G>(
+    rt: &R,
+    system: &System<N, J, S>,
+    hands: &mut Vec<Hand<N, J, S>>,
+    client: &mut Client<N, Body<J, S>>,
+    gate: &G,
+    round: Round,
+) -> bool
+where
+    N: WordsNaming + InboxNaming + RunNaming + Send + Sync,
+    R: Threads + Wait + Sync,
+    J: Job + Send,
+    S: Subsystem + Send,
+    G: Gate + Sync,
+{
+    let turns = match round {
+        Round::Serve(turns) => turns,
+        Round::Stop(turns) => {
+            system.stop(client);
+            turns
+        }
+        Round::Leave => return false,
+    };
+    pool_run(rt, system, hands.as_mut_slice(), gate, turns);
+    true
+}
