@@ -24,3 +24,5 @@ mod supervisors;
 mod tally;
 #[cfg(test)]
 mod tokens;
+#[cfg(test)]
+mod trees;

@@ -1,0 +1,322 @@
+// Trees of supervisors, served by one thread and by several.
+ghost use Rattle.std.specs.Prelude.{◌≡◌, ◌<◌, ◌≤◌, false, length, IfOk};
+ghost use Rattle.otp_run.specs.Rule.{all_parts};
+
+use crate::probes::Calls;
+use otp_bridge::BoxedSubsystem;
+use otp_core::OpenFault;
+use otp_inbox::InboxNaming;
+use otp_job::{Body, Job, TableNo, Told, Turn};
+use otp_reason::{Name, Note, Reason, Started, Text};
+use otp_run::RunNaming;
+use otp_signals::WordsNaming;
+use otp_spec::{ChildSpec, ChildType, Shutdown, SpecFault, SupFlags};
+use otp_tree::{
+    Client, Gate, Hand, Leader, Millis, Parts, Round, Session, System, TablePlan, TreeFault, lead,
+    with_system,
+};
+use std::alloc::{AllocError, Global};
+use std::process::Abort;
+use std::sync::atomic::{AtomicU64, Ordering};
+use std::sync::{Arc, Wait};
+use std::test::*;
+use std::thread;
+use std::thread::Threads;
+
+// A worker that counts its starts. It works on for ever, or crashes in the first turn of its life.
+#[derive(Drop)]
+struct Worker {
+    starts: Calls,
+    crashes: Option<Text>,
+}
+
+impl Job for Worker {
+    ghost is_trapping = { λ _. false };
+
+    fn traps(&self) -> bool {
+        false
+    }
+
+    fn start(&mut self, _number: u64) -> Started {
+        self.starts.fetch_add(1, Ordering::SeqCst);
+        Started::Up
+    }
+
+    fn turn(&mut self, _told: Told) -> Turn {
+        match self.crashes.take() {
+            Some(text) => Turn::End(Reason::Error(text)),
+            None => Turn::Again,
+        }
+    }
+}
+
+type Plan = TablePlan<Worker, BoxedSubsystem>;
+
+fn make_worker(
+    starts: &Calls,
+    crashes: Option<Text>,
+) -> Result<Body<Worker, BoxedSubsystem>, AllocError> {
+    Ok(Body::Worker(Worker {
+        starts: Arc::try_clone(starts)?,
+        crashes,
+    }))
+}
+
+// How many workers the tree has. One of them crashes.
+const WORKERS: u64 = 3;
+
+// The root has the worker `a` and the supervisor `sub`, which has the workers `b` and `c`; `c` crashes. `twin` is the id
+// of the second worker of `sub`.
+fn plans(alloc: Global, starts: &Calls, twin: &[u8]) -> Result<Vec<Plan>, Fail>
+    ensures { IfOk result (λ plans. length plans.items ≡ 2) }
+{
+    let crash = Text::new(b"crash").ok_or("a text")?;
+    let mut root = empty_plan(alloc);
+    let mut nested = spec(b"sub")?;
+    nested.kind = ChildType::Supervisor;
+    nested.shutdown = Shutdown::Infinity;
+    root.specs.push(spec(b"a")?)?;
+    root.bodies.push(make_worker(starts, None)?)?;
+    root.specs.push(nested)?;
+    root.bodies.push(Body::Sup(TableNo::new(1)))?;
+    let mut sub = empty_plan(alloc);
+    sub.specs.push(spec(b"b")?)?;
+    sub.bodies.push(make_worker(starts, None)?)?;
+    sub.specs.push(spec(twin)?)?;
+    sub.bodies.push(make_worker(starts, Some(crash))?)?;
+    let mut plans = Vec::new(alloc);
+    plans.push(root)?;
+    plans.push(sub)?;
+    Ok(plans)
+}
+
+fn empty_plan(alloc: Global) -> Plan {
+    TablePlan {
+        flags: SupFlags::default(),
+        specs: Vec::new(alloc),
+        bodies: Vec::new(alloc),
+    }
+}
+
+fn spec(id: &[u8]) -> Result<ChildSpec, Fail> {
+    let id = Name::new(id).ok_or("a name")?;
+    Ok(ChildSpec::new(id, id))
+}
+
+// A clock that stands still.
+#[derive(Drop)]
+struct Still;
+
+impl Gate for Still {
+    fn before_turn(&self, _hand: usize) -> u64 {
+        0
+    }
+}
+
+impl Millis for Still {
+    fn now(&mut self) -> u64 {
+        0
+    }
+}
+
+// Serves until the tree is up and so many starts were made, then stops it, and leaves at the root's end.
+#[derive(Drop)]
+struct UpAndDown {
+    starts: Calls,
+    wanted: u64,
+    up: Option<Note>,
+    end: Option<Note>,
+}
+
+impl UpAndDown {
+    fn new(starts: Calls, wanted: u64) -> UpAndDown {
+        UpAndDown {
+            starts,
+            wanted,
+            up: None,
+            end: None,
+        }
+    }
+
+    // Whether the root has ended.
+    fn hear(&mut self, told: Option<Note>) -> bool {
+        match told {
+            Some(Note::Up(number)) => self.up = Some(Note::Up(number)),
+            Some(note) => self.end = Some(note),
+            None => {}
+        }
+        self.end.is_some()
+    }
+
+    fn has_restarted(&self) -> bool {
+        self.up.is_some() && self.starts.load(Ordering::SeqCst) >= self.wanted
+    }
+
+    // The tree was up, each worker started once and the one that crashed once more, and it ended as it was asked to.
+    fn check<R: Abort>(&self, rt: &R) {
+        assert_eq!(rt; self.up, Some(Note::Up(1)));
+        assert_eq!(rt; self.end, Some(Note::Exit(1, Reason::Shutdown)));
+        assert_eq!(rt; self.starts.load(Ordering::SeqCst), self.wanted);
+    }
+}
+
+impl Leader for UpAndDown {
+    fn next(&mut self, told: Option<Note>) -> Round {
+        if self.hear(told) {
+            Round::Leave
+        } else if self.has_restarted() {
+            Round::Stop(100)
+        } else {
+            Round::Serve(100)
+        }
+    }
+}
+
+// The whole life of the tree, with this many hands, each in a thread of its own.
+fn live_with<R: Threads + Wait + Abort + Sync>(
+    rt: &R,
+    alloc: Global,
+    hands: usize,
+) -> Result<(), Fail>
+    requires some { 0 < hands }
+    requires few { hands ≤ all_parts }
+{
+    let starts: Calls = Arc::new(alloc, AtomicU64::new(0))?;
+    let plans = plans(alloc, &starts, b"c")?;
+    let leader = UpAndDown::new(starts, WORKERS + 1);
+    match lead(rt, alloc, plans, hands, &Still, 10_000, leader) {
+        Ok(leader) => leader.check(rt),
+        Err(_) => return Err("the tree was refused".into()),
+    }
+    Ok(())
+}
+
+#[test]
+fn a_tree_is_served_by_one_hand_and_by_several(rt: HostRuntime) -> Result<(), Fail> {
+    live_with(&rt, rt.alloc(), 1)?;
+    live_with(&rt, rt.alloc(), 2)?;
+    live_with(&rt, rt.alloc(), 4)
+}
+
+// Lets two hands wait for each other before the first turn of each. A wait has its end, so that one thread that served
+// both hands, one after the other, would not hang: it would not meet.
+#[derive(Drop)]
+struct Meeting {
+    first: AtomicU64,
+    second: AtomicU64,
+    met: AtomicU64,
+}
+
+impl Gate for Meeting {
+    fn before_turn(&self, hand: usize) -> u64 {
+        let (own, other) = if hand == 0 {
+            (&self.first, &self.second)
+        } else {
+            (&self.second, &self.first)
+        };
+        if own.swap(1, Ordering::SeqCst) == 0 {
+            for _ in 0..10_000_000 {
+                if other.load(Ordering::SeqCst) == 1 {
+                    self.met.fetch_add(1, Ordering::SeqCst);
+                    return 0;
+                }
+                thread::yield_now();
+            }
+        }
+        0
+    }
+}
+
+// Serves one round, and leaves.
+#[derive(Drop)]
+struct Once {
+    rounds: u64,
+}
+
+impl Leader for Once {
+    fn next(&mut self, _told: Option<Note>) -> Round {
+        self.rounds = self.rounds.saturating_add(1);
+        if self.rounds > 1 {
+            Round::Leave
+        } else {
+            Round::Serve(1)
+        }
+    }
+}
+
+#[test]
+fn each_hand_has_a_thread_of_its_own(rt: HostRuntime) -> Result<(), Fail> {
+    let starts: Calls = Arc::new(rt.alloc(), AtomicU64::new(0))?;
+    let plans = plans(rt.alloc(), &starts, b"c")?;
+    let meeting = Meeting {
+        first: AtomicU64::new(0),
+        second: AtomicU64::new(0),
+        met: AtomicU64::new(0),
+    };
+    let led = lead(&rt, rt.alloc(), plans, 2, &meeting, 10, Once { rounds: 0 });
+    assert_eq!(rt; led.map(|once| once.rounds), Ok(2));
+    assert_eq!(rt; meeting.met.load(Ordering::SeqCst), 2);
+    Ok(())
+}
+
+// Two specifications of the nested supervisor have one id.
+#[test]
+fn a_refused_table_is_told_by_its_number(rt: HostRuntime) -> Result<(), Fail> {
+    let starts: Calls = Arc::new(rt.alloc(), AtomicU64::new(0))?;
+    let plans = plans(rt.alloc(), &starts, b"b")?;
+    let led = lead(&rt, rt.alloc(), plans, 2, &Still, 10, Once { rounds: 0 });
+    let fault = TreeFault::Table {
+        table: 1,
+        fault: OpenFault::Spec(SpecFault::DuplicateId { index: 1 }),
+    };
+    assert_eq!(rt; led.map(|once| once.rounds), Err(fault));
+    Ok(())
+}
+
+// Serves all hands from one thread, as the leader says.
+#[derive(Drop)]
+struct Alone {
+    leader: UpAndDown,
+}
+
+impl<R: Wait + Abort> Session<R, Worker, BoxedSubsystem> for Alone {
+    type Output = UpAndDown;
+
+    fn run<N: WordsNaming + InboxNaming + RunNaming + Send + Sync>(
+        self,
+        rt: &R,
+        system: System<N, Worker, BoxedSubsystem>,
+        hands: Vec<Hand<N, Worker, BoxedSubsystem>>,
+        client: Client<N, Body<Worker, BoxedSubsystem>>,
+    ) -> UpAndDown {
+        let (mut hands, mut client) = (hands, client);
+        let mut leader = self.leader;
+        assert_eq!(rt; (system.tables(), hands.len()), (2, 2));
+        assert!(rt; client.is_first());
+        for _ in 0..10_000 {
+            if leader.hear(system.root_note(rt, &mut client)) {
+                break;
+            }
+            if leader.has_restarted() {
+                assert!(rt; system.stop(&mut client));
+            }
+            for hand in hands.iter_mut() {
+                system.serve(rt, hand, &mut Still, 99);
+                system.turn(rt, hand, 0);
+            }
+        }
+        leader
+    }
+}
+
+#[test]
+fn a_session_serves_all_hands_from_one_thread(rt: HostRuntime) -> Result<(), Fail> {
+    let starts: Calls = Arc::new(rt.alloc(), AtomicU64::new(0))?;
+    let plans = plans(rt.alloc(), &starts, b"c")?;
+    let leader = UpAndDown::new(starts, WORKERS + 1);
+    match with_system(&rt, rt.alloc(), plans, 2, Alone { leader }) {
+        Ok(leader) => leader.check(&rt),
+        Err(_) => return Err("the tree was refused".into()),
+    }
+    Ok(())
+}
