@@ -1,14 +1,19 @@
 //! A table under its lock, beside its inbox.
 ghost use Rattle.std.specs.Prelude.{◌≡◌, ◌≤◌, ◌^◌};
+ghost use Rattle.otp_core.specs.View.{state_of};
+ghost use Rattle.otp_rules.specs.Needs.{numbers_of};
+ghost use Rattle.otp_rules.specs.Rate.{IsRated};
+ghost use Rattle.otp_sup.specs.Facts.{Begins};
 
 use crate::letter::Letter;
 use crate::port::{Flushed, Port};
 use crate::replies::copy_reply;
 use crate::table::Table;
 use crate::turns::{TurnAnswer, TurnFault};
+use otp_core::Core;
 use otp_inbox::{Inbox, InboxNaming};
 use otp_rules::{Item, Reply};
-use otp_signals::{Signal, Words, WordsNaming};
+use otp_signals::{Owner, Signal, Words, WordsNaming};
 use std::alloc::{AllocError, Global};
 use std::sync::{Mutex, Wait};
 
@@ -90,6 +95,21 @@ impl<N: WordsNaming + InboxNaming, B: Drop> Sup<N, B> {
         let mut guard = self.table.lock(rt);
         let table = &mut *guard;
         table.take_stray()
+    }
+
+    /// Takes it apart, at the end: the core as the last turn left it, and the seat that drew its process numbers. The
+    /// bodies that it has, and what is left in its inbox, are dropped.
+    pub fn into_parts(self) -> (Core, Owner<N>)
+        // It began as a supervisor that was never opened, for some flags and specifications.
+        ensures begins { Begins result.0.base }
+        ensures numbers { result.1.drawn ≡ numbers_of result.0.history }
+        // No period has more restarts than the intensity, but for the last one of a supervisor that ends by it.
+        ensures rate { IsRated (state_of result.0) }
+    {
+        let Sup { inbox: _, table } = self;
+        let table = table.into_inner();
+        table.keeps_rules();
+        table.into_parts()
     }
 }
 

@@ -15,9 +15,10 @@ use crate::moves::{come_back, happen, leave};
 use crate::office::Office;
 use crate::port::{Flushed, Port};
 use crate::turns::{TurnAnswer, TurnFault, answer_of};
+use otp_core::Core;
 use otp_inbox::{Inbox, InboxNaming, Taker};
 use otp_rules::{Item, Kind, Reply};
-use otp_signals::{Signal, Words, WordsNaming};
+use otp_signals::{Owner, Signal, Words, WordsNaming};
 use std::marker::{Model, PhantomData};
 use std::sync::Wait;
 
@@ -165,6 +166,21 @@ impl<N: WordsNaming + InboxNaming, B: Drop> Table<N, B> {
         let (flushed, back) = self.office.flush_one(words, body, port);
         come_back(&mut self.bodies, slot, at, back);
         flushed
+    }
+
+    /// Takes it apart, at the end: the core, and the seat that drew its process numbers. The bodies that it has are
+    /// dropped.
+    pub fn into_parts(self) -> (Core, Owner<N>)
+        ensures core { result.0 ≡ self.office.core }
+        ensures owner { result.1 ≡ self.office.owner }
+    {
+        let Table {
+            office,
+            taker: _,
+            bodies: _,
+            of: _,
+        } = self;
+        office.into_parts()
     }
 
     /// The kept answer to the call with this number.
