@@ -4,6 +4,7 @@
     changes.py            builds a copy of the program with all changes in it, each behind a switch, without proofs,
                           replays the transcripts once for each, and prints the table of docs/PARITY.md
     changes.py NUMBER..   these alone
+    changes.py --look     only says whether each change still has its place in the code: a moment, and needs nothing
 
 Definitions don't run, so a change is one of the code: what is left if a definition and its code were changed together. The
 switch is a small C function, which reads on standard input which change is on; it is in the copy alone.
@@ -81,14 +82,14 @@ CHANGES = [
     ("start looks for the id before it checks the specification", [(CALLS, "fn start_child(", "match check_childspecs", "if ON && self.rows.find_id(&spec.id).is_some() {\n            self.start_lawful(call, spec);\n            return;\n        }\n        match check_childspecs")]),
     ("start takes a significant child under never", [(CALLS, "fn start_child(", "Some(self.auto_shutdown)", instead("Some(self.auto_shutdown)", "None"))]),
     ("a failed restart_child is answered ok undefined",
-     [(STARTS, "Some(After::Restarted(call)) => {\n                self.rows", "self.answer(call, Reply::Refused(CallFault::Start(reason)));",
+     [(STARTS, "Some(Sequel::Restarted(call)) => {\n                self.rows", "self.answer(call, Reply::Refused(CallFault::Start(reason)));",
        "self.answer(call, if ON { Reply::OkUndefined } else { Reply::Refused(CallFault::Start(reason)) });")]),
     ("a failed restart_child removes the row",
-     [(STARTS, "Some(After::Restarted(call)) => {\n                self.rows"[:-len("self.rows")], "self.rows.set_state(place, RowState::Undefined);",
+     [(STARTS, "Some(Sequel::Restarted(call)) => {\n                self.rows"[:-len("self.rows")], "self.rows.set_state(place, RowState::Undefined);",
        "if ON {\n                    self.rows.remove(place);\n                } else {\n                    self.rows.set_state(place, RowState::Undefined);\n                }")]),
     ("a child whose first start fails keeps its row",
-     [(STARTS, "Some(After::Added(call)) => {\n                ", "self.rows.remove(place);", "if ON {\n                    self.rows.set_state(place, RowState::Undefined);\n                } else {\n                    self.rows.remove(place);\n                }")]),
-    ("an ignored restart_child is answered ok", [(WORK, "Some(After::Added(call)) | Some(After::Restarted(call))", "self.answer(call, Reply::OkUndefined);", "self.answer(call, if ON { Reply::Ok } else { Reply::OkUndefined });")]),
+     [(STARTS, "Some(Sequel::Added(call)) => {\n                ", "self.rows.remove(place);", "if ON {\n                    self.rows.set_state(place, RowState::Undefined);\n                } else {\n                    self.rows.remove(place);\n                }")]),
+    ("an ignored restart_child is answered ok", [(WORK, "Some(Sequel::Added(call)) | Some(Sequel::Restarted(call))", "self.answer(call, Reply::OkUndefined);", "self.answer(call, if ON { Reply::Ok } else { Reply::OkUndefined });")]),
     ("restart_child counts as a restart",
      [(CALLS, "fn start_again(", "self.to_stop.clear();", "if ON {\n            let _ = self.window.add(self.last);\n        }\n        self.to_stop.clear();")]),
     # What is told
@@ -139,7 +140,7 @@ CHANGES = [
        "let strategy = self.strategy;\n            if ON && !strategy.is_simple() {\n                self.strategy = otp_spec::Strategy::OneForOne;\n            }\n"
        "            self.restart(place, kept);\n            self.strategy = strategy;")]),
     ("a failed restart keeps its own number, not the one that died", [(STARTS, "fn start(", "due.kept.unwrap_or(number)", "if ON { number } else { due.kept.unwrap_or(number) }")]),
-    ("a failed restart is given up", [(STARTS, "Some(After::Nothing) => {", "self.put_last(Waiting::Retry(kept));", "if !ON {\n                    self.put_last(Waiting::Retry(kept));\n                }")]),
+    ("a failed restart is given up", [(STARTS, "Some(Sequel::Nothing) => {", "self.put_last(Waiting::Retry(kept));", "if !ON {\n                    self.put_last(Waiting::Retry(kept));\n                }")]),
     ("one restart more than the intensity is borne",
      [(WINDOW, "fn is_crowded(", "let count = stamps.len() as u64;", "let limit = if ON { limit + 1 } else { limit };\n    let count = stamps.len() as u64;"),
       (WINDOW, "fn is_crowded_with(", "if limit == 0 {", "let limit = if ON { limit + 1 } else { limit };\n    if limit == 0 {")]),
@@ -162,10 +163,10 @@ CHANGES = [
     ("a temporary significant child that fails doesn't end the supervisor",
      [(DEATHS, "fn death(", "self.after_end(number, &row);", "if !ON || reason.is_quiet() {\n                self.after_end(number, &row);\n            }")]),
     # The opening
-    ("a failed opening doesn't stop the children", [(STARTS, "Some(After::Ready) => {", "self.terminate(Ending::InitFailed(id));", "if ON {\n                    self.end_all(Ending::InitFailed(id));\n                } else {\n                    self.terminate(Ending::InitFailed(id));\n                }")]),
+    ("a failed opening doesn't stop the children", [(STARTS, "Some(Sequel::Ready) => {", "self.terminate(Ending::InitFailed(id));", "if ON {\n                    self.end_all(Ending::InitFailed(id));\n                } else {\n                    self.terminate(Ending::InitFailed(id));\n                }")]),
     ("a failed opening ends with shutdown", [(ENDS, "Ending::InitFailed(id) => SupEnd", "reason: init_failed(id)", "reason: if ON { Reason::Shutdown } else { init_failed(id) }")]),
-    ("an ignored start fails the opening", [(STARTS, "fn take_ignored", "if let RowState::Starting(..)", "if ON && self.follows == Some(After::Ready) {\n            let id = self.rows.get(place).spec.id;\n            self.rows.set_state(place, RowState::Undefined);\n            self.terminate(Ending::InitFailed(id));\n            return;\n        }\n        if let RowState::Starting(..)")]),
-    ("an end during the opening is lost", [(DEATHS, "fn take_exit", "if self.follows.is_some() {", "if ON && self.follows == Some(After::Ready) {\n                    return;\n                }\n                if self.follows.is_some() {")]),
+    ("an ignored start fails the opening", [(STARTS, "fn take_ignored", "if let RowState::Starting(..)", "if ON && self.follows == Some(Sequel::Ready) {\n            let id = self.rows.get(place).spec.id;\n            self.rows.set_state(place, RowState::Undefined);\n            self.terminate(Ending::InitFailed(id));\n            return;\n        }\n        if let RowState::Starting(..)")]),
+    ("an end during the opening is lost", [(DEATHS, "fn take_exit", "if self.follows.is_some() {", "if ON && self.follows == Some(Sequel::Ready) {\n                    return;\n                }\n                if self.follows.is_some() {")]),
     ("the end of a process that isn't up yet is lost", [(DEATHS, "fn take_exit", "RowState::Starting(..) =>", "RowState::Starting(..) if ON => {}\n            RowState::Starting(..) =>")]),
     # Stopping
     ("brutal_kill asks", [(STOPPING, "fn stop_order", "Shutdown::BrutalKill => Effect::Kill", "Shutdown::BrutalKill if ON => Effect::Ask(id, number),\n        Shutdown::BrutalKill => Effect::Kill")]),
@@ -183,7 +184,8 @@ CHANGES = [
 
 
 def main():
-    wanted = [int(word) for word in sys.argv[1:]]
+    looks = sys.argv[1:] == ["--look"]
+    wanted = [] if looks else [int(word) for word in sys.argv[1:]]
     numbered = [(n, *change) for n, change in enumerate([c for c in CHANGES if c[1]], 1)]
     chosen = [change for change in numbered if not wanted or change[0] in wanted]
     with tempfile.TemporaryDirectory() as folder:
@@ -192,6 +194,8 @@ def main():
         for number, name, edits in numbered:
             for edit in edits:
                 apply(tree, number, name, *edit)
+        if looks:
+            return
         caught = replay(tree, [0] + [number for number, *_ in chosen])
     if caught.pop(0) is not None:
         sys.exit("the unchanged program fails")

@@ -17,8 +17,8 @@ use otp_tree::{
 };
 use std::alloc::{AllocError, Global};
 use std::process::Abort;
-use std::sync::{Arc, Wait};
 use std::sync::atomic::{AtomicU64, Ordering};
+use std::sync::{Arc, Wait};
 use std::test::*;
 use std::thread;
 use std::thread::Threads;
@@ -52,7 +52,10 @@ impl Job for Worker {
 
 type Plan = TablePlan<Worker, BoxedSubsystem>;
 
-fn make_worker(starts: &Calls, crashes: Option<Text>) -> Result<Body<Worker, BoxedSubsystem>, AllocError> {
+fn make_worker(
+    starts: &Calls,
+    crashes: Option<Text>,
+) -> Result<Body<Worker, BoxedSubsystem>, AllocError> {
     Ok(Body::Worker(Worker {
         starts: Arc::try_clone(starts)?,
         crashes,

@@ -1,1 +1,3 @@
 pub mod Fresh
+pub mod Partings
+pub mod Closes

@@ -1,3 +1,5 @@
 pub mod Seats
 pub mod Hands
 pub mod Opens
+pub mod Partings
+pub mod Closes

@@ -37,8 +37,10 @@
 
 pub mod client;
 pub mod clock;
+pub mod closing;
 pub mod hand;
 pub mod opening;
+mod parting;
 pub mod plan;
 pub mod rounds;
 pub mod senders;
@@ -48,6 +50,7 @@ pub mod system;
 
 pub use client::Client;
 pub use clock::{Gate, Millis};
+pub use closing::{CloseCause, CloseFault, Report, TableReport};
 pub use hand::Hand;
 pub use opening::{MAX_TABLES, Opened, Parts, TreeFault};
 pub use plan::TablePlan;

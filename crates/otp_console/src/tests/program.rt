@@ -219,7 +219,7 @@ const LIMITS: &str =
 fn large_files(rt: HostRuntime) -> Result<(), Fail> {
     let alloc = rt.alloc();
     let mut text = String::from_str(alloc, TREE)?;
-    while text.len() < 1_048_576 {
+    for _ in TREE.len()..1_048_576 {
         text.push('\n').map_err(|_| AllocError)?;
     }
     for command in ["check", "tree", "try", "limits"] {
