@@ -361,6 +361,18 @@ fn texts_of_faults(rt: HostRuntime) -> Result<(), Fail> {
             TreeFault::Unlawful(SpecFault::TooManyChildren),
             "a supervisor has at most 256 children",
         ),
+        (
+            TreeFault::TooDeep,
+            "supervisors are nested more than 16 deep",
+        ),
+        (
+            TreeFault::TooManyTables,
+            "there are more than 64 supervisors",
+        ),
+        (
+            TreeFault::NestedNotInfinity { index: 3 },
+            "child 3, shutdown: a supervisor with a tree is waited for",
+        ),
     ];
     for (fault, text) in table {
         let printed = format!(in rt.alloc(); "{fault}")?;
