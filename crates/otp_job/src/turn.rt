@@ -142,11 +142,7 @@ fn turn_bridge<J: Drop, S: Subsystem>(
 }
 
 // What follows from the answer of a start.
-fn begin<J: Drop, S: Drop>(
-    inside: Emptied<J, S>,
-    answer: Started,
-    body: Body<J, S>,
-) -> After<J, S>
+fn begin<J: Drop, S: Drop>(inside: Emptied<J, S>, answer: Started, body: Body<J, S>) -> After<J, S>
     requires { answer ≡ Up → IsUp (Some body) }
     ensures { result ≡ after_start inside.value.ticket answer body }
 {
