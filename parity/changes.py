@@ -85,7 +85,7 @@ CHANGES = [
      [(STARTS, "Some(Sequel::Restarted(call)) => {\n                self.rows", "self.answer(call, Reply::Refused(CallFault::Start(reason)));",
        "self.answer(call, if ON { Reply::OkUndefined } else { Reply::Refused(CallFault::Start(reason)) });")]),
     ("a failed restart_child removes the row",
-     [(STARTS, "Some(Sequel::Restarted(call)) => {\n                self.rows"[:-len("self.rows")], "self.rows.set_state(place, RowState::Undefined);",
+     [(STARTS, "Some(Sequel::Restarted(call)) => {\n                ", "self.rows.set_state(place, RowState::Undefined);",
        "if ON {\n                    self.rows.remove(place);\n                } else {\n                    self.rows.set_state(place, RowState::Undefined);\n                }")]),
     ("a child whose first start fails keeps its row",
      [(STARTS, "Some(Sequel::Added(call)) => {\n                ", "self.rows.remove(place);", "if ON {\n                    self.rows.set_state(place, RowState::Undefined);\n                } else {\n                    self.rows.remove(place);\n                }")]),

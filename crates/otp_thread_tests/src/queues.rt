@@ -188,9 +188,9 @@ fn give_back<N: RunNaming, R: Abort>(rt: &R, scheduler: &mut AnyScheduler<N>, pr
     assert_eq!(rt; scheduler.share(), before);
 }
 
-// Of `rt try --test --fail-alloc N`, up to the last N that refuses anything here: 1 to 5 refuse the opening, which the
-// test then tells; 6 refuses a growth in a `put`, 7 one in a `give_back`, since one process is out while the deque is
-// full; 8 to 10 refuse the memory of `gather`.
+// Of `rt try --test --fail-alloc N`: 1 to 5 refuse the opening, which the test then tells. Then come the boxes of 300
+// processes, with the growths of the deque among them: in a `put`, and in a `give_back`, since one process is out while
+// the deque is full. The last refuse the memory of `gather`.
 fn grow<N: RunNaming, R: Abort>(
     rt: &R,
     alloc: Global,
