@@ -1,6 +1,6 @@
 //! A supervisor's core: its history, and the state that the rules give for it.
 
-ghost use Rattle.std.specs.Prelude.{ℕ, All, ◌≡◌, ◌+◌, ◌<◌, ◌≤◌, ◌^◌, ◌↔◌, ◌++◌, ◌∷◌, [], true, false, length, not, is_some, is_none, nat_lt, max, IsTrue, None, Some, IfOk, IfErr, OnOk, OnErr, MatchOption, option_map, slice_get, vec_len, vec_capacity};
+ghost use Rattle.std.specs.Prelude.{ℕ, All, ◌≡◌, ◌+◌, ◌<◌, ◌≤◌, ◌↔◌, ◌++◌, ◌∷◌, [], true, false, length, not, is_some, is_none, nat_lt, max, IsTrue, None, Some, IfOk, IfErr, OnOk, OnErr, MatchOption, option_map, slice_get, vec_len, vec_capacity};
 ghost use Rattle.std.specs.List.{filter, list_any};
 ghost use Rattle.otp_core.specs.View.{state_of};
 ghost use Rattle.otp_core.specs.Opened.{IsOpenFault};
@@ -11,7 +11,7 @@ ghost use Rattle.otp_rules.specs.Next.{has_come, next_deadline, next_kind};
 ghost use Rattle.otp_rules.specs.Rate.{IsRated};
 ghost use Rattle.otp_rules.specs.Run.{empty_state, reply_of};
 ghost use Rattle.otp_spec.specs.Supervisor.{supervisor_fault};
-ghost use Rattle.otp_spec.specs.declared.limits.TheConstants.{MAX_CHILDREN, MAX_EVENTS};
+ghost use Rattle.otp_spec.specs.declared.limits.TheConstants.{MAX_CHILDREN, MAX_EVENTS, MAX_READING};
 ghost use Rattle.otp_rules.specs.State.{is_over};
 ghost use Rattle.otp_rules.specs.Step.{is_late, step};
 
@@ -355,7 +355,7 @@ impl Core {
     ) -> Option<u64>
         requires prepared { IsTrue self.old.prepared }
         requires room { length self.old.history < MAX_EVENTS }
-        requires reading { reading ≤ 2 ^ 62 }
+        requires reading { reading ≤ MAX_READING }
         requires number { IsTrue (needs_number (state_of self.old) reading kind) → N.can_give numbers.old }
         requires rises { (n : ℕ) (after : N) → N.gives numbers.old n after → All (λ m. m < n) (numbers_of self.old.history) }
         ensures number { is_some result ≡ needs_number (state_of self.old) reading kind }
@@ -385,7 +385,7 @@ impl Core {
     pub fn step(&mut self, event: Event)
         requires prepared { IsTrue self.old.prepared }
         requires room { length self.old.history < MAX_EVENTS }
-        requires reading { event.reading ≤ 2 ^ 62 }
+        requires reading { event.reading ≤ MAX_READING }
         requires number { is_some event.number ≡ needs_number (state_of self.old) event.reading event.kind }
         requires rises { (n : ℕ) → event.number ≡ Some n → All (λ m. m < n) (numbers_of self.old.history) }
         ensures base { self.new.base ≡ self.old.base }

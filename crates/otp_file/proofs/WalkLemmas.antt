@@ -1,13 +1,12 @@
 -- The walk over the tables of a tree: what tables say that are walked one after the other, and the trees of children.
-use Rattle.std.proofs.Common.{◌≡◌, ℕ, suc, zero, ◌+◌, ◌-◌, ◌<◌, ◌≤◌, Bool, true, false, ◌||◌, List, [], ◌∷◌, ◌++◌, map, drop, length, get_or, Option, Some, None, Ok, Err, arith, refl, sym, ap, subst, ◌∙◌, append_assoc, append-nil, length-append}
-use Rattle.std.specs.Prelude.{is_some}
+use Rattle.std.proofs.Common.{◌≡◌, ℕ, suc, zero, ◌+◌, ◌-◌, ◌<◌, ◌≤◌, Bool, ◌||◌, List, [], ◌∷◌, ◌++◌, map, drop, length, get_or, Option, Some, None, Ok, Err, arith, refl, sym, ap, subst, ◌∙◌, append_assoc, append-nil, length-append}
 use Rattle.std.specs.List.{cons_option, enumerate_from, filter_map, flat_map, list_any}
 use Rattle.std.proofs.lemmas.Grind.{flat_map-append}
 use Rattle.std.proofs.lemmas.List.{at_drop_more, drop_all, map-append}
 use Rattle.otp_file.specs.declared.fault.TableFault.{TableFault}
 use Rattle.otp_file.specs.Children.{tree_of}
 use Rattle.otp_file.specs.Faults.{answer_of}
-use Rattle.otp_file.specs.Trees.{Table, Tree, children_in, faults_at, faults_in, nested_of, place_of, said_from, table_said, tables_from, tables_of, tables_said, tables_under, trees_of}
+use Rattle.otp_file.specs.Trees.{Table, Tree, children_in, faults_at, faults_in, place_of, said_from, table_said, tables_from, tables_of, tables_said, tables_under, trees_of}
 use Rattle.otp_file.proofs.ChildLemmas.{answer_of-stop, answer_of-next, answer_of-empty, answer_of-value}
 use Rattle.otp_file.proofs.TreeLemmas.{other_value}
 use Rattle.toml.specs.Data.{Data, Members}
@@ -192,31 +191,6 @@ walked_some levels values first next later place other table trees tree within s
 -- the places of those of these values that have a tree, from this place on
 abbrev pub places_from : ℕ → List Value → List ℕ
 places_from place values = filter_map (λ (at, child). place_of at (tree_of child)) (enumerate_from place (map view values))
-
-place_none : (place : ℕ) (tree : Option Members) (rest : List ℕ) → is_some tree ≡ false → cons_option (place_of place tree) rest ≡ rest
-place_none place None rest none = refl
-place_none place (Some _) rest none = cc
-
-place_some : (place : ℕ) (tree : Option Members) (rest : List ℕ) → is_some tree ≡ true → cons_option (place_of place tree) rest ≡ place ∷ rest
-place_some place None rest some = cc
-place_some place (Some _) rest some = refl
-
-pub places_none : (values : List Value) (place : ℕ) (other : Value) → place < length values →
-    is_some (tree_of (view (get_or values place other))) ≡ false →
-    places_from place (drop place values) ≡ places_from (place + 1) (drop (place + 1) values)
-places_none values place other within none =
-    at_drop_more (places_from place) values place other within
-    ∙ place_none place (tree_of (view (get_or values place other))) (places_from (place + 1) (drop (place + 1) values)) none
-
-pub places_some : (values : List Value) (place : ℕ) (other : Value) → place < length values →
-    is_some (tree_of (view (get_or values place other))) ≡ true →
-    places_from place (drop place values) ≡ place ∷ places_from (place + 1) (drop (place + 1) values)
-places_some values place other within some =
-    at_drop_more (places_from place) values place other within
-    ∙ place_some place (tree_of (view (get_or values place other))) (places_from (place + 1) (drop (place + 1) values)) some
-
-pub places_all : (values : List Value) (place : ℕ) → length values ≤ place → places_from place (drop place values) ≡ []
-places_all values place past = ap (places_from place) (drop_all place values past)
 
 -- a test of values as data
 pub list_any-view : (test : Data → Bool) (values : List Value) → list_any test (map view values) ≡ list_any (λ value. test (view value)) values

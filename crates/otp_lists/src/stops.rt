@@ -1,6 +1,7 @@
 //! The order to stop, and the ends that wait (`specs/Stops` of the rules).
 
-ghost use Rattle.std.specs.Prelude.{◌≡◌, ◌≤◌, ◌^◌, position};
+ghost use Rattle.std.specs.Prelude.{◌≡◌, ◌≤◌, position};
+ghost use Rattle.otp_spec.specs.declared.limits.TheConstants.{MAX_READING};
 ghost use Rattle.otp_rules.specs.Stops.{is_exit, stop_order, told};
 
 use otp_reason::{Name, Note};
@@ -11,7 +12,7 @@ use std::collections::VecDeque;
 
 /// The state of a child that is told to stop now.
 pub fn told(now: u64, number: u64, shutdown: Shutdown) -> RowState
-    requires { now ≤ 2 ^ 62 }
+    requires { now ≤ MAX_READING }
     ensures { result ≡ told now number shutdown }
 {
     match shutdown {

@@ -1,7 +1,7 @@
 -- What the machine's parts stand for, and the memory that it has ready.
-use Rattle.std.specs.Prelude.{◌≡◌, ◌+◌, ◌<◌, ◌≤◌, ◌^◌, All, length, reverse, true, vec_len, vec_capacity}
+use Rattle.std.specs.Prelude.{◌≡◌, ◌+◌, ◌<◌, ◌≤◌, All, length, reverse, true, vec_len, vec_capacity}
 use Rattle.std.specs.VecDeque.{deque_len, deque_capacity}
-use Rattle.otp_spec.specs.declared.limits.TheConstants.{MAX_CHILDREN, MAX_INTENSITY}
+use Rattle.otp_spec.specs.declared.limits.TheConstants.{MAX_CHILDREN, MAX_INTENSITY, MAX_READING}
 use Rattle.otp_rules.specs.State.{Outcome}
 use Rattle.otp_machine.specs.declared.machine.Machine.{Machine}
 
@@ -33,7 +33,7 @@ pub record CanAdvance (m : Machine) : Type 0 where
   pub stamps : m.window.intensity < vec_capacity m.spare_stamps
   pub kept_stamps : m.window.intensity < vec_capacity m.spare_kept_stamps
   pub ends : vec_len m.ends < vec_capacity m.ends
-  pub last : m.last ≤ 2 ^ 62
+  pub last : m.last ≤ MAX_READING
 
 -- there is room for this many orders to children, and for the open work after them
 pub record CanStop (m : Machine) : Type 0 where
@@ -43,7 +43,7 @@ pub record CanStop (m : Machine) : Type 0 where
   pub stamps : m.window.intensity < vec_capacity m.spare_stamps
   pub kept_stamps : m.window.intensity < vec_capacity m.spare_kept_stamps
   pub ends : vec_len m.ends < vec_capacity m.ends
-  pub last : m.last ≤ 2 ^ 62
+  pub last : m.last ≤ MAX_READING
 
 -- there is room for whatever an event does
 pub record CanDecide (m : Machine) : Type 0 where
@@ -64,7 +64,7 @@ pub record CanDecide (m : Machine) : Type 0 where
   pub stamps : m.window.intensity < vec_capacity m.spare_stamps
   pub kept_stamps : m.window.intensity < vec_capacity m.spare_kept_stamps
   pub ends : vec_len m.ends < vec_capacity m.ends
-  pub last : m.last ≤ 2 ^ 62
+  pub last : m.last ≤ MAX_READING
 
 -- there is memory for an event, whatever it is
 pub record HasMemory (m : Machine) : Type 0 where
@@ -88,5 +88,5 @@ pub record HasMemory (m : Machine) : Type 0 where
 pub record IsSound (m : Machine) : Type 0 where
   pub limit : length m.specs.items ≤ MAX_CHILDREN
   pub ordered : All (λ s. s ≤ m.last) m.window.stamps
-  pub last : m.last ≤ 2 ^ 62
+  pub last : m.last ≤ MAX_READING
   pub intensity : m.window.intensity ≤ MAX_INTENSITY

@@ -1,6 +1,7 @@
 //! What one event does (`specs/Step` of the rules).
 
-ghost use Rattle.std.specs.Prelude.{◌≡◌, ◌≤◌, ◌^◌, ◌&&◌, IsTrue, MatchOption, is_some, not};
+ghost use Rattle.std.specs.Prelude.{◌≡◌, ◌≤◌, ◌&&◌, IsTrue, MatchOption, is_some, not};
+ghost use Rattle.otp_spec.specs.declared.limits.TheConstants.{MAX_READING};
 
 use crate::machine::Machine;
 use crate::numbers::Numbers;
@@ -155,7 +156,7 @@ impl Machine {
     pub fn step<N: Numbers>(&mut self, reading: u64, kind: &Kind, numbers: &mut N) -> Option<u64>
         requires memory { HasMemory self.old }
         requires sound { IsSound self.old }
-        requires reading { reading ≤ 2 ^ 62 }
+        requires reading { reading ≤ MAX_READING }
         requires number { IsTrue (needs_number (outcome_of self.old).state reading kind.now) → N.can_give numbers.old }
         ensures outcome { outcome_of self.new ≡ step_on (record { reading = reading; number = result; kind = kind.now }) (outcome_of self.old) }
         ensures starts { is_some result ≡ needs_number (outcome_of self.old).state reading kind.now }

@@ -1,7 +1,8 @@
 //! Children are told to stop (`specs/Stops` of the rules).
 
-ghost use Rattle.std.specs.Prelude.{◌≡◌, ◌+◌, ◌<◌, ◌≤◌, ◌^◌, Some, length, remove, vec_len, vec_capacity};
+ghost use Rattle.std.specs.Prelude.{◌≡◌, ◌+◌, ◌<◌, ◌≤◌, Some, length, remove, vec_len, vec_capacity};
 ghost use Rattle.std.specs.VecDeque.{deque_len};
+ghost use Rattle.otp_spec.specs.declared.limits.TheConstants.{MAX_READING};
 
 use crate::machine::Machine;
 use otp_lists::restarts::list_running;
@@ -16,7 +17,7 @@ impl Machine {
     #[tactic(auto, unfolding(otp_rules::specs::Stops::tell, otp_rules::specs::Stops::tell_row, otp_rules::specs::Places::at_number, otp_rules::specs::Places::at_row, otp_rules::specs::Places::at_found, otp_rules::specs::Places::at_place))]
     pub(crate) fn tell(&mut self, number: u64)
         requires room { vec_len self.old.orders < vec_capacity self.old.orders }
-        requires last { self.old.last ≤ 2 ^ 62 }
+        requires last { self.old.last ≤ MAX_READING }
         ensures outcome { outcome_of self.new ≡ tell number (outcome_of self.old) }
         ensures rest { self.new ≡ record self.old { rows = self.new.rows; orders = self.new.orders } }
         ensures orders { vec_len self.new.orders ≤ vec_len self.old.orders + 1 }
@@ -48,7 +49,7 @@ impl Machine {
     #[tactic(auto, unfolding(otp_rules::specs::Stops::stop_each))]
     fn stop_each(&mut self, numbers: &[u64])
         requires orders { vec_len self.old.orders + length numbers.now ≤ vec_capacity self.old.orders }
-        requires last { self.old.last ≤ 2 ^ 62 }
+        requires last { self.old.last ≤ MAX_READING }
         ensures outcome { outcome_of self.new ≡ stop_each numbers.now (outcome_of self.old) }
         ensures rest { self.new ≡ record self.old { rows = self.new.rows; waiting = self.new.waiting; orders = self.new.orders } }
         ensures orders { vec_len self.new.orders ≤ vec_len self.old.orders + length numbers.now }

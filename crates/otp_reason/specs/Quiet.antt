@@ -1,4 +1,4 @@
-use Rattle.std.specs.Prelude.{Bool, true, false, IsTrue}
+use Rattle.std.specs.Prelude.{Bool, true, false}
 use Rattle.otp_reason.specs.declared.reason.Reason.{Reason}
 use Rattle.otp_reason.specs.declared.reason.Reason.TheVariants.{Normal, Shutdown, ShutdownWith, Kill, Killed, NoProc, Error}
 
@@ -12,7 +12,3 @@ is_quiet Kill = false
 is_quiet Killed = false
 is_quiet NoProc = false
 is_quiet (Error _) = false
-
--- the same as a fact (own)
-abbrev pub IsQuiet : Reason → Type 0
-IsQuiet reason = IsTrue (is_quiet reason)

@@ -210,10 +210,6 @@ end_busy : (f : Option Sequel) → is_end f ≡ true → is_some f ≡ true
 end_busy None h = absurd (false≢true h)
 end_busy (Some f) h = refl
 
--- no work is open
-idle-finishes : (s : State) → is_some s.follows ≡ false → Finishes s
-idle-finishes s idle e = absurd (false≢true (sym idle ∙ end_busy s.follows e))
-
 -- no row is starting where the supervisor ends
 not_starting : (place : ℕ) (row : Row) (q kept : ℕ) (o : Outcome) → StandsAt place row o → row.state ≡ Starting q kept → rows_in is_begun o.state.rows ≡ 0 → ⊥
 not_starting place row q kept o at is none =

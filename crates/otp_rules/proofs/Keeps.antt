@@ -1,7 +1,6 @@
 -- What no event changes: flags, specifications and the last stamp; and no restart is stamped later than that.
 use Rattle.std.specs.Prelude.{◌≡◌, ℕ, ◌≤◌, ◌++◌, Bool, List, [], ◌∷◌, Option, None, Some, All, refl, max}
-use Rattle.std.proofs.Common.{◌∙◌, ap, arith, sym}
-use Rattle.std.proofs.lemmas.List.{append-nil, append_assoc}
+use Rattle.std.proofs.Common.{arith}
 use Rattle.std.proofs.lemmas.List.Elements.{All-nil, All-push}
 use Rattle.otp_rules.specs.declared.call.Reply.{Reply}
 use Rattle.otp_rules.specs.declared.event.Event.{Event}
@@ -12,10 +11,8 @@ use Rattle.otp_rules.specs.State.{Outcome, State, answer, is_busy, with_stamps}
 use Rattle.otp_rules.specs.Ends.{refuse_all, end_all}
 use Rattle.otp_rules.specs.Work.{follow}
 use Rattle.otp_rules.specs.Step.{open_with, open_rows, tick, decide, stamped, step}
-use Rattle.otp_rules.specs.declared.event.Effect.{Effect}
 use Rattle.otp_rules.proofs.Decisions.{decide-survives}
 use Rattle.otp_rules.proofs.Steady.{Steady, steady-survives, step-steady}
-use Rattle.otp_rules.specs.Run.{orders_of, state_after}
 use Rattle.otp_rules.specs.Frames.{IsStamped, StepKeepsPlan, StepKeepsStamped, StepStamps}
 
 -- flags, specifications and the last stamp are the same, and still no restart is stamped later
@@ -87,26 +84,3 @@ stamped_later t u stamps le h i d within = omega (arith, le, h i d within)
 
 pub step_keeps_stamped_law : StepKeepsStamped
 step_keeps_stamped_law s e h = (step-keeps s e).3 (stamped_later s.last (max e.reading s.last) s.stamps (omega arith) h)
-
--- what no history changes
-pub run-plan : (s : State) (es : List Event) → ((state_after s es).flags ≡ s.flags) × ((state_after s es).specs ≡ s.specs)
-run-plan s [] = (refl, refl)
-run-plan s (e ∷ es) =
-    let rest : ((state_after s (e ∷ es)).flags ≡ (step s e).state.flags) × ((state_after s (e ∷ es)).specs ≡ (step s e).state.specs) = run-plan (step s e).state es in
-    let first : ((step s e).state.flags ≡ s.flags) × ((step s e).state.specs ≡ s.specs) = step_keeps_plan_law s e in
-    (rest.0 ∙ first.0, rest.1 ∙ first.1)
-
-pub run-stamped : (s : State) (es : List Event) → IsStamped s → IsStamped (state_after s es)
-run-stamped s [] h = h
-run-stamped s (e ∷ es) h = run-stamped (step s e).state es (step_keeps_stamped_law s e h)
-
--- one event more
-pub state_after-push : (s : State) (es : List Event) (e : Event) → state_after s (es ++ e ∷ []) ≡ (step (state_after s es) e).state
-state_after-push s [] e = refl
-state_after-push s (x ∷ xs) e = state_after-push (step s x).state xs e
-
-pub orders_of-push : (s : State) (es : List Event) (e : Event) → orders_of s (es ++ e ∷ []) ≡ orders_of s es ++ (step (state_after s es) e).orders
-orders_of-push s [] e = append-nil (step s e).orders
-orders_of-push s (x ∷ xs) e =
-    ap (λ (rest : List Effect). (step s x).orders ++ rest) (orders_of-push (step s x).state xs e)
-    ∙ sym (append_assoc (step s x).orders (orders_of (step s x).state xs) (step (state_after s (x ∷ xs)) e).orders)

@@ -5,20 +5,41 @@ use otp_spec::{ChildSpec, ChildType, Modules, SpecFault};
 use std::alloc::AllocError;
 use std::marker::Model;
 
-/// A call of a supervisor.
+/// A call of a supervisor, and what it is answered where it isn't refused. A call that comes while work is open waits for
+/// the end of that work; after the end of the supervisor each is answered [`Reply::NoProc`].
+///
+/// Under simple_one_for_one children have no ids, and a call that names one, get_childspec apart, is refused
+/// ([`CallFault::SimpleOneForOne`]).
 #[derive(Clone, Copy, Debug, PartialEq, Eq)]
 pub enum Call {
-    /// start_child with a specification: of every strategy but simple_one_for_one.
+    /// start_child/2 with a specification: adds the child as the last one and starts it. Answered once it has started:
+    /// [`Reply::OkProcess`], or [`Reply::OkUndefined`] where its start answered `ignore` (a temporary child is then gone
+    /// again). Refused, in this order: an unlawful specification, the id of a child that runs or is there already, a child more
+    /// than [`MAX_CHILDREN`](otp_spec::MAX_CHILDREN); and where the start fails, and the child is not kept.
     StartChild(ChildSpec),
-    /// start_child under simple_one_for_one, where all children share one specification.
+    /// start_child/2 under simple_one_for_one, where all children share one specification: starts one more child. Answered as
+    /// [`StartChild`](Call::StartChild); one whose start answered `ignore` is not kept. Under every other strategy refused
+    /// ([`CallFault::NotSimple`]).
     StartDynamic,
+    /// restart_child/2: starts a child that has no process. Answered once it has started, [`Reply::OkProcess`] or
+    /// [`Reply::OkUndefined`]. Refused where no child is named so, where it runs, where it waits for its next restart, and
+    /// where the start fails: the child then stays as it was.
     RestartChild(Name),
+    /// delete_child/2: takes the specification of a child that has no process away. Answered [`Reply::Ok`] at once. Refused
+    /// where no child is named so, where it runs, and where it waits for its next restart.
     DeleteChild(Name),
+    /// terminate_child/2: stops the child, which keeps its specification unless it is temporary. Answered [`Reply::Ok`] once
+    /// it has ended, at once where it has no process. Refused where no child is named so.
     TerminateChild(Name),
-    /// terminate_child by the process number, under simple_one_for_one.
+    /// terminate_child/2 by the process number, under simple_one_for_one: stops the child, which is then gone. Answered as
+    /// [`TerminateChild`](Call::TerminateChild). Refused where no child has the number, and under every other strategy.
     TerminateProcess(u64),
+    /// which_children/1: answered [`Reply::Which`] at once, the children in start order.
     WhichChildren,
+    /// count_children/1: answered [`Reply::Count`] at once.
     CountChildren,
+    /// get_childspec/2: answered [`Reply::Spec`] at once, under simple_one_for_one for the id of the specification that all
+    /// share. Refused where no child is named so.
     GetChildspec(Name),
 }
 
@@ -39,7 +60,7 @@ pub enum CallFault {
     AlreadyPresent,
     /// The child runs under this process number.
     AlreadyStarted(u64),
-    /// There are 256 children.
+    /// There are [`MAX_CHILDREN`](otp_spec::MAX_CHILDREN) children.
     TooManyChildren,
     /// The specification is unlawful.
     BadSpec(SpecFault),
@@ -50,8 +71,11 @@ pub enum CallFault {
 /// What which_children says of a child's process.
 #[derive(Clone, Copy, Debug, PartialEq, Eq)]
 pub enum ChildProcess {
+    /// It has a process with this number.
     Number(u64),
+    /// It waits for its next restart.
     Restarting,
+    /// It has none.
     Undefined,
 }
 
@@ -129,9 +153,13 @@ pub struct CountsNow {
 /// The answer to a call.
 #[derive(Debug, Drop)]
 pub enum Reply {
+    /// `ok`: the child is deleted, or stopped.
     Ok,
+    /// `{ok, Child}`: it started under this number.
     OkProcess(u64),
+    /// `{ok, undefined}`: its start answered `ignore`.
     OkUndefined,
+    /// `{error, Reason}`.
     Refused(CallFault),
     Which(ChildLines),
     Count(CountsNow),

@@ -1,6 +1,7 @@
 -- What contracts see of a scheduler, and the ledger of begun and ended processes. (own)
-use Rattle.std.specs.Prelude.{◌≡◌, ℕ, zero, suc, ◌+◌, ◌-◌, ◌<◌, ◌≤◌, map, ◌⊎◌, ◌^◌, List, [], ◌∷◌, ◌++◌, length}
+use Rattle.std.specs.Prelude.{◌≡◌, ℕ, zero, suc, ◌+◌, ◌-◌, ◌<◌, ◌≤◌, map, ◌⊎◌, List, [], ◌∷◌, ◌++◌, length}
 use Rattle.otp_job.specs.declared.process.Ticket.{Ticket}
+use Rattle.otp_run.specs.declared.scheduler.TheConstants.{SHARE_LIMIT}
 use Rattle.otp_run.specs.Rule.{all_parts}
 use Rattle.otp_run.specs.Deques.{OwnState, VictimState, index_of, stolen, missed, TakenFrom}
 
@@ -52,8 +53,8 @@ pub record IsScheduler (s : SchedulerState) : Type 0 where
   pub begun_is_put : s.begun ≤ length (puts s)
   -- what it gave back and what ended here was found here
   pub found_first : given_back s + s.ended ≤ length (finds s)
-  pub begun_bounded : s.begun ≤ 2 ^ 60
-  pub ended_bounded : s.ended ≤ 2 ^ 60
+  pub begun_bounded : s.begun ≤ SHARE_LIMIT
+  pub ended_bounded : s.ended ≤ SHARE_LIMIT
 
 -- its own deque gave the process
 abbrev pub found_own : SchedulerState → Ticket → SchedulerState

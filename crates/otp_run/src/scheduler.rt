@@ -1,5 +1,6 @@
 // A scheduler's end of the run queue.
-ghost use Rattle.std.specs.Prelude.{◌≡◌, ◌↔◌, ◌+◌, ◌-◌, ◌<◌, ◌≤◌, ◌^◌, ◌++◌, ◌∷◌, [], length, IfSome, IfNone, IfOk, IfErr, IsErr, IsTrue, OnOk, OnErr};
+ghost use Rattle.std.specs.Prelude.{◌≡◌, ◌↔◌, ◌+◌, ◌-◌, ◌<◌, ◌≤◌, ◌++◌, ◌∷◌, [], length, IfSome, IfNone, IfOk, IfErr, IsErr, IsTrue, OnOk, OnErr};
+ghost use Rattle.otp_run.specs.declared.scheduler.TheConstants.{SHARE_LIMIT};
 ghost use Rattle.otp_run.specs.Deques.{fresh_victim, missed, robbed, TakenFrom};
 ghost use Rattle.otp_run.specs.Opens.{unused};
 ghost use Rattle.otp_run.specs.Schedulers.{out, Found, IsPlaced, nothing_found};
@@ -73,24 +74,24 @@ impl<N: RunNaming, J: Drop, S: Drop> Scheduler<N, J, S> {
         self.count
     }
 
-    /// How many processes began and ended here, at most 2^60 each.
+    /// How many processes began and ended here, at most [`SHARE_LIMIT`] each.
     pub fn share(&self) -> Share
         ensures share { result ≡ record { begun = self.now.begun; ended = self.now.ended } }
-        ensures begun_bounded { result.begun ≤ 2 ^ 60 }
-        ensures ended_bounded { result.ended ≤ 2 ^ 60 }
+        ensures begun_bounded { result.begun ≤ SHARE_LIMIT }
+        ensures ended_bounded { result.ended ≤ SHARE_LIMIT }
     {
         self.share
     }
 
-    /// Puts a new process into its deque, which begins here. Refused where there is no memory, and after 2^60
-    /// processes; a refused process comes back, and nothing changes.
+    /// Puts a new process into its deque, which begins here. Refused where there is no memory, and after
+    /// [`SHARE_LIMIT`] processes; a refused process comes back, and nothing changes.
     #[tactic(auto, unfolding(crate::specs::Schedulers::out))]
     pub fn put(&mut self, process: Process<J, S>) -> Result<(), Process<J, S>>
         ensures put { OnOk result (self.new ≡ record self.old { begun = self.old.begun + 1; own = record self.old.own { puts = self.old.own.puts ++ process.ticket ∷ [] } }) }
         ensures out { OnOk result (out self.new ≡ out self.old) }
         ensures refused { IfErr result (λ back. back ≡ process) }
         ensures same { OnErr result (self.new ≡ self.old) }
-        ensures limit { 2 ^ 60 ≤ self.old.begun → IsErr result }
+        ensures limit { SHARE_LIMIT ≤ self.old.begun → IsErr result }
     {
         if self.share.begun >= SHARE_LIMIT {
             return Err(process);
@@ -118,7 +119,7 @@ impl<N: RunNaming, J: Drop, S: Drop> Scheduler<N, J, S> {
     #[tactic(auto, unfolding(crate::specs::Schedulers::out))]
     pub fn finish(&mut self, spent: Spent)
         requires found { 0 < out self.old }
-        requires room { self.old.ended < 2 ^ 60 }
+        requires room { self.old.ended < SHARE_LIMIT }
         ensures ended { self.new ≡ record self.old { ended = self.old.ended + 1 } }
         ensures out { out self.new + 1 ≡ out self.old }
     {

@@ -1,5 +1,5 @@
 -- What an owner learns of the number rule: what it and others have, that joined owners drew no number in common, and what it has where it has all.
-use Rattle.std.proofs.Common.{◌≡◌, ⊎_elim, ℕ, zero, suc, ◌+◌, ◌-◌, ◌<◌, ◌≤◌, ◌^◌, List, [], ◌∷◌, ◌++◌, length, length-append, set, refl, sym, ap, ◌∙◌, subst, arith, add-zero}
+use Rattle.std.proofs.Common.{◌≡◌, ⊎_elim, ℕ, zero, suc, ◌+◌, ◌-◌, ◌<◌, ◌≤◌, List, [], ◌∷◌, ◌++◌, length, length-append, set, refl, sym, ap, ◌∙◌, subst, arith, add-zero}
 use Rattle.std.specs.Prelude.{sum_by, slice_index}
 use Rattle.std.proofs.lemmas.List.{set-get_or}
 use Rattle.std.proofs.lemmas.List.Sums.{sum_by-append, sum_by-cons}
@@ -9,6 +9,7 @@ use native.Mathlib.Decide.{ℕ_discrete}
 use lib.ListN.{get_elem?}
 use Rattle.atomic_table.specs.Table.{step, keeps, Allows}
 use Rattle.atomic_table.proofs.Lists.{set_again}
+use Rattle.otp_signals.specs.declared.signal.TheConstants.{NUMBER_LIMIT}
 use Rattle.otp_signals.specs.declared.view.View.{View}
 use Rattle.otp_signals.specs.Lists.{numbers_to, AsOften, AllIn, NoneInBoth, Above, Below, Rises, Stands, merge}
 use Rattle.otp_signals.specs.Rules.{NumberRule, KeepsRules, Learns}
@@ -33,7 +34,7 @@ drawn_few c views id v at k =
     let o = k.once (λ _. 1) in
     omega (arith, count_all v.holding.drawn, count_all (numbers_to (c - 1)), length-numbers_to (c - 1))
 
-owner_room : (c : ℕ) (views : List View) (id : ℕ) (v : View) → get_elem? views id ≡ some v → NumberRule c views → length v.holding.drawn + v.holding.quota < 2 ^ 62
+owner_room : (c : ℕ) (views : List View) (id : ℕ) (v : View) → get_elem? views id ≡ some v → NumberRule c views → length v.holding.drawn + v.holding.quota < NUMBER_LIMIT
 owner_room c views id v at k =
     let p = drawn_few c views id v at k in
     let q = one_le_sum_by (λ (u : View). u.holding.quota) views id v at in
@@ -142,7 +143,7 @@ zero_not_drawn zero = refl
 zero_not_drawn (suc n) = let p = zero_not_drawn n in let q = is-else 0 (suc n) (λ e. absurd (omega arith)) in omega (arith, sum_by-append (is 0) (numbers_to n) (suc n ∷ []), sum_by-cons (is 0) (suc n) [])
 
 -- an owner that has the whole first quota drew every number below the counter
-pub whole : (c : ℕ) (views : List View) (id : ℕ) (v : View) → get_elem? views id ≡ some v → NumberRule c views → length v.holding.drawn + v.holding.quota ≡ 2 ^ 62 - 1
+pub whole : (c : ℕ) (views : List View) (id : ℕ) (v : View) → get_elem? views id ≡ some v → NumberRule c views → length v.holding.drawn + v.holding.quota ≡ NUMBER_LIMIT - 1
     → (v.holding.drawn ≡ numbers_to (length v.holding.drawn)) × (c ≡ length v.holding.drawn + 1)
 whole c views id v at k all =
     let xs : List ℕ = v.holding.drawn in

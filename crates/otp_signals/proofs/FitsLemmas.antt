@@ -1,9 +1,10 @@
 -- What an owner's type says of it stays through each call.
-use Rattle.std.proofs.Common.{◌≡◌, ℕ, ◌+◌, ◌<◌, ◌≤◌, ◌^◌, ◌||◌, true, false, [], ◌∷◌, length, length-append, sym, ap, ◌∙◌, ⊎_elim, arith}
+use Rattle.std.proofs.Common.{◌≡◌, ℕ, ◌+◌, ◌<◌, ◌≤◌, ◌||◌, true, false, [], ◌∷◌, length, length-append, sym, ap, ◌∙◌, ⊎_elim, arith}
 use Rattle.std.specs.Prelude.{not}
+use Rattle.otp_signals.specs.declared.signal.TheConstants.{NUMBER_LIMIT}
 use Rattle.otp_signals.specs.declared.view.Holding.{Holding}
 use Rattle.otp_signals.specs.Lists.{has, between}
-use Rattle.otp_signals.specs.Holdings.{first_holding, after_draw, after_post, kept_of, cut_of, joined}
+use Rattle.otp_signals.specs.Holdings.{first_holding, after_draw, kept_of, cut_of, joined}
 use Rattle.otp_signals.specs.Rules.{Fits}
 use Rattle.otp_signals.proofs.Sums.{Below-push, has-filter, has-below, and-left}
 use Rattle.otp_signals.proofs.Joins.{Below-merge, has-append, cases}
@@ -15,15 +16,12 @@ Fits-first words slots e = record {
   slots = λ s h. let p = has-below slots s h in omega arith;
 }
 
-pub Fits-draw : (words number : ℕ) (h : Holding) → 0 < h.quota → number < 2 ^ 62 → Fits words h → Fits words (after_draw number h)
+pub Fits-draw : (words number : ℕ) (h : Holding) → 0 < h.quota → number < NUMBER_LIMIT → Fits words h → Fits words (after_draw number h)
 Fits-draw words number h some lt f = record {
-  below = Below-push (2 ^ 62) h.drawn number f.below lt;
+  below = Below-push NUMBER_LIMIT h.drawn number f.below lt;
   room = let r = f.room in let l = length-append h.drawn (number ∷ []) in omega arith;
   slots = f.slots;
 }
-
-pub Fits-post : (words slot word : ℕ) (h : Holding) → Fits words h → Fits words (after_post slot word h)
-Fits-post words slot word h f = record { below = f.below; room = f.room; slots = f.slots }
 
 pub Fits-kept : (words from to quota : ℕ) (h : Holding) → Fits words h → Fits words (kept_of from to quota h)
 Fits-kept words from to quota h f = record {
@@ -39,9 +37,9 @@ Fits-cut words from to quota h le f = record {
   slots = λ s e. f.slots s (and-left _ _ (sym (has-filter (between from to) s h.slots) ∙ e));
 }
 
-pub Fits-joined : (words : ℕ) (h other : Holding) → length (joined h other).drawn + (joined h other).quota < 2 ^ 62 → Fits words h → Fits words other → Fits words (joined h other)
+pub Fits-joined : (words : ℕ) (h other : Holding) → length (joined h other).drawn + (joined h other).quota < NUMBER_LIMIT → Fits words h → Fits words other → Fits words (joined h other)
 Fits-joined words h other lt f g = record {
-  below = Below-merge (2 ^ 62) h.drawn other.drawn f.below g.below;
+  below = Below-merge NUMBER_LIMIT h.drawn other.drawn f.below g.below;
   room = lt;
   slots = λ s e. ⊎_elim
       (λ (m : has s h.slots ≡ true). f.slots s m)

@@ -1,11 +1,9 @@
 -- Totals over the views, and lists that grow at the end.
-use Rattle.std.proofs.Common.{◌≡◌, ◌≢◌, ◌⊎◌, ℕ, zero, suc, ◌+◌, ◌<◌, ◌≤◌, ◌==◌, Bool, true, false, true≢false, ◌||◌, ◌&&◌, cond, eq-eqb, ne_eqb, eqb-true, leb, ltb, le-leb, lt-ltb, le-ltb, List, [], ◌∷◌, ◌++◌, set, refl, sym, ap, ◌∙◌, inl, inr, arith, ⊎_elim, subst, lt_of_not-le}
+use Rattle.std.proofs.Common.{◌≡◌, ◌≢◌, ◌⊎◌, ℕ, zero, suc, ◌+◌, ◌<◌, ◌≤◌, ◌==◌, Bool, true, false, true≢false, ◌||◌, ◌&&◌, cond, eq-eqb, ne_eqb, eqb-true, leb, ltb, le-leb, lt-ltb, le-ltb, List, [], ◌∷◌, ◌++◌, refl, sym, ap, ◌∙◌, inl, inr, arith, ⊎_elim, subst, lt_of_not-le}
 use Rattle.std.specs.Prelude.{sum_by, max, filter, not}
 use Rattle.std.proofs.lemmas.Bool.Decides.{nat_tests}
 use Rattle.std.proofs.lemmas.List.Sums.{sum_by-append, sum_by-cons}
 use Rattle.std.proofs.lemmas.Bool.{lt-leb}
-use mathlib.Core.Option.{some, some-ne-none, some-injective}
-use lib.ListN.{get_elem?}
 use Rattle.otp_signals.specs.declared.view.View.{View}
 use Rattle.otp_signals.specs.Rules.{all_drawn}
 use Rattle.otp_signals.specs.Lists.{Below, Above, Rises, AtLeast, NeverFalls, Stands, ZeroOrIn, greatest, has, words_at, between, slots_below}
@@ -165,7 +163,3 @@ has-kept_above from to s slots a h = has-filter (λ t. not (between from to t)) 
 
 pub has-kept_below : (from to s : ℕ) (slots : List ℕ) → s < from → has s slots ≡ true → has s (filter (λ t. not (between from to t)) slots) ≡ true
 has-kept_below from to s slots a h = has-filter (λ t. not (between from to t)) s slots ∙ ap (λ t. has s slots && not t) (between-below from to s a) ∙ and_true (has s slots) ∙ h
-
-pub Stands-last : (x : ℕ) (ys : List ℕ) → Stands x (ys ++ x ∷ [])
-Stands-last x [] = inl refl
-Stands-last x (y ∷ ys) = inr (Stands-last x ys)

@@ -1,11 +1,12 @@
 -- What an owner has, and how each call changes it (own).
-use Rattle.std.specs.Prelude.{◌≡◌, ℕ, ◌+◌, ◌-◌, ◌^◌, [], ◌∷◌, ◌++◌, length, filter, not}
+use Rattle.std.specs.Prelude.{◌≡◌, ℕ, ◌+◌, ◌-◌, [], ◌∷◌, ◌++◌, length, filter, not}
+use Rattle.otp_signals.specs.declared.signal.TheConstants.{NUMBER_LIMIT}
 use Rattle.otp_signals.specs.declared.view.Holding.{Holding}
 use Rattle.otp_signals.specs.Lists.{slots_below, between, merge}
 
--- the first owner's: it may draw every number below 2^62, and post to every slot
+-- the first owner's: it may draw every number below the limit, and post to every slot
 abbrev pub first_holding : ℕ → Holding
-first_holding slots = record { drawn = []; quota = 2 ^ 62 - 1; slots = slots_below slots; posts = [] }
+first_holding slots = record { drawn = []; quota = NUMBER_LIMIT - 1; slots = slots_below slots; posts = [] }
 
 -- nothing
 abbrev pub no_holding : Holding
@@ -33,4 +34,4 @@ joined h other = record { drawn = merge h.drawn other.drawn; quota = h.quota + o
 
 -- it has the whole first quota, drawn or to draw: no other owner has drawn a number or may draw one
 abbrev pub IsWhole : Holding → Type 0
-IsWhole h = length h.drawn + h.quota ≡ 2 ^ 62 - 1
+IsWhole h = length h.drawn + h.quota ≡ NUMBER_LIMIT - 1

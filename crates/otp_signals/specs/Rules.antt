@@ -1,8 +1,9 @@
 -- The rules that hold of the words and of what all owners and viewers did, after each step (own). Those that were dropped count too.
-use Rattle.std.specs.Prelude.{◌≡◌, ℕ, ◌+◌, ◌-◌, ◌^◌, ◌<◌, ◌≤◌, true, false, List, [], ◌∷◌, ◌++◌, length, slice_index, sum_by}
+use Rattle.std.specs.Prelude.{◌≡◌, ℕ, ◌+◌, ◌-◌, ◌<◌, ◌≤◌, true, false, List, [], ◌∷◌, ◌++◌, length, slice_index, sum_by}
 use mathlib.Core.Option.{some}
 use lib.ListN.{get_elem?}
 use Rattle.atomic_table.specs.Table.{State, Step, Me}
+use Rattle.otp_signals.specs.declared.signal.TheConstants.{NUMBER_LIMIT}
 use Rattle.otp_signals.specs.declared.view.Holding.{Holding}
 use Rattle.otp_signals.specs.declared.view.View.{View}
 use Rattle.otp_signals.specs.Lists.{numbers_to, AsOften, Below, Rises, NeverFalls, ZeroOrIn, greatest, has, words_at}
@@ -24,8 +25,8 @@ pub record NumberRule (counter : ℕ) (views : List View) : Type 0 where
   pub once : AsOften (all_drawn views) (numbers_to (counter - 1))
   -- each owner's list rises
   pub rises : (id : ℕ) (v : View) → get_elem? views id ≡ some v → Rises v.holding.drawn × Below counter v.holding.drawn
-  -- the counter and what may still be drawn are 2^62 together
-  pub room : counter + quotas views ≡ 2 ^ 62
+  -- the counter and what may still be drawn are the limit together
+  pub room : counter + quotas views ≡ NUMBER_LIMIT
 
 -- the slots of the seat `id` are those that name it as their owner, and it posted to them alone
 abbrev pub Owns : (ℕ → ℕ) → (ℕ → List ℕ) → ℕ → View → Type 0
@@ -77,9 +78,9 @@ looks_view v = record v { holding = no_holding }
 
 -- What each step tells the seat that makes it: of the step, the seat before, the number found and the seat after.
 
--- the number found is drawn; it is new and below 2^62
+-- the number found is drawn; it is new and below the limit
 abbrev pub Draws : Step ℕ → Me ℕ View → ℕ → Me ℕ View → Type 0
-Draws s v n w = (w ≡ (record v.0 { holding = after_draw n v.0.holding }, v.1)) × (1 ≤ n) × (n < 2 ^ 62) × Below n v.0.holding.drawn
+Draws s v n w = (w ≡ (record v.0 { holding = after_draw n v.0.holding }, v.1)) × (1 ≤ n) × (n < NUMBER_LIMIT) × Below n v.0.holding.drawn
 
 -- the operand is posted
 abbrev pub Posts : Step ℕ → Me ℕ View → ℕ → Me ℕ View → Type 0
@@ -95,12 +96,12 @@ Witnesses s v n w = (w ≡ v) × ((slot : ℕ) → has slot v.0.holding.slots �
 
 -- nothing changes; the owner's list rises, and it has at most the whole first quota
 abbrev pub Learns : Step ℕ → Me ℕ View → ℕ → Me ℕ View → Type 0
-Learns s v n w = (w ≡ v) × Rises v.0.holding.drawn × (length v.0.holding.drawn + v.0.holding.quota < 2 ^ 62)
+Learns s v n w = (w ≡ v) × Rises v.0.holding.drawn × (length v.0.holding.drawn + v.0.holding.quota < NUMBER_LIMIT)
 
--- an owner's numbers are below 2^62, it has at most the whole first quota, and its slots are among those of a table of so many words
+-- an owner's numbers are below the limit, it has at most the whole first quota, and its slots are among those of a table of so many words
 pub record Fits (words : ℕ) (h : Holding) : Type 0 where
-  pub below : Below (2 ^ 62) h.drawn
-  pub room : length h.drawn + h.quota < 2 ^ 62
+  pub below : Below NUMBER_LIMIT h.drawn
+  pub room : length h.drawn + h.quota < NUMBER_LIMIT
   pub slots : (slot : ℕ) → has slot h.slots ≡ true → slot + 1 < words
 
 -- where the words end: a last state that keeps both rules, with this counter and this owner among its views

@@ -1,5 +1,9 @@
-ghost use Rattle.std.specs.Prelude.{◌≡◌, ◌+◌, ◌*◌, ◌^◌, ◌<◌};
+ghost use Rattle.std.specs.Prelude.{◌≡◌, ◌+◌, ◌*◌, ◌<◌};
+ghost use Rattle.otp_signals.specs.declared.signal.TheConstants.{NUMBER_LIMIT};
 ghost use Rattle.otp_signals.specs.Signals.{code_of, word_of, signal_of};
+
+/// All process numbers are below this one, 2^62.
+pub const NUMBER_LIMIT: u64 = 1 << 62;
 
 /// What a supervisor tells the process in a slot: nothing, `exit(Child, shutdown)` or `exit(Child, kill)` of OTP
 /// (manual page `supervisor`, the key `shutdown` of a child specification).
@@ -18,7 +22,7 @@ pub enum Signal {
 impl Signal {
     // The word of this signal for a number: four values for each number, of which three are used.
     pub(crate) fn word(self, number: u64) -> u64
-        requires { number < 2 ^ 62 }
+        requires { number < NUMBER_LIMIT }
         ensures { result ≡ word_of number self }
     {
         4 * number + self.code()

@@ -1,12 +1,13 @@
 //! The words and their tokens.
-ghost use Rattle.std.specs.Prelude.{◌≡◌, ℕ, ◌+◌, ◌-◌, ◌*◌, ◌^◌, ◌<◌, ◌≤◌, ◌⊎◌, ◌↔◌, List, [], ◌∷◌, ◌++◌, length, true, All, Contains, IsTrue, IfOk, OnOk, OnErr};
+ghost use Rattle.std.specs.Prelude.{◌≡◌, ℕ, ◌+◌, ◌-◌, ◌*◌, ◌<◌, ◌≤◌, ◌⊎◌, ◌↔◌, List, [], ◌∷◌, ◌++◌, length, true, All, Contains, IsTrue, IfOk, OnOk, OnErr};
+ghost use Rattle.otp_signals.specs.declared.signal.TheConstants.{NUMBER_LIMIT};
 ghost use Rattle.otp_signals.specs.Lists.{numbers_to, AsOften, AllIn, NoneInBoth, NeverFalls, EachBetween, StayBelow, StayFrom, has, words_at};
 ghost use Rattle.otp_signals.specs.declared.signal.Signal.TheVariants.{None};
 ghost use Rattle.otp_signals.specs.Signals.{word_of, signal_of, Looked, WerePosted, SignalsWerePosted};
 ghost use Rattle.otp_signals.specs.Holdings.{first_holding, after_draw, after_post, kept_of, cut_of, joined, IsWhole};
 ghost use Rattle.otp_signals.specs.Rules.{first_view, kept_view, cut_view, Ended};
 
-use crate::signal::Signal;
+use crate::signal::{NUMBER_LIMIT, Signal};
 use crate::steps::{
     Apart, BothRules, Cut, Draw, GiveBack, Learn, Lend, Look, Merge, Piece, Post, Witness,
 };
@@ -18,8 +19,8 @@ use std::mem;
 use std::ops::Range;
 use thiserror::Error;
 
-/// How many numbers there are to draw: those from 1 to below 2^62.
-const FIRST_QUOTA: u64 = (1 << 62) - 1;
+/// How many numbers there are to draw: all below the limit but 0.
+const FIRST_QUOTA: u64 = NUMBER_LIMIT - 1;
 
 /// Which words a value belongs to. The call that names the words picks it.
 pub trait WordsNaming {
@@ -202,7 +203,7 @@ impl<N: WordsNaming> Words<N> {
         ensures stands { IfOk result (Contains owner.new.drawn) }
         ensures kept { AllIn owner.old.drawn owner.new.drawn }
         ensures first { IfOk result (λ number. 1 ≤ number) }
-        ensures last { IfOk result (λ number. number < 2 ^ 62) }
+        ensures last { IfOk result (λ number. number < NUMBER_LIMIT) }
         ensures above { IfOk result (λ number. All (λ earlier. earlier < number) owner.old.drawn) }
         ensures some_quota { OnOk result (0 < owner.old.quota) }
         ensures exhausted { OnErr result (owner.old.quota ≡ 0) }
@@ -311,7 +312,7 @@ impl<N: WordsNaming> Words<N> {
             of: _,
         } = other;
         self.table.shared.join_seat::<Merge>(&mut owner.seat, seat);
-        // This load tells that the sums fit: all quotas and numbers drawn together are below 2^62.
+        // This load tells that the sums fit: all quotas and numbers drawn together are below [`NUMBER_LIMIT`].
         self.table.shared.load::<Learn>(&mut owner.seat, 0);
         owner.quota += quota;
         owner.drawn += drawn;

@@ -303,17 +303,6 @@ last_flushes InputFailed line s before now failures_before failures_now flushes 
 last_flushes OutputFailed line s before now failures_before failures_now flushes = (line_part line s before now flushes.0, flushes.1)
 last_flushes Memory line s before now failures_before failures_now flushes = flushes
 
--- after a last line what is ready is written
-pub last_finishes : (how : SimEnd) (line : List ℕ) (s : Sim) (before now : Option (List ℕ)) (failures_before failures_now : ℕ)
-    → Finishes how (take_line line s).end before now (take_line line s).text failures_before failures_now
-    → LastWrites how line s before now failures_before failures_now
-last_finishes Done line s before now failures_before failures_now last = last
-last_finishes (LineRefused number) line s before now failures_before failures_now last = last
-last_finishes HistoryFull line s before now failures_before failures_now last = last
-last_finishes InputFailed line s before now failures_before failures_now last = absurd last
-last_finishes OutputFailed line s before now failures_before failures_now last = last
-last_finishes Memory line s before now failures_before failures_now last = absurd last
-
 -- at the end of the input
 pub end_exit : (how : SimEnd) (start s : Sim) (old now : Devices) (ready kept line : List ℕ) (count : ℕ) (written : Option (List ℕ)) (failures : ℕ)
     (stands : Stands start s old now ready kept count) → IsAtEnd now.left → line ≡ kept

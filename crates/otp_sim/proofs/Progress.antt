@@ -60,11 +60,6 @@ head_none byte bytes none = All-head (λ b. (b == 10) ≡ false) byte bytes none
 tail_none : (byte : ℕ) (bytes : List ℕ) → NoEnd (byte ∷ bytes) → NoEnd bytes
 tail_none byte bytes none = All-tail (λ b. (b == 10) ≡ false) byte bytes none
 
--- nothing is served yet
-pub none_served : (start : Sim) → Served start [] [] start
-unfolding take_lines
-none_served start = record { lines = []; cut = λ more. refl; so_far = refl }
-
 -- more is read
 pub more_read : (start s : Sim) (taken waiting piece : List ℕ) → Served start taken waiting s → Served start (taken ++ piece) (waiting ++ piece) s
 more_read start s taken waiting piece served =

@@ -29,10 +29,6 @@ happen_after front what s =
     ≡ after front (cond full (record s { end = Some HistoryFull }) (stepped (event_of what s) (step s.state (event_of what s)) s)))
     [ true ↦ refl | false ↦ stepped_after front (event_of what s) (step s.state (event_of what s)) s ]
 
-next_after : (front : List ℕ) (s : Sim) → next_kind (after front s) ≡ next_kind s
-unfolding next_kind
-next_after front s = refl
-
 settled_within_after : (room : ℕ) (front : List ℕ) (s : Sim) → settled_within room (after front s) ≡ after front (settled_within room s)
 unfolding settled_within next_kind
 settled_within_after zero front s =

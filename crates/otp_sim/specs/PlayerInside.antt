@@ -1,6 +1,6 @@
 -- What a player stands for, and what it keeps.
-use Rattle.std.specs.Prelude.{◌≡◌, ◌-◌, ◌≤◌, ◌^◌, [], length}
-use Rattle.otp_spec.specs.declared.limits.TheConstants.{MAX_EVENTS}
+use Rattle.std.specs.Prelude.{◌≡◌, ◌-◌, ◌≤◌, [], length}
+use Rattle.otp_spec.specs.declared.limits.TheConstants.{MAX_EVENTS, MAX_READING}
 use Rattle.otp_rules.specs.Needs.{last_number}
 use Rattle.otp_core.specs.View.{state_of}
 use Rattle.otp_sim.specs.declared.player.Player.TheInside.{Inside}
@@ -22,7 +22,7 @@ sim_of_player p =
 
 pub record IsPlayer (p : Inside) : Type 0 where
   pub effects : p.core.effects ≡ []
-  pub reading : p.reading ≤ 2 ^ 62
+  pub reading : p.reading ≤ MAX_READING
   pub history : length p.core.history ≤ MAX_EVENTS
   -- a number is given to an event at the most
   pub processes : last_number p.core.history ≤ length p.core.history

@@ -1,7 +1,8 @@
 -- How far a run of `sim` has come, and how it ends (own).
-use Rattle.std.specs.Prelude.{◌≡◌, ◌==◌, ℕ, ◌<◌, ◌≤◌, ◌^◌, length, take, ◌⊎◌, false, List, ◌++◌, Option, IfSome, Result, Ok, Err, []}
+use Rattle.std.specs.Prelude.{◌≡◌, ◌==◌, ℕ, ◌<◌, ◌≤◌, length, take, ◌⊎◌, false, List, ◌++◌, Option, IfSome, Result, Ok, Err, []}
 use Rattle.std.specs.List.{All}
 use Rattle.std.specs.Io.KnownBytes.{Appends, Consumes, IsAtEnd, Keeps}
+use Rattle.otp_sim.specs.declared.engine.TheConstants.{MOST_BYTES}
 use Rattle.otp_sim.specs.declared.engine.SimEnd.{SimEnd}
 use Rattle.otp_sim.specs.declared.engine.SimEnd.TheVariants.{Done, LineRefused, HistoryFull, InputFailed, OutputFailed, Memory}
 use Rattle.otp_sim.specs.declared.session.Stop.{Stop}
@@ -42,12 +43,12 @@ pub record WroteFirst (start : Sim) (before now : Option (List ℕ)) (bytes : Li
   pub first : lines_of bytes ≡ lines ++ others
   pub text : Appends before now (take_lines lines start).text
 
--- the writer got the text of the lines whose LF was read, and then the reader failed or had given 2 ^ 62 bytes
+-- the writer got the text of the lines whose LF was read, and then the reader failed or had given the most bytes that are read
 pub record WroteLines (start : Sim) (left_before left_now before now : Option (List ℕ)) (failures_before failures_now : ℕ) : Type 0 where
   pub taken : List ℕ
   pub consumed : Consumes left_before left_now taken
   pub written : Appends before now (whole_text start taken)
-  pub why : (failures_before < failures_now) ⊎ (2 ^ 62 ≤ length taken)
+  pub why : (failures_before < failures_now) ⊎ (MOST_BYTES ≤ length taken)
 
 -- what a reader and a writer show: the bytes that are left and those that were written, where they are known, and
 -- how often each has failed

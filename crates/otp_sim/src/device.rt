@@ -3,7 +3,11 @@
 ghost use Rattle.std.specs.Prelude.{ℕ, List, Option, ◌≤◌, length};
 ghost use Rattle.std.specs.Io.{ReadsAtMost, WritesAtMost};
 ghost use Rattle.std.specs.Io.KnownBytes.{ReadConsumes, WriteAppends};
+ghost use Rattle.otp_sim.specs.declared.device.TheConstants.{PIECE};
 ghost use Rattle.otp_sim.specs.Devices.{CountsErrors, CountsWrites};
+
+/// How many bytes are asked for at once, at the least, and from how many on printed ones are written: 64 KiB.
+pub const PIECE: usize = 65_536;
 
 /// A device failed.
 #[derive(Clone, Copy, Debug, PartialEq, Eq)]
@@ -19,9 +23,9 @@ pub trait Input {
 
     /// Reads what is there into the buffer, and says how many bytes; none only at the end.
     ///
-    /// Nobody reads a little at a time: the buffer has room for 64 KiB.
+    /// Nobody reads a little at a time: the buffer has room for [`PIECE`] bytes.
     fn read(&mut self, buffer: &mut [u8]) -> Result<usize, Failed>
-        requires room { 65536 ≤ length buffer.old }
+        requires room { PIECE ≤ length buffer.old }
         ensures bound { ReadsAtMost result buffer.new }
         ensures bytes { ReadConsumes (remaining self.old) (remaining self.new) result buffer.new }
         ensures failures { CountsErrors (failures self.old) (failures self.new) result };

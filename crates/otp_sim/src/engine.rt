@@ -4,7 +4,7 @@ ghost use Rattle.std.specs.Prelude.{◌≡◌, ◌+◌, ◌<◌, ◌^◌, IfOk, 
 ghost use Rattle.otp_sim.specs.Runs.{Writes, LastWrites, with_text};
 ghost use Rattle.otp_sim.specs.Sim.{opened};
 
-use crate::device::{Input, Output};
+use crate::device::{Input, Output, PIECE};
 use crate::paged::PagedPlayer;
 use crate::player::Player;
 use crate::reading::read_next;
@@ -12,6 +12,7 @@ use crate::serving::serve_piece;
 use crate::session::Session;
 use crate::writing::{finish, out_of_memory, write_out};
 use otp_spec::SupSpec;
+use otp_text::LONGEST_LINE;
 use std::alloc::{AllocError, Global};
 
 /// How a run of `sim` ended.
@@ -30,12 +31,6 @@ pub enum SimEnd {
     /// Memory was refused.
     Memory,
 }
-
-/// How many bytes are read at once.
-const PIECE: usize = 65536;
-
-/// The most bytes of a line, without its LF.
-const LONGEST_LINE: usize = 512;
 
 /// The most bytes of the input.
 const MOST_BYTES: u64 = 1 << 62;

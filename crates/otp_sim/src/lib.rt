@@ -13,7 +13,7 @@ pub mod session;
 pub mod streams;
 mod writing;
 
-pub use device::{Failed, Input, Output};
+pub use device::{Failed, Input, Output, PIECE};
 pub use engine::{SimEnd, sim};
 pub use streams::Counted;
 pub use writing::write_all;

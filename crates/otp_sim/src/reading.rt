@@ -2,6 +2,7 @@
 
 ghost use Rattle.std.specs.Prelude.{◌≤◌, length};
 ghost use Rattle.std.specs.Io.{ReadsAtMost};
+ghost use Rattle.otp_sim.specs.declared.device.TheConstants.{PIECE};
 ghost use Rattle.otp_sim.specs.Runs.{ReadsNext};
 
 use crate::device::{Input, Output};
@@ -22,7 +23,7 @@ pub(crate) fn read_next<R: Input, W: Output>(
     ready: &mut Vec<u8>,
     buffer: &mut [u8],
 ) -> Result<usize, SimEnd>
-    requires room { 65536 ≤ length buffer.old }
+    requires room { PIECE ≤ length buffer.old }
     ensures bound { ReadsAtMost result buffer.new }
     ensures next { ReadsNext result
         (record { left = R.remaining input.old; written = W.contents output.old; read_failures = R.failures input.old; write_failures = W.failures output.old })

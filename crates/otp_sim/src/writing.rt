@@ -2,16 +2,14 @@
 
 ghost use Rattle.std.specs.Prelude.{◌≡◌, ◌≤◌, ◌<◌, [], length, OnOk, OnErr};
 ghost use Rattle.std.specs.Io.KnownBytes.{Appends};
+ghost use Rattle.otp_sim.specs.declared.device.TheConstants.{PIECE};
 ghost use Rattle.otp_sim.specs.Devices.{AppendsPart, Moves};
 ghost use Rattle.otp_sim.specs.Runs.{Finishes, Flushes};
 ghost use Rattle.otp_sim.specs.Sim.{end_of};
 
-use crate::device::{Failed, Output};
+use crate::device::{Failed, Output, PIECE};
 use crate::engine::SimEnd;
 use crate::session::Stop;
-
-/// From so many printed bytes on, they are written before the next line is served.
-const WRITE_AT: usize = 65536;
 
 /// Writes what is ready, if it is much: not each line by itself.
 ///
@@ -20,13 +18,13 @@ const WRITE_AT: usize = 65536;
 /// Where a write fails or takes nothing; a beginning was written.
 pub(crate) fn write_much<W: Output>(output: &mut W, ready: &mut Vec<u8>) -> Result<(), Failed>
     ensures ok { OnOk result (Moves (W.contents output.old) (W.contents output.new) ready.old.items ready.new.items) }
-    ensures little { OnOk result (length ready.new.items < 65536) }
-    ensures waits { length ready.old.items < 65536 → (ready.new.items ≡ ready.old.items) × (output.new ≡ output.old) }
+    ensures little { OnOk result (length ready.new.items < PIECE) }
+    ensures waits { length ready.old.items < PIECE → (ready.new.items ≡ ready.old.items) × (output.new ≡ output.old) }
     ensures part { AppendsPart (W.contents output.old) (W.contents output.new) ready.old.items }
     ensures kept { W.failures output.old ≤ W.failures output.new }
     ensures failed { OnErr result (W.failures output.old < W.failures output.new) }
 {
-    if ready.len() < WRITE_AT {
+    if ready.len() < PIECE {
         return Ok(());
     }
     write_out(output, ready)

@@ -8,6 +8,9 @@ pub const MAX_CHILDREN: usize = 256;
 /// The most events that the history of one supervisor holds.
 pub const MAX_EVENTS: usize = 65_536;
 
+/// The greatest reading of a clock, in milliseconds: 2^62. A reading and the longest time to shut down add up.
+pub const MAX_READING: u64 = 1 << 62;
+
 /// The greatest restart intensity.
 pub const MAX_INTENSITY: u64 = 1_000;
 

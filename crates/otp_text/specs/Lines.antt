@@ -1,5 +1,5 @@
 -- The lines that are read (own).
-use Rattle.std.specs.Prelude.{ℕ, ◌≤◌, ◌^◌, Bool, true, false, nat_lt, List, [], ◌∷◌, Option, Some, None, length, take, drop, codes, if◌then◌else◌}
+use Rattle.std.specs.Prelude.{ℕ, ◌≤◌, nat_lt, List, [], ◌∷◌, Option, Some, None, length, drop, codes, if◌then◌else◌}
 use Rattle.std.specs.Option.{option_map}
 use Rattle.otp_reason.specs.declared.name.Name.{Name}
 use Rattle.otp_reason.specs.declared.note.Note.{Note}
@@ -7,9 +7,11 @@ use Rattle.otp_reason.specs.declared.note.Note.TheVariants as note
 use Rattle.otp_reason.specs.declared.reason.Reason.{Reason}
 use Rattle.otp_spec.specs.Words.{child_type_of, restart_of}
 use Rattle.otp_spec.specs.declared.child.ChildSpec.{ChildSpec}
+use Rattle.otp_spec.specs.declared.limits.TheConstants.{MAX_READING}
 use Rattle.otp_spec.specs.declared.child.Modules.TheVariants as modules
 use Rattle.otp_rules.specs.declared.call.Call.{Call}
 use Rattle.otp_rules.specs.declared.call.Call.TheVariants as call
+use Rattle.otp_text.specs.declared.line.TheConstants.{LONGEST_LINE}
 use Rattle.otp_text.specs.declared.line.Line.{Line}
 use Rattle.otp_text.specs.declared.line.Line.TheVariants as line
 use Rattle.otp_text.specs.declared.verb.Verb.{Verb}
@@ -34,9 +36,9 @@ verb_of word =
     else if is_word (codes "count") word then Some verb.Count
     else None
 
--- a clock's reading or a process number: 0 to 2 ^ 62
+-- a clock's reading or a process number
 unfoldable pub number_in : List ℕ → Option ℕ
-number_in word = number_up_to 4611686018427387904 word
+number_in word = number_up_to MAX_READING word
 
 -- one word, a number
 unfoldable pub one_number : List (List ℕ) → Option ℕ
@@ -151,12 +153,12 @@ line_of_words words = do
 -- the line that these bytes are, without their end of line
 unfoldable pub line_of : List ℕ → Option Line
 line_of [] = Some line.Empty
-line_of (byte ∷ bytes) = if nat_lt 512 (length (byte ∷ bytes)) then None else line_of_words (words_of (byte ∷ bytes))
+line_of (byte ∷ bytes) = if nat_lt LONGEST_LINE (length (byte ∷ bytes)) then None else line_of_words (words_of (byte ∷ bytes))
 
--- a clock's reading is at most 2 ^ 62 milliseconds
+-- a clock's reading is in its limits
 abbrev pub IsTimely : Line → Type 0
 IsTimely line.Empty = Unit {0}
-IsTimely (line.At reading) = reading ≤ 2 ^ 62
+IsTimely (line.At reading) = reading ≤ MAX_READING
 IsTimely (line.Note _) = Unit {0}
 IsTimely line.Stop = Unit {0}
 IsTimely (line.Call _) = Unit {0}

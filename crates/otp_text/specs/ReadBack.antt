@@ -1,10 +1,13 @@
 -- What is printed is read back (own).
-use Rattle.std.specs.Prelude.{◌≡◌, Bool, Some}
+use Rattle.std.specs.Prelude.{◌≡◌, ℕ, Bool, true, List, Some}
+use Rattle.otp_reason.specs.declared.reason.Reason.{Reason}
+use Rattle.otp_reason.specs.declared.reason.Reason.TheVariants as reason
+use Rattle.otp_reason.specs.Texts.{is_lawful_text, text_of}
 use Rattle.otp_spec.specs.declared.child.ChildType.{ChildType}
 use Rattle.otp_spec.specs.declared.child.Restart.{Restart}
 use Rattle.otp_spec.specs.Words.{child_type_of, restart_of, restart_word, type_word}
-use Rattle.otp_text.specs.Values.{bool_text}
-use Rattle.otp_text.specs.Words.{bool_in}
+use Rattle.otp_text.specs.Values.{bool_text, reason_text}
+use Rattle.otp_text.specs.Words.{bool_in, reason_in}
 
 -- each word of a value that has one
 abbrev pub WordsAreReadBack : Type 0
@@ -12,3 +15,17 @@ WordsAreReadBack =
     ((restart : Restart) → restart_of (restart_word restart) ≡ Some restart)
     × ((kind : ChildType) → child_type_of (type_word kind) ≡ Some kind)
     × ((value : Bool) → bool_in (bool_text value) ≡ Some value)
+
+-- this reason's text is read as this reason
+abbrev pub IsReadBack : Reason → Type 0
+IsReadBack why = reason_in (reason_text why) ≡ Some why
+
+-- each reason, one with a term for each term that can be read
+pub record ReasonsAreReadBack : Type 0 where
+  pub normal : IsReadBack reason.Normal
+  pub shutdown : IsReadBack reason.Shutdown
+  pub kill : IsReadBack reason.Kill
+  pub killed : IsReadBack reason.Killed
+  pub no_proc : IsReadBack reason.NoProc
+  pub shutdown_with : (term : List ℕ) → is_lawful_text term ≡ true → IsReadBack (reason.ShutdownWith (text_of term))
+  pub error : (term : List ℕ) → is_lawful_text term ≡ true → IsReadBack (reason.Error (text_of term))

@@ -1,7 +1,8 @@
 //! Lines as they are read.
 
-ghost use Rattle.std.specs.Prelude.{◌≡◌, ◌≤◌, ◌^◌, IfSome, option_copied};
+ghost use Rattle.std.specs.Prelude.{◌≡◌, ◌≤◌, IfSome, option_copied};
 ghost use Rattle.std.specs.Option.{option_map};
+ghost use Rattle.otp_spec.specs.declared.limits.TheConstants.{MAX_READING};
 ghost use Rattle.otp_text.specs.Words.{words_of, words_left};
 ghost use Rattle.otp_text.specs.Lines.{number_in, one_number, one_name, number_and_reason, two_names, spec_named, spec_in, start_in, terminate_in, one_terminate, call_of, line_with, line_of_words, line_of, IsTimely};
 
@@ -12,13 +13,10 @@ use crate::word::{
 };
 use otp_reason::{Name, Note, Reason};
 use otp_rules::Call;
-use otp_spec::{ChildSpec, ChildType, Modules, Restart};
+use otp_spec::{ChildSpec, ChildType, MAX_READING, Modules, Restart};
 
 /// The most bytes of a line, without its end.
 pub const LONGEST_LINE: usize = 512;
-
-/// The greatest reading of a clock, in milliseconds, and the greatest process number: 2^62.
-const GREATEST_NUMBER: u64 = 4_611_686_018_427_387_904;
 
 /// What a line says.
 #[derive(Clone, Copy, Debug, PartialEq, Eq)]
@@ -186,16 +184,16 @@ fn read_child(word: &[u8]) -> Option<Call>
 #[tactic(auto, unfolding(crate::specs::Lines::number_in))]
 fn read_any_number(word: &[u8]) -> Option<u64>
     ensures number { result ≡ number_in word.now }
-    ensures within { IfSome result (λ number. number ≤ 2 ^ 62) }
+    ensures within { IfSome result (λ number. number ≤ MAX_READING) }
 {
-    read_number(GREATEST_NUMBER, word)
+    read_number(MAX_READING, word)
 }
 
 /// One word, a number.
 #[tactic(auto, unfolding(crate::specs::Lines::one_number))]
 fn read_one_number(rest: Option<&[u8]>) -> Option<u64>
     ensures number { result ≡ one_number (words_left (option_copied rest.entry)) }
-    ensures within { IfSome result (λ number. number ≤ 2 ^ 62) }
+    ensures within { IfSome result (λ number. number ≤ MAX_READING) }
 {
     read_any_number(last_word(rest)?)
 }

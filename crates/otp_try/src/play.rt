@@ -85,9 +85,6 @@ const WELCOME: &str = "help lists what may be written here\n";
 /// What stands behind the number of a line that names a child which isn't there.
 const UNKNOWN_NAME: &str = ": there is no such child; which lists the children\n";
 
-/// How many bytes are read at once.
-const PIECE: usize = 65536;
-
 /// A trial, and the lines that it was told.
 #[derive(Drop)]
 struct Play {

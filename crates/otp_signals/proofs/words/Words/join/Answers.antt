@@ -1,4 +1,5 @@
-use Rattle.std.proofs.Common.{◌+◌, ◌<◌, ◌^◌, ◌++◌, length, arith, ap, sym, ◌∙◌, subst}
+use Rattle.std.proofs.Common.{◌+◌, ◌<◌, ◌++◌, length, arith, ap, sym, ◌∙◌, subst}
+use Rattle.otp_signals.specs.declared.signal.TheConstants.{NUMBER_LIMIT}
 use Rattle.otp_signals.specs.declared.view.Holding.{Holding}
 use Rattle.otp_signals.specs.Lists.{AsOften, AllIn, NoneInBoth, Rises, merge}
 use Rattle.otp_signals.specs.Holdings.{joined}
@@ -32,7 +33,7 @@ invariant_of-owner g c =
     let l = c.load.ensures in
     let me = l.2.0 ∙ e.2 in
     let same = ap (λ m. m.0.holding) me in
-    let room : length (joined h k).drawn + (joined h k).quota < 2 ^ 62 = subst (λ (x : Holding). length x.drawn + x.quota < 2 ^ 62) (ap (λ m. m.0.holding) e.2) l.2.2 in (
+    let room : length (joined h k).drawn + (joined h k).quota < NUMBER_LIMIT = subst (λ (x : Holding). length x.drawn + x.quota < NUMBER_LIMIT) (ap (λ m. m.0.holding) e.2) l.2.2 in (
       l.0 ∙ e.0 ∙ o.0,
       ap (λ m. m.1) me ∙ o.1,
       (λ i. o.2 i + p.2 i) ∙ sym (ap (λ (x : Holding). x.quota) same),

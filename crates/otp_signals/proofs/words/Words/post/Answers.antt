@@ -1,5 +1,6 @@
-use Rattle.std.proofs.Common.{◌≡◌, ◌⊎◌, ⊎_elim, ℕ, ◌^◌, ◌<◌, arith, ap, sym, ◌∙◌, List, true}
+use Rattle.std.proofs.Common.{◌≡◌, ◌⊎◌, ⊎_elim, ℕ, ◌<◌, arith, ap, sym, ◌∙◌, List, true}
 use Rattle.std.specs.Prelude.{Contains}
+use Rattle.otp_signals.specs.declared.signal.TheConstants.{NUMBER_LIMIT}
 use Rattle.otp_signals.specs.declared.view.Holding.{Holding}
 use Rattle.otp_signals.specs.Lists.{Below, has}
 use Rattle.otp_signals.proofs.Moves.{posts}
@@ -7,8 +8,8 @@ use Rattle.otp_signals.proofs.Sums.{Stands-below}
 use Rattle.otp_signals.proofs.Membership.{has-Contains, Stands-Contains}
 use Rattle.otp_signals.proofs.words.Words.post.Goals as goal
 
-small : (n : ℕ) (xs : List ℕ) → Below (2 ^ 62) xs → ((n ≡ 0) ⊎ Contains xs n) → n < 2 ^ 62
-small n xs b h = ⊎_elim (λ (e : n ≡ 0). omega arith) (λ (s : Contains xs n). Stands-below (2 ^ 62) n xs b (Stands-Contains n xs s)) h
+small : (n : ℕ) (xs : List ℕ) → Below NUMBER_LIMIT xs → ((n ≡ 0) ⊎ Contains xs n) → n < NUMBER_LIMIT
+small n xs b h = ⊎_elim (λ (e : n ≡ 0). omega arith) (λ (s : Contains xs n). Stands-below NUMBER_LIMIT n xs b (Stands-Contains n xs s)) h
 
 pub word-word-requires : goal.word-word-requires
 word-word-requires g c =
