@@ -14,7 +14,7 @@ use crate::words::next_word;
 use otp_file::TreeSpec;
 use otp_reason::Name;
 use otp_rules::Call;
-use otp_sim::{Failed, Input, Output, write_all};
+use otp_sim::{Failed, Input, Output, PIECE, write_all};
 use otp_text::{LONGEST_LINE, write_number};
 use std::alloc::{AllocError, Global};
 
