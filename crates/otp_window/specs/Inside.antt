@@ -1,14 +1,18 @@
-use Rattle.std.specs.Prelude.{◌<◌, ◌≤◌, vec_len, vec_capacity}
+use Rattle.std.specs.Prelude.{◌≡◌, ◌<◌, ◌≤◌, ◌^◌, ◌-◌, length, min}
+use Rattle.std.specs.VecDeque.{deque_len, deque_capacity}
 use Rattle.std.specs.Bool.{OnTrue}
 use Rattle.std.specs.List.Sorted.{IsNonDecreasing}
+use Rattle.otp_window.specs.Kept.{kept_of}
 use Rattle.otp_window.specs.View.{View}
 use Rattle.otp_window.specs.declared.Window.TheInside.{Inside}
 
 abbrev pub view_of : Inside → View
-view_of w = record { intensity = w.intensity; period = w.period; stamps = w.stamps.items; reserved = w.reserved }
+view_of w = record { intensity = w.intensity; period = w.period; stamps = w.past.stamps; reserved = w.reserved }
 
--- stamps never fall, a period of milliseconds fits, and what is reserved is there (own)
+-- stamps never fall and the last of them are kept, a period of milliseconds fits, and what is reserved is there (own)
 pub record IsWindow (w : Inside) : Type 0 where
-  pub ordered : IsNonDecreasing w.stamps.items
+  pub ordered : IsNonDecreasing w.past.stamps
+  pub kept : w.kept.items ≡ kept_of w.intensity w.past.stamps
+  pub count : w.count ≡ min (length w.past.stamps) (2 ^ 64 - 1)
   pub period : w.period ≤ 1000000
-  pub room : OnTrue w.reserved (vec_len w.stamps < vec_capacity w.stamps)
+  pub room : OnTrue w.reserved (deque_len w.kept < deque_capacity w.kept)

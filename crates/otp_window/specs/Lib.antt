@@ -1,4 +1,5 @@
 pub mod Period
 pub mod Answer
 pub mod View
+pub mod Kept
 pub mod Inside

@@ -3,16 +3,23 @@
 //! OTP Design Principles, Supervisor Behaviour, "Maximum Restart Intensity".
 #![tactic(auto)]
 
-ghost use Rattle.std.specs.Prelude.{◌≡◌, ◌≤◌, ◌++◌, ◌∷◌, [], true, false, All, OnOk, OnErr, nat_lt};
+ghost use Rattle.std.specs.Prelude.{ℕ, List, ◌≡◌, ◌≤◌, ◌+◌, ◌-◌, ◌^◌, ◌++◌, ◌∷◌, [], true, false, All, OnOk, OnErr, length, min, nat_lt};
+ghost use Rattle.std.specs.List.Sorted.{IsNonDecreasing};
+ghost use Rattle.std.specs.VecDeque.{deque_len};
 ghost use Rattle.otp_window.specs.Answer.{within};
+ghost use Rattle.otp_window.specs.Kept.{kept_of};
 ghost use Rattle.otp_window.specs.Period.{in_period};
 
 use std::alloc::{AllocError, Global};
+use std::collections::VecDeque;
 use std::marker::Model;
+use std::mem;
 
 mod ordered;
+mod past;
 
-use crate::ordered::{is_crowded, is_crowded_with};
+use crate::ordered::{is_crowded_with, push_kept};
+use crate::past::{Past, with_stamp};
 
 /// What a restart makes of the intensity.
 #[derive(Clone, Copy, Debug, PartialEq, Eq)]
@@ -23,12 +30,15 @@ pub enum Within {
     Exceeded,
 }
 
-/// The restarts of one supervisor since it was opened, each with its stamp in milliseconds.
+/// The restarts of one supervisor since it was opened, each with its stamp in milliseconds. Contracts see all stamps;
+/// the last are kept, one more than the intensity at most, since no older one can count.
 #[derive(Drop)]
 pub struct Window {
     intensity: u64,
     period: u64,
-    stamps: Vec<u64>,
+    kept: VecDeque<u64>,
+    count: u64,
+    past: Past,
     reserved: bool,
 }
 
@@ -55,7 +65,9 @@ impl Window {
         Window {
             intensity,
             period,
-            stamps: Vec::new(alloc),
+            kept: VecDeque::new(alloc),
+            count: 0,
+            past: Past::new(),
             reserved: false,
         }
     }
@@ -79,7 +91,7 @@ impl Window {
         ensures ok { OnOk result (self.new ≡ record self.old { reserved = true }) }
         ensures err { OnErr result (self.new ≡ self.old) }
     {
-        self.stamps.reserve(1)?;
+        self.kept.reserve(1)?;
         self.reserved = true;
         Ok(())
     }
@@ -91,18 +103,28 @@ impl Window {
         self.reserved
     }
 
-    /// The stamps of all restarts since `new` or the last `clear`, in order.
-    pub fn stamps(&self) -> &[u64]
-        ensures { result.now ≡ self.now.stamps }
+    /// The stamps that are kept, in order: the last since `new` or the last `clear`, one more than the intensity at most.
+    pub fn kept(&self) -> &VecDeque<u64>
+        ensures value { result.now.items ≡ kept_of self.now.intensity self.now.stamps }
+        ensures limit { deque_len result.now ≤ self.now.intensity + 1 }
     {
-        &self.stamps
+        &self.kept
+    }
+
+    /// How many restarts there were since `new` or the last `clear`: exactly, below 2^64.
+    pub fn count(&self) -> u64
+        ensures { result ≡ min (length self.now.stamps) (2 ^ 64 - 1) }
+    {
+        self.count
     }
 
     /// Forgets all restarts. Keeps what is reserved and takes no memory.
     pub fn clear(&mut self)
         ensures { self.new ≡ record self.old { stamps = [] } }
     {
-        self.stamps.clear();
+        self.kept.clear();
+        self.count = 0;
+        self.past = Past::new();
     }
 
     /// Whether a restart at `now`, in milliseconds, would be one too many. Adds nothing and looks at one stamp,
@@ -111,22 +133,26 @@ impl Window {
         requires { All (λ s. s ≤ now) self.now.stamps }
         ensures { result ≡ nat_lt self.now.intensity (in_period self.now.period (self.now.stamps ++ now ∷ []) now) }
     {
-        is_crowded_with(&self.stamps, self.intensity, self.period, now)
+        is_crowded_with(&self.kept, self.intensity, self.period, now, &self.past)
     }
 
     /// Adds a restart at `now`, in milliseconds, and tells whether the period that ends then has too many.
-    /// Takes no memory and looks at one stamp, however many there are.
+    /// Takes no memory and looks at one stamp, however many there are. No stamp that isn't kept counts: the answer is the
+    /// same for all stamps, of which the same are kept.
     pub fn add(&mut self, now: u64) -> Within
         requires reserved { self.old.reserved ≡ true }
         requires latest { All (λ s. s ≤ now) self.old.stamps }
         ensures window { self.new ≡ record self.old { stamps = self.old.stamps ++ now ∷ []; reserved = false } }
         ensures answer { result ≡ within self.old.intensity self.old.period (self.old.stamps ++ now ∷ []) now }
+        ensures by_kept { (all : List ℕ) → IsNonDecreasing all → All (λ s. s ≤ now) all → kept_of self.old.intensity all ≡ kept_of self.old.intensity self.old.stamps →
+            result ≡ within self.old.intensity self.old.period (all ++ now ∷ []) now }
     {
-        if self.stamps.push(now).is_err() {
-            unreachable!();
-        }
+        let is_crowded = self.would_exceed(now);
+        push_kept(&mut self.kept, self.intensity, now);
+        self.count = self.count.saturating_add(1);
+        self.past = with_stamp(mem::replace(&mut self.past, Past::new()), now);
         self.reserved = false;
-        if is_crowded(&self.stamps, self.intensity, self.period, now) {
+        if is_crowded {
             Within::Exceeded
         } else {
             Within::Ok
