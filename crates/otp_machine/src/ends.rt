@@ -1,13 +1,15 @@
 //! The end of a supervisor (`specs/Ends` of the rules).
 
-ghost use Rattle.std.specs.Prelude.{◌≡◌, ◌<◌, vec_capacity};
-ghost use Rattle.otp_rules.specs.Ends.{init_failed, last_stamps};
+ghost use Rattle.std.specs.Prelude.{◌≡◌, ◌+◌, ◌<◌, ◌≤◌, ◌++◌, length, vec_len, vec_capacity};
+ghost use Rattle.std.specs.VecDeque.{deque_len};
+ghost use Rattle.otp_rules.specs.Ends.{init_failed};
 
 use crate::machine::Machine;
 use otp_lists::ends::refuse_calls;
 use otp_lists::state::own_number;
 use otp_reason::{Name, Reason, Text};
 use otp_rules::{Cause, Effect, Ending, Phase, Stamps, SupEnd};
+use std::collections::VecDeque;
 use std::mem;
 
 impl Machine {
@@ -24,7 +26,7 @@ impl Machine {
                 reason: Reason::Shutdown,
                 cause: Cause::Intensity {
                     flags: self.flags(),
-                    stamps: last_stamps(self.window.intensity(), self.window.stamps(), list),
+                    stamps: copy_stamps(self.window.kept(), list),
                 },
             },
             Ending::Significant(number) => SupEnd {
@@ -63,18 +65,27 @@ impl Machine {
     }
 }
 
-/// The last restarts, one more than the intensity, in a list that has room for them.
-fn last_stamps(intensity: u64, stamps: &[u64], mut list: Vec<u64>) -> Stamps
-    requires { intensity < vec_capacity list }
-    ensures { result ≡ last_stamps intensity stamps.now }
+/// These stamps in a list that has room for them.
+fn copy_stamps(kept: &VecDeque<u64>, mut list: Vec<u64>) -> Stamps
+    requires { deque_len kept.now ≤ vec_capacity list }
+    ensures { result ≡ kept.now.items }
 {
     list.clear();
-    let count = intensity as usize + 1;
-    let from = stamps.len().saturating_sub(count);
-    for stamp in &stamps[from..] {
+    let (front, back) = kept.as_slices();
+    add_stamps(front, &mut list);
+    add_stamps(back, &mut list);
+    Stamps::from_vec(list)
+}
+
+fn add_stamps(stamps: &[u64], list: &mut Vec<u64>)
+    requires { vec_len list.old + length stamps.now ≤ vec_capacity list.old }
+    ensures items { list.new.items ≡ list.old.items ++ stamps.now }
+    ensures len { vec_len list.new ≡ vec_len list.old + length stamps.now }
+    ensures capacity { vec_capacity list.new ≡ vec_capacity list.old }
+{
+    for stamp in stamps {
         list.push_reserved(*stamp);
     }
-    Stamps::from_vec(list)
 }
 
 /// The reason of a supervisor that failed to start the child with this id.
