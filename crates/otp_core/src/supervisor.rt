@@ -1,6 +1,6 @@
 //! A supervisor's core: its history, and the state that the rules give for it.
 
-ghost use Rattle.std.specs.Prelude.{ℕ, All, ◌≡◌, ◌+◌, ◌<◌, ◌≤◌, ◌↔◌, ◌++◌, ◌∷◌, [], true, false, length, not, is_some, is_none, nat_lt, max, IsTrue, None, Some, IfOk, IfErr, OnOk, OnErr, MatchOption, option_map, slice_get, vec_len, vec_capacity};
+ghost use Rattle.std.specs.Prelude.{ℕ, All, ◌≡◌, ◌+◌, ◌-◌, ◌<◌, ◌≤◌, ◌^◌, ◌↔◌, ◌++◌, ◌∷◌, [], true, false, length, not, is_some, is_none, nat_lt, max, min, IsTrue, None, Some, IfOk, IfErr, OnOk, OnErr, MatchOption, option_map, slice_get, vec_len, vec_capacity};
 ghost use Rattle.std.specs.List.{filter, list_any};
 ghost use Rattle.otp_core.specs.View.{state_of};
 ghost use Rattle.otp_core.specs.Opened.{IsOpenFault};
@@ -14,6 +14,7 @@ ghost use Rattle.otp_spec.specs.Supervisor.{supervisor_fault};
 ghost use Rattle.otp_spec.specs.declared.limits.TheConstants.{MAX_CHILDREN, MAX_EVENTS, MAX_READING};
 ghost use Rattle.otp_rules.specs.State.{is_over};
 ghost use Rattle.otp_rules.specs.Step.{is_late, step};
+ghost use Rattle.otp_rules.specs.Ends.{last_stamps};
 
 use crate::opening::{OpenFault, copy_specs};
 use otp_lists::answers::Answers;
@@ -161,15 +162,22 @@ impl Core {
         &self.history
     }
 
-    /// The times in milliseconds of all restarts since the last opening, in order: no period has more of them than
-    /// the intensity, but for the last one of a supervisor that ends by it
-    /// (Supervisor Behaviour, Maximum Restart Intensity).
-    pub fn restarts(&self) -> &[u64]
-        ensures value { result.now ≡ (state_of self.now).stamps }
+    /// The times in milliseconds of the last restarts since the last opening, in order: all of them, or one more than the
+    /// intensity, since no older one counts. No period has more restarts than the intensity, but for the last one of a
+    /// supervisor that ends by it (Supervisor Behaviour, Maximum Restart Intensity).
+    pub fn kept_restarts(&self) -> &VecDeque<u64>
+        ensures value { result.now.items ≡ last_stamps (state_of self.now).flags.intensity (state_of self.now).stamps }
         ensures rate { IsRated (state_of self.now) }
     {
         laws::restart_rate();
-        self.machine.window.stamps()
+        self.machine.window.kept()
+    }
+
+    /// How many restarts there were since the last opening: exactly, below 2^64.
+    pub fn count_restarts(&self) -> u64
+        ensures { result ≡ min (length (state_of self.now).stamps) (2 ^ 64 - 1) }
+    {
+        self.machine.window.count()
     }
 
     /// How many orders there are beside replies: so many [`Core::move_orders`] moves.

@@ -230,7 +230,7 @@ impl<N: WordsNaming> Office<N> {
         laws::slots_tell_processes();
         let _ = self.core.history();
         let _ = self.core.last_number();
-        let _ = self.core.restarts();
+        let _ = self.core.kept_restarts();
     }
 
     /// The supervisor's children, in start order. Each has a slot of its own, of the first 256.

@@ -289,7 +289,7 @@ fn write_standing(seat: &Seat, now: u64, out: &mut Vec<u8>) -> Result<(), AllocE
     if seat.has_ended() {
         return out.extend_from_slice(b"the supervisor has ended");
     }
-    write_state(&seat.flags(), seat.rows(), seat.restarts(), now, out)
+    write_state(&seat.flags(), seat.rows(), seat.kept_restarts(), now, out)
 }
 
 /// Whether a line asks for help.

@@ -1,6 +1,7 @@
 //! A supervisor of a tree that is tried.
 
 ghost use Rattle.std.specs.Prelude.{◌≡◌, ◌≤◌, ◌^◌, [], false, IfOk, OnOk};
+ghost use Rattle.otp_rules.specs.Ends.{last_stamps};
 ghost use Rattle.otp_rules.specs.Run.{empty_state};
 ghost use Rattle.otp_rules.specs.State.{is_over};
 ghost use Rattle.otp_try.specs.Played.{Happens, state_in, unplayed};
@@ -13,6 +14,7 @@ use otp_spec::{SupFlags, SupSpec};
 use otp_table::Row;
 use otp_text::Printer;
 use std::alloc::Global;
+use std::collections::VecDeque;
 use std::marker::Model;
 
 /// Above all numbers that processes may have: 2^62.
@@ -121,11 +123,11 @@ impl Seat {
         self.core.rows()
     }
 
-    /// The times in milliseconds of all restarts.
-    pub fn restarts(&self) -> &[u64]
-        ensures { result.now ≡ (state_in self.now).stamps }
+    /// The times in milliseconds of the last restarts: all of them, or one more than the intensity.
+    pub fn kept_restarts(&self) -> &VecDeque<u64>
+        ensures { result.now.items ≡ last_stamps (state_in self.now).flags.intensity (state_in self.now).stamps }
     {
-        self.core.restarts()
+        self.core.kept_restarts()
     }
 
     /// Whether the supervisor has ended.

@@ -4,6 +4,7 @@ use otp_spec::SupFlags;
 use otp_table::{Row, RowState};
 use otp_text::write_number;
 use std::alloc::AllocError;
+use std::collections::VecDeque;
 
 /// What a child does, seen from afar.
 #[derive(Clone, Copy, Debug, PartialEq, Eq)]
@@ -76,10 +77,10 @@ fn write_doing(
 }
 
 /// How many of the restarts lie in the period that ends now.
-fn restarts_in(stamps: &[u64], period: u64, now: u64) -> u64 {
+fn restarts_in(stamps: &VecDeque<u64>, period: u64, now: u64) -> u64 {
     let length = period.saturating_mul(1000);
     let mut count: u64 = 0;
-    for stamp in stamps {
+    for stamp in stamps.iter() {
         if now.saturating_sub(*stamp) <= length {
             count = count.saturating_add(1);
         }
@@ -91,7 +92,7 @@ fn restarts_in(stamps: &[u64], period: u64, now: u64) -> u64 {
 pub(crate) fn write_state(
     flags: &SupFlags,
     rows: &[Row],
-    stamps: &[u64],
+    stamps: &VecDeque<u64>,
     now: u64,
     out: &mut Vec<u8>,
 ) -> Result<(), AllocError> {

@@ -30,7 +30,7 @@ returns g c =
       numbers = i.numbers;
       orders = ap (λ (l : List Effect). take sent all ++ l) i.orders ∙ take-append-drop sent all;
       posts = i.posts;
-      rate = c.restarts.ensures.rate;
+      rate = c.kept_restarts.ensures.rate;
       slots = slots;
       apart = c.slots_tell_processes.ensures (state_of core) next slots distinct;
     })

@@ -2,7 +2,7 @@ use Rattle.std.proofs.Common.{subst}
 use Rattle.otp_rules.specs.Rate.{IsRated}
 use Rattle.otp_machine.specs.Seen.{outcome_of}
 use Rattle.otp_core.specs.View.{View, state_of}
-use Rattle.otp_core.proofs.supervisor.Core.restarts.Goals as goal
+use Rattle.otp_core.proofs.supervisor.Core.kept_restarts.Goals as goal
 
 pub returns-clause-rate : goal.returns-clause-rate
 returns-clause-rate c =
