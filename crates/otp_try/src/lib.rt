@@ -10,6 +10,7 @@ mod planting;
 pub mod play;
 pub mod script;
 mod seat;
+mod sketch;
 mod state;
 mod telling;
 mod time;
@@ -18,5 +19,6 @@ mod words;
 mod world;
 
 pub use play::{TryEnd, Writer, try_tree};
+pub use sketch::Shows;
 pub use script::{Action, Child, NextStart, ScriptFault, Step, When, read_step};
 pub use trial::{Halt, LAST_TIME, Taken, Trial};
