@@ -197,9 +197,10 @@ fn try_command<'a>(alloc: Global) -> Result<clap::Command<'a>, AllocError> {
         .help(
             "Shows how the supervisor stands before each line, and goes on after one that is refused; so it is at a terminal",
         );
-    let timeline = Arg::new(alloc, "timeline").long("timeline").action(ArgAction::SetTrue).help(
-        "Draws the run: a column for each line of the script, a row for each child",
-    );
+    let timeline = Arg::new(alloc, "timeline")
+        .long("timeline")
+        .action(ArgAction::SetTrue)
+        .help("Draws the run: a column for each line of the script, a row for each child");
     file_command(alloc, "try", TRY_ABOUT, TRY_EXAMPLE, FILE_OR_INPUT)?
         .arg(script)?
         .arg(prompt)?

@@ -155,10 +155,18 @@ added_line look path moments = label (path ++ codes "without an id") ++ flat_map
 unfoldable pub added_lines : Look → List ℕ → List Moment → List ℕ
 added_lines look path moments = if list_any (has_added look.place) moments then added_line look path moments else []
 
+-- a number between two texts
+unfoldable pub number_between : List ℕ → ℕ → List ℕ → List ℕ
+number_between before number after = before ++ decimal number ++ after
+
+-- in which time restarts are counted
+unfoldable pub period_text : ℕ → List ℕ
+period_text period = number_between (codes "restarts in ") period (codes " s")
+
 -- the line of a supervisor's restarts
 unfoldable pub restarts_line : Look → List ℕ → SupFlags → List Moment → List ℕ
 restarts_line look path flags moments =
-    label (path ++ codes "restarts in " ++ decimal flags.period ++ codes " s")
+    label (path ++ period_text flags.period)
     ++ flat_map (restarts_cell look flags.intensity) moments
     ++ codes "\n"
 

@@ -215,7 +215,12 @@ pub(crate) fn write_restarts_cell(
             let restarts = standing.restarts;
             word.clear();
             write_restarts(restarts, intensity, word)?;
-            write_cell(look.is_coloured, restarts_colour(restarts, intensity), word.as_slice(), out)
+            write_cell(
+                look.is_coloured,
+                restarts_colour(restarts, intensity),
+                word.as_slice(),
+                out,
+            )
         }
         _ => write_cell(look.is_coloured, Colour::Plain, NOTHING, out),
     }

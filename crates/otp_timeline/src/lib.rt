@@ -12,7 +12,7 @@ mod names;
 mod picture;
 mod seconds;
 
-pub use moment::{Mark, Marks, Moment, Standing, Standings, no_standing, restarts_in, standing_of};
 pub use column::Look;
+pub use moment::{Mark, Marks, Moment, Standing, Standings, no_standing, restarts_in, standing_of};
 pub use picture::{LEGEND, MOMENTS, write_heads, write_supervisor};
 pub use seconds::write_seconds;

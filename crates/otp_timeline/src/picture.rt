@@ -2,11 +2,13 @@
 
 ghost use Rattle.std.specs.Prelude.{◌≡◌, ◌++◌, OnOk};
 ghost use Rattle.std.specs.List.{flat_map, list_any};
-ghost use Rattle.otp_timeline.specs.Picture.{added_cell, added_line, added_lines, child_cell, child_line, has_added, heads_text, line_cell, line_text, restarts_cell, restarts_line, supervisor_text, time_cell, time_text};
+ghost use Rattle.otp_timeline.specs.Picture.{added_cell, added_line, added_lines, child_cell, child_line, has_added, heads_text, line_cell, line_text, number_between, period_text, restarts_cell, restarts_line, supervisor_text, time_cell, time_text};
 
 use crate::cell::{write_cell, write_label};
 use crate::colour::Colour;
-use crate::column::{Look, has_added, marks_at, write_added_cell, write_child_cell, write_restarts_cell};
+use crate::column::{
+    Look, has_added, marks_at, write_added_cell, write_child_cell, write_restarts_cell,
+};
 use crate::moment::Moment;
 use crate::names::ids_at;
 use crate::seconds::write_seconds;
@@ -19,7 +21,8 @@ use std::alloc::{AllocError, Global};
 pub const MOMENTS: usize = 7;
 
 /// What the cells mean.
-pub const LEGEND: &[u8] = b"#N runs as process N, +#N starts, -#N is to end; retry: its start failed\n";
+pub const LEGEND: &[u8] =
+    b"#N runs as process N, +#N starts, -#N is to end; retry: its start failed\n";
 
 /// The least time in milliseconds of which the milliseconds have no room.
 const LONG: u64 = 1_000_000;
@@ -38,11 +41,7 @@ fn write_line(line: u64, out: &mut Vec<u8>) -> Result<(), AllocError>
 
 /// Appends the line of a moment.
 #[tactic(auto, unfolding(crate::specs::Picture::line_cell))]
-fn write_line_cell(
-    moment: &Moment,
-    word: &mut Vec<u8>,
-    out: &mut Vec<u8>,
-) -> Result<(), AllocError>
+fn write_line_cell(moment: &Moment, word: &mut Vec<u8>, out: &mut Vec<u8>) -> Result<(), AllocError>
     ensures { OnOk result (out.new.items ≡ out.old.items ++ line_cell moment.now) }
 {
     word.clear();
@@ -64,11 +63,7 @@ fn write_time(time: u64, out: &mut Vec<u8>) -> Result<(), AllocError>
 
 /// Appends the time of a moment.
 #[tactic(auto, unfolding(crate::specs::Picture::time_cell))]
-fn write_time_cell(
-    moment: &Moment,
-    word: &mut Vec<u8>,
-    out: &mut Vec<u8>,
-) -> Result<(), AllocError>
+fn write_time_cell(moment: &Moment, word: &mut Vec<u8>, out: &mut Vec<u8>) -> Result<(), AllocError>
     ensures { OnOk result (out.new.items ≡ out.old.items ++ time_cell moment.now) }
 {
     word.clear();
@@ -110,11 +105,7 @@ fn write_time_cells(
 ///
 /// Where memory is refused.
 #[tactic(auto, unfolding(crate::specs::Picture::heads_text))]
-pub fn write_heads(
-    alloc: Global,
-    moments: &[Moment],
-    out: &mut Vec<u8>,
-) -> Result<(), AllocError>
+pub fn write_heads(alloc: Global, moments: &[Moment], out: &mut Vec<u8>) -> Result<(), AllocError>
     ensures { OnOk result (out.new.items ≡ out.old.items ++ heads_text moments.now) }
 {
     let mut word = Vec::new(alloc);
@@ -183,7 +174,9 @@ fn write_children(
 fn has_added_at(place: usize, moments: &[Moment]) -> bool
     ensures { result ≡ list_any (has_added place) moments.now }
 {
-    moments.iter().any(|moment| has_added(marks_at(moment, place)))
+    moments
+        .iter()
+        .any(|moment| has_added(marks_at(moment, place)))
 }
 
 /// Appends how many children without an id run at these moments.
@@ -254,6 +247,29 @@ fn write_restarts_cells(
     Ok(())
 }
 
+/// Appends a number between two texts.
+#[tactic(auto, unfolding(crate::specs::Picture::number_between))]
+fn write_between(
+    before: &[u8],
+    number: u64,
+    after: &[u8],
+    out: &mut Vec<u8>,
+) -> Result<(), AllocError>
+    ensures { OnOk result (out.new.items ≡ out.old.items ++ number_between before.now number after.now) }
+{
+    out.extend_from_slice(before)?;
+    write_number(number, out)?;
+    out.extend_from_slice(after)
+}
+
+/// Appends in which time restarts are counted.
+#[tactic(auto, unfolding(crate::specs::Picture::period_text))]
+fn write_period(period: u64, out: &mut Vec<u8>) -> Result<(), AllocError>
+    ensures { OnOk result (out.new.items ≡ out.old.items ++ period_text period) }
+{
+    write_between(b"restarts in ", period, b" s", out)
+}
+
 /// Appends the line of a supervisor's restarts.
 #[tactic(auto, unfolding(crate::specs::Picture::restarts_line))]
 fn write_restarts(
@@ -268,9 +284,7 @@ fn write_restarts(
 {
     word.clear();
     word.extend_from_slice(path)?;
-    word.extend_from_slice(b"restarts in ")?;
-    write_number(flags.period, word)?;
-    word.extend_from_slice(b" s")?;
+    write_period(flags.period, word)?;
     write_label(word.as_slice(), out)?;
     write_restarts_cells(look, flags.intensity, moments, word, out)?;
     out.extend_from_slice(b"\n")

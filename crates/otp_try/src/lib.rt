@@ -19,6 +19,6 @@ mod words;
 mod world;
 
 pub use play::{TryEnd, Writer, try_tree};
-pub use sketch::Shows;
 pub use script::{Action, Child, NextStart, ScriptFault, Step, When, read_step};
+pub use sketch::Shows;
 pub use trial::{Halt, LAST_TIME, Taken, Trial};

@@ -36,7 +36,14 @@ fn standing_in(
         return Ok(no_standing(alloc));
     }
     let period = seat.flags().period;
-    standing_of(alloc, seat.rows(), seat.restarts(), period, seat.has_ended(), time)
+    standing_of(
+        alloc,
+        seat.rows(),
+        seat.restarts(),
+        period,
+        seat.has_ended(),
+        time,
+    )
 }
 
 /// How these supervisors stand at this time, of which each has a process or not.
@@ -121,7 +128,14 @@ impl Sketch {
                 place,
                 is_coloured: self.is_coloured,
             };
-            write_supervisor(self.alloc, look, seat.path(), &seat.flags(), self.moments.as_slice(), out)?;
+            write_supervisor(
+                self.alloc,
+                look,
+                seat.path(),
+                &seat.flags(),
+                self.moments.as_slice(),
+                out,
+            )?;
         }
         Ok(())
     }

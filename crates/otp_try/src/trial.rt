@@ -166,7 +166,9 @@ impl Trial {
         let mut running = Vec::new(self.alloc);
         running.push(true).map_err(|_| AllocError)?;
         for place in 1..self.seats.len() {
-            running.push(self.world.has_process(place)).map_err(|_| AllocError)?;
+            running
+                .push(self.world.has_process(place))
+                .map_err(|_| AllocError)?;
         }
         Ok(running)
     }
@@ -176,7 +178,13 @@ impl Trial {
         ensures { IfOk result (λ moment. (others : List Bool) × (moment ≡ moment_of line time self.now (true ∷ others))) }
     {
         let running = self.running()?;
-        moment_of(self.alloc, line, time, self.seats.as_slice(), running.as_slice())
+        moment_of(
+            self.alloc,
+            line,
+            time,
+            self.seats.as_slice(),
+            running.as_slice(),
+        )
     }
 
     /// Whether the supervisor at this place has a process.

@@ -982,11 +982,7 @@ line 6: +4s crash db
 status 0
 "##,
     ),
-    (
-        "try --timeline *.toml *.script",
-        "-",
-        r##""##,
-    ),
+    ("try --timeline *.toml *.script", "-", r##""##),
     (
         "limits first.toml",
         "-",
