@@ -1,6 +1,6 @@
 //! A run as a picture.
 
-ghost use Rattle.std.specs.Prelude.{◌≡◌, ◌++◌, ◌∷◌, [], IfOk, OnOk};
+ghost use Rattle.std.specs.Prelude.{◌≡◌, ◌++◌, ◌∷◌, [], IfOk, OnOk, length};
 ghost use Rattle.otp_try.specs.Sketched.{moment_of, picture, standing_in, standings_in, supervisors_text};
 
 use crate::seat::Seat;
@@ -53,11 +53,12 @@ fn standings_in(
     seats: &[Seat],
     running: &[bool],
 ) -> Result<Vec<Standing>, AllocError>
+    requires { length running.now ≡ length seats.now }
     ensures { IfOk result (λ standings. standings.items ≡ standings_in time seats.now running.now) }
 {
     let mut standings = Vec::new(alloc);
-    for (seat, is_running) in seats.iter().zip(running) {
-        let standing = standing_in(alloc, time, seat, *is_running)?;
+    for place in 0..seats.len() {
+        let standing = standing_in(alloc, time, &seats[place], running[place])?;
         standings.push(standing).map_err(|_| AllocError)?;
     }
     Ok(standings)
@@ -71,6 +72,7 @@ pub(crate) fn moment_of(
     seats: &[Seat],
     running: &[bool],
 ) -> Result<Moment, AllocError>
+    requires { length running.now ≡ length seats.now }
     ensures { IfOk result (λ moment. moment ≡ moment_of line time seats.now running.now) }
 {
     let standings = standings_in(alloc, time, seats, running)?;

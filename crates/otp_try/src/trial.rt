@@ -161,7 +161,8 @@ impl Trial {
 
     /// Whether each of the supervisors has a process. The root always has one.
     fn running(&self) -> Result<Vec<bool>, AllocError>
-        ensures { IfOk result (λ running. (others : List Bool) × (running.items ≡ true ∷ others)) }
+        ensures root { IfOk result (λ running. (others : List Bool) × (running.items ≡ true ∷ others)) }
+        ensures each { IfOk result (λ running. length running.items ≡ length self.now) }
     {
         let mut running = Vec::new(self.alloc);
         running.push(true).map_err(|_| AllocError)?;

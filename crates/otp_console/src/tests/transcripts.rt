@@ -1,7 +1,7 @@
 //! The transcripts of the repository. `examples/check --table` writes this file from theirs.
 
 /// The name of each file that they name, and its text.
-pub(super) const FILES: [(&str, &str); 38] = [
+pub(super) const FILES: [(&str, &str); 39] = [
     (
         "all_significant.events",
         r##"up 1
@@ -418,6 +418,15 @@ restart = "transient"
 "##,
     ),
     (
+        "shop_hang.script",
+        r##"# The web server doesn't end when it is asked to: its 5 seconds go by, and it is killed.
+hang web
+at 1s crash cache
+at 3s
+at 6s
+"##,
+    ),
+    (
         "simple_one_for_one.events",
         r##"start
 up 1
@@ -608,7 +617,7 @@ start = "c"
 ];
 
 /// The words, the file of the lines of standard input or `-`, and what is written and told, with the status.
-pub(super) const TRANSCRIPTS: [(&str, &str, &str); 25] = [
+pub(super) const TRANSCRIPTS: [(&str, &str, &str); 28] = [
     (
         "sim all_significant.toml",
         "all_significant.events",
@@ -982,7 +991,65 @@ line 6: +4s crash db
 status 0
 "##,
     ),
-    ("try --timeline *.toml *.script", "-", r##""##),
+    (
+        "try --timeline nested.toml nested_given_up.script",
+        "-",
+        r##"#N runs as process N, +#N starts, -#N is to end; retry: its start failed
+line                       start       2       3       4       5       6       7
+seconds                    0.000   1.000   2.000   3.000   4.000   5.000   6.000
+db                            #1      #1      #1      #1      #1      #1       -
+pool                          #2      #2      #6      #6     #10     #10       -
+restarts in 60 s             0/2     0/2     1/2     1/2     2/2     2/2       -
+pool/a                        #3      #5      #7      #9     #11     #13       -
+pool/b                        #4      #4      #8      #8     #12     #12       -
+pool/restarts in 10 s        0/1     1/1     0/1     1/1     0/1     1/1       -
+6.000 s  the supervisor has ended
+status 0
+"##,
+    ),
+    (
+        "try --timeline shop.toml shop_hang.script",
+        "-",
+        r##"#N runs as process N, +#N starts, -#N is to end; retry: its start failed
+line                       start       2       3       4       5
+seconds                    0.000   0.000   1.000   3.000   6.000
+log                           #1      #1      #1      #1      #1
+db                            #2      #2      #2      #2      #2
+cache                         #3      #3    down    down      #5
+web                           #4      #4     -#4     -#4      #6
+restarts in 10 s             0/3     0/3     1/3     1/3     1/3
+6.000 s  4 up, 1/3 restarts in 10 s
+status 0
+"##,
+    ),
+    (
+        "try --timeline storm.toml storm_given_up.script",
+        "-",
+        r##"#N runs as process N, +#N starts, -#N is to end; retry: its start failed
+line                       start       2       3       4       5
+seconds                    0.000   1.000   2.000   3.000   4.000
+db                            #1      #4      #7     #10       -
+cache                         #2      #5      #8     #11       -
+web                           #3      #6      #9     #12       -
+restarts in 10 s             0/3     1/3     2/3     3/3       -
+line 6: ignored: the supervisor has ended; the line of its end says why
+status 5
+"##,
+    ),
+    (
+        "try --timeline storm.toml storm_survived.script",
+        "-",
+        r##"#N runs as process N, +#N starts, -#N is to end; retry: its start failed
+line                       start       2       3       4       5       6
+seconds                    0.000   4.000   8.000  12.000  16.000  20.000
+db                            #1      #4      #7     #10     #13     #16
+cache                         #2      #5      #8     #11     #14     #17
+web                           #3      #6      #9     #12     #15     #18
+restarts in 10 s             0/3     1/3     2/3     3/3     3/3     3/3
+20.000 s  3 up, 3/3 restarts in 10 s
+status 0
+"##,
+    ),
     (
         "limits first.toml",
         "-",
