@@ -127,7 +127,7 @@ IsTrialOf (Some script) ending file old new =
 
 -- a tree file was used so
 abbrev pub IsUsed : Usage → Ending → List ℕ → Devices → Devices → Type 0
-IsUsed (usage.Try script writer) ending file old new = IsTrialOf (option_map (λ name. name.now) script) ending file old new
+IsUsed (usage.Try script writer is_drawn) ending file old new = IsTrialOf (option_map (λ name. name.now) script) ending file old new
 IsUsed usage.Draw ending file old new = IsUnread old new × IsDrawn ending file (writer_of old) (writer_of new)
 IsUsed usage.Limit ending file old new = IsUnread old new × IsLimited ending file (writer_of old) (writer_of new)
 

@@ -34,6 +34,9 @@ pub trait TreeFiles {
 
     /// Whether somebody writes the lines of standard input at a terminal.
     fn is_terminal(&self) -> bool;
+
+    /// Whether what is written to standard output may have colours.
+    fn has_colours(&self) -> bool;
 }
 
 /// The bytes of the file of this name; `-` is standard input.

@@ -4,9 +4,10 @@ use crate::files::{LARGEST_TREE, TreeFiles};
 use crate::program::run;
 use crate::words::words_of;
 use otp_sim::Counted;
+use std::env::VarError;
 use std::io::{IsTerminal, Read};
 use std::process::ExitCode;
-use std::{fs, io};
+use std::{env, fs, io};
 
 /// Does what the words of the command line ask for.
 pub fn otp(rt: &HostRuntime) -> ExitCode {
@@ -22,6 +23,15 @@ pub fn otp(rt: &HostRuntime) -> ExitCode {
         &mut errors,
     );
     ExitCode::from(status)
+}
+
+/// Whether a variable of the environment says nothing. One that can't be read may say something.
+fn is_unset(variable: Result<String, VarError>) -> bool {
+    match variable {
+        Ok(text) => text.is_empty(),
+        Err(VarError::NotPresent) => true,
+        Err(_) => false,
+    }
 }
 
 /// The files of the system, of which nothing is known beforehand.
@@ -42,5 +52,10 @@ impl TreeFiles for HostRuntime {
 
     fn is_terminal(&self) -> bool {
         self.stdin().is_terminal()
+    }
+
+    /// So it is at a terminal, unless the variable `NO_COLOR` is set and not empty.
+    fn has_colours(&self) -> bool {
+        self.stdout().is_terminal() && is_unset(env::var(self, "NO_COLOR"))
     }
 }

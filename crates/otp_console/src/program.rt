@@ -15,7 +15,7 @@ use crate::trying::try_file;
 use crate::words::{Command, Usage, WordsFault, read_words};
 use clap::Error;
 use otp_sim::{Counted, Failed, Input, Output, write_all};
-use otp_try::Writer;
+use otp_try::{Shows, Writer};
 use std::alloc::Global;
 
 /// Does what the words of the command line ask for, and gives the exit status.
@@ -148,8 +148,20 @@ fn use_file<F: TreeFiles, R: Input, W: Output, E: Output>(
     ensures kept { E.failures errors.old ≤ E.failures errors.new }
 {
     match usage {
-        Usage::Try { script, writer } => try_by(
-            alloc, files, file, script, writer, input, output, errors,
+        Usage::Try {
+            script,
+            writer,
+            is_drawn,
+        } => try_by(
+            alloc,
+            files,
+            file,
+            script,
+            writer,
+            shows_of(files, is_drawn),
+            input,
+            output,
+            errors,
         ),
         Usage::Draw => draw_file(alloc, file, output),
         Usage::Limit => limit_file(alloc, file, output),
@@ -163,6 +175,7 @@ fn try_by<F: TreeFiles, R: Input, W: Output, E: Output>(
     file: &[u8],
     script: Option<&str>,
     writer: Writer,
+    shows: Shows,
     input: &mut R,
     output: &mut W,
     errors: &mut E,
@@ -174,10 +187,10 @@ fn try_by<F: TreeFiles, R: Input, W: Output, E: Output>(
     ensures kept { E.failures errors.old ≤ E.failures errors.new }
 {
     let Some(script) = script else {
-        return try_file(alloc, file, writer_at(files, writer), input, output);
+        return try_file(alloc, file, writer_at(files, writer), shows, input, output);
     };
     match read_file(files, script, errors) {
-        Ok(lines) => try_lines(alloc, file, writer, &lines, output),
+        Ok(lines) => try_lines(alloc, file, writer, shows, &lines, output),
         Err(ending) => ending,
     }
 }
@@ -191,11 +204,23 @@ fn writer_at<F: TreeFiles>(files: &F, writer: Writer) -> Writer {
     }
 }
 
+/// What of a trial is written: a picture has colours where they may be.
+fn shows_of<F: TreeFiles>(files: &F, is_drawn: bool) -> Shows {
+    if is_drawn {
+        Shows::Timeline {
+            is_coloured: files.has_colours(),
+        }
+    } else {
+        Shows::Orders
+    }
+}
+
 /// Tries the tree of a file by these lines.
 fn try_lines<W: Output>(
     alloc: Global,
     file: &[u8],
     writer: Writer,
+    shows: Shows,
     lines: &[u8],
     output: &mut W,
 ) -> Ending
@@ -204,7 +229,7 @@ fn try_lines<W: Output>(
         (record { left = left; written = W.contents output.new; read_failures = failures; write_failures = W.failures output.new }) }
 {
     let mut script = Counted::new(lines);
-    try_file(alloc, file, writer, &mut script, output)
+    try_file(alloc, file, writer, shows, &mut script, output)
 }
 
 /// Checks files, one after the other, as long as they can be read and it can be written what is wrong in them.

@@ -2,26 +2,17 @@
 
 use crate::console::console;
 use crate::ending::{Ending, tell};
-use crate::limiting::limit_file;
-use crate::tests::examples::EXAMPLES;
-use crate::tests::limits::LIMITS;
-use crate::tests::trials::TRIALS;
-use crate::trying::try_file;
 use otp_file::TreeFault;
 use otp_sim::Counted;
-use otp_try::Writer;
 use std::alloc::{AllocError, Global};
 use std::process::Abort;
 use std::test::Fail;
 
-mod commands;
 mod devices;
-mod examples;
-mod limits;
 mod long;
 mod program;
 mod rows;
-mod trials;
+mod transcripts;
 
 /// What is told of an ending, without its end of line, and then its status.
 fn said(alloc: Global, ending: Ending) -> Result<String, AllocError> {
@@ -62,31 +53,6 @@ fn bytes_that_are_no_text(rt: HostRuntime) -> Result<(), Fail> {
     Ok(())
 }
 
-/// The files of `examples/`, whose outputs were worked out by hand.
-#[test]
-fn examples_are_played(rt: HostRuntime) -> Result<(), Fail> {
-    for (_name, tree, lines, printed) in EXAMPLES {
-        plays(&rt, rt.alloc(), tree, lines, printed, " 0")?;
-    }
-    Ok(())
-}
-
-/// All that a trial tells, and its status.
-fn told(alloc: Global, tree: &str, script: &str) -> Result<Vec<u8>, AllocError> {
-    let mut reader = Counted::new(script.as_bytes());
-    let mut writer = Counted::new(Vec::new(alloc));
-    let mut errors = Counted::new(Vec::new(alloc));
-    let ended = try_file(
-        alloc,
-        tree.as_bytes(),
-        Writer::Script,
-        &mut reader,
-        &mut writer,
-    );
-    let status = tell(&mut errors, ended);
-    with_status(alloc, writer.into_device(), errors.into_device(), status)
-}
-
 /// What was written and told, and the status.
 fn with_status(
     alloc: Global,
@@ -99,33 +65,4 @@ fn with_status(
     let line = format!(in alloc; "status {status}\n")?;
     text.extend_from_slice(line.as_bytes())?;
     Ok(text)
-}
-
-/// The scripts of `examples/`.
-#[test]
-fn scripts_are_played(rt: HostRuntime) -> Result<(), Fail> {
-    for (name, tree, script, expected) in TRIALS {
-        let text = told(rt.alloc(), tree, script)?;
-        assert_eq!(rt; text.as_slice(), expected.as_bytes(), "{name}");
-    }
-    Ok(())
-}
-
-/// All that `limits` prints of a tree, and its status.
-fn limited(alloc: Global, tree: &str) -> Result<Vec<u8>, AllocError> {
-    let mut writer = Counted::new(Vec::new(alloc));
-    let mut errors = Counted::new(Vec::new(alloc));
-    let ended = limit_file(alloc, tree.as_bytes(), &mut writer);
-    let status = tell(&mut errors, ended);
-    with_status(alloc, writer.into_device(), errors.into_device(), status)
-}
-
-/// The limits of trees in `examples/`, which were worked out by hand.
-#[test]
-fn limits_are_told(rt: HostRuntime) -> Result<(), Fail> {
-    for (name, tree, expected) in LIMITS {
-        let text = limited(rt.alloc(), tree)?;
-        assert_eq!(rt; text.as_slice(), expected.as_bytes(), "{name}");
-    }
-    Ok(())
 }

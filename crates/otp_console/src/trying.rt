@@ -7,7 +7,7 @@ ghost use Rattle.otp_console.specs.Statuses.{ending_of_try};
 use crate::ending::Ending;
 use otp_file::read_tree;
 use otp_sim::{Input, Output};
-use otp_try::{TryEnd, Writer, try_tree};
+use otp_try::{Shows, TryEnd, Writer, try_tree};
 use std::alloc::Global;
 
 /// Reads the tree of a file, and plays the lines of a script on its supervisor.
@@ -15,6 +15,7 @@ pub fn try_file<R: Input, W: Output>(
     alloc: Global,
     file: &[u8],
     writer: Writer,
+    shows: Shows,
     script: &mut R,
     output: &mut W,
 ) -> Ending
@@ -26,7 +27,7 @@ pub fn try_file<R: Input, W: Output>(
         Ok(tree) => tree,
         Err(fault) => return Ending::of_tree(fault),
     };
-    Ending::of_try(try_tree(alloc, tree, writer, script, output))
+    Ending::of_try(try_tree(alloc, tree, writer, shows, script, output))
 }
 
 impl Ending {

@@ -59,6 +59,8 @@ pub enum Usage<'a> {
     Try {
         script: Option<&'a str>,
         writer: Writer,
+        /// A picture is drawn, in place of a line for each order.
+        is_drawn: bool,
     },
     /// Its tree is drawn.
     Draw,
@@ -195,9 +197,14 @@ fn try_command<'a>(alloc: Global) -> Result<clap::Command<'a>, AllocError> {
         .help(
             "Shows how the supervisor stands before each line, and goes on after one that is refused; so it is at a terminal",
         );
+    let timeline = Arg::new(alloc, "timeline")
+        .long("timeline")
+        .action(ArgAction::SetTrue)
+        .help("Draws the run: a column for each line of the script, a row for each child");
     file_command(alloc, "try", TRY_ABOUT, TRY_EXAMPLE, FILE_OR_INPUT)?
         .arg(script)?
-        .arg(prompt)
+        .arg(prompt)?
+        .arg(timeline)
 }
 
 /// What the words after `try` ask for.
@@ -211,7 +218,11 @@ fn read_try<'a>(found: &ArgMatches<'a>) -> Usage<'a> {
         Some("-") => None,
         script => script,
     };
-    Usage::Try { script, writer }
+    Usage::Try {
+        script,
+        writer,
+        is_drawn: found.get_flag("timeline"),
+    }
 }
 
 /// The files that the words after `check` name.

@@ -47,14 +47,21 @@ still history longer e needs more next few room =
     (omega (arith, count, room), omega (arith, count, last, most, few))
 
 -- a scene by its parts
-pub happened-is : (time : ℕ) (kind : Kind) (old : Scene) (event : Event) (state : State) (last : ℕ) (orders : List Effect) (notes : List Note)
+pub happened-is : (time : ℕ) (kind : Kind) (old : Scene) (event : Event) (state : State) (last : ℕ) (orders : List Effect) (notes : List Note) (events : ℕ)
     → event ≡ event_for time kind old → state ≡ (step old.state event).state → last ≡ unwrap_or event.number old.last
     → orders ≡ old.orders ++ (step old.state event).orders → notes ≡ old.notes ++ filter_map note_of (step old.state event).orders
-    → record { state = state; last = last; orders = orders; notes = notes } ≡ happened time kind old
+    → events ≡ old.events + 1
+    → record { state = state; last = last; orders = orders; notes = notes; events = events } ≡ happened time kind old
 unfolding happened after_event
-happened-is time kind old event state last orders notes is is_state is_last is_orders is_notes =
-    ap (λ (s : State). record { state = s; last = last; orders = orders; notes = notes }) is_state
-    ∙ ap (λ (n : ℕ). record { state = (step old.state event).state; last = n; orders = orders; notes = notes }) is_last
-    ∙ ap (λ (os : List Effect). record { state = (step old.state event).state; last = unwrap_or event.number old.last; orders = os; notes = notes }) is_orders
-    ∙ ap (λ (ns : List Note). record { state = (step old.state event).state; last = unwrap_or event.number old.last; orders = old.orders ++ (step old.state event).orders; notes = ns }) is_notes
+happened-is time kind old event state last orders notes events is is_state is_last is_orders is_notes is_events =
+    ap (λ (s : State). record { state = s; last = last; orders = orders; notes = notes; events = events }) is_state
+    ∙ ap (λ (n : ℕ). record { state = (step old.state event).state; last = n; orders = orders; notes = notes; events = events }) is_last
+    ∙ ap (λ (os : List Effect). record { state = (step old.state event).state; last = unwrap_or event.number old.last; orders = os; notes = notes; events = events }) is_orders
+    ∙ ap (λ (ns : List Note). record { state = (step old.state event).state; last = unwrap_or event.number old.last; orders = old.orders ++ (step old.state event).orders; notes = ns; events = events }) is_notes
+    ∙ ap (λ (n : ℕ). record { state = (step old.state event).state; last = unwrap_or event.number old.last; orders = old.orders ++ (step old.state event).orders; notes = old.notes ++ filter_map note_of (step old.state event).orders; events = n }) is_events
     ∙ ap (λ (e : Event). after_event e old) is
+
+-- one event more
+pub happened_events : (time : ℕ) (kind : Kind) (s : Scene) → (happened time kind s).events ≡ s.events + 1
+unfolding happened after_event
+happened_events time kind s = refl

@@ -1,5 +1,5 @@
 -- A child that crashes again and again, and how its supervisor fares (own).
-use Rattle.std.specs.Prelude.{◌≡◌, ℕ, ◌+◌, ◌*◌, ◌≤◌, ◌<◌, true, false, List, [], Option, Some, None, position, slice_get}
+use Rattle.std.specs.Prelude.{◌≡◌, ◌⊎◌, ℕ, ◌+◌, ◌*◌, ◌≤◌, ◌<◌, true, false, List, [], Option, Some, None, position, slice_get}
 use Prim.Native.Nat.{zero, suc}
 use Rattle.otp_reason.specs.declared.name.Name.{Name}
 use Rattle.otp_reason.specs.declared.note.Note.TheVariants as note
@@ -13,7 +13,7 @@ use Rattle.otp_table.specs.declared.row.Row.{Row}
 use Rattle.otp_table.specs.Rows.{has_id, up_number}
 use Rattle.otp_limits.specs.declared.fate.Fate.{Fate}
 use Rattle.otp_limits.specs.declared.fate.Fate.TheVariants as fate
-use Rattle.otp_limits.specs.Scene.{Opens, Scene, Settles, happened}
+use Rattle.otp_limits.specs.Scene.{FillsUp, IsFull, Opens, Scene, Settles, happened}
 
 unfoldable pub running : Option Row → Option ℕ
 running None = None
@@ -52,12 +52,16 @@ RunsAfter id gap n old new = Crashes id gap n old new × (is_over new.state.phas
 abbrev pub IsOverAfter : Name → ℕ → ℕ → Scene → Type 0
 IsOverAfter id gap n old = (new : Scene) × Crashes id gap n old new × (is_over new.state.phase ≡ true)
 
+-- the next crash of this child can't be played to its end: a core's history has no room for its events
+abbrev pub HasNoRoom : Name → ℕ → Scene → Type 0
+HasNoRoom id time s = IsFull s ⊎ FillsUp time (crashed id time s)
+
 -- how an opened supervisor fares where a child crashes so often, at such an interval
 unfoldable pub Fares : Name → ℕ → ℕ → Scene → Fate → Type 0
 Fares id gap crashes s fate.Survived = (new : Scene) × RunsAfter id gap crashes s new
 Fares id gap crashes s (fate.Ended n) = (n < crashes) × (((new : Scene) × RunsAfter id gap n s new) × IsOverAfter id gap (n + 1) s)
 Fares id gap crashes s (fate.Gone n) = (new : Scene) × (RunsAfter id gap n s new × (process_of id new.state.rows ≡ None))
-Fares id gap crashes s (fate.Unplayed n) = (new : Scene) × RunsAfter id gap n s new
+Fares id gap crashes s (fate.Unplayed n) = (n < crashes) × ((new : Scene) × (RunsAfter id gap n s new × HasNoRoom id ((n + 1) * gap) new))
 
 -- the same from the opening on
 pub record Plays (flags : SupFlags) (specs : List ChildSpec) (id : Name) (gap crashes : ℕ) (ending : Fate) : Type 0 where

@@ -1,6 +1,6 @@
 -- A supervisor that is played in a world where all goes well: each start succeeds, and each process that is asked to shut
 -- down ends, or is killed, at once (own).
-use Rattle.std.specs.Prelude.{◌≡◌, ℕ, ◌+◌, List, [], ◌∷◌, ◌++◌, Option, Some, None, drop, slice_get, unwrap_or, false, if◌then◌else◌}
+use Rattle.std.specs.Prelude.{◌≡◌, ℕ, ◌+◌, ◌≤◌, List, [], ◌∷◌, ◌++◌, Option, Some, None, is_some, drop, slice_get, unwrap_or, true, false, if◌then◌else◌}
 use Prim.Native.Nat.{zero, suc}
 use Rattle.std.specs.List.{filter_map}
 use Rattle.otp_reason.specs.declared.note.Note.{Note}
@@ -19,6 +19,7 @@ use Rattle.otp_rules.specs.State.{State}
 use Rattle.otp_rules.specs.Step.{step}
 use Rattle.otp_spec.specs.declared.child.ChildSpec.{ChildSpec}
 use Rattle.otp_spec.specs.declared.flags.SupFlags.{SupFlags}
+use Rattle.otp_spec.specs.declared.limits.TheConstants.{MAX_EVENTS}
 
 -- a supervisor, and what the processes of its children tell next
 pub record Scene : Type 0 where
@@ -29,6 +30,8 @@ pub record Scene : Type 0 where
   pub orders : List Effect
   -- what processes tell and the supervisor has not yet heard, in order
   pub notes : List Note
+  -- how many events there were
+  pub events : ℕ
 
 -- what the process of a child does by an order
 unfoldable pub note_of : Effect → Option Note
@@ -52,6 +55,7 @@ after_event e s =
       last = unwrap_or e.number s.last;
       orders = s.orders ++ (step s.state e).orders;
       notes = s.notes ++ filter_map note_of (step s.state e).orders;
+      events = s.events + 1;
     }
 
 -- something happens at this time, in milliseconds
@@ -85,9 +89,19 @@ pub record Settles (time : ℕ) (old new : Scene) : Type 0 where
   pub runs : new ≡ turns count time old
   pub done : next_in time new ≡ None
 
+-- a core's history has no room for another event
+abbrev pub IsFull : Scene → Type 0
+IsFull s = MAX_EVENTS ≤ s.events
+
+-- what comes next by itself fills the history, and there is more to come
+pub record FillsUp (time : ℕ) (s : Scene) : Type 0 where
+  pub count : ℕ
+  pub is_full : IsFull (turns count time s)
+  pub more : is_some (next_in time (turns count time s)) ≡ true
+
 -- a supervisor that was never opened
 abbrev pub unopened : SupFlags → List ChildSpec → Scene
-unopened flags specs = record { state = empty_state flags specs; last = 0; orders = []; notes = [] }
+unopened flags specs = record { state = empty_state flags specs; last = 0; orders = []; notes = []; events = 0 }
 
 -- a supervisor with these flags and children that was opened, and whose children run
 abbrev pub Opens : SupFlags → List ChildSpec → Scene → Type 0

@@ -1,11 +1,12 @@
 //! A supervisor that is played in a world where all goes well, but for one child that crashes.
 
-ghost use Rattle.std.specs.Prelude.{ℕ, ◌≡◌, ◌≤◌, ◌<◌, ◌^◌, ◌++◌, None, OnOk, IfOk, IfSome, length, position, option_map, slice_get};
+ghost use Rattle.std.specs.Prelude.{ℕ, ◌≡◌, ◌≤◌, ◌<◌, ◌^◌, ◌++◌, None, OnOk, IfErr, IfOk, IfSome, length, position, option_map, slice_get};
 ghost use Rattle.std.specs.List.{filter_map};
-ghost use Rattle.otp_limits.specs.Fates.{crashed, process_of, running_at};
-ghost use Rattle.otp_limits.specs.Scene.{Opens, Settles, happened, heard, next_in, note_of};
+ghost use Rattle.otp_limits.specs.Fates.{HasNoRoom, crashed, process_of, running_at};
+ghost use Rattle.otp_limits.specs.Scene.{FillsUp, IsFull, Opens, Settles, happened, heard, next_in, note_of};
 ghost use Rattle.otp_spec.specs.Supervisor.{supervisor_fault};
 ghost use Rattle.otp_rules.specs.State.{is_over};
+ghost use Rattle.otp_limits.specs.declared.stage.Halt.TheVariants.{HistoryFull};
 ghost use Rattle.otp_table.specs.Rows.{has_id};
 
 use otp_core::{Core, Counter, MAX_EVENTS};
@@ -26,6 +27,11 @@ pub enum Halt {
 }
 
 impl From<AllocError> for Halt {
+    ghost use Rattle.std.specs.Prelude.{◌≡◌};
+    ghost use Rattle.otp_limits.specs.declared.stage.Halt.TheVariants.{OutOfMemory};
+
+    ghost from_gives = { λ _ halt. halt ≡ OutOfMemory };
+
     fn from(_error: AllocError) -> Self {
         Halt::OutOfMemory
     }
@@ -149,7 +155,8 @@ impl Stage {
     /// Something happens at this time, in milliseconds.
     fn happen(&mut self, time: u64, kind: Kind) -> Result<(), Halt>
         requires { time ≤ 2 ^ 62 }
-        ensures { OnOk result (self.new ≡ happened time kind self.old) }
+        ensures ok { OnOk result (self.new ≡ happened time kind self.old) }
+        ensures full { IfErr result (λ halt. halt ≡ HistoryFull → IsFull self.old) }
     {
         if self.core.is_full() {
             return Err(Halt::HistoryFull);
@@ -185,7 +192,8 @@ impl Stage {
     /// All that follows by itself happens.
     fn settle(&mut self, time: u64) -> Result<(), Halt>
         requires { time ≤ 2 ^ 62 }
-        ensures { OnOk result (Settles time self.old self.new) }
+        ensures ok { OnOk result (Settles time self.old self.new) }
+        ensures full { IfErr result (λ halt. halt ≡ HistoryFull → FillsUp time self.old) }
     {
         for _ in 0..=MAX_EVENTS {
             let Some(kind) = self.next_kind(time) else {
@@ -194,6 +202,7 @@ impl Stage {
             self.hear();
             self.happen(time, kind)?;
         }
+        let _ = &self.core;
         Err(Halt::HistoryFull)
     }
 
@@ -201,7 +210,8 @@ impl Stage {
     #[tactic(auto, unfolding(crate::specs::Fates::crashed_at))]
     pub fn crash(&mut self, id: &Name, time: u64) -> Result<(), Halt>
         requires { time ≤ 2 ^ 62 }
-        ensures { OnOk result (Settles time (crashed id.now time self.old) self.new) }
+        ensures ok { OnOk result (Settles time (crashed id.now time self.old) self.new) }
+        ensures full { IfErr result (λ halt. halt ≡ HistoryFull → HasNoRoom id.now time self.old) }
     {
         let process = self.process_of(id);
         self.core.clear_effects();

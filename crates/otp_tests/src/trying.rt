@@ -4,7 +4,7 @@ use otp_file::read_tree;
 use otp_reason::{Name, Reason, Text};
 use otp_sim::Counted;
 use otp_try::{
-    Action, Child, NextStart, ScriptFault, Taken, TryEnd, When, Writer, read_step, try_tree,
+    Action, Child, NextStart, ScriptFault, Shows, Taken, TryEnd, When, Writer, read_step, try_tree,
 };
 use std::alloc::Global;
 use std::process::Abort;
@@ -37,7 +37,7 @@ fn plays_on(
     let tree = read_tree(alloc, tree.as_bytes()).map_err(|_| "a tree")?;
     let mut input = Counted::new(script.as_bytes());
     let mut output = Counted::new(Vec::new(alloc));
-    let ended = try_tree(alloc, tree, writer, &mut input, &mut output);
+    let ended = try_tree(alloc, tree, writer, Shows::Orders, &mut input, &mut output);
     let text = output.into_device();
     assert_eq!(rt; text.as_slice(), told.as_bytes());
     assert_eq!(rt; ended, end);

@@ -4,3 +4,4 @@ pub mod Played
 pub mod Inside
 pub mod TrialInside
 pub mod Texts
+pub mod Sketched

@@ -1,5 +1,5 @@
 -- What is told of a run: each order as a line, at the time at which it was given, with the path of its supervisor (own).
-use Rattle.std.specs.Prelude.{ℕ, ◌==◌, ◌/◌, ◌%◌, List, [], ◌∷◌, ◌++◌, Option, codes, decimal, if◌then◌else◌, nat_lt}
+use Rattle.std.specs.Prelude.{ℕ, ◌==◌, List, [], ◌∷◌, ◌++◌, Option, codes, decimal, if◌then◌else◌}
 use Rattle.std.specs.List.{flat_map}
 use Rattle.otp_reason.specs.declared.name.Name.{Name}
 use Rattle.otp_reason.specs.Names.{name_bytes}
@@ -16,14 +16,11 @@ use Rattle.otp_rules.specs.Step.{step}
 use Rattle.otp_spec.specs.declared.flags.SupFlags.{SupFlags}
 use Rattle.otp_text.specs.Effects.{effect_line}
 use Rattle.otp_text.specs.Values.{child_name_text, process_text, reason_text}
-
--- the zeros in front of a number below 1000, so that it has three digits
-unfoldable pub zeros_before : ℕ → List ℕ
-zeros_before n = if nat_lt n 10 then codes "00" else if nat_lt n 100 then codes "0" else []
+use Rattle.otp_timeline.specs.Seconds.{seconds_text}
 
 -- a time in milliseconds, written in seconds
 unfoldable pub time_text : ℕ → List ℕ
-time_text time = decimal (time / 1000) ++ codes "." ++ zeros_before (time % 1000) ++ decimal (time % 1000) ++ codes " s"
+time_text time = seconds_text time ++ codes " s"
 
 -- a time after a comma
 unfoldable pub next_time_text : ℕ → List ℕ

@@ -10,6 +10,7 @@ mod planting;
 pub mod play;
 pub mod script;
 mod seat;
+mod sketch;
 mod state;
 mod telling;
 mod time;
@@ -19,4 +20,5 @@ mod world;
 
 pub use play::{TryEnd, Writer, try_tree};
 pub use script::{Action, Child, NextStart, ScriptFault, Step, When, read_step};
+pub use sketch::Shows;
 pub use trial::{Halt, LAST_TIME, Taken, Trial};

@@ -6,6 +6,7 @@ use crate::awaited::write_awaited;
 use crate::finding::{Found, found_for};
 use crate::script::{Action, Child, ScriptFault, Step, When, read_step};
 use crate::seat::Seat;
+use crate::sketch::{Shows, Sketch};
 use crate::state::write_state;
 use crate::telling::write_heading;
 use crate::time::write_time;
@@ -94,6 +95,8 @@ struct Play {
     lines: u64,
     /// What is told and not yet written.
     page: Vec<u8>,
+    /// The picture of the run, if one is wanted.
+    sketch: Option<Sketch>,
 }
 
 impl Play {
@@ -120,8 +123,20 @@ impl Play {
         Ok(())
     }
 
-    /// A line that was read: the clock goes on, and then it is done.
+    /// A line that was read is played, and drawn where a picture is wanted.
     fn take_step(&mut self, line: &[u8], step: Step<'_>) -> Result<(), TryEnd> {
+        let told = self.page.len();
+        let taken = self.play_step(line, step);
+        self.untell(told);
+        taken?;
+        if is_silent(step) {
+            return Ok(());
+        }
+        self.add_moment(self.lines)
+    }
+
+    /// A line that was read: the clock goes on, and then it is done.
+    fn play_step(&mut self, line: &[u8], step: Step<'_>) -> Result<(), TryEnd> {
         self.write_line(line, step)?;
         let Some(time) = self.time_of(step.when) else {
             return self.miss(Taken::TooLate);
@@ -226,6 +241,42 @@ impl Play {
         self.page.extend_from_slice(b": ")?;
         self.page.extend_from_slice(line)?;
         self.page.extend_from_slice(b"\n")
+    }
+
+    /// Where a script is drawn, its orders are not told: the page is cut to this length.
+    fn untell(&mut self, told: usize) {
+        if self.sketch.is_some() && self.writer == Writer::Script {
+            self.page.truncate(told);
+        }
+    }
+
+    /// Where a picture is wanted: what the cells mean, and the start.
+    fn begin_picture(&mut self) -> Result<(), TryEnd> {
+        self.untell(0);
+        if let Some(sketch) = &self.sketch {
+            sketch.write_legend(&mut self.page)?;
+        }
+        self.add_moment(0)
+    }
+
+    /// Where a picture is wanted: how the supervisors stand after this line is a column of it.
+    fn add_moment(&mut self, line: u64) -> Result<(), TryEnd> {
+        let Some(sketch) = &mut self.sketch else {
+            return Ok(());
+        };
+        sketch.add(self.trial.moment(line, self.trial.time())?)?;
+        if sketch.is_full() {
+            sketch.draw(self.trial.seats(), &mut self.page)?;
+        }
+        Ok(())
+    }
+
+    /// Where a picture is wanted: what is not drawn yet is put on the page.
+    fn draw_rest(&mut self) -> Result<(), AllocError> {
+        match &mut self.sketch {
+            None => Ok(()),
+            Some(sketch) => sketch.draw(self.trial.seats(), &mut self.page),
+        }
     }
 
     /// Puts how the root stands on the page.
@@ -354,6 +405,7 @@ impl Play {
         output: &mut W,
     ) -> Result<(), TryEnd> {
         self.write_welcome()?;
+        self.begin_picture()?;
         let mut buffer = zeros(alloc, PIECE)?;
         let mut kept = Vec::new(alloc);
         for _ in 0..u64::MAX {
@@ -375,6 +427,7 @@ impl Play {
         if !last.is_empty() {
             self.take_line(last)?;
         }
+        self.draw_rest()?;
         self.write_standing()?;
         self.page.extend_from_slice(b"\n")?;
         self.write_below()?;
@@ -401,13 +454,22 @@ fn zeros(alloc: Global, size: usize) -> Result<Vec<u8>, AllocError>
     Vec::from_elem(alloc, 0u8, size)
 }
 
-/// Plays the lines of the input on the supervisors of a tree, and writes what they order.
+/// The picture that is wanted, if one is.
+fn sketch_of(alloc: Global, shows: Shows) -> Option<Sketch> {
+    match shows {
+        Shows::Orders => None,
+        Shows::Timeline { is_coloured } => Some(Sketch::new(alloc, is_coloured)),
+    }
+}
+
+/// Plays the lines of the input on the supervisors of a tree, and writes what they order, or a picture of the run.
 ///
 /// Where the run ends early, what was told before is written all the same.
 pub fn try_tree<R: Input, W: Output>(
     alloc: Global,
     tree: TreeSpec,
     writer: Writer,
+    shows: Shows,
     input: &mut R,
     output: &mut W,
 ) -> TryEnd {
@@ -421,13 +483,16 @@ pub fn try_tree<R: Input, W: Output>(
         writer,
         lines: 0,
         page,
+        sketch: sketch_of(alloc, shows),
     };
     let ended = play.run(alloc, input, output);
+    let drawn = play.draw_rest();
     if ended == Err(TryEnd::OutputFailed) || play.hand_out(output).is_err() {
         return TryEnd::OutputFailed;
     }
-    match ended {
-        Ok(()) => TryEnd::Done,
-        Err(end) => end,
+    match (ended, drawn) {
+        (Ok(()), Ok(())) => TryEnd::Done,
+        (Ok(()), Err(_)) => TryEnd::OutOfMemory,
+        (Err(end), _) => end,
     }
 }

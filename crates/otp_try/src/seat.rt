@@ -112,7 +112,9 @@ impl Seat {
         self.path.as_slice()
     }
 
-    pub fn flags(&self) -> SupFlags {
+    pub fn flags(&self) -> SupFlags
+        ensures { result ≡ self.now.base.flags }
+    {
         self.supervisor.flags()
     }
 

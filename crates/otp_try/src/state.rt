@@ -3,6 +3,7 @@
 use otp_spec::SupFlags;
 use otp_table::{Row, RowState};
 use otp_text::write_number;
+use otp_timeline::restarts_in;
 use std::alloc::AllocError;
 use std::collections::VecDeque;
 
@@ -74,18 +75,6 @@ fn write_doing(
     out.extend_from_slice(b" ")?;
     out.extend_from_slice(doing.word().as_bytes())?;
     Ok(false)
-}
-
-/// How many of the restarts lie in the period that ends now.
-fn restarts_in(stamps: &VecDeque<u64>, period: u64, now: u64) -> u64 {
-    let length = period.saturating_mul(1000);
-    let mut count: u64 = 0;
-    for stamp in stamps.iter() {
-        if now.saturating_sub(*stamp) <= length {
-            count = count.saturating_add(1);
-        }
-    }
-    count
 }
 
 /// Appends how the children stand, and how many restarts of the period are used up: `3 up, 1 stopping, 2/3 restarts in 10 s`.

@@ -1,38 +1,18 @@
 //! Times as they are told.
 
-ghost use Rattle.std.specs.Prelude.{◌≡◌, ◌<◌, ◌++◌, OnOk, decimal};
+ghost use Rattle.std.specs.Prelude.{◌≡◌, ◌++◌, OnOk};
 ghost use Rattle.std.specs.List.{flat_map};
-ghost use Rattle.otp_try.specs.Story.{next_time_text, time_text, times_text, zeros_before};
+ghost use Rattle.otp_try.specs.Story.{next_time_text, time_text, times_text};
 
-use otp_text::write_number;
+use otp_timeline::write_seconds;
 use std::alloc::AllocError;
-
-/// How many milliseconds a second has.
-const SECOND: u64 = 1000;
-
-/// Appends the zeros that a number below 1000 lacks to have three digits.
-#[tactic(auto, unfolding(crate::specs::Story::zeros_before))]
-fn write_zeros(number: u64, out: &mut Vec<u8>) -> Result<(), AllocError>
-    ensures { OnOk result (out.new.items ≡ out.old.items ++ zeros_before number) }
-{
-    if number < 10 {
-        out.extend_from_slice(b"00")
-    } else if number < 100 {
-        out.extend_from_slice(b"0")
-    } else {
-        Ok(())
-    }
-}
 
 /// Appends a time in milliseconds, written in seconds.
 #[tactic(auto, unfolding(crate::specs::Story::time_text))]
 pub(crate) fn write_time(time: u64, out: &mut Vec<u8>) -> Result<(), AllocError>
     ensures { OnOk result (out.new.items ≡ out.old.items ++ time_text time) }
 {
-    write_number(time / SECOND, out)?;
-    out.extend_from_slice(b".")?;
-    write_zeros(time % SECOND, out)?;
-    write_number(time % SECOND, out)?;
+    write_seconds(time, out)?;
     out.extend_from_slice(b" s")
 }
 

@@ -1,9 +1,10 @@
 //! A tree that is tried.
 
-ghost use Rattle.std.specs.Prelude.{ℕ, List, [], ◌≡◌, ◌<◌, ◌≤◌, ◌^◌, OnOk, IfOk, IfSome, length};
+ghost use Rattle.std.specs.Prelude.{ℕ, List, [], ◌∷◌, Bool, true, ◌≡◌, ◌<◌, ◌≤◌, ◌^◌, OnOk, IfOk, IfSome, length};
 ghost use Rattle.otp_rules.specs.declared.event.Item.TheVariants as item;
 ghost use Rattle.otp_rules.specs.declared.event.Kind.TheVariants as kind;
 ghost use Rattle.otp_try.specs.Played.{ActsAt, AddsTree, Begins, EndsAt, Seated, Tells, unplayed};
+ghost use Rattle.otp_try.specs.Sketched.{moment_of};
 ghost use Rattle.otp_try.specs.Texts.{taken_text};
 ghost use Rattle.otp_try.specs.declared.trial.Taken.TheVariants.{Done};
 
@@ -11,11 +12,13 @@ use crate::finding::{Found, found_for};
 use crate::planting::plant;
 use crate::script::{Action, Child};
 use crate::seat::Seat;
+use crate::sketch::moment_of;
 use crate::world::{Deed, What, World};
 use otp_file::TreeSpec;
 use otp_reason::{Note, Reason};
 use otp_rules::{Call, Item, Kind};
 use otp_text::Printer;
+use otp_timeline::Moment;
 use std::alloc::{AllocError, Global};
 use std::marker::Model;
 
@@ -154,6 +157,35 @@ impl Trial {
     /// The root.
     pub(crate) fn root(&self) -> &Seat {
         &self.seats[0]
+    }
+
+    /// Whether each of the supervisors has a process. The root always has one.
+    fn running(&self) -> Result<Vec<bool>, AllocError>
+        ensures root { IfOk result (λ running. (others : List Bool) × (running.items ≡ true ∷ others)) }
+        ensures each { IfOk result (λ running. length running.items ≡ length self.now) }
+    {
+        let mut running = Vec::new(self.alloc);
+        running.push(true).map_err(|_| AllocError)?;
+        for place in 1..self.seats.len() {
+            running
+                .push(self.world.has_process(place))
+                .map_err(|_| AllocError)?;
+        }
+        Ok(running)
+    }
+
+    /// How the supervisors stand at this time, once this line of the script was played.
+    pub(crate) fn moment(&self, line: u64, time: u64) -> Result<Moment, AllocError>
+        ensures { IfOk result (λ moment. (others : List Bool) × (moment ≡ moment_of line time self.now (true ∷ others))) }
+    {
+        let running = self.running()?;
+        moment_of(
+            self.alloc,
+            line,
+            time,
+            self.seats.as_slice(),
+            running.as_slice(),
+        )
     }
 
     /// Whether the supervisor at this place has a process.

@@ -2,7 +2,7 @@
 
 use crate::files::TreeFiles;
 use crate::program::run;
-use crate::tests::commands::{COMMANDS, FILES};
+use crate::tests::transcripts::{FILES, TRANSCRIPTS};
 use crate::tests::with_status;
 use crate::words::WordsFault;
 use otp_sim::Counted;
@@ -41,9 +41,13 @@ impl<'a> TreeFiles for Shelf<'a> {
     fn is_terminal(&self) -> bool {
         false
     }
+
+    fn has_colours(&self) -> bool {
+        false
+    }
 }
 
-/// The tree files that the words of transcripts name.
+/// The files that transcripts name.
 #[derive(Drop)]
 struct Folder {
     alloc: Global,
@@ -66,6 +70,10 @@ impl TreeFiles for Folder {
     }
 
     fn is_terminal(&self) -> bool {
+        false
+    }
+
+    fn has_colours(&self) -> bool {
         false
     }
 }
@@ -248,17 +256,27 @@ fn checks_and_pictures(rt: HostRuntime) -> Result<(), Fail> {
     Ok(())
 }
 
-/// The words of `examples/`: slips, and what is told of each.
+/// The text of a file of the transcripts; nothing where there is none of this name.
+fn text_of(name: &str) -> &'static str {
+    for (known, text) in FILES {
+        if name == known {
+            return text;
+        }
+    }
+    ""
+}
+
+/// The transcripts of `examples/`, those of `sim` worked out by hand.
 #[test]
-fn words_are_obeyed(rt: HostRuntime) -> Result<(), Fail> {
+fn transcripts_are_played(rt: HostRuntime) -> Result<(), Fail> {
     let alloc = rt.alloc();
     let files = Folder { alloc };
-    for (line, shown) in COMMANDS {
+    for (line, lines, shown) in TRANSCRIPTS {
         let mut words = words_in(alloc, &["otp"])?;
         for word in line.split(' ') {
             words.push(word.to_string(alloc)?).map_err(|_| AllocError)?;
         }
-        let seen = seen_on(alloc, &files, Ok(words), "");
+        let seen = seen_on(alloc, &files, Ok(words), text_of(lines));
         let text = with_status(alloc, seen.output, seen.errors, seen.status)?;
         assert_eq!(rt; text.as_slice(), shown.as_bytes(), "{line}");
     }

@@ -1,4 +1,4 @@
-use Rattle.std.proofs.Common.{◌≡◌, ℕ, ◌+◌, ◌≤◌, ◌++◌, List, [], ◌∷◌, ◌∙◌, Option, Some, None, ap, arith, drop, length, refl, take, ◌-◌, sym, true, if◌then◌else◌}
+use Rattle.std.proofs.Common.{◌≡◌, ℕ, ◌+◌, ◌≤◌, ◌++◌, List, [], ◌∷◌, ◌∙◌, Option, Some, None, ap, arith, drop, length, length-append, refl, take, ◌-◌, sym, true, if◌then◌else◌}
 use Rattle.std.proofs.Math.Seq.{drop-append_seam}
 use Rattle.std.proofs.lemmas.Grind.{common_steps}
 use Rattle.std.proofs.lemmas.Bool.{false≢true}
@@ -45,11 +45,11 @@ invariant_of-self-2 c =
     still old.history c.step_with.new.self.history event (needs_number (state_of old) c.args.time c.args.kind) longer number c.self.invariant.numbers room in
     record { history = kept.0; numbers = kept.1 }
 
-pub returns : goal.returns
+pub returns-clause-ok : goal.returns-clause-ok
 unfolding event_for
-returns c =
+returns-clause-ok c =
     let old : View = c.self.inside.core in
-    let scene : Scene = record { state = state_of old; last = last_number old.history; orders = old.effects; notes = c.self.inside.notes.items } in
+    let scene : Scene = record { state = state_of old; last = last_number old.history; orders = old.effects; notes = c.self.inside.notes.items; events = length old.history } in
     let core : View = c.prepare.new.self in
     let after : View = c.step_with.new.self in
     let prepared : core ≡ record old { prepared = true } = c.in_ok-prepare.ensures.ok in
@@ -71,10 +71,11 @@ returns c =
     ∙ ap (λ (xs : List Effect). drop (length xs) after.effects) c.effects-from.ensures
     ∙ ap (λ (xs : List Effect). drop (length core.effects) xs) effects
     ∙ drop-append_seam core.effects (step (state_of old) event).orders in
-    happened-is c.args.time c.args.kind scene event (state_of after) (last_number after.history) after.effects c.obey.new.notes.items
+    happened-is c.args.time c.args.kind scene event (state_of after) (last_number after.history) after.effects c.obey.new.notes.items (length after.history)
     (ap (λ (n : Option ℕ). record { reading = c.args.time; number = n; kind = c.args.kind }) number)
     (moved ∙ ap (λ (s : State). (step s event).state) same)
     (ap last_number longer ∙ last_pushed 0 old.history event)
     (effects ∙ ap (λ (v : View). v.effects ++ (step (state_of old) event).orders) prepared)
     (c.in_ok-obey.ensures ∙ ap (λ (xs : List Effect). c.self.inside.notes.items ++ filter_map note_of xs) whole ∙ ap (λ (xs : List Effect). c.self.inside.notes.items ++ filter_map note_of xs) fresh)
+    (ap (λ (h : List Event). length h) longer ∙ length-append old.history (event ∷ []))
     ∙ ap (λ (s : Scene). happened c.args.time c.args.kind s) c.self.view_is

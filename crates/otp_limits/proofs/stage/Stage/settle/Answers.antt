@@ -1,21 +1,29 @@
 use Prim.Native.Nat.{zero, suc}
-use Rattle.std.proofs.Common.{ℕ, ◌≡◌, ◌∙◌, Option, Some, ap, refl, sym}
+use Rattle.std.proofs.Common.{ℕ, ◌≡◌, ◌+◌, ◌∙◌, Option, Some, ap, arith, refl, sym}
 use Rattle.otp_rules.specs.declared.event.Kind.{Kind}
 use Rattle.otp_limits.specs.Scene.{Scene, happened, heard, next_in, turned, turns}
+use Rattle.otp_limits.proofs.Scenes.{happened_events}
 use Rattle.otp_limits.proofs.stage.Stage.settle.Goals as goal
 
 pub loop-init : goal.loop-init
 unfolding turns
-loop-init c = (zero, refl)
+loop-init c = ((zero, refl), omega arith)
 
 pub loop-preserved : goal.loop-preserved
 unfolding turns turned
 loop-preserved c =
     let time : ℕ = c.args.time in
-    let before : Scene = c.loop.self in (
-      suc c.loop.invariant.0,
-      c.in_ok-happen.ensures
-          ∙ ap (λ (s : Scene). happened time c.in-Some.kind s) c.hear.ensures
-          ∙ ap (λ (k : Option Kind). turned time before k) (sym c.in-Some.is ∙ c.next_kind.ensures)
-          ∙ ap (λ (s : Scene). turned time s (next_in time s)) c.loop.invariant.1,
+    let before : Scene = c.loop.self in
+    let same : c.hear.new.self ≡ heard before = c.hear.ensures in
+    let is : c.happen.new.self ≡ happened time c.in-Some.kind c.hear.new.self = c.in_ok-happen.ensures.ok in
+    let grew : c.happen.new.self.events ≡ before.events + 1 =
+    ap (λ (s : Scene). s.events) is ∙ happened_events time c.in-Some.kind c.hear.new.self ∙ ap (λ (s : Scene). s.events + 1) same in (
+      (
+        suc c.loop.invariant.0.0,
+        is
+            ∙ ap (λ (s : Scene). happened time c.in-Some.kind s) same
+            ∙ ap (λ (k : Option Kind). turned time before k) (sym c.in-Some.is ∙ c.next_kind.ensures)
+            ∙ ap (λ (s : Scene). turned time s (next_in time s)) c.loop.invariant.0.1,
+      ),
+      omega (arith, grew, c.loop.invariant.1),
     )

@@ -1,6 +1,6 @@
-use Rattle.std.proofs.Common.{◌≡◌, ℕ}
+use Rattle.std.proofs.Common.{◌≡◌, ◌+◌, ℕ}
 use Rattle.otp_limits.specs.Scene.{turns}
 use Rattle.otp_limits.proofs.stage.Stage.settle.Given as goal
 
 abbrev pub invariant-loop : goal.invariant-loop
-invariant-loop l = (count : ℕ) × (l.self ≡ turns count l.time l.fn.self)
+invariant-loop l = ((count : ℕ) × (l.self ≡ turns count l.time l.fn.self)) × (l.self.events ≡ l.fn.self.events + l.counter)

@@ -1,0 +1,1133 @@
+//! The transcripts of the repository. `examples/check --table` writes this file from theirs.
+
+/// The name of each file that they name, and its text.
+pub(super) const FILES: [(&str, &str); 39] = [
+    (
+        "all_significant.events",
+        r##"up 1
+up 2
+up 3
+exit 1 error:net
+up 4
+exit 2 error:disk
+exit 4 normal
+exit 3 shutdown
+"##,
+    ),
+    (
+        "all_significant.toml",
+        r##"# auto_shutdown = all_significant: the end of the last significant child ends the supervisor.
+# Look for: "import" fails and is restarted, which counts as no end; "export" is temporary and ends
+# first, and the supervisor goes on; when "import" ends normally, "log" is stopped and it ends.
+
+intensity = 3
+auto_shutdown = "all_significant"
+
+[[child]]
+id = "import"
+start = "import"
+restart = "transient"
+significant = true
+
+[[child]]
+id = "export"
+start = "export"
+restart = "temporary"
+significant = true
+
+[[child]]
+id = "log"
+start = "log"
+"##,
+    ),
+    (
+        "any_significant.events",
+        r##"up 1
+up 2
+terminate job
+exit 1 shutdown
+restart job
+up 3
+exit 3 normal
+exit 2 shutdown
+"##,
+    ),
+    (
+        "any_significant.toml",
+        r##"# auto_shutdown = any_significant: the end of a significant child ends the supervisor.
+# Look for: stopping "job" by a call doesn't end the supervisor; when it ends by itself, normally,
+# "helper" is stopped and the supervisor ends.
+
+auto_shutdown = "any_significant"
+
+[[child]]
+id = "job"
+start = "job"
+restart = "transient"
+significant = true
+
+[[child]]
+id = "helper"
+start = "helper"
+"##,
+    ),
+    (
+        "calls.events",
+        r##"up 1
+start b b transient false 2000 worker
+up 2
+start b b transient false 2000 worker
+delete b
+terminate b
+exit 2 shutdown
+start b b transient false 2000 worker
+get b
+delete b
+delete b
+start c c permanent true 5000 worker
+count
+"##,
+    ),
+    (
+        "calls.toml",
+        r##"# The calls of a supervisor.
+# Look for: a child is added, stopped and deleted by calls, and each call that can't be served names
+# its reason and changes nothing.
+
+[[child]]
+id = "a"
+start = "a"
+"##,
+    ),
+    (
+        "deadlines.events",
+        r##"up 1
+up 2
+up 3
+at 500
+stop
+exit 3 killed
+at 599
+at 600
+exit 2 killed
+at 4611686018427387904
+exit 1 shutdown
+which
+"##,
+    ),
+    (
+        "deadlines.toml",
+        r##"# How children are stopped: by a kill at once, by a question with a deadline, by a question without.
+# Look for: "hard" is killed without being asked; "slow" is asked at 500 and has 100 milliseconds, so
+# nothing happens at 599 and it is killed at 600; "patient" is never killed, however late it is. A
+# call after the end is answered noproc.
+
+[[child]]
+id = "patient"
+start = "patient"
+shutdown = "infinity"
+
+[[child]]
+id = "slow"
+start = "slow"
+shutdown = 100
+
+[[child]]
+id = "hard"
+start = "hard"
+shutdown = "brutal_kill"
+"##,
+    ),
+    (
+        "failed_start.events",
+        r##"up 1
+fail 2 error:port
+exit 1 shutdown
+"##,
+    ),
+    (
+        "failed_start.toml",
+        r##"# A start that fails while the supervisor opens.
+# Look for: "a", which runs already, is stopped, "c" is never started, and the reason of the end
+# names the child that didn't start.
+
+[[child]]
+id = "a"
+start = "a"
+
+[[child]]
+id = "b"
+start = "b"
+
+[[child]]
+id = "c"
+start = "c"
+"##,
+    ),
+    (
+        "first.script",
+        r##"at 1s crash db
+at 2s crash db
+"##,
+    ),
+    (
+        "first.toml",
+        r##"# One worker, which may be restarted once within 5 seconds.
+# Look for: the first crash is a restart, under the next process number; the second is one too many, and the end says so.
+
+intensity = 1
+period = 5
+
+[[child]]
+id = "db"
+start = "db"
+"##,
+    ),
+    (
+        "nested.toml",
+        r##"# A database, and a pool of two workers under a supervisor of its own. The pool allows one restart within 10 seconds, the
+# root two within 60.
+# Look for: in `nested_restarted.script` the pool's second restart is one too many: it ends, and its parent starts it
+# again with both workers. In `nested_given_up.script` that happens once too often for the root too, and all end.
+
+intensity = 2
+period = 60
+
+[[child]]
+id = "db"
+start = "db"
+
+[[child]]
+id = "pool"
+start = "pool"
+
+[child.tree]
+intensity = 1
+period = 10
+
+[[child.tree.child]]
+id = "a"
+start = "worker"
+
+[[child.tree.child]]
+id = "b"
+start = "worker"
+"##,
+    ),
+    (
+        "nested_given_up.script",
+        r##"# Each pair of crashes ends the pool: how many bring the root down?
+at 1s crash pool/a
++1s crash pool/a
++1s crash pool/a
++1s crash pool/a
++1s crash pool/a
++1s crash pool/a
+"##,
+    ),
+    (
+        "nested_restarted.script",
+        r##"# The pool gives up once, and its parent starts it again.
+at 1s crash pool/a
++1s crash pool/b
++1s crash pool/a
+pool/ count
+count
+"##,
+    ),
+    (
+        "one_for_all.events",
+        r##"up 1
+up 2
+up 3
+exit 1 error:disk
+exit 3 shutdown
+exit 2 shutdown
+up 4
+up 5
+which
+stop
+exit 5 shutdown
+exit 4 shutdown
+"##,
+    ),
+    (
+        "one_for_all.toml",
+        r##"# one_for_all: when one child dies, all are stopped and all are started again.
+# Look for: "web" and "log" are stopped in reverse start order before "db" starts again; "log" is
+# temporary, so it is not started again and its row is gone.
+
+strategy = "one_for_all"
+
+[[child]]
+id = "db"
+start = "db"
+
+[[child]]
+id = "log"
+start = "log"
+restart = "temporary"
+
+[[child]]
+id = "web"
+start = "web"
+"##,
+    ),
+    (
+        "one_for_one.events",
+        r##"up 1
+up 2
+up 3
+at 1000
+exit 3 normal
+which
+restart once
+up 4
+exit 1 error:disk
+up 5
+which
+at 6000
+exit 2 killed
+exit 4 shutdown
+exit 5 shutdown
+"##,
+    ),
+    (
+        "one_for_one.toml",
+        r##"# one_for_one: only the child that died is started again.
+# Look for: "once" is transient, so after a normal end it is not restarted, but its row stays and a
+# call starts it again; "cache" comes back as #5 while "web" (#2) runs on; the second restart comes
+# 5 seconds after the first, which is still in its period, so the supervisor ends.
+
+strategy = "one_for_one"
+intensity = 1
+period = 5
+
+[[child]]
+id = "cache"
+start = "cache"
+
+[[child]]
+id = "web"
+start = "web"
+
+[[child]]
+id = "once"
+start = "once"
+restart = "transient"
+"##,
+    ),
+    (
+        "rest_for_one.events",
+        r##"up 1
+up 2
+up 3
+exit 2 error:full
+exit 3 shutdown
+up 4
+up 5
+which
+stop
+exit 5 shutdown
+exit 4 shutdown
+exit 1 shutdown
+"##,
+    ),
+    (
+        "rest_for_one.toml",
+        r##"# rest_for_one: the child that died and those after it are stopped and started again.
+# Look for: "web" comes after "cache", so both get new numbers; "db" comes before, and keeps #1.
+
+strategy = "rest_for_one"
+
+[[child]]
+id = "db"
+start = "db"
+
+[[child]]
+id = "cache"
+start = "cache"
+
+[[child]]
+id = "web"
+start = "web"
+"##,
+    ),
+    (
+        "retries.events",
+        r##"up 1
+up 2
+at 1000
+exit 1 error:net
+which
+fail 3 error:net
+at 2000
+fail 4 error:net
+at 3000
+fail 5 error:net
+exit 2 shutdown
+"##,
+    ),
+    (
+        "retries.toml",
+        r##"# A restart whose start fails is tried again, and each try counts as a restart.
+# Look for: the call `which` comes while "flaky" is being started, so it waits; it is answered before
+# the next try, and shows "flaky" as restarting. The fourth restart within 60 seconds is one more
+# than the intensity, and the supervisor ends.
+
+intensity = 3
+period = 60
+
+[[child]]
+id = "flaky"
+start = "flaky"
+
+[[child]]
+id = "steady"
+start = "steady"
+"##,
+    ),
+    (
+        "shop.toml",
+        r##"# A shop under rest_for_one: a crash takes down what was started after the child that crashed, and the supervisor gives
+# up at the fourth restart within 10 seconds. `shop.limits` says what each child's failure costs.
+# Look for: the database is the worst, since it takes two others down; crashes 3,334 ms apart are survived, for the
+# fourth comes 10,002 ms after the first; the log is temporary, so it is never started again.
+
+strategy = "rest_for_one"
+intensity = 3
+period = 10
+
+[[child]]
+id = "log"
+start = "log"
+restart = "temporary"
+
+[[child]]
+id = "db"
+start = "db"
+
+[[child]]
+id = "cache"
+start = "cache"
+
+[[child]]
+id = "web"
+start = "web"
+restart = "transient"
+"##,
+    ),
+    (
+        "shop_hang.script",
+        r##"# The web server doesn't end when it is asked to: its 5 seconds go by, and it is killed.
+hang web
+at 1s crash cache
+at 3s
+at 6s
+"##,
+    ),
+    (
+        "simple_one_for_one.events",
+        r##"start
+up 1
+start
+up 2
+start
+ignore 3
+which
+terminate #1
+exit 1 shutdown
+terminate connection
+count
+exit 2 error:reset
+up 4
+start
+up 5
+stop
+exit 5 shutdown
+exit 4 shutdown
+"##,
+    ),
+    (
+        "simple_one_for_one.toml",
+        r##"# simple_one_for_one: children are added by calls, share one specification and have no id.
+# Look for: nothing starts at the opening; a start that is ignored leaves no row; a call by id is
+# refused; #2 dies and is restarted as #4; at the end all children are asked together.
+
+strategy = "simple_one_for_one"
+
+[[child]]
+id = "connection"
+start = "connection"
+restart = "transient"
+"##,
+    ),
+    (
+        "slip_key.toml",
+        r##"# A key of the third child is misspelt: restrt.
+
+[[child]]
+id = "db"
+start = "db"
+
+[[child]]
+id = "cache"
+start = "cache"
+
+[[child]]
+id = "web"
+start = "web"
+restrt = "transient"
+"##,
+    ),
+    (
+        "slip_number.toml",
+        r##"# The intensity is outside its limits, which are 0 and 1000.
+
+intensity = 1001
+
+[[child]]
+id = "db"
+start = "db"
+"##,
+    ),
+    (
+        "slip_quote.toml",
+        r##"# A quote is missing in the fourth line.
+
+[[child]]
+id = "db
+start = "db"
+"##,
+    ),
+    (
+        "slip_twice.toml",
+        r##"# Two children have the same id.
+
+[[child]]
+id = "db"
+start = "db"
+
+[[child]]
+id = "db"
+start = "cache"
+"##,
+    ),
+    (
+        "slip_word.toml",
+        r##"# No strategy has this name: one_for_al.
+
+strategy = "one_for_al"
+
+[[child]]
+id = "db"
+start = "db"
+"##,
+    ),
+    (
+        "storm.toml",
+        r##"# A database and what stands on it, under one_for_all: at most 3 restarts within 10 seconds. Any crash restarts all three,
+# and counts once.
+# `storm_survived.script` crashes the database five times, four seconds apart; `storm_given_up.script` crashes it a
+# second apart. Look for: the fourth restart within 10 seconds is one too many, and the end says so.
+
+strategy = "one_for_all"
+intensity = 3
+period = 10
+
+[[child]]
+id = "db"
+start = "db"
+
+[[child]]
+id = "cache"
+start = "cache"
+
+[[child]]
+id = "web"
+start = "web"
+"##,
+    ),
+    (
+        "storm_given_up.script",
+        r##"# Does it survive five crashes of the database, a second apart?
+at 1s crash db
++1s crash db
++1s crash db
++1s crash db
++1s crash db
+"##,
+    ),
+    (
+        "storm_not_running.script",
+        r##"# A database that was terminated has no process, so a crash finds nobody.
+terminate db
+crash db
+"##,
+    ),
+    (
+        "storm_slips.script",
+        r##"# What a supervisor answers to calls that can't be.
+restart bd
+hang db
+terminate db
+at 6s restart db
+"##,
+    ),
+    (
+        "storm_survived.script",
+        r##"# Does it survive five crashes of the database, four seconds apart?
+at 4s crash db
++4s crash db
++4s crash db
++4s crash db
++4s crash db
+"##,
+    ),
+    (
+        "three_workers.events",
+        r##"up 1
+up 2
+up 3
+stop
+exit 3 shutdown
+exit 2 shutdown
+exit 1 shutdown
+"##,
+    ),
+    (
+        "three_workers.toml",
+        r##"# Three workers under one_for_one, every other key at its default.
+# Look for: each start is answered before the next is ordered, and `stop` asks the workers in
+# reverse start order, each after the end of the one before.
+
+[[child]]
+id = "a"
+start = "a"
+
+[[child]]
+id = "b"
+start = "b"
+
+[[child]]
+id = "c"
+start = "c"
+"##,
+    ),
+];
+
+/// The words, the file of the lines of standard input or `-`, and what is written and told, with the status.
+pub(super) const TRANSCRIPTS: [(&str, &str, &str); 28] = [
+    (
+        "sim all_significant.toml",
+        "all_significant.events",
+        r##"start import #1
+start export #2
+start log #3
+ready
+start import #4
+ask log #3
+end shutdown
+status 0
+"##,
+    ),
+    (
+        "sim any_significant.toml",
+        "any_significant.events",
+        r##"start job #1
+start helper #2
+ready
+ask job #1
+reply 1 ok
+start job #3
+reply 2 ok #3
+ask helper #2
+end shutdown
+status 0
+"##,
+    ),
+    (
+        "sim calls.toml",
+        "calls.events",
+        r##"start a #1
+ready
+start b #2
+reply 1 ok #2
+reply 2 error already_started #2
+reply 3 error running
+ask b #2
+reply 4 ok
+reply 5 error already_present
+reply 6 spec b start b restart transient significant false shutdown 2000 type worker modules b
+reply 7 ok
+reply 8 error not_found
+reply 9 error bad_spec E4
+reply 10 count specs 1 active 1 supervisors 0 workers 1
+status 0
+"##,
+    ),
+    (
+        "sim deadlines.toml",
+        "deadlines.events",
+        r##"start patient #1
+start slow #2
+start hard #3
+ready
+kill hard #3
+ask slow #2
+kill slow #2
+ask patient #1
+end shutdown
+reply 1 noproc
+status 0
+"##,
+    ),
+    (
+        "sim failed_start.toml",
+        "failed_start.events",
+        r##"start a #1
+start b #2
+ask a #1
+end shutdown:failed_to_start_child/b
+status 0
+"##,
+    ),
+    (
+        "sim one_for_all.toml",
+        "one_for_all.events",
+        r##"start db #1
+start log #2
+start web #3
+ready
+ask web #3
+ask log #2
+start db #4
+start web #5
+reply 1 which db,#4,worker,db web,#5,worker,web
+ask web #5
+ask db #4
+end shutdown
+status 0
+"##,
+    ),
+    (
+        "sim one_for_one.toml",
+        "one_for_one.events",
+        r##"start cache #1
+start web #2
+start once #3
+ready
+reply 1 which cache,#1,worker,cache web,#2,worker,web once,undefined,worker,once
+start once #4
+reply 2 ok #4
+start cache #5
+reply 3 which cache,#5,worker,cache web,#2,worker,web once,#4,worker,once
+ask once #4
+ask cache #5
+end shutdown
+status 0
+"##,
+    ),
+    (
+        "sim rest_for_one.toml",
+        "rest_for_one.events",
+        r##"start db #1
+start cache #2
+start web #3
+ready
+ask web #3
+start cache #4
+start web #5
+reply 1 which db,#1,worker,db cache,#4,worker,cache web,#5,worker,web
+ask web #5
+ask cache #4
+ask db #1
+end shutdown
+status 0
+"##,
+    ),
+    (
+        "sim retries.toml",
+        "retries.events",
+        r##"start flaky #1
+start steady #2
+ready
+start flaky #3
+reply 1 which flaky,restarting,worker,flaky steady,#2,worker,steady
+start flaky #4
+start flaky #5
+ask steady #2
+end shutdown
+status 0
+"##,
+    ),
+    (
+        "sim simple_one_for_one.toml",
+        "simple_one_for_one.events",
+        r##"ready
+start - #1
+reply 1 ok #1
+start - #2
+reply 2 ok #2
+start - #3
+reply 3 ok undefined
+reply 4 which undefined,#1,worker,connection undefined,#2,worker,connection
+ask - #1
+reply 5 ok
+reply 6 error simple_one_for_one
+reply 7 count specs 1 active 1 supervisors 0 workers 1
+start - #4
+start - #5
+reply 8 ok #5
+ask - #4
+ask - #5
+end shutdown
+status 0
+"##,
+    ),
+    (
+        "sim three_workers.toml",
+        "three_workers.events",
+        r##"start a #1
+start b #2
+start c #3
+ready
+ask c #3
+ask b #2
+ask a #1
+end shutdown
+status 0
+"##,
+    ),
+    (
+        "try first.toml first.script",
+        "-",
+        r##"0.000 s  start db #1
+0.000 s  ready
+line 1: at 1s crash db
+1.000 s  start db #2
+line 2: at 2s crash db
+2.000 s  end shutdown: more than 1 restart within 5 s: at 1.000 s, 2.000 s
+2.000 s  the supervisor has ended
+status 0
+"##,
+    ),
+    (
+        "try nested.toml nested_given_up.script",
+        "-",
+        r##"0.000 s  start db #1
+0.000 s  start pool #2
+0.000 s  start pool/a #3
+0.000 s  start pool/b #4
+0.000 s  pool/ ready
+0.000 s  ready
+line 2: at 1s crash pool/a
+1.000 s  start pool/a #5
+line 3: +1s crash pool/a
+2.000 s  ask pool/b #4
+2.000 s  pool/ end shutdown: more than 1 restart within 10 s: at 1.000 s, 2.000 s
+2.000 s  start pool #6
+2.000 s  start pool/a #7
+2.000 s  start pool/b #8
+2.000 s  pool/ ready
+line 4: +1s crash pool/a
+3.000 s  start pool/a #9
+line 5: +1s crash pool/a
+4.000 s  ask pool/b #8
+4.000 s  pool/ end shutdown: more than 1 restart within 10 s: at 3.000 s, 4.000 s
+4.000 s  start pool #10
+4.000 s  start pool/a #11
+4.000 s  start pool/b #12
+4.000 s  pool/ ready
+line 6: +1s crash pool/a
+5.000 s  start pool/a #13
+line 7: +1s crash pool/a
+6.000 s  ask pool/b #12
+6.000 s  pool/ end shutdown: more than 1 restart within 10 s: at 5.000 s, 6.000 s
+6.000 s  ask db #1
+6.000 s  end shutdown: more than 2 restarts within 60 s: at 2.000 s, 4.000 s, 6.000 s
+6.000 s  the supervisor has ended
+status 0
+"##,
+    ),
+    (
+        "try nested.toml nested_restarted.script",
+        "-",
+        r##"0.000 s  start db #1
+0.000 s  start pool #2
+0.000 s  start pool/a #3
+0.000 s  start pool/b #4
+0.000 s  pool/ ready
+0.000 s  ready
+line 2: at 1s crash pool/a
+1.000 s  start pool/a #5
+line 3: +1s crash pool/b
+2.000 s  ask pool/a #5
+2.000 s  pool/ end shutdown: more than 1 restart within 10 s: at 1.000 s, 2.000 s
+2.000 s  start pool #6
+2.000 s  start pool/a #7
+2.000 s  start pool/b #8
+2.000 s  pool/ ready
+line 4: +1s crash pool/a
+3.000 s  start pool/a #9
+line 5: pool/ count
+3.000 s  pool/ reply 1 count specs 2 active 2 supervisors 0 workers 2
+line 6: count
+3.000 s  reply 2 count specs 2 active 2 supervisors 1 workers 1
+3.000 s  2 up, 1/2 restarts in 60 s
+3.000 s  pool/ 2 up, 1/1 restarts in 10 s
+status 0
+"##,
+    ),
+    (
+        "try storm.toml storm_given_up.script",
+        "-",
+        r##"0.000 s  start db #1
+0.000 s  start cache #2
+0.000 s  start web #3
+0.000 s  ready
+line 2: at 1s crash db
+1.000 s  ask web #3
+1.000 s  ask cache #2
+1.000 s  start db #4
+1.000 s  start cache #5
+1.000 s  start web #6
+line 3: +1s crash db
+2.000 s  ask web #6
+2.000 s  ask cache #5
+2.000 s  start db #7
+2.000 s  start cache #8
+2.000 s  start web #9
+line 4: +1s crash db
+3.000 s  ask web #9
+3.000 s  ask cache #8
+3.000 s  start db #10
+3.000 s  start cache #11
+3.000 s  start web #12
+line 5: +1s crash db
+4.000 s  ask web #12
+4.000 s  ask cache #11
+4.000 s  end shutdown: more than 3 restarts within 10 s: at 1.000 s, 2.000 s, 3.000 s, 4.000 s
+line 6: +1s crash db
+line 6: ignored: the supervisor has ended; the line of its end says why
+status 5
+"##,
+    ),
+    (
+        "try storm.toml storm_not_running.script",
+        "-",
+        r##"0.000 s  start db #1
+0.000 s  start cache #2
+0.000 s  start web #3
+0.000 s  ready
+line 2: terminate db
+0.000 s  ask db #1
+0.000 s  reply 1 ok
+line 3: crash db
+line 3: ignored: this child has no process now; restart ID starts it again, which lists what runs
+status 5
+"##,
+    ),
+    (
+        "try storm.toml storm_slips.script",
+        "-",
+        r##"0.000 s  start db #1
+0.000 s  start cache #2
+0.000 s  start web #3
+0.000 s  ready
+line 2: restart bd
+0.000 s  reply 1 error not_found
+line 2: there is no such child; which lists the children
+line 3: hang db
+line 4: terminate db
+0.000 s  ask db #1
+line 5: at 6s restart db
+5.000 s  kill db #1
+5.000 s  reply 2 ok
+6.000 s  start db #4
+6.000 s  reply 3 ok #4
+6.000 s  3 up, 0/3 restarts in 10 s
+status 0
+"##,
+    ),
+    (
+        "try storm.toml storm_survived.script",
+        "-",
+        r##"0.000 s  start db #1
+0.000 s  start cache #2
+0.000 s  start web #3
+0.000 s  ready
+line 2: at 4s crash db
+4.000 s  ask web #3
+4.000 s  ask cache #2
+4.000 s  start db #4
+4.000 s  start cache #5
+4.000 s  start web #6
+line 3: +4s crash db
+8.000 s  ask web #6
+8.000 s  ask cache #5
+8.000 s  start db #7
+8.000 s  start cache #8
+8.000 s  start web #9
+line 4: +4s crash db
+12.000 s  ask web #9
+12.000 s  ask cache #8
+12.000 s  start db #10
+12.000 s  start cache #11
+12.000 s  start web #12
+line 5: +4s crash db
+16.000 s  ask web #12
+16.000 s  ask cache #11
+16.000 s  start db #13
+16.000 s  start cache #14
+16.000 s  start web #15
+line 6: +4s crash db
+20.000 s  ask web #15
+20.000 s  ask cache #14
+20.000 s  start db #16
+20.000 s  start cache #17
+20.000 s  start web #18
+20.000 s  3 up, 3/3 restarts in 10 s
+status 0
+"##,
+    ),
+    (
+        "try --timeline nested.toml nested_given_up.script",
+        "-",
+        r##"#N runs as process N, +#N starts, -#N is to end; retry: its start failed
+line                       start       2       3       4       5       6       7
+seconds                    0.000   1.000   2.000   3.000   4.000   5.000   6.000
+db                            #1      #1      #1      #1      #1      #1       -
+pool                          #2      #2      #6      #6     #10     #10       -
+restarts in 60 s             0/2     0/2     1/2     1/2     2/2     2/2       -
+pool/a                        #3      #5      #7      #9     #11     #13       -
+pool/b                        #4      #4      #8      #8     #12     #12       -
+pool/restarts in 10 s        0/1     1/1     0/1     1/1     0/1     1/1       -
+6.000 s  the supervisor has ended
+status 0
+"##,
+    ),
+    (
+        "try --timeline shop.toml shop_hang.script",
+        "-",
+        r##"#N runs as process N, +#N starts, -#N is to end; retry: its start failed
+line                       start       2       3       4       5
+seconds                    0.000   0.000   1.000   3.000   6.000
+log                           #1      #1      #1      #1      #1
+db                            #2      #2      #2      #2      #2
+cache                         #3      #3    down    down      #5
+web                           #4      #4     -#4     -#4      #6
+restarts in 10 s             0/3     0/3     1/3     1/3     1/3
+6.000 s  4 up, 1/3 restarts in 10 s
+status 0
+"##,
+    ),
+    (
+        "try --timeline storm.toml storm_given_up.script",
+        "-",
+        r##"#N runs as process N, +#N starts, -#N is to end; retry: its start failed
+line                       start       2       3       4       5
+seconds                    0.000   1.000   2.000   3.000   4.000
+db                            #1      #4      #7     #10       -
+cache                         #2      #5      #8     #11       -
+web                           #3      #6      #9     #12       -
+restarts in 10 s             0/3     1/3     2/3     3/3       -
+line 6: ignored: the supervisor has ended; the line of its end says why
+status 5
+"##,
+    ),
+    (
+        "try --timeline storm.toml storm_survived.script",
+        "-",
+        r##"#N runs as process N, +#N starts, -#N is to end; retry: its start failed
+line                       start       2       3       4       5       6
+seconds                    0.000   4.000   8.000  12.000  16.000  20.000
+db                            #1      #4      #7     #10     #13     #16
+cache                         #2      #5      #8     #11     #14     #17
+web                           #3      #6      #9     #12     #15     #18
+restarts in 10 s             0/3     1/3     2/3     3/3     3/3     3/3
+20.000 s  3 up, 3/3 restarts in 10 s
+status 0
+"##,
+    ),
+    (
+        "limits first.toml",
+        "-",
+        r##"child                             burst      interval  stops  starts  gives up
+db                                    1       5001 ms      0       1  supervisor
+a crash of db
+  stops  nothing
+  starts db
+status 0
+"##,
+    ),
+    (
+        "limits shop.toml",
+        "-",
+        r##"child                             burst      interval  stops  starts  gives up
+db                                    3       3334 ms      2       3  supervisor
+cache                                 3       3334 ms      1       2  supervisor
+web                                   3       3334 ms      0       1  supervisor
+log                                 any           any      0       0  nobody
+a crash of db
+  stops  web cache
+  starts db cache web
+a crash of cache
+  stops  web
+  starts cache web
+a crash of web
+  stops  nothing
+  starts web
+a crash of log
+  stops  nothing
+  starts nothing
+status 0
+"##,
+    ),
+    (
+        "limits storm.toml",
+        "-",
+        r##"child                             burst      interval  stops  starts  gives up
+db                                    3       3334 ms      2       3  supervisor
+cache                                 3       3334 ms      2       3  supervisor
+web                                   3       3334 ms      2       3  supervisor
+a crash of db
+  stops  web cache
+  starts db cache web
+a crash of cache
+  stops  web db
+  starts db cache web
+a crash of web
+  stops  cache db
+  starts db cache web
+status 0
+"##,
+    ),
+    (
+        "storm.toml",
+        "-",
+        r##"error: a file in the place of a command: say otp try FILE, or otp --help
+status 2
+"##,
+    ),
+    (
+        "check storm.toml strom.toml",
+        "-",
+        r##"storm.toml: a lawful tree
+error: strom.toml can't be read: there is no such file
+status 1
+"##,
+    ),
+    (
+        "check slip_key.toml slip_word.toml slip_number.toml slip_twice.toml slip_quote.toml storm.toml",
+        "-",
+        r##"slip_key.toml: E11: child 3 (web): unknown key restrt; allowed: id start restart significant shutdown type modules tree; did you mean restart?
+slip_word.toml: E13: supervisor, strategy: read "one_for_al"; allowed: "one_for_one", "one_for_all", "rest_for_one", "simple_one_for_one"; did you mean one_for_all?
+slip_number.toml: E1: supervisor, intensity: read 1001; allowed: 0 to 1000
+slip_twice.toml: E3: child 2 (db): an earlier child has this id; each id stands once
+slip_quote.toml: E10: TOML parse error at line 4, column 9: invalid string
+storm.toml: a lawful tree
+status 1
+"##,
+    ),
+];

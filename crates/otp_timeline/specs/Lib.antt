@@ -1,0 +1,3 @@
+pub mod Seconds
+pub mod Moments
+pub mod Picture

@@ -1,0 +1,163 @@
+//! A run as a picture.
+
+ghost use Rattle.std.specs.Prelude.{◌≡◌, ◌++◌, ◌∷◌, [], IfOk, OnOk, length};
+ghost use Rattle.otp_try.specs.Sketched.{moment_of, picture, standing_in, standings_in, supervisors_text};
+
+use crate::seat::Seat;
+use otp_timeline::{
+    LEGEND, Look, MOMENTS, Moment, Standing, Standings, no_standing, standing_of, write_heads,
+    write_supervisor,
+};
+use std::alloc::{AllocError, Global};
+
+/// What of a run is written.
+#[derive(Clone, Copy, Debug, PartialEq, Eq)]
+pub enum Shows {
+    /// A line for each order.
+    Orders,
+    /// A picture, with a column for each line of the script.
+    Timeline {
+        /// With the escape sequences of a terminal.
+        is_coloured: bool,
+    },
+}
+
+/// How a supervisor stands at this time, which has a process or not.
+#[tactic(auto, unfolding(crate::specs::Sketched::standing_in))]
+fn standing_in(
+    alloc: Global,
+    time: u64,
+    seat: &Seat,
+    is_running: bool,
+) -> Result<Standing, AllocError>
+    ensures { IfOk result (λ standing. standing ≡ standing_in time seat.now is_running) }
+{
+    if !is_running {
+        return Ok(no_standing(alloc));
+    }
+    let period = seat.flags().period;
+    standing_of(
+        alloc,
+        seat.rows(),
+        seat.kept_restarts(),
+        period,
+        seat.has_ended(),
+        time,
+    )
+}
+
+/// How these supervisors stand at this time, of which each has a process or not.
+fn standings_in(
+    alloc: Global,
+    time: u64,
+    seats: &[Seat],
+    running: &[bool],
+) -> Result<Vec<Standing>, AllocError>
+    requires { length running.now ≡ length seats.now }
+    ensures { IfOk result (λ standings. standings.items ≡ standings_in time seats.now running.now) }
+{
+    let mut standings = Vec::new(alloc);
+    for place in 0..seats.len() {
+        let standing = standing_in(alloc, time, &seats[place], running[place])?;
+        standings.push(standing).map_err(|_| AllocError)?;
+    }
+    Ok(standings)
+}
+
+/// How these supervisors stand at this time, once this line of the script was played.
+pub(crate) fn moment_of(
+    alloc: Global,
+    line: u64,
+    time: u64,
+    seats: &[Seat],
+    running: &[bool],
+) -> Result<Moment, AllocError>
+    requires { length running.now ≡ length seats.now }
+    ensures { IfOk result (λ moment. moment ≡ moment_of line time seats.now running.now) }
+{
+    let standings = standings_in(alloc, time, seats, running)?;
+    Ok(Moment {
+        line,
+        time,
+        standings: Standings::new(standings),
+    })
+}
+
+/// The moments of a run that are not drawn yet.
+#[derive(Drop)]
+pub(crate) struct Sketch {
+    alloc: Global,
+    is_coloured: bool,
+    moments: Vec<Moment>,
+}
+
+impl Sketch {
+    /// Nothing has happened yet.
+    pub fn new(alloc: Global, is_coloured: bool) -> Self
+        ensures { result.moments.items ≡ [] }
+    {
+        Sketch {
+            alloc,
+            is_coloured,
+            moments: Vec::new(alloc),
+        }
+    }
+
+    /// Appends what the picture means.
+    pub fn write_legend(&self, out: &mut Vec<u8>) -> Result<(), AllocError> {
+        out.extend_from_slice(LEGEND)
+    }
+
+    /// Puts a moment behind the others.
+    pub fn add(&mut self, moment: Moment) -> Result<(), AllocError>
+        ensures { OnOk result (self.new.moments.items ≡ self.old.moments.items ++ moment ∷ []) }
+    {
+        self.moments.push(moment).map_err(|_| AllocError)
+    }
+
+    /// Whether there are as many moments as stand side by side.
+    pub fn is_full(&self) -> bool {
+        self.moments.len() >= MOMENTS
+    }
+
+    /// Appends the lines of these supervisors.
+    fn write_supervisors(&self, seats: &[Seat], out: &mut Vec<u8>) -> Result<(), AllocError>
+        ensures { OnOk result (out.new.items ≡ out.old.items ++ supervisors_text self.now.is_coloured self.now.moments.items 0 seats.now) }
+    {
+        for place in 0..seats.len() {
+            let seat = &seats[place];
+            let look = Look {
+                place,
+                is_coloured: self.is_coloured,
+            };
+            write_supervisor(
+                self.alloc,
+                look,
+                seat.path(),
+                &seat.flags(),
+                self.moments.as_slice(),
+                out,
+            )?;
+        }
+        Ok(())
+    }
+
+    /// Appends the picture of these supervisors at the moments that are not drawn yet.
+    #[tactic(auto, unfolding(crate::specs::Sketched::picture))]
+    fn write(&self, seats: &[Seat], out: &mut Vec<u8>) -> Result<(), AllocError>
+        ensures { OnOk result (out.new.items ≡ out.old.items ++ picture self.now.is_coloured seats.now self.now.moments.items) }
+    {
+        write_heads(self.alloc, self.moments.as_slice(), out)?;
+        self.write_supervisors(seats, out)
+    }
+
+    /// Draws the moments that are not drawn yet, if there are some.
+    pub fn draw(&mut self, seats: &[Seat], out: &mut Vec<u8>) -> Result<(), AllocError> {
+        if self.moments.is_empty() {
+            return Ok(());
+        }
+        self.write(seats, out)?;
+        self.moments.clear();
+        Ok(())
+    }
+}
