@@ -8,6 +8,7 @@ pub mod opening;
 pub mod supervisor;
 
 pub use opening::OpenFault;
+pub use otp_lists::history::History;
 pub use otp_machine::{Counter, Given, Numbers};
 pub use otp_rules::laws;
 pub use otp_spec::MAX_EVENTS;

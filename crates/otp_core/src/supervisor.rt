@@ -19,6 +19,7 @@ ghost use Rattle.otp_rules.specs.Ends.{last_stamps};
 use crate::opening::{OpenFault, copy_specs};
 use otp_lists::answers::Answers;
 use otp_lists::effects::{count_orders, move_orders};
+use otp_lists::history::History;
 use otp_lists::next::{has_late, next_deadline};
 use otp_lists::state::is_over;
 use otp_machine::{Given, Machine, Numbers};
@@ -61,7 +62,7 @@ pub struct Spare {
 #[derive(Drop)]
 pub struct Core {
     machine: Machine,
-    history: Vec<Event>,
+    history: History,
     /// The last process number that an event gave.
     last_number: u64,
     prepared: bool,
@@ -127,7 +128,7 @@ impl Core {
         };
         Core {
             machine,
-            history: Vec::new(alloc),
+            history: History::new(alloc),
             last_number: 0,
             prepared: false,
         }
@@ -155,8 +156,8 @@ impl Core {
     }
 
     /// All events, in order. They have numbers exactly where they started a child, and these rise.
-    pub fn history(&self) -> &[Event]
-        ensures value { result.now ≡ self.now.history }
+    pub fn history(&self) -> &History
+        ensures value { result.now.events ≡ self.now.history }
         ensures lawful { IsLawfulHistory self.now.base self.now.history }
     {
         &self.history
@@ -332,7 +333,7 @@ impl Core {
         ensures answers { IsTrue self.now.prepared → 1 < result.answers }
     {
         Spare {
-            events: self.history.capacity() - self.history.len(),
+            events: self.history.spare(),
             orders: self.machine.orders.capacity() - self.machine.orders.len(),
             answers: self.machine.replies.spare(),
         }
@@ -379,11 +380,7 @@ impl Core {
         laws::orders_are_appended();
         let number = self.machine.step(reading, &kind, numbers);
         self.last_number = number.unwrap_or(self.last_number);
-        self.history.push_reserved(Event {
-            reading,
-            number,
-            kind,
-        });
+        self.history.push(reading, number, &kind);
         self.prepared = false;
         number
     }

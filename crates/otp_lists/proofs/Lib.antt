@@ -1,4 +1,5 @@
 pub mod Halves
+pub mod Histories
 pub mod Steps
 pub mod Replies
 pub mod Rising

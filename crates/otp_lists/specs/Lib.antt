@@ -1,2 +1,4 @@
 pub mod Kept
 pub mod AnswersInside
+pub mod Events
+pub mod HistoryInside

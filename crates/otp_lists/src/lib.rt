@@ -6,6 +6,7 @@ pub mod answers;
 pub mod counts;
 pub mod effects;
 pub mod ends;
+pub mod history;
 pub mod next;
 pub mod places;
 pub mod restarts;

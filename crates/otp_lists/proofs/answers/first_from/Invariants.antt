@@ -1,4 +1,4 @@
-use Rattle.std.proofs.Common.{◌≡◌, ℕ, ◌-◌, ◌<◌, ◌≤◌, length, get_or}
+use Rattle.std.proofs.Common.{ℕ, ◌-◌, ◌<◌, ◌≤◌, length, get_or}
 use Rattle.otp_lists.specs.declared.answers.Answer.{Answer}
 use Rattle.otp_lists.proofs.answers.first_from.Given as goal
 

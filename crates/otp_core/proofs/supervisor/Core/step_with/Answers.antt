@@ -29,20 +29,20 @@ invariant_of-self g c =
     let base : State = empty_state before.state.flags before.state.specs in
     let same_base : base ≡ empty_state after.state.flags after.state.specs =
     ap (λ (f : SupFlags). empty_state f before.state.specs) (sym flags) ∙ ap (λ (xs : List ChildSpec). empty_state after.state.flags xs) (sym specs) in
-    let Lawful : State → Type 0 = λ s. IsLawfulHistory s c.push_reserved.new.self.items in
+    let Lawful : State → Type 0 = λ s. IsLawfulHistory s c.push.new.self.events in
     let Needs : State → Type 0 = λ s. is_some event.number ≡ needs_number s event.reading event.kind in
-    let numbers : (n : ℕ) → event.number ≡ Some n → All (λ m. m < n) (numbers_of c.self.inside.history.items) =
+    let numbers : (n : ℕ) → event.number ≡ Some n → All (λ m. m < n) (numbers_of c.self.inside.history.events) =
     λ n is. subst (λ (v : View). All (λ m. m < n) (numbers_of v.history)) (sym c.self.view_is) (c.requires.rises n c.step-number.new.numbers (drawn_is _ _ event.number c.step-number.ensures.drawn n is)) in
-    let lawful_after : IsLawfulHistory (empty_state after.state.flags after.state.specs) c.push_reserved.new.self.items =
-    subst Lawful same_base (lawful_on base c.self.inside.history.items c.push_reserved.new.self.items event c.push_reserved.ensures.items
+    let lawful_after : IsLawfulHistory (empty_state after.state.flags after.state.specs) c.push.new.self.events =
+    subst Lawful same_base (lawful_on base c.self.inside.history.events c.push.new.self.events event c.push.ensures.events
     c.self.invariant.lawful (subst Needs c.self.invariant.runs c.step-number.ensures.starts) numbers) in
-    let Reached : ℕ → Type 0 = λ p. All (λ m. m ≤ p) (numbers_of c.push_reserved.new.self.items) in
+    let Reached : ℕ → Type 0 = λ p. All (λ m. m ≤ p) (numbers_of c.push.new.self.events) in
     let IsStamped : State → Type 0 = λ s. All (λ t. t ≤ s.last) s.stamps in
     record {
-      runs = runs_on before.state after.state c.self.inside.history.items c.push_reserved.new.self.items event moved c.push_reserved.ensures.items flags specs c.self.invariant.runs;
+      runs = runs_on before.state after.state c.self.inside.history.events c.push.new.self.events event moved c.push.ensures.events flags specs c.self.invariant.runs;
       lawful = lawful_after;
-      last = c.unwrap_or-self-inside.ensures ∙ last_on c.self.inside.last_number c.self.inside.history.items c.push_reserved.new.self.items event c.push_reserved.ensures.items c.self.invariant.last;
-      numbers = subst Reached (sym c.unwrap_or-self-inside.ensures) (reached_on c.self.inside.last_number c.self.inside.history.items c.push_reserved.new.self.items event c.push_reserved.ensures.items c.self.invariant.numbers numbers);
+      last = c.unwrap_or-self-inside.ensures ∙ last_on c.self.inside.last_number c.self.inside.history.events c.push.new.self.events event c.push.ensures.events c.self.invariant.last;
+      numbers = subst Reached (sym c.unwrap_or-self-inside.ensures) (reached_on c.self.inside.last_number c.self.inside.history.events c.push.new.self.events event c.push.ensures.events c.self.invariant.numbers numbers);
       sound = record {
         limit = omega (arith, count, c.self.invariant.sound.limit);
         ordered = subst IsStamped (sym moved) (c.step_keeps_stamped.ensures before.state event c.self.invariant.sound.ordered);
