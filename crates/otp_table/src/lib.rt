@@ -3,6 +3,7 @@
 
 pub mod row;
 pub mod rows;
+mod marks;
 mod search;
 
 pub use otp_spec::MAX_CHILDREN;
