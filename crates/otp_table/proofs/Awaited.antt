@@ -1,13 +1,10 @@
 -- The count of awaited rows.
-use Rattle.std.proofs.Common.{◌≡◌, ◌≤◌, ◌+◌, ◌++◌, ℕ, Bool, List, [], ◌∷◌, ◌∙◌, ap, sym, arith, refl, cond, drop, take, slice_range}
+use Rattle.std.proofs.Common.{◌≡◌, ◌+◌, ℕ, List, [], ◌∷◌, ◌∙◌, ap, arith, refl, cond}
 use Rattle.std.specs.Prelude.{true, false, ◌||◌, count_by, nat_lt}
-use Rattle.std.specs.List.{list_any, sum_by}
-use Rattle.std.proofs.lemmas.List.Folds.{drop_split}
-use Rattle.std.proofs.lemmas.List.Sums.{sum_by-append, sum_by-cons, sum_by-take-drop}
+use Rattle.std.specs.List.{list_any}
+use Rattle.std.proofs.lemmas.List.Sums.{sum_by-cons}
 use Rattle.otp_table.specs.declared.row.Row.{Row}
-use Rattle.otp_table.specs.declared.row.RowState.{RowState}
-use Rattle.otp_table.specs.declared.row.RowState.TheVariants.{Undefined, Starting, Up, Asked, Killed, Restarting}
-use Rattle.otp_table.specs.Rows.{calm_rows, calmed, is_awaited, row_has, with_state}
+use Rattle.otp_table.specs.Rows.{is_awaited, row_has}
 
 abbrev one : Row → ℕ
 one row = cond (is_awaited row.state) 1 0

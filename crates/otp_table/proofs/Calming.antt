@@ -1,6 +1,6 @@
 -- Rows whose waiting retries are given up, one at a time.
-use Rattle.std.proofs.Common.{◌≡◌, ℕ, ◌+◌, ◌-◌, ◌<◌, ◌≤◌, List, [], ◌∷◌, ◌++◌, ◌∙◌, ap, arith, append-nil, append_assoc, drop, drop-set-lt, get_or, length, length-drop, map, refl, set, slice_range, suc, sym, take, take-append-drop}
-use Rattle.std.specs.Prelude.{slice_get, slice_set, Some}
+use Rattle.std.proofs.Common.{◌≡◌, ℕ, ◌+◌, ◌-◌, ◌<◌, List, [], ◌∷◌, ◌++◌, ◌∙◌, ap, arith, append-nil, append_assoc, drop, drop-set-lt, get_or, length, refl, set, slice_range, suc, sym, take, take-append-drop}
+use Rattle.std.specs.Prelude.{slice_get, Some}
 use Rattle.std.proofs.lemmas.List.{drop_more, take_more_set}
 use Rattle.std.proofs.lemmas.Option.{get_or_from_slice_get, slice_get_within}
 use Rattle.otp_table.specs.declared.row.Row.{Row}

@@ -1,6 +1,6 @@
 -- Marks that tell of each row, from one change to the next.
-use Rattle.std.proofs.Common.{◌≡◌, ℕ, ◌+◌, ◌-◌, ◌<◌, ◌≤◌, ◌==◌, ◌⊎◌, List, [], ◌∷◌, ◌++◌, ◌∙◌, sym, Option, None, Some, ap, arith, drop, take, get_or, length, refl, subst, suc, zero, inl, inr, set}
-use Rattle.std.specs.Prelude.{Bool, true, false, MatchOption, cond, map, nat_lt, position, if◌then◌else◌, slice_set, unwrap_or, ⊤}
+use Rattle.std.proofs.Common.{◌≡◌, ℕ, ◌-◌, ◌<◌, ◌≤◌, ◌==◌, ◌⊎◌, List, [], ◌∷◌, ◌++◌, ◌∙◌, sym, Option, None, Some, ap, arith, get_or, length, refl, subst, suc, zero, inl, inr, set}
+use Rattle.std.specs.Prelude.{Bool, true, false, MatchOption, cond, map, nat_lt, position, if◌then◌else◌, unwrap_or, ⊤}
 use Rattle.std.specs.List.{position_or_len, remove}
 use Rattle.std.proofs.lemmas.Bool.{both_ways, cases_lt, eq-eqb, eqb-true, false_from_ne_true, lt-ltb, le-ltb, ne_eqb}
 use Rattle.std.proofs.lemmas.List.Sums.{position_or_len_is}
@@ -38,26 +38,28 @@ unchanged place o ms f g are old new same n p =
     ((λ u. alike ∙ (are n p).0 u), λ e. (are n p).1 (sym alike ∙ e))
 
 pub put_changed : (place number : ℕ) (ms after : List Mark) → IsPut number place ms after → IsChanged place None (Some number) ms after
-put_changed place number ms after put f g are old new same n p =
-    ((λ u. elim ((put n p).0 u) [
-      | inl here ↦ ap g (sym here.1) ∙ new ∙ ap (λ (k : ℕ). Some k) here.0
-      | inr there ↦ let has : f p ≡ Some n = (are n p).0 there in
+put_changed place number ms after put f g are old new same n p = (
+  (λ u. elim ((put n p).0 u) [
+    | inl here ↦ ap g (sym here.1) ∙ new ∙ ap (λ (k : ℕ). Some k) here.0
+    | inr there ↦ let has : f p ≡ Some n = (are n p).0 there in
         same p (λ e. none_some n (sym old ∙ sym (ap f e) ∙ has)) ∙ has
-    ]),
-    λ e. elim (same_or p place) [
-      | inl is ↦ (put n p).1 (inl (some_is number n (sym new ∙ sym (ap g is) ∙ e), sym is))
-      | inr other ↦ (put n p).1 (inr ((are n p).1 (sym (same p other) ∙ e)))
-    ])
+  ]),
+  λ e. elim (same_or p place) [
+    | inl is ↦ (put n p).1 (inl (some_is number n (sym new ∙ sym (ap g is) ∙ e), sym is))
+    | inr other ↦ (put n p).1 (inr ((are n p).1 (sym (same p other) ∙ e)))
+  ],
+)
 
 pub take_changed : (place number : ℕ) (ms after : List Mark) → Rises ms → IsTaken number ms after → IsChanged place (Some number) None ms after
 take_changed place number ms after rise taken f g are old new same n p =
-    let d : Mark = record { number = 0; place = 0 } in
-    ((λ u. let there : IsUnder n p ms × (n ≡ number → ⊥) = (taken n p).0 u in
-      let has : f p ≡ Some n = (are n p).0 there.0 in
-      same p (λ e. there.1 (some_is n number (sym has ∙ ap f e ∙ old))) ∙ has),
-    λ e. let other : p ≡ place → ⊥ = λ is. none_some n (sym new ∙ sym (ap g is) ∙ e) in
-      let has : IsUnder n p ms = (are n p).1 (sym (same p other) ∙ e) in
-      (taken n p).1 has (λ is. other (same_place n p place ms d rise has (subst (λ k. IsUnder k place ms) (sym is) ((are number place).1 old)))))
+    let d : Mark = record { number = 0; place = 0 } in (
+      (λ u. let there : IsUnder n p ms × (n ≡ number → ⊥) = (taken n p).0 u in
+          let has : f p ≡ Some n = (are n p).0 there.0 in
+          same p (λ e. there.1 (some_is n number (sym has ∙ ap f e ∙ old))) ∙ has),
+      λ e. let other : p ≡ place → ⊥ = λ is. none_some n (sym new ∙ sym (ap g is) ∙ e) in
+          let has : IsUnder n p ms = (are n p).1 (sym (same p other) ∙ e) in
+          (taken n p).1 has (λ is. other (same_place n p place ms d rise has (subst (λ k. IsUnder k place ms) (sym is) ((are number place).1 old)))),
+    )
 
 -- the numbers without that of one place
 abbrev without : ℕ → (ℕ → Option ℕ) → ℕ → Option ℕ
@@ -84,25 +86,26 @@ shifted_below place p le = ap (λ (b : Bool). if b then p - 1 else p) (le-ltb pl
 
 -- a row that has no number is taken out
 gap : (place : ℕ) (ms : List Mark) → IsGone place None ms (map (moved place) ms)
-gap place ms f g are none below above n q =
-    ((λ u. let from : (p : ℕ) × (IsUnder n p ms × (shifted place p ≡ q)) = under_moved place n q ms u in
+gap place ms f g are none below above n q = (
+  (λ u. let from : (p : ℕ) × (IsUnder n p ms × (shifted place p ≡ q)) = under_moved place n q ms u in
       let p : ℕ = from.0 in
       let has : f p ≡ Some n = (are n p).0 from.1.0 in
       elim (cases_lt p place) [
         | inl lt ↦ let is : q ≡ p = sym from.1.1 ∙ shifted_below place p (omega (arith, lt)) in
-          ap g is ∙ below p lt ∙ has
+            ap g is ∙ below p lt ∙ has
         | inr ge ↦ elim (cases_lt place p) [
           | inl gt ↦ let is : suc q ≡ p = omega (arith, gt, from.1.1, shifted_above place p gt) in
-            above q (omega (arith, is, gt)) ∙ ap f is ∙ has
+              above q (omega (arith, is, gt)) ∙ ap f is ∙ has
           | inr le ↦ let at : p ≡ place = omega (arith, ge, le) in
-            absurd (none_some n (sym none ∙ sym (ap f at) ∙ has))
+              absurd (none_some n (sym none ∙ sym (ap f at) ∙ has))
         ]
       ]),
-    λ e. elim (cases_lt q place) [
-      | inl lt ↦ subst (λ k. IsUnder n k (map (moved place) ms)) (shifted_below place q (omega (arith, lt))) (moved_under place n q ms ((are n q).1 (sym (below q lt) ∙ e)))
-      | inr ge ↦ let is : shifted place (suc q) ≡ q = shifted_above place (suc q) (omega (arith, ge)) ∙ omega arith in
+  λ e. elim (cases_lt q place) [
+    | inl lt ↦ subst (λ k. IsUnder n k (map (moved place) ms)) (shifted_below place q (omega (arith, lt))) (moved_under place n q ms ((are n q).1 (sym (below q lt) ∙ e)))
+    | inr ge ↦ let is : shifted place (suc q) ≡ q = shifted_above place (suc q) (omega (arith, ge)) ∙ omega arith in
         subst (λ k. IsUnder n k (map (moved place) ms)) is (moved_under place n (suc q) ms ((are n (suc q)).1 (sym (above q ge) ∙ e)))
-    ])
+  ],
+)
 
 pub gone_on : (place : ℕ) (old : Option ℕ) (ms middle : List Mark) → IsChanged place old None ms middle → IsGone place old ms (map (moved place) middle)
 gone_on place old ms middle first f g are was below above =
@@ -177,7 +180,7 @@ first_at test n p rows ms d rise are tells under passes =
     let mark : Mark = record { number = 0; place = 0 } in
     let first : position_or_len (row_has test) rows ≡ p = position_or_len_is (row_has test) rows p d (omega (arith, within))
     (λ k lt. false_from_ne_true _ (λ e. let has : number_at rows k ≡ Some n = number_get rows k d (omega (arith, lt, within)) ∙ tells (get_or rows k d).state e in
-      let same : k ≡ p = same_place n k p ms mark rise ((are n k).1 has) under in omega (arith, same, lt)))
+    let same : k ≡ p = same_place n k p ms mark rise ((are n k).1 has) under in omega (arith, same, lt)))
     (λ _. passes) in
     ap (λ (i : ℕ). cond (nat_lt i (length rows)) (Some i) None) first ∙ ap (λ (b : Bool). cond b (Some p) None) (lt-ltb p (length rows) within)
 

@@ -1,9 +1,9 @@
 -- Marks whose numbers rise.
-use Rattle.std.proofs.Common.{◌≡◌, ℕ, ◌+◌, ◌-◌, ◌<◌, ◌≤◌, ◌⊎◌, List, [], ◌∷◌, ◌++◌, ◌∙◌, sym, Option, None, Some, ap, arith, drop, take, get_or, length, length-drop, length-take, refl, subst, suc, zero, inl, inr, take-append-drop}
-use Rattle.std.specs.Prelude.{map, Bool, true, false, All, AllPairs, if◌then◌else◌, nat_lt}
+use Rattle.std.proofs.Common.{◌≡◌, ℕ, ◌+◌, ◌-◌, ◌<◌, ◌≤◌, ◌⊎◌, List, [], ◌∷◌, ◌++◌, ◌∙◌, sym, ap, arith, drop, take, get_or, length, length-drop, length-take, refl, subst, suc, zero, inl, inr, take-append-drop}
+use Rattle.std.specs.Prelude.{map, All, if◌then◌else◌, nat_lt}
 use Rattle.std.proofs.lemmas.Bool.{cases_lt}
 use Rattle.std.proofs.lemmas.List.{get_or_default, get_or-drop, get_or-map, get_or-take, drop_more, length-map, take_at}
-use Rattle.std.proofs.lemmas.List.Elements.{All-append, All-cons, All-from_get_or}
+use Rattle.std.proofs.lemmas.List.Elements.{All-append, All-cons}
 use Rattle.std.proofs.lemmas.List.Kept.{AllPairs-cons}
 use Rattle.std.proofs.lemmas.List.Quantifiers.{all_pairs_remove}
 use Rattle.otp_table.specs.declared.marks.Mark.{Mark}
@@ -97,9 +97,9 @@ none_under number first ms d rise less more other p under =
     elim (cases_lt i.0 first) [
       | inl lt ↦ let below : (get_or ms i.0 d).number < number = less i.0 d lt in omega (arith, below, has)
       | inr ge ↦ let within : first < length ms = omega (arith, ge, i.1.0) in
-        let up : (get_or ms first d).number ≤ (get_or ms i.0 d).number = upto ms rise first i.0 d ge i.1.0 in
-        let low : number ≤ (get_or ms first d).number = more first d (omega arith) within in
-        other within (omega (arith, up, low, has))
+          let up : (get_or ms first d).number ≤ (get_or ms i.0 d).number = upto ms rise first i.0 d ge i.1.0 in
+          let low : number ≤ (get_or ms first d).number = more first d (omega arith) within in
+          other within (omega (arith, up, low, has))
     ]
 
 pairs_tail : (x : Mark) (xs : List Mark) → Rises (x ∷ xs) → Rises xs
@@ -136,7 +136,7 @@ free_above number first ms free more k d w =
     elim (cases_lt number (get_or ms (first + k) d).number) [
       | inl lt ↦ omega (arith, lt, there)
       | inr ge ↦ let same : (get_or ms (first + k) d).number ≡ number = omega (arith, ge, low) in
-        absurd (free (get_or ms (first + k) d).place (subst (λ n. IsUnder n (get_or ms (first + k) d).place ms) same (under_at ms (first + k) d within)))
+          absurd (free (get_or ms (first + k) d).place (subst (λ n. IsUnder n (get_or ms (first + k) d).place ms) same (under_at ms (first + k) d within)))
     ]
 
 all_below : (number first : ℕ) (ms : List Mark) → ((k : ℕ) (d : Mark) → k < first → (get_or ms k d).number < number) → All (λ x. x.number < number) (take first ms)
@@ -155,18 +155,19 @@ put_rises number place first ms rise free less more =
 pub put_is : (number place first : ℕ) (ms : List Mark) → IsPut number place ms (take first ms ++ record { number = number; place = place } ∷ drop first ms)
 put_is number place first ms n p =
     let m : Mark = record { number = number; place = place } in
-    let parts : take first ms ++ drop first ms ≡ ms = take-append-drop first ms in
-    ((λ h. elim (under_cases n p (take first ms) (m ∷ drop first ms) h) [
-      | inl a ↦ inr (subst (IsUnder n p) parts (under_left n p (take first ms) (drop first ms) a))
-      | inr b ↦ elim b [ inl here ↦ inl here | inr there ↦ inr (subst (IsUnder n p) parts (under_right n p (take first ms) (drop first ms) there)) ]
-    ]),
-    λ h. elim h [
-      | inl here ↦ under_right n p (take first ms) (m ∷ drop first ms) (inl here)
-      | inr u ↦ elim (under_cases n p (take first ms) (drop first ms) (subst (IsUnder n p) (sym parts) u)) [
-        | inl a ↦ under_left n p (take first ms) (m ∷ drop first ms) a
-        | inr b ↦ under_right n p (take first ms) (m ∷ drop first ms) (inr b)
-      ]
-    ])
+    let parts : take first ms ++ drop first ms ≡ ms = take-append-drop first ms in (
+      (λ h. elim (under_cases n p (take first ms) (m ∷ drop first ms) h) [
+        | inl a ↦ inr (subst (IsUnder n p) parts (under_left n p (take first ms) (drop first ms) a))
+        | inr b ↦ elim b [ inl here ↦ inl here | inr there ↦ inr (subst (IsUnder n p) parts (under_right n p (take first ms) (drop first ms) there)) ]
+      ]),
+      λ h. elim h [
+        | inl here ↦ under_right n p (take first ms) (m ∷ drop first ms) (inl here)
+        | inr u ↦ elim (under_cases n p (take first ms) (drop first ms) (subst (IsUnder n p) (sym parts) u)) [
+          | inl a ↦ under_left n p (take first ms) (m ∷ drop first ms) a
+          | inr b ↦ under_right n p (take first ms) (m ∷ drop first ms) (inr b)
+        ]
+      ],
+    )
 
 apart : (number first : ℕ) (ms : List Mark) (d : Mark) → Rises ms → first < length ms → (get_or ms first d).number ≡ number → (n p i : ℕ) → IsAt n p ms i → (i ≡ first → ⊥) → n ≡ number → ⊥
 apart number first ms d rise within has n p i at other same = other (once ms rise i first d at.0 within ((at.1 d).0 ∙ same ∙ sym has))
@@ -176,25 +177,30 @@ pub taken_is : (number first : ℕ) (ms : List Mark) (d : Mark) → Rises ms →
 taken_is number first ms d rise within has n p =
     let next : suc first ≡ first + 1 = omega arith in
     let rest : drop first ms ≡ get_or ms first d ∷ drop (suc first) ms = drop_more ms first d within ∙ ap (λ (k : ℕ). get_or ms first d ∷ drop k ms) (sym next) in
-    let parts : take first ms ++ drop first ms ≡ ms = take-append-drop first ms in
-    ((λ h. elim (under_cases n p (take first ms) (drop (suc first) ms) h) [
-      | inl a ↦ (subst (IsUnder n p) parts (under_left n p (take first ms) (drop first ms) a),
-        let at : (i : ℕ) × IsAt n p (take first ms) i = index_of n p (take first ms) a in
-        let early : at.0 < first = omega (arith, length-take first ms, at.1.0) in
-        apart number first ms d rise within has n p at.0
-        ((omega (arith, early, within), λ e. rw (← get_or-take first ms at.0 e early) (at.1.1 e))) (λ same. omega (arith, same, early)))
-      | inr b ↦ (subst (IsUnder n p) parts (under_right n p (take first ms) (drop first ms) (subst (IsUnder n p) (sym rest) (inr b))),
-        let at : (i : ℕ) × IsAt n p (drop (suc first) ms) i = index_of n p (drop (suc first) ms) b in
-        apart number first ms d rise within has n p (suc first + at.0)
-        ((omega (arith, length-drop (suc first) ms, at.1.0), λ e. rw (← get_or-drop (suc first) ms at.0 e) (at.1.1 e))) (λ same. omega (arith, same)))
-    ]),
-    λ u other. elim (under_cases n p (take first ms) (drop first ms) (subst (IsUnder n p) (sym parts) u)) [
-      | inl a ↦ under_left n p (take first ms) (drop (suc first) ms) a
-      | inr b ↦ elim (subst (IsUnder n p) rest b) [
-        | inl here ↦ absurd (other (sym here.0 ∙ has))
-        | inr there ↦ under_right n p (take first ms) (drop (suc first) ms) there
-      ]
-    ])
+    let parts : take first ms ++ drop first ms ≡ ms = take-append-drop first ms in (
+      (λ h. elim (under_cases n p (take first ms) (drop (suc first) ms) h) [
+        | inl a ↦ (
+          subst (IsUnder n p) parts (under_left n p (take first ms) (drop first ms) a),
+          let at : (i : ℕ) × IsAt n p (take first ms) i = index_of n p (take first ms) a in
+              let early : at.0 < first = omega (arith, length-take first ms, at.1.0) in
+              apart number first ms d rise within has n p at.0
+              ((omega (arith, early, within), λ e. rw (← get_or-take first ms at.0 e early) (at.1.1 e))) (λ same. omega (arith, same, early)),
+        )
+        | inr b ↦ (
+          subst (IsUnder n p) parts (under_right n p (take first ms) (drop first ms) (subst (IsUnder n p) (sym rest) (inr b))),
+          let at : (i : ℕ) × IsAt n p (drop (suc first) ms) i = index_of n p (drop (suc first) ms) b in
+              apart number first ms d rise within has n p (suc first + at.0)
+              ((omega (arith, length-drop (suc first) ms, at.1.0), λ e. rw (← get_or-drop (suc first) ms at.0 e) (at.1.1 e))) (λ same. omega (arith, same)),
+        )
+      ]),
+      λ u other. elim (under_cases n p (take first ms) (drop first ms) (subst (IsUnder n p) (sym parts) u)) [
+        | inl a ↦ under_left n p (take first ms) (drop (suc first) ms) a
+        | inr b ↦ elim (subst (IsUnder n p) rest b) [
+          | inl here ↦ absurd (other (sym here.0 ∙ has))
+          | inr there ↦ under_right n p (take first ms) (drop (suc first) ms) there
+        ]
+      ],
+    )
 
 pub taken_rises : (first : ℕ) (ms : List Mark) → Rises ms → first < length ms → Rises (take first ms ++ drop (suc first) ms)
 taken_rises first ms rise within = all_pairs_remove Less ms first within rise

@@ -14,6 +14,8 @@ pub record IsTable (t : Inside) : Type 0 where
   pub limit : vec_len t.items ≤ MAX_CHILDREN
   -- the awaited rows are counted
   pub awaited : t.awaited ≡ count_by (row_has is_awaited) t.items.items
+  -- the room is there for the marks of all rows too
+  pub marks_room : vec_len t.items + t.room ≤ vec_capacity t.marks
   -- the marks are in the order of the numbers
   pub rises : Rises t.marks.items
   -- and tell of exactly the rows that have a number, each once

@@ -1,9 +1,9 @@
 //! The rows of one supervisor: its children in start order.
 #![tactic(auto)]
 
+mod marks;
 pub mod row;
 pub mod rows;
-mod marks;
 mod search;
 
 pub use otp_spec::MAX_CHILDREN;

@@ -273,7 +273,9 @@ impl Rows {
 
 /// Takes memory for so many marks in all.
 fn reserve_marks(marks: &mut Vec<Mark>, count: usize) -> Result<(), AllocError>
-    ensures { marks.new.items ≡ marks.old.items }
+    ensures items { marks.new.items ≡ marks.old.items }
+    ensures kept { vec_capacity marks.old ≤ vec_capacity marks.new }
+    ensures ok { OnOk result (count ≤ vec_capacity marks.new) }
 {
     marks.reserve(count.saturating_sub(marks.len()))
 }

@@ -1,12 +1,12 @@
-//! Searches over rows, and what is done to many of them.
+//! Searches over rows.
 
 ghost use Rattle.std.specs.Prelude.{◌≡◌, ◌<◌, ◌≤◌, ℕ, false, get_or, length, position};
 ghost use Rattle.std.specs.List.{list_any};
 ghost use Rattle.otp_table.specs.Marks.{AreMarks, Rises, number_at};
-ghost use Rattle.otp_table.specs.Rows.{awaits_retry, calm_rows, free_slot, has_id, has_number, has_process, has_slot, row_has, slot_of};
+ghost use Rattle.otp_table.specs.Rows.{awaits_retry, free_slot, has_id, has_number, has_process, has_slot, row_has, slot_of};
 
 use crate::marks::{Mark, find_mark};
-use crate::row::{Row, RowState};
+use crate::row::Row;
 use otp_reason::Name;
 use otp_spec::MAX_CHILDREN;
 
@@ -142,15 +142,4 @@ pub fn free_slot(rows: &[Row]) -> usize
         slot += 1;
     }
     slot
-}
-
-/// Gives up the waiting retries of these rows.
-pub fn calm(rows: &mut [Row])
-    ensures { rows.new ≡ calm_rows rows.old }
-{
-    for row in rows.iter_mut() {
-        if let RowState::Restarting(_) = row.state {
-            row.state = RowState::Undefined;
-        }
-    }
 }

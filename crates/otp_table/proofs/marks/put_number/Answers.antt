@@ -1,6 +1,6 @@
 use Rattle.std.proofs.Common.{ℕ, List, subst}
 use Rattle.otp_table.specs.declared.marks.Mark.{Mark}
-use Rattle.otp_table.specs.Marks.{IsChanged, IsUnder}
+use Rattle.otp_table.specs.Marks.{IsUnder}
 use Rattle.otp_table.proofs.Indexed.{put_changed}
 use Rattle.otp_table.proofs.marks.put_number.Goals as goal
 

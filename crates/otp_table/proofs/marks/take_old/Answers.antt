@@ -1,6 +1,6 @@
 use Rattle.std.proofs.Common.{ℕ, List, None, Option, subst, sym}
 use Rattle.otp_table.specs.declared.marks.Mark.{Mark}
-use Rattle.otp_table.specs.Marks.{IsChanged, IsUnder}
+use Rattle.otp_table.specs.Marks.{IsChanged}
 use Rattle.otp_table.proofs.Indexed.{take_changed, unchanged}
 use Rattle.otp_table.proofs.marks.take_old.Goals as goal
 

@@ -16,15 +16,16 @@ invariant_of-self c =
       room = search rules;
       limit = search rules;
       awaited = grind (arith, common_steps);
+      marks_room = search rules;
       rises = c.remove_mark.ensures.rises;
       marked = λ yes.
-      let rows : List Row = c.self.inside.items.items in
-      let ms : List Mark = c.self.inside.marks.items in
-      let after : List Mark = c.remove_mark.new.marks.items in
-      let p : ℕ = c.args.place in
-      let old : c.number_in-number.result ≡ number_at rows p = c.number_in-number.ensures ∙ ap (λ (xs : List Row). number_at xs p) c.deref.ensures.value in
-      removed_marks rows c.remove.new.self.items p ms after c.remove.ensures.items (c.self.invariant.marked yes)
-      (subst (λ (o : Option ℕ). IsGone p o ms after) old c.remove_mark.ensures.gone);
+          let rows : List Row = c.self.inside.items.items in
+          let ms : List Mark = c.self.inside.marks.items in
+          let after : List Mark = c.remove_mark.new.marks.items in
+          let p : ℕ = c.args.place in
+          let old : c.number_in-number.result ≡ number_at rows p = c.number_in-number.ensures ∙ ap (λ (xs : List Row). number_at xs p) c.deref.ensures.value in
+          removed_marks rows c.remove.new.self.items p ms after c.remove.ensures.items (c.self.invariant.marked yes)
+          (subst (λ (o : Option ℕ). IsGone p o ms after) old c.remove_mark.ensures.gone);
     }
 
 pub returns-clause-row : goal.returns-clause-row

@@ -1,5 +1,4 @@
-use Rattle.std.proofs.Common.{rules, ap, arith, refl, subst, sym, ◌∙◌}
-use Rattle.std.proofs.lemmas.Grind.{common_steps}
+use Rattle.std.proofs.Common.{rules, refl, subst, sym}
 use Rattle.otp_table.specs.Marks.{Rises}
 use Rattle.otp_table.proofs.Indexed.{same_marks}
 use Rattle.otp_table.proofs.rows.Rows.reserve.Goals as goal
@@ -10,6 +9,7 @@ invariant_of-self c =
       room = search rules;
       limit = search rules;
       awaited = search rules;
+      marks_room = search rules;
       rises = c.self.invariant.rises;
       marked = λ yes. same_marks c.self.inside.items.items c.reserve.new.self.items c.self.inside.marks.items c.self.inside.marks.items c.reserve.ensures.items refl (c.self.invariant.marked yes);
     }
@@ -20,8 +20,9 @@ invariant_of-self-in_err-reserve_marks c =
       room = search rules;
       limit = search rules;
       awaited = search rules;
-      rises = subst Rises (sym c.reserve_marks.ensures) c.self.invariant.rises;
-      marked = λ yes. same_marks c.self.inside.items.items c.reserve.new.self.items c.self.inside.marks.items c.reserve_marks.new.marks.items c.reserve.ensures.items c.reserve_marks.ensures (c.self.invariant.marked yes);
+      marks_room = search rules;
+      rises = subst Rises (sym c.reserve_marks.ensures.items) c.self.invariant.rises;
+      marked = λ yes. same_marks c.self.inside.items.items c.reserve.new.self.items c.self.inside.marks.items c.reserve_marks.new.marks.items c.reserve.ensures.items c.reserve_marks.ensures.items (c.self.invariant.marked yes);
     }
 
 pub invariant_of-self-2 : goal.invariant_of-self-2
@@ -30,6 +31,7 @@ invariant_of-self-2 c =
       room = search rules;
       limit = search rules;
       awaited = search rules;
-      rises = subst Rises (sym c.reserve_marks.ensures) c.self.invariant.rises;
-      marked = λ yes. same_marks c.self.inside.items.items c.reserve.new.self.items c.self.inside.marks.items c.reserve_marks.new.marks.items c.reserve.ensures.items c.reserve_marks.ensures (c.self.invariant.marked yes);
+      marks_room = search rules;
+      rises = subst Rises (sym c.reserve_marks.ensures.items) c.self.invariant.rises;
+      marked = λ yes. same_marks c.self.inside.items.items c.reserve.new.self.items c.self.inside.marks.items c.reserve_marks.new.marks.items c.reserve.ensures.items c.reserve_marks.ensures.items (c.self.invariant.marked yes);
     }
