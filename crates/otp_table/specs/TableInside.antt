@@ -1,5 +1,6 @@
-use Rattle.std.specs.Prelude.{◌≡◌, ◌+◌, ◌≤◌, count_by, vec_len, vec_capacity}
+use Rattle.std.specs.Prelude.{◌≡◌, ◌+◌, ◌≤◌, IsTrue, count_by, vec_len, vec_capacity}
 use Rattle.otp_spec.specs.declared.limits.TheConstants.{MAX_CHILDREN}
+use Rattle.otp_table.specs.Marks.{AreMarks, Rises, number_at}
 use Rattle.otp_table.specs.Rows.{is_awaited, row_has}
 use Rattle.otp_table.specs.Table.{Table}
 use Rattle.otp_table.specs.declared.rows.Rows.TheInside.{Inside}
@@ -13,3 +14,9 @@ pub record IsTable (t : Inside) : Type 0 where
   pub limit : vec_len t.items ≤ MAX_CHILDREN
   -- the awaited rows are counted
   pub awaited : t.awaited ≡ count_by (row_has is_awaited) t.items.items
+  -- the room is there for the marks of all rows too
+  pub marks_room : vec_len t.items + t.room ≤ vec_capacity t.marks
+  -- the marks are in the order of the numbers
+  pub rises : Rises t.marks.items
+  -- and tell of exactly the rows that have a number, each once
+  pub marked : IsTrue t.is_marked → AreMarks (number_at t.items.items) t.marks.items

@@ -1,8 +1,9 @@
 ghost use Rattle.std.specs.Prelude.{◌≡◌, ◌+◌, ◌<◌, ◌≤◌, ◌==◌, ◌++◌, ◌∷◌, [], length, max, nat_le, position, remove, vec_len, vec_capacity, slice_get, slice_range, slice_set, take, drop, OnOk, OnErr, Some, if◌then◌else◌};
-ghost use Rattle.otp_table.specs.Rows.{awaits_retry, calm_rows, free_slot, has_id, has_number, has_process, is_awaited, row_has, with_state};
+ghost use Rattle.otp_table.specs.Rows.{awaits_retry, calm_rows, calmed, free_slot, has_id, has_number, has_process, is_awaited, row_has, with_state};
 ghost use Rattle.std.specs.List.{list_any};
 ghost use Rattle.otp_table.specs.declared.row.Row.{Row};
 
+use crate::marks::{Mark, change_mark, number_in, remove_mark};
 use crate::row::{Row, RowState};
 use crate::search;
 use otp_reason::Name;
@@ -18,6 +19,10 @@ pub struct Rows {
     room: usize,
     /// How many rows are awaited.
     awaited: usize,
+    /// The places of the rows that have a number, in the order of these.
+    marks: Vec<Mark>,
+    /// Whether no two rows have had the same number, so that `marks` has the place of each.
+    is_marked: bool,
 }
 
 impl Model for Rows {
@@ -42,6 +47,8 @@ impl Rows {
             items: Vec::new(alloc),
             room: 0,
             awaited: 0,
+            marks: Vec::new(alloc),
+            is_marked: true,
         }
     }
 
@@ -116,21 +123,33 @@ impl Rows {
     pub fn find_number(&self, number: u64) -> Option<usize>
         ensures { result ≡ position (row_has (has_number number)) self.now.rows }
     {
-        search::find_number(&self.items, number)
+        if self.is_marked {
+            search::number_marked(&self.items, &self.marks, number)
+        } else {
+            search::find_number(&self.items, number)
+        }
     }
 
     /// The place of the row whose process has this number.
     pub fn find_process(&self, number: u64) -> Option<usize>
         ensures { result ≡ position (row_has (has_process number)) self.now.rows }
     {
-        search::find_process(&self.items, number)
+        if self.is_marked {
+            search::process_marked(&self.items, &self.marks, number)
+        } else {
+            search::find_process(&self.items, number)
+        }
     }
 
     /// The place of the row that waits for the retry of this number.
     pub fn find_retry(&self, number: u64) -> Option<usize>
         ensures { result ≡ position (row_has (awaits_retry number)) self.now.rows }
     {
-        search::find_retry(&self.items, number)
+        if self.is_marked {
+            search::retry_marked(&self.items, &self.marks, number)
+        } else {
+            search::find_retry(&self.items, number)
+        }
     }
 
     /// The slot of the next child: the least that no row has.
@@ -148,6 +167,7 @@ impl Rows {
         ensures err { OnErr result (self.new ≡ self.old) }
     {
         self.items.reserve(n)?;
+        reserve_marks(&mut self.marks, self.items.len().saturating_add(n))?;
         self.room = self.room.max(n);
         Ok(())
     }
@@ -166,6 +186,13 @@ impl Rows {
             return Err(SpecFault::TooManyChildren);
         }
         self.awaited += row.state.is_awaited() as usize;
+        self.is_marked = change_mark(
+            &mut self.marks,
+            self.is_marked,
+            self.items.len(),
+            None,
+            row.state.number(),
+        );
         self.items.push_reserved(row);
         self.room -= 1;
         Ok(())
@@ -181,6 +208,14 @@ impl Rows {
     {
         self.awaited -= self.items[place].state.is_awaited() as usize;
         self.awaited += state.is_awaited() as usize;
+        let number = number_in(&self.items, place);
+        self.is_marked = change_mark(
+            &mut self.marks,
+            self.is_marked,
+            place,
+            number,
+            state.number(),
+        );
         self.items[place].state = state;
     }
 
@@ -192,7 +227,22 @@ impl Rows {
         ensures len { length self.new.rows ≡ length self.old.rows }
         ensures room { self.new.room ≡ self.old.room }
     {
-        calm_items(&mut self.items, from, to);
+        for place in from..to {
+            self.calm_row(place);
+        }
+    }
+
+    /// Gives up the waiting retry of the row at this place, if there is one.
+    fn calm_row(&mut self, place: usize)
+        requires { place < length self.old.rows }
+        ensures rows { (row : Row) → slice_get self.old.rows place ≡ Some row →
+            self.new.rows ≡ slice_set self.old.rows place (with_state (calmed row.state) row) }
+        ensures len { length self.new.rows ≡ length self.old.rows }
+        ensures room { self.new.room ≡ self.old.room }
+        ensures found { (row : Row) × (slice_get self.old.rows place ≡ Some row) }
+    {
+        let state = self.items[place].state.calmed();
+        self.set_state(place, state);
     }
 
     /// Takes the row out; those after it move up.
@@ -204,6 +254,8 @@ impl Rows {
         ensures room { self.new.room ≡ self.old.room }
     {
         self.awaited -= self.items[place].state.is_awaited() as usize;
+        let number = number_in(&self.items, place);
+        remove_mark(&mut self.marks, place, number);
         self.items.remove(place)
     }
 
@@ -214,16 +266,16 @@ impl Rows {
     {
         self.items.clear();
         self.awaited = 0;
+        self.marks.clear();
+        self.is_marked = true;
     }
 }
 
-/// Gives up the waiting retries of the items from one place to before another.
-fn calm_items(items: &mut Vec<Row>, from: usize, to: usize)
-    requires from { from ≤ to }
-    requires to { to ≤ length items.old.items }
-    ensures items { items.new.items ≡ take from items.old.items ++ calm_rows (slice_range items.old.items from to) ++ drop to items.old.items }
-    ensures len { vec_len items.new ≡ vec_len items.old }
-    ensures capacity { vec_capacity items.new ≡ vec_capacity items.old }
+/// Takes memory for so many marks in all.
+fn reserve_marks(marks: &mut Vec<Mark>, count: usize) -> Result<(), AllocError>
+    ensures items { marks.new.items ≡ marks.old.items }
+    ensures kept { vec_capacity marks.old ≤ vec_capacity marks.new }
+    ensures ok { OnOk result (count ≤ vec_capacity marks.new) }
 {
-    search::calm(&mut items[from..to]);
+    marks.reserve(count.saturating_sub(marks.len()))
 }

@@ -1,10 +1,12 @@
-//! Searches over rows, and what is done to many of them.
+//! Searches over rows.
 
 ghost use Rattle.std.specs.Prelude.{◌≡◌, ◌<◌, ◌≤◌, ℕ, false, get_or, length, position};
 ghost use Rattle.std.specs.List.{list_any};
-ghost use Rattle.otp_table.specs.Rows.{awaits_retry, calm_rows, free_slot, has_id, has_number, has_process, has_slot, row_has, slot_of};
+ghost use Rattle.otp_table.specs.Marks.{AreMarks, Rises, number_at};
+ghost use Rattle.otp_table.specs.Rows.{awaits_retry, free_slot, has_id, has_number, has_process, has_slot, row_has, slot_of};
 
-use crate::row::{Row, RowState};
+use crate::marks::{Mark, find_mark};
+use crate::row::Row;
 use otp_reason::Name;
 use otp_spec::MAX_CHILDREN;
 
@@ -34,6 +36,68 @@ pub fn find_retry(rows: &[Row], number: u64) -> Option<usize>
     ensures { result ≡ position (row_has (awaits_retry number)) rows.now }
 {
     rows.iter().position(|row| row.state.awaits_retry(number))
+}
+
+/// The place of the row whose process, or waiting retry, has this number, by the marks.
+pub fn number_marked(rows: &[Row], marks: &[Mark], number: u64) -> Option<usize>
+    requires rises { Rises marks.now }
+    requires marks { AreMarks (number_at rows.now) marks.now }
+    ensures { result ≡ position (row_has (has_number number)) rows.now }
+{
+    match find_mark(marks, number) {
+        None => None,
+        Some(place) => Some(place),
+    }
+}
+
+fn has_process_at(rows: &[Row], place: usize, number: u64) -> bool
+    requires { place < length rows.now }
+    ensures { (d : Row) → result ≡ has_process number (get_or rows.now place d).state }
+{
+    rows[place].state.has_process(number)
+}
+
+fn awaits_retry_at(rows: &[Row], place: usize, number: u64) -> bool
+    requires { place < length rows.now }
+    ensures { (d : Row) → result ≡ awaits_retry number (get_or rows.now place d).state }
+{
+    rows[place].state.awaits_retry(number)
+}
+
+/// The place of the row whose process has this number, by the marks.
+pub fn process_marked(rows: &[Row], marks: &[Mark], number: u64) -> Option<usize>
+    requires rises { Rises marks.now }
+    requires marks { AreMarks (number_at rows.now) marks.now }
+    ensures { result ≡ position (row_has (has_process number)) rows.now }
+{
+    match find_mark(marks, number) {
+        None => None,
+        Some(place) => {
+            if has_process_at(rows, place, number) {
+                Some(place)
+            } else {
+                None
+            }
+        }
+    }
+}
+
+/// The place of the row that waits for the retry of this number, by the marks.
+pub fn retry_marked(rows: &[Row], marks: &[Mark], number: u64) -> Option<usize>
+    requires rises { Rises marks.now }
+    requires marks { AreMarks (number_at rows.now) marks.now }
+    ensures { result ≡ position (row_has (awaits_retry number)) rows.now }
+{
+    match find_mark(marks, number) {
+        None => None,
+        Some(place) => {
+            if awaits_retry_at(rows, place, number) {
+                Some(place)
+            } else {
+                None
+            }
+        }
+    }
 }
 
 /// The slot of the first row whose process has this number.
@@ -78,15 +142,4 @@ pub fn free_slot(rows: &[Row]) -> usize
         slot += 1;
     }
     slot
-}
-
-/// Gives up the waiting retries of these rows.
-pub fn calm(rows: &mut [Row])
-    ensures { rows.new ≡ calm_rows rows.old }
-{
-    for row in rows.iter_mut() {
-        if let RowState::Restarting(_) = row.state {
-            row.state = RowState::Undefined;
-        }
-    }
 }

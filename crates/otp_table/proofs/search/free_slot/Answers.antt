@@ -1,4 +1,4 @@
-use Rattle.std.proofs.Common.{refl, ◌∙◌, ap, sym, arith, false, true, length}
+use Rattle.std.proofs.Common.{◌∙◌, sym, arith}
 use Rattle.otp_table.specs.Rows.{free_slot}
 use Rattle.otp_table.proofs.Slots.{taken_on, found_free, none_left}
 use Rattle.otp_table.proofs.search.free_slot.Goals as goal

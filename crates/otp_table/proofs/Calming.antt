@@ -1,0 +1,48 @@
+-- Rows whose waiting retries are given up, one at a time.
+use Rattle.std.proofs.Common.{◌≡◌, ℕ, ◌+◌, ◌-◌, ◌<◌, List, [], ◌∷◌, ◌++◌, ◌∙◌, ap, arith, append-nil, append_assoc, drop, drop-set-lt, get_or, length, refl, set, slice_range, suc, sym, take, take-append-drop}
+use Rattle.std.specs.Prelude.{slice_get, Some}
+use Rattle.std.proofs.lemmas.List.{drop_more, take_more_set}
+use Rattle.std.proofs.lemmas.Option.{get_or_from_slice_get, slice_get_within}
+use Rattle.otp_table.specs.declared.row.Row.{Row}
+use Rattle.otp_table.specs.Rows.{calm_rows, calmed, with_state}
+
+abbrev calm_one : Row → Row
+calm_one row = with_state (calmed row.state) row
+
+range_more : (rows : List Row) (p to : ℕ) (d : Row) → p < to → p < length rows → slice_range rows p to ≡ get_or rows p d ∷ slice_range rows (p + 1) to
+range_more rows p to d lt within =
+    let left : to - p ≡ suc (to - (p + 1)) = omega (arith, lt) in
+    ap (λ (n : ℕ). take n (drop p rows)) left ∙ ap (λ (xs : List Row). take (suc (to - (p + 1))) xs) (drop_more rows p d within)
+
+-- one row further
+pub calm_further : (rows after : List Row) (p to : ℕ) (row : Row) → p < to → p < length rows → get_or rows p row ≡ row → after ≡ set rows p (calm_one row)
+    → take (p + 1) after ++ calm_rows (slice_range after (p + 1) to) ++ drop to after ≡ take p rows ++ calm_rows (slice_range rows p to) ++ drop to rows
+calm_further rows after p to row lt within at is =
+    let x : Row = calm_one row in
+    let all : List Row = set rows p x in
+    let first : take (p + 1) all ≡ take p rows ++ x ∷ [] = take_more_set rows p x within in
+    let later : drop (p + 1) all ≡ drop (p + 1) rows = drop-set-lt (p + 1) rows p x (omega arith) in
+    let rest : drop to all ≡ drop to rows = drop-set-lt to rows p x lt in
+    let here : slice_range rows p to ≡ row ∷ slice_range rows (p + 1) to = range_more rows p to row lt within ∙ ap (λ (r : Row). r ∷ slice_range rows (p + 1) to) at in
+    ap (λ (xs : List Row). take (p + 1) xs ++ calm_rows (slice_range xs (p + 1) to) ++ drop to xs) is
+    ∙ ap (λ (xs : List Row). xs ++ calm_rows (slice_range all (p + 1) to) ++ drop to all) first
+    ∙ ap (λ (xs : List Row). (take p rows ++ x ∷ []) ++ calm_rows (take (to - (p + 1)) xs) ++ drop to all) later
+    ∙ ap (λ (xs : List Row). (take p rows ++ x ∷ []) ++ calm_rows (slice_range rows (p + 1) to) ++ xs) rest
+    ∙ ap (λ (xs : List Row). xs ++ drop to rows) (append_assoc (take p rows) (x ∷ []) (calm_rows (slice_range rows (p + 1) to)))
+    ∙ sym (ap (λ (xs : List Row). take p rows ++ calm_rows xs ++ drop to rows) here)
+
+take_none : (rows : List Row) → take 0 rows ≡ []
+take_none [] = refl
+take_none (row ∷ rows) = refl
+
+-- no row is left
+pub calm_done : (rows : List Row) (to : ℕ) → take to rows ++ calm_rows (slice_range rows to to) ++ drop to rows ≡ rows
+calm_done rows to =
+    let none : to - to ≡ 0 = omega arith in
+    ap (λ (n : ℕ). take to rows ++ calm_rows (take n (drop to rows)) ++ drop to rows) none
+    ∙ ap (λ (xs : List Row). take to rows ++ calm_rows xs ++ drop to rows) (take_none (drop to rows))
+    ∙ ap (λ (xs : List Row). xs ++ drop to rows) (append-nil (take to rows)) ∙ take-append-drop to rows
+
+-- the row at a place
+pub got : (rows : List Row) (p : ℕ) (row : Row) → slice_get rows p ≡ Some row → (p < length rows) × (get_or rows p row ≡ row)
+got rows p row e = (slice_get_within rows p row e, get_or_from_slice_get rows p row row e)

@@ -1,0 +1,15 @@
+use Rattle.std.proofs.Common.{ℕ, List, None, Option, subst, sym}
+use Rattle.otp_table.specs.declared.marks.Mark.{Mark}
+use Rattle.otp_table.specs.Marks.{IsChanged}
+use Rattle.otp_table.proofs.Indexed.{unchanged}
+use Rattle.otp_table.proofs.marks.put_new.Goals as goal
+
+pub returns-in-None-clause-changed : goal.returns-in-None-clause-changed
+returns-in-None-clause-changed c =
+    let ms : List Mark = c.args.marks.now.items in
+    λ _. subst (λ (o : Option ℕ). IsChanged c.args.place None o ms ms) (sym c.in-None.is) (unchanged c.args.place None ms)
+
+pub returns-in-Some-clause-changed : goal.returns-in-Some-clause-changed
+returns-in-Some-clause-changed c =
+    let ms : List Mark = c.args.marks.now.items in
+    λ yes. subst (λ (o : Option ℕ). IsChanged c.args.place None o ms c.put_number.new.marks.items) (sym c.in-Some.is) (c.put_number.ensures.changed yes)

@@ -1,0 +1,37 @@
+use Rattle.std.proofs.Common.{rules, refl, subst, sym}
+use Rattle.otp_table.specs.Marks.{Rises}
+use Rattle.otp_table.proofs.Indexed.{same_marks}
+use Rattle.otp_table.proofs.rows.Rows.reserve.Goals as goal
+
+pub invariant_of-self : goal.invariant_of-self
+invariant_of-self c =
+    record {
+      room = search rules;
+      limit = search rules;
+      awaited = search rules;
+      marks_room = search rules;
+      rises = c.self.invariant.rises;
+      marked = λ yes. same_marks c.self.inside.items.items c.reserve.new.self.items c.self.inside.marks.items c.self.inside.marks.items c.reserve.ensures.items refl (c.self.invariant.marked yes);
+    }
+
+pub invariant_of-self-in_err-reserve_marks : goal.invariant_of-self-in_err-reserve_marks
+invariant_of-self-in_err-reserve_marks c =
+    record {
+      room = search rules;
+      limit = search rules;
+      awaited = search rules;
+      marks_room = search rules;
+      rises = subst Rises (sym c.reserve_marks.ensures.items) c.self.invariant.rises;
+      marked = λ yes. same_marks c.self.inside.items.items c.reserve.new.self.items c.self.inside.marks.items c.reserve_marks.new.marks.items c.reserve.ensures.items c.reserve_marks.ensures.items (c.self.invariant.marked yes);
+    }
+
+pub invariant_of-self-2 : goal.invariant_of-self-2
+invariant_of-self-2 c =
+    record {
+      room = search rules;
+      limit = search rules;
+      awaited = search rules;
+      marks_room = search rules;
+      rises = subst Rises (sym c.reserve_marks.ensures.items) c.self.invariant.rises;
+      marked = λ yes. same_marks c.self.inside.items.items c.reserve.new.self.items c.self.inside.marks.items c.reserve_marks.new.marks.items c.reserve.ensures.items c.reserve_marks.ensures.items (c.self.invariant.marked yes);
+    }

@@ -1,0 +1,31 @@
+use Rattle.std.proofs.Common.{rules, ap, arith, subst, ◌∙◌}
+use Rattle.std.proofs.lemmas.Grind.{common_steps}
+use Rattle.std.proofs.Common.{◌≡◌, ◌<◌, ℕ, List, Option, length}
+use Rattle.otp_table.specs.declared.marks.Mark.{Mark}
+use Rattle.otp_table.specs.declared.row.Row.{Row}
+use Rattle.otp_table.specs.Rows.{with_state}
+use Rattle.otp_table.specs.Marks.{IsChanged, number_at}
+use Rattle.otp_table.proofs.Indexed.{set_marks}
+use Rattle.otp_table.proofs.rows.Rows.set_state.Goals as goal
+
+pub invariant_of-self : goal.invariant_of-self
+invariant_of-self c =
+    record {
+      room = search rules;
+      limit = search rules;
+      awaited = grind (arith, common_steps);
+      marks_room = search rules;
+      rises = c.change_mark-self-inside.ensures.rises;
+      marked = λ yes.
+          let rows : List Row = c.self.inside.items.items in
+          let ms : List Mark = c.self.inside.marks.items in
+          let after : List Mark = c.change_mark-self-inside.new.marks.items in
+          let p : ℕ = c.args.place in
+          let row : Row = with_state c.args.state c.index_mut.result.now in
+          let within : p < length rows = search rules in
+          let old : c.number_in-number.result ≡ number_at rows p = c.number_in-number.ensures ∙ ap (λ (xs : List Row). number_at xs p) c.deref.ensures.value in
+          let changed : IsChanged p c.number_in-number.result c.number.result ms after = c.change_mark-self-inside.ensures.changed yes in
+          let from_old : IsChanged p (number_at rows p) c.number.result ms after = subst (λ (o : Option ℕ). IsChanged p o c.number.result ms after) old changed in
+          set_marks rows p row ms after within (c.self.invariant.marked (c.change_mark-self-inside.ensures.before yes))
+          (subst (λ (o : Option ℕ). IsChanged p (number_at rows p) o ms after) c.number.ensures from_old);
+    }

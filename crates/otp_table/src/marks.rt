@@ -1,0 +1,193 @@
+//! Rows by their numbers: an index that is kept in the order of the numbers and searched by halving.
+
+ghost use Rattle.std.specs.Prelude.{◌≡◌, ◌+◌, ◌-◌, ◌<◌, ◌≤◌, ℕ, [], All, AllPairs, IfSome, IsTrue, None, Some, MatchOption, OnOk, OnErr, get_or, length, max, map, vec_len, vec_capacity};
+ghost use Rattle.otp_table.specs.Marks.{HasNumber, IsChanged, IsGone, IsPut, IsTaken, IsUnder, Rises, moved, number_at};
+
+use crate::row::Row;
+
+/// A row's number, and the place of the row.
+#[derive(Clone, Copy, Debug)]
+pub struct Mark {
+    pub number: u64,
+    pub place: usize,
+}
+
+/// The first place from which on the numbers, which rise, are this one or above it.
+pub fn first_from(marks: &[Mark], number: u64) -> usize
+    requires { Rises marks.now }
+    ensures inside { result ≤ length marks.now }
+    ensures before { (k : ℕ) (d : Mark) → k < result → (get_or marks.now k d).number < number }
+    ensures after { (k : ℕ) (d : Mark) → result ≤ k → k < length marks.now → number ≤ (get_or marks.now k d).number }
+{
+    let mut low = 0;
+    let mut high = marks.len();
+    while low < high {
+        let middle = low + (high - low) / 2;
+        if marks[middle].number < number {
+            low = middle + 1;
+        } else {
+            high = middle;
+        }
+    }
+    low
+}
+
+/// Where the mark with this number stands.
+fn index_of(marks: &[Mark], number: u64) -> Option<usize>
+    requires { Rises marks.now }
+    ensures { MatchOption result ((p : ℕ) → IsUnder number p marks.now → ⊥) (λ i. HasNumber number i marks.now) }
+{
+    let first = first_from(marks, number);
+    if first < marks.len() && marks[first].number == number {
+        Some(first)
+    } else {
+        None
+    }
+}
+
+/// The place under this number.
+pub fn find_mark(marks: &[Mark], number: u64) -> Option<usize>
+    requires { Rises marks.now }
+    ensures { MatchOption result ((p : ℕ) → IsUnder number p marks.now → ⊥) (λ place. IsUnder number place marks.now) }
+{
+    match index_of(marks, number) {
+        None => None,
+        Some(index) => Some(marks[index].place),
+    }
+}
+
+/// Puts a place under a number that none stands under. Takes no memory.
+pub fn put_mark(marks: &mut Vec<Mark>, number: u64, place: usize)
+    requires rises { Rises marks.old.items }
+    requires room { vec_len marks.old < vec_capacity marks.old }
+    requires free { (p : ℕ) → IsUnder number p marks.old.items → ⊥ }
+    ensures rises { Rises marks.new.items }
+    ensures put { IsPut number place marks.old.items marks.new.items }
+    ensures len { vec_len marks.new ≡ vec_len marks.old + 1 }
+    ensures capacity { vec_capacity marks.new ≡ vec_capacity marks.old }
+{
+    let first = first_from(marks, number);
+    if marks.insert(first, Mark { number, place }).is_err() {
+        unreachable!();
+    }
+}
+
+/// Takes out what stands under this number.
+pub fn take_mark(marks: &mut Vec<Mark>, number: u64)
+    requires { Rises marks.old.items }
+    ensures rises { Rises marks.new.items }
+    ensures taken { IsTaken number marks.old.items marks.new.items }
+    ensures capacity { vec_capacity marks.new ≡ vec_capacity marks.old }
+{
+    match index_of(marks, number) {
+        None => {}
+        Some(index) => {
+            marks.remove(index);
+        }
+    }
+}
+
+/// Each place above this one moves down by one.
+fn shift_places(marks: &mut [Mark], place: usize)
+    ensures { marks.new ≡ map (moved place) marks.old }
+{
+    for mark in marks.iter_mut() {
+        if mark.place > place {
+            mark.place -= 1;
+        }
+    }
+}
+
+/// The same of a whole list.
+#[tactic(auto, using(crate::proofs::Rising::whole))]
+fn close_gap(marks: &mut Vec<Mark>, place: usize)
+    ensures items { marks.new.items ≡ map (moved place) marks.old.items }
+    ensures capacity { vec_capacity marks.new ≡ vec_capacity marks.old }
+{
+    shift_places(marks, place);
+}
+
+/// The number of the row at the place.
+pub fn number_in(rows: &[Row], place: usize) -> Option<u64>
+    requires { place < length rows.now }
+    ensures { result ≡ number_at rows.now place }
+{
+    rows[place].state.number()
+}
+
+/// Takes the place out, which stood under this number or under none.
+fn take_old(marks: &mut Vec<Mark>, place: usize, old: Option<u64>)
+    requires { Rises marks.old.items }
+    ensures rises { Rises marks.new.items }
+    ensures changed { IsChanged place old None marks.old.items marks.new.items }
+    ensures capacity { vec_capacity marks.new ≡ vec_capacity marks.old }
+{
+    match old {
+        None => {}
+        Some(number) => take_mark(marks, number),
+    }
+}
+
+/// Puts the place under this number, unless there is no room or another place stands there.
+fn put_number(marks: &mut Vec<Mark>, place: usize, number: u64) -> bool
+    requires { Rises marks.old.items }
+    ensures rises { Rises marks.new.items }
+    ensures changed { IsTrue result → IsChanged place None (Some number) marks.old.items marks.new.items }
+    ensures capacity { vec_capacity marks.new ≡ vec_capacity marks.old }
+{
+    if marks.len() >= marks.capacity() {
+        return false;
+    }
+    match find_mark(marks, number) {
+        Some(_) => false,
+        None => {
+            put_mark(marks, number, place);
+            true
+        }
+    }
+}
+
+/// Puts the place under this number, or under none.
+fn put_new(marks: &mut Vec<Mark>, place: usize, new: Option<u64>) -> bool
+    requires { Rises marks.old.items }
+    ensures rises { Rises marks.new.items }
+    ensures changed { IsTrue result → IsChanged place None new marks.old.items marks.new.items }
+    ensures capacity { vec_capacity marks.new ≡ vec_capacity marks.old }
+{
+    match new {
+        None => true,
+        Some(number) => put_number(marks, place, number),
+    }
+}
+
+/// The row at the place has one number now in place of another. Whether the marks told of each row, and do so still.
+pub fn change_mark(
+    marks: &mut Vec<Mark>,
+    is_marked: bool,
+    place: usize,
+    old: Option<u64>,
+    new: Option<u64>,
+) -> bool
+    requires { Rises marks.old.items }
+    ensures rises { Rises marks.new.items }
+    ensures before { IsTrue result → IsTrue is_marked }
+    ensures changed { IsTrue result → IsChanged place old new marks.old.items marks.new.items }
+    ensures capacity { vec_capacity marks.new ≡ vec_capacity marks.old }
+{
+    if !is_marked {
+        return false;
+    }
+    take_old(marks, place, old);
+    put_new(marks, place, new)
+}
+
+/// The row at the place is taken out, which had this number or none.
+pub fn remove_mark(marks: &mut Vec<Mark>, place: usize, old: Option<u64>)
+    requires { Rises marks.old.items }
+    ensures rises { Rises marks.new.items }
+    ensures gone { IsGone place old marks.old.items marks.new.items }
+    ensures capacity { vec_capacity marks.new ≡ vec_capacity marks.old }
+{
+    take_old(marks, place, old);
+    close_gap(marks, place);
+}
