@@ -1,5 +1,5 @@
 -- What a child's failure costs (own).
-use Rattle.std.specs.Prelude.{◌≡◌, ℕ, ◌+◌, ◌*◌, ◌≤◌, ◌<◌, ◌^◌, Bool, true, false, ◌&&◌, ◌||◌, ◌==◌, nat_lt, min, List, [], ◌∷◌, ◌++◌, insert, Option, Some, None, position, length}
+use Rattle.std.specs.Prelude.{◌≡◌, ℕ, ◌+◌, ◌*◌, ◌≤◌, ◌<◌, ◌^◌, Bool, true, false, ◌&&◌, ◌||◌, ◌==◌, nat_lt, min, List, [], ◌∷◌, ◌++◌, insert, Option, Some, None, unwrap_or, position, length}
 use Rattle.std.specs.List.{filter_map}
 use Rattle.otp_reason.specs.declared.name.Name.{Name}
 use Rattle.otp_rules.specs.declared.event.Effect.{Effect}
@@ -45,22 +45,22 @@ IsSteady flags specs id (steady.Apart gap) = IsJudged flags specs id gap Lasts �
 IsSteady flags specs id steady.Never = IsJudged flags specs id (longest_gap flags) Falls
 IsSteady flags specs id steady.Unplayed = (gap : ℕ) × IsJudged flags specs id gap Unplayed
 
--- the child that an order stops, and the one that it starts
-unfoldable pub stopped_by : Effect → Option Name
-stopped_by (effect.Start _ _) = None
-stopped_by (effect.Ask id _) = id
-stopped_by (effect.Kill id _) = id
-stopped_by (effect.Reply _) = None
-stopped_by effect.Ready = None
-stopped_by (effect.End _) = None
+-- the child that an order stops, and the one that it starts: where it has no id of its own, by that of its specification
+unfoldable pub stopped_by : Name → Effect → Option Name
+stopped_by spec (effect.Start _ _) = None
+stopped_by spec (effect.Ask id _) = Some (unwrap_or id spec)
+stopped_by spec (effect.Kill id _) = Some (unwrap_or id spec)
+stopped_by spec (effect.Reply _) = None
+stopped_by spec effect.Ready = None
+stopped_by spec (effect.End _) = None
 
-unfoldable pub started_by : Effect → Option Name
-started_by (effect.Start id _) = id
-started_by (effect.Ask _ _) = None
-started_by (effect.Kill _ _) = None
-started_by (effect.Reply _) = None
-started_by effect.Ready = None
-started_by (effect.End _) = None
+unfoldable pub started_by : Name → Effect → Option Name
+started_by spec (effect.Start id _) = Some (unwrap_or id spec)
+started_by spec (effect.Ask _ _) = None
+started_by spec (effect.Kill _ _) = None
+started_by spec (effect.Reply _) = None
+started_by spec effect.Ready = None
+started_by spec (effect.End _) = None
 
 -- what one crash of a child stops, and starts again, in this order
 pub record Affects (flags : SupFlags) (specs : List ChildSpec) (id : Name) (stops starts : List Name) : Type 0 where
@@ -68,8 +68,8 @@ pub record Affects (flags : SupFlags) (specs : List ChildSpec) (id : Name) (stop
   pub opens : Opens flags specs opened
   pub after : Scene
   pub crashes : Crashes id 0 1 opened after
-  pub stopped : stops ≡ filter_map stopped_by after.orders
-  pub started : starts ≡ filter_map started_by after.orders
+  pub stopped : stops ≡ filter_map (stopped_by id) after.orders
+  pub started : starts ≡ filter_map (started_by id) after.orders
 
 -- what the failure of the child with this id costs
 pub record IsCost (flags : SupFlags) (specs : List ChildSpec) (id : Name) (cost : Cost) : Type 0 where

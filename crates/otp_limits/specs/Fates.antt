@@ -1,6 +1,9 @@
 -- A child that crashes again and again, and how its supervisor fares (own).
-use Rattle.std.specs.Prelude.{◌≡◌, ◌⊎◌, ℕ, ◌+◌, ◌*◌, ◌≤◌, ◌<◌, true, false, List, [], Option, Some, None, position, slice_get}
+use Rattle.std.specs.Prelude.{◌≡◌, ◌⊎◌, ℕ, ◌+◌, ◌*◌, ◌≤◌, ◌<◌, true, false, List, [], Bool, Option, Some, None, position, slice_get}
 use Prim.Native.Nat.{zero, suc}
+use Rattle.std.specs.Ordering.{on}
+use Rattle.std.specs.Str.{bytes_eq}
+use Rattle.otp_reason.specs.Names.{name_bytes}
 use Rattle.otp_reason.specs.declared.name.Name.{Name}
 use Rattle.otp_reason.specs.declared.note.Note.TheVariants as note
 use Rattle.otp_reason.specs.declared.reason.Reason.TheVariants as reason
@@ -10,7 +13,7 @@ use Rattle.otp_rules.specs.State.{State, is_over}
 use Rattle.otp_spec.specs.declared.child.ChildSpec.{ChildSpec}
 use Rattle.otp_spec.specs.declared.flags.SupFlags.{SupFlags}
 use Rattle.otp_table.specs.declared.row.Row.{Row}
-use Rattle.otp_table.specs.Rows.{has_id, up_number}
+use Rattle.otp_table.specs.Rows.{up_number}
 use Rattle.otp_limits.specs.declared.fate.Fate.{Fate}
 use Rattle.otp_limits.specs.declared.fate.Fate.TheVariants as fate
 use Rattle.otp_limits.specs.Scene.{FillsUp, IsFull, Opens, Scene, Settles, happened}
@@ -23,9 +26,13 @@ unfoldable pub running_at : List Row → Option ℕ → Option ℕ
 running_at rows None = None
 running_at rows (Some place) = running (slice_get rows place)
 
--- the process of the child with this id, if it runs
+-- the row is that of a child of the specification with this id; dynamic children have no id of their own
+abbrev pub is_of : Name → Row → Bool
+is_of id row = on name_bytes bytes_eq row.spec.id id
+
+-- the process of the first child of the specification with this id, if it runs
 unfoldable pub process_of : Name → List Row → Option ℕ
-process_of id rows = running_at rows (position (has_id id) rows)
+process_of id rows = running_at rows (position (is_of id) rows)
 
 abbrev pub cleared : Scene → Scene
 cleared s = record s { orders = [] }

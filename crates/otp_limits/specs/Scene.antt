@@ -1,11 +1,12 @@
 -- A supervisor that is played in a world where all goes well: each start succeeds, and each process that is asked to shut
 -- down ends, or is killed, at once (own).
-use Rattle.std.specs.Prelude.{◌≡◌, ℕ, ◌+◌, ◌≤◌, List, [], ◌∷◌, ◌++◌, Option, Some, None, is_some, drop, slice_get, unwrap_or, true, false, if◌then◌else◌}
+use Rattle.std.specs.Prelude.{◌≡◌, ℕ, ◌+◌, ◌≤◌, Bool, List, [], ◌∷◌, ◌++◌, Option, Some, None, is_some, drop, slice_get, unwrap_or, true, false, if◌then◌else◌}
 use Prim.Native.Nat.{zero, suc}
 use Rattle.std.specs.List.{filter_map}
 use Rattle.otp_reason.specs.declared.note.Note.{Note}
 use Rattle.otp_reason.specs.declared.note.Note.TheVariants as note
 use Rattle.otp_reason.specs.declared.reason.Reason.TheVariants as reason
+use Rattle.otp_rules.specs.declared.call.Call.TheVariants as call
 use Rattle.otp_rules.specs.declared.event.Effect.{Effect}
 use Rattle.otp_rules.specs.declared.event.Effect.TheVariants as effect
 use Rattle.otp_rules.specs.declared.event.Event.{Event}
@@ -19,6 +20,7 @@ use Rattle.otp_rules.specs.State.{State}
 use Rattle.otp_rules.specs.Step.{step}
 use Rattle.otp_spec.specs.declared.child.ChildSpec.{ChildSpec}
 use Rattle.otp_spec.specs.declared.flags.SupFlags.{SupFlags}
+use Rattle.otp_spec.specs.Flags.{is_simple}
 use Rattle.otp_spec.specs.declared.limits.TheConstants.{MAX_EVENTS}
 
 -- a supervisor, and what the processes of its children tell next
@@ -103,6 +105,14 @@ pub record FillsUp (time : ℕ) (s : Scene) : Type 0 where
 abbrev pub unopened : SupFlags → List ChildSpec → Scene
 unopened flags specs = record { state = empty_state flags specs; last = 0; orders = []; notes = []; events = 0 }
 
--- a supervisor with these flags and children that was opened, and whose children run
-abbrev pub Opens : SupFlags → List ChildSpec → Scene → Type 0
-Opens flags specs s = Settles 0 (happened 0 (kind.Opened 0) (unopened flags specs)) s
+-- somebody starts a child of simple_one_for_one; the others have all their children by then
+abbrev pub joined : Bool → Scene → Scene
+joined false s = s
+joined true s = happened 0 (kind.Took (item.Call 1 call.StartDynamic)) s
+
+-- a supervisor with these flags and children that was opened, and whose children run; under simple_one_for_one one child
+-- that was started by a call
+pub record Opens (flags : SupFlags) (specs : List ChildSpec) (s : Scene) : Type 0 where
+  pub opened : Scene
+  pub opens : Settles 0 (happened 0 (kind.Opened 0) (unopened flags specs)) opened
+  pub joins : Settles 0 (joined (is_simple flags.strategy) opened) s

@@ -35,35 +35,35 @@ pub struct Cost {
     pub steady: Steady,
 }
 
-/// The child that an order stops.
+/// The child that an order stops: one without an id is called by that of its specification.
 #[tactic(auto, unfolding(crate::specs::Costs::stopped_by))]
-fn stopped_by(order: &Effect) -> Option<Name>
-    ensures { result ≡ stopped_by order.now }
+fn stopped_by(spec: &Name, order: &Effect) -> Option<Name>
+    ensures { result ≡ stopped_by spec.now order.now }
 {
     match order {
-        Effect::Ask(id, _) | Effect::Kill(id, _) => *id,
+        Effect::Ask(id, _) | Effect::Kill(id, _) => Some(id.unwrap_or(*spec)),
         Effect::Start(..) | Effect::Reply(_) | Effect::Ready | Effect::End(_) => None,
     }
 }
 
-/// The child that an order starts.
+/// The child that an order starts: one without an id is called by that of its specification.
 #[tactic(auto, unfolding(crate::specs::Costs::started_by))]
-fn started_by(order: &Effect) -> Option<Name>
-    ensures { result ≡ started_by order.now }
+fn started_by(spec: &Name, order: &Effect) -> Option<Name>
+    ensures { result ≡ started_by spec.now order.now }
 {
     match order {
-        Effect::Start(id, _) => *id,
+        Effect::Start(id, _) => Some(id.unwrap_or(*spec)),
         Effect::Ask(..) | Effect::Kill(..) => None,
         Effect::Reply(_) | Effect::Ready | Effect::End(_) => None,
     }
 }
 
 /// Puts the children that these orders stop behind others.
-fn put_stopped(orders: &[Effect], names: &mut Names) -> Result<(), AllocError>
-    ensures { OnOk result (names.new ≡ names.old ++ filter_map stopped_by orders.now) }
+fn put_stopped(spec: &Name, orders: &[Effect], names: &mut Names) -> Result<(), AllocError>
+    ensures { OnOk result (names.new ≡ names.old ++ filter_map (stopped_by spec.now) orders.now) }
 {
     for order in orders {
-        if let Some(id) = stopped_by(order) {
+        if let Some(id) = stopped_by(spec, order) {
             names.push(id)?;
         }
     }
@@ -71,11 +71,11 @@ fn put_stopped(orders: &[Effect], names: &mut Names) -> Result<(), AllocError>
 }
 
 /// Puts the children that these orders start behind others.
-fn put_started(orders: &[Effect], names: &mut Names) -> Result<(), AllocError>
-    ensures { OnOk result (names.new ≡ names.old ++ filter_map started_by orders.now) }
+fn put_started(spec: &Name, orders: &[Effect], names: &mut Names) -> Result<(), AllocError>
+    ensures { OnOk result (names.new ≡ names.old ++ filter_map (started_by spec.now) orders.now) }
 {
     for order in orders {
-        if let Some(id) = started_by(order) {
+        if let Some(id) = started_by(spec, order) {
             names.push(id)?;
         }
     }
@@ -95,9 +95,9 @@ fn find_affected(
     let mut stage = Stage::open(alloc, *flags, specs)?;
     stage.crash(id, 0)?;
     let mut stops = Names::new(alloc);
-    put_stopped(stage.orders(), &mut stops)?;
+    put_stopped(id, stage.orders(), &mut stops)?;
     let mut starts = Names::new(alloc);
-    put_started(stage.orders(), &mut starts)?;
+    put_started(id, stage.orders(), &mut starts)?;
     Ok((stops, starts))
 }
 

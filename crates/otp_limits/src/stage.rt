@@ -2,17 +2,17 @@
 
 ghost use Rattle.std.specs.Prelude.{ℕ, ◌≡◌, ◌≤◌, ◌<◌, ◌^◌, ◌++◌, None, OnOk, IfErr, IfOk, IfSome, length, position, option_map, slice_get};
 ghost use Rattle.std.specs.List.{filter_map};
-ghost use Rattle.otp_limits.specs.Fates.{HasNoRoom, crashed, process_of, running_at};
-ghost use Rattle.otp_limits.specs.Scene.{FillsUp, IsFull, Opens, Settles, happened, heard, next_in, note_of};
+ghost use Rattle.otp_limits.specs.Fates.{HasNoRoom, crashed, is_of, process_of, running_at};
+ghost use Rattle.otp_limits.specs.Scene.{FillsUp, IsFull, Opens, Settles, happened, heard, joined, next_in, note_of};
 ghost use Rattle.otp_spec.specs.Supervisor.{supervisor_fault};
 ghost use Rattle.otp_rules.specs.State.{is_over};
 ghost use Rattle.otp_limits.specs.declared.stage.Halt.TheVariants.{HistoryFull};
-ghost use Rattle.otp_table.specs.Rows.{has_id};
+ghost use Rattle.otp_spec.specs.Flags.{is_simple};
 
 use otp_core::{Core, Counter, MAX_EVENTS};
 use otp_reason::{Name, Note, Reason};
-use otp_rules::{Effect, Item, Kind};
-use otp_spec::{ChildSpec, SupFlags};
+use otp_rules::{Call, Effect, Item, Kind};
+use otp_spec::{ChildSpec, Strategy, SupFlags};
 use otp_table::Row;
 use std::alloc::{AllocError, Global};
 use std::collections::VecDeque;
@@ -62,12 +62,19 @@ fn obey(orders: &[Effect], notes: &mut VecDeque<Note>) -> Result<(), AllocError>
     Ok(())
 }
 
-/// The place of the child with this id.
+/// Whether a row is that of a child of the specification with this id.
+fn is_of(row: &Row, id: &Name) -> bool
+    ensures { result ≡ is_of id.now row.now }
+{
+    row.spec.id == *id
+}
+
+/// The place of the first child of the specification with this id.
 fn place_of(rows: &[Row], id: &Name) -> Option<usize>
-    ensures place { result ≡ position (has_id id.now) rows.now }
+    ensures place { result ≡ position (is_of id.now) rows.now }
     ensures inside { IfSome result (λ place. place < length rows.now) }
 {
-    rows.iter().position(|row| row.has_id(id))
+    rows.iter().position(|row| is_of(row, id))
 }
 
 /// The process of the child at this place, if it runs.
@@ -85,7 +92,7 @@ fn running_at(rows: &[Row], place: Option<usize>) -> Option<u64>
     }
 }
 
-/// The process of the child with this id, if it runs.
+/// The process of the first child of the specification with this id, if it runs.
 #[tactic(auto, unfolding(crate::specs::Fates::process_of))]
 fn process_of(rows: &[Row], id: &Name) -> Option<u64>
     ensures { result ≡ process_of id.now rows.now }
@@ -128,7 +135,20 @@ impl Stage {
         };
         stage.happen(0, Kind::Opened(0))?;
         stage.settle(0)?;
+        stage.join(flags.strategy)?;
+        stage.settle(0)?;
         Ok(stage)
+    }
+
+    /// Under simple_one_for_one somebody starts a child; the other strategies have all theirs by then.
+    fn join(&mut self, strategy: Strategy) -> Result<(), Halt>
+        ensures { OnOk result (self.new ≡ joined (is_simple strategy) self.old) }
+    {
+        if strategy.is_simple() {
+            self.happen(0, Kind::Took(Item::Call(1, Call::StartDynamic)))
+        } else {
+            Ok(())
+        }
     }
 
     /// Whether the supervisor has ended.
@@ -145,7 +165,7 @@ impl Stage {
         self.core.effects()
     }
 
-    /// The process of the child with this id, if it runs.
+    /// The process of the first child of the specification with this id, if it runs.
     pub fn process_of(&self, id: &Name) -> Option<u64>
         ensures { result ≡ process_of id.now self.now.state.rows }
     {

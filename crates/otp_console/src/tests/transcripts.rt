@@ -617,7 +617,7 @@ start = "c"
 ];
 
 /// The words, the file of the lines of standard input or `-`, and what is written and told, with the status.
-pub(super) const TRANSCRIPTS: [(&str, &str, &str); 28] = [
+pub(super) const TRANSCRIPTS: [(&str, &str, &str); 29] = [
     (
         "sim all_significant.toml",
         "all_significant.events",
@@ -1081,6 +1081,17 @@ a crash of web
 a crash of log
   stops  nothing
   starts nothing
+status 0
+"##,
+    ),
+    (
+        "limits simple_one_for_one.toml",
+        "-",
+        r##"child                             burst      interval  stops  starts  gives up
+connection                            1       5001 ms      0       1  supervisor
+a crash of connection
+  stops  nothing
+  starts connection
 status 0
 "##,
     ),

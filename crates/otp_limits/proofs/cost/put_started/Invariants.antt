@@ -5,4 +5,4 @@ use Rattle.otp_limits.proofs.cost.put_started.Given as goal
 
 abbrev pub invariant-loop-order : goal.invariant-loop-order
 invariant-loop-order l =
-    l.names ++ filter_map started_by (drop l.order-index l.orders) ≡ l.fn.names ++ filter_map started_by l.orders
+    l.names ++ filter_map (started_by l.spec) (drop l.order-index l.orders) ≡ l.fn.names ++ filter_map (started_by l.spec) l.orders
