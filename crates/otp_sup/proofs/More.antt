@@ -1,5 +1,5 @@
 -- A port has what it had, and what it took besides.
-use Rattle.std.specs.Prelude.{◌≡◌, ℕ, ◌≤◌, ◌++◌, List, [], ◌∷◌}
+use Rattle.std.specs.Prelude.{◌≡◌, ℕ, ◌≤◌, ◌++◌, true, List, [], ◌∷◌}
 use Rattle.std.proofs.Common.{◌∙◌, ap, arith, append-nil, append_assoc, sym}
 use Rattle.otp_reason.specs.declared.note.Note.{Note}
 use Rattle.otp_sup.specs.declared.orders.Sending.{Sending}
@@ -37,7 +37,7 @@ took_note before after refusals later n is le = record {
 }
 
 sent_more : (how : Sending) (old new : OfficeView) (before after : Taken) (refusals later : ℕ) → IsSent how old new before after → refusals ≤ later → TookMore before after refusals later
-sent_more (sending.Start n) old new before after refusals later s le = took_process before after refusals later (launched n s.slot s.body) s.took le
+sent_more (sending.Start n) old new before after refusals later s le = took_process before after refusals later (launched n s.slot true) s.took le
 sent_more (sending.Ask n) old new before after refusals later s le = took_none before after refusals later s.took le
 sent_more (sending.Kill n) old new before after refusals later s le = took_none before after refusals later s.took le
 sent_more (sending.Tell x) old new before after refusals later s le = took_note before after refusals later x s.took le

@@ -25,7 +25,7 @@ pub mod sup;
 pub mod table;
 pub mod turns;
 
-pub use bodies::{Bodies, Kept, Origin, Place};
+pub use bodies::{Bodies, Kept, Origin, Place, count_opened};
 pub use client::{Client, SplitFault, SubmitCause, SubmitFault};
 pub use letter::Letter;
 pub use office::Office;

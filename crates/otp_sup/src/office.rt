@@ -1,12 +1,13 @@
 //! A core with the seat that draws its numbers, and its orders on their way.
 ghost use Rattle.std.specs.Prelude.{◌≡◌, ◌+◌, ◌<◌, ◌≤◌, ◌^◌, [], true, length, Contains, IsTrue, IfSome, IfOk, IfErr, OnOk, MatchOption, Some, None, option_map};
+ghost use Rattle.otp_spec.specs.declared.limits.TheConstants.{MAX_CHILDREN, MAX_EVENTS, MAX_READING};
 ghost use Rattle.otp_core.specs.Opened.{IsOpenFault};
 ghost use Rattle.otp_core.specs.View.{state_of};
 ghost use Rattle.otp_spec.specs.Supervisor.{supervisor_fault};
 ghost use Rattle.otp_rules.specs.State.{own_number, is_over};
 ghost use Rattle.otp_rules.specs.Run.{reply_of};
 ghost use Rattle.otp_signals.specs.Lists.{EachBetween};
-ghost use Rattle.otp_sup.specs.Facts.{item_of, new_office, KeepsOffice};
+ghost use Rattle.otp_sup.specs.Facts.{item_of, new_office, IsOpening, KeepsOffice};
 ghost use Rattle.otp_sup.specs.Bodies.{IsPlan, given_in, home_of, is_any_waiting, is_start_item, is_start_waiting, is_taken_up, is_waited_for};
 ghost use Rattle.otp_sup.specs.Slots.{AreBelow};
 ghost use Rattle.otp_sup.specs.declared.turns.TurnFault.TheVariants as fault;
@@ -39,7 +40,7 @@ pub struct Office<N: WordsNaming> {
     /// The first effect that is still to be sent: an order, or behind all.
     pub(crate) next: usize,
     pub(crate) sent: Tally,
-    /// The first of the 256 slots to which it posts.
+    /// The first of the slots to which it posts: one for each child that there can be.
     pub(crate) first_slot: usize,
     of: PhantomData<N>,
 }
@@ -109,7 +110,8 @@ fn may_open(number: u64, phase: Phase) -> bool
 
 impl<N: WordsNaming> Office<N> {
     /// The office of a supervisor that was never opened, for children of these specifications. Its seat drew no number
-    /// and posted nothing, and owns the 256 slots from the first one on: one for each child that there can be.
+    /// and posted nothing, and owns the slots from the first one on: [`MAX_CHILDREN`](otp_spec::MAX_CHILDREN), one for each child that there can
+    /// be.
     ///
     /// # Errors
     ///
@@ -123,8 +125,8 @@ impl<N: WordsNaming> Office<N> {
     ) -> Result<Self, OpenFault>
         requires drawn { owner.drawn ≡ [] }
         requires posts { owner.posts ≡ [] }
-        requires slots { EachBetween first_slot (first_slot + 256) (Contains owner.slots) }
-        requires fits { first_slot + 256 < 2 ^ 64 }
+        requires slots { EachBetween first_slot (first_slot + MAX_CHILDREN) (Contains owner.slots) }
+        requires fits { first_slot + MAX_CHILDREN < 2 ^ 64 }
         ensures ok { OnOk result (supervisor_fault flags specs.now ≡ None) }
         ensures new { IfOk result (λ office. office ≡ new_office flags specs.now owner first_slot) }
         ensures fault { IfErr result (λ why. IsOpenFault why (supervisor_fault flags specs.now)) }
@@ -144,7 +146,7 @@ impl<N: WordsNaming> Office<N> {
     #[tactic(auto, unfolding(crate::specs::Turns::early_answer))]
     pub fn early_answer(&self, number: u64) -> Option<Result<TurnAnswer, TurnFault>>
         ensures answer { result ≡ early_answer self.now number }
-        ensures room { result ≡ None → length self.now.core.history < 65536 }
+        ensures room { result ≡ None → length self.now.core.history < MAX_EVENTS }
         ensures outbox { result ≡ None → self.now.outbox ≡ [] }
     {
         let own = own_number(self.core.phase());
@@ -168,6 +170,7 @@ impl<N: WordsNaming> Office<N> {
     pub fn due_kind(&self, number: u64, reading: u64, told: Signal) -> Option<Kind>
         ensures kind { result ≡ due_kind (state_of self.now.core) number reading told }
         ensures no_item { IfSome result (λ kind. item_of kind ≡ None) }
+        ensures over { IfSome result (λ kind. IsOpening kind → is_over (state_of self.now.core).phase ≡ true) }
     {
         if may_open(number, self.core.phase()) {
             return Some(Kind::Opened(number));
@@ -210,9 +213,9 @@ impl<N: WordsNaming> Office<N> {
     /// One event. Its number is drawn where it starts a child.
     pub fn happen(&mut self, words: &Words<N>, reading: u64, kind: Kind)
         requires prepared { IsTrue self.old.core.prepared }
-        requires room { length self.old.core.history < 65536 }
+        requires room { length self.old.core.history < MAX_EVENTS }
         requires quota { 0 < self.old.owner.quota }
-        requires reading { reading ≤ 2 ^ 62 }
+        requires reading { reading ≤ MAX_READING }
         requires outbox { self.old.outbox ≡ [] }
         ensures { Happened reading kind self.old self.new }
     {
@@ -233,10 +236,10 @@ impl<N: WordsNaming> Office<N> {
         let _ = self.core.restarts();
     }
 
-    /// The supervisor's children, in start order. Each has a slot of its own, of the first 256.
+    /// The supervisor's children, in start order. Each has a slot of its own, of as many as there can be children.
     pub(crate) fn rows(&self) -> &[Row]
         ensures value { result.now ≡ (state_of self.now.core).rows }
-        ensures limit { length result.now ≤ 256 }
+        ensures limit { length result.now ≤ MAX_CHILDREN }
         ensures below { AreBelow result.now }
     {
         laws::slots_are_owned();

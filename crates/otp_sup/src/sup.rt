@@ -1,7 +1,8 @@
 //! A table under its lock, beside its inbox.
-ghost use Rattle.std.specs.Prelude.{◌≡◌, ◌⊎◌, ◌≤◌, ◌^◌, Ok};
+ghost use Rattle.std.specs.Prelude.{◌≡◌, ◌⊎◌, ◌≤◌, Ok};
+ghost use Rattle.otp_spec.specs.declared.limits.TheConstants.{MAX_READING};
 ghost use Rattle.otp_sup.specs.Ports.{TookMore, taken_by};
-ghost use Rattle.otp_sup.specs.Turns.{TurnedUnder};
+ghost use Rattle.otp_sup.specs.Turns.{IsOfAnother, TurnedUnder};
 ghost use Rattle.otp_sup.specs.declared.turns.TurnAnswer.TheVariants as answer;
 
 use crate::letter::Letter;
@@ -55,8 +56,8 @@ impl<N: WordsNaming + InboxNaming, B: Drop> Sup<N, B> {
         reading: u64,
         told: Signal,
     ) -> Result<TurnAnswer, TurnFault>
-        requires { reading ≤ 2 ^ 62 }
-        ensures turned { (result ≡ Ok answer.Pending) ⊎ TurnedUnder self.now.inbox number reading told result }
+        requires { reading ≤ MAX_READING }
+        ensures turned { TurnedUnder self.now.inbox number reading told result ⊎ ((result ≡ Ok answer.Pending) × IsOfAnother self.now.inbox) }
         ensures port { TookMore (taken_by (P.processes port.old) (P.notes port.old)) (taken_by (P.processes port.new) (P.notes port.new)) (P.refusals port.old) (P.refusals port.new) }
     {
         let mut guard = self.table.lock(rt);

@@ -6,7 +6,7 @@ use otp_reason::{Name, Note, Reason, Text};
 use otp_rules::{Call, CallFault, Item, Reply};
 use otp_signals::{OpenWords, Signal, Viewer, Words, WordsNaming};
 use otp_spec::{ChildSpec, SupFlags};
-use otp_sup::{Bodies, Letter, MemoryPort, Office, Sup, Table, TurnAnswer, TurnFault};
+use otp_sup::{Bodies, Letter, MemoryPort, Office, Sup, Table, TurnAnswer, TurnFault, count_opened};
 use std::alloc::Global;
 use std::marker::Brand;
 use std::process::Abort;
@@ -63,11 +63,12 @@ fn make_driven<N: WordsNaming + InboxNaming, B: Drop>(
     let (words, mut owner) = words.named::<N>();
     let viewer = words.viewer(&mut owner);
     let (inbox, taker, sender) = inbox.named::<N>(0);
-    let office = Office::open(alloc, SupFlags::default(), &[child()?], owner, 0)?;
+    let (flags, specs) = (SupFlags::default(), [child()?]);
     let mut bodies = Bodies::new(alloc);
-    if bodies.hand_in(0, body).is_err() {
+    if bodies.hand_in(0, body).is_err() || !bodies.are_ready(count_opened(&flags, &specs)) {
         return Err("a body was refused".into());
     }
+    let office = Office::open(alloc, flags, &specs, owner, 0)?;
     let sup = Sup::new(inbox, Table::new(office, taker, bodies));
     Ok(Driven {
         words,
