@@ -26,7 +26,7 @@ use Rattle.otp_sup.specs.declared.bodies.Place.{Place}
 use Rattle.otp_sup.specs.declared.bodies.Place.TheVariants as place
 use Rattle.otp_sup.specs.Letters.{carries_body, is_end_note}
 use Rattle.otp_sup.specs.Slots.{slot_of}
-use Rattle.otp_sup.specs.declared.office.Plan.{Plan}
+use Rattle.otp_sup.specs.declared.plans.Plan.{Plan}
 use Rattle.otp_sup.specs.declared.port.Flushed.{Flushed}
 use Rattle.otp_sup.specs.declared.port.Flushed.TheVariants as flushed
 

@@ -1,5 +1,5 @@
 -- What the sending of an order does.
-use Rattle.std.specs.Prelude.{◌≡◌, ℕ, ◌+◌, ◌<◌, List, [], ◌∷◌, ◌++◌, Option, Some, None, true}
+use Rattle.std.specs.Prelude.{◌≡◌, ℕ, ◌+◌, ◌<◌, List, [], ◌∷◌, ◌++◌, Option, Some, None, Bool, true, false}
 use Rattle.otp_reason.specs.declared.note.Note.{Note}
 use Rattle.otp_reason.specs.declared.note.Note.TheVariants as note
 use Rattle.otp_reason.specs.declared.reason.Reason.{Reason}
@@ -120,6 +120,11 @@ pub record SentNone (old new : OfficeView) : Type 0 where
   pub core : new.core ≡ old.core
   pub first_slot : new.first_slot ≡ old.first_slot
   pub refused : IsRefused how old new
+
+abbrev pub was_sent : Flushed → Bool
+was_sent flushed.Empty = false
+was_sent flushed.Sent = true
+was_sent flushed.Refused = false
 
 abbrev pub Flushes : Flushed → OfficeView → OfficeView → Taken → Taken → ℕ → ℕ → Type 0
 Flushes flushed.Empty old new before after refusals later = (old.outbox ≡ []) × (new ≡ old) × (after ≡ before) × (later ≡ refusals)

@@ -1,5 +1,5 @@
 -- What a turn of a table does.
-use Rattle.std.specs.Prelude.{◌≡◌, ◌<◌, All, ℕ, ⊤, ◌+◌, Bool, true, false, not, ◌&&◌, nat_lt, nat_le, max, is_some, List, [], ◌∷◌, ◌++◌, Option, Some, None, Result, Ok, Err, length, if◌then◌else◌, MatchOption, MatchResult}
+use Rattle.std.specs.Prelude.{◌≡◌, ◌⊎◌, ◌<◌, All, ℕ, ⊤, ◌+◌, Bool, true, false, not, ◌&&◌, nat_lt, nat_le, max, is_some, List, [], ◌∷◌, ◌++◌, Option, Some, None, Result, Ok, Err, length, if◌then◌else◌, MatchOption, MatchResult}
 use Rattle.std.specs.List.{list_any}
 use Rattle.otp_spec.specs.declared.limits.TheConstants.{MAX_EVENTS}
 use Rattle.otp_rules.specs.declared.event.Item.{Item}
@@ -162,3 +162,9 @@ pub record TurnedUnder (inbox number reading : ℕ) (told : Signal) (result : Re
   pub rules : KeepsRules old
   pub of_inbox : old.taker.inbox ≡ inbox
   pub turned : Turned number reading told old new result
+
+-- a table that kept the rules has no order left to be sent, or the port refused one
+pub record IsFlushed (refusals later : ℕ) : Type 0 where
+  pub table : TableView
+  pub rules : KeepsRules table
+  pub sent : (table.office.outbox ≡ []) ⊎ (refusals < later)

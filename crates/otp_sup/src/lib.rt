@@ -17,6 +17,7 @@ pub mod letter;
 mod moves;
 pub mod office;
 pub mod orders;
+mod plans;
 pub mod port;
 mod replies;
 mod rows;

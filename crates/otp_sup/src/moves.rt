@@ -13,7 +13,8 @@ ghost use Rattle.otp_sup.specs.Facts.{HasBodies, IsOpening};
 ghost use Rattle.otp_sup.specs.Turns.{Happened};
 
 use crate::bodies::Bodies;
-use crate::office::{Office, Plan};
+use crate::office::Office;
+use crate::plans::Plan;
 use otp_rules::{Item, Kind, laws, lives};
 use otp_signals::{Words, WordsNaming};
 
