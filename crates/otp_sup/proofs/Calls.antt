@@ -30,7 +30,7 @@ use Rattle.otp_sup.specs.declared.bodies.Origin.TheVariants as origin
 use Rattle.otp_sup.specs.declared.bodies.Place.{Place}
 use Rattle.otp_sup.specs.declared.bodies.Place.TheVariants as placed
 use Rattle.otp_sup.specs.Letters.{is_end_note}
-use Rattle.otp_sup.specs.Bodies.{bodies_after, bodies_sent, calls_waiting, came_for, home_of, home_or_free, is_any_waiting, is_at_home, is_away, is_away_from, is_free_place, is_home_of, is_start_item, is_start_waiting, is_waited_for, is_waiting, left_home, let_go, move_first, moved, opened, opened_place, place_among, place_of_call, received, settled, slot_given, stray, taken_up, waiting_as, waiting_call, without_first}
+use Rattle.otp_sup.specs.Bodies.{bodies_after, bodies_sent, calls_waiting, came_for, home_of, home_or_free, is_any_waiting, is_at_home, is_away, is_away_from, is_free_place, is_home_of, is_start_item, is_start_waiting, is_waited_for, is_waiting, left_home, let_go, move_first, moved, opened, opened_place, place_among, place_of_call, place_without_line, received, settled, slot_given, stray, taken_up, waiting_as, waiting_call, without_first}
 
 -- a body more: it waits with no call
 put_calls : (kept : List Kept) (b : Kept) → waiting_call b ≡ None → calls_waiting (kept ++ b ∷ []) ≡ calls_waiting kept
@@ -55,14 +55,14 @@ home_calls slot b away = of b.origin b.place away
     of (origin.Call c) placed.Waiting h = absurd (false≢true h)
     of (origin.Call c) placed.Free h = refl
     of (origin.Call c) (placed.Away k) h = refl
-    of (origin.Call c) placed.Gone h = refl
 
 came_calls : (home : Option ℕ) (kept : List Kept) → calls_waiting (came_for home kept) ≡ calls_waiting kept
 came_calls None kept = put_calls kept stray refl
 came_calls (Some slot) kept =
-    cond_both (list_any (is_away slot) kept) (move_first (is_away slot) (placed.Home slot) kept) (kept ++ stray ∷ []) (λ (l : List Kept). calls_waiting l ≡ calls_waiting kept)
+    let b : Kept = record { origin = origin.Nobody; place = place_without_line slot kept } in
+    cond_both (list_any (is_away slot) kept) (move_first (is_away slot) (placed.Home slot) kept) (kept ++ b ∷ []) (λ (l : List Kept). calls_waiting l ≡ calls_waiting kept)
     (λ _. moved_calls (is_away slot) (placed.Home slot) kept (home_calls slot))
-    (λ _. put_calls kept stray refl)
+    (λ _. put_calls kept b refl)
 
 free_calls : (o : Origin) (slot : Option ℕ) → waiting_as o (home_or_free slot) ≡ None
 free_calls (origin.Spec k) slot = refl
@@ -151,10 +151,7 @@ settled_one rows any (origin.Call c) (placed.Home k) =
 settled_one rows true (origin.Call c) placed.Waiting = refl
 settled_one rows false (origin.Call c) placed.Waiting = refl
 settled_one rows any (origin.Call c) placed.Free = cond_both any None None (λ (x : Option ℕ). None ≡ x) (λ _. refl) (λ _. refl)
-settled_one rows any (origin.Call c) (placed.Away k) =
-    cond_both (list_any (has_slot k) rows) (placed.Away k) placed.Gone (λ (p : Place). waiting_as (origin.Call c) p ≡ None) (λ _. refl) (λ _. refl)
-    ∙ cond_both any None None (λ (x : Option ℕ). None ≡ x) (λ _. refl) (λ _. refl)
-settled_one rows any (origin.Call c) placed.Gone = cond_both any None None (λ (x : Option ℕ). None ≡ x) (λ _. refl) (λ _. refl)
+settled_one rows any (origin.Call c) (placed.Away k) = cond_both any None None (λ (x : Option ℕ). None ≡ x) (λ _. refl) (λ _. refl)
 
 pub settled_calls : (rows : List Row) (any : Bool) (kept : List Kept) → calls_waiting (settled rows any kept) ≡ (if any then calls_waiting kept else [])
 settled_calls rows true [] = refl
@@ -162,17 +159,17 @@ settled_calls rows false [] = refl
 settled_calls rows true (b ∷ bs) = ap (λ (x : Option ℕ). cons_option x (calls_waiting (settled rows true bs))) (settled_one rows true b.origin b.place) ∙ ap (λ (l : List ℕ). cons_option (waiting_call b) l) (settled_calls rows true bs)
 settled_calls rows false (b ∷ bs) = ap (λ (x : Option ℕ). cons_option x (calls_waiting (settled rows false bs))) (settled_one rows false b.origin b.place) ∙ settled_calls rows false bs
 
-opened_one : (n : ℕ) (o : Origin) (at : Place) → waiting_as o (opened_place n o at) ≡ waiting_as o at
+opened_one : (n : List Row) (o : Origin) (at : Place) → waiting_as o (opened_place n o at) ≡ waiting_as o at
 opened_one n (origin.Spec k) at = refl
 opened_one n (origin.Call c) at = refl
 opened_one n origin.Nobody at = refl
 
-opened_calls : (n : ℕ) (kept : List Kept) → calls_waiting (opened n kept) ≡ calls_waiting kept
+opened_calls : (n : List Row) (kept : List Kept) → calls_waiting (opened n kept) ≡ calls_waiting kept
 opened_calls n [] = refl
 opened_calls n (b ∷ bs) = ap (λ (x : Option ℕ). cons_option x (calls_waiting (opened n bs))) (opened_one n b.origin b.place) ∙ ap (λ (l : List ℕ). cons_option (waiting_call b) l) (opened_calls n bs)
 
 let_go_calls : (later : State) (k : Kind) (kept : List Kept) → calls_waiting (let_go later k kept) ≡ (if is_any_waiting later then calls_waiting kept else [])
-let_go_calls later (kind.Opened own) kept = opened_calls (length later.rows) (settled [] (is_any_waiting later) kept) ∙ settled_calls [] (is_any_waiting later) kept
+let_go_calls later (kind.Opened own) kept = opened_calls later.rows (settled [] (is_any_waiting later) kept) ∙ settled_calls [] (is_any_waiting later) kept
 let_go_calls later (kind.Took x) kept = settled_calls later.rows (is_any_waiting later) kept
 let_go_calls later kind.Resumed kept = settled_calls later.rows (is_any_waiting later) kept
 let_go_calls later kind.Ticked kept = settled_calls later.rows (is_any_waiting later) kept
@@ -199,7 +196,7 @@ nothing_waits o begins none =
     ap (λ (h : List Event). starts_waiting (state_after o.core.base h).waiting) none ∙ ap (λ (b : State). starts_waiting b.waiting) begins.is
 
 -- the state after one event more is that of its step
-later_is : (old new : OfficeView) (reading : ℕ) (k : Kind) → RunGoesOn → (h : Happened reading k old new) → state_of new.core ≡ (step (state_of old.core) (record { reading = reading; number = h.number; kind = k })).state
+pub later_is : (old new : OfficeView) (reading : ℕ) (k : Kind) → RunGoesOn → (h : Happened reading k old new) → state_of new.core ≡ (step (state_of old.core) (record { reading = reading; number = h.number; kind = k })).state
 later_is old new reading k joined h =
     ap (λ (b : State). state_after b new.core.history) h.base
     ∙ ap (λ (l : List Event). state_after old.core.base l) h.history
@@ -232,7 +229,6 @@ without_calls test (b ∷ bs) free =
     free_waits (origin.Call c) placed.Waiting h = absurd (false≢true h)
     free_waits (origin.Call c) placed.Free h = refl
     free_waits (origin.Call c) (placed.Away k) h = refl
-    free_waits (origin.Call c) placed.Gone h = refl
 
 -- a body that leaves home waited with no call
 left_one : (slot : ℕ) (o : Origin) (at : Place) → is_home_of slot at ≡ true → waiting_as o (placed.Away slot) ≡ waiting_as o at
@@ -242,7 +238,6 @@ left_one slot (origin.Call c) (placed.Home k) h = refl
 left_one slot (origin.Call c) placed.Waiting h = absurd (false≢true h)
 left_one slot (origin.Call c) placed.Free h = refl
 left_one slot (origin.Call c) (placed.Away k) h = refl
-left_one slot (origin.Call c) placed.Gone h = refl
 
 left_calls : (slot : Option ℕ) (kept : List Kept) → calls_waiting (left_home slot kept) ≡ calls_waiting kept
 left_calls None kept = refl

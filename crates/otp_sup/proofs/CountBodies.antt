@@ -1,5 +1,5 @@
 -- How many bodies a supervisor has after an event, and once a body has left.
-use Rattle.std.specs.Prelude.{◌≡◌, ℕ, ◌+◌, ◌++◌, ◌||◌, Bool, true, false, List, [], ◌∷◌, Option, None, Some, refl, if◌then◌else◌, length}
+use Rattle.std.specs.Prelude.{◌≡◌, ℕ, ◌+◌, ◌++◌, ◌||◌, Bool, true, false, List, [], ◌∷◌, Option, None, Some, refl, if◌then◌else◌}
 use Rattle.std.specs.List.{list_any}
 use Rattle.std.proofs.Common.{◌∙◌, ap, sym, arith, cond, ⊎_elim}
 use Rattle.std.proofs.lemmas.Bool.{false≢true, cases_Bool, cond_both}
@@ -15,7 +15,7 @@ use Rattle.otp_sup.specs.declared.bodies.Origin.TheVariants as origin
 use Rattle.otp_sup.specs.declared.bodies.Place.{Place}
 use Rattle.otp_sup.specs.declared.bodies.Place.TheVariants as placed
 use Rattle.otp_sup.specs.Letters.{is_end_note, one_if}
-use Rattle.otp_sup.specs.Bodies.{bodies_after, bodies_in, brings_body, came_for, home_of, home_or_free, is_any_waiting, is_at_home, is_away, is_away_from, is_here, is_taken_up, is_waited_for, is_waiting, let_go, move_first, moved, opened, opened_place, place_among, place_of_call, settled, slot_given, stray, taken_up}
+use Rattle.otp_sup.specs.Bodies.{bodies_after, bodies_in, brings_body, came_for, has_body, home_of, home_or_free, is_any_waiting, is_at_home, is_away, is_away_from, is_here, is_taken_up, is_waited_for, is_waiting, let_go, move_first, moved, opened, opened_place, place_among, place_of_call, place_without_line, settled, slot_given, stray, taken_up}
 use Rattle.otp_sup.proofs.Keeping.{home_is_here, opened_place-here, place_among-here, waiting_is_here}
 
 abbrev one : Place → ℕ
@@ -51,14 +51,17 @@ away_gone slot (placed.Home k) h = absurd (false≢true h)
 away_gone slot placed.Waiting h = absurd (false≢true h)
 away_gone slot placed.Free h = absurd (false≢true h)
 away_gone slot (placed.Away k) h = refl
-away_gone slot placed.Gone h = refl
+
+without_line_here : (slot : ℕ) (kept : List Kept) → is_here (place_without_line slot kept) ≡ true
+without_line_here slot kept = cond_both (has_body slot kept) placed.Free (placed.Home slot) (λ (p : Place). is_here p ≡ true) (λ _. refl) (λ _. refl)
 
 came_count : (home : Option ℕ) (kept : List Kept) → bodies_in (came_for home kept) ≡ bodies_in kept + 1
 came_count None kept = put_count kept stray refl
 came_count (Some slot) kept =
-    cond_both (list_any (is_away slot) kept) (move_first (is_away slot) (placed.Home slot) kept) (kept ++ stray ∷ []) (λ (l : List Kept). bodies_in l ≡ bodies_in kept + 1)
+    let b : Kept = record { origin = origin.Nobody; place = place_without_line slot kept } in
+    cond_both (list_any (is_away slot) kept) (move_first (is_away slot) (placed.Home slot) kept) (kept ++ b ∷ []) (λ (l : List Kept). bodies_in l ≡ bodies_in kept + 1)
     (λ any. omega (arith, moved_count (is_away slot) (placed.Home slot) false kept (λ b t. away_gone slot b.place t) any))
-    (λ _. put_count kept stray refl)
+    (λ _. put_count kept b (without_line_here slot kept))
 
 free_here : (slot : Option ℕ) → is_here (home_or_free slot) ≡ true
 free_here None = refl
@@ -104,14 +107,14 @@ settled_count rows any (b ∷ bs) =
     let h : ◌≡◌ {A = ℕ} (one (place_among rows any b.place)) (one b.place) = ap (λ (x : Bool). cond x 1 0) (place_among-here rows any b.place) in
     omega (arith, h, counted b bs, counted (record b { place = place_among rows any b.place }) (settled rows any bs), settled_count rows any bs)
 
-opened_count : (n : ℕ) (kept : List Kept) → bodies_in (opened n kept) ≡ bodies_in kept
+opened_count : (n : List Row) (kept : List Kept) → bodies_in (opened n kept) ≡ bodies_in kept
 opened_count n [] = refl
 opened_count n (b ∷ bs) =
     let h : ◌≡◌ {A = ℕ} (one (opened_place n b.origin b.place)) (one b.place) = ap (λ (x : Bool). cond x 1 0) (opened_place-here n b.origin b.place) in
     omega (arith, h, counted b bs, counted (record b { place = opened_place n b.origin b.place }) (opened n bs), opened_count n bs)
 
 let_go_count : (later : State) (k : Kind) (kept : List Kept) → bodies_in (let_go later k kept) ≡ bodies_in kept
-let_go_count later (kind.Opened own) kept = opened_count (length later.rows) (settled [] (is_any_waiting later) kept) ∙ settled_count [] (is_any_waiting later) kept
+let_go_count later (kind.Opened own) kept = opened_count later.rows (settled [] (is_any_waiting later) kept) ∙ settled_count [] (is_any_waiting later) kept
 let_go_count later (kind.Took x) kept = settled_count later.rows (is_any_waiting later) kept
 let_go_count later kind.Resumed kept = settled_count later.rows (is_any_waiting later) kept
 let_go_count later kind.Ticked kept = settled_count later.rows (is_any_waiting later) kept

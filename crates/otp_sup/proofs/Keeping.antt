@@ -15,7 +15,6 @@ use Rattle.otp_sup.specs.declared.bodies.Origin.TheVariants as origin
 use Rattle.otp_sup.specs.declared.bodies.Place.TheVariants as placed
 use Rattle.otp_table.specs.declared.row.Row.{Row}
 use Rattle.otp_table.specs.Rows.{has_slot}
-use Rattle.std.specs.Prelude.{nat_lt}
 use Rattle.otp_sup.specs.Bodies.{is_at_home, is_free_place, is_here, is_home_of, move_first, opened, opened_place, place_among, put_home, put_home_at, settled, waiting_as, without_first}
 
 pub or_false : (a b : Bool) → (a || b) ≡ false → (a ≡ false) × (b ≡ false)
@@ -108,27 +107,25 @@ pub changed_here : (xs : List Kept) (i : ℕ) (now : Kept) (to : Place) → now 
     → map (λ (k : Kept). is_here k.place) (slice_set xs i (record { origin = now.origin; place = to })) ≡ map (λ (k : Kept). is_here k.place) xs
 changed_here xs i now to at same = map-set_same (λ (k : Kept). is_here k.place) xs i (record { origin = now.origin; place = to }) now (sym same ∙ ap (λ (k : Kept). is_here k.place) at)
 
-pub opened_place-here : (children : ℕ) (o : Origin) (at : Place) → is_here (opened_place children o at) ≡ is_here at
-opened_place-here children (origin.Spec k) (placed.Home j) = refl
-opened_place-here children (origin.Spec k) placed.Waiting = refl
-opened_place-here children (origin.Spec k) placed.Free = cond_both (nat_lt k children) (placed.Home k) placed.Free (λ (p : Place). is_here p ≡ true) (λ _. refl) (λ _. refl)
-opened_place-here children (origin.Spec k) (placed.Away j) = refl
-opened_place-here children (origin.Spec k) placed.Gone = refl
-opened_place-here children (origin.Call c) at = refl
-opened_place-here children origin.Nobody at = refl
+pub opened_place-here : (rows : List Row) (o : Origin) (at : Place) → is_here (opened_place rows o at) ≡ is_here at
+opened_place-here rows (origin.Spec k) (placed.Home j) = refl
+opened_place-here rows (origin.Spec k) placed.Waiting = refl
+opened_place-here rows (origin.Spec k) placed.Free = cond_both (list_any (has_slot k) rows) (placed.Home k) placed.Free (λ (p : Place). is_here p ≡ true) (λ _. refl) (λ _. refl)
+opened_place-here rows (origin.Spec k) (placed.Away j) = refl
+opened_place-here rows (origin.Call c) at = refl
+opened_place-here rows origin.Nobody at = refl
 
-pub opened_here : (children : ℕ) (xs : List Kept) → map (λ (k : Kept). is_here k.place) (opened children xs) ≡ map (λ (k : Kept). is_here k.place) xs
-opened_here children [] = refl
-opened_here children (x ∷ xs) =
-    ap (λ (b : Bool). b ∷ map (λ (k : Kept). is_here k.place) (opened children xs)) (opened_place-here children x.origin x.place)
-    ∙ ap (λ (l : List Bool). is_here x.place ∷ l) (opened_here children xs)
+pub opened_here : (rows : List Row) (xs : List Kept) → map (λ (k : Kept). is_here k.place) (opened rows xs) ≡ map (λ (k : Kept). is_here k.place) xs
+opened_here rows [] = refl
+opened_here rows (x ∷ xs) =
+    ap (λ (b : Bool). b ∷ map (λ (k : Kept). is_here k.place) (opened rows xs)) (opened_place-here rows x.origin x.place)
+    ∙ ap (λ (l : List Bool). is_here x.place ∷ l) (opened_here rows xs)
 
 pub place_among-here : (rows : List Row) (any : Bool) (at : Place) → is_here (place_among rows any at) ≡ is_here at
 place_among-here rows any (placed.Home k) = cond_both (list_any (has_slot k) rows) (placed.Home k) placed.Free (λ (p : Place). is_here p ≡ true) (λ _. refl) (λ _. refl)
 place_among-here rows any placed.Waiting = cond_both any placed.Waiting placed.Free (λ (p : Place). is_here p ≡ true) (λ _. refl) (λ _. refl)
 place_among-here rows any placed.Free = refl
-place_among-here rows any (placed.Away k) = cond_both (list_any (has_slot k) rows) (placed.Away k) placed.Gone (λ (p : Place). is_here p ≡ false) (λ _. refl) (λ _. refl)
-place_among-here rows any placed.Gone = refl
+place_among-here rows any (placed.Away k) = refl
 
 pub settled_here : (rows : List Row) (any : Bool) (xs : List Kept) → map (λ (k : Kept). is_here k.place) (settled rows any xs) ≡ map (λ (k : Kept). is_here k.place) xs
 settled_here rows any [] = refl
@@ -143,7 +140,6 @@ home_is_here slot (placed.Home k) h = refl
 home_is_here slot placed.Waiting h = refl
 home_is_here slot placed.Free h = refl
 home_is_here slot (placed.Away k) h = absurd (false≢true h)
-home_is_here slot placed.Gone h = absurd (false≢true h)
 
 pub waiting_is_here : (o : Origin) (at : Place) → is_some (waiting_as o at) ≡ true → is_here at ≡ true
 waiting_is_here (origin.Spec k) at h = absurd (false≢true h)
@@ -152,7 +148,6 @@ waiting_is_here (origin.Call c) (placed.Home k) h = refl
 waiting_is_here (origin.Call c) placed.Waiting h = refl
 waiting_is_here (origin.Call c) placed.Free h = refl
 waiting_is_here (origin.Call c) (placed.Away k) h = absurd (false≢true h)
-waiting_is_here (origin.Call c) placed.Gone h = absurd (false≢true h)
 
 pub free_is_here : (b : Kept) → is_free_place b.place ≡ true → is_here b.place ≡ true
 free_is_here b h = of b.place h
@@ -162,7 +157,6 @@ free_is_here b h = of b.place h
     of placed.Waiting f = refl
     of placed.Free f = refl
     of (placed.Away k) f = absurd (false≢true f)
-    of placed.Gone f = absurd (false≢true f)
 
 -- a body that left comes back to its place: all is as it was
 
@@ -171,7 +165,6 @@ home_is slot (placed.Home k) h = ap (λ (n : ℕ). placed.Home n) (sym (eqb-true
 home_is slot placed.Waiting h = absurd (false≢true h)
 home_is slot placed.Free h = absurd (false≢true h)
 home_is slot (placed.Away k) h = absurd (false≢true h)
-home_is slot placed.Gone h = absurd (false≢true h)
 
 put_home-behind : (i slot : ℕ) (x : Kept) (ys : List Kept) → put_home (suc i) slot (x ∷ ys) ≡ x ∷ put_home i slot ys
 put_home-behind i slot x ys = by_found (slice_get ys i) refl

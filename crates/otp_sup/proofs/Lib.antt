@@ -7,3 +7,8 @@ pub mod Calls
 pub mod CountBodies
 pub mod Leaving
 pub mod More
+pub mod StartOrders
+pub mod Placed
+pub mod Heeding
+pub mod Homes
+pub mod Flushing

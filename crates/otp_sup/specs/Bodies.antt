@@ -2,6 +2,7 @@
 -- child's process, and comes home with the note of that process's end.
 use Rattle.std.specs.Prelude.{◌≡◌, ℕ, ◌==◌, ◌<◌, Bool, true, false, not, ◌&&◌, List, [], ◌∷◌, ◌++◌, Option, Some, None, is_some, nat_lt, length, filter_map, map, slice_get, slice_set, if◌then◌else◌, count_by}
 use Rattle.std.specs.List.{list_any}
+use Prim.Native.Nat.{zero, suc}
 use Rattle.otp_reason.specs.declared.note.Note.{Note}
 use Rattle.otp_reason.specs.declared.note.Note.TheVariants as note
 use Rattle.otp_table.specs.declared.row.Row.{Row}
@@ -25,7 +26,7 @@ use Rattle.otp_sup.specs.declared.bodies.Place.{Place}
 use Rattle.otp_sup.specs.declared.bodies.Place.TheVariants as place
 use Rattle.otp_sup.specs.Letters.{carries_body, is_end_note}
 use Rattle.otp_sup.specs.Slots.{slot_of}
-use Rattle.otp_sup.specs.declared.office.Plan.{Plan}
+use Rattle.otp_sup.specs.declared.plans.Plan.{Plan}
 use Rattle.otp_sup.specs.declared.port.Flushed.{Flushed}
 use Rattle.otp_sup.specs.declared.port.Flushed.TheVariants as flushed
 
@@ -35,7 +36,6 @@ is_here (place.Home _) = true
 is_here place.Waiting = true
 is_here place.Free = true
 is_here (place.Away _) = false
-is_here place.Gone = false
 
 -- how many bodies the supervisor has
 abbrev pub bodies_in : List Kept → ℕ
@@ -46,7 +46,6 @@ is_home_of slot (place.Home k) = k == slot
 is_home_of slot place.Waiting = false
 is_home_of slot place.Free = false
 is_home_of slot (place.Away _) = false
-is_home_of slot place.Gone = false
 
 -- the body of the child in this slot, which has no process
 abbrev pub is_at_home : ℕ → Kept → Bool
@@ -57,11 +56,14 @@ is_away_from slot (place.Home _) = false
 is_away_from slot place.Waiting = false
 is_away_from slot place.Free = false
 is_away_from slot (place.Away k) = k == slot
-is_away_from slot place.Gone = false
 
 -- the body of the child in this slot, which is with its process
 abbrev pub is_away : ℕ → Kept → Bool
 is_away slot b = is_away_from slot b.place
+
+-- how many bodies of the child in this slot are with its process
+abbrev pub count_away : ℕ → List Kept → ℕ
+count_away slot kept = count_by (is_away slot) kept
 
 -- the child in this slot has its body at home
 abbrev pub has_body : ℕ → List Kept → Bool
@@ -74,7 +76,6 @@ waiting_as (origin.Call c) (place.Home _) = None
 waiting_as (origin.Call c) place.Waiting = Some c
 waiting_as (origin.Call c) place.Free = None
 waiting_as (origin.Call c) (place.Away _) = None
-waiting_as (origin.Call c) place.Gone = None
 
 -- the call with which the body waits
 abbrev pub waiting_call : Kept → Option ℕ
@@ -92,7 +93,6 @@ is_free_place (place.Home _) = false
 is_free_place place.Waiting = false
 is_free_place place.Free = true
 is_free_place (place.Away _) = false
-is_free_place place.Gone = false
 
 abbrev pub is_call : ℕ → Origin → Bool
 is_call c (origin.Spec _) = false
@@ -133,9 +133,14 @@ abbrev pub without_first : (Kept → Bool) → List Kept → List Kept
 without_first test [] = []
 without_first test (b ∷ bs) = if test b then bs else b ∷ without_first test bs
 
--- a body comes for the child in this slot. Where its body is here already, or no body of it is known, it is nobody's
+-- where a body goes that comes for the child in this slot, and that isn't in the list: it is the child's, unless that has
+-- its body here already
+abbrev pub place_without_line : ℕ → List Kept → Place
+place_without_line slot kept = if has_body slot kept then place.Free else place.Home slot
+
+-- a body comes for the child in this slot. Where its body is here already, it is nobody's
 abbrev pub come_home : ℕ → List Kept → List Kept
-come_home slot kept = if list_any (is_away slot) kept then move_first (is_away slot) (place.Home slot) kept else kept ++ stray ∷ []
+come_home slot kept = if list_any (is_away slot) kept then move_first (is_away slot) (place.Home slot) kept else kept ++ record { origin = origin.Nobody; place = place_without_line slot kept } ∷ []
 
 abbrev pub is_starting_as : ℕ → RowState → Bool
 is_starting_as p Undefined = false
@@ -230,8 +235,7 @@ abbrev pub place_among : List Row → Bool → Place → Place
 place_among rows is_any_waiting (place.Home k) = if list_any (has_slot k) rows then place.Home k else place.Free
 place_among rows is_any_waiting place.Waiting = if is_any_waiting then place.Waiting else place.Free
 place_among rows is_any_waiting place.Free = place.Free
-place_among rows is_any_waiting (place.Away k) = if list_any (has_slot k) rows then place.Away k else place.Gone
-place_among rows is_any_waiting place.Gone = place.Gone
+place_among rows is_any_waiting (place.Away k) = place.Away k
 
 abbrev pub settled : List Row → Bool → List Kept → List Kept
 settled rows is_any_waiting kept = map (λ (b : Kept). record b { place = place_among rows is_any_waiting b.place }) kept
@@ -240,18 +244,45 @@ settled rows is_any_waiting kept = map (λ (b : Kept). record b { place = place_
 abbrev pub is_any_waiting : State → Bool
 is_any_waiting s = nat_lt 0 (length s.waiting)
 
-abbrev pub opened_place : ℕ → Origin → Place → Place
-opened_place children (origin.Spec k) (place.Home j) = place.Home j
-opened_place children (origin.Spec k) place.Waiting = place.Waiting
-opened_place children (origin.Spec k) place.Free = if nat_lt k children then place.Home k else place.Free
-opened_place children (origin.Spec k) (place.Away j) = place.Away j
-opened_place children (origin.Spec k) place.Gone = place.Gone
-opened_place children (origin.Call _) at = at
-opened_place children origin.Nobody at = at
+abbrev pub opened_place : List Row → Origin → Place → Place
+opened_place rows (origin.Spec k) (place.Home j) = place.Home j
+opened_place rows (origin.Spec k) place.Waiting = place.Waiting
+opened_place rows (origin.Spec k) place.Free = if list_any (has_slot k) rows then place.Home k else place.Free
+opened_place rows (origin.Spec k) (place.Away j) = place.Away j
+opened_place rows (origin.Call _) at = at
+opened_place rows origin.Nobody at = at
 
 -- at an opening the child in slot k is that of the specification at place k, and has the body that was handed in for it
-abbrev pub opened : ℕ → List Kept → List Kept
-opened children kept = map (λ (b : Kept). record b { place = opened_place children b.origin b.place }) kept
+abbrev pub opened : List Row → List Kept → List Kept
+opened rows kept = map (λ (b : Kept). record b { place = opened_place rows b.origin b.place }) kept
+
+abbrev pub is_waiting_place : Place → Bool
+is_waiting_place (place.Home _) = false
+is_waiting_place place.Waiting = true
+is_waiting_place place.Free = false
+is_waiting_place (place.Away _) = false
+
+abbrev pub is_spec : ℕ → Origin → Bool
+is_spec k (origin.Spec j) = j == k
+is_spec k (origin.Call _) = false
+is_spec k origin.Nobody = false
+
+-- the body that was handed in for the specification at this place
+abbrev pub is_given : ℕ → Kept → Bool
+is_given k b = is_spec k b.origin && not (is_waiting_place b.place)
+
+-- the body is with a process
+abbrev pub is_out : Kept → Bool
+is_out b = not (is_here b.place)
+
+-- a body was handed in for each of the first so many specifications
+abbrev pub are_given : ℕ → List Kept → Bool
+are_given zero kept = true
+are_given (suc n) kept = are_given n kept && list_any (is_given n) kept
+
+-- and none of the bodies is with a process: a supervisor can be made of them
+abbrev pub are_ready : ℕ → List Kept → Bool
+are_ready n kept = are_given n kept && not (list_any is_out kept)
 
 -- the bodies after an event from one state to another, before those of children that are gone are let go
 abbrev pub moved : State → List Row → Kind → List Kept → List Kept
@@ -263,7 +294,7 @@ moved s rows kind.Stopped kept = kept
 
 -- at an opening all children are new
 abbrev pub let_go : State → Kind → List Kept → List Kept
-let_go later (kind.Opened _) kept = opened (length later.rows) (settled [] (is_any_waiting later) kept)
+let_go later (kind.Opened _) kept = opened later.rows (settled [] (is_any_waiting later) kept)
 let_go later (kind.Took _) kept = settled later.rows (is_any_waiting later) kept
 let_go later kind.Resumed kept = settled later.rows (is_any_waiting later) kept
 let_go later kind.Ticked kept = settled later.rows (is_any_waiting later) kept

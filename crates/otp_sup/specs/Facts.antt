@@ -1,6 +1,7 @@
 -- What an office and a table stand for, and what they keep.
-use Rattle.std.specs.Prelude.{◌≡◌, ◌↔◌, ℕ, ◌+◌, ◌<◌, ◌≤◌, true, false, not, List, [], ◌++◌, Option, Some, None, length, take, drop, All, Contains, ◌^◌}
-use Rattle.std.specs.List.{filter, filter_map}
+use Rattle.std.specs.Prelude.{◌≡◌, ◌↔◌, ⊤, Bool, ◌∷◌, ℕ, ◌+◌, ◌<◌, ◌≤◌, true, false, not, List, [], ◌++◌, Option, Some, None, length, take, drop, All, Contains, ◌^◌}
+use Rattle.std.specs.List.{filter, filter_map, list_any}
+use Rattle.otp_spec.specs.declared.limits.TheConstants.{MAX_CHILDREN}
 use Rattle.otp_spec.specs.declared.child.ChildSpec.{ChildSpec}
 use Rattle.otp_spec.specs.declared.flags.SupFlags.{SupFlags}
 use Rattle.otp_rules.specs.declared.event.Effect.{Effect}
@@ -10,12 +11,16 @@ use Rattle.otp_rules.specs.declared.event.Item.{Item}
 use Rattle.otp_rules.specs.declared.event.Kind.{Kind}
 use Rattle.otp_rules.specs.declared.event.Kind.TheVariants as kind
 use Rattle.otp_rules.specs.Effects.{is_reply}
-use Rattle.otp_rules.specs.Needs.{numbers_of}
+use Rattle.otp_rules.specs.Homes.{is_ended, is_home}
+use Rattle.otp_rules.specs.Needs.{IsLawfulHistory, numbers_of}
 use Rattle.otp_rules.specs.Run.{empty_state, orders_of}
 use Rattle.otp_rules.specs.State.{State}
+use Rattle.otp_rules.specs.Step.{opening_specs}
+use Rattle.otp_spec.specs.Flags.{is_simple}
 use Rattle.otp_rules.specs.Rate.{IsRated}
 use Rattle.otp_rules.specs.Slots.{AreSlotted}
 use Rattle.otp_table.specs.declared.row.Row.{Row}
+use Rattle.otp_table.specs.declared.row.RowState.{RowState}
 use Rattle.otp_table.specs.Rows.{has_process}
 use Rattle.otp_core.specs.View.{View, state_of}
 use Rattle.otp_inbox.specs.Tokens.{TakerState}
@@ -26,7 +31,7 @@ use Rattle.otp_signals.specs.Signals.{word_of}
 use Rattle.otp_signals.specs.Lists.{EachBetween}
 use Rattle.otp_rules.specs.Waits.{starts_waiting}
 use Rattle.otp_sup.specs.declared.bodies.Kept.{Kept}
-use Rattle.otp_sup.specs.Bodies.{calls_waiting}
+use Rattle.otp_sup.specs.Bodies.{are_given, calls_waiting, count_away, has_body, started_by}
 
 -- the orders among effects
 abbrev pub orders_in : List Effect → List Effect
@@ -43,6 +48,13 @@ item_of (kind.Took x) = Some x
 item_of kind.Resumed = None
 item_of kind.Ticked = None
 item_of kind.Stopped = None
+
+abbrev pub IsOpening : Kind → Type 0
+IsOpening (kind.Opened _) = ⊤
+IsOpening (kind.Took _) = ⊥
+IsOpening kind.Resumed = ⊥
+IsOpening kind.Ticked = ⊥
+IsOpening kind.Stopped = ⊥
 
 abbrev pub items_of : List Event → List Item
 items_of events = filter_map (λ e. item_of e.kind) events
@@ -87,7 +99,7 @@ pub record Begins (base : State) : Type 0 where
   pub flags : SupFlags
   pub specs : List ChildSpec
   pub is : base ≡ empty_state flags specs
-  pub few : length specs ≤ 256
+  pub few : length specs ≤ MAX_CHILDREN
 
 pub record IsOffice (o : OfficeView) : Type 0 where
   pub begins : Begins o.core.base
@@ -98,8 +110,8 @@ pub record IsOffice (o : OfficeView) : Type 0 where
   pub counted : o.sent ≤ length (orders_along o.core)
   -- each post is that of a sent order, or of the first in the outbox
   pub posts : All (λ post. IsOrdered (take (o.sent + 1) (orders_along o.core)) post.1) o.owner.posts
-  pub slots : EachBetween o.first_slot (o.first_slot + 256) (Contains o.owner.slots)
-  pub fits : o.first_slot + 256 < 2 ^ 64
+  pub slots : EachBetween o.first_slot (o.first_slot + MAX_CHILDREN) (Contains o.owner.slots)
+  pub fits : o.first_slot + MAX_CHILDREN < 2 ^ 64
 
 -- the office of a supervisor that was never opened
 abbrev pub new_office : SupFlags → List ChildSpec → Holding → ℕ → OfficeView
@@ -111,6 +123,14 @@ new_office flags specs owner first_slot = record {
   first_slot = first_slot;
 }
 
+-- how many children an opening makes, of these specifications
+abbrev pub count_opened : SupFlags → List ChildSpec → ℕ
+count_opened flags specs = length (opening_specs (is_simple flags.strategy) specs)
+
+-- the processes whose starts are among these orders
+abbrev pub starts_in : List Effect → List ℕ
+starts_in orders = filter_map started_by orders
+
 -- two children that have processes have one slot only where they are one child, with one process
 abbrev pub AreApart : List Row → Type 0
 AreApart rows =
@@ -120,6 +140,8 @@ AreApart rows =
 pub record KeepsOffice (o : OfficeView) : Type 0 where
   -- the base is a supervisor that was never opened, for some flags and specifications
   pub begins : Begins o.core.base
+  -- an event of its history has a number exactly where it starts a child, and the numbers rise
+  pub lawful : IsLawfulHistory o.core.base o.core.history
   -- its process numbers are those that its own seat drew
   pub numbers : o.owner.drawn ≡ numbers_of o.core.history
   -- the orders that were sent, followed by those to be sent, are the orders that the rules give
@@ -128,7 +150,7 @@ pub record KeepsOffice (o : OfficeView) : Type 0 where
   pub posts : All (λ post. IsOrdered (take (o.sent + 1) (orders_along o.core)) post.1) o.owner.posts
   -- no period has more restarts than the intensity, but for the last one of a supervisor that ends by it
   pub rate : IsRated (state_of o.core)
-  -- no two children have one slot, and each has one of the 256
+  -- no two children have one slot, and each has one of those that there are
   pub slots : AreSlotted (state_of o.core).rows
   -- no two children have one process: two that have processes have two slots
   pub apart : AreApart (state_of o.core).rows
@@ -145,10 +167,53 @@ pub record TableView : Type 0 where
   -- whose each of its bodies is, and where
   pub bodies : List Kept
 
+-- a child has this process, and no note of the process's end waits
+pub record IsRunning (s : State) (p : ℕ) (row : Row) : Type 0 where
+  pub among : Contains s.rows row
+  pub has : has_process p row.state ≡ true
+  pub lives : list_any (is_ended p) s.waiting ≡ false
+
+-- one order at most starts a child: it has the process that is to be started
+abbrev pub AreToStart : State → List ℕ → Type 0
+AreToStart s [] = ⊤
+AreToStart s (p ∷ []) = (row : Row) × IsRunning s p row
+AreToStart s (p ∷ q ∷ ps) = ⊥
+
+-- the start of this child is still to be sent
+abbrev pub is_unsent : List ℕ → RowState → Bool
+is_unsent starts state = list_any (λ p. has_process p state) starts
+
+-- a child in this slot has a process whose start was sent, and no note of whose end waits
+pub record IsOut (s : State) (starts : List ℕ) (slot : ℕ) : Type 0 where
+  pub row : Row
+  pub p : ℕ
+  pub runs : IsRunning s p row
+  pub same : row.slot ≡ slot
+  pub sent : is_unsent starts row.state ≡ false
+
+-- where the bodies of a supervisor's children are, by its state and the starts that are still to be sent
+pub record KeepsBodies (s : State) (starts : List ℕ) (kept : List Kept) : Type 0 where
+  -- a child that is undefined or restarting has its body at home, and so has one whose process's end was taken and waits
+  pub home : (row : Row) → Contains s.rows row → is_home s.waiting row.state ≡ true → has_body row.slot kept ≡ true
+  -- one whose start is still to be sent has its body, which goes with that order
+  pub unsent : (row : Row) → Contains s.rows row → is_unsent starts row.state ≡ true → has_body row.slot kept ≡ true
+  pub one_start : AreToStart s starts
+  -- a body that is away is with a child's process, whose start was sent, and no note of whose end waits
+  pub away : (slot : ℕ) → 0 < count_away slot kept → IsOut s starts slot
+  -- and of no child two bodies are
+  pub one_away : (slot : ℕ) → count_away slot kept ≤ 1
+  -- for each child of an opening a body was handed in, and is kept
+  pub given : are_given (count_opened s.flags s.specs) kept ≡ true
+
+-- the same of an office's state and orders
+abbrev pub HasBodies : OfficeView → List Kept → Type 0
+HasBodies o kept = KeepsBodies (state_of o.core) (starts_in o.outbox) kept
+
 pub record IsTable (t : TableView) : Type 0 where
   pub taken : t.taker.taken ≡ items_of t.office.core.history
   -- each start call that waits has its body with it, in their order
   pub calls : calls_waiting t.bodies ≡ starts_waiting (state_of t.office.core).waiting
+  pub bodies : HasBodies t.office t.bodies
 
 -- what holds whenever the lock is free
 pub record KeepsRules (t : TableView) : Type 0 where
@@ -157,3 +222,5 @@ pub record KeepsRules (t : TableView) : Type 0 where
   pub taken : t.taker.taken ≡ items_of t.office.core.history
   -- each start call that waits has its body with it, in their order
   pub calls : calls_waiting t.bodies ≡ starts_waiting (state_of t.office.core).waiting
+  -- each body is where its child is: at home, with the start that is to be sent, or with the process
+  pub bodies : HasBodies t.office t.bodies

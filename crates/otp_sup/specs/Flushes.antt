@@ -1,5 +1,5 @@
 -- What the sending of an order does.
-use Rattle.std.specs.Prelude.{◌≡◌, ℕ, ◌+◌, ◌<◌, List, [], ◌∷◌, ◌++◌, Option, Some, None, Bool}
+use Rattle.std.specs.Prelude.{◌≡◌, ℕ, ◌+◌, ◌<◌, List, [], ◌∷◌, ◌++◌, Option, Some, None, Bool, true, false}
 use Rattle.otp_reason.specs.declared.note.Note.{Note}
 use Rattle.otp_reason.specs.declared.note.Note.TheVariants as note
 use Rattle.otp_reason.specs.declared.reason.Reason.{Reason}
@@ -66,12 +66,11 @@ pub record IsPosted (number : ℕ) (told : Signal) (slot : ℕ) (old new : Offic
   pub owner : new.owner ≡ after_post slot (word_of number told) old.owner
   pub of_row : slot ≡ old.first_slot + slot_of (state_of old.core).rows number
 
--- the process stands last in what the port took
+-- the process stands last in what the port took, with its body
 pub record IsPut (number : ℕ) (old new : OfficeView) (before after : Taken) : Type 0 where
   pub slot : ℕ
-  pub body : Bool
   pub posted : IsPosted number signal.None slot old new
-  pub took : after ≡ record before { processes = before.processes ++ launched number slot body ∷ [] }
+  pub took : after ≡ record before { processes = before.processes ++ launched number slot true ∷ [] }
 
 -- a signal was posted, and the port took nothing
 pub record IsAsked (number : ℕ) (told : Signal) (old new : OfficeView) (before after : Taken) : Type 0 where
@@ -121,6 +120,11 @@ pub record SentNone (old new : OfficeView) : Type 0 where
   pub core : new.core ≡ old.core
   pub first_slot : new.first_slot ≡ old.first_slot
   pub refused : IsRefused how old new
+
+abbrev pub was_sent : Flushed → Bool
+was_sent flushed.Empty = false
+was_sent flushed.Sent = true
+was_sent flushed.Refused = false
 
 abbrev pub Flushes : Flushed → OfficeView → OfficeView → Taken → Taken → ℕ → ℕ → Type 0
 Flushes flushed.Empty old new before after refusals later = (old.outbox ≡ []) × (new ≡ old) × (after ≡ before) × (later ≡ refusals)

@@ -1,13 +1,15 @@
 -- What a turn of a table does.
-use Rattle.std.specs.Prelude.{◌≡◌, ℕ, ⊤, ◌+◌, Bool, true, false, not, ◌&&◌, nat_lt, nat_le, max, is_some, List, [], ◌∷◌, ◌++◌, Option, Some, None, Result, Ok, Err, length, if◌then◌else◌, MatchOption, MatchResult}
+use Rattle.std.specs.Prelude.{◌≡◌, ◌⊎◌, ◌<◌, All, ℕ, ⊤, ◌+◌, Bool, true, false, not, ◌&&◌, nat_lt, nat_le, max, is_some, List, [], ◌∷◌, ◌++◌, Option, Some, None, Result, Ok, Err, length, if◌then◌else◌, MatchOption, MatchResult}
 use Rattle.std.specs.List.{list_any}
+use Rattle.otp_spec.specs.declared.limits.TheConstants.{MAX_EVENTS}
 use Rattle.otp_rules.specs.declared.event.Item.{Item}
 use Rattle.otp_rules.specs.declared.event.Kind.{Kind}
 use Rattle.otp_rules.specs.declared.event.Kind.TheVariants as kind
 use Rattle.otp_rules.specs.declared.work.Phase.{Phase}
 use Rattle.otp_rules.specs.declared.work.Phase.TheVariants.{Unopened, Open, Ended}
 use Rattle.otp_rules.specs.State.{State, is_over, own_number}
-use Rattle.otp_rules.specs.Step.{is_late}
+use Rattle.otp_rules.specs.Needs.{needs_number, numbers_of}
+use Rattle.otp_rules.specs.Step.{is_late, step}
 use Rattle.otp_core.specs.View.{state_of}
 use Rattle.otp_signals.specs.declared.signal.Signal.{Signal}
 use Rattle.otp_signals.specs.declared.view.Holding.{Holding}
@@ -19,7 +21,7 @@ use Rattle.otp_sup.specs.declared.turns.TurnFault.{TurnFault}
 use Rattle.otp_sup.specs.declared.turns.TurnFault.TheVariants as fault
 use Rattle.otp_sup.specs.Letters.{carries_body, one_if}
 use Rattle.otp_sup.specs.Bodies.{bodies_after, bodies_in}
-use Rattle.otp_sup.specs.Facts.{KeepsRules, OfficeView, TableView}
+use Rattle.otp_sup.specs.Facts.{KeepsRules, OfficeView, TableView, orders_in}
 
 abbrev pub is_told : Signal → Bool
 is_told signal.None = false
@@ -59,7 +61,7 @@ early_answer o number =
     if nat_lt number (own_number (state_of o.core).phase) then Some (Ok answer.Ended)
     else if nat_lt (own_number (state_of o.core).phase) number && not (is_over (state_of o.core).phase) then Some (Err fault.WrongNumber)
     else if has_some o.outbox then Some (Ok answer.Pending)
-    else if nat_le 65536 (length o.core.history) then Some (Ok answer.Full)
+    else if nat_le MAX_EVENTS (length o.core.history) then Some (Ok answer.Full)
     else None
 
 -- the number of an event was drawn, if it has one
@@ -71,6 +73,11 @@ drawn_by (Some n) h = after_draw n h
 pub record Happened (reading : ℕ) (kind : Kind) (old new : OfficeView) : Type 0 where
   pub number : Option ℕ
   pub history : new.core.history ≡ old.core.history ++ record { reading = reading; number = number; kind = kind } ∷ []
+  -- it has a number exactly where it starts a child, above all earlier ones
+  pub needed : is_some number ≡ needs_number (state_of old.core) reading kind
+  pub rises : (n : ℕ) → number ≡ Some n → All (λ m. m < n) (numbers_of old.core.history)
+  -- its orders are to be sent
+  pub outbox : new.outbox ≡ orders_in (step (state_of old.core) (record { reading = reading; number = number; kind = kind })).orders
   pub base : new.core.base ≡ old.core.base
   pub sent : new.sent ≡ old.sent
   pub owner : new.owner ≡ drawn_by number old.owner
@@ -142,6 +149,12 @@ Turned number reading told old new result =
     (λ why. Refused old new × IsRefusal old.office why))
     (λ early. (result ≡ early) × (new ≡ old))
 
+-- a table that kept the rules was of another inbox
+pub record IsOfAnother (inbox : ℕ) : Type 0 where
+  pub table : TableView
+  pub rules : KeepsRules table
+  pub other : table.taker.inbox ≡ inbox → ⊥
+
 -- a table of this inbox, which kept the rules, had such a turn
 pub record TurnedUnder (inbox number reading : ℕ) (told : Signal) (result : Result TurnAnswer TurnFault) : Type 0 where
   pub old : TableView
@@ -149,3 +162,9 @@ pub record TurnedUnder (inbox number reading : ℕ) (told : Signal) (result : Re
   pub rules : KeepsRules old
   pub of_inbox : old.taker.inbox ≡ inbox
   pub turned : Turned number reading told old new result
+
+-- a table that kept the rules has no order left to be sent, or the port refused one
+pub record IsFlushed (refusals later : ℕ) : Type 0 where
+  pub table : TableView
+  pub rules : KeepsRules table
+  pub sent : (table.office.outbox ≡ []) ⊎ (refusals < later)

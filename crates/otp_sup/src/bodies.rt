@@ -1,19 +1,33 @@
 //! The bodies that a supervisor keeps: of children that have no process, and those that no child has.
 ghost use Rattle.std.specs.Prelude.{◌≡◌, ◌<◌, ◌++◌, ◌∷◌, [], true, get_or, is_some, false, length, position, remove, slice_set, IfErr, MatchOption, None, OnOk, OnErr, Some};
 ghost use Rattle.std.specs.List.{list_any};
-ghost use Rattle.otp_sup.specs.Bodies.{come_home, came_for, has_body, home_or_free, is_at_home, is_here, is_left_of, is_stray, is_waiting, move_first, opened, place_of_call, put_home, settled, without_first};
+ghost use Rattle.otp_sup.specs.Bodies.{are_ready, come_home, came_for, has_body, home_or_free, is_at_home, is_here, is_left_of, is_stray, is_waiting, move_first, opened, place_of_call, place_without_line, put_home, settled, without_first};
+ghost use Rattle.otp_sup.specs.Facts.{count_opened};
 ghost use Rattle.otp_sup.specs.Slots.{AreBelow};
 ghost use Rattle.otp_sup.specs.declared.bodies.Kept.{Kept};
 ghost use Rattle.otp_sup.specs.declared.bodies.Origin.TheVariants as origin;
 ghost use Rattle.otp_sup.specs.declared.bodies.Place.TheVariants as placed;
 
 use crate::kept::{
-    find_away, find_home, find_left, find_stray, find_waiting, home_or_free, open_items,
-    place_of_call, settle_items,
+    are_given, find_away, find_home, find_left, find_stray, find_waiting, home_or_free, is_any_out,
+    open_items, place_of_call, settle_items,
 };
+use otp_spec::{ChildSpec, Strategy, SupFlags};
 use otp_table::Row;
 use std::alloc::{AllocError, Global};
 use std::marker::Model;
+
+/// How many children an opening makes of these specifications: one of each, but none where children are dynamic
+/// (Supervisor Behaviour, Simplified one_for_one Supervisors).
+pub fn count_opened(flags: &SupFlags, specs: &[ChildSpec]) -> usize
+    ensures { result ≡ count_opened flags.now specs.now }
+{
+    if flags.strategy == Strategy::SimpleOneForOne {
+        0
+    } else {
+        specs.len()
+    }
+}
 
 /// Whose a body is: who may have it once no child has it.
 #[derive(Clone, Copy, Debug, PartialEq, Eq)]
@@ -37,8 +51,6 @@ pub enum Place {
     Free,
     /// With the process of the child in this slot.
     Away(usize),
-    /// With a process whose child is gone. By the rules there is none such.
-    Gone,
 }
 
 /// Whose a body is, and where.
@@ -187,7 +199,22 @@ impl<B: Drop> Bodies<B> {
     {
         match find_away(&self.kept, slot) {
             Some(at) => self.take_in(at, Place::Home(slot), body),
-            None => self.put(Origin::Nobody, Place::Free, body),
+            None => {
+                let place = self.place_without_line(slot);
+                self.put(Origin::Nobody, place, body)
+            }
+        }
+    }
+
+    /// Where a body goes that comes for the child in this slot and that has no line in the list: home, unless the child
+    /// has its body there already.
+    fn place_without_line(&self, slot: usize) -> Place
+        ensures place { result ≡ place_without_line slot self.now.kept }
+        ensures here { is_here result ≡ true }
+    {
+        match find_home(&self.kept, slot) {
+            Some(_) => Place::Free,
+            None => Place::Home(slot),
         }
     }
 
@@ -229,11 +256,19 @@ impl<B: Drop> Bodies<B> {
         settle_items(&mut self.kept, rows, is_any_waiting);
     }
 
-    /// At an opening with so many children each has the body that was handed in for it.
-    pub(crate) fn open(&mut self, children: usize)
-        ensures { self.new.kept ≡ opened children self.old.kept }
+    /// At an opening each child, of these rows, has the body that was handed in for it.
+    pub(crate) fn open(&mut self, rows: &[Row])
+        requires { AreBelow rows.now }
+        ensures { self.new.kept ≡ opened rows.now self.old.kept }
     {
-        open_items(&mut self.kept, children);
+        open_items(&mut self.kept, rows);
+    }
+
+    /// Whether a body was handed in for each of the first so many child specifications, and none is with a process.
+    pub fn are_ready(&self, specs: usize) -> bool
+        ensures { result ≡ are_ready specs self.now.kept }
+    {
+        are_given(&self.kept, specs) && !is_any_out(&self.kept)
     }
 
     /// The body of this call, once no child has it and the call waits no more.

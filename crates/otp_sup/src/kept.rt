@@ -1,10 +1,12 @@
 //! Searches over the bodies that a supervisor keeps, and what an event does to all of them.
 ghost use Rattle.std.specs.Prelude.{◌≡◌, true, position};
-ghost use Rattle.otp_sup.specs.Bodies.{home_or_free, is_at_home, is_here, is_away, is_left_of, is_stray, is_waiting, opened, opened_place, place_among, place_of_call, settled};
+ghost use Rattle.std.specs.List.{list_any};
+ghost use Rattle.otp_sup.specs.Bodies.{are_given, home_or_free, is_at_home, is_given, is_here, is_away, is_left_of, is_out, is_stray, is_waiting, opened, opened_place, place_among, place_of_call, settled};
 ghost use Rattle.otp_sup.specs.Slots.{AreBelow, AreTaken};
 
 use crate::bodies::{Kept, Origin, Place};
 use crate::rows::{is_taken, taken_slots};
+use otp_spec::MAX_CHILDREN;
 use otp_table::Row;
 
 fn is_at_home(kept: &Kept, slot: usize) -> bool
@@ -110,7 +112,7 @@ pub(crate) fn find_stray(kept: &[Kept]) -> Option<usize>
 }
 
 /// Where the body is once these are the rows, whose slots are those marked.
-fn settle_one(one: &mut Kept, rows: &[Row], taken: &[bool; 256], is_any_waiting: bool)
+fn settle_one(one: &mut Kept, rows: &[Row], taken: &[bool; MAX_CHILDREN], is_any_waiting: bool)
     requires taken { AreTaken rows.now taken.now }
     requires below { AreBelow rows.now }
     ensures { one.new ≡ record one.old { place = place_among rows.now is_any_waiting one.old.place } }
@@ -121,22 +123,17 @@ fn settle_one(one: &mut Kept, rows: &[Row], taken: &[bool; 256], is_any_waiting:
                 one.place = Place::Free;
             }
         }
-        Place::Away(slot) => {
-            if !is_taken(rows, taken, slot) {
-                one.place = Place::Gone;
-            }
-        }
         Place::Waiting => {
             if !is_any_waiting {
                 one.place = Place::Free;
             }
         }
-        Place::Free | Place::Gone => {}
+        Place::Free | Place::Away(_) => {}
     }
 }
 
-/// Once these are the rows: no body is at home, or away, in a slot that none of them has; and none waits where nothing
-/// waits any more.
+/// Once these are the rows: no body is at home in a slot that none of them has, and none waits where nothing waits any
+/// more.
 fn settle_all(kept: &mut [Kept], rows: &[Row], is_any_waiting: bool)
     requires { AreBelow rows.now }
     ensures { kept.new ≡ settled rows.now is_any_waiting kept.old }
@@ -155,28 +152,77 @@ pub(crate) fn settle_items(kept: &mut Vec<Kept>, rows: &[Row], is_any_waiting: b
     settle_all(kept, rows, is_any_waiting);
 }
 
-fn open_one(one: &mut Kept, children: usize)
-    ensures { one.new ≡ record one.old { place = opened_place children one.old.origin one.old.place } }
+/// Where the body is once a supervisor was opened with these rows, whose slots are those marked.
+fn open_one(one: &mut Kept, rows: &[Row], taken: &[bool; MAX_CHILDREN])
+    requires taken { AreTaken rows.now taken.now }
+    requires below { AreBelow rows.now }
+    ensures { one.new ≡ record one.old { place = opened_place rows.now one.old.origin one.old.place } }
 {
     if let (Origin::Spec(place), Place::Free) = (one.origin, one.place) {
-        if place < children {
+        if is_taken(rows, taken, place) {
             one.place = Place::Home(place);
         }
     }
 }
 
-/// At an opening with so many children.
-fn open_all(kept: &mut [Kept], children: usize)
-    ensures { kept.new ≡ opened children kept.old }
+/// At an opening with these rows.
+fn open_all(kept: &mut [Kept], rows: &[Row])
+    requires { AreBelow rows.now }
+    ensures { kept.new ≡ opened rows.now kept.old }
 {
+    let taken = taken_slots(rows);
     for one in kept.iter_mut() {
-        open_one(one, children);
+        open_one(one, rows, &taken);
     }
 }
 
 /// The same for the whole list.
-pub(crate) fn open_items(kept: &mut Vec<Kept>, children: usize)
-    ensures { kept.new.items ≡ opened children kept.old.items }
+pub(crate) fn open_items(kept: &mut Vec<Kept>, rows: &[Row])
+    requires { AreBelow rows.now }
+    ensures { kept.new.items ≡ opened rows.now kept.old.items }
 {
-    open_all(kept, children);
+    open_all(kept, rows);
+}
+
+/// Whether the body was handed in for the child specification at this place.
+fn is_given(kept: &Kept, place: usize) -> bool
+    ensures { result ≡ is_given place kept.now }
+{
+    match (kept.origin, kept.place) {
+        (_, Place::Waiting) => false,
+        (Origin::Spec(of), _) => of == place,
+        _ => false,
+    }
+}
+
+/// Whether one was.
+fn is_any_given(kept: &[Kept], place: usize) -> bool
+    ensures { result ≡ list_any (is_given place) kept.now }
+{
+    kept.iter().any(|one| is_given(one, place))
+}
+
+fn is_out(kept: &Kept) -> bool
+    ensures { result ≡ is_out kept.now }
+{
+    matches!(kept.place, Place::Away(_))
+}
+
+/// Whether one is with a process.
+pub(crate) fn is_any_out(kept: &[Kept]) -> bool
+    ensures { result ≡ list_any is_out kept.now }
+{
+    kept.iter().any(|one| is_out(one))
+}
+
+/// Whether one was for each of the first so many child specifications.
+pub(crate) fn are_given(kept: &[Kept], specs: usize) -> bool
+    ensures { result ≡ are_given specs kept.now }
+{
+    for place in 0..specs {
+        if !is_any_given(kept, place) {
+            return false;
+        }
+    }
+    true
 }

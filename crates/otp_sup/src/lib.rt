@@ -17,6 +17,7 @@ pub mod letter;
 mod moves;
 pub mod office;
 pub mod orders;
+mod plans;
 pub mod port;
 mod replies;
 mod rows;
@@ -25,7 +26,7 @@ pub mod sup;
 pub mod table;
 pub mod turns;
 
-pub use bodies::{Bodies, Kept, Origin, Place};
+pub use bodies::{Bodies, Kept, Origin, Place, count_opened};
 pub use client::{Client, SplitFault, SubmitCause, SubmitFault};
 pub use letter::Letter;
 pub use office::Office;

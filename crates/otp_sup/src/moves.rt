@@ -1,18 +1,21 @@
 //! Where bodies go: at an event, and when an order is sent.
-ghost use Rattle.std.specs.Prelude.{◌≡◌, ◌+◌, ◌++◌, ◌∷◌, ◌<◌, ◌≤◌, ◌^◌, List, [], if◌then◌else◌, is_some, length, position, IsSome, IsTrue, IfSome, MatchOption, None};
+ghost use Rattle.std.specs.Prelude.{◌≡◌, ◌+◌, ◌++◌, ◌∷◌, ◌<◌, ◌≤◌, true, List, [], if◌then◌else◌, is_some, length, position, ℕ, IsSome, IsTrue, IfSome, MatchOption, None, Some};
+ghost use Rattle.otp_spec.specs.declared.limits.TheConstants.{MAX_EVENTS, MAX_READING};
 ghost use Rattle.otp_core.specs.View.{state_of};
-ghost use Rattle.otp_rules.specs.State.{State};
+ghost use Rattle.otp_rules.specs.State.{State, is_over};
 ghost use Rattle.otp_rules.specs.Waits.{starts_waiting};
 ghost use Rattle.otp_table.specs.declared.row.Row.{Row};
-ghost use Rattle.otp_sup.specs.Bodies.{CanComeBack, IsPlan, bodies_after, bodies_in, brings_body, calls_waiting, came_for, is_at_home, left_home, let_go, moved, place_of_call, slot_given, taken_up};
+ghost use Rattle.otp_sup.specs.Bodies.{CanComeBack, IsPlan, bodies_after, bodies_in, brings_body, calls_waiting, came_for, has_body, is_at_home, left_home, let_go, moved, place_of_call, slot_given, taken_up};
 ghost use Rattle.otp_sup.specs.declared.bodies.Kept.{Kept};
 ghost use Rattle.otp_sup.specs.declared.bodies.Origin.TheVariants as origin;
 ghost use Rattle.otp_sup.specs.Letters.{one_if};
+ghost use Rattle.otp_sup.specs.Facts.{HasBodies, IsOpening};
 ghost use Rattle.otp_sup.specs.Turns.{Happened};
 
 use crate::bodies::Bodies;
-use crate::office::{Office, Plan};
-use otp_rules::{Item, Kind, laws};
+use crate::office::Office;
+use crate::plans::Plan;
+use otp_rules::{Item, Kind, laws, lives};
 use otp_signals::{Words, WordsNaming};
 
 /// One event, with the body that its item brought: each body is where the event puts it.
@@ -25,19 +28,31 @@ pub(crate) fn happen<N: WordsNaming, B: Drop>(
     body: Option<B>,
 )
     requires prepared { IsTrue office.old.core.prepared }
-    requires room { length office.old.core.history < 65536 }
+    requires room { length office.old.core.history < MAX_EVENTS }
     requires quota { 0 < office.old.owner.quota }
-    requires reading { reading ≤ 2 ^ 62 }
+    requires reading { reading ≤ MAX_READING }
     requires outbox { office.old.outbox ≡ [] }
     requires space { 0 < bodies.old.room }
     requires carries { is_some body ≡ brings_body kind }
+    requires over { IsOpening kind → is_over (state_of office.old.core).phase ≡ true }
     ensures happened { Happened reading kind office.old office.new }
     ensures bodies { bodies.new.kept ≡ bodies_after (state_of office.old.core) (state_of office.new.core) kind bodies.old.kept }
     ensures count { bodies_in bodies.new.kept ≡ bodies_in bodies.old.kept + one_if (brings_body kind) }
     ensures calls { calls_waiting bodies.old.kept ≡ starts_waiting (state_of office.old.core).waiting → calls_waiting bodies.new.kept ≡ starts_waiting (state_of office.new.core).waiting }
+    ensures homes { calls_waiting bodies.old.kept ≡ starts_waiting (state_of office.old.core).waiting → HasBodies office.old bodies.old.kept → HasBodies office.new bodies.new.kept }
 {
     laws::start_calls_wait();
     laws::runs_are_joined();
+    laws::homes_are_kept();
+    laws::processes_are_owned();
+    laws::slots_are_owned();
+    laws::orders_name_rows();
+    laws::number_starts_work();
+    laws::step_keeps_plan();
+    lives::ends_tell_started();
+    lives::processes_stay();
+    lives::ended_has_no_rows();
+    office.keeps_rules();
     let plan = office.plan(&kind);
     office.happen(words, reading, kind);
     let slot = office.slot_given(plan.free);
@@ -108,7 +123,7 @@ fn let_go<N: WordsNaming, B: Drop>(bodies: &mut Bodies<B>, office: &Office<N>, k
     let is_any_waiting = office.has_waiting();
     if let Kind::Opened(_) = kind {
         bodies.settle(&[], is_any_waiting);
-        bodies.open(rows.len());
+        bodies.open(rows);
     } else {
         bodies.settle(rows, is_any_waiting);
     }
@@ -123,6 +138,7 @@ pub(crate) fn leave<B: Drop>(
     requires { MatchOption slot (at ≡ None) (λ k. at ≡ position (is_at_home k) bodies.old.kept) }
     ensures kept { bodies.new.kept ≡ left_home slot bodies.old.kept }
     ensures none { result ≡ None → bodies.new.kept ≡ bodies.old.kept }
+    ensures found { (k : ℕ) → slot ≡ Some k → has_body k bodies.old.kept ≡ true → IsSome result }
     ensures back { IsSome result → CanComeBack slot at bodies.new.kept bodies.old.kept }
     ensures count { bodies_in bodies.new.kept + one_if (is_some result) ≡ bodies_in bodies.old.kept }
 {

@@ -1,28 +1,26 @@
 //! A core with the seat that draws its numbers, and its orders on their way.
-ghost use Rattle.std.specs.Prelude.{◌≡◌, ◌+◌, ◌<◌, ◌≤◌, ◌^◌, [], true, length, Contains, IsTrue, IfSome, IfOk, IfErr, OnOk, MatchOption, Some, None, option_map};
+ghost use Rattle.std.specs.Prelude.{◌≡◌, ◌+◌, ◌<◌, ◌≤◌, ◌^◌, [], true, length, Contains, IsTrue, IfSome, IfOk, IfErr, OnOk, MatchOption, None};
+ghost use Rattle.otp_spec.specs.declared.limits.TheConstants.{MAX_CHILDREN, MAX_EVENTS, MAX_READING};
 ghost use Rattle.otp_core.specs.Opened.{IsOpenFault};
 ghost use Rattle.otp_core.specs.View.{state_of};
 ghost use Rattle.otp_spec.specs.Supervisor.{supervisor_fault};
 ghost use Rattle.otp_rules.specs.State.{own_number, is_over};
 ghost use Rattle.otp_rules.specs.Run.{reply_of};
 ghost use Rattle.otp_signals.specs.Lists.{EachBetween};
-ghost use Rattle.otp_sup.specs.Facts.{item_of, new_office, KeepsOffice};
-ghost use Rattle.otp_sup.specs.Bodies.{IsPlan, given_in, home_of, is_any_waiting, is_start_item, is_start_waiting, is_taken_up, is_waited_for};
+ghost use Rattle.otp_sup.specs.Facts.{item_of, new_office, IsOpening, KeepsOffice};
+ghost use Rattle.otp_sup.specs.Bodies.{is_any_waiting};
 ghost use Rattle.otp_sup.specs.Slots.{AreBelow};
 ghost use Rattle.otp_sup.specs.declared.turns.TurnFault.TheVariants as fault;
 ghost use Rattle.otp_sup.specs.Turns.{is_told, may_open, due_kind, early_answer, Happened, Readied, IsRefusal};
 
-use crate::client::is_start_call;
 use crate::draws::step_drawing;
 use crate::orders::first_order;
-use crate::rows::{has_slot, slot_heeding};
 use crate::turns::{TurnAnswer, TurnFault};
 use otp_core::{Core, OpenFault};
-use otp_reason::Note;
-use otp_rules::{Item, Kind, Phase, Reply, Waiting, laws};
+use otp_rules::{Kind, Phase, Reply, laws};
 use otp_signals::{Owner, Signal, Words, WordsNaming};
 use otp_spec::{ChildSpec, SupFlags};
-use otp_table::{Row, free_slot};
+use otp_table::Row;
 use otp_tally::Tally;
 use std::alloc::Global;
 use std::marker::{Model, PhantomData};
@@ -39,7 +37,7 @@ pub struct Office<N: WordsNaming> {
     /// The first effect that is still to be sent: an order, or behind all.
     pub(crate) next: usize,
     pub(crate) sent: Tally,
-    /// The first of the 256 slots to which it posts.
+    /// The first of the slots to which it posts: one for each child that there can be.
     pub(crate) first_slot: usize,
     of: PhantomData<N>,
 }
@@ -53,19 +51,6 @@ impl<N: WordsNaming> Model for Office<N> {
     ghost view = { λ o. record { core = o.core; owner = o.owner; outbox = orders_in (drop o.next o.core.effects); sent = o.sent.count; first_slot = o.first_slot } };
 
     ghost invariant = { λ o. IsOffice (record { core = o.core; owner = o.owner; outbox = orders_in (drop o.next o.core.effects); sent = o.sent.count; first_slot = o.first_slot }) };
-}
-
-/// What an event is about to do with bodies, as it was before the event.
-#[derive(Clone, Copy, Debug, PartialEq, Eq)]
-pub(crate) struct Plan {
-    /// The slot of the child whose body comes home.
-    pub home: Option<usize>,
-    /// The slot that a new child gets.
-    pub free: usize,
-    /// A start call waits.
-    pub waits: bool,
-    /// The first start call that waits is taken up.
-    pub is_taken_up: bool,
 }
 
 /// Takes the memory of the next event. A refusal leaves the core as it was.
@@ -109,7 +94,8 @@ fn may_open(number: u64, phase: Phase) -> bool
 
 impl<N: WordsNaming> Office<N> {
     /// The office of a supervisor that was never opened, for children of these specifications. Its seat drew no number
-    /// and posted nothing, and owns the 256 slots from the first one on: one for each child that there can be.
+    /// and posted nothing, and owns the slots from the first one on: [`MAX_CHILDREN`](otp_spec::MAX_CHILDREN), one for each child that there can
+    /// be.
     ///
     /// # Errors
     ///
@@ -123,8 +109,8 @@ impl<N: WordsNaming> Office<N> {
     ) -> Result<Self, OpenFault>
         requires drawn { owner.drawn ≡ [] }
         requires posts { owner.posts ≡ [] }
-        requires slots { EachBetween first_slot (first_slot + 256) (Contains owner.slots) }
-        requires fits { first_slot + 256 < 2 ^ 64 }
+        requires slots { EachBetween first_slot (first_slot + MAX_CHILDREN) (Contains owner.slots) }
+        requires fits { first_slot + MAX_CHILDREN < 2 ^ 64 }
         ensures ok { OnOk result (supervisor_fault flags specs.now ≡ None) }
         ensures new { IfOk result (λ office. office ≡ new_office flags specs.now owner first_slot) }
         ensures fault { IfErr result (λ why. IsOpenFault why (supervisor_fault flags specs.now)) }
@@ -144,7 +130,7 @@ impl<N: WordsNaming> Office<N> {
     #[tactic(auto, unfolding(crate::specs::Turns::early_answer))]
     pub fn early_answer(&self, number: u64) -> Option<Result<TurnAnswer, TurnFault>>
         ensures answer { result ≡ early_answer self.now number }
-        ensures room { result ≡ None → length self.now.core.history < 65536 }
+        ensures room { result ≡ None → length self.now.core.history < MAX_EVENTS }
         ensures outbox { result ≡ None → self.now.outbox ≡ [] }
     {
         let own = own_number(self.core.phase());
@@ -168,6 +154,7 @@ impl<N: WordsNaming> Office<N> {
     pub fn due_kind(&self, number: u64, reading: u64, told: Signal) -> Option<Kind>
         ensures kind { result ≡ due_kind (state_of self.now.core) number reading told }
         ensures no_item { IfSome result (λ kind. item_of kind ≡ None) }
+        ensures over { IfSome result (λ kind. IsOpening kind → is_over (state_of self.now.core).phase ≡ true) }
     {
         if may_open(number, self.core.phase()) {
             return Some(Kind::Opened(number));
@@ -210,9 +197,9 @@ impl<N: WordsNaming> Office<N> {
     /// One event. Its number is drawn where it starts a child.
     pub fn happen(&mut self, words: &Words<N>, reading: u64, kind: Kind)
         requires prepared { IsTrue self.old.core.prepared }
-        requires room { length self.old.core.history < 65536 }
+        requires room { length self.old.core.history < MAX_EVENTS }
         requires quota { 0 < self.old.owner.quota }
-        requires reading { reading ≤ 2 ^ 62 }
+        requires reading { reading ≤ MAX_READING }
         requires outbox { self.old.outbox ≡ [] }
         ensures { Happened reading kind self.old self.new }
     {
@@ -233,10 +220,10 @@ impl<N: WordsNaming> Office<N> {
         let _ = self.core.kept_restarts();
     }
 
-    /// The supervisor's children, in start order. Each has a slot of its own, of the first 256.
+    /// The supervisor's children, in start order. Each has a slot of its own, of as many as there can be children.
     pub(crate) fn rows(&self) -> &[Row]
         ensures value { result.now ≡ (state_of self.now.core).rows }
-        ensures limit { length result.now ≤ 256 }
+        ensures limit { length result.now ≤ MAX_CHILDREN }
         ensures below { AreBelow result.now }
     {
         laws::slots_are_owned();
@@ -251,81 +238,10 @@ impl<N: WordsNaming> Office<N> {
         self.core.has_waiting()
     }
 
-    /// Whether a call that is taken now waits.
-    fn is_waited_for(&self) -> bool
-        ensures { result ≡ is_waited_for (state_of self.now.core) }
-    {
-        self.core.has_open_work() && !self.core.has_ended()
-    }
-
-    /// Whether a start call is the first that waits, and is taken up when the supervisor resumes.
-    fn is_taken_up(&self) -> bool
-        ensures { result ≡ is_taken_up (state_of self.now.core) }
-    {
-        !self.core.has_open_work()
-            && !self.core.has_ended()
-            && is_start_waiting(self.core.first_waiting())
-    }
-
-    /// The slot of the child whose body an end note brings home.
-    fn home_of(&self, note: &Note) -> Option<usize>
-        ensures { result ≡ home_of (state_of self.now.core) note.now }
-    {
-        if self.core.has_ended() {
-            return None;
-        }
-        slot_heeding(note, self.core.rows())
-    }
-
-    /// What an event is about to do with bodies, as far as it can be known before it.
-    pub(crate) fn plan(&self, kind: &Kind) -> Plan
-        ensures { IsPlan (state_of self.now.core) kind.now result }
-    {
-        let home = match kind {
-            Kind::Took(Item::Note(note)) => self.home_of(note),
-            _ => None,
-        };
-        Plan {
-            home,
-            free: free_slot(self.rows()),
-            waits: self.is_waited_for(),
-            is_taken_up: self.is_taken_up(),
-        }
-    }
-
-    /// The slot that a call's child was given, if a row has it now.
-    pub(crate) fn slot_given(&self, free: usize) -> Option<usize>
-        ensures { result ≡ given_in free (state_of self.now.core).rows }
-    {
-        if has_slot(self.core.rows(), free) {
-            Some(free)
-        } else {
-            None
-        }
-    }
-
     /// The kept answer of the call with this number.
     pub(crate) fn reply(&self, call: u64) -> Option<&Reply>
         ensures { MatchOption result (reply_of call (state_of self.now.core).replies ≡ None) (λ r. reply_of call (state_of self.now.core).replies ≡ Some r.now) }
     {
         self.core.reply(call)
-    }
-}
-
-fn is_start_waiting(first: Option<&Waiting>) -> bool
-    ensures { result ≡ is_start_waiting (option_map (λ w. w.now) first.entry) }
-{
-    match first {
-        Some(Waiting::Item(item)) => is_start_item(item),
-        _ => false,
-    }
-}
-
-fn is_start_item(item: &Item) -> bool
-    ensures { result ≡ is_start_item item.now }
-{
-    match item {
-        Item::Call(_, call) => is_start_call(call),
-        Item::Note(_) => false,
     }
 }

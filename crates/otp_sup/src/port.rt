@@ -10,8 +10,7 @@ use std::alloc::Global;
 
 /// A process that is to run: its number, the slot of its signal word, and its body.
 ///
-/// By the rules a child that is started has its body with its supervisor. No contract says so yet; where it had none,
-/// the process would have none.
+/// Each process that a supervisor puts has its body: that of its child, which was at home until then.
 #[derive(Drop)]
 pub struct NewProcess<B> {
     pub number: u64,

@@ -1,11 +1,13 @@
 //! Which child has a process, and which slots the children have.
 ghost use Rattle.std.specs.Prelude.{◌≡◌, ◌≤◌, length, position};
 ghost use Rattle.std.specs.List.{list_any};
+ghost use Rattle.otp_spec.specs.declared.limits.TheConstants.{MAX_CHILDREN};
 ghost use Rattle.otp_table.specs.Rows.{has_process, has_slot, row_has};
 ghost use Rattle.otp_sup.specs.Bodies.{is_heeded, is_starting_as, slot_heeding};
 ghost use Rattle.otp_sup.specs.Slots.{AreBelow, AreTaken, slot_of};
 
 use otp_reason::Note;
+use otp_spec::MAX_CHILDREN;
 use otp_table::{Row, RowState};
 
 /// The place of the first row that has this process.
@@ -26,13 +28,13 @@ pub(crate) fn slot_of(rows: &[Row], number: u64) -> usize
 }
 
 /// Which slots a row has.
-pub(crate) fn taken_slots(rows: &[Row]) -> [bool; 256]
-    ensures len { length result ≡ 256 }
+pub(crate) fn taken_slots(rows: &[Row]) -> [bool; MAX_CHILDREN]
+    ensures len { length result ≡ MAX_CHILDREN }
     ensures taken { AreTaken rows.now result }
 {
-    let mut taken = [false; 256];
+    let mut taken = [false; MAX_CHILDREN];
     for row in rows {
-        if row.slot < 256 {
+        if row.slot < MAX_CHILDREN {
             taken[row.slot] = true;
         }
     }
@@ -40,12 +42,12 @@ pub(crate) fn taken_slots(rows: &[Row]) -> [bool; 256]
 }
 
 /// Whether a row has this slot.
-pub(crate) fn is_taken(rows: &[Row], taken: &[bool; 256], slot: usize) -> bool
+pub(crate) fn is_taken(rows: &[Row], taken: &[bool; MAX_CHILDREN], slot: usize) -> bool
     requires taken { AreTaken rows.now taken.now }
     requires below { AreBelow rows.now }
     ensures { result ≡ list_any (has_slot slot) rows.now }
 {
-    slot < 256 && taken[slot]
+    slot < MAX_CHILDREN && taken[slot]
 }
 
 /// Whether a row has this slot.

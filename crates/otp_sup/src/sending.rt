@@ -1,5 +1,6 @@
 //! How an office sends its orders.
 ghost use Rattle.std.specs.Prelude.{◌≡◌, ◌+◌, ◌<◌, ◌^◌, [], true, drop, is_some, IsSome, MatchOption, None};
+ghost use Rattle.otp_spec.specs.declared.limits.TheConstants.{MAX_CHILDREN};
 ghost use Rattle.otp_core.specs.View.{state_of};
 ghost use Rattle.otp_rules.specs.State.{own_number};
 ghost use Rattle.otp_sup.specs.Flushes.{IsFirst, Posts, Posted, Flushes};
@@ -42,8 +43,8 @@ impl<N: WordsNaming> Office<N> {
     /// The slot, counted from 0, of the row that has this process.
     fn row_slot(&self, number: u64) -> usize
         ensures slot { result ≡ slot_of (state_of self.now.core).rows number }
-        ensures below { result < 256 }
-        ensures fits { self.now.first_slot + 256 < 2 ^ 64 }
+        ensures below { result < MAX_CHILDREN }
+        ensures fits { self.now.first_slot + MAX_CHILDREN < 2 ^ 64 }
     {
         laws::slots_are_owned();
         let _ = self.core.history();
@@ -82,14 +83,15 @@ impl<N: WordsNaming> Office<N> {
         }
     }
 
-    /// Sends the first order: posts what it says, and puts the process with this body or tells the parent. What comes
-    /// back is the body, but for a process that the port took with it.
+    /// Sends the first order: posts what it says, and puts the process with this body, which a start must have, or tells
+    /// the parent. What comes back is the body, but for a process that the port took with it.
     pub fn flush_one<B: Drop, P: Port<B>>(
         &mut self,
         words: &Words<N>,
         body: Option<B>,
         port: &mut P,
     ) -> (Flushed, Option<B>)
+        requires { IsSome (starting_slot self.old.outbox (state_of self.old.core).rows) → IsSome body }
         ensures flushed { Flushes result.0 self.old self.new (taken_by (P.processes port.old) (P.notes port.old)) (taken_by (P.processes port.new) (P.notes port.new)) (P.refusals port.old) (P.refusals port.new) }
         ensures bodies { one_if (is_some result.1) + carried (P.processes port.new) ≡ one_if (is_some body) + carried (P.processes port.old) }
         ensures whose { IsSome result.1 → IsSome body }

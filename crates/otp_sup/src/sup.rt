@@ -1,7 +1,9 @@
 //! A table under its lock, beside its inbox.
-ghost use Rattle.std.specs.Prelude.{◌≡◌, ◌⊎◌, ◌≤◌, ◌^◌, Ok};
+ghost use Rattle.std.specs.Prelude.{◌≡◌, ◌⊎◌, ◌<◌, ◌≤◌, [], Ok};
+ghost use Rattle.otp_spec.specs.declared.limits.TheConstants.{MAX_READING};
+ghost use Rattle.otp_sup.specs.Flushes.{was_sent};
 ghost use Rattle.otp_sup.specs.Ports.{TookMore, taken_by};
-ghost use Rattle.otp_sup.specs.Turns.{TurnedUnder};
+ghost use Rattle.otp_sup.specs.Turns.{IsFlushed, IsOfAnother, TurnedUnder};
 ghost use Rattle.otp_sup.specs.declared.turns.TurnAnswer.TheVariants as answer;
 
 use crate::letter::Letter;
@@ -55,8 +57,9 @@ impl<N: WordsNaming + InboxNaming, B: Drop> Sup<N, B> {
         reading: u64,
         told: Signal,
     ) -> Result<TurnAnswer, TurnFault>
-        requires { reading ≤ 2 ^ 62 }
-        ensures turned { (result ≡ Ok answer.Pending) ⊎ TurnedUnder self.now.inbox number reading told result }
+        requires { reading ≤ MAX_READING }
+        ensures turned { TurnedUnder self.now.inbox number reading told result ⊎ ((result ≡ Ok answer.Pending) × IsOfAnother self.now.inbox) }
+        ensures flushed { IsFlushed (P.refusals port.old) (P.refusals port.new) ⊎ IsOfAnother self.now.inbox }
         ensures port { TookMore (taken_by (P.processes port.old) (P.notes port.old)) (taken_by (P.processes port.new) (P.notes port.new)) (P.refusals port.old) (P.refusals port.new) }
     {
         let mut guard = self.table.lock(rt);
@@ -68,6 +71,7 @@ impl<N: WordsNaming + InboxNaming, B: Drop> Sup<N, B> {
         }
         let answer = table.turn(rt, words, &self.inbox, number, reading, told);
         flush_all(table, words, port);
+        table.keeps_rules();
         answer
     }
 
@@ -101,17 +105,23 @@ impl<N: WordsNaming + InboxNaming, B: Drop> Sup<N, B> {
     }
 }
 
+fn was_sent(flushed: Flushed) -> bool
+    ensures { result ≡ was_sent flushed }
+{
+    matches!(flushed, Flushed::Sent)
+}
+
 /// Sends orders until none is left or the port refuses.
 fn flush_all<N: WordsNaming + InboxNaming, B: Drop, P: Port<B>>(
     table: &mut Table<N, B>,
     words: &Words<N>,
     port: &mut P,
 )
-    ensures { TookMore (taken_by (P.processes port.old) (P.notes port.old)) (taken_by (P.processes port.new) (P.notes port.new)) (P.refusals port.old) (P.refusals port.new) }
+    ensures more { TookMore (taken_by (P.processes port.old) (P.notes port.old)) (taken_by (P.processes port.new) (P.notes port.new)) (P.refusals port.old) (P.refusals port.new) }
+    ensures sent { (table.new.office.outbox ≡ []) ⊎ (P.refusals port.old < P.refusals port.new) }
 {
-    for _ in 0..u64::MAX {
-        if table.flush_one(words, port) != Flushed::Sent {
-            return;
-        }
+    let mut flushed = table.flush_one(words, port);
+    while was_sent(flushed) {
+        flushed = table.flush_one(words, port);
     }
 }

@@ -1,10 +1,11 @@
 //! What lies under a supervisor's lock.
-ghost use Rattle.std.specs.Prelude.{◌≡◌, ◌+◌, ◌≤◌, ◌^◌, [], false, is_some, MatchOption, None, Some};
+ghost use Rattle.std.specs.Prelude.{◌≡◌, ◌+◌, ◌≤◌, [], true, false, is_some, MatchOption, None, Some};
 ghost use Rattle.std.specs.List.{list_any};
+ghost use Rattle.otp_spec.specs.declared.limits.TheConstants.{MAX_READING};
 ghost use Rattle.otp_core.specs.View.{state_of};
 ghost use Rattle.otp_rules.specs.Run.{reply_of};
-ghost use Rattle.otp_sup.specs.Bodies.{bodies_in, bodies_sent, is_left_of, is_stray, settled, starting_slot, without_first};
-ghost use Rattle.otp_sup.specs.Facts.{KeepsRules};
+ghost use Rattle.otp_sup.specs.Bodies.{are_ready, bodies_in, bodies_sent, is_left_of, is_stray, settled, starting_slot, without_first};
+ghost use Rattle.otp_sup.specs.Facts.{KeepsRules, count_opened};
 ghost use Rattle.otp_sup.specs.Flushes.{Flushes};
 ghost use Rattle.otp_sup.specs.Ports.{taken_by, carried};
 ghost use Rattle.otp_sup.specs.Turns.{Turned};
@@ -42,10 +43,12 @@ impl<N: WordsNaming + InboxNaming, B: Drop> Model for Table<N, B> {
 }
 
 impl<N: WordsNaming + InboxNaming, B: Drop> Table<N, B> {
-    /// The table of a supervisor that was never opened, with the bodies of its child specifications.
+    /// The table of a supervisor that was never opened, with the bodies of its child specifications: one at least for
+    /// each child that an opening makes ([`Bodies::are_ready`], [`count_opened`]).
     pub fn new(office: Office<N>, taker: Taker<N, Item, Letter<B>>, mut bodies: Bodies<B>) -> Self
         requires history { office.core.history ≡ [] }
         requires taken { taker.taken ≡ [] }
+        requires bodies { are_ready (count_opened office.core.base.flags office.core.base.specs) bodies.kept ≡ true }
         ensures { result ≡ record { office = office; taker = taker; bodies = settled [] false bodies.kept } }
     {
         office.keeps_rules();
@@ -64,7 +67,9 @@ impl<N: WordsNaming + InboxNaming, B: Drop> Table<N, B> {
     /// That history holds each item taken from its inbox once, in order. Its process numbers are those that its own
     /// seat drew. Each signal that it posted for one of them is that of an order that was sent, or of the one to be sent
     /// next. No period has more restarts than the intensity, unless the supervisor is ending. No two of its children have
-    /// one slot, or one process. And each start call that waits has its body with it, in their order.
+    /// one slot, or one process. A child that is undefined or restarting has its body, and so has one whose start is still
+    /// to be sent; a body that is away is with a child's process. And each start call that waits has its body with it, in
+    /// their order.
     pub fn keeps_rules(&self)
         ensures { KeepsRules self.now }
     {
@@ -107,7 +112,7 @@ impl<N: WordsNaming + InboxNaming, B: Drop> Table<N, B> {
         told: Signal,
     ) -> Result<TurnAnswer, TurnFault>
         requires inbox { inbox.now ≡ self.old.taker.inbox }
-        requires reading { reading ≤ 2 ^ 62 }
+        requires reading { reading ≤ MAX_READING }
         ensures { Turned number reading told self.old self.new result }
     {
         if let Some(early) = self.office.early_answer(number) {
@@ -159,6 +164,7 @@ impl<N: WordsNaming + InboxNaming, B: Drop> Table<N, B> {
         // and it went with the process that the port took.
         ensures count { bodies_in self.new.bodies + carried (P.processes port.new) ≡ bodies_in self.old.bodies + carried (P.processes port.old) }
     {
+        self.office.keeps_rules();
         let slot = self.office.starting_slot();
         let at = self.bodies.find_home(slot);
         let body = leave(&mut self.bodies, slot, at);

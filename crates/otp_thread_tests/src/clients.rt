@@ -7,6 +7,7 @@ use otp_signals::{OpenWords, Signal, Words, WordsNaming};
 use otp_spec::SupFlags;
 use otp_sup::{
     Bodies, Client, Letter, MemoryPort, Office, SplitFault, SubmitCause, Sup, Table, TurnAnswer,
+    count_opened,
 };
 use std::alloc::Global;
 use std::marker::Brand;
@@ -42,8 +43,12 @@ fn make_one<N: WordsNaming + InboxNaming>(
     let (inbox, taker, sender) = inbox.named::<N>(0);
     let seat = words.split(&mut owner, 0..256, 100)?;
     let callers = words.split(&mut owner, 0..0, 2 * CALLS)?;
-    let office = Office::open(alloc, SupFlags::default(), &[], seat, 0)?;
-    let table = Table::new(office, taker, Bodies::new(alloc));
+    let (flags, bodies) = (SupFlags::default(), Bodies::new(alloc));
+    if !bodies.are_ready(count_opened(&flags, &[])) {
+        return Err("a body is wanted".into());
+    }
+    let office = Office::open(alloc, flags, &[], seat, 0)?;
+    let table = Table::new(office, taker, bodies);
     let client = Client::new(callers, sender);
     Ok((words, Sup::new(inbox, table), client))
 }

@@ -6,7 +6,10 @@ use otp_reason::{Name, Note, Reason, Text};
 use otp_rules::{Call, CallFault, Item, Reply};
 use otp_signals::{OpenWords, Signal, Viewer, Words, WordsNaming};
 use otp_spec::{ChildSpec, SupFlags};
-use otp_sup::{Bodies, Letter, MemoryPort, Office, Sup, Table, TurnAnswer, TurnFault};
+use otp_sup::{
+    Bodies, Client, Letter, MemoryPort, Office, SubmitCause, Sup, Table, TurnAnswer, TurnFault,
+    count_opened,
+};
 use std::alloc::Global;
 use std::marker::Brand;
 use std::process::Abort;
@@ -46,6 +49,7 @@ struct Driven<N: WordsNaming + InboxNaming, B: Drop> {
     viewer: Viewer<N>,
     sup: Sup<N, B>,
     sender: Sender<N, Item, Letter<B>>,
+    client: Client<N, B>,
     port: MemoryPort<B>,
 }
 
@@ -61,19 +65,23 @@ fn make_driven<N: WordsNaming + InboxNaming, B: Drop>(
     requires inbox { inbox ≡ N.inbox 0 }
 {
     let (words, mut owner) = words.named::<N>();
+    let seat = words.split(&mut owner, 0..256, 1000)?;
     let viewer = words.viewer(&mut owner);
-    let (inbox, taker, sender) = inbox.named::<N>(0);
-    let office = Office::open(alloc, SupFlags::default(), &[child()?], owner, 0)?;
+    let (inbox, taker, mut sender) = inbox.named::<N>(0);
+    let client = Client::new(owner, inbox.split(&mut sender, 1));
+    let (flags, specs) = (SupFlags::default(), [child()?]);
     let mut bodies = Bodies::new(alloc);
-    if bodies.hand_in(0, body).is_err() {
+    if bodies.hand_in(0, body).is_err() || !bodies.are_ready(count_opened(&flags, &specs)) {
         return Err("a body was refused".into());
     }
+    let office = Office::open(alloc, flags, &specs, seat, 0)?;
     let sup = Sup::new(inbox, Table::new(office, taker, bodies));
     Ok(Driven {
         words,
         viewer,
         sup,
         sender,
+        client,
         port: MemoryPort::new(alloc),
     })
 }
@@ -81,7 +89,7 @@ fn make_driven<N: WordsNaming + InboxNaming, B: Drop>(
 impl<N: WordsNaming + InboxNaming, B: Drop> Driven<N, B> {
     // A turn. Under `rt try --test --fail-alloc N` memory is refused once: nothing has happened then, and the same turn
     // with memory does what it would have done.
-    fn turn<R: Wait>(
+    fn turn<R: Wait + Abort>(
         &mut self,
         rt: &R,
         number: u64,
@@ -90,11 +98,48 @@ impl<N: WordsNaming + InboxNaming, B: Drop> Driven<N, B> {
     ) -> Result<TurnAnswer, TurnFault>
         requires { reading ≤ 2 ^ 62 }
     {
+        let before = (self.port.processes.len(), self.port.notes.len());
         let turned = self.turn_once(rt, number, reading, told);
         if turned == Err(TurnFault::OutOfMemory) {
+            let after = (self.port.processes.len(), self.port.notes.len());
+            assert_eq!(rt; after, before);
             return self.turn_once(rt, number, reading, told);
         }
         turned
+    }
+
+    // Where the port was refused memory, the order stayed: the next turn says so, and sends it.
+    fn send_orders<R: Wait + Abort>(&mut self, rt: &R, number: u64, is_sent: bool) {
+        if !is_sent {
+            let turned = self.turn_once(rt, number, 0, Signal::None);
+            assert_eq!(rt; turned, Ok(TurnAnswer::Pending));
+        }
+    }
+
+    // A call, with a body where it starts a child. Where memory is refused the body comes back, and it is sent again.
+    fn call<R: Wait + Abort>(&mut self, rt: &R, call: Call, body: Option<B>) -> u64 {
+        match self.call_once(rt, call, body) {
+            Ok(number) => number,
+            Err((cause, body)) => {
+                assert_eq!(rt; cause, SubmitCause::OutOfMemory);
+                let sent = self.call_once(rt, call, body);
+                assert!(rt; sent.is_ok());
+                sent.map_err(|_| ()).unwrap_or(0)
+            }
+        }
+    }
+
+    fn call_once<R: Wait + Abort>(
+        &mut self,
+        rt: &R,
+        call: Call,
+        body: Option<B>,
+    ) -> Result<u64, (SubmitCause, Option<B>)> {
+        assert_eq!(rt; self.client.number(), self.sup.inbox().number());
+        let sent = self
+            .client
+            .submit(rt, &self.words, self.sup.inbox(), call, body);
+        sent.map_err(|fault| (fault.cause, fault.body))
     }
 
     fn turn_once<R: Wait>(
@@ -146,12 +191,30 @@ impl<N: WordsNaming + InboxNaming, B: Drop> Driven<N, B> {
     }
 }
 
-// The number, the slot and the body's tag of each process that was put; the port has them no more.
-fn launched<R: Abort>(rt: &R, port: &mut MemoryPort<Body>) -> Option<(u64, usize, u64)> {
-    let process = port.processes.pop()?;
-    assert!(rt; port.processes.is_empty());
+// The number, the slot and the body's tag of the process that was put; the port has it no more.
+fn launched<N: WordsNaming + InboxNaming, R: Wait + Abort>(
+    rt: &R,
+    one: &mut Driven<N, Body>,
+    number: u64,
+) -> Option<(u64, usize, u64)> {
+    let is_put = !one.port.processes.is_empty();
+    one.send_orders(rt, number, is_put);
+    let process = one.port.processes.pop()?;
+    assert!(rt; one.port.processes.is_empty());
     let tag = process.body.as_ref()?.tag();
     Some((process.number, process.slot, tag))
+}
+
+// The note that the parent was told; the port has it no more.
+fn told<N: WordsNaming + InboxNaming, R: Wait + Abort>(
+    rt: &R,
+    one: &mut Driven<N, Body>,
+) -> Option<Note> {
+    let is_told = !one.port.notes.is_empty();
+    one.send_orders(rt, 0, is_told);
+    let note = one.port.notes.pop();
+    assert!(rt; one.port.notes.is_empty());
+    note
 }
 
 #[test]
@@ -198,7 +261,7 @@ fn one_child_in<N: WordsNaming + InboxNaming + Send + Sync, R: Wait + Abort>(
     let mut one = make_driven::<N, Body>(alloc, words, inbox, own)?;
     crosses_threads(&one);
     assert_eq!(rt; one.turn(rt, 0, 0, Signal::None), Ok(TurnAnswer::Opened));
-    assert_eq!(rt; launched(rt, &mut one.port), Some((1, 0, 6)));
+    assert_eq!(rt; launched(rt, &mut one, 0), Some((1, 0, 6)));
     assert_eq!(rt; one.turn(rt, 0, 0, Signal::None), Ok(TurnAnswer::Quiet));
     assert_eq!(rt;
         one.turn(rt, 3, 0, Signal::None),
@@ -206,10 +269,10 @@ fn one_child_in<N: WordsNaming + InboxNaming + Send + Sync, R: Wait + Abort>(
     );
     one.up(rt, 1);
     assert_eq!(rt; one.turn(rt, 0, 0, Signal::None), Ok(TurnAnswer::Took));
-    assert_eq!(rt; one.port.notes.pop(), Some(Note::Up(0)));
+    assert_eq!(rt; told(rt, &mut one), Some(Note::Up(0)));
     one.exit(rt, 1, Reason::Error(x), second);
     assert_eq!(rt; one.turn(rt, 0, 1000, Signal::None), Ok(TurnAnswer::Took));
-    assert_eq!(rt; launched(rt, &mut one.port), Some((2, 0, 7)));
+    assert_eq!(rt; launched(rt, &mut one, 0), Some((2, 0, 7)));
     one.up(rt, 2);
     assert_eq!(rt; one.turn(rt, 0, 1000, Signal::None), Ok(TurnAnswer::Took));
     assert_eq!(rt; one.signal(rt, 2), Signal::None);
@@ -222,11 +285,11 @@ fn one_child_in<N: WordsNaming + InboxNaming + Send + Sync, R: Wait + Abort>(
     assert_eq!(rt; one.signal(rt, 2), Signal::Kill);
     one.exit(rt, 2, Reason::Killed, third);
     assert_eq!(rt; one.turn(rt, 0, 6000, Signal::None), Ok(TurnAnswer::Took));
-    assert_eq!(rt; one.port.notes.pop(), Some(Note::Exit(0, Reason::Shutdown)));
+    assert_eq!(rt; told(rt, &mut one), Some(Note::Exit(0, Reason::Shutdown)));
     assert_eq!(rt; one.turn(rt, 0, 6000, Signal::None), Ok(TurnAnswer::Ended));
     // Under a greater number it opens again, with the body that came home.
     assert_eq!(rt; one.turn(rt, 9, 6000, Signal::None), Ok(TurnAnswer::Opened));
-    assert_eq!(rt; launched(rt, &mut one.port), Some((3, 0, 8)));
+    assert_eq!(rt; launched(rt, &mut one, 9), Some((3, 0, 8)));
     assert_eq!(rt; one.turn(rt, 0, 6000, Signal::None), Ok(TurnAnswer::Ended));
     assert!(rt; one.port.notes.is_empty());
     Ok(())
@@ -277,5 +340,56 @@ fn bodies_in<N: WordsNaming + InboxNaming, R: Wait + Abort>(
     assert_eq!(rt; one.turn(rt, 0, 0, Signal::None), Ok(TurnAnswer::Took));
     assert_eq!(rt; one.sup.take_stray(rt).map(|body| body.tag()), Some(8));
     assert!(rt; one.sup.take_stray(rt).is_none());
+    Ok(())
+}
+
+#[test]
+fn refused_growths(rt: HostRuntime) -> Result<(), Fail> {
+    let words = OpenWords::open(rt.alloc(), 256)?;
+    let inbox = UnnamedInbox::<Item, Post>::open(rt.alloc())?;
+    let bodies: (Body, Body, Body) = (
+        Box::new(rt.alloc(), Tagged { tag: 6 })?,
+        Box::new(rt.alloc(), Tagged { tag: 7 })?,
+        Box::new(rt.alloc(), Tagged { tag: 8 })?,
+    );
+    growths_in::<Brand, _>(&rt, rt.alloc(), words, inbox, bodies)
+}
+
+// A turn, a call and the sending of an order. Of `rt try --test --fail-alloc N` the least N refuse what is opened, which
+// the test then tells; each of the next refuses one growth of these calls: nothing has happened, the body is back, and the
+// same call with memory then does what it would have done.
+fn growths_in<N: WordsNaming + InboxNaming, R: Wait + Abort>(
+    rt: &R,
+    alloc: Global,
+    words: OpenWords,
+    inbox: UnnamedInbox<Item, Post>,
+    bodies: (Body, Body, Body),
+) -> Result<(), Fail>
+    requires words { words.words ≡ N.words }
+    requires slots { words.slots ≡ 256 }
+    requires inbox { inbox ≡ N.inbox 0 }
+{
+    let x = Text::new(b"x").ok_or("a text")?;
+    let id = Name::new(b"b").ok_or("a name")?;
+    let (own, second, third) = bodies;
+    let mut one = make_driven::<N, Body>(alloc, words, inbox, own)?;
+    assert_eq!(rt; one.turn(rt, 0, 0, Signal::None), Ok(TurnAnswer::Opened));
+    assert_eq!(rt; launched(rt, &mut one, 0), Some((1, 0, 6)));
+    one.up(rt, 1);
+    assert_eq!(rt; one.turn(rt, 0, 0, Signal::None), Ok(TurnAnswer::Took));
+    assert_eq!(rt; told(rt, &mut one), Some(Note::Up(0)));
+    let call = one.call(rt, Call::StartChild(ChildSpec::new(id, id)), Some(second));
+    assert_eq!(rt; one.turn(rt, 0, 0, Signal::None), Ok(TurnAnswer::Took));
+    let started = launched(rt, &mut one, 0);
+    assert!(rt; matches!(started, Some((_, 1, 7))));
+    let child = started.map(|process| process.0).unwrap_or(0);
+    one.up(rt, child);
+    assert_eq!(rt; one.turn(rt, 0, 0, Signal::None), Ok(TurnAnswer::Took));
+    let reply = one.sup.reply(rt, alloc, call)?;
+    assert!(rt; matches!(reply, Some(Reply::OkProcess(number)) if number == child));
+    one.exit(rt, 1, Reason::Error(x), third);
+    assert_eq!(rt; one.turn(rt, 0, 0, Signal::None), Ok(TurnAnswer::Took));
+    let restarted = launched(rt, &mut one, 0);
+    assert!(rt; matches!(restarted, Some((number, 0, 8)) if number > child));
     Ok(())
 }

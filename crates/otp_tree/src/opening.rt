@@ -18,7 +18,7 @@ use otp_job::{Body, Process, TableNo};
 use otp_rules::Item;
 use otp_run::{RunNaming, RunQueue, Scheduler};
 use otp_signals::{OpenWords, Owner, Viewer, Words, WordsNaming};
-use otp_sup::{Bodies, Letter, Office, Sup, Table};
+use otp_sup::{Bodies, Letter, Office, Sup, Table, count_opened};
 use otp_tally::Tally;
 use std::alloc::{AllocError, Global};
 
@@ -38,6 +38,8 @@ pub enum TreeFault {
     OutOfMemory,
     /// The flags or the child specifications of this supervisor are refused.
     Table { table: usize, fault: OpenFault },
+    /// A child of this supervisor has no body in its plan.
+    NoBody { table: usize },
 }
 
 impl From<AllocError> for TreeFault {
@@ -128,6 +130,10 @@ fn open_one<N: WordsNaming + InboxNaming, J: Drop, S: Drop>(
         specs,
         bodies,
     } = plan;
+    let bodies = hand_in_all(alloc, bodies)?;
+    if !bodies.are_ready(count_opened(&flags, specs.as_slice())) {
+        return Err(TreeFault::NoBody { table: number });
+    }
     let (inbox, taker, sender) = inbox.named::<N>(number);
     let office = match Office::open(alloc, flags, specs.as_slice(), seat, first) {
         Ok(office) => office,
@@ -136,7 +142,6 @@ fn open_one<N: WordsNaming + InboxNaming, J: Drop, S: Drop>(
             fault,
         }),
     };
-    let bodies = hand_in_all(alloc, bodies)?;
     let sup = Sup::new(inbox, Table::new(office, taker, bodies));
     Ok((sup, sender))
 }

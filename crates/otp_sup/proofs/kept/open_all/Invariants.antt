@@ -3,4 +3,4 @@ use Rattle.otp_sup.specs.Bodies.{opened}
 use Rattle.otp_sup.proofs.kept.open_all.Given as goal
 
 abbrev pub invariant-loop-one : goal.invariant-loop-one
-invariant-loop-one l = take l.one-index l.kept ++ opened l.children (drop l.one-index l.kept) ≡ opened l.children l.fn.kept
+invariant-loop-one l = take l.one-index l.kept ++ opened l.rows (drop l.one-index l.kept) ≡ opened l.rows l.fn.kept

@@ -1,8 +1,10 @@
-use Rattle.std.proofs.Common.{ℕ, List, ap, ◌∙◌}
+use Rattle.std.proofs.Common.{ℕ, List, ap, sym, subst, ◌∙◌}
 use Rattle.otp_core.specs.View.{state_of}
 use Rattle.otp_sup.specs.Bodies.{bodies_in, calls_waiting, given_in, let_go}
 use Rattle.otp_sup.specs.declared.bodies.Kept.{Kept}
+use Rattle.otp_sup.specs.Facts.{HasBodies}
 use Rattle.otp_sup.proofs.Calls.{calls_happened}
+use Rattle.otp_sup.proofs.Homes.{Laws, bodies_happened}
 use Rattle.otp_sup.proofs.CountBodies.{count_after}
 use Rattle.otp_sup.proofs.moves.happen.Goals as goal
 
@@ -28,3 +30,24 @@ returns-clause-calls g c = λ same.
     let slot = c.slot_given-slot.ensures ∙ ap (λ (n : ℕ). given_in n later.rows) c.plan-plan.ensures.free in
     ap (λ (l : List Kept). calls_waiting l) (c.let_go.ensures ∙ ap (λ (l : List Kept). let_go later c.args.kind l) (c.move_bodies.ensures s later.rows c.plan-plan.ensures slot))
     ∙ calls_happened c.args.office.now c.happen.new.self c.args.reading c.args.kind c.args.bodies.now.kept c.runs_are_joined.ensures.one_more c.start_calls_wait.ensures c.happen.ensures same
+
+pub returns-clause-homes : goal.returns-clause-homes
+returns-clause-homes g c = λ same has.
+    let s = state_of c.args.office.now.core in
+    let later = state_of c.happen.new.self.core in
+    let slot = c.slot_given-slot.ensures ∙ ap (λ (n : ℕ). given_in n later.rows) c.plan-plan.ensures.free in
+    let is = c.let_go.ensures ∙ ap (λ (l : List Kept). let_go later c.args.kind l) (c.move_bodies.ensures s later.rows c.plan-plan.ensures slot) in
+    let laws : Laws = record {
+      goes_on = c.runs_are_joined.ensures.one_more;
+      homes = c.homes_are_kept.ensures.from_any;
+      stay = c.processes_stay.ensures.stay;
+      heard = c.ends_tell_started.ensures.heard;
+      started = c.ends_tell_started.ensures.started;
+      bare = c.ended_has_no_rows.ensures;
+      named = c.orders_name_rows.ensures.from_empty;
+      owned = c.processes_are_owned.ensures.from_empty;
+      works = c.number_starts_work.ensures;
+      plan = c.step_keeps_plan.ensures;
+    } in
+    let Has : List Kept → Type 0 = λ l. HasBodies c.happen.new.self l in
+    subst Has (sym is) (bodies_happened laws c.args.office.now c.happen.new.self c.args.reading c.args.kind c.args.bodies.now.kept c.keeps_rules.ensures c.happen.ensures c.requires.outbox c.requires.over same has)

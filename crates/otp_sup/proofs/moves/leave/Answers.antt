@@ -5,7 +5,8 @@ use Rattle.otp_sup.specs.declared.bodies.Place.TheVariants as placed
 use Rattle.otp_sup.specs.Letters.{one_if}
 use Rattle.otp_sup.specs.declared.bodies.Kept.{Kept}
 use Rattle.otp_sup.proofs.CountBodies.{left_count}
-use Rattle.otp_sup.proofs.Keeping.{any_at, first_at}
+use Rattle.otp_sup.proofs.Keeping.{any_at, first_at, none_passes}
+use Rattle.std.proofs.lemmas.Bool.{false≢true}
 use Rattle.otp_sup.proofs.Leaving.{none_leaves}
 use Rattle.otp_sup.proofs.moves.leave.Goals as goal
 
@@ -15,6 +16,13 @@ returns-in_err-at-clause-kept g c =
     let F : Option ℕ → Type 0 = λ s. MatchOption s (c.args.at ≡ None) (λ k. c.args.at ≡ position (is_at_home k) kept) in
     let at : c.args.at ≡ position (is_at_home c.in_ok-slot.slot) kept = subst F c.in_ok-slot.was c.requires in
     none_leaves c.in_ok-slot.slot kept (sym at ∙ c.in_err-at.was) ∙ sym (ap (λ s. left_home s kept) c.in_ok-slot.was)
+
+pub returns-in_err-at-clause-found : goal.returns-in_err-at-clause-found
+returns-in_err-at-clause-found g c = λ k is has.
+    let kept = c.args.bodies.now.kept in
+    let F : Option ℕ → Type 0 = λ s. MatchOption s (c.args.at ≡ None) (λ k. c.args.at ≡ position (is_at_home k) kept) in
+    let at : c.args.at ≡ position (is_at_home k) kept = subst F is c.requires in
+    absurd (false≢true (sym (none_passes (is_at_home k) kept (sym at ∙ c.in_err-at.was)) ∙ has))
 
 pub returns-clause-count : goal.returns-clause-count
 returns-clause-count g c =

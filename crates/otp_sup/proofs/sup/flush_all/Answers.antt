@@ -1,15 +1,25 @@
-use Rattle.std.proofs.Common.{refl, arith}
-use Rattle.otp_sup.proofs.More.{flushes_more, more_again, took_none}
+use Rattle.std.proofs.Common.{arith, sym, ◌∙◌}
+use Rattle.otp_sup.proofs.More.{flushes_last, flushes_less, flushes_more, last_sent, more_again}
 use Rattle.otp_sup.proofs.sup.flush_all.Goals as goal
 
-pub returns-then-ne : goal.returns-then-ne
-returns-then-ne g c = more_again _ _ _ _ _ _ c.loop.invariant (flushes_more c.flush_one.result _ _ _ _ _ _ c.flush_one.ensures.flushed)
+pub loop-table-init : goal.loop-table-init
+loop-table-init g c =
+    record {
+      more = flushes_more c.flush_one-flushed.result _ _ _ _ _ _ c.flush_one-flushed.ensures.flushed;
+      last = flushes_last c.flush_one-flushed.result _ _ _ _ _ _ _ c.flush_one-flushed.ensures.flushed (omega arith);
+    }
 
-pub returns : goal.returns
-returns g c = c.loop.invariant
+pub loop-table-preserved : goal.loop-table-preserved
+loop-table-preserved g c =
+    let refused = c.loop-table.invariant.more.refused in
+    record {
+      more = more_again _ _ _ _ _ _ c.loop-table.invariant.more (flushes_more c.flush_one-flushed-in-loop-table.result _ _ _ _ _ _ c.flush_one-flushed-in-loop-table.ensures.flushed);
+      last = flushes_last c.flush_one-flushed-in-loop-table.result _ _ _ _ _ _ _ c.flush_one-flushed-in-loop-table.ensures.flushed refused;
+    }
 
-pub loop-init : goal.loop-init
-loop-init g c = took_none _ _ _ _ refl (omega arith)
+pub loop-table-smaller : goal.loop-table-smaller
+loop-table-smaller g c =
+    flushes_less c.flush_one-flushed-in-loop-table.result _ _ _ _ _ _ c.flush_one-flushed-in-loop-table.ensures.flushed c.loop-table.flushed (sym c.was_sent.ensures ∙ c.loop-table-test.true)
 
-pub loop-preserved : goal.loop-preserved
-loop-preserved g c = more_again _ _ _ _ _ _ c.loop.invariant (flushes_more c.flush_one.result _ _ _ _ _ _ c.flush_one.ensures.flushed)
+pub returns-clause-sent : goal.returns-clause-sent
+returns-clause-sent g c = last_sent c.loop-table.flushed _ _ _ c.loop-table.invariant.last (sym c.was_sent.ensures ∙ c.loop-table-test.false)

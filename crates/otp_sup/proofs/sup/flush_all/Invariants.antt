@@ -1,7 +1,15 @@
+use Rattle.std.proofs.Common.{length}
 use Rattle.otp_sup.specs.Ports.{TookMore, taken_by}
+use Rattle.otp_sup.proofs.More.{IsLast, left_after}
 use Rattle.otp_sup.proofs.sup.flush_all.Given as goal
 
-abbrev pub invariant-loop : goal.invariant-loop
-invariant-loop g l =
-    TookMore (taken_by (g.P.Port.processes l.initial.port) (g.P.Port.notes l.initial.port)) (taken_by (g.P.Port.processes l.port) (g.P.Port.notes l.port))
-    (g.P.Port.refusals l.initial.port) (g.P.Port.refusals l.port)
+abbrev pub invariant-loop-table : goal.invariant-loop-table
+invariant-loop-table g l =
+    record {
+      more : TookMore (taken_by (g.P.Port.processes l.fn.port) (g.P.Port.notes l.fn.port)) (taken_by (g.P.Port.processes l.port) (g.P.Port.notes l.port))
+          (g.P.Port.refusals l.fn.port) (g.P.Port.refusals l.port);
+      last : IsLast l.flushed l.table.office.outbox (g.P.Port.refusals l.fn.port) (g.P.Port.refusals l.port);
+    }
+
+abbrev pub decreases-loop-table : goal.decreases-loop-table
+decreases-loop-table g l = left_after l.flushed (length l.table.office.outbox)

@@ -3,7 +3,9 @@ use Rattle.std.specs.Prelude.{position, if◌then◌else◌}
 use Rattle.otp_sup.specs.declared.bodies.Kept.{Kept}
 use Rattle.otp_sup.specs.declared.bodies.Place.TheVariants as placed
 use Rattle.otp_sup.specs.Facts.{BodiesView}
-use Rattle.otp_sup.specs.Bodies.{is_away, move_first, stray}
+use Rattle.otp_sup.specs.declared.bodies.Place.{Place}
+use Rattle.otp_sup.specs.declared.bodies.Origin.TheVariants as origin
+use Rattle.otp_sup.specs.Bodies.{is_away, move_first, place_without_line, stray}
 use Rattle.otp_sup.proofs.Keeping.{IsFirstAt, any_at, first_at, moved_at, none_passes}
 use Rattle.otp_sup.proofs.bodies.Bodies.come_home.Goals as goal
 
@@ -15,7 +17,7 @@ returns-in-Some g c =
     let at : position t xs ≡ Some c.in-Some.at = ap (λ (l : List Kept). position t l) (sym same) ∙ sym c.find_away.ensures ∙ c.in-Some.is in
     let first : IsFirstAt t xs c.in-Some.at stray = first_at t xs c.in-Some.at stray at in
     c.take_in.ensures stray ∙ moved_at t (placed.Home c.args.slot) xs c.in-Some.at stray first
-    ∙ sym (ap (λ (b : Bool). if b then move_first t (placed.Home c.args.slot) xs else xs ++ stray ∷ []) (any_at t xs c.in-Some.at stray first))
+    ∙ sym (ap (λ (b : Bool). if b then move_first t (placed.Home c.args.slot) xs else xs ++ record { origin = origin.Nobody; place = place_without_line c.args.slot xs } ∷ []) (any_at t xs c.in-Some.at stray first))
 
 pub returns-in-None : goal.returns-in-None
 returns-in-None g c =
@@ -23,4 +25,5 @@ returns-in-None g c =
     let t : Kept → Bool = is_away c.args.slot in
     let same : c.deref.result.now ≡ xs = c.deref.ensures.value ∙ ap (λ (v : BodiesView). v.kept) c.self.view_is in
     let at : position t xs ≡ None = ap (λ (l : List Kept). position t l) (sym same) ∙ sym c.find_away.ensures ∙ c.in-None.is in
-    c.put.ensures ∙ sym (ap (λ (b : Bool). if b then move_first t (placed.Home c.args.slot) xs else xs ++ stray ∷ []) (none_passes t xs at))
+    c.put.ensures ∙ ap (λ (p : Place). xs ++ record { origin = origin.Nobody; place = p } ∷ []) c.place_without_line-place.ensures.place
+    ∙ sym (ap (λ (b : Bool). if b then move_first t (placed.Home c.args.slot) xs else xs ++ record { origin = origin.Nobody; place = place_without_line c.args.slot xs } ∷ []) (none_passes t xs at))

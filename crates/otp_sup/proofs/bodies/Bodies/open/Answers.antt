@@ -6,4 +6,4 @@ use Rattle.otp_sup.proofs.bodies.Bodies.open.Goals as goal
 
 pub invariant_of-self : goal.invariant_of-self
 invariant_of-self g c =
-    c.self.invariant ∙ sym (opened_here c.args.children c.self.inside.kept.items) ∙ ap (λ (l : List Kept). map (λ (k : Kept). is_here k.place) l) (sym c.open_items.ensures)
+    c.self.invariant ∙ sym (opened_here c.args.rows.now c.self.inside.kept.items) ∙ ap (λ (l : List Kept). map (λ (k : Kept). is_here k.place) l) (sym c.open_items.ensures)

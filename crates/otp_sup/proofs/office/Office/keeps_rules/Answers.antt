@@ -27,6 +27,7 @@ returns g c =
     subst Distinct (sym begins.is) (c.processes_are_owned.ensures.from_empty begins.flags begins.specs core.history next (subst Lawful begins.is c.history.ensures.lawful) (c.last_number.ensures.next next (omega arith))) in
     subst KeepsOffice c.self.view_is (record {
       begins = i.begins;
+      lawful = c.history.ensures.lawful;
       numbers = i.numbers;
       orders = ap (λ (l : List Effect). take sent all ++ l) i.orders ∙ take-append-drop sent all;
       posts = i.posts;

@@ -1,8 +1,9 @@
 use Rattle.std.proofs.Common.{◌≡◌, List, Option, ℕ, ap, sym, ◌∙◌, subst, IsSome}
 use Rattle.otp_core.specs.View.{View, state_of}
 use Rattle.otp_rules.specs.Waits.{starts_waiting}
-use Rattle.otp_sup.specs.Bodies.{calls_waiting}
-use Rattle.otp_sup.specs.Facts.{OfficeView, items_of}
+use Rattle.otp_sup.specs.Bodies.{bodies_sent, calls_waiting}
+use Rattle.otp_sup.specs.Facts.{HasBodies, OfficeView, items_of}
+use Rattle.otp_sup.proofs.Flushing.{bodies_flushed, start_leaves}
 use Rattle.otp_sup.specs.declared.bodies.Kept.{Kept}
 use Rattle.otp_sup.proofs.Calls.{sent_calls}
 use Rattle.otp_sup.proofs.Leaving.{Left, flushes_core, flushes_none, left_or_not}
@@ -26,10 +27,18 @@ invariant_of-self g c =
       stays = c.come_back.ensures.none;
       comes = c.come_back.ensures.back;
     } in
+    let is = left_or_not c.flush_one-flushed.result.0 slot c.find_home-at.result c.leave-body.result c.flush_one-flushed.result.1 c.self.inside.bodies.kept c.leave-body.new.bodies.kept c.come_back.new.bodies.kept left in
+    let Has : List Kept → Type 0 = λ l. HasBodies c.flush_one-flushed.new.self l in
+    let Slot : Option ℕ → Type 0 = λ o. HasBodies c.flush_one-flushed.new.self (bodies_sent c.flush_one-flushed.result.0 o c.self.inside.bodies.kept) in
     record {
       taken = c.self.invariant.taken ∙ ap (λ (v : View). items_of v.history) (sym core);
-      calls = ap (λ (l : List Kept). calls_waiting l) (left_or_not c.flush_one-flushed.result.0 slot c.find_home-at.result c.leave-body.result c.flush_one-flushed.result.1 c.self.inside.bodies.kept c.leave-body.new.bodies.kept c.come_back.new.bodies.kept left)
+      calls = ap (λ (l : List Kept). calls_waiting l) is
           ∙ sent_calls c.flush_one-flushed.result.0 slot c.self.inside.bodies.kept
           ∙ c.self.invariant.calls
           ∙ ap (λ (v : View). starts_waiting (state_of v).waiting) (sym core);
+      bodies = subst Has (sym is) (subst Slot (sym c.starting_slot-slot.ensures) (bodies_flushed _ _ _ _ _ _ _ c.self.inside.bodies.kept c.keeps_rules.ensures sent.flushed c.self.invariant.bodies));
     }
+
+pub flush_one-flushed-requires : goal.flush_one-flushed-requires
+flush_one-flushed-requires g c = λ some.
+    start_leaves c.self.inside.office c.self.inside.bodies.kept c.starting_slot-slot.result c.leave-body.result c.keeps_rules.ensures c.self.invariant.bodies c.starting_slot-slot.ensures c.leave-body.ensures.found some

@@ -1,4 +1,8 @@
-use Rattle.std.proofs.Common.{ap, ◌∙◌}
+use Rattle.std.proofs.Common.{List, ap, sym, subst, ◌∙◌}
+use Rattle.otp_core.specs.View.{state_of}
+use Rattle.otp_sup.specs.declared.bodies.Kept.{Kept}
+use Rattle.otp_sup.specs.Facts.{HasBodies, starts_in}
+use Rattle.otp_sup.proofs.Flushing.{left_bodies}
 use Rattle.std.proofs.lemmas.Bool.{and_parts}
 use Rattle.otp_sup.specs.Bodies.{calls_waiting, is_left_of}
 use Rattle.otp_sup.proofs.Calls.{without_calls}
@@ -6,7 +10,9 @@ use Rattle.otp_sup.proofs.table.Table.take_box.Goals as goal
 
 pub invariant_of-self : goal.invariant_of-self
 invariant_of-self g c =
+    let Has : List Kept → Type 0 = λ l. HasBodies c.self.inside.office l in
     record {
       taken = c.self.invariant.taken;
       calls = ap calls_waiting c.take_of_call.ensures.kept ∙ without_calls (is_left_of c.args.call) c.self.inside.bodies.kept (λ b t. (and_parts _ _ t).1) ∙ c.self.invariant.calls;
+      bodies = subst Has (sym c.take_of_call.ensures.kept) (left_bodies c.args.call (state_of c.self.inside.office.core) (starts_in c.self.inside.office.outbox) c.self.inside.bodies.kept c.self.invariant.bodies);
     }
