@@ -5,10 +5,13 @@
 //! alone, its start is ignored or fails, it can't be asked to end. `docs/FORMATS.md` has the words.
 #![tactic(auto)]
 
+mod flat;
+pub mod plan;
 pub mod role;
 pub mod work;
 pub mod worker;
 
+pub use plan::{Plan, PlanFault};
 pub use role::{Calm, Role, WorkedBody};
 pub use work::Work;
 pub use worker::{Life, WorkedJob};
