@@ -1,5 +1,5 @@
 -- The bodies of a tree's children, by the words of their starts (own).
-use Rattle.std.specs.Prelude.{ℕ, ◌+◌, ◌==◌, Bool, true, false, not, ◌&&◌, ◌||◌, suc, zero, List, [], ◌∷◌, map, length, Option, Some, None, Result, Ok, Err, if◌then◌else◌}
+use Rattle.std.specs.Prelude.{ℕ, ◌+◌, ◌==◌, Bool, true, false, not, ◌&&◌, ◌||◌, suc, zero, List, [], ◌∷◌, map, length, Option, Some, None, if◌then◌else◌}
 use Rattle.std.specs.List.{list_any}
 use Rattle.std.specs.Option.{option_map}
 use Rattle.otp_file.specs.Trees.{Table}
@@ -16,7 +16,7 @@ use Rattle.otp_jobs.specs.Jobs.{body_of, role_of}
 use Rattle.otp_jobs.specs.declared.flat.FlatTable.{FlatTable}
 use Rattle.otp_jobs.specs.declared.plan.Plan.{Plan}
 use Rattle.otp_jobs.specs.declared.plan.PlanFault.{PlanFault}
-use Rattle.otp_jobs.specs.declared.plan.PlanFault.TheVariants.{UnknownStart, WrongBody}
+use Rattle.otp_jobs.specs.declared.plan.PlanFault.TheVariants.{OutOfMemory, TooManyTables, UnknownStart, WrongBody}
 use Rattle.otp_jobs.specs.declared.role.Calm.{Calm}
 use Rattle.otp_jobs.specs.declared.role.Role.{Role}
 use Rattle.otp_jobs.specs.declared.role.Role.TheVariants as role
@@ -93,6 +93,11 @@ abbrev pub tree_sizes : List Table → List ℕ
 tree_sizes [] = []
 tree_sizes (table ∷ tables) = joined 1 (length table.nested) (tree_sizes tables)
 
+-- how many tables these trees have together
+abbrev pub total : List ℕ → ℕ
+total [] = 0
+total (size ∷ sizes) = size + total sizes
+
 -- the first of these sizes, and the others
 abbrev pub first_size : List ℕ → ℕ
 first_size [] = 0
@@ -123,6 +128,13 @@ plan_of next sizes table = record {
   specs = table.specs;
   bodies = if is_simple table.flags.strategy then [] else bodies_from table.nested next sizes 0 table.specs;
 }
+
+-- a fault of the tree, and neither want of memory nor too many tables
+abbrev pub IsOfPlan : PlanFault → Type 0
+IsOfPlan OutOfMemory = ⊥
+IsOfPlan TooManyTables = ⊥
+IsOfPlan (UnknownStart _) = Unit {0}
+IsOfPlan WrongBody = Unit {0}
 
 -- the plans of tables, the first of which has this number
 abbrev pub plans_from : ℕ → List Table → List PlanView

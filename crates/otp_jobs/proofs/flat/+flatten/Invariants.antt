@@ -1,4 +1,4 @@
-use Rattle.std.proofs.Common.{◌≡◌, ◌++◌, ◌≤◌, ◌∷◌, [], map, length}
+use Rattle.std.proofs.Common.{◌≡◌, ◌++◌, ◌≤◌, map, length}
 use Rattle.std.specs.List.{flat_map}
 use Rattle.std.specs.Vec.Iter.{into_iter_items}
 use Rattle.otp_file.specs.Trees.{tables_of}
