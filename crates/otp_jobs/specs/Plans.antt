@@ -12,9 +12,9 @@ use Rattle.otp_spec.specs.declared.child.ChildSpec.{ChildSpec}
 use Rattle.otp_spec.specs.declared.child.ChildType.{ChildType}
 use Rattle.otp_spec.specs.declared.child.ChildType.TheVariants as kind
 use Rattle.otp_spec.specs.declared.flags.SupFlags.{SupFlags}
+use Rattle.otp_tree.specs.declared.plan.TablePlan.{TablePlan}
 use Rattle.otp_jobs.specs.Jobs.{body_of, role_of}
 use Rattle.otp_jobs.specs.declared.flat.FlatTable.{FlatTable}
-use Rattle.otp_jobs.specs.declared.plan.Plan.{Plan}
 use Rattle.otp_jobs.specs.declared.plan.PlanFault.{PlanFault}
 use Rattle.otp_jobs.specs.declared.plan.PlanFault.TheVariants.{OutOfMemory, TooManyTables, UnknownStart, WrongBody}
 use Rattle.otp_jobs.specs.declared.role.Calm.{Calm}
@@ -141,7 +141,7 @@ abbrev pub plans_from : ℕ → List Table → List PlanView
 plans_from number [] = []
 plans_from number (table ∷ tables) = plan_of (number + 1) (tree_sizes tables) table ∷ plans_from (number + 1) tables
 
-abbrev pub seen : Plan → PlanView
+abbrev pub seen : TablePlan WorkedJob Calm → PlanView
 seen plan = record { flags = plan.flags; specs = plan.specs.items; bodies = map Some plan.bodies.items }
 
 abbrev pub table_seen : FlatTable → Table

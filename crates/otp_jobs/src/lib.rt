@@ -7,11 +7,13 @@
 
 mod flat;
 pub mod plan;
+pub mod report;
 pub mod role;
 pub mod work;
 pub mod worker;
 
-pub use plan::{Plan, PlanFault};
+pub use plan::{PlanFault, WorkedPlan, plan_tree};
+pub use report::{TableLine, write_report};
 pub use role::{Calm, Role, WorkedBody};
 pub use work::Work;
 pub use worker::{Life, WorkedJob};

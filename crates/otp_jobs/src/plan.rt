@@ -12,16 +12,12 @@ use crate::worker::WorkedJob;
 use otp_file::{MAX_TABLES, TreeSpec};
 use otp_job::{Body, TableNo};
 use otp_reason::Name;
-use otp_spec::{ChildSpec, ChildType, SupFlags};
+use otp_spec::{ChildSpec, ChildType};
+use otp_tree::TablePlan;
 use std::alloc::{AllocError, Global};
 
-/// One supervisor of a tree: its flags, its child specifications, and a body for each of them.
-#[derive(Drop)]
-pub struct Plan {
-    pub flags: SupFlags,
-    pub specs: Vec<ChildSpec>,
-    pub bodies: Vec<WorkedBody>,
-}
+/// One supervisor of a tree whose children run worked jobs.
+pub type WorkedPlan = TablePlan<WorkedJob, Calm>;
 
 /// Why a tree can't be run with worked jobs.
 #[derive(Clone, Copy, Debug, PartialEq, Eq)]
@@ -256,7 +252,7 @@ fn plan_one(
     number: usize,
     table: FlatTable,
     sizes: &mut Vec<usize>,
-) -> Result<Plan, AllocError>
+) -> Result<WorkedPlan, AllocError>
     requires known { unknown_from table.nested.items 0 table.supervisor.specs ≡ None }
     requires within { number + total sizes.old.items < MAX_TABLES }
     ensures plan { IfOk result (λ plan. seen plan ≡ plan_of (number + 1) sizes.old.items (table_seen table)) }
@@ -274,7 +270,7 @@ fn plan_one(
     };
     *sizes = joined(alloc, nested.len(), sizes.as_slice())?;
     let (flags, specs) = supervisor.into_parts();
-    Ok(Plan {
+    Ok(TablePlan {
         flags,
         specs,
         bodies,
@@ -282,7 +278,7 @@ fn plan_one(
 }
 
 /// What these tables are opened with.
-fn plan_all(alloc: Global, tables: Vec<FlatTable>) -> Result<Vec<Plan>, AllocError>
+fn plan_all(alloc: Global, tables: Vec<FlatTable>) -> Result<Vec<WorkedPlan>, AllocError>
     requires known { first_unknown (map table_seen tables.items) ≡ None }
     requires few { length tables.items ≤ MAX_TABLES }
     ensures plans { IfOk result (λ plans. map seen plans.items ≡ plans_from 0 (map table_seen tables.items)) }
@@ -307,7 +303,7 @@ fn plan_all(alloc: Global, tables: Vec<FlatTable>) -> Result<Vec<Plan>, AllocErr
 /// [`PlanFault::UnknownStart`] with the first start, in the order of the tables, that stands for nothing;
 /// [`PlanFault::WrongBody`] where a child of type supervisor has neither a tree nor the start `bridge`;
 /// [`PlanFault::OutOfMemory`] and [`PlanFault::TooManyTables`].
-pub fn plan_tree(alloc: Global, tree: TreeSpec) -> Result<Vec<Plan>, PlanFault>
+pub fn plan_tree(alloc: Global, tree: TreeSpec) -> Result<Vec<WorkedPlan>, PlanFault>
     ensures plans { IfOk result (λ plans. map seen plans.items ≡ plans_from 0 (tables_of tree)) }
     ensures runnable { OnOk result (plan_fault (tables_of tree) ≡ None) }
     ensures fault { IfErr result (λ fault. IsOfPlan fault → plan_fault (tables_of tree) ≡ Some fault) }
