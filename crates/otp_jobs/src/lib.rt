@@ -9,11 +9,13 @@ mod flat;
 pub mod plan;
 pub mod report;
 pub mod role;
+pub mod run;
 pub mod work;
 pub mod worker;
 
 pub use plan::{PlanFault, WorkedPlan, plan_tree};
 pub use report::{TableLine, write_report};
 pub use role::{Calm, Role, WorkedBody};
+pub use run::{RunFault, Settings, run_worked};
 pub use work::Work;
 pub use worker::{Life, WorkedJob};
