@@ -31,15 +31,16 @@ status 0
         "nested_given_up",
         r##"# A database, and a pool of two workers under a supervisor of its own. The pool allows one restart within 10 seconds, the
 # root two within 60.
-# Look for: in `nested_restarted.script` the pool's second restart is one too many: it ends, and its parent starts it
-# again with both workers. In `nested_given_up.script` that happens once too often for the root too, and all end.
+# Look for: `otp run` has each worker of the pool crash once. The second crash is one too many: the pool ends, and its
+# parent starts it again with both workers. In `nested_restarted.script` the same comes of crashes that the script says;
+# in `nested_given_up.script` that happens once too often for the root too, and all end.
 
 intensity = 2
 period = 60
 
 [[child]]
 id = "db"
-start = "db"
+start = "steady"
 
 [[child]]
 id = "pool"
@@ -51,11 +52,11 @@ period = 10
 
 [[child.tree.child]]
 id = "a"
-start = "worker"
+start = "crash_once"
 
 [[child.tree.child]]
 id = "b"
-start = "worker"
+start = "crash_once"
 "##,
         r##"# Each pair of crashes ends the pool: how many bring the root down?
 at 1s crash pool/a
@@ -104,15 +105,16 @@ status 0
         "nested_restarted",
         r##"# A database, and a pool of two workers under a supervisor of its own. The pool allows one restart within 10 seconds, the
 # root two within 60.
-# Look for: in `nested_restarted.script` the pool's second restart is one too many: it ends, and its parent starts it
-# again with both workers. In `nested_given_up.script` that happens once too often for the root too, and all end.
+# Look for: `otp run` has each worker of the pool crash once. The second crash is one too many: the pool ends, and its
+# parent starts it again with both workers. In `nested_restarted.script` the same comes of crashes that the script says;
+# in `nested_given_up.script` that happens once too often for the root too, and all end.
 
 intensity = 2
 period = 60
 
 [[child]]
 id = "db"
-start = "db"
+start = "steady"
 
 [[child]]
 id = "pool"
@@ -124,11 +126,11 @@ period = 10
 
 [[child.tree.child]]
 id = "a"
-start = "worker"
+start = "crash_once"
 
 [[child.tree.child]]
 id = "b"
-start = "worker"
+start = "crash_once"
 "##,
         r##"# The pool gives up once, and its parent starts it again.
 at 1s crash pool/a
