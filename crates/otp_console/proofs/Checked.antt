@@ -5,7 +5,8 @@ use Rattle.std.proofs.lemmas.List.{take_all, take_more, take-append-drop}
 use Rattle.std.proofs.Math.Seq.{drop-cons}
 use Rattle.otp_console.specs.declared.ending.Ending.{Ending}
 use Rattle.otp_console.specs.declared.ending.Ending.TheVariants.{Done}
-use Rattle.otp_console.specs.Runs.{Checks, ChecksAll, ChecksEach, Written, goes_on, worse}
+use Rattle.otp_console.specs.Devices.{Written}
+use Rattle.otp_console.specs.Runs.{Checks, ChecksAll, ChecksEach, goes_on, worse}
 
 -- one more, behind those that were checked
 checked_more : {T : Type 0} (Holds : T → List ℕ → Type 0) (names : List T) (name : T) (before so_far next : Ending) (old mid new : Written)

@@ -9,10 +9,12 @@ use Rattle.otp_sim.specs.declared.engine.SimEnd.{SimEnd}
 use Rattle.otp_sim.specs.declared.engine.SimEnd.TheVariants as sim
 use Rattle.otp_sim.specs.Runs.{Devices, Writes}
 use Rattle.otp_sim.specs.Sim.{opened}
+use Rattle.otp_console.specs.Devices.{HasTree, IsRefused, IsUnread, Written, writer_of}
 use Rattle.otp_console.specs.Limited.{HasLimits}
+use Rattle.otp_console.specs.Running.{IsTreeRun}
 use Rattle.otp_console.specs.Statuses.{status_of, sentence_of}
 use Rattle.otp_console.specs.declared.ending.Ending.{Ending}
-use Rattle.otp_console.specs.declared.ending.Ending.TheVariants.{Done, WordsRefused, NoCommand, WordNotText, FileAsCommand, TreeNotRead, FileNotRead, TreeRefused, FaultsFound, LineRefused, ScriptRefused, ScriptMissed, HistoryFull, InputFailed, OutputFailed, OutOfMemory}
+use Rattle.otp_console.specs.declared.ending.Ending.TheVariants.{Done, WordsRefused, NoCommand, WordNotText, FileAsCommand, TreeNotRead, FileNotRead, TreeRefused, UnknownStart, WrongBody, FaultsFound, LineRefused, ScriptRefused, ScriptMissed, HistoryFull, InputFailed, OutputFailed, OutOfMemory}
 use Rattle.otp_console.specs.declared.files.TheConstants.{LARGEST_TREE}
 use Rattle.otp_console.specs.declared.words.Command.{Command}
 use Rattle.otp_console.specs.declared.words.Command.TheVariants as command
@@ -22,10 +24,6 @@ use Rattle.otp_console.specs.declared.words.Usage.TheVariants as usage
 -- the file says a tree, and its supervisor was played to this end
 abbrev pub Played : SimEnd → List ℕ → Devices → Devices → Type 0
 Played end file old new = (tree : Tree) × (Says file (Ok tree) × Writes end (opened tree.flags tree.specs) old new)
-
--- the file says no tree: this is the first fault of its document, or it is no document
-abbrev pub IsRefused : TreeFault → List ℕ → Type 0
-IsRefused why file = Says file (Err why) ⊎ ((why ≡ NotToml) × (¬ IsToml file))
 
 -- want of memory may end it before anything is read, and says nothing of the file
 abbrev pub IsRun : Ending → List ℕ → Devices → Devices → Type 0
@@ -37,6 +35,8 @@ IsRun FileAsCommand file old new = ⊥
 IsRun TreeNotRead file old new = ⊥
 IsRun FileNotRead file old new = ⊥
 IsRun (TreeRefused why) file old new = (new ≡ old) × IsRefused why file
+IsRun (UnknownStart name) file old new = ⊥
+IsRun WrongBody file old new = ⊥
 IsRun FaultsFound file old new = ⊥
 IsRun (LineRefused line) file old new = Played (sim.LineRefused line) file old new
 IsRun (ScriptRefused line why) file old new = ⊥
@@ -51,11 +51,6 @@ abbrev pub Simulates : (List ℕ → Type 0) → Ending → Devices → Devices 
 Simulates Holds ending old new =
     ((ending ≡ TreeNotRead) × (new ≡ old)) ⊎ ((ending ≡ OutOfMemory) × (new ≡ old))
     ⊎ ((file : List ℕ) × (Holds file × IsRun ending file old new))
-
--- of the input nothing was read
-pub record IsUnread (old new : Devices) : Type 0 where
-  pub left : new.left ≡ old.left
-  pub failures : new.read_failures ≡ old.read_failures
 
 -- the words alone are answered: nothing is read, and only a help that was asked for is written to the output
 abbrev pub Answers : Ending → Devices → Devices → Type 0
@@ -72,10 +67,6 @@ Answers _ old new = ⊥
 abbrev pub IsSmall : List ℕ → Type 0
 IsSmall file = length file ≤ LARGEST_TREE
 
--- the file says a tree
-abbrev pub HasTree : List ℕ → Type 0
-HasTree file = (tree : Tree) × Says file (Ok tree)
-
 -- a tree was tried by the lines of a script; want of memory may end it before, and says nothing of the file
 abbrev pub IsTrial : Ending → List ℕ → Devices → Devices → Type 0
 IsTrial Done file old new = HasTree file
@@ -87,14 +78,6 @@ IsTrial InputFailed file old new = HasTree file
 IsTrial OutputFailed file old new = HasTree file
 IsTrial OutOfMemory file old new = (new ≡ old) ⊎ HasTree file
 IsTrial _ file old new = ⊥
-
--- what a writer shows: the bytes that were written, where they are known, and how often it has failed
-pub record Written : Type 0 where
-  pub bytes : Option (List ℕ)
-  pub failures : ℕ
-
-abbrev pub writer_of : Devices → Written
-writer_of devices = record { bytes = devices.written; failures = devices.write_failures }
 
 -- a text was written, and so it ends well; or the writer failed
 abbrev pub IsWritten : Ending → Ending → ℕ → ℕ → Type 0
@@ -179,11 +162,19 @@ ChecksFirst {T} Holds names ending old new =
 abbrev pub ChecksAll : {T : Type 0} → (T → List ℕ → Type 0) → List T → Ending → Written → Written → Type 0
 ChecksAll Holds names ending old new = ChecksEach Holds names Done ending old new ⊎ ChecksFirst Holds names ending old new
 
+-- a run on threads of the tree of a file whose bytes are known to be so: it can't be read, or it was run
+abbrev pub RunsTree : (List ℕ → Type 0) → Ending → Written → Written → Type 0
+RunsTree Holds ending old new =
+    ((ending ≡ TreeNotRead) × (new ≡ old)) ⊎ ((ending ≡ OutOfMemory) × (new ≡ old))
+    ⊎ ((file : List ℕ) × (Holds file × IsTreeRun ending file old new))
+
 -- what a command asks for was done
 abbrev pub Does : (List ℕ → List ℕ → Type 0) → Command → Ending → Devices → Devices → Type 0
 Does Holds (command.Sim file) ending old new = Simulates (Holds file.now) ending old new
 Does Holds (command.Check files) ending old new =
     IsUnread old new × ChecksAll (λ name. Holds name.now) files.items ending (writer_of old) (writer_of new)
+Does Holds (command.Run file settings) ending old new =
+    IsUnread old new × RunsTree (Holds file.now) ending (writer_of old) (writer_of new)
 Does Holds (command.Use file usage) ending old new = Uses (Holds file.now) usage ending old new
 
 -- what the words ask for was done, for some command; or the words alone were answered

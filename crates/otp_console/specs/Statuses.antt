@@ -5,13 +5,16 @@ use Rattle.std.specs.declared.io.ErrorKind.TheVariants as system
 use Rattle.otp_file.specs.Faults.{code_of}
 use Rattle.otp_file.specs.declared.fault.TreeFault.{TreeFault}
 use Rattle.otp_file.specs.declared.fault.TreeFault.TheVariants as fault
+use Rattle.otp_jobs.specs.declared.run.RunFault.{RunFault}
+use Rattle.otp_jobs.specs.declared.run.RunFault.TheVariants as run
+use Rattle.otp_reason.specs.Names.{name_bytes}
 use Rattle.otp_sim.specs.declared.engine.SimEnd.{SimEnd}
 use Rattle.otp_sim.specs.declared.engine.SimEnd.TheVariants as sim
 use Rattle.otp_try.specs.Texts.{fault_text, taken_text}
 use Rattle.otp_try.specs.declared.play.TryEnd.{TryEnd}
 use Rattle.otp_try.specs.declared.play.TryEnd.TheVariants as trial
 use Rattle.otp_console.specs.declared.ending.Ending.{Ending}
-use Rattle.otp_console.specs.declared.ending.Ending.TheVariants.{Done, WordsRefused, NoCommand, WordNotText, FileAsCommand, TreeNotRead, FileNotRead, TreeRefused, FaultsFound, LineRefused, ScriptRefused, ScriptMissed, HistoryFull, InputFailed, OutputFailed, OutOfMemory}
+use Rattle.otp_console.specs.declared.ending.Ending.TheVariants.{Done, WordsRefused, NoCommand, WordNotText, FileAsCommand, TreeNotRead, FileNotRead, TreeRefused, UnknownStart, WrongBody, FaultsFound, LineRefused, ScriptRefused, ScriptMissed, HistoryFull, InputFailed, OutputFailed, OutOfMemory}
 
 -- 0: done. 1: the tree, or a file. 2: the words. 3: the lines of the input. 4: the machine. 5: a line of a script
 abbrev pub status_of : Ending → ℕ
@@ -23,6 +26,8 @@ status_of FileAsCommand = 2
 status_of TreeNotRead = 1
 status_of FileNotRead = 1
 status_of (TreeRefused _) = 1
+status_of (UnknownStart _) = 1
+status_of WrongBody = 1
 status_of FaultsFound = 1
 status_of (LineRefused _) = 3
 status_of (ScriptRefused _ _) = 5
@@ -51,6 +56,8 @@ sentence_of FileAsCommand = codes "error: a file in the place of a command: say 
 sentence_of TreeNotRead = codes "tree not read\n"
 sentence_of FileNotRead = []
 sentence_of (TreeRefused why) = codes "tree refused: E" ++ decimal (code_of why) ++ codes "\n"
+sentence_of (UnknownStart name) = codes "unknown start " ++ name_bytes name ++ codes "\n"
+sentence_of WrongBody = codes "tree refused: E19\n"
 sentence_of FaultsFound = []
 sentence_of (LineRefused line) = codes "line " ++ decimal line ++ codes " refused\n"
 sentence_of (ScriptRefused line why) = line_text line (fault_text why)
@@ -87,3 +94,11 @@ ending_of_try trial.OutOfMemory = OutOfMemory
 abbrev pub ending_of_tree : TreeFault → Ending
 ending_of_tree fault.OutOfMemory = OutOfMemory
 ending_of_tree why = TreeRefused why
+
+-- how the program ends that didn't run a tree
+abbrev pub ending_of_run : RunFault → Ending
+ending_of_run run.OutOfMemory = OutOfMemory
+ending_of_run (run.UnknownStart name) = UnknownStart name
+ending_of_run run.WrongBody = WrongBody
+ending_of_run run.TooManyTables = TreeRefused fault.TooManyTables
+ending_of_run (run.Unlawful why) = TreeRefused (fault.Unlawful why)

@@ -7,8 +7,10 @@ ghost use Rattle.otp_console.specs.Runs.{IsTold, goes_on, worse};
 ghost use Rattle.otp_console.specs.Statuses.{IsOfFile, line_text, sentence_of, status_of};
 ghost use Rattle.otp_console.specs.declared.ending.Ending.TheVariants.{OutOfMemory, TreeNotRead};
 
+use crate::files::write_three;
 use itoa::Buffer;
 use otp_file::TreeFault;
+use otp_reason::Name;
 use otp_sim::{Failed, Output, write_all};
 use otp_try::{ScriptFault, Taken};
 use std::io;
@@ -33,6 +35,10 @@ pub enum Ending {
     FileNotRead,
     /// The tree file says no tree.
     TreeRefused(TreeFault),
+    /// The start of a child that has no tree is no word of a worked job.
+    UnknownStart(Name),
+    /// E19: a worker's job stands where a supervisor is wanted.
+    WrongBody,
     /// `check` found faults, and has written them.
     FaultsFound,
     /// The line with this number, from 1, has no form that is read.
@@ -56,6 +62,7 @@ impl Ending {
         match self {
             Ending::Done => 0,
             Ending::TreeNotRead | Ending::TreeRefused(_) => 1,
+            Ending::UnknownStart(_) | Ending::WrongBody => 1,
             Ending::FileNotRead | Ending::FaultsFound => 1,
             Ending::WordsRefused | Ending::NoCommand | Ending::WordNotText => 2,
             Ending::FileAsCommand => 2,
@@ -124,6 +131,10 @@ fn write_sentence<E: Output>(errors: &mut E, ending: Ending) -> Result<(), Faile
         Ending::TreeRefused(fault) => {
             write_numbered(errors, b"tree refused: E", u64::from(fault.code()), b"\n")
         }
+        Ending::UnknownStart(name) => {
+            write_three(errors, b"unknown start ", name.as_bytes(), b"\n")
+        }
+        Ending::WrongBody => write_all(errors, b"tree refused: E19\n"),
         Ending::LineRefused(line) => write_numbered(errors, b"line ", line, b" refused\n"),
         Ending::ScriptRefused(line, fault) => write_line_fault(errors, line, fault.text()),
         Ending::ScriptMissed(line, taken) => write_line_fault(errors, line, taken.text()),

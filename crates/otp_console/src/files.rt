@@ -132,7 +132,7 @@ fn write_not_read<E: Output>(errors: &mut E, name: &str, why: &str) -> Result<()
 }
 
 /// Writes three texts.
-fn write_three<E: Output>(
+pub(crate) fn write_three<E: Output>(
     errors: &mut E,
     front: &[u8],
     text: &[u8],

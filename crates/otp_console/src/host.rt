@@ -2,19 +2,28 @@
 
 use crate::files::{LARGEST_TREE, TreeFiles};
 use crate::program::run;
+use crate::running::Pool;
+use crate::stopwatch::Stopwatch;
 use crate::words::words_of;
 use otp_sim::Counted;
 use std::env::VarError;
 use std::io::{IsTerminal, Read};
 use std::process::ExitCode;
+use std::sync::Wait;
+use std::thread::Threads;
 use std::{env, fs, io};
 
-/// Does what the words of the command line ask for.
-pub fn otp(rt: &HostRuntime) -> ExitCode {
+/// Does what the words of the command line ask for. Trees are run with these threads, which `main` alone has.
+pub fn otp<H: Threads + Wait + Sync>(rt: &HostRuntime, threads: &H) -> ExitCode {
     let mut input = Counted::new(rt.stdin());
     let mut output = Counted::new(rt.stdout());
     let mut errors = Counted::new(rt.stderr());
+    let pool = Pool {
+        rt: threads,
+        gate: &Stopwatch::start(rt),
+    };
     let status = run(
+        &pool,
         rt.alloc(),
         words_of(rt),
         rt,

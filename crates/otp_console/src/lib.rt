@@ -1,4 +1,4 @@
-//! The program: `sim FILE` reads a tree file and then lines of standard input, and prints the orders of its supervisor;
+//! The program: `run FILE` runs a tree on threads and prints its report; `sim FILE` reads a tree file and then lines of standard input, and prints the orders of its supervisor;
 //! `try FILE` says what the tree does where a script says what goes wrong, `check FILE` what
 //! is wrong in the file, `limits FILE` what each child's failure costs, and `tree FILE` draws it.
 #![tactic(auto)]
@@ -10,6 +10,8 @@ pub mod files;
 mod host;
 pub mod limiting;
 pub mod program;
+pub mod running;
+mod stopwatch;
 pub mod trying;
 pub mod words;
 

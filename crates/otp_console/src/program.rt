@@ -1,7 +1,7 @@
 //! The program but for the system under it: what it does for which words, and what it tells on which stream.
 
 ghost use Rattle.std.specs.Prelude.{ℕ, List, Option, ◌≡◌, ◌≤◌, ◌⊎◌, IfErr, IfOk, OnOk, option_map, true};
-ghost use Rattle.otp_console.specs.Runs.{Answers, Checks, ChecksAll, Does, IsProgramRun, IsTrial, IsTrialOf, IsUsed, Obeys, Simulates, TellsFirst, Uses, goes_on};
+ghost use Rattle.otp_console.specs.Runs.{Answers, Checks, ChecksAll, Does, IsProgramRun, IsTrial, IsTrialOf, IsUsed, Obeys, RunsTree, Simulates, TellsFirst, Uses, goes_on};
 ghost use Rattle.otp_console.specs.declared.ending.Ending.TheVariants as end;
 ghost use Rattle.otp_console.specs.Words.{EndsFor};
 ghost use Rattle.otp_console.specs.declared.words.WordsFault.TheVariants.{Clap};
@@ -11,17 +11,23 @@ use crate::console::console;
 use crate::ending::{Ending, tell};
 use crate::files::{TreeFiles, read_file, read_tree_file};
 use crate::limiting::limit_file;
+use crate::running::{Pool, run_file};
 use crate::trying::try_file;
 use crate::words::{Command, Usage, WordsFault, read_words};
 use clap::Error;
+use otp_jobs::Settings;
 use otp_sim::{Counted, Failed, Input, Output, write_all};
+use otp_tree::Gate;
 use otp_try::{Shows, Writer};
 use std::alloc::Global;
+use std::sync::Wait;
+use std::thread::Threads;
 
 /// Does what the words of the command line ask for, and gives the exit status.
 ///
 /// Orders and help are written to `output`. Why the program ends, if not well, is told on `errors`, and nothing else is.
-pub fn run<F: TreeFiles, R: Input, W: Output, E: Output>(
+pub fn run<H, G, F, R, W, E>(
+    pool: &Pool<'_, H, G>,
     alloc: Global,
     words: Result<Vec<String>, WordsFault>,
     files: &F,
@@ -29,17 +35,25 @@ pub fn run<F: TreeFiles, R: Input, W: Output, E: Output>(
     output: &mut W,
     errors: &mut E,
 ) -> u8
+where
+    H: Threads + Wait + Sync,
+    G: Gate + Sync,
+    F: TreeFiles,
+    R: Input,
+    W: Output,
+    E: Output,
     ensures { IsProgramRun (F.holds files.now) result
         (record { left = R.remaining input.old; written = W.contents output.old; read_failures = R.failures input.old; write_failures = W.failures output.old })
         (record { left = R.remaining input.new; written = W.contents output.new; read_failures = R.failures input.new; write_failures = W.failures output.new })
         (E.contents errors.old) (E.contents errors.new) (E.failures errors.old) (E.failures errors.new) }
 {
-    let ending = obey(alloc, words, files, input, output, errors);
+    let ending = obey(pool, alloc, words, files, input, output, errors);
     tell(errors, ending)
 }
 
 /// Does what the words ask for, the program's own name first, or answers them.
-fn obey<F: TreeFiles, R: Input, W: Output, E: Output>(
+fn obey<H, G, F, R, W, E>(
+    pool: &Pool<'_, H, G>,
     alloc: Global,
     words: Result<Vec<String>, WordsFault>,
     files: &F,
@@ -47,6 +61,13 @@ fn obey<F: TreeFiles, R: Input, W: Output, E: Output>(
     output: &mut W,
     errors: &mut E,
 ) -> Ending
+where
+    H: Threads + Wait + Sync,
+    G: Gate + Sync,
+    F: TreeFiles,
+    R: Input,
+    W: Output,
+    E: Output,
     ensures done { Obeys (F.holds files.now) result
         (record { left = R.remaining input.old; written = W.contents output.old; read_failures = R.failures input.old; write_failures = W.failures output.old })
         (record { left = R.remaining input.new; written = W.contents output.new; read_failures = R.failures input.new; write_failures = W.failures output.new }) }
@@ -58,13 +79,14 @@ fn obey<F: TreeFiles, R: Input, W: Output, E: Output>(
         Err(fault) => return answer(alloc, &fault, output, errors),
     };
     match read_words(alloc, &words) {
-        Ok(command) => do_command(alloc, command, files, input, output, errors),
+        Ok(command) => do_command(pool, alloc, command, files, input, output, errors),
         Err(fault) => answer(alloc, &fault, output, errors),
     }
 }
 
 /// Does what a command asks for.
-pub fn do_command<F: TreeFiles, R: Input, W: Output, E: Output>(
+pub fn do_command<H, G, F, R, W, E>(
+    pool: &Pool<'_, H, G>,
     alloc: Global,
     command: Command<'_>,
     files: &F,
@@ -72,6 +94,13 @@ pub fn do_command<F: TreeFiles, R: Input, W: Output, E: Output>(
     output: &mut W,
     errors: &mut E,
 ) -> Ending
+where
+    H: Threads + Wait + Sync,
+    G: Gate + Sync,
+    F: TreeFiles,
+    R: Input,
+    W: Output,
+    E: Output,
     ensures done { Does (F.holds files.now) command.entry result
         (record { left = R.remaining input.old; written = W.contents output.old; read_failures = R.failures input.old; write_failures = W.failures output.old })
         (record { left = R.remaining input.new; written = W.contents output.new; read_failures = R.failures input.new; write_failures = W.failures output.new }) }
@@ -87,6 +116,7 @@ pub fn do_command<F: TreeFiles, R: Input, W: Output, E: Output>(
             output,
             errors,
         ),
+        Command::Run { file, settings } => run_named(pool, alloc, files, file, settings, output),
         Command::Use { file, usage } => use_named(alloc, files, file, usage, input, output, errors),
     }
 }
@@ -105,6 +135,30 @@ fn simulate<F: TreeFiles, R: Input, W: Output>(
 {
     match files.read(name) {
         Ok(file) => console(alloc, &file, input, output),
+        Err(error) => Ending::of_file(&error),
+    }
+}
+
+/// Runs the tree of a file on threads.
+fn run_named<H, G, F, W>(
+    pool: &Pool<'_, H, G>,
+    alloc: Global,
+    files: &F,
+    name: &str,
+    settings: Settings,
+    output: &mut W,
+) -> Ending
+where
+    H: Threads + Wait + Sync,
+    G: Gate + Sync,
+    F: TreeFiles,
+    W: Output,
+    ensures { RunsTree (F.holds files.now name.now) result
+        (record { bytes = W.contents output.old; failures = W.failures output.old })
+        (record { bytes = W.contents output.new; failures = W.failures output.new }) }
+{
+    match files.read(name) {
+        Ok(file) => run_file(pool, alloc, &file, settings, output),
         Err(error) => Ending::of_file(&error),
     }
 }

@@ -6,6 +6,8 @@ ghost use Rattle.otp_console.specs.declared.words.WordsFault.TheVariants.{OutOfM
 
 use clap::error::ErrorKind;
 use clap::{Arg, ArgAction, ArgMatches, Error};
+use otp_jobs::Settings;
+use otp_jobs::run::{DEFAULT_SCHEDULERS, DEFAULT_TURNS};
 use otp_try::Writer;
 use std::alloc::{AllocError, Global};
 use std::convert::AsStr;
@@ -16,15 +18,21 @@ use std::{env, io};
 const VERSION: &str = "0.2.0";
 
 const OTP_ABOUT: &str =
-    "Says what a supervisor of Erlang/OTP does, by rules that are proved: restarts, stops, and when it gives up";
+    "Supervisors of Erlang/OTP by rules that are proved: what they do, and trees of them that run";
 
 const OTP_STATUSES: &str =
-    "Statuses: 0 done, 1 a file or its tree, 2 the words, 3 a line of sim or its input, 4 output or memory, 5 a line of a script.\nThe formats stand in docs/FORMATS.md; `otp check FILE` explains what is wrong in a tree file.";
+    "Statuses: 0 done, 1 a file, its tree or its starts, 2 the words, 3 a line of sim or its input, 4 output or memory, 5 a line of a script.\nThe formats stand in docs/FORMATS.md; `otp check FILE` explains what is wrong in a tree file.";
 
 const TRY_ABOUT: &str = "Says what a tree does where a script says what goes wrong";
 
 const TRY_EXAMPLE: &str =
     "Example: otp try examples/storm.toml examples/storm_survived.script\nA script has lines as `at 1s crash db`, `+500ms fail db`, `hang db`, `stop`; docs/FORMATS.md has them all.\nStatus 5: a line can't be read or could do nothing.";
+
+const RUN_ABOUT: &str =
+    "Runs a tree on threads: each child does what the word of its start says, and the report says what came of it";
+
+const RUN_EXAMPLE: &str =
+    "Example: otp run examples/nested.toml --schedulers 1\nWords of a start: steady, once, crash, crash_once, ignore, refuse, stubborn, bridge; docs/FORMATS.md says what each does.\nEach thread takes its turns, then the root is asked to stop, and each takes as many again.\nStatus 1: the file says no tree, or a start is no such word; 4: output or memory.";
 
 const FILE_ALONE: &str = "The tree file, in TOML";
 
@@ -75,6 +83,8 @@ pub enum Command<'a> {
     Sim { file: &'a str },
     /// All that is wrong in the tree files of these names.
     Check { files: Vec<&'a str> },
+    /// The tree of the file of this name is run on threads.
+    Run { file: &'a str, settings: Settings },
     /// Something else, of the tree file of this name.
     Use { file: &'a str, usage: Usage<'a> },
 }
@@ -207,6 +217,43 @@ fn try_command<'a>(alloc: Global) -> Result<clap::Command<'a>, AllocError> {
         .arg(timeline)
 }
 
+/// `run FILE [--schedulers N] [--turns N]`.
+fn run_command<'a>(alloc: Global) -> Result<clap::Command<'a>, AllocError> {
+    let schedulers = Arg::new(alloc, "schedulers")
+        .long("schedulers")
+        .value_name("N")
+        .value_parser(clap::value_parser!(u8).range(1..9))
+        .default_value("2")
+        .help("How many threads serve, 1 to 8");
+    let turns = Arg::new(alloc, "turns")
+        .long("turns")
+        .value_name("N")
+        .value_parser(clap::value_parser!(u32).range(1..10_000_001))
+        .default_value("100000")
+        .help(
+            "How many turns each thread takes before the stop, and as many after it: 1 to 10000000",
+        );
+    file_command(alloc, "run", RUN_ABOUT, RUN_EXAMPLE, FILE_ALONE)?
+        .arg(schedulers)?
+        .arg(turns)
+}
+
+/// How the words after `run` ask a tree to be run.
+fn read_run<'a>(file: &'a str, found: &ArgMatches<'a>) -> Result<Command<'a>, WordsFault>
+    ensures { IfErr result IsHandedOn }
+{
+    let schedulers = found
+        .get_one::<u8>("schedulers")
+        .map_or(DEFAULT_SCHEDULERS, usize::from);
+    let turns = found
+        .get_one::<u32>("turns")
+        .map_or(DEFAULT_TURNS, u64::from);
+    match Settings::new(schedulers, turns) {
+        Some(settings) => Ok(Command::Run { file, settings }),
+        None => Err(WordsFault::NoCommand),
+    }
+}
+
 /// What the words after `try` ask for.
 fn read_try<'a>(found: &ArgMatches<'a>) -> Usage<'a> {
     let writer = if found.get_flag("prompt") {
@@ -253,6 +300,7 @@ fn read_command<'a>(
         return Err(WordsFault::NoCommand);
     };
     let usage = match name {
+        "run" => return read_run(file, found),
         "try" => read_try(found),
         "tree" => Usage::Draw,
         "limits" => Usage::Limit,
@@ -267,6 +315,7 @@ fn otp_command<'a>(alloc: Global) -> Result<clap::Command<'a>, AllocError> {
         .about(OTP_ABOUT)
         .version(VERSION)
         .after_help(OTP_STATUSES)
+        .subcommand(run_command(alloc)?)?
         .subcommand(try_command(alloc)?)?
         .subcommand(check_command(alloc)?)?
         .subcommand(file_command(alloc, "tree", TREE_ABOUT, TREE_EXAMPLE, FILE_OR_INPUT)?)?

@@ -5,5 +5,5 @@ use otp_console::otp;
 use std::process::ExitCode;
 
 fn main(rt: HostRuntime) -> ExitCode {
-    otp(&rt)
+    otp(&rt, &rt)
 }

@@ -2,15 +2,19 @@
 
 use crate::files::TreeFiles;
 use crate::program::run;
+use crate::running::Pool;
 use crate::tests::transcripts::{FILES, TRANSCRIPTS};
 use crate::tests::with_status;
 use crate::words::WordsFault;
 use otp_sim::Counted;
+use otp_tree::Gate;
 use std::alloc::{AllocError, Global};
 use std::io;
 use std::io::{Error, ErrorKind, Write};
 use std::process::Abort;
+use std::sync::Wait;
 use std::test::Fail;
+use std::thread::Threads;
 
 /// One file, which has a text or can't be read.
 #[derive(Drop)]
@@ -44,6 +48,16 @@ impl<'a> TreeFiles for Shelf<'a> {
 
     fn has_colours(&self) -> bool {
         false
+    }
+}
+
+/// A clock that stands still.
+#[derive(Drop)]
+struct Still;
+
+impl Gate for Still {
+    fn before_turn(&self, _hand: usize) -> u64 {
+        0
     }
 }
 
@@ -115,7 +129,8 @@ struct Streams {
 }
 
 /// Runs the program on the file `tree`.
-fn seen(
+fn seen<H: Threads + Wait + Sync>(
+    rt: &H,
     alloc: Global,
     words: Result<Vec<String>, WordsFault>,
     text: &str,
@@ -128,11 +143,12 @@ fn seen(
         text,
         fault,
     };
-    seen_on(alloc, &files, words, lines)
+    seen_on(rt, alloc, &files, words, lines)
 }
 
 /// Runs the program on these files.
-fn seen_on<F: TreeFiles>(
+fn seen_on<H: Threads + Wait + Sync, F: TreeFiles>(
+    rt: &H,
     alloc: Global,
     files: &F,
     words: Result<Vec<String>, WordsFault>,
@@ -141,7 +157,16 @@ fn seen_on<F: TreeFiles>(
     let mut input = Counted::new(lines.as_bytes());
     let mut output = Counted::new(Vec::new(alloc));
     let mut errors = Counted::new(Vec::new(alloc));
-    let status = run(alloc, words, files, &mut input, &mut output, &mut errors);
+    let pool = Pool { rt, gate: &Still };
+    let status = run(
+        &pool,
+        alloc,
+        words,
+        files,
+        &mut input,
+        &mut output,
+        &mut errors,
+    );
     Streams {
         output: output.into_device(),
         errors: errors.into_device(),
@@ -199,13 +224,13 @@ fn orders_and_sentences(rt: HostRuntime) -> Result<(), Fail> {
     ];
     for (tree, fault, lines, printed, told, status) in rows {
         let words = words_in(alloc, &["otp", "sim", "tree"])?;
-        let seen = seen(alloc, Ok(words), tree, fault, lines);
+        let seen = seen(&rt, alloc, Ok(words), tree, fault, lines);
         assert_eq!(rt; seen.output.as_slice(), printed.as_bytes(), "{told}");
         assert_eq!(rt; seen.errors.as_slice(), told.as_bytes(), "{told}");
         assert_eq!(rt; seen.status, status, "{told}");
     }
     let words = words_in(alloc, &["otp", "sim", "three"])?;
-    let seen = seen(alloc, Ok(words), TREE, None, "up 1\n");
+    let seen = seen(&rt, alloc, Ok(words), TREE, None, "up 1\n");
     assert_eq!(rt;
         seen.errors.as_slice(),
         b"tree not read\n".as_slice(),
@@ -248,7 +273,7 @@ fn checks_and_pictures(rt: HostRuntime) -> Result<(), Fail> {
     for (words, tree, printed, told, status) in rows {
         let [command, name] = words;
         let words = words_in(alloc, &["otp", command, name])?;
-        let seen = seen(alloc, Ok(words), tree, None, "");
+        let seen = seen(&rt, alloc, Ok(words), tree, None, "");
         assert_eq!(rt; seen.output.as_slice(), printed.as_bytes());
         assert_eq!(rt; seen.errors.as_slice(), told.as_bytes());
         assert_eq!(rt; seen.status, status);
@@ -276,7 +301,7 @@ fn transcripts_are_played(rt: HostRuntime) -> Result<(), Fail> {
         for word in line.split(' ') {
             words.push(word.to_string(alloc)?).map_err(|_| AllocError)?;
         }
-        let seen = seen_on(alloc, &files, Ok(words), text_of(lines));
+        let seen = seen_on(&rt, alloc, &files, Ok(words), text_of(lines));
         let text = with_status(alloc, seen.output, seen.errors, seen.status)?;
         assert_eq!(rt; text.as_slice(), shown.as_bytes(), "{line}");
     }
@@ -309,7 +334,7 @@ fn large_files(rt: HostRuntime) -> Result<(), Fail> {
     for command in ["check", "tree", "try", "limits"] {
         let words = words_in(alloc, &["otp", command, "tree"])?;
         assert_eq!(rt;
-            seen(alloc, Ok(words), &text, None, "").status,
+            seen(&rt, alloc, Ok(words), &text, None, "").status,
             0,
             "{command}"
         );
@@ -317,7 +342,7 @@ fn large_files(rt: HostRuntime) -> Result<(), Fail> {
     text.push('\n').map_err(|_| AllocError)?;
     for command in ["check", "tree", "try", "limits"] {
         let words = words_in(alloc, &["otp", command, "tree"])?;
-        let seen = seen(alloc, Ok(words), &text, None, "");
+        let seen = seen(&rt, alloc, Ok(words), &text, None, "");
         assert_eq!(rt; seen.status, 1, "{command}");
         assert!(rt; has(&seen.errors, "1048576 bytes"), "{command}");
     }
@@ -331,8 +356,13 @@ fn has(text: &[u8], part: &str) -> bool {
 }
 
 /// The texts of `clap` are known by a part.
-fn is_told(rt: &impl Abort, alloc: Global, words: &[&str], part: &str) -> Result<(), Fail> {
-    let seen = seen(alloc, Ok(words_in(alloc, words)?), TREE, None, "up 1\n");
+fn is_told<H: Abort + Threads + Wait + Sync>(
+    rt: &H,
+    alloc: Global,
+    words: &[&str],
+    part: &str,
+) -> Result<(), Fail> {
+    let seen = seen(rt, alloc, Ok(words_in(alloc, words)?), TREE, None, "up 1\n");
     assert!(rt; seen.output.is_empty(), "{part}");
     assert!(rt; has(&seen.errors, part), "{part}");
     assert_eq!(rt; seen.status, 2, "{part}");
@@ -348,13 +378,22 @@ fn refused_words(rt: HostRuntime) -> Result<(), Fail> {
     is_told(&rt, alloc, &["otp", "sim"], "<FILE>")?;
     is_told(&rt, alloc, &["otp", "sim", "a", "b"], "'b'")?;
     is_told(&rt, alloc, &["otp", "sim", "--period", "tree"], "--period")?;
-    let told = seen(alloc, Err(WordsFault::NotText), TREE, None, "");
+    for words in [
+        ["--schedulers", "0"],
+        ["--schedulers", "9"],
+        ["--turns", "0"],
+        ["--turns", "10000001"],
+    ] {
+        let [key, number] = words;
+        is_told(&rt, alloc, &["otp", "run", "tree", key, number], key)?;
+    }
+    let told = seen(&rt, alloc, Err(WordsFault::NotText), TREE, None, "");
     assert_eq!(rt;
         told.errors.as_slice(),
         b"error: a word is not UTF-8\n".as_slice()
     );
     assert_eq!(rt; told.status, 2);
-    let told = seen(alloc, Err(WordsFault::OutOfMemory), TREE, None, "");
+    let told = seen(&rt, alloc, Err(WordsFault::OutOfMemory), TREE, None, "");
     assert_eq!(rt; told.errors.as_slice(), b"out of memory\n".as_slice());
     assert_eq!(rt; told.status, 4);
     Ok(())
@@ -365,7 +404,14 @@ fn refused_words(rt: HostRuntime) -> Result<(), Fail> {
 fn help(rt: HostRuntime) -> Result<(), Fail> {
     let alloc = rt.alloc();
     for words in [["otp", "--help"], ["otp", "help"]] {
-        let shown = seen(alloc, Ok(words_in(alloc, &words)?), TREE, None, "up 1\n");
+        let shown = seen(
+            &rt,
+            alloc,
+            Ok(words_in(alloc, &words)?),
+            TREE,
+            None,
+            "up 1\n",
+        );
         assert!(rt; has(&shown.output, "Usage: otp"));
         assert!(rt; shown.errors.is_empty());
         assert_eq!(rt; shown.status, 0);
@@ -382,6 +428,10 @@ fn help(rt: HostRuntime) -> Result<(), Fail> {
         let mut errors = Counted::new(Vec::new(alloc));
         let words = words_in(alloc, &words)?;
         let status = run(
+            &Pool {
+                rt: &rt,
+                gate: &Still,
+            },
             alloc,
             Ok(words),
             &files,
@@ -398,3 +448,74 @@ fn help(rt: HostRuntime) -> Result<(), Fail> {
     }
     Ok(())
 }
+
+/// Runs of trees: what is printed, what is told, and the status. The last column says with which words.
+#[test]
+fn runs(rt: HostRuntime) -> Result<(), Fail> {
+    let alloc = rt.alloc();
+    for (tree, printed, told, status) in RUNS {
+        let words = words_in(alloc, &["otp", "run", "tree", "--schedulers", "1"])?;
+        let seen = seen(&rt, alloc, Ok(words), tree, None, "");
+        assert_eq!(rt; seen.output.as_slice(), printed.as_bytes(), "{tree}");
+        assert_eq!(rt; seen.errors.as_slice(), told.as_bytes(), "{tree}");
+        assert_eq!(rt; seen.status, status, "{tree}");
+    }
+    let words = words_in(alloc, &["otp", "run", "three"])?;
+    let seen = seen(&rt, alloc, Ok(words), TREE, None, "");
+    assert_eq!(rt; seen.errors.as_slice(), b"tree not read\n".as_slice());
+    assert_eq!(rt; seen.status, 1);
+    Ok(())
+}
+
+/// A tree, what is printed of its run by one hand, what is told, and the status.
+const RUNS: [(&str, &str, &str, u8); 9] = [
+    (
+        "[[child]]\nid = \"a\"\nstart = \"steady\"\n[[child]]\nid = \"b\"\nstart = \"steady\"\n[[child]]\nid = \"c\"\nstart = \"steady\"\n",
+        "ready\nend shutdown\n",
+        "",
+        0,
+    ),
+    (
+        "[[child]]\nid = \"sub\"\nstart = \"sub\"\n[child.tree]\nintensity = 0\n[[child.tree.child]]\nid = \"x\"\nstart = \"crash_once\"\n",
+        "ready\nend shutdown\n",
+        "",
+        0,
+    ),
+    (
+        "[[child]]\nid = \"a\"\nstart = \"stubborn\"\nshutdown = 0\n",
+        "ready\nend shutdown\n",
+        "",
+        0,
+    ),
+    (
+        "[[child]]\nid = \"a\"\nstart = \"ignore\"\n[[child]]\nid = \"b\"\nstart = \"bridge\"\ntype = \"supervisor\"\n[[child]]\nid = \"c\"\nstart = \"once\"\nrestart = \"transient\"\n",
+        "ready\nend shutdown\n",
+        "",
+        0,
+    ),
+    (
+        "[[child]]\nid = \"a\"\nstart = \"crash\"\n",
+        "ready\nend shutdown\n",
+        "",
+        0,
+    ),
+    (
+        "[[child]]\nid = \"a\"\nstart = \"steady\"\n[[child]]\nid = \"b\"\nstart = \"refuse\"\n",
+        "end shutdown:failed_to_start_child/b\n",
+        "",
+        0,
+    ),
+    (
+        "[[child]]\nid = \"a\"\nstart = \"nap\"\n",
+        "",
+        "unknown start nap\n",
+        1,
+    ),
+    (
+        "[[child]]\nid = \"a\"\nstart = \"steady\"\ntype = \"supervisor\"\n",
+        "",
+        "tree refused: E19\n",
+        1,
+    ),
+    ("period = 0\n", "", "tree refused: E1\n", 1),
+];

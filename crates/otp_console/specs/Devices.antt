@@ -1,0 +1,28 @@
+-- What is said of a file, and what devices show (own).
+use Rattle.std.specs.Prelude.{◌≡◌, ◌⊎◌, ℕ, List, Option, Ok, Err}
+use Rattle.otp_file.specs.declared.fault.TreeFault.{TreeFault}
+use Rattle.otp_file.specs.declared.fault.TreeFault.TheVariants.{NotToml}
+use Rattle.otp_file.specs.Files.{Says, IsToml}
+use Rattle.otp_file.specs.Trees.{Tree}
+use Rattle.otp_sim.specs.Runs.{Devices}
+
+-- the file says a tree
+abbrev pub HasTree : List ℕ → Type 0
+HasTree file = (tree : Tree) × Says file (Ok tree)
+
+-- the file says no tree: this is the first fault of its document, or it is no document
+abbrev pub IsRefused : TreeFault → List ℕ → Type 0
+IsRefused why file = Says file (Err why) ⊎ ((why ≡ NotToml) × (¬ IsToml file))
+
+-- of the input nothing was read
+pub record IsUnread (old new : Devices) : Type 0 where
+  pub left : new.left ≡ old.left
+  pub failures : new.read_failures ≡ old.read_failures
+
+-- what a writer shows: the bytes that were written, where they are known, and how often it has failed
+pub record Written : Type 0 where
+  pub bytes : Option (List ℕ)
+  pub failures : ℕ
+
+abbrev pub writer_of : Devices → Written
+writer_of devices = record { bytes = devices.written; failures = devices.write_failures }

@@ -1,0 +1,38 @@
+-- What a run of a tree writes (own).
+use Rattle.std.specs.Prelude.{◌≡◌, ◌⊎◌, ◌<◌, ⊤, ℕ, List, [], Some, None, Ok}
+use Rattle.std.specs.Io.KnownBytes.{Appends}
+use Rattle.otp_file.specs.declared.fault.TreeFault.{TreeFault}
+use Rattle.otp_file.specs.declared.fault.TreeFault.TheVariants.{TooManyTables, Unlawful}
+use Rattle.otp_file.specs.Files.{Says}
+use Rattle.otp_file.specs.Trees.{Tree, tables_of}
+use Rattle.otp_jobs.specs.Plans.{plan_fault}
+use Rattle.otp_jobs.specs.Runs.{Reports}
+use Rattle.otp_jobs.specs.declared.plan.PlanFault.{PlanFault}
+use Rattle.otp_jobs.specs.declared.plan.PlanFault.TheVariants as plan
+use Rattle.otp_console.specs.Devices.{HasTree, IsRefused, Written}
+use Rattle.otp_console.specs.declared.ending.Ending.{Ending}
+use Rattle.otp_console.specs.declared.ending.Ending.TheVariants.{Done, TreeRefused, UnknownStart, WrongBody, OutputFailed, OutOfMemory}
+
+-- the file says a tree that has this to be said against its starts
+abbrev pub HasStarts : List ℕ → PlanFault → Type 0
+HasStarts file why = (tree : Tree) × (Says file (Ok tree) × (plan_fault (tables_of tree) ≡ Some why))
+
+-- the file says a tree each of whose starts stands for a job that fits
+abbrev pub IsRunnable : List ℕ → Type 0
+IsRunnable file = (tree : Tree) × (Says file (Ok tree) × (plan_fault (tables_of tree) ≡ None))
+
+-- a fault that a supervisor may be refused for when it is opened; no tree that a file says is known to have one
+abbrev pub IsOfOpening : TreeFault → Type 0
+IsOfOpening TooManyTables = ⊤
+IsOfOpening (Unlawful _) = ⊤
+IsOfOpening _ = ⊥
+
+-- a tree was run, and its report written; or it was not
+abbrev pub IsTreeRun : Ending → List ℕ → Written → Written → Type 0
+IsTreeRun Done file old new = IsRunnable file × (text : List ℕ) × (Reports [] text × Appends old.bytes new.bytes text)
+IsTreeRun (TreeRefused why) file old new = (new ≡ old) × (IsRefused why file ⊎ (HasTree file × IsOfOpening why))
+IsTreeRun (UnknownStart name) file old new = (new ≡ old) × HasStarts file (plan.UnknownStart name)
+IsTreeRun WrongBody file old new = (new ≡ old) × HasStarts file plan.WrongBody
+IsTreeRun OutputFailed file old new = IsRunnable file × (old.failures < new.failures)
+IsTreeRun OutOfMemory file old new = new ≡ old
+IsTreeRun _ file old new = ⊥

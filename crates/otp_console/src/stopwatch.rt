@@ -1,0 +1,49 @@
+//! The clock of a run.
+ghost use Rattle.std.specs.Prelude.{◌≤◌, ◌^◌};
+
+use otp_tree::Gate;
+use std::sync::atomic::{AtomicU64, Ordering};
+use std::time::{Clock, Instant};
+
+/// The latest reading: 2^62 milliseconds.
+const LATEST: u64 = 1 << 62;
+
+/// Says how many milliseconds have passed since it was started; its last reading, 0 at first, where the clock of the
+/// system can't be read.
+#[derive(Drop)]
+pub(crate) struct Stopwatch<'a, C> {
+    clock: &'a C,
+    begun: Option<Instant>,
+    last: AtomicU64,
+}
+
+impl<'a, C: Clock> Stopwatch<'a, C> {
+    /// A stopwatch that begins now.
+    pub fn start(clock: &'a C) -> Self {
+        Stopwatch {
+            clock,
+            begun: Instant::now(clock).ok(),
+            last: AtomicU64::new(0),
+        }
+    }
+
+    /// The milliseconds since it was started, if the clock can be read.
+    fn read(&self) -> Option<u64> {
+        let begun = self.begun?;
+        let now = Instant::now(self.clock).ok()?;
+        let passed = now.saturating_duration_since(begun).as_millis();
+        u64::try_from(passed).ok()
+    }
+}
+
+impl<'a, C: Clock> Gate for Stopwatch<'a, C> {
+    fn before_turn(&self, _hand: usize) -> u64 {
+        match self.read() {
+            Some(reading) => {
+                self.last.store(reading, Ordering::Relaxed);
+                reading.min(LATEST)
+            }
+            None => self.last.load(Ordering::Relaxed).min(LATEST),
+        }
+    }
+}

@@ -1,0 +1,4 @@
+pub mod Jobs
+pub mod Plans
+pub mod Reports
+pub mod Runs
