@@ -145,8 +145,8 @@ pub fn restarts_in(stamps: &VecDeque<u64>, period: u64, now: u64) -> u64
     ensures { result ≡ in_period period stamps.now.items now }
 {
     let mut count: u64 = 0;
-    for stamp in stamps.iter() {
-        if is_in_period(*stamp, period, now) {
+    for place in 0..stamps.len() {
+        if is_in_period(stamps[place], period, now) {
             count += 1;
         }
     }
