@@ -3,3 +3,4 @@ pub mod Histories
 pub mod Steps
 pub mod Replies
 pub mod Rising
+pub mod Later

@@ -18,7 +18,7 @@ impl Machine {
         requires { vec_len self.old.orders < vec_capacity self.old.orders }
         ensures { outcome_of self.new ≡ start due number (outcome_of self.old) }
     {
-        if let Some(place) = find_due(self.rows.as_slice(), &due) {
+        if let Some(place) = find_due(self.rows.as_slice(), self.rows.defined(), &due) {
             self.rows.set_state(
                 place,
                 RowState::Starting(number, due.kept.unwrap_or(number)),

@@ -18,7 +18,7 @@ none_some n e = subst (λ (o : Option ℕ). MatchOption o ⊤ (λ _. ⊥)) e tt
 some_is : (n m : ℕ) → ◌≡◌ {A = Option ℕ} (Some n) (Some m) → n ≡ m
 some_is n m e = ap (λ (o : Option ℕ). unwrap_or o 0) e
 
-same_or : (p q : ℕ) → (p ≡ q) ⊎ (p ≡ q → ⊥)
+pub same_or : (p q : ℕ) → (p ≡ q) ⊎ (p ≡ q → ⊥)
 same_or p q =
     elim (cases_lt p q) [
       | inl lt ↦ inr (λ e. omega (arith, e, lt))

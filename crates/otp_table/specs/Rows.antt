@@ -1,5 +1,5 @@
 -- The rows of a supervisor's children: what is asked of one row.
-use Rattle.std.specs.Prelude.{ℕ, ◌+◌, Bool, true, false, ◌==◌, Option, Some, None, List, [], ◌∷◌, map, length, if◌then◌else◌}
+use Rattle.std.specs.Prelude.{ℕ, ◌≡◌, ◌<◌, get_or, ◌+◌, Bool, true, false, ◌==◌, Option, Some, None, List, [], ◌∷◌, map, length, if◌then◌else◌}
 use Rattle.std.specs.List.{list_any}
 use Prim.Native.Nat.{zero, suc}
 use Rattle.std.specs.Option.{option_eq}
@@ -135,3 +135,11 @@ free_slot rows = free_from (length rows) 0 rows
 abbrev pub slot_of : ℕ → List Row → Option ℕ
 slot_of p [] = None
 slot_of p (row ∷ rows) = if has_process p row.state then Some row.slot else slot_of p rows
+
+-- no row before this place is undefined
+abbrev pub AreDefined : ℕ → List Row → Type 0
+AreDefined n rows = (k : ℕ) (d : Row) → k < n → k < length rows → is_undefined (get_or rows k d).state ≡ false
+
+-- no row before this place is undefined but for one, perhaps
+abbrev pub AreDefinedBut : ℕ → ℕ → List Row → Type 0
+AreDefinedBut place n rows = (k : ℕ) (d : Row) → k < n → k < length rows → (k ≡ place → ⊥) → is_undefined (get_or rows k d).state ≡ false

@@ -1,5 +1,5 @@
-ghost use Rattle.std.specs.Prelude.{◌≡◌, ◌+◌, ◌<◌, ◌≤◌, ◌==◌, ◌++◌, ◌∷◌, [], length, max, nat_le, position, remove, vec_len, vec_capacity, slice_get, slice_range, slice_set, take, drop, OnOk, OnErr, Some, if◌then◌else◌};
-ghost use Rattle.otp_table.specs.Rows.{awaits_retry, calm_rows, calmed, free_slot, has_id, has_number, has_process, is_awaited, row_has, with_state};
+ghost use Rattle.std.specs.Prelude.{List, count_by, get_or, ◌≡◌, ◌+◌, ◌<◌, ◌≤◌, ◌==◌, ◌++◌, ◌∷◌, [], length, max, nat_le, position, remove, vec_len, vec_capacity, slice_get, slice_range, slice_set, take, drop, OnOk, OnErr, Some, if◌then◌else◌};
+ghost use Rattle.otp_table.specs.Rows.{AreDefined, AreDefinedBut, awaits_retry, calm_rows, calmed, free_slot, has_id, has_number, has_process, is_awaited, is_undefined, row_has, with_state};
 ghost use Rattle.std.specs.List.{list_any};
 ghost use Rattle.otp_table.specs.declared.row.Row.{Row};
 
@@ -19,6 +19,10 @@ pub struct Rows {
     room: usize,
     /// How many rows are awaited.
     awaited: usize,
+    /// How many rows are undefined.
+    undefined: usize,
+    /// So many rows, the first, are not undefined.
+    defined: usize,
     /// The places of the rows that have a number, in the order of these.
     marks: Vec<Mark>,
     /// Whether no two rows have had the same number, so that `marks` has the place of each.
@@ -47,6 +51,8 @@ impl Rows {
             items: Vec::new(alloc),
             room: 0,
             awaited: 0,
+            undefined: 0,
+            defined: 0,
             marks: Vec::new(alloc),
             is_marked: true,
         }
@@ -94,6 +100,14 @@ impl Rows {
         ensures { result ≡ list_any (row_has is_awaited) self.now.rows }
     {
         self.awaited > 0
+    }
+
+    /// A place before which no row is undefined. Where rows are started in their order, or one row is undefined, it is
+    /// that of the first that is. Looks at no row.
+    pub fn defined(&self) -> usize
+        ensures { AreDefined result self.now.rows }
+    {
+        self.defined
     }
 
     /// The row at this place.
@@ -186,6 +200,8 @@ impl Rows {
             return Err(SpecFault::TooManyChildren);
         }
         self.awaited += row.state.is_awaited() as usize;
+        self.undefined += row.state.is_undefined() as usize;
+        self.defined = self.defined.min(self.items.len());
         self.is_marked = change_mark(
             &mut self.marks,
             self.is_marked,
@@ -208,6 +224,9 @@ impl Rows {
     {
         self.awaited -= self.items[place].state.is_awaited() as usize;
         self.awaited += state.is_awaited() as usize;
+        self.undefined -= self.items[place].state.is_undefined() as usize;
+        self.undefined += state.is_undefined() as usize;
+        self.defined = defined_after(self.defined, place, state, self.undefined);
         let number = number_in(&self.items, place);
         self.is_marked = change_mark(
             &mut self.marks,
@@ -254,6 +273,8 @@ impl Rows {
         ensures room { self.new.room ≡ self.old.room }
     {
         self.awaited -= self.items[place].state.is_awaited() as usize;
+        self.undefined -= self.items[place].state.is_undefined() as usize;
+        self.defined = defined_without(self.defined, place);
         let number = number_in(&self.items, place);
         remove_mark(&mut self.marks, place, number);
         self.items.remove(place)
@@ -266,6 +287,8 @@ impl Rows {
     {
         self.items.clear();
         self.awaited = 0;
+        self.undefined = 0;
+        self.defined = 0;
         self.marks.clear();
         self.is_marked = true;
     }
@@ -278,4 +301,33 @@ fn reserve_marks(marks: &mut Vec<Mark>, count: usize) -> Result<(), AllocError>
     ensures ok { OnOk result (count ≤ vec_capacity marks.new) }
 {
     marks.reserve(count.saturating_sub(marks.len()))
+}
+
+/// How many rows, the first, are not undefined, once the one at the place has this state and so many rows are undefined.
+fn defined_after(defined: usize, place: usize, state: RowState, undefined: usize) -> usize
+    requires { place < MAX_CHILDREN }
+    ensures { (rows : List Row) → count_by (row_has is_undefined) rows ≡ undefined → AreDefinedBut place defined rows → (d : Row) → (get_or rows place d).state ≡ state → AreDefined result rows }
+{
+    if undefined == 0 {
+        return MAX_CHILDREN;
+    }
+    if state.is_undefined() {
+        return defined.min(place);
+    }
+    if place == defined {
+        return place + 1;
+    }
+    defined
+}
+
+/// The same once the row at the place is taken out.
+fn defined_without(defined: usize, place: usize) -> usize
+    ensures less { result ≤ defined }
+    ensures gone { place < defined → result + 1 ≡ defined }
+{
+    if place < defined {
+        defined - 1
+    } else {
+        defined
+    }
 }

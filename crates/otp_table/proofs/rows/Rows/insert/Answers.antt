@@ -5,6 +5,7 @@ use Rattle.otp_table.specs.declared.marks.Mark.{Mark}
 use Rattle.otp_table.specs.declared.row.Row.{Row}
 use Rattle.otp_table.specs.Marks.{IsChanged}
 use Rattle.otp_table.proofs.Indexed.{pushed_marks}
+use Rattle.otp_table.proofs.Defined.{pushed_defined}
 use Rattle.otp_table.proofs.rows.Rows.insert.Goals as goal
 
 pub invariant_of-self : goal.invariant_of-self
@@ -13,14 +14,16 @@ invariant_of-self c =
       room = search rules;
       limit = search rules;
       awaited = grind (arith, common_steps);
+      undefined = grind (arith, common_steps);
+      defined = pushed_defined c.self.inside.items.items c.push_reserved.new.self.items c.self.inside.defined _ c.args.row c.push_reserved.ensures.items c.self.invariant.defined (omega (arith, c.min-self-inside.ensures)) (grind (arith, common_steps));
       marks_room = search rules;
       rises = c.change_mark-self-inside.ensures.rises;
       marked = λ yes.
           let rows : List Row = c.self.inside.items.items in
           let ms : List Mark = c.self.inside.marks.items in
           let after : List Mark = c.change_mark-self-inside.new.marks.items in
-          let place : c.len.result ≡ length rows = search rules in
-          let changed : IsChanged c.len.result None c.number.result ms after = c.change_mark-self-inside.ensures.changed yes in
+          let place : c.len-2.result ≡ length rows = search rules in
+          let changed : IsChanged c.len-2.result None c.number.result ms after = c.change_mark-self-inside.ensures.changed yes in
           let at_end : IsChanged (length rows) None c.number.result ms after = subst (λ (p : ℕ). IsChanged p None c.number.result ms after) place changed in
           pushed_marks rows c.push_reserved.new.self.items c.args.row ms after c.push_reserved.ensures.items (c.self.invariant.marked (c.change_mark-self-inside.ensures.before yes))
           (subst (λ (o : Option ℕ). IsChanged (length rows) None o ms after) c.number.ensures at_end);

@@ -8,6 +8,7 @@ use Rattle.otp_table.specs.declared.marks.Mark.{Mark}
 use Rattle.otp_table.specs.declared.row.Row.{Row}
 use Rattle.otp_table.specs.Marks.{IsGone, number_at}
 use Rattle.otp_table.proofs.Indexed.{removed_marks}
+use Rattle.otp_table.proofs.Defined.{removed_defined}
 use Rattle.otp_table.proofs.rows.Rows.remove.Goals as goal
 
 pub invariant_of-self : goal.invariant_of-self
@@ -16,6 +17,8 @@ invariant_of-self c =
       room = search rules;
       limit = search rules;
       awaited = grind (arith, common_steps);
+      undefined = grind (arith, common_steps);
+      defined = removed_defined c.self.inside.items.items c.remove.new.self.items c.args.place c.self.inside.defined _ c.remove.ensures.items (search rules) c.self.invariant.defined c.defined_without-self-inside.ensures.less c.defined_without-self-inside.ensures.gone;
       marks_room = search rules;
       rises = c.remove_mark.ensures.rises;
       marked = λ yes.

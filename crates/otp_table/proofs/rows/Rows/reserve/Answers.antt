@@ -1,6 +1,7 @@
 use Rattle.std.proofs.Common.{rules, refl, subst, sym}
 use Rattle.otp_table.specs.Marks.{Rises}
 use Rattle.otp_table.proofs.Indexed.{same_marks}
+use Rattle.otp_table.specs.Rows.{AreDefined}
 use Rattle.otp_table.proofs.rows.Rows.reserve.Goals as goal
 
 pub invariant_of-self : goal.invariant_of-self
@@ -9,6 +10,8 @@ invariant_of-self c =
       room = search rules;
       limit = search rules;
       awaited = search rules;
+      undefined = search rules;
+      defined = subst (AreDefined c.self.inside.defined) (sym c.reserve.ensures.items) c.self.invariant.defined;
       marks_room = search rules;
       rises = c.self.invariant.rises;
       marked = λ yes. same_marks c.self.inside.items.items c.reserve.new.self.items c.self.inside.marks.items c.self.inside.marks.items c.reserve.ensures.items refl (c.self.invariant.marked yes);
@@ -20,6 +23,8 @@ invariant_of-self-in_err-reserve_marks c =
       room = search rules;
       limit = search rules;
       awaited = search rules;
+      undefined = search rules;
+      defined = subst (AreDefined c.self.inside.defined) (sym c.reserve.ensures.items) c.self.invariant.defined;
       marks_room = search rules;
       rises = subst Rises (sym c.reserve_marks.ensures.items) c.self.invariant.rises;
       marked = λ yes. same_marks c.self.inside.items.items c.reserve.new.self.items c.self.inside.marks.items c.reserve_marks.new.marks.items c.reserve.ensures.items c.reserve_marks.ensures.items (c.self.invariant.marked yes);
@@ -31,6 +36,8 @@ invariant_of-self-2 c =
       room = search rules;
       limit = search rules;
       awaited = search rules;
+      undefined = search rules;
+      defined = subst (AreDefined c.self.inside.defined) (sym c.reserve.ensures.items) c.self.invariant.defined;
       marks_room = search rules;
       rises = subst Rises (sym c.reserve_marks.ensures.items) c.self.invariant.rises;
       marked = λ yes. same_marks c.self.inside.items.items c.reserve.new.self.items c.self.inside.marks.items c.reserve_marks.new.marks.items c.reserve.ensures.items c.reserve_marks.ensures.items (c.self.invariant.marked yes);

@@ -6,6 +6,8 @@ use Rattle.otp_table.specs.declared.row.Row.{Row}
 use Rattle.otp_table.specs.Rows.{with_state}
 use Rattle.otp_table.specs.Marks.{IsChanged, number_at}
 use Rattle.otp_table.proofs.Indexed.{set_marks}
+use Rattle.std.proofs.lemmas.List.{get_or-set_same}
+use Rattle.otp_table.proofs.Defined.{set_but}
 use Rattle.otp_table.proofs.rows.Rows.set_state.Goals as goal
 
 pub invariant_of-self : goal.invariant_of-self
@@ -14,6 +16,9 @@ invariant_of-self c =
       room = search rules;
       limit = search rules;
       awaited = grind (arith, common_steps);
+      undefined = grind (arith, common_steps);
+      defined = c.defined_after-self-inside.ensures _ (grind (arith, common_steps)) (set_but c.self.inside.items.items c.args.place c.self.inside.defined _ c.self.invariant.defined) c.index_mut.result.now
+          (ap (λ (r : Row). r.state) (get_or-set_same c.self.inside.items.items c.args.place (with_state c.args.state c.index_mut.result.now) c.index_mut.result.now (search rules)));
       marks_room = search rules;
       rises = c.change_mark-self-inside.ensures.rises;
       marked = λ yes.
