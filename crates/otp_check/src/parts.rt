@@ -4,12 +4,9 @@ use crate::allowed::{CHILD_KEYS, FLAG_KEYS};
 use crate::finding::{Finding, Owner, of_table, of_unknown, of_value};
 use crate::judging::{judge_child, judge_flag, judge_key, judge_names};
 use otp_file::{ChildKey, Place, TreeFault};
-use otp_spec::SpecFault;
+use otp_spec::{MAX_CHILDREN, SpecFault};
 use std::alloc::{AllocError, Global};
 use toml::{Table, Value};
-
-/// The most children that are looked at: a supervisor has no more.
-const MOST_CHILDREN: usize = 256;
 
 /// What is found so far.
 #[derive(Drop)]
@@ -147,7 +144,7 @@ impl Scanning {
         auto_shutdown: Option<&Value>,
         children: &[Value],
     ) -> Result<(), AllocError> {
-        for (index, value) in children.iter().enumerate().take(MOST_CHILDREN) {
+        for (index, value) in children.iter().enumerate().take(MAX_CHILDREN) {
             self.scan_child(index, auto_shutdown, value)?;
             let id = value.as_table().and_then(id_of);
             let earlier = children.get(..index).unwrap_or(&[]);

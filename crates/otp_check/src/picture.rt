@@ -1,19 +1,9 @@
 //! A tree as text.
 
 use otp_file::{MAX_DEPTH, TreeSpec};
-use otp_spec::{AutoShutdown, ChildSpec, ChildType, Restart, Shutdown, Strategy, SupFlags};
+use otp_spec::{AutoShutdown, ChildSpec, ChildType, Shutdown, SupFlags};
 use otp_text::{write_name, write_number};
 use std::alloc::{AllocError, Global};
-
-/// The word for a strategy.
-fn strategy_word(strategy: Strategy) -> &'static str {
-    match strategy {
-        Strategy::OneForOne => "one_for_one",
-        Strategy::OneForAll => "one_for_all",
-        Strategy::RestForOne => "rest_for_one",
-        Strategy::SimpleOneForOne => "simple_one_for_one",
-    }
-}
 
 /// What an automatic shutdown comes from.
 fn shutdown_words(auto_shutdown: AutoShutdown) -> &'static str {
@@ -24,31 +14,19 @@ fn shutdown_words(auto_shutdown: AutoShutdown) -> &'static str {
     }
 }
 
-/// The word for a restart type.
-fn restart_word(restart: Restart) -> &'static str {
-    match restart {
-        Restart::Permanent => "permanent",
-        Restart::Transient => "transient",
-        Restart::Temporary => "temporary",
-    }
-}
-
-/// The word for a type of child.
-fn kind_word(kind: ChildType) -> &'static str {
-    match kind {
-        ChildType::Worker => "worker    ",
-        ChildType::Supervisor => "supervisor",
-    }
-}
-
 /// The most columns of a line.
 const COLUMNS: usize = 80;
 
+/// The columns of a child's type: so long is `supervisor`.
+const KIND_COLUMNS: usize = 10;
+
 /// Appends how long a child may take to end.
 fn write_shutdown(shutdown: Shutdown, out: &mut Vec<u8>) -> Result<(), AllocError> {
+    if let Some(word) = shutdown.word() {
+        return out.extend_from_slice(word.as_bytes());
+    }
     match shutdown {
-        Shutdown::BrutalKill => out.extend_from_slice(b"brutal_kill"),
-        Shutdown::Infinity => out.extend_from_slice(b"infinity"),
+        Shutdown::BrutalKill | Shutdown::Infinity => Ok(()),
         Shutdown::Milliseconds(time) => {
             write_number(u64::from(time), out)?;
             out.extend_from_slice(b" ms")
@@ -62,6 +40,13 @@ fn write_spaces(count: usize, out: &mut Vec<u8>) -> Result<(), AllocError> {
         out.extend_from_slice(b" ")?;
     }
     Ok(())
+}
+
+/// Appends a child's type, at the left of its columns.
+fn write_kind(kind: ChildType, out: &mut Vec<u8>) -> Result<(), AllocError> {
+    let word = kind.word();
+    out.extend_from_slice(word.as_bytes())?;
+    write_spaces(KIND_COLUMNS.saturating_sub(word.len()), out)
 }
 
 /// What stands on a line, and what stands behind it, or on a line of its own where both are too long.
@@ -121,7 +106,7 @@ fn restarts_words(count: u64) -> &'static str {
 /// What is said of a supervisor: how it restarts, and when it ends by itself.
 fn halves_of_flags(alloc: Global, flags: &SupFlags) -> Result<Halves, AllocError> {
     let mut first = Vec::new(alloc);
-    first.extend_from_slice(strategy_word(flags.strategy).as_bytes())?;
+    first.extend_from_slice(flags.strategy.word().as_bytes())?;
     first.extend_from_slice(b", ")?;
     write_number(flags.intensity, &mut first)?;
     first.extend_from_slice(restarts_words(flags.intensity).as_bytes())?;
@@ -143,9 +128,10 @@ fn halves_of_child(alloc: Global, spec: &ChildSpec, width: usize) -> Result<Halv
     first.extend_from_slice(if spec.significant { b"*" } else { b" " })?;
     write_spaces(width.saturating_sub(spec.id.as_bytes().len()), &mut first)?;
     let mut second = Vec::new(alloc);
-    for word in [restart_word(spec.restart), "  ", kind_word(spec.kind), "  "] {
-        second.extend_from_slice(word.as_bytes())?;
-    }
+    second.extend_from_slice(spec.restart.word().as_bytes())?;
+    second.extend_from_slice(b"  ")?;
+    write_kind(spec.kind, &mut second)?;
+    second.extend_from_slice(b"  ")?;
     write_shutdown(spec.shutdown, &mut second)?;
     Ok(Halves {
         first,
