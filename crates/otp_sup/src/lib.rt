@@ -31,5 +31,5 @@ pub use letter::Letter;
 pub use office::Office;
 pub use port::{Flushed, Launched, MemoryPort, NewProcess, Port};
 pub use sup::Sup;
-pub use table::Table;
+pub use table::{Table, TableParts};
 pub use turns::{TurnAnswer, TurnFault};

@@ -1,5 +1,6 @@
 //! A table under its lock, beside its inbox.
 ghost use Rattle.std.specs.Prelude.{◌≡◌, ◌⊎◌, ◌≤◌, ◌^◌, Ok};
+ghost use Rattle.otp_sup.specs.Facts.{KeepsRules};
 ghost use Rattle.otp_sup.specs.Ports.{TookMore, taken_by};
 ghost use Rattle.otp_sup.specs.Turns.{TurnedUnder};
 ghost use Rattle.otp_sup.specs.declared.turns.TurnAnswer.TheVariants as answer;
@@ -98,6 +99,17 @@ impl<N: WordsNaming + InboxNaming, B: Drop> Sup<N, B> {
         let mut guard = self.table.lock(rt);
         let table = &mut *guard;
         table.take_stray()
+    }
+
+    /// Takes it out of its lock, at the end: its inbox, and the table as the last turn left it. [`Sup::new`] puts it back.
+    pub fn into_parts(self) -> (Inbox<N, Item, Letter<B>>, Table<N, B>)
+        ensures inbox { result.0 ≡ self.inbox }
+        ensures rules { KeepsRules result.1 }
+    {
+        let Sup { inbox, table } = self;
+        let table = table.into_inner();
+        table.keeps_rules();
+        (inbox, table)
     }
 }
 

@@ -1,5 +1,6 @@
 //! What lies under a supervisor's lock.
-ghost use Rattle.std.specs.Prelude.{◌≡◌, ◌+◌, ◌≤◌, ◌^◌, [], false, is_some, MatchOption, None, Some};
+ghost use Rattle.std.specs.Prelude.{◌≡◌, ◌+◌, ◌≤◌, ◌^◌, [], false, is_some, length, min, MatchOption, None, Some};
+ghost use Rattle.otp_inbox.specs.Tokens.{count_limit};
 ghost use Rattle.std.specs.List.{list_any};
 ghost use Rattle.otp_core.specs.View.{state_of};
 ghost use Rattle.otp_rules.specs.Run.{reply_of};
@@ -15,9 +16,10 @@ use crate::moves::{come_back, happen, leave};
 use crate::office::Office;
 use crate::port::{Flushed, Port};
 use crate::turns::{TurnAnswer, TurnFault, answer_of};
+use otp_core::Core;
 use otp_inbox::{Inbox, InboxNaming, Taker};
 use otp_rules::{Item, Kind, Reply};
-use otp_signals::{Signal, Words, WordsNaming};
+use otp_signals::{Owner, Signal, Words, WordsNaming};
 use std::marker::{Model, PhantomData};
 use std::sync::Wait;
 
@@ -39,6 +41,15 @@ impl<N: WordsNaming + InboxNaming, B: Drop> Model for Table<N, B> {
     ghost view = { λ t. record { office = t.office; taker = t.taker; bodies = t.bodies.kept } };
 
     ghost invariant = { λ t. IsTable (record { office = t.office; taker = t.taker; bodies = t.bodies.kept }) };
+}
+
+/// What a table is taken apart into: the core as its last turn left it, the seat that drew its process numbers, and the
+/// taker of its inbox.
+#[derive(Drop)]
+pub struct TableParts<N: WordsNaming + InboxNaming, B: Drop> {
+    pub core: Core,
+    pub owner: Owner<N>,
+    pub taker: Taker<N, Item, Letter<B>>,
 }
 
 impl<N: WordsNaming + InboxNaming, B: Drop> Table<N, B> {
@@ -165,6 +176,29 @@ impl<N: WordsNaming + InboxNaming, B: Drop> Table<N, B> {
         let (flushed, back) = self.office.flush_one(words, body, port);
         come_back(&mut self.bodies, slot, at, back);
         flushed
+    }
+
+    /// How many items it took from its inbox. The count stops at 2^62.
+    pub fn taken_count(&self) -> u64
+        ensures { result ≡ min (length self.now.taker.taken) count_limit }
+    {
+        self.taker.taken_count()
+    }
+
+    /// Takes it apart, at the end. The bodies that it has are dropped.
+    pub fn into_parts(self) -> TableParts<N, B>
+        ensures core { result.core ≡ self.office.core }
+        ensures owner { result.owner ≡ self.office.owner }
+        ensures taker { result.taker ≡ self.taker }
+    {
+        let Table {
+            office,
+            taker,
+            bodies: _,
+            of: _,
+        } = self;
+        let (core, owner) = office.into_parts();
+        TableParts { core, owner, taker }
     }
 
     /// The kept answer to the call with this number.

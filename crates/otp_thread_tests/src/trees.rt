@@ -185,7 +185,7 @@ fn live_with<R: Threads + Wait + Abort + Sync>(
     let plans = plans(alloc, &starts, b"c")?;
     let leader = UpAndDown::new(starts, WORKERS + 1);
     match lead(rt, alloc, plans, hands, &Still, 10_000, leader) {
-        Ok(leader) => leader.check(rt),
+        Ok(led) => led.leader.check(rt),
         Err(_) => return Err("the tree was refused".into()),
     }
     Ok(())
@@ -254,7 +254,7 @@ fn each_hand_has_a_thread_of_its_own(rt: HostRuntime) -> Result<(), Fail> {
         met: AtomicU64::new(0),
     };
     let led = lead(&rt, rt.alloc(), plans, 2, &meeting, 10, Once { rounds: 0 });
-    assert_eq!(rt; led.map(|once| once.rounds), Ok(2));
+    assert_eq!(rt; led.map(|led| led.leader.rounds), Ok(2));
     assert_eq!(rt; meeting.met.load(Ordering::SeqCst), 2);
     Ok(())
 }
@@ -269,7 +269,7 @@ fn a_refused_table_is_told_by_its_number(rt: HostRuntime) -> Result<(), Fail> {
         table: 1,
         fault: OpenFault::Spec(SpecFault::DuplicateId { index: 1 }),
     };
-    assert_eq!(rt; led.map(|once| once.rounds), Err(fault));
+    assert_eq!(rt; led.map(|led| led.leader.rounds), Err(fault));
     Ok(())
 }
 

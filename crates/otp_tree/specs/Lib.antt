@@ -1,3 +1,4 @@
 pub mod Seats
 pub mod Hands
 pub mod Opens
+pub mod Reports

@@ -39,6 +39,20 @@ impl<N: WordsNaming + InboxNaming, B: Drop> Client<N, B> {
         self.root.is_some()
     }
 
+    /// The number of the inbox from which it takes the root's notes, where it is the first client.
+    pub(crate) fn waits_at(&self) -> Option<usize> {
+        let waiter = self.waiter.as_ref()?;
+        Some(waiter.number())
+    }
+
+    /// How many notes of the root it took.
+    pub(crate) fn taken_count(&self) -> u64 {
+        match &self.waiter {
+            Some(waiter) => waiter.taken_count(),
+            None => 0,
+        }
+    }
+
     /// Asks the root to shut down. False, and nothing changes, where it isn't the first client.
     pub(crate) fn stop(&mut self, words: &Words<N>) -> bool
         ensures told { result ≡ is_some self.old.root }

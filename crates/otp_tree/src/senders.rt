@@ -61,6 +61,22 @@ impl<N: InboxNaming, B: Drop> Senders<N, B> {
         inbox.send(rt, &mut self.list[place], letter)
     }
 
+    /// Its parts of the right to send to one supervisor.
+    pub(crate) fn parts_at(&self, place: usize) -> u64 {
+        match self.list.get(place) {
+            Some(sender) => sender.parts(),
+            None => 0,
+        }
+    }
+
+    /// How many items were sent to one supervisor. The count stops at 2^62.
+    pub(crate) fn count_at(&self, place: usize) -> u64 {
+        match self.list.get(place) {
+            Some(sender) => sender.sent_count(),
+            None => 0,
+        }
+    }
+
     /// A sender to one supervisor, with so many parts of the right to send. None where not more are there.
     pub(crate) fn split_at(
         &mut self,

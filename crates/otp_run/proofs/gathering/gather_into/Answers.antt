@@ -59,8 +59,8 @@ overflow_sub-result g c =
     let ways = c.take_all_apart.ensures.ways ∙ ap (λ l. l ++ all_ways c.args.schedulers.items) c.requires.room.2 in
     no_more_ended c.args.schedulers.items _ _ _ _ homes ways c.take_all_apart.ensures.kept c.absorb_all.ensures.absorbed c.count_all.ensures.same _ _ c.requires.room.4 c.drain_all.ensures _ _ c.requires.room.6 c.requires.room.7
 
-pub returns : goal.returns
-returns g c =
+pub returns-clause-total : goal.returns-clause-total
+returns-clause-total g c =
     let homes = c.take_all_apart.ensures.homes ∙ ap (λ l. l ++ map own_of c.args.schedulers.items) c.requires.room.0 in
     let ways = c.take_all_apart.ensures.ways ∙ ap (λ l. l ++ all_ways c.args.schedulers.items) c.requires.room.2 in
     total_told c.args.schedulers.items _ _ _ _ homes ways c.take_all_apart.ensures.kept c.absorb_all.ensures.absorbed c.count_all.ensures.same _ _ c.requires.room.4 c.drain_all.ensures _ _ c.requires.room.6 c.requires.room.7
