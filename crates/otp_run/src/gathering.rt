@@ -36,11 +36,15 @@ pub enum GatherFault<N: RunNaming, J: Drop, S: Drop> {
     OutOfMemory(Vec<Scheduler<N, J, S>>),
 }
 
-/// Whether these are all schedulers of a run queue, in the order of their indexes.
+/// Whether these are all schedulers of a run queue, in the order of their indexes. None is never all: each run queue has
+/// one at least.
 pub fn is_all<N: RunNaming, J: Drop, S: Drop>(schedulers: &[Scheduler<N, J, S>]) -> bool
     ensures all { IsTrue result ↔ IsAll schedulers.now }
     ensures placed { IsTrue result → AllAt (λ index s. IsPlaced s) schedulers.now }
 {
+    if schedulers.is_empty() {
+        return false;
+    }
     for index in 0..schedulers.len() {
         if !schedulers[index].stands_at(index, schedulers.len()) {
             return false;
