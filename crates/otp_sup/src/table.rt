@@ -16,10 +16,9 @@ use crate::moves::{come_back, happen, leave};
 use crate::office::Office;
 use crate::port::{Flushed, Port};
 use crate::turns::{TurnAnswer, TurnFault, answer_of};
-use otp_core::Core;
 use otp_inbox::{Inbox, InboxNaming, Taker};
 use otp_rules::{Item, Kind, Reply};
-use otp_signals::{Owner, Signal, Words, WordsNaming};
+use otp_signals::{Signal, Words, WordsNaming};
 use std::marker::{Model, PhantomData};
 use std::sync::Wait;
 
@@ -41,15 +40,6 @@ impl<N: WordsNaming + InboxNaming, B: Drop> Model for Table<N, B> {
     ghost view = { λ t. record { office = t.office; taker = t.taker; bodies = t.bodies.kept } };
 
     ghost invariant = { λ t. IsTable (record { office = t.office; taker = t.taker; bodies = t.bodies.kept }) };
-}
-
-/// What a table is taken apart into: the core as its last turn left it, the seat that drew its process numbers, and the
-/// taker of its inbox.
-#[derive(Drop)]
-pub struct TableParts<N: WordsNaming + InboxNaming, B: Drop> {
-    pub core: Core,
-    pub owner: Owner<N>,
-    pub taker: Taker<N, Item, Letter<B>>,
 }
 
 impl<N: WordsNaming + InboxNaming, B: Drop> Table<N, B> {
@@ -185,11 +175,10 @@ impl<N: WordsNaming + InboxNaming, B: Drop> Table<N, B> {
         self.taker.taken_count()
     }
 
-    /// Takes it apart, at the end. The bodies that it has are dropped.
-    pub fn into_parts(self) -> TableParts<N, B>
-        ensures core { result.core ≡ self.office.core }
-        ensures owner { result.owner ≡ self.office.owner }
-        ensures taker { result.taker ≡ self.taker }
+    /// Takes it apart, at the end: its office, and the taker of its inbox. The bodies that it has are dropped.
+    pub fn into_parts(self) -> (Office<N>, Taker<N, Item, Letter<B>>)
+        ensures office { result.0 ≡ self.office }
+        ensures taker { result.1 ≡ self.taker }
     {
         let Table {
             office,
@@ -197,8 +186,7 @@ impl<N: WordsNaming + InboxNaming, B: Drop> Table<N, B> {
             bodies: _,
             of: _,
         } = self;
-        let (core, owner) = office.into_parts();
-        TableParts { core, owner, taker }
+        (office, taker)
     }
 
     /// The kept answer to the call with this number.

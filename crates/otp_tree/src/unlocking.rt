@@ -1,4 +1,10 @@
 // The supervisors of a tree are taken out of their locks, and put back.
+ghost use Rattle.std.specs.Prelude.{◌≡◌, ◌+◌, ◌≤◌, ◌<◌, [], length, min, vec_len, vec_capacity, IfOk, IfErr, OnOk, OnErr};
+ghost use Rattle.otp_inbox.specs.Tokens.{count_limit};
+ghost use Rattle.otp_run.specs.Lists.{AllAt};
+ghost use Rattle.otp_tree.specs.Closes.{IsReached, many_to};
+ghost use Rattle.otp_tree.specs.Unlocks.{IsAt, IsReadyAt, IsOpened, IsReady, IsUnlockRefused};
+ghost use Rattle.otp_tree.specs.declared.closing.Refusal.TheVariants as refusal;
 
 use crate::client::Client;
 use crate::closing::Refusal;
@@ -11,23 +17,22 @@ use otp_job::Body;
 use otp_rules::Item;
 use otp_run::RunNaming;
 use otp_signals::{Words, WordsNaming};
-use otp_sup::{Letter, Sup, Table};
+use otp_sup::{Letter, Sup, Unlocked};
 use std::alloc::Global;
 
 /// A supervisor out of its lock, and room for what is left in its inbox.
 #[derive(Drop)]
-pub(crate) struct Unlocked<N: WordsNaming + InboxNaming, B: Drop> {
-    pub inbox: Inbox<N, Item, Letter<B>>,
-    pub table: Table<N, B>,
+pub(crate) struct OpenTable<N: WordsNaming + InboxNaming, B: Drop> {
+    pub sup: Unlocked<N, B>,
     pub left: Vec<Letter<B>>,
 }
 
 /// A tree whose supervisors are out of their locks, and all the memory that is needed to take it apart or to lock it
 /// again.
 #[derive(Drop)]
-pub(crate) struct UnlockedTree<N: WordsNaming + InboxNaming, J: Drop, S: Drop> {
+pub(crate) struct OpenTree<N: WordsNaming + InboxNaming, J: Drop, S: Drop> {
     pub words: Words<N>,
-    pub tables: Vec<Unlocked<N, Body<J, S>>>,
+    pub tables: Vec<OpenTable<N, Body<J, S>>>,
     pub outer: Inbox<N, Item, Letter<Body<J, S>>>,
     pub last: Vec<Letter<Body<J, S>>>,
     pub reports: Vec<TableReport<J, S>>,
@@ -47,8 +52,12 @@ pub(crate) fn unlock<N: WordsNaming + InboxNaming + RunNaming, J: Drop, S: Drop>
     system: System<N, J, S>,
     hands: &[Hand<N, J, S>],
     client: &Client<N, Body<J, S>>,
-) -> Result<UnlockedTree<N, J, S>, UnlockFault<N, J, S>> {
-    let mut tree = match take_out(alloc, system) {
+) -> Result<OpenTree<N, J, S>, UnlockFault<N, J, S>>
+    ensures ready { IfOk result (IsReady system hands.now client.now) }
+    ensures system { IfErr result (λ fault. fault.system ≡ system) }
+    ensures cause { IfErr result (λ fault. IsUnlockRefused fault.cause) }
+{
+    let mut tree = match open(alloc, system) {
         Ok(tree) => tree,
         Err(system) => return Err(UnlockFault {
             cause: Refusal::OutOfMemory,
@@ -64,12 +73,16 @@ pub(crate) fn unlock<N: WordsNaming + InboxNaming + RunNaming, J: Drop, S: Drop>
     }
 }
 
-fn take_out<N: WordsNaming + InboxNaming, J: Drop, S: Drop>(
+/// Takes all supervisors out of their locks. Where memory is refused, all is as it was.
+fn open<N: WordsNaming + InboxNaming, J: Drop, S: Drop>(
     alloc: Global,
     system: System<N, J, S>,
-) -> Result<UnlockedTree<N, J, S>, System<N, J, S>> {
+) -> Result<OpenTree<N, J, S>, System<N, J, S>>
+    ensures opened { IfOk result (IsOpened system) }
+    ensures back { IfErr result (λ back. back ≡ system) }
+{
     let count = system.tables();
-    let (Ok(tables), Ok(reports), Ok(back)) = (
+    let (Ok(mut tables), Ok(reports), Ok(back)) = (
         Vec::with_capacity(alloc, count),
         Vec::with_capacity(alloc, count),
         Vec::with_capacity(alloc, count),
@@ -77,9 +90,8 @@ fn take_out<N: WordsNaming + InboxNaming, J: Drop, S: Drop>(
         return Err(system);
     };
     let System { words, sups, outer } = system;
-    let mut tables = tables;
-    unlock_all(alloc, sups, &mut tables);
-    Ok(UnlockedTree {
+    open_all(alloc, sups, &mut tables);
+    Ok(OpenTree {
         words,
         tables,
         outer,
@@ -89,16 +101,20 @@ fn take_out<N: WordsNaming + InboxNaming, J: Drop, S: Drop>(
     })
 }
 
-fn unlock_all<N: WordsNaming + InboxNaming, B: Drop>(
+fn open_all<N: WordsNaming + InboxNaming, B: Drop>(
     alloc: Global,
     sups: Vec<Sup<N, B>>,
-    tables: &mut Vec<Unlocked<N, B>>,
-) {
+    tables: &mut Vec<OpenTable<N, B>>,
+)
+    requires none { tables.old.items ≡ [] }
+    requires room { length sups.items ≤ vec_capacity tables.old }
+    requires placed { AllAt (λ k sup. sup.inbox ≡ k) sups.items }
+    ensures opened { AllAt IsAt tables.new.items }
+    ensures count { length tables.new.items ≡ length sups.items }
+{
     for sup in sups {
-        let (inbox, table) = sup.into_parts();
-        tables.push_reserved(Unlocked {
-            inbox,
-            table,
+        tables.push_reserved(OpenTable {
+            sup: sup.unlock(),
             left: Vec::new(alloc),
         });
     }
@@ -106,40 +122,39 @@ fn unlock_all<N: WordsNaming + InboxNaming, B: Drop>(
 
 /// Takes the room for what is left in each inbox.
 fn make_room<N: WordsNaming + InboxNaming + RunNaming, J: Drop, S: Drop>(
-    tree: &mut UnlockedTree<N, J, S>,
+    tree: &mut OpenTree<N, J, S>,
     hands: &[Hand<N, J, S>],
     client: &Client<N, Body<J, S>>,
-) -> Result<(), Refusal> {
+) -> Result<(), Refusal>
+    requires { AllAt IsAt tree.old.tables.items }
+{
     for place in 0..tree.tables.len() {
-        make_room_for(
-            &mut tree.tables[place],
-            place,
-            sent_to(place, hands, client),
-        )?;
+        let sent = sent_to(place, hands, client);
+        make_room_for(&mut tree.tables[place], sent)?;
     }
-    let taken = client.taken_count();
-    reserve(
-        &mut tree.last,
-        sent_to(tree.tables.len(), hands, client),
-        taken,
-    )
+    let sent = sent_to(tree.tables.len(), hands, client);
+    reserve(&mut tree.last, sent, client.taken_count())
 }
 
+/// Takes the room for what is left in one inbox, to which so many letters were sent.
 fn make_room_for<N: WordsNaming + InboxNaming, B: Drop>(
-    table: &mut Unlocked<N, B>,
-    place: usize,
+    table: &mut OpenTable<N, B>,
     sent: u64,
 ) -> Result<(), Refusal> {
-    // What lay under the lock is known by its type alone, which doesn't say the number of its inbox.
-    if table.table.number() != place {
+    if !table.sup.takes_from_inbox() {
         return Err(Refusal::Missing);
     }
-    let taken = table.table.taken_count();
+    let taken = table.sup.taken_count();
     reserve(&mut table.left, sent, taken)
 }
 
 /// Takes the room for what was sent less what was taken.
-fn reserve<B: Drop>(left: &mut Vec<Letter<B>>, sent: u64, taken: u64) -> Result<(), Refusal> {
+fn reserve<B: Drop>(left: &mut Vec<Letter<B>>, sent: u64, taken: u64) -> Result<(), Refusal>
+    ensures kept { left.new.items ≡ left.old.items }
+    ensures small { OnOk result (sent < count_limit) }
+    ensures room { OnOk result (vec_len left.old + sent ≤ vec_capacity left.new + taken) }
+    ensures memory { IfErr result (λ why. why ≡ refusal.OutOfMemory) }
+{
     if sent >= COUNT_LIMIT {
         return Err(Refusal::OutOfMemory);
     }
@@ -151,9 +166,15 @@ fn reserve<B: Drop>(left: &mut Vec<Letter<B>>, sent: u64, taken: u64) -> Result<
 
 /// Puts all supervisors back under their locks.
 pub(crate) fn lock<N: WordsNaming + InboxNaming, J: Drop, S: Drop>(
-    tree: UnlockedTree<N, J, S>,
-) -> System<N, J, S> {
-    let UnlockedTree {
+    tree: OpenTree<N, J, S>,
+) -> System<N, J, S>
+    requires tables { AllAt (λ k t. t.sup.inbox ≡ k) tree.tables.items }
+    requires outer { tree.outer ≡ length tree.tables.items }
+    requires none { tree.sups.items ≡ [] }
+    requires room { length tree.tables.items ≤ vec_capacity tree.sups }
+    ensures { result ≡ record { slots = tree.words; tables = length tree.tables.items } }
+{
+    let OpenTree {
         words,
         tables,
         outer,
@@ -166,15 +187,17 @@ pub(crate) fn lock<N: WordsNaming + InboxNaming, J: Drop, S: Drop>(
 }
 
 fn lock_all<N: WordsNaming + InboxNaming, B: Drop>(
-    tables: Vec<Unlocked<N, B>>,
+    tables: Vec<OpenTable<N, B>>,
     sups: &mut Vec<Sup<N, B>>,
-) {
-    for unlocked in tables {
-        let Unlocked {
-            inbox,
-            table,
-            left: _,
-        } = unlocked;
-        sups.push_reserved(Sup::new(inbox, table));
+)
+    requires none { sups.old.items ≡ [] }
+    requires room { length tables.items ≤ vec_capacity sups.old }
+    requires placed { AllAt (λ k t. t.sup.inbox ≡ k) tables.items }
+    ensures placed { AllAt (λ k sup. sup.inbox ≡ k) sups.new.items }
+    ensures count { length sups.new.items ≡ length tables.items }
+{
+    for table in tables {
+        let OpenTable { sup, left: _ } = table;
+        sups.push_reserved(sup.lock());
     }
 }
