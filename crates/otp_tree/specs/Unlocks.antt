@@ -1,10 +1,12 @@
 -- Supervisors that are out of their locks, and what they are ready for. (own)
 use Rattle.std.specs.Prelude.{◌≡◌, ℕ, ◌+◌, ◌≤◌, ⊤, List, [], length, vec_capacity}
-use Rattle.otp_inbox.specs.Tokens.{count_limit}
+use Rattle.otp_inbox.specs.Tokens.{SenderState}
+use Rattle.otp_rules.specs.declared.event.Item.{Item}
 use Rattle.otp_run.specs.Lists.{AllAt}
 use Rattle.otp_sup.specs.Facts.{KeepsRules}
-use Rattle.otp_tree.specs.Closes.{IsMisplaced, many_to, taken_by}
-use Rattle.otp_tree.specs.Hands.{HandView, ClientView, SystemView}
+use Rattle.otp_tree.specs.Closes.{IsMisplaced, taken_by}
+use Rattle.otp_tree.specs.Hands.{ClientView, SystemView}
+use Rattle.otp_tree.specs.Sendings.{many_to}
 use Rattle.otp_tree.specs.declared.closing.Refusal.{Refusal}
 use Rattle.otp_tree.specs.declared.closing.Refusal.TheVariants as refusal
 use Rattle.otp_tree.specs.declared.unlocking.OpenTable.{OpenTable}
@@ -22,29 +24,30 @@ pub record HasRoom {N B : Type 0} (sent : ℕ) (t : OpenTable N B) : Type 0 wher
   pub room : sent ≤ vec_capacity t.left + length t.sup.table.taker.taken
 
 module _ {N J S : Type 0} where
+  abbrev pub system_of : OpenTree N J S → SystemView
+  system_of tree = record { slots = tree.words; tables = length tree.tables.items }
+
   -- memory for what comes of the supervisors is there, whether they are taken apart or locked again
-  pub record IsSpared (system : SystemView) (tree : OpenTree N J S) : Type 0 where
-    pub words : tree.words ≡ system.slots
-    pub count : length tree.tables.items ≡ system.tables
-    pub outer : tree.outer ≡ system.tables
+  pub record IsSpared (tree : OpenTree N J S) : Type 0 where
+    pub outer : tree.outer ≡ length tree.tables.items
     pub reports : tree.reports.items ≡ []
-    pub reports_room : system.tables ≤ vec_capacity tree.reports
+    pub reports_room : length tree.tables.items ≤ vec_capacity tree.reports
     pub sups : tree.sups.items ≡ []
-    pub sups_room : system.tables ≤ vec_capacity tree.sups
+    pub sups_room : length tree.tables.items ≤ vec_capacity tree.sups
     pub last : tree.last.items ≡ []
 
-  -- all supervisors of the system are out of their locks
-  pub record IsOpened (system : SystemView) (tree : OpenTree N J S) : Type 0 where
-    pub spared : IsSpared system tree
+  -- all supervisors are out of their locks
+  pub record IsOpened (tree : OpenTree N J S) : Type 0 where
+    pub spared : IsSpared tree
     pub tables : AllAt IsAt tree.tables.items
 
   -- and there is room for what is left in each inbox
-  pub record IsReady (system : SystemView) (hands : List (HandView J S)) (client : ClientView) (tree : OpenTree N J S) : Type 0 where
-    pub spared : IsSpared system tree
-    pub tables : AllAt (λ place t. IsAt place t × HasRoom (many_to place hands client) t) tree.tables.items
-    pub last_room : many_to system.tables hands client ≤ vec_capacity tree.last + length (taken_by client.waiter)
+  pub record IsReady (client : ClientView) (all : List (List (SenderState Item))) (tree : OpenTree N J S) : Type 0 where
+    pub opened : IsOpened tree
+    pub rooms : AllAt (λ place t. HasRoom (many_to place all) t) tree.tables.items
+    pub last_room : many_to (length tree.tables.items) all ≤ vec_capacity tree.last + length (taken_by client.waiter)
 
 -- a part is missing only where a supervisor was found under the lock of another
 abbrev pub IsUnlockRefused : Refusal → Type 0
 IsUnlockRefused refusal.OutOfMemory = ⊤
-IsUnlockRefused refusal.Missing = (place : ℕ) × IsMisplaced place
+IsUnlockRefused refusal.Missing = IsMisplaced

@@ -1,4 +1,8 @@
 //! What supervisors were told of the ends of others, held against the others' own histories.
+ghost use Rattle.std.specs.Prelude.{◌≡◌, ◌↔◌, All, IfNone, IfSome, IsTrue, MatchOption, Some, map, slice_get};
+ghost use Rattle.otp_core.specs.View.{state_of};
+ghost use Rattle.otp_rules.specs.declared.work.Phase.TheVariants.{Open};
+ghost use Rattle.otp_tree.specs.Tellings.{Agrees, IsMismatch, IsSo, core_of, told_end};
 
 use crate::report::TableReport;
 use otp_core::Core;
@@ -15,7 +19,10 @@ pub struct Mismatch {
 }
 
 /// The first event that tells an end that isn't so.
-pub(crate) fn find_mismatch<J: Drop, S: Drop>(tables: &[TableReport<J, S>]) -> Option<Mismatch> {
+pub(crate) fn find_mismatch<J: Drop, S: Drop>(tables: &[TableReport<J, S>]) -> Option<Mismatch>
+    ensures none { IfNone result (All (λ core. All (IsSo (map core_of tables.now)) core.history) (map core_of tables.now)) }
+    ensures found { IfSome result (IsMismatch (map core_of tables.now)) }
+{
     for table in 0..tables.len() {
         if let Some(event) = find_untrue(tables[table].core.history(), tables) {
             return Some(Mismatch { table, event });
@@ -25,9 +32,12 @@ pub(crate) fn find_mismatch<J: Drop, S: Drop>(tables: &[TableReport<J, S>]) -> O
 }
 
 /// The first event of a history that tells an end that isn't so.
-fn find_untrue<J: Drop, S: Drop>(history: &[Event], tables: &[TableReport<J, S>]) -> Option<usize> {
+fn find_untrue<J: Drop, S: Drop>(history: &[Event], tables: &[TableReport<J, S>]) -> Option<usize>
+    ensures none { IfNone result (All (IsSo (map core_of tables.now)) history.now) }
+    ensures found { IfSome result (λ place. MatchOption (slice_get history.now place) ⊥ (λ event. ¬ (IsSo (map core_of tables.now) event))) }
+{
     for place in 0..history.len() {
-        if !is_true(&history[place], tables) {
+        if !is_so(&history[place], tables) {
             return Some(place);
         }
     }
@@ -35,7 +45,9 @@ fn find_untrue<J: Drop, S: Drop>(history: &[Event], tables: &[TableReport<J, S>]
 }
 
 /// Whether an event tells no end of a supervisor, or one that is so.
-fn is_true<J: Drop, S: Drop>(event: &Event, tables: &[TableReport<J, S>]) -> bool {
+fn is_so<J: Drop, S: Drop>(event: &Event, tables: &[TableReport<J, S>]) -> bool
+    ensures { IsTrue result ↔ IsSo (map core_of tables.now) event.now }
+{
     let Some((number, reason)) = told_end(&event.kind) else {
         return true;
     };
@@ -48,7 +60,9 @@ fn is_true<J: Drop, S: Drop>(event: &Event, tables: &[TableReport<J, S>]) -> boo
 }
 
 /// The number of the process whose end an event tells, and the reason; None as the reason where there was nothing to run.
-fn told_end(kind: &Kind) -> Option<(u64, Option<Reason>)> {
+fn told_end(kind: &Kind) -> Option<(u64, Option<Reason>)>
+    ensures { result ≡ told_end kind.now }
+{
     match kind {
         Kind::Took(Item::Note(Note::Exit(number, reason) | Note::Failed(number, reason))) => {
             Some((*number, Some(*reason)))
@@ -58,22 +72,25 @@ fn told_end(kind: &Kind) -> Option<(u64, Option<Reason>)> {
     }
 }
 
-/// Whether a supervisor was never opened under this number, or that opening ended with this reason.
-fn agrees(core: &Core, number: u64, reason: Option<Reason>) -> bool {
+/// Whether a supervisor doesn't run under this number, and each opening under it ended with this reason.
+fn agrees(core: &Core, number: u64, reason: Option<Reason>) -> bool
+    ensures { IsTrue result ↔ Agrees (state_of core.now) number reason }
+{
     if is_open_under(core.phase(), number) {
         return false;
     }
-    let ends = core.ends();
-    for (own, end) in ends {
-        if *own == number {
-            return Some(end.reason) == reason;
+    for (own, end) in core.ends() {
+        if *own == number && Some(end.reason) != reason {
+            return false;
         }
     }
     true
 }
 
 /// Whether it runs under this number.
-fn is_open_under(phase: Phase, number: u64) -> bool {
+fn is_open_under(phase: Phase, number: u64) -> bool
+    ensures { IsTrue result ↔ (phase ≡ Open number) }
+{
     match phase {
         Phase::Open(own) => own == number,
         Phase::Unopened | Phase::Ended(..) => false,

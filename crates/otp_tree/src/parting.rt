@@ -1,4 +1,9 @@
 // Hands are parted into their schedulers and the rest, and joined again.
+ghost use Rattle.std.specs.Prelude.{◌≡◌, ◌≤◌, [], length, map, vec_capacity, IfOk, IfErr, OnOk};
+ghost use Rattle.otp_run.specs.Gathers.{IsAll, IsLiveTotal, begun_of, ended_of};
+ghost use Rattle.otp_run.specs.Rule.{ticket_of};
+ghost use Rattle.otp_tree.specs.Gathers.{IsHandsRefused, IsGathered};
+ghost use Rattle.otp_tree.specs.Partings.{joined, schedulers_of, ArePaired};
 
 use crate::closing::Refusal;
 use crate::hand::{Hand, Unsent};
@@ -43,7 +48,11 @@ struct Room<N: WordsNaming + InboxNaming + RunNaming, J: Drop, S: Drop> {
 }
 
 impl<N: WordsNaming + InboxNaming + RunNaming, J: Drop, S: Drop> Room<N, J, S> {
-    fn reserve(alloc: Global, count: usize) -> Result<Room<N, J, S>, AllocError> {
+    fn reserve(alloc: Global, count: usize) -> Result<Room<N, J, S>, AllocError>
+        ensures schedulers { IfOk result (λ r. (r.schedulers.items ≡ []) × (count ≤ vec_capacity r.schedulers)) }
+        ensures rests { IfOk result (λ r. (r.rests.items ≡ []) × (count ≤ vec_capacity r.rests)) }
+        ensures hands { IfOk result (λ r. (r.hands.items ≡ []) × (count ≤ vec_capacity r.hands)) }
+    {
         Ok(Room {
             schedulers: Vec::with_capacity(alloc, count)?,
             rests: Vec::with_capacity(alloc, count)?,
@@ -57,7 +66,11 @@ impl<N: WordsNaming + InboxNaming + RunNaming, J: Drop, S: Drop> Room<N, J, S> {
 pub(crate) fn gather_hands<N: WordsNaming + InboxNaming + RunNaming, J: Drop, S: Drop>(
     alloc: Global,
     hands: Vec<Hand<N, J, S>>,
-) -> Result<Gathered<N, J, S>, HandsFault<N, J, S>> {
+) -> Result<Gathered<N, J, S>, HandsFault<N, J, S>>
+    ensures gathered { IfOk result (IsGathered hands.items) }
+    ensures refused { IfErr result (λ fault. fault.hands.items ≡ hands.items) }
+    ensures missing { IfErr result (λ fault. IsHandsRefused (schedulers_of hands.items) fault.cause) }
+{
     let Ok(room) = Room::reserve(alloc, hands.len()) else {
         return Err(HandsFault {
             cause: Refusal::OutOfMemory,
@@ -84,7 +97,15 @@ fn part_all<N: WordsNaming + InboxNaming + RunNaming, J: Drop, S: Drop>(
     hands: Vec<Hand<N, J, S>>,
     schedulers: &mut Vec<Scheduler<N, J, S>>,
     rests: &mut Vec<Rest<N, J, S>>,
-) {
+)
+    requires schedulers { schedulers.old.items ≡ [] }
+    requires rests { rests.old.items ≡ [] }
+    requires room { length hands.items ≤ vec_capacity schedulers.old }
+    requires room_for_rests { length hands.items ≤ vec_capacity rests.old }
+    ensures hands { joined schedulers.new.items rests.new.items ≡ hands.items }
+    ensures paired { ArePaired schedulers.new.items rests.new.items }
+    ensures many { length schedulers.new.items ≡ length rests.new.items }
+{
     for hand in hands {
         let Hand {
             scheduler,
@@ -112,7 +133,12 @@ fn rejoin_all<N: WordsNaming + InboxNaming + RunNaming, J: Drop, S: Drop>(
     schedulers: Vec<Scheduler<N, J, S>>,
     rests: Vec<Rest<N, J, S>>,
     hands: &mut Vec<Hand<N, J, S>>,
-) {
+)
+    requires hands { hands.old.items ≡ [] }
+    requires room { length schedulers.items ≤ vec_capacity hands.old }
+    requires paired { ArePaired schedulers.items rests.items }
+    ensures { hands.new.items ≡ joined schedulers.items rests.items }
+{
     let mut rests = rests.into_iter();
     for scheduler in schedulers {
         let Some(rest) = rests.next() else {

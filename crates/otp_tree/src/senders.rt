@@ -1,6 +1,7 @@
 //! Senders to each supervisor of a tree.
-ghost use Rattle.std.specs.Prelude.{◌≡◌, ◌<◌, ◌++◌, ◌∷◌, [], length, ◌==◌, IfErr, IfSome, OnErr, OnOk, Some, slice_get, slice_set};
-ghost use Rattle.otp_inbox.specs.Tokens.{SenderState, no_shares};
+ghost use Rattle.std.specs.Prelude.{◌≡◌, ◌<◌, min, ◌++◌, ◌∷◌, [], length, ◌==◌, IfErr, IfSome, OnErr, OnOk, Some, slice_get, slice_set};
+ghost use Rattle.otp_inbox.specs.Tokens.{SenderState, count_limit, no_shares};
+ghost use Rattle.otp_tree.specs.Sendings.{many_at, parts_at};
 ghost use Rattle.otp_rules.specs.declared.event.Item.{Item};
 
 use otp_inbox::{Inbox, InboxNaming, Sender};
@@ -62,7 +63,9 @@ impl<N: InboxNaming, B: Drop> Senders<N, B> {
     }
 
     /// Its parts of the right to send to one supervisor.
-    pub(crate) fn parts_at(&self, place: usize) -> u64 {
+    pub(crate) fn parts_at(&self, place: usize) -> u64
+        ensures { result ≡ parts_at place self.now }
+    {
         match self.list.get(place) {
             Some(sender) => sender.parts(),
             None => 0,
@@ -70,7 +73,9 @@ impl<N: InboxNaming, B: Drop> Senders<N, B> {
     }
 
     /// How many items were sent to one supervisor. The count stops at 2^62.
-    pub(crate) fn count_at(&self, place: usize) -> u64 {
+    pub(crate) fn count_at(&self, place: usize) -> u64
+        ensures { result ≡ min (many_at place self.now) count_limit }
+    {
         match self.list.get(place) {
             Some(sender) => sender.sent_count(),
             None => 0,

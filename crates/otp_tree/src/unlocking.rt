@@ -2,8 +2,10 @@
 ghost use Rattle.std.specs.Prelude.{◌≡◌, ◌+◌, ◌≤◌, ◌<◌, [], length, min, vec_len, vec_capacity, IfOk, IfErr, OnOk, OnErr};
 ghost use Rattle.otp_inbox.specs.Tokens.{count_limit};
 ghost use Rattle.otp_run.specs.Lists.{AllAt};
-ghost use Rattle.otp_tree.specs.Closes.{IsReached, many_to};
-ghost use Rattle.otp_tree.specs.Unlocks.{IsAt, IsReadyAt, IsOpened, IsReady, IsUnlockRefused};
+ghost use Rattle.otp_sup.specs.Facts.{KeepsRules};
+ghost use Rattle.otp_tree.specs.Closes.{IsMisplaced, all_senders, taken_by};
+ghost use Rattle.otp_tree.specs.Sendings.{many_to};
+ghost use Rattle.otp_tree.specs.Unlocks.{HasRoom, IsAt, IsOpened, IsReady, IsUnlockRefused, system_of};
 ghost use Rattle.otp_tree.specs.declared.closing.Refusal.TheVariants as refusal;
 
 use crate::client::Client;
@@ -53,7 +55,8 @@ pub(crate) fn unlock<N: WordsNaming + InboxNaming + RunNaming, J: Drop, S: Drop>
     hands: &[Hand<N, J, S>],
     client: &Client<N, Body<J, S>>,
 ) -> Result<OpenTree<N, J, S>, UnlockFault<N, J, S>>
-    ensures ready { IfOk result (IsReady system hands.now client.now) }
+    ensures ready { IfOk result (IsReady client.now (all_senders client.now hands.now)) }
+    ensures same { IfOk result (λ tree. system_of tree ≡ system) }
     ensures system { IfErr result (λ fault. fault.system ≡ system) }
     ensures cause { IfErr result (λ fault. IsUnlockRefused fault.cause) }
 {
@@ -78,7 +81,8 @@ fn open<N: WordsNaming + InboxNaming, J: Drop, S: Drop>(
     alloc: Global,
     system: System<N, J, S>,
 ) -> Result<OpenTree<N, J, S>, System<N, J, S>>
-    ensures opened { IfOk result (IsOpened system) }
+    ensures opened { IfOk result IsOpened }
+    ensures same { IfOk result (λ tree. system_of tree ≡ system) }
     ensures back { IfErr result (λ back. back ≡ system) }
 {
     let count = system.tables();
@@ -126,7 +130,11 @@ fn make_room<N: WordsNaming + InboxNaming + RunNaming, J: Drop, S: Drop>(
     hands: &[Hand<N, J, S>],
     client: &Client<N, Body<J, S>>,
 ) -> Result<(), Refusal>
-    requires { AllAt IsAt tree.old.tables.items }
+    requires { IsOpened tree.old }
+    ensures opened { IsOpened tree.new }
+    ensures same { system_of tree.new ≡ system_of tree.old }
+    ensures ready { OnOk result (IsReady client.now (all_senders client.now hands.now) tree.new) }
+    ensures refused { IfErr result IsUnlockRefused }
 {
     for place in 0..tree.tables.len() {
         let sent = sent_to(place, hands, client);
@@ -140,7 +148,14 @@ fn make_room<N: WordsNaming + InboxNaming + RunNaming, J: Drop, S: Drop>(
 fn make_room_for<N: WordsNaming + InboxNaming, B: Drop>(
     table: &mut OpenTable<N, B>,
     sent: u64,
-) -> Result<(), Refusal> {
+) -> Result<(), Refusal>
+    requires { KeepsRules table.old.sup.table }
+    ensures sup { table.new.sup ≡ table.old.sup }
+    ensures left { table.new.left.items ≡ table.old.left.items }
+    ensures room { OnOk result (HasRoom sent table.new) }
+    ensures small { OnOk result (sent < count_limit) }
+    ensures refused { IfErr result IsUnlockRefused }
+{
     if !table.sup.takes_from_inbox() {
         return Err(Refusal::Missing);
     }
@@ -168,11 +183,8 @@ fn reserve<B: Drop>(left: &mut Vec<Letter<B>>, sent: u64, taken: u64) -> Result<
 pub(crate) fn lock<N: WordsNaming + InboxNaming, J: Drop, S: Drop>(
     tree: OpenTree<N, J, S>,
 ) -> System<N, J, S>
-    requires tables { AllAt (λ k t. t.sup.inbox ≡ k) tree.tables.items }
-    requires outer { tree.outer ≡ length tree.tables.items }
-    requires none { tree.sups.items ≡ [] }
-    requires room { length tree.tables.items ≤ vec_capacity tree.sups }
-    ensures { result ≡ record { slots = tree.words; tables = length tree.tables.items } }
+    requires { IsOpened tree }
+    ensures { result ≡ system_of tree }
 {
     let OpenTree {
         words,
@@ -192,7 +204,7 @@ fn lock_all<N: WordsNaming + InboxNaming, B: Drop>(
 )
     requires none { sups.old.items ≡ [] }
     requires room { length tables.items ≤ vec_capacity sups.old }
-    requires placed { AllAt (λ k t. t.sup.inbox ≡ k) tables.items }
+    requires placed { AllAt IsAt tables.items }
     ensures placed { AllAt (λ k sup. sup.inbox ≡ k) sups.new.items }
     ensures count { length sups.new.items ≡ length tables.items }
 {
