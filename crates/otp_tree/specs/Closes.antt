@@ -1,6 +1,5 @@
 -- When all parts of a tree are there, and what it leaves. (own)
-use Rattle.std.specs.Prelude.{◌≡◌, ℕ, ◌+◌, ◌≤◌, ◌⊎◌, ⊤, List, [], ◌∷◌, ◌++◌, Option, Some, None, Result, Ok, Err, MatchOption, All, AllPairs, length, map, slice_get, sum_by}
-use Rattle.otp_core.specs.View.{View, state_of}
+use Rattle.std.specs.Prelude.{◌≡◌, ℕ, ◌+◌, ◌<◌, ◌⊎◌, ⊤, List, [], ◌∷◌, ◌++◌, Option, Some, None, Result, Ok, Err, MatchOption, All, AllPairs, length, map, slice_get, sum_by}
 use Rattle.otp_inbox.specs.Lists.{together, AsOften}
 use Rattle.otp_inbox.specs.Tokens.{SenderState, TakerState, all_parts, all_sent}
 use Rattle.otp_rules.specs.declared.event.Item.{Item}
@@ -18,7 +17,7 @@ use Rattle.otp_tree.specs.declared.report.TableReport.{TableReport}
 use Rattle.otp_tree.specs.Hands.{HandView, ClientView, SystemView, senders_of}
 use Rattle.otp_tree.specs.Partings.{schedulers_of}
 use Rattle.otp_tree.specs.Sendings.{parts_to, sent_to}
-use Rattle.otp_tree.specs.Tellings.{IsMismatch, IsSo, core_of}
+use Rattle.otp_tree.specs.Tellings.{IsMismatch}
 
 -- the senders of the client and of each hand
 abbrev pub all_senders : {J S : Type 0} → ClientView → List (HandView J S) → List (List (SenderState Item))
@@ -29,7 +28,7 @@ all_senders client hands = client.senders ∷ map senders_of hands
 pub record IsReached (tables : ℕ) (client : ClientView) (all : List (List (SenderState Item))) : Type 0 where
   pub waits : MatchOption client.waiter ⊥ (λ w. w.inbox ≡ tables)
   pub reach : length client.senders ≡ tables + 1
-  pub whole : (place : ℕ) → place ≤ tables → parts_to place all ≡ all_parts
+  pub whole : (place : ℕ) → place < length client.senders → parts_to place all ≡ all_parts
 
 -- all parts of a tree are there
 abbrev pub IsComplete : {J S : Type 0} → SystemView → List (HandView J S) → ClientView → Type 0
@@ -62,13 +61,6 @@ HasBegun t = Begins t.core.base
 abbrev pub AreApart : {J S : Type 0} → List (TableReport J S) → Type 0
 AreApart tables = AllPairs (λ one other. NoneInBoth (numbers_of one.core.history) (numbers_of other.core.history)) tables
 
-abbrev pub cores_of : {J S : Type 0} → Report J S → List View
-cores_of report = map core_of report.tables.items
-
--- each end that a supervisor was told is one with which the histories of all agree
-abbrev pub AreSo : List View → Type 0
-AreSo cores = All (λ core. All (IsSo cores) core.history) cores
-
 module _ {J S K : Type 0} where
   -- the report, which is there too where a mismatch was found
   abbrev pub report_in : Result (Report J S) (CloseFault J S K) → Option (Report J S)
@@ -93,7 +85,7 @@ module _ {J S K : Type 0} where
   abbrev pub IsMismatchOnly : CloseFault J S K → Type 0
   IsMismatchOnly (fault.OutOfMemory k) = ⊤
   IsMismatchOnly (fault.Missing k) = ⊤
-  IsMismatchOnly (fault.Mismatch m report) = IsMismatch (cores_of report) m
+  IsMismatchOnly (fault.Mismatch m report) = IsMismatch report.tables.items m
 
 -- the tree, as it was
 pub record IsAsItWas {N J S : Type 0} (system : SystemView) (hands : List (HandView J S)) (client : ClientView) (k : Unclosed N J S) : Type 0 where

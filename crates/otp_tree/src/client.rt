@@ -1,5 +1,5 @@
 //! Who calls the supervisors of a tree from outside.
-ghost use Rattle.std.specs.Prelude.{◌≡◌, is_some, length, min, option_map, IfNone, IfSome};
+ghost use Rattle.std.specs.Prelude.{◌≡◌, ◌↔◌, is_some, length, min, IfNone, IfSome, IsTrue, MatchOption};
 ghost use Rattle.otp_inbox.specs.Tokens.{count_limit};
 ghost use Rattle.otp_signals.specs.Holdings.{after_post};
 ghost use Rattle.otp_signals.specs.Signals.{word_of};
@@ -44,12 +44,14 @@ impl<N: WordsNaming + InboxNaming, B: Drop> Client<N, B> {
         self.root.is_some()
     }
 
-    /// The number of the inbox from which it takes the root's notes, where it is the first client.
-    pub(crate) fn waits_at(&self) -> Option<usize>
-        ensures { result ≡ option_map (λ w. w.inbox) self.now.waiter }
+    /// Whether it is the first client, and takes the root's notes from the inbox with this number.
+    pub(crate) fn waits_at(&self, table: usize) -> bool
+        ensures { IsTrue result ↔ MatchOption self.now.waiter ⊥ (λ w. w.inbox ≡ table) }
     {
-        let waiter = self.waiter.as_ref()?;
-        Some(waiter.number())
+        match &self.waiter {
+            Some(waiter) => waiter.number() == table,
+            None => false,
+        }
     }
 
     /// How many notes of the root it took.

@@ -4,14 +4,15 @@ ghost use Rattle.otp_inbox.specs.Lists.{AsOften};
 ghost use Rattle.otp_run.specs.Gathers.{IsLiveTotal, begun_of, ended_of};
 ghost use Rattle.otp_run.specs.Lists.{AllAt};
 ghost use Rattle.otp_run.specs.Rule.{ticket_of};
-ghost use Rattle.otp_tree.specs.Closes.{Accounts, AreApart, AreSo, HasBegun, IsAsItWas, IsComplete, IsMismatchOnly, IsMissingOnly, all_senders, cores_of, kept_in, plain_of, report_in, taken_by};
+ghost use Rattle.otp_tree.specs.Closes.{Accounts, AreApart, HasBegun, IsAsItWas, IsComplete, IsMismatchOnly, IsMissingOnly, all_senders, kept_in, plain_of, report_in, taken_by};
 ghost use Rattle.otp_tree.specs.Partings.{schedulers_of};
 ghost use Rattle.otp_tree.specs.Sendings.{sent_to};
 ghost use Rattle.otp_tree.specs.Settles.{IsRefusalOf};
+ghost use Rattle.otp_tree.specs.Tellings.{AreSo};
 
 use crate::client::Client;
 use crate::complete::is_reached;
-use crate::evidence::{Mismatch, find_mismatch};
+use crate::evidence::Mismatch;
 use crate::hand::Hand;
 use crate::parting::{HandsFault, gather_hands};
 use crate::report::Report;
@@ -95,7 +96,7 @@ impl<N: WordsNaming + InboxNaming, J: Drop, S: Drop> System<N, J, S> {
         // No process number is in the histories of two supervisors.
         ensures apart { IfSome (report_in result) (λ report. AreApart report.tables.items) }
         // Each end that a supervisor was told of another is one that the other's history gives.
-        ensures told { IfOk result (λ report. AreSo (cores_of report)) }
+        ensures told { IfOk result (λ report. AreSo report.tables.items) }
         ensures mismatch { IfErr result IsMismatchOnly }
         ensures missing { IfErr result (IsMissingOnly (IsComplete self hands.items client)) }
         ensures back { IfErr result (λ fault. IfSome (kept_in fault) (IsAsItWas self hands.items client)) }
@@ -139,10 +140,10 @@ fn judge<J: Drop, S: Drop, K: Drop>(
     report: Report<J, S>,
 ) -> Result<Report<J, S>, CloseFault<J, S, K>>
     ensures report { report_in result ≡ Some report }
-    ensures told { IfOk result (λ report. AreSo (cores_of report)) }
+    ensures told { IfOk result (λ report. AreSo report.tables.items) }
     ensures mismatch { IfErr result IsMismatchOnly }
 {
-    match find_mismatch(report.tables.as_slice()) {
+    match report.find_mismatch() {
         Some(mismatch) => Err(CloseFault::Mismatch(mismatch, report)),
         None => Ok(report),
     }

@@ -1,6 +1,6 @@
 // Whether all parts of a tree are there.
-ghost use Rattle.std.specs.Prelude.{◌≡◌, ◌↔◌, ◌<◌, ◌-◌, ◌^◌, min, IsTrue};
-ghost use Rattle.otp_inbox.specs.Tokens.{count_limit};
+ghost use Rattle.std.specs.Prelude.{◌≡◌, ◌↔◌, ℕ, ◌+◌, ◌<◌, ◌-◌, ◌^◌, length, min, IsTrue};
+ghost use Rattle.otp_inbox.specs.Tokens.{all_parts, count_limit};
 ghost use Rattle.otp_tree.specs.Closes.{IsReached, all_senders};
 ghost use Rattle.otp_tree.specs.Sendings.{many_to, parts_to};
 
@@ -20,9 +20,24 @@ pub(crate) fn is_reached<N: WordsNaming + InboxNaming + RunNaming, J: Drop, S: D
 ) -> bool
     ensures { IsTrue result ↔ IsReached tables client.now (all_senders client.now hands.now) }
 {
-    if client.waits_at() != Some(tables) || client.senders.len() != tables + 1 {
-        return false;
-    }
+    client.waits_at(tables) && reaches(client, tables) && has_all_parts(hands, client)
+}
+
+/// Whether it sends to so many supervisors, and to whoever opened the tree.
+fn reaches<N: WordsNaming + InboxNaming, B: Drop>(client: &Client<N, B>, tables: usize) -> bool
+    ensures { IsTrue result ↔ (length client.now.senders ≡ tables + 1) }
+{
+    let count = client.senders.len();
+    count > tables && count - tables == 1
+}
+
+/// Whether they have the whole right to send to each of those to which the client sends.
+fn has_all_parts<N: WordsNaming + InboxNaming + RunNaming, J: Drop, S: Drop>(
+    hands: &[Hand<N, J, S>],
+    client: &Client<N, Body<J, S>>,
+) -> bool
+    ensures { IsTrue result ↔ ((place : ℕ) → place < length client.now.senders → parts_to place (all_senders client.now hands.now) ≡ all_parts) }
+{
     for place in 0..client.senders.len() {
         if parts_to(place, hands, client) != ALL_PARTS {
             return false;

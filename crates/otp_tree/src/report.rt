@@ -1,9 +1,11 @@
 //! What a tree was when it was taken apart.
-ghost use Rattle.std.specs.Prelude.{◌≡◌, length};
+ghost use Rattle.std.specs.Prelude.{◌≡◌, length, IfNone, IfSome};
 ghost use Rattle.otp_core.specs.View.{state_of};
 ghost use Rattle.otp_rules.specs.Needs.{numbers_of};
 ghost use Rattle.otp_tree.specs.Reports.{last_reason};
+ghost use Rattle.otp_tree.specs.Tellings.{AreSo, IsMismatch};
 
+use crate::evidence::{Mismatch, find_mismatch};
 use otp_core::Core;
 use otp_job::{Body, Process};
 use otp_reason::Reason;
@@ -46,8 +48,10 @@ impl<J: Drop, S: Drop> TableReport<J, S> {
         if !self.core.has_ended() {
             return None;
         }
-        let (_, end) = self.core.ends().last()?;
-        Some(end.reason)
+        match self.core.ends().last() {
+            Some((_, end)) => Some(end.reason),
+            None => None,
+        }
     }
 
     /// How many events its history has.
@@ -55,6 +59,17 @@ impl<J: Drop, S: Drop> TableReport<J, S> {
         ensures { result ≡ length self.now.core.history }
     {
         self.core.history().len() as u64
+    }
+}
+
+impl<J: Drop, S: Drop> Report<J, S> {
+    /// The first event that tells a supervisor an end of another one that isn't the one that the other's own history
+    /// gives. [`System::close`](crate::System::close) looks for it.
+    pub fn find_mismatch(&self) -> Option<Mismatch>
+        ensures none { IfNone result (AreSo self.now.tables.items) }
+        ensures found { IfSome result (IsMismatch self.now.tables.items) }
+    {
+        find_mismatch(self.tables.as_slice())
     }
 }
 

@@ -100,10 +100,10 @@ fn join<N: WordsNaming + InboxNaming, B: Drop>(
 {
     let mut place = 0;
     for other in others.list {
-        if place >= senders.list.len() {
+        if place >= senders.len() {
             return;
         }
-        inbox_at(tables, outer, place).join(&mut senders.list[place], other);
+        senders.join_at(inbox_at(tables, outer, place), other);
         place += 1;
     }
 }

@@ -136,12 +136,28 @@ fn make_room<N: WordsNaming + InboxNaming + RunNaming, J: Drop, S: Drop>(
     ensures ready { OnOk result (IsReady client.now (all_senders client.now hands.now) tree.new) }
     ensures refused { IfErr result IsUnlockRefused }
 {
-    for place in 0..tree.tables.len() {
-        let sent = sent_to(place, hands, client);
-        make_room_for(&mut tree.tables[place], sent)?;
-    }
+    make_rooms(&mut tree.tables, hands, client)?;
     let sent = sent_to(tree.tables.len(), hands, client);
     reserve(&mut tree.last, sent, client.taken_count())
+}
+
+/// Takes the room for what is left in the inbox of each supervisor.
+fn make_rooms<N: WordsNaming + InboxNaming + RunNaming, J: Drop, S: Drop>(
+    tables: &mut Vec<OpenTable<N, Body<J, S>>>,
+    hands: &[Hand<N, J, S>],
+    client: &Client<N, Body<J, S>>,
+) -> Result<(), Refusal>
+    requires { AllAt IsAt tables.old.items }
+    ensures opened { AllAt IsAt tables.new.items }
+    ensures same { length tables.new.items ≡ length tables.old.items }
+    ensures rooms { OnOk result (AllAt (λ place t. HasRoom (many_to place (all_senders client.now hands.now)) t) tables.new.items) }
+    ensures refused { IfErr result IsUnlockRefused }
+{
+    for place in 0..tables.len() {
+        let sent = sent_to(place, hands, client);
+        make_room_for(&mut tables[place], sent)?;
+    }
+    Ok(())
 }
 
 /// Takes the room for what is left in one inbox, to which so many letters were sent.
