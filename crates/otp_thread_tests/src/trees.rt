@@ -205,7 +205,6 @@ fn check_ended<R: Abort>(rt: &R, report: &Report<Worker, BoxedSubsystem>) {
     assert_eq!(rt; (root.starts(), root.restarts(), root.end()), (2, 0, Some(Reason::Shutdown)));
     assert_eq!(rt; (sub.starts(), sub.restarts(), sub.end()), (3, 1, Some(Reason::Shutdown)));
     assert_eq!(rt; (report.live, report.begun, report.ended), (0, 6, 6));
-    assert_eq!(rt; (root.left.len(), sub.left.len(), report.last.len()), (0, 0, 0));
     assert!(rt; report.processes.is_empty() && report.find_mismatch().is_none());
 }
 
@@ -407,7 +406,7 @@ impl<R: Wait + Abort> Session<R, Worker, BoxedSubsystem> for Closing {
         lead_alone(rt, &system, &mut hands, &mut client, &mut leader);
         leader.check(rt);
         let away = hands.pop()?;
-        let back = match system.close(rt, self.alloc, hands, client) {
+        let back = match system.close(self.alloc, hands, client) {
             Err(CloseFault::Missing(back) | CloseFault::OutOfMemory(back)) => back,
             _ => panic!(rt; "a hand is away"),
         };
@@ -421,7 +420,7 @@ impl<R: Wait + Abort> Session<R, Worker, BoxedSubsystem> for Closing {
             return None;
         }
         // Under a refused growth all comes back, and the tree can be closed again.
-        let back = match system.close(rt, self.alloc, hands, client) {
+        let back = match system.close(self.alloc, hands, client) {
             Ok(report) => return Some(report),
             Err(CloseFault::OutOfMemory(back)) => back,
             Err(_) => panic!(rt; "all hands are here"),
@@ -431,7 +430,7 @@ impl<R: Wait + Abort> Session<R, Worker, BoxedSubsystem> for Closing {
             hands,
             client,
         } = back;
-        match system.close(rt, self.alloc, hands, client) {
+        match system.close(self.alloc, hands, client) {
             Ok(report) => Some(report),
             Err(_) => panic!(rt; "there is memory now"),
         }

@@ -4,8 +4,7 @@ use Rattle.std.specs.Prelude.{is_some}
 use Rattle.std.proofs.lemmas.List.{append-nil}
 use Rattle.otp_run.specs.Schedulers.{SchedulerState, out}
 use Rattle.otp_tree.specs.declared.parting.Rest.{Rest}
-use Rattle.otp_tree.specs.Gathers.{senders_in}
-use Rattle.otp_tree.specs.Hands.{HandView, one_if, senders_of}
+use Rattle.otp_tree.specs.Hands.{HandView, one_if}
 use Rattle.otp_tree.specs.Partings.{hand_of, joined, ArePaired, schedulers_of}
 
 pub nothing_left : {A : Type 0} (xs : List A) → length xs ≡ 0 → xs ≡ []
@@ -49,10 +48,3 @@ module _ {N J S : Type 0} where
   schedulers-joined [] rs paired = refl
   schedulers-joined (s ∷ ss) [] paired = absurd paired
   schedulers-joined (s ∷ ss) (r ∷ rs) paired = ap (λ l. s ∷ l) (schedulers-joined ss rs paired.1)
-
-  -- and their senders those of the rests
-  pub senders-joined : (ss : List SchedulerState) (rs : List (Rest N J S)) → length ss ≡ length rs → map senders_in rs ≡ map senders_of (joined ss rs)
-  senders-joined [] [] many = refl
-  senders-joined [] (r ∷ rs) many = absurd (omega (arith, many))
-  senders-joined (s ∷ ss) [] many = absurd (omega (arith, many))
-  senders-joined (s ∷ ss) (r ∷ rs) many = ap (λ l. r.senders ∷ l) (senders-joined ss rs (omega (arith, many)))

@@ -1,22 +1,21 @@
 -- When all parts of a tree are there, and what it leaves. (own)
-use Rattle.std.specs.Prelude.{◌≡◌, ℕ, ◌+◌, ◌<◌, ◌⊎◌, ⊤, List, [], ◌∷◌, ◌++◌, Option, Some, None, Result, Ok, Err, MatchOption, All, AllPairs, length, map, slice_get, sum_by}
-use Rattle.otp_inbox.specs.Lists.{together, AsOften}
-use Rattle.otp_inbox.specs.Tokens.{SenderState, TakerState, all_parts, all_sent}
+use Rattle.std.specs.Prelude.{◌≡◌, ℕ, ◌+◌, ◌<◌, ⊤, List, ◌∷◌, Option, Some, None, Result, Ok, Err, MatchOption, AllPairs, length, map}
+use Rattle.otp_inbox.specs.Tokens.{SenderState, all_parts}
 use Rattle.otp_rules.specs.declared.event.Item.{Item}
 use Rattle.otp_rules.specs.Needs.{numbers_of}
 use Rattle.otp_run.specs.Gathers.{IsAll}
-use Rattle.otp_run.specs.Lists.{AllAt}
 use Rattle.otp_signals.specs.Lists.{NoneInBoth}
-use Rattle.otp_sup.specs.Facts.{TableView, Begins, KeepsRules, items_of}
-use Rattle.otp_sup.specs.declared.letter.Letter.{Letter}
+use Rattle.otp_sup.specs.Facts.{Begins}
 use Rattle.otp_tree.specs.declared.closing.CloseFault.{CloseFault}
 use Rattle.otp_tree.specs.declared.closing.CloseFault.TheVariants as fault
+use Rattle.otp_tree.specs.declared.closing.Refusal.{Refusal}
+use Rattle.otp_tree.specs.declared.closing.Refusal.TheVariants as refusal
 use Rattle.otp_tree.specs.declared.closing.Unclosed.{Unclosed}
 use Rattle.otp_tree.specs.declared.report.Report.{Report}
 use Rattle.otp_tree.specs.declared.report.TableReport.{TableReport}
 use Rattle.otp_tree.specs.Hands.{HandView, ClientView, SystemView, senders_of}
 use Rattle.otp_tree.specs.Partings.{schedulers_of}
-use Rattle.otp_tree.specs.Sendings.{parts_to, sent_to}
+use Rattle.otp_tree.specs.Sendings.{parts_to}
 use Rattle.otp_tree.specs.Tellings.{IsMismatch}
 
 -- the senders of the client and of each hand
@@ -34,31 +33,12 @@ pub record IsReached (tables : ℕ) (client : ClientView) (all : List (List (Sen
 abbrev pub IsComplete : {J S : Type 0} → SystemView → List (HandView J S) → ClientView → Type 0
 IsComplete system hands client = IsAll (schedulers_of hands) × IsReached system.tables client (all_senders client hands)
 
--- under the lock of a supervisor there lay another one
-pub record IsMisplaced : Type 0 where
-  pub place : ℕ
-  pub table : TableView
-  pub rules : KeepsRules table
-  pub elsewhere : ¬ (table.taker.inbox ≡ place)
-
--- the items of letters, without their bodies
-abbrev pub plain_of : {B : Type 0} → List (Letter B) → List Item
-plain_of letters = map (λ l. l.item) letters
-
-abbrev pub taken_by : Option (TakerState Item) → List Item
-taken_by None = []
-taken_by (Some w) = w.taken
-
--- the items of a supervisor's history and those left in its inbox are those that were sent to it, each as often
-abbrev pub Accounts : {J S : Type 0} → List (List (SenderState Item)) → ℕ → TableReport J S → Type 0
-Accounts all place t = AsOften (sent_to place all) (items_of t.core.history ++ plain_of t.left.items)
-
 -- each core began as a supervisor that was never opened
-abbrev pub HasBegun : {J S : Type 0} → TableReport J S → Type 0
+abbrev pub HasBegun : TableReport → Type 0
 HasBegun t = Begins t.core.base
 
 -- no process number is in the histories of two of these supervisors
-abbrev pub AreApart : {J S : Type 0} → List (TableReport J S) → Type 0
+abbrev pub AreApart : List TableReport → Type 0
 AreApart tables = AllPairs (λ one other. NoneInBoth (numbers_of one.core.history) (numbers_of other.core.history)) tables
 
 module _ {J S K : Type 0} where
@@ -75,10 +55,10 @@ module _ {J S K : Type 0} where
   kept_in (fault.Missing k) = Some k
   kept_in (fault.Mismatch m report) = None
 
-  -- a part is said to be missing only where one is, or where under a lock there lay another supervisor
+  -- a part is said to be missing only where one is
   abbrev pub IsMissingOnly : Type 0 → CloseFault J S K → Type 0
   IsMissingOnly complete (fault.OutOfMemory k) = ⊤
-  IsMissingOnly complete (fault.Missing k) = (¬ complete) ⊎ IsMisplaced
+  IsMissingOnly complete (fault.Missing k) = ¬ complete
   IsMissingOnly complete (fault.Mismatch m report) = ⊤
 
   -- a mismatch is that of an event of the report
@@ -92,3 +72,9 @@ pub record IsAsItWas {N J S : Type 0} (system : SystemView) (hands : List (HandV
   pub system_is : k.system ≡ system
   pub hands_are : k.hands.items ≡ hands
   pub client_is : k.client ≡ client
+
+-- nothing was taken apart for this cause, and all comes back
+abbrev pub IsRefusalOf : {N J S : Type 0} → Refusal → SystemView → List (HandView J S) → ClientView → CloseFault J S (Unclosed N J S) → Type 0
+IsRefusalOf refusal.OutOfMemory system hands client (fault.OutOfMemory k) = IsAsItWas system hands client k
+IsRefusalOf refusal.Missing system hands client (fault.Missing k) = IsAsItWas system hands client k
+IsRefusalOf _ system hands client _ = ⊥

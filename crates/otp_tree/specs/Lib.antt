@@ -6,7 +6,4 @@ pub mod Partings
 pub mod Sendings
 pub mod Tellings
 pub mod Closes
-pub mod Unlocks
 pub mod Gathers
-pub mod Joins
-pub mod Settles

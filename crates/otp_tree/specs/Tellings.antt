@@ -41,23 +41,22 @@ pub record Agrees (s : State) (number : ℕ) (reason : Option Reason) : Type 0 w
   pub not_open : ¬ (s.phase ≡ Open number)
   pub ended : AllAt (λ _ x. EndedSo number reason x) s.ends
 
-module _ {J S : Type 0} where
-  -- the histories of all supervisors agree with the end of this process
-  abbrev pub AllAgree : List (TableReport J S) → ℕ → Option Reason → Type 0
-  AllAgree tables number reason = AllAt (λ _ (t : TableReport J S). Agrees (state_of t.core) number reason) tables
+-- the histories of all supervisors agree with the end of this process
+abbrev pub AllAgree : List (TableReport) → ℕ → Option Reason → Type 0
+AllAgree tables number reason = AllAt (λ _ (t : TableReport). Agrees (state_of t.core) number reason) tables
 
-  -- an event tells no end, or one with which the histories of all supervisors agree
-  pub record IsSo (tables : List (TableReport J S)) (event : Event) : Type 0 where
-    pub told : MatchOption (told_end event.kind) ⊤ (λ told. AllAgree tables told.0 told.1)
+-- an event tells no end, or one with which the histories of all supervisors agree
+pub record IsSo (tables : List (TableReport)) (event : Event) : Type 0 where
+  pub told : MatchOption (told_end event.kind) ⊤ (λ told. AllAgree tables told.0 told.1)
 
-  -- each end that a supervisor was told is one with which the histories of all agree
-  pub record IsToldSo (tables : List (TableReport J S)) (t : TableReport J S) : Type 0 where
-    pub events : AllAt (λ _ e. IsSo tables e) t.core.history
+-- each end that a supervisor was told is one with which the histories of all agree
+pub record IsToldSo (tables : List (TableReport)) (t : TableReport) : Type 0 where
+  pub events : AllAt (λ _ e. IsSo tables e) t.core.history
 
-  -- the same of all supervisors
-  abbrev pub AreSo : List (TableReport J S) → Type 0
-  AreSo tables = AllAt (λ _ t. IsToldSo tables t) tables
+-- the same of all supervisors
+abbrev pub AreSo : List (TableReport) → Type 0
+AreSo tables = AllAt (λ _ t. IsToldSo tables t) tables
 
-  -- an event of this supervisor tells an end with which a history doesn't agree
-  abbrev pub IsMismatch : List (TableReport J S) → Mismatch → Type 0
-  IsMismatch tables m = MatchOption (slice_get tables m.table) ⊥ (λ t. MatchOption (slice_get t.core.history m.event) ⊥ (λ event. ¬ (IsSo tables event)))
+-- an event of this supervisor tells an end with which a history doesn't agree
+abbrev pub IsMismatch : List (TableReport) → Mismatch → Type 0
+IsMismatch tables m = MatchOption (slice_get tables m.table) ⊥ (λ t. MatchOption (slice_get t.core.history m.event) ⊥ (λ event. ¬ (IsSo tables event)))

@@ -1,10 +1,8 @@
 //! Who calls the supervisors of a tree from outside.
-ghost use Rattle.std.specs.Prelude.{◌≡◌, ◌↔◌, is_some, length, min, IfNone, IfSome, IsTrue, MatchOption};
-ghost use Rattle.otp_inbox.specs.Tokens.{count_limit};
+ghost use Rattle.std.specs.Prelude.{◌≡◌, ◌↔◌, is_some, IfNone, IfSome, IsTrue, MatchOption};
 ghost use Rattle.otp_signals.specs.Holdings.{after_post};
 ghost use Rattle.otp_signals.specs.Signals.{word_of};
 ghost use Rattle.otp_signals.specs.declared.signal.Signal.TheVariants.{Shutdown};
-ghost use Rattle.otp_tree.specs.Closes.{taken_by};
 
 use crate::senders::Senders;
 use otp_inbox::{InboxNaming, Taker};
@@ -51,16 +49,6 @@ impl<N: WordsNaming + InboxNaming, B: Drop> Client<N, B> {
         match &self.waiter {
             Some(waiter) => waiter.number() == table,
             None => false,
-        }
-    }
-
-    /// How many notes of the root it took.
-    pub(crate) fn taken_count(&self) -> u64
-        ensures { result ≡ min (length (taken_by self.now.waiter)) count_limit }
-    {
-        match &self.waiter {
-            Some(waiter) => waiter.taken_count(),
-            None => 0,
         }
     }
 

@@ -1,13 +1,9 @@
 //! A tree is taken apart, once all its hands and its client are back.
-ghost use Rattle.std.specs.Prelude.{◌≡◌, ◌++◌, All, IfErr, IfOk, IfSome, OnSome, Some, length, map, sum_by};
-ghost use Rattle.otp_inbox.specs.Lists.{AsOften};
+ghost use Rattle.std.specs.Prelude.{◌≡◌, ◌≤◌, [], All, IfErr, IfOk, IfSome, OnSome, Some, length, map, sum_by, vec_capacity};
 ghost use Rattle.otp_run.specs.Gathers.{IsLiveTotal, begun_of, ended_of};
-ghost use Rattle.otp_run.specs.Lists.{AllAt};
 ghost use Rattle.otp_run.specs.Rule.{ticket_of};
-ghost use Rattle.otp_tree.specs.Closes.{Accounts, AreApart, HasBegun, IsAsItWas, IsComplete, IsMismatchOnly, IsMissingOnly, all_senders, kept_in, plain_of, report_in, taken_by};
+ghost use Rattle.otp_tree.specs.Closes.{AreApart, HasBegun, IsAsItWas, IsComplete, IsMismatchOnly, IsMissingOnly, IsRefusalOf, kept_in, report_in};
 ghost use Rattle.otp_tree.specs.Partings.{schedulers_of};
-ghost use Rattle.otp_tree.specs.Sendings.{sent_to};
-ghost use Rattle.otp_tree.specs.Settles.{IsRefusalOf};
 ghost use Rattle.otp_tree.specs.Tellings.{AreSo};
 
 use crate::client::Client;
@@ -15,16 +11,14 @@ use crate::complete::is_reached;
 use crate::evidence::Mismatch;
 use crate::hand::Hand;
 use crate::parting::{HandsFault, gather_hands};
-use crate::report::Report;
-use crate::settling::settle;
+use crate::report::{Report, TableReport};
 use crate::system::System;
-use crate::unlocking::{UnlockFault, lock, unlock};
 use otp_inbox::InboxNaming;
 use otp_job::Body;
-use otp_run::RunNaming;
-use otp_signals::WordsNaming;
+use otp_run::{LiveTotal, RunNaming};
+use otp_signals::{Owner, Words, WordsNaming};
+use otp_sup::{Sup, SupParts};
 use std::alloc::Global;
-use std::sync::Wait;
 
 /// Why a tree has no report, or one that tells of a mismatch. `K` is what comes back where nothing was taken apart: the
 /// whole tree ([`Unclosed`]), or nothing where it can't leave the call.
@@ -72,9 +66,8 @@ impl<N: WordsNaming + InboxNaming, J: Drop, S: Drop> System<N, J, S> {
     ///
     /// [`CloseFault::OutOfMemory`] (E0) and [`CloseFault::Missing`] (E20) are found before anything is taken apart; the
     /// tree, all hands and the client come back as they were. [`CloseFault::Mismatch`] (E17) has the report.
-    pub fn close<R: Wait>(
+    pub fn close(
         self,
-        rt: &R,
         alloc: Global,
         hands: Vec<Hand<N, J, S>>,
         client: Client<N, Body<J, S>>,
@@ -84,9 +77,6 @@ impl<N: WordsNaming + InboxNaming, J: Drop, S: Drop> System<N, J, S> {
         // All parts were there, if there is a report.
         ensures complete { OnSome (report_in result) (IsComplete self hands.items client) }
         ensures count { IfSome (report_in result) (λ report. length report.tables.items ≡ self.tables) }
-        // What each supervisor took and what is left in its inbox was sent to it by the client and the hands, as often.
-        ensures accounts { IfSome (report_in result) (λ report. AllAt (Accounts (all_senders client hands.items)) report.tables.items) }
-        ensures last { IfSome (report_in result) (λ report. AsOften (sent_to self.tables (all_senders client hands.items)) (taken_by client.waiter ++ plain_of report.last.items)) }
         // Each process that a hand put was found or is left, and what is live is what is left and what hands have out.
         ensures live { IfSome (report_in result) (λ report. IsLiveTotal (schedulers_of hands.items) report.live (map ticket_of report.processes.items)) }
         ensures begun { IfSome (report_in result) (λ report. report.begun ≡ sum_by begun_of (schedulers_of hands.items)) }
@@ -104,15 +94,77 @@ impl<N: WordsNaming + InboxNaming, J: Drop, S: Drop> System<N, J, S> {
         if !is_reached(self.tables(), hands.as_slice(), &client) {
             return Err(refuse(Refusal::Missing, self, hands, client));
         }
-        let tree = match unlock(alloc, self, hands.as_slice(), &client) {
-            Ok(tree) => tree,
-            Err(UnlockFault { cause, system }) => return Err(refuse(cause, system, hands, client)),
+        let Ok(tables) = Vec::with_capacity(alloc, self.tables()) else {
+            return Err(refuse(Refusal::OutOfMemory, self, hands, client));
         };
         match gather_hands(alloc, hands) {
-            Ok(gathered) => judge(settle(rt, tree, gathered, client)),
-            Err(HandsFault { cause, hands }) => Err(refuse(cause, lock(tree), hands, client)),
+            Ok(total) => judge(report_of(self, client, tables, total)),
+            Err(HandsFault { cause, hands }) => Err(refuse(cause, self, hands, client)),
         }
     }
+}
+
+/// Takes all supervisors apart.
+fn report_of<N: WordsNaming + InboxNaming, J: Drop, S: Drop>(
+    system: System<N, J, S>,
+    client: Client<N, Body<J, S>>,
+    tables: Vec<TableReport>,
+    total: LiveTotal<J, S>,
+) -> Report<J, S>
+    requires none { tables.items ≡ [] }
+    requires room { system.tables ≤ vec_capacity tables }
+    ensures count { length result.tables.items ≡ system.tables }
+    ensures begins { All HasBegun result.tables.items }
+    ensures apart { AreApart result.tables.items }
+    ensures live { result.live ≡ total.live }
+    ensures begun { result.begun ≡ total.begun }
+    ensures ended { result.ended ≡ total.ended }
+    ensures processes { result.processes ≡ total.left }
+{
+    let System {
+        words,
+        sups,
+        outer: _,
+    } = system;
+    let LiveTotal {
+        live,
+        begun,
+        ended,
+        left,
+    } = total;
+    Report {
+        tables: take_all_apart(&words, sups, client.owner, tables),
+        live,
+        begun,
+        ended,
+        processes: left,
+    }
+}
+
+/// Takes all supervisors apart. Their seats are joined to the owner, which shows that no number was drawn by two.
+fn take_all_apart<N: WordsNaming + InboxNaming, B: Drop>(
+    words: &Words<N>,
+    sups: Vec<Sup<N, B>>,
+    mut owner: Owner<N>,
+    mut tables: Vec<TableReport>,
+) -> Vec<TableReport>
+    requires none { tables.items ≡ [] }
+    requires room { length sups.items ≤ vec_capacity tables }
+    ensures begins { All HasBegun result.items }
+    ensures apart { AreApart result.items }
+    ensures count { length result.items ≡ length sups.items }
+{
+    for sup in sups {
+        let SupParts {
+            inbox: _,
+            core,
+            owner: seat,
+            taker: _,
+        } = sup.unlock().into_parts();
+        words.join(&mut owner, seat);
+        tables.push_reserved(TableReport { core });
+    }
+    tables
 }
 
 /// All comes back.

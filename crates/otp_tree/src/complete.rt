@@ -1,8 +1,8 @@
 // Whether all parts of a tree are there.
 ghost use Rattle.std.specs.Prelude.{◌≡◌, ◌↔◌, ℕ, ◌+◌, ◌<◌, ◌-◌, ◌^◌, length, min, IsTrue};
-ghost use Rattle.otp_inbox.specs.Tokens.{all_parts, count_limit};
+ghost use Rattle.otp_inbox.specs.Tokens.{all_parts};
 ghost use Rattle.otp_tree.specs.Closes.{IsReached, all_senders};
-ghost use Rattle.otp_tree.specs.Sendings.{many_to, parts_to};
+ghost use Rattle.otp_tree.specs.Sendings.{parts_to};
 
 use crate::client::Client;
 use crate::hand::Hand;
@@ -59,19 +59,4 @@ fn parts_to<N: WordsNaming + InboxNaming + RunNaming, J: Drop, S: Drop>(
         parts = parts.saturating_add(hand.senders.parts_at(place));
     }
     parts
-}
-
-/// How many items they sent to one supervisor together. Where it is 2^62 or more, it isn't exact.
-pub(crate) fn sent_to<N: WordsNaming + InboxNaming + RunNaming, J: Drop, S: Drop>(
-    place: usize,
-    hands: &[Hand<N, J, S>],
-    client: &Client<N, Body<J, S>>,
-) -> u64
-    ensures { result < count_limit → result ≡ many_to place (all_senders client.now hands.now) }
-{
-    let mut sent = client.senders.count_at(place);
-    for hand in hands {
-        sent = sent.saturating_add(hand.senders.count_at(place));
-    }
-    sent
 }

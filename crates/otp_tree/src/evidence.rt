@@ -20,7 +20,7 @@ pub struct Mismatch {
 }
 
 /// The first event that tells an end that isn't so.
-pub(crate) fn find_mismatch<J: Drop, S: Drop>(tables: &[TableReport<J, S>]) -> Option<Mismatch>
+pub(crate) fn find_mismatch(tables: &[TableReport]) -> Option<Mismatch>
     ensures none { IfNone result (AreSo tables.now) }
     ensures found { IfSome result (IsMismatch tables.now) }
 {
@@ -33,10 +33,7 @@ pub(crate) fn find_mismatch<J: Drop, S: Drop>(tables: &[TableReport<J, S>]) -> O
 }
 
 /// The first event of a history that tells an end that isn't so.
-fn find_untrue<J: Drop, S: Drop>(
-    history: &[Event],
-    tables: &[TableReport<J, S>],
-) -> Option<usize>
+fn find_untrue(history: &[Event], tables: &[TableReport]) -> Option<usize>
     ensures none { IfNone result (AllAt (λ _ e. IsSo tables.now e) history.now) }
     ensures found { IfSome result (λ place. MatchOption (slice_get history.now place) ⊥ (λ event. ¬ (IsSo tables.now event))) }
 {
@@ -49,7 +46,7 @@ fn find_untrue<J: Drop, S: Drop>(
 }
 
 /// Whether an event tells no end of a supervisor, or one that is so.
-fn is_so<J: Drop, S: Drop>(event: &Event, tables: &[TableReport<J, S>]) -> bool
+fn is_so(event: &Event, tables: &[TableReport]) -> bool
     ensures { IsTrue result ↔ IsSo tables.now event.now }
 {
     match told_end(&event.kind) {
@@ -72,11 +69,7 @@ fn told_end(kind: &Kind) -> Option<(u64, Option<Reason>)>
 }
 
 /// Whether the histories of all supervisors agree with the end of this process.
-fn all_agree<J: Drop, S: Drop>(
-    tables: &[TableReport<J, S>],
-    number: u64,
-    reason: Option<Reason>,
-) -> bool
+fn all_agree(tables: &[TableReport], number: u64, reason: Option<Reason>) -> bool
     ensures { IsTrue result ↔ AllAgree tables.now number reason }
 {
     for table in 0..tables.len() {

@@ -49,9 +49,7 @@ pub mod rounds;
 pub mod senders;
 pub mod serving;
 pub mod session;
-mod settling;
 pub mod system;
-mod unlocking;
 
 pub use client::Client;
 pub use clock::{Gate, Millis};

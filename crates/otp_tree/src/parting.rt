@@ -1,8 +1,8 @@
 // Hands are parted into their schedulers and the rest, and joined again.
-ghost use Rattle.std.specs.Prelude.{◌≡◌, ◌≤◌, [], length, map, vec_capacity, IfOk, IfErr, OnOk};
+ghost use Rattle.std.specs.Prelude.{◌≡◌, ◌≤◌, [], length, map, sum_by, vec_capacity, IfOk, IfErr, OnOk};
 ghost use Rattle.otp_run.specs.Gathers.{IsAll, IsLiveTotal, begun_of, ended_of};
 ghost use Rattle.otp_run.specs.Rule.{ticket_of};
-ghost use Rattle.otp_tree.specs.Gathers.{IsHandsRefused, IsGathered};
+ghost use Rattle.otp_tree.specs.Gathers.{IsHandsRefused};
 ghost use Rattle.otp_tree.specs.Partings.{joined, schedulers_of, ArePaired};
 
 use crate::closing::Refusal;
@@ -24,13 +24,6 @@ pub(crate) struct Rest<N: WordsNaming + InboxNaming, J: Drop, S: Drop> {
     pub unsent: Option<Unsent<J, S>>,
     pub refusals: Tally,
     pub alloc: Global,
-}
-
-/// What the hands of a tree had.
-#[derive(Drop)]
-pub(crate) struct Gathered<N: WordsNaming + InboxNaming, J: Drop, S: Drop> {
-    pub total: LiveTotal<J, S>,
-    pub rests: Vec<Rest<N, J, S>>,
 }
 
 /// The hands that were not taken apart, as they were.
@@ -66,8 +59,11 @@ impl<N: WordsNaming + InboxNaming + RunNaming, J: Drop, S: Drop> Room<N, J, S> {
 pub(crate) fn gather_hands<N: WordsNaming + InboxNaming + RunNaming, J: Drop, S: Drop>(
     alloc: Global,
     hands: Vec<Hand<N, J, S>>,
-) -> Result<Gathered<N, J, S>, HandsFault<N, J, S>>
-    ensures gathered { IfOk result (IsGathered hands.items) }
+) -> Result<LiveTotal<J, S>, HandsFault<N, J, S>>
+    ensures all { OnOk result (IsAll (schedulers_of hands.items)) }
+    ensures total { IfOk result (λ total. IsLiveTotal (schedulers_of hands.items) total.live (map ticket_of total.left.items)) }
+    ensures begun { IfOk result (λ total. total.begun ≡ sum_by begun_of (schedulers_of hands.items)) }
+    ensures ended { IfOk result (λ total. total.ended ≡ sum_by ended_of (schedulers_of hands.items)) }
     ensures refused { IfErr result (λ fault. fault.hands.items ≡ hands.items) }
     ensures missing { IfErr result (λ fault. IsHandsRefused (schedulers_of hands.items) fault.cause) }
 {
@@ -84,7 +80,7 @@ pub(crate) fn gather_hands<N: WordsNaming + InboxNaming + RunNaming, J: Drop, S:
     } = room;
     part_all(hands, &mut schedulers, &mut rests);
     let (cause, schedulers) = match gather(alloc, schedulers) {
-        Ok(total) => return Ok(Gathered { total, rests }),
+        Ok(total) => return Ok(total),
         Err(GatherFault::Missing(schedulers)) => (Refusal::Missing, schedulers),
         Err(GatherFault::OutOfMemory(schedulers)) => (Refusal::OutOfMemory, schedulers),
     };

@@ -7,20 +7,17 @@ ghost use Rattle.otp_tree.specs.Tellings.{AreSo, IsMismatch};
 
 use crate::evidence::{Mismatch, find_mismatch};
 use otp_core::Core;
-use otp_job::{Body, Process};
+use otp_job::Process;
 use otp_reason::Reason;
-use otp_sup::Letter;
 
 /// What is known of a supervisor when its tree was taken apart.
 #[derive(Drop)]
-pub struct TableReport<J: Drop, S: Drop> {
+pub struct TableReport {
     /// Its core, as its last turn left it, with its whole history.
     pub core: Core,
-    /// What was left in its inbox, in order.
-    pub left: Vec<Letter<Body<J, S>>>,
 }
 
-impl<J: Drop, S: Drop> TableReport<J, S> {
+impl TableReport {
     /// How many starts of children its history has.
     pub fn starts(&self) -> u64
         ensures { result ≡ length (numbers_of self.now.core.history) }
@@ -77,7 +74,7 @@ impl<J: Drop, S: Drop> Report<J, S> {
 #[derive(Drop)]
 pub struct Report<J: Drop, S: Drop> {
     /// Of each supervisor, in the order of their numbers.
-    pub tables: Vec<TableReport<J, S>>,
+    pub tables: Vec<TableReport>,
     /// How many processes more began than ended; the root's is one of them.
     pub live: u64,
     /// How many processes began, the root's with them.
@@ -86,6 +83,4 @@ pub struct Report<J: Drop, S: Drop> {
     pub ended: u64,
     /// The processes that are left in the run queues.
     pub processes: Vec<Process<J, S>>,
-    /// What the root told and nobody took.
-    pub last: Vec<Letter<Body<J, S>>>,
 }

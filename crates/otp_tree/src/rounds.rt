@@ -111,7 +111,7 @@ where
             break;
         }
     }
-    let report = match system.close(rt, alloc, hands, client) {
+    let report = match system.close(alloc, hands, client) {
         Ok(report) => Ok(report),
         Err(fault) => Err(fault.without_tree()),
     };

@@ -5,4 +5,4 @@ use Rattle.otp_tree.specs.Tellings.{Agrees}
 use Rattle.otp_tree.proofs.evidence.all_agree.Given as goal
 
 abbrev pub invariant-loop-table : goal.invariant-loop-table
-invariant-loop-table g l = AllAt (λ k t. k < l.table → Agrees (state_of t.core) l.number l.reason) l.fn.tables
+invariant-loop-table l = AllAt (λ k t. k < l.table → Agrees (state_of t.core) l.number l.reason) l.fn.tables

@@ -4,4 +4,4 @@ use Rattle.otp_tree.specs.Tellings.{IsToldSo}
 use Rattle.otp_tree.proofs.evidence.find_mismatch.Given as goal
 
 abbrev pub invariant-loop-table : goal.invariant-loop-table
-invariant-loop-table g l = AllAt (λ k t. k < l.table → IsToldSo l.fn.tables t) l.fn.tables
+invariant-loop-table l = AllAt (λ k t. k < l.table → IsToldSo l.fn.tables t) l.fn.tables
