@@ -157,3 +157,8 @@ pub record KeepsRules (t : TableView) : Type 0 where
   pub taken : t.taker.taken ≡ items_of t.office.core.history
   -- each start call that waits has its body with it, in their order
   pub calls : calls_waiting t.bodies ≡ starts_waiting (state_of t.office.core).waiting
+
+-- what contracts see of a supervisor that is out of its lock
+pub record UnlockedView : Type 0 where
+  pub inbox : ℕ
+  pub table : TableView

@@ -1,3 +1,12 @@
 pub mod Seats
 pub mod Hands
 pub mod Opens
+pub mod Reports
+pub mod Partings
+pub mod Sendings
+pub mod Tellings
+pub mod Closes
+pub mod Unlocks
+pub mod Gathers
+pub mod Joins
+pub mod Settles

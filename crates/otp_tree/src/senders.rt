@@ -1,6 +1,7 @@
 //! Senders to each supervisor of a tree.
-ghost use Rattle.std.specs.Prelude.{◌≡◌, ◌<◌, ◌++◌, ◌∷◌, [], length, ◌==◌, IfErr, IfSome, OnErr, OnOk, Some, slice_get, slice_set};
-ghost use Rattle.otp_inbox.specs.Tokens.{SenderState, no_shares};
+ghost use Rattle.std.specs.Prelude.{◌≡◌, ℕ, ◌+◌, ◌<◌, min, ◌++◌, ◌∷◌, [], length, ◌==◌, IfErr, IfSome, OnErr, OnOk, Some, slice_get, slice_set};
+ghost use Rattle.otp_inbox.specs.Tokens.{SenderState, all_parts, all_sent, count_limit, no_shares};
+ghost use Rattle.otp_tree.specs.Sendings.{many_at, parts_at, sent_at};
 ghost use Rattle.otp_rules.specs.declared.event.Item.{Item};
 
 use otp_inbox::{Inbox, InboxNaming, Sender};
@@ -59,6 +60,43 @@ impl<N: InboxNaming, B: Drop> Senders<N, B> {
     {
         let place = inbox.number();
         inbox.send(rt, &mut self.list[place], letter)
+    }
+
+    /// Its parts of the right to send to one supervisor.
+    pub(crate) fn parts_at(&self, place: usize) -> u64
+        ensures { result ≡ parts_at place self.now }
+    {
+        match self.list.get(place) {
+            Some(sender) => sender.parts(),
+            None => 0,
+        }
+    }
+
+    /// How many items were sent to one supervisor. The count stops at 2^62.
+    pub(crate) fn count_at(&self, place: usize) -> u64
+        ensures { result ≡ min (many_at place self.now) count_limit }
+    {
+        match self.list.get(place) {
+            Some(sender) => sender.sent_count(),
+            None => 0,
+        }
+    }
+
+    /// Takes another sender to the same supervisor in.
+    pub(crate) fn join_at(
+        &mut self,
+        inbox: &Inbox<N, Item, Letter<B>>,
+        other: Sender<N, Item, Letter<B>>,
+    )
+        requires within { inbox.now < length self.old }
+        requires belongs { other.inbox ≡ inbox.now }
+        ensures len { length self.new ≡ length self.old }
+        ensures sent { sent_at inbox.now self.new ≡ sent_at inbox.now self.old ++ all_sent other }
+        ensures parts { parts_at inbox.now self.new ≡ min (parts_at inbox.now self.old + other.parts) all_parts }
+        ensures others { (place : ℕ) → ¬ (place ≡ inbox.now) → slice_get self.new place ≡ slice_get self.old place }
+    {
+        let place = inbox.number();
+        inbox.join(&mut self.list[place], other);
     }
 
     /// A sender to one supervisor, with so many parts of the right to send. None where not more are there.
