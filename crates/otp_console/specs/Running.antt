@@ -11,7 +11,7 @@ use Rattle.otp_jobs.specs.declared.plan.PlanFault.{PlanFault}
 use Rattle.otp_jobs.specs.declared.plan.PlanFault.TheVariants as plan
 use Rattle.otp_console.specs.Devices.{HasTree, IsRefused, Written}
 use Rattle.otp_console.specs.declared.ending.Ending.{Ending}
-use Rattle.otp_console.specs.declared.ending.Ending.TheVariants.{Done, TreeRefused, UnknownStart, WrongBody, OutputFailed, OutOfMemory}
+use Rattle.otp_console.specs.declared.ending.Ending.TheVariants.{Done, TreeRefused, UnknownStart, WrongBody, CloseMismatch, CloseMissing, OutputFailed, OutOfMemory}
 
 -- the file says a tree that has this to be said against its starts
 abbrev pub HasStarts : List ℕ → PlanFault → Type 0
@@ -33,6 +33,8 @@ IsTreeRun Done file old new = IsRunnable file × (text : List ℕ) × (Reports [
 IsTreeRun (TreeRefused why) file old new = (new ≡ old) × (IsRefused why file ⊎ (HasTree file × IsOfOpening why))
 IsTreeRun (UnknownStart name) file old new = (new ≡ old) × HasStarts file (plan.UnknownStart name)
 IsTreeRun WrongBody file old new = (new ≡ old) × HasStarts file plan.WrongBody
+IsTreeRun CloseMismatch file old new = (new ≡ old) × HasTree file
+IsTreeRun CloseMissing file old new = (new ≡ old) × HasTree file
 IsTreeRun OutputFailed file old new = IsRunnable file × (old.failures < new.failures)
 IsTreeRun OutOfMemory file old new = new ≡ old
 IsTreeRun _ file old new = ⊥

@@ -59,6 +59,8 @@ impl Ending {
             RunFault::OutOfMemory => Ending::OutOfMemory,
             RunFault::UnknownStart(name) => Ending::UnknownStart(name),
             RunFault::WrongBody => Ending::WrongBody,
+            RunFault::Mismatch => Ending::CloseMismatch,
+            RunFault::Missing => Ending::CloseMissing,
             RunFault::TooManyTables => Ending::TreeRefused(TreeFault::TooManyTables),
             RunFault::Unlawful(fault) => Ending::TreeRefused(TreeFault::Unlawful(fault)),
         }
