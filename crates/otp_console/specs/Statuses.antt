@@ -101,4 +101,5 @@ ending_of_run run.OutOfMemory = OutOfMemory
 ending_of_run (run.UnknownStart name) = UnknownStart name
 ending_of_run run.WrongBody = WrongBody
 ending_of_run run.TooManyTables = TreeRefused fault.TooManyTables
+ending_of_run run.NoBody = TreeRefused fault.TooManyTables
 ending_of_run (run.Unlawful why) = TreeRefused (fault.Unlawful why)

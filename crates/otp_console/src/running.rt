@@ -59,7 +59,10 @@ impl Ending {
             RunFault::OutOfMemory => Ending::OutOfMemory,
             RunFault::UnknownStart(name) => Ending::UnknownStart(name),
             RunFault::WrongBody => Ending::WrongBody,
-            RunFault::TooManyTables => Ending::TreeRefused(TreeFault::TooManyTables),
+            // No tree that a file says comes to these two.
+            RunFault::TooManyTables | RunFault::NoBody => {
+                Ending::TreeRefused(TreeFault::TooManyTables)
+            }
             RunFault::Unlawful(fault) => Ending::TreeRefused(TreeFault::Unlawful(fault)),
         }
     }

@@ -6,7 +6,7 @@ use Rattle.otp_jobs.specs.declared.plan.PlanFault.{PlanFault}
 use Rattle.otp_jobs.specs.declared.plan.PlanFault.TheVariants as plan
 use Rattle.otp_jobs.specs.declared.run.RootNotes.{RootNotes}
 use Rattle.otp_jobs.specs.declared.run.RunFault.{RunFault}
-use Rattle.otp_jobs.specs.declared.run.RunFault.TheVariants.{OutOfMemory, UnknownStart, WrongBody, TooManyTables, Unlawful}
+use Rattle.otp_jobs.specs.declared.run.RunFault.TheVariants.{OutOfMemory, UnknownStart, WrongBody, TooManyTables, NoBody, Unlawful}
 use Rattle.otp_jobs.specs.declared.run.TheConstants.{MIN_SCHEDULERS, MAX_SCHEDULERS, MIN_TURNS, MAX_TURNS}
 
 -- the limits of a run
@@ -35,6 +35,7 @@ IsOfRun _ = ⊥
 abbrev pub IsOfOpening : RunFault → Type 0
 IsOfOpening OutOfMemory = ⊤
 IsOfOpening (Unlawful _) = ⊤
+IsOfOpening NoBody = ⊤
 IsOfOpening _ = ⊥
 
 -- what the root told

@@ -28,6 +28,8 @@ pub enum RunFault {
     WrongBody,
     /// E15: there are more than 64 supervisors, which no tree file says.
     TooManyTables,
+    /// A child has no body, which the plan of each tree file has.
+    NoBody,
     /// E1 to E7: a supervisor is not opened, which each is that a tree file says.
     Unlawful(SpecFault),
 }
@@ -71,6 +73,7 @@ impl From<TreeFault> for RunFault {
                 OpenFault::OutOfMemory => RunFault::OutOfMemory,
                 OpenFault::Spec(fault) => RunFault::Unlawful(fault),
             },
+            TreeFault::NoBody { .. } => RunFault::NoBody,
         }
     }
 }
