@@ -6,7 +6,7 @@ use Rattle.otp_run.specs.Rule.{all_parts}
 use Rattle.otp_run.specs.Deques.{OwnState, VictimState, index_of}
 use Rattle.otp_run.specs.Schedulers.{SchedulerState, IsPlaced, numbers_from, order_of}
 use Rattle.otp_run.proofs.Places.{each_at}
-use Rattle.otp_run.specs.Gathers.{IsAll, IsAwaiting, all_ways, own_of, visits}
+use Rattle.otp_run.specs.Gathers.{AreInOrder, IsAwaiting, all_ways, own_of, visits}
 
 -- how often a number stands in a list
 seen : ℕ → List ℕ → ℕ
@@ -62,12 +62,12 @@ own_at P [] all j = tt
 own_at P (s ∷ ss) all zero = all zero
 own_at P (s ∷ ss) all (suc j) = own_at (λ i. P (suc i)) ss (λ i. all (suc i)) j
 
-both : (ss : List SchedulerState) → IsAll ss → AllAt (λ index s. IsPlaced s) ss → AllAt (λ j s. (s.own.index ≡ 0 + j) × (s.count ≡ length ss) × IsPlaced s) ss
+both : (ss : List SchedulerState) → AreInOrder ss → AllAt (λ index s. IsPlaced s) ss → AllAt (λ j s. (s.own.index ≡ 0 + j) × (s.count ≡ length ss) × IsPlaced s) ss
 both ss all placed j = elim (slice_get ss j) as (λ o. IfSome o (λ s. (s.own.index ≡ j) × (s.count ≡ length ss)) → IfSome o (λ s. IsPlaced s) → IfSome o (λ s. (s.own.index ≡ 0 + j) × (s.count ≡ length ss) × IsPlaced s))
     [ Some z ↦ (λ p q. ((let e = p.0 in omega arith), p.1, q)) | None ↦ (λ _ _. tt) ] (all j) (placed j)
 
 -- the parts of each deque are all here
-pub all_awaiting : (ss : List SchedulerState) → IsAll ss → AllAt (λ index s. IsPlaced s) ss → AllAt (IsAwaiting (all_ways ss)) (map own_of ss)
+pub all_awaiting : (ss : List SchedulerState) → AreInOrder ss → AllAt (λ index s. IsPlaced s) ss → AllAt (IsAwaiting (all_ways ss)) (map own_of ss)
 all_awaiting ss all placed =
     let together : AllAt (λ j s. (s.own.index ≡ 0 + j) × (s.count ≡ length ss) × IsPlaced s) ss = both ss all placed in
     own_at (λ j o. IsAwaiting (all_ways ss) j o) ss
@@ -84,7 +84,7 @@ each_placed [] all = tt
 each_placed (s ∷ ss) all = (all zero, each_placed ss (λ j. all (suc j)))
 
 -- there are few of them, since those that are placed know how many there are
-pub few_of_all : (ss : List SchedulerState) → IsAll ss → AllAt (λ index s. IsPlaced s) ss → length ss ≤ all_parts
+pub few_of_all : (ss : List SchedulerState) → AreInOrder ss → AllAt (λ index s. IsPlaced s) ss → length ss ≤ all_parts
 few_of_all [] all placed = omega arith
 few_of_all (s ∷ ss) all placed = let few = (placed zero).few in let same = (all zero).1 in omega arith
 
@@ -114,6 +114,6 @@ inside_from count (s ∷ ss) all =
     (inside_from count ss (λ j. all (suc j)))
 
 -- each way leads to one of the deques
-pub all_inside : (ss : List SchedulerState) → IsAll ss → AllAt (λ index s. IsPlaced s) ss → Each (λ (v : VictimState). v.index < length ss) (all_ways ss)
+pub all_inside : (ss : List SchedulerState) → AreInOrder ss → AllAt (λ index s. IsPlaced s) ss → Each (λ (v : VictimState). v.index < length ss) (all_ways ss)
 all_inside ss all placed =
     inside_from (length ss) ss (each_at (λ j s. (s.own.index ≡ 0 + j) × (s.count ≡ length ss) × IsPlaced s) (λ j s. (s.count ≡ length ss) × IsPlaced s) ss (both ss all placed) (λ j s within p. (p.1, p.2)))

@@ -1,5 +1,5 @@
 -- A run queue is taken apart. (own)
-use Rattle.std.specs.Prelude.{◌≡◌, ℕ, ◌+◌, ◌-◌, ◌*◌, ◌≤◌, List, [], ◌∷◌, ◌++◌, length, map, sum_by, vec_capacity}
+use Rattle.std.specs.Prelude.{◌≡◌, ℕ, ◌+◌, ◌-◌, ◌*◌, ◌<◌, ◌≤◌, List, [], ◌∷◌, ◌++◌, length, map, sum_by, vec_capacity}
 use Rattle.otp_job.specs.declared.process.Ticket.{Ticket}
 use Rattle.otp_job.specs.Processes.{ProcessState}
 use Rattle.otp_run.specs.declared.rule.View.{View}
@@ -11,9 +11,13 @@ use Rattle.otp_run.specs.Rule.{all_parts, ticket_of, AsOften}
 use Rattle.otp_run.specs.Deques.{OwnState, VictimState}
 use Rattle.otp_run.specs.Schedulers.{SchedulerState, IsScheduler, IsPlaced, puts, finds, out}
 
--- these are all schedulers of a run queue, in the order of their indexes
+-- each scheduler stands at the place of its index, and knows that there are so many
+abbrev pub AreInOrder : List SchedulerState → Type 0
+AreInOrder schedulers = AllAt (λ index s. (s.own.index ≡ index) × (s.count ≡ length schedulers)) schedulers
+
+-- these are all schedulers of a run queue, in the order of their indexes; each run queue has some
 abbrev pub IsAll : List SchedulerState → Type 0
-IsAll schedulers = AllAt (λ index s. (s.own.index ≡ index) × (s.count ≡ length schedulers)) schedulers
+IsAll schedulers = (0 < length schedulers) × AreInOrder schedulers
 
 abbrev pub begun_of : SchedulerState → ℕ
 begun_of s = s.begun

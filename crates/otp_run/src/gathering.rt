@@ -19,6 +19,10 @@ const MOST_SCHEDULERS: usize = 8;
 pub struct LiveTotal<J: Drop, S: Drop> {
     /// How many processes more began than ended: those that are left, and those that schedulers have out.
     pub live: u64,
+    /// How many processes began, at all schedulers.
+    pub begun: u64,
+    /// How many processes ended, at all schedulers.
+    pub ended: u64,
     /// The processes that are left in the deques.
     pub left: Vec<Process<J, S>>,
 }
@@ -32,11 +36,15 @@ pub enum GatherFault<N: RunNaming, J: Drop, S: Drop> {
     OutOfMemory(Vec<Scheduler<N, J, S>>),
 }
 
-/// Whether these are all schedulers of a run queue, in the order of their indexes.
+/// Whether these are all schedulers of a run queue, in the order of their indexes. None is never all: each run queue has
+/// one at least.
 pub fn is_all<N: RunNaming, J: Drop, S: Drop>(schedulers: &[Scheduler<N, J, S>]) -> bool
     ensures all { IsTrue result ↔ IsAll schedulers.now }
     ensures placed { IsTrue result → AllAt (λ index s. IsPlaced s) schedulers.now }
 {
+    if schedulers.is_empty() {
+        return false;
+    }
     for index in 0..schedulers.len() {
         if !schedulers[index].stands_at(index, schedulers.len()) {
             return false;
@@ -56,6 +64,8 @@ pub fn gather<N: RunNaming, J: Drop, S: Drop>(
 ) -> Result<LiveTotal<J, S>, GatherFault<N, J, S>>
     ensures all { OnOk result (IsAll schedulers.items) }
     ensures total { IfOk result (λ total. IsLiveTotal schedulers.items total.live (map ticket_of total.left.items)) }
+    ensures begun { IfOk result (λ total. total.begun ≡ sum_by begun_of schedulers.items) }
+    ensures ended { IfOk result (λ total. total.ended ≡ sum_by ended_of schedulers.items) }
     ensures refused { IfErr result (λ fault. IsRefused schedulers.items fault) }
 {
     if !is_all(schedulers.as_slice()) {
@@ -101,7 +111,9 @@ fn gather_into<N: RunNaming, J: Drop, S: Drop>(
     requires all { IsAll schedulers.items }
     requires placed { AllAt (λ index s. IsPlaced s) schedulers.items }
     requires room { IsRoomFor schedulers.items room }
-    ensures { IsLiveTotal schedulers.items result.live (map ticket_of result.left.items) }
+    ensures total { IsLiveTotal schedulers.items result.live (map ticket_of result.left.items) }
+    ensures begun { result.begun ≡ sum_by begun_of schedulers.items }
+    ensures ended { result.ended ≡ sum_by ended_of schedulers.items }
 {
     let Room {
         mut homes,
@@ -115,6 +127,8 @@ fn gather_into<N: RunNaming, J: Drop, S: Drop>(
     drain_all(homes, &mut left);
     LiveTotal {
         live: share.begun - share.ended,
+        begun: share.begun,
+        ended: share.ended,
         left,
     }
 }

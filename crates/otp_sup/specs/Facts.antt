@@ -224,3 +224,8 @@ pub record KeepsRules (t : TableView) : Type 0 where
   pub calls : calls_waiting t.bodies ≡ starts_waiting (state_of t.office.core).waiting
   -- each body is where its child is: at home, with the start that is to be sent, or with the process
   pub bodies : HasBodies t.office t.bodies
+
+-- what contracts see of a supervisor that is out of its lock
+pub record UnlockedView : Type 0 where
+  pub inbox : ℕ
+  pub table : TableView

@@ -31,6 +31,6 @@ pub use client::{Client, SplitFault, SubmitCause, SubmitFault};
 pub use letter::Letter;
 pub use office::Office;
 pub use port::{Flushed, Launched, MemoryPort, NewProcess, Port};
-pub use sup::Sup;
+pub use sup::{Sup, SupParts, Unlocked};
 pub use table::Table;
 pub use turns::{TurnAnswer, TurnFault};

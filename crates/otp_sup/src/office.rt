@@ -220,6 +220,22 @@ impl<N: WordsNaming> Office<N> {
         let _ = self.core.kept_restarts();
     }
 
+    /// Takes it apart, at the end: the core, and the seat that drew its process numbers.
+    pub fn into_parts(self) -> (Core, Owner<N>)
+        ensures core { result.0 ≡ self.core }
+        ensures owner { result.1 ≡ self.owner }
+    {
+        let Office {
+            core,
+            owner,
+            next: _,
+            sent: _,
+            first_slot: _,
+            of: _,
+        } = self;
+        (core, owner)
+    }
+
     /// The supervisor's children, in start order. Each has a slot of its own, of as many as there can be children.
     pub(crate) fn rows(&self) -> &[Row]
         ensures value { result.now ≡ (state_of self.now.core).rows }

@@ -1,6 +1,8 @@
 //! A table under its lock, beside its inbox.
-ghost use Rattle.std.specs.Prelude.{◌≡◌, ◌⊎◌, ◌<◌, ◌≤◌, [], Ok};
+ghost use Rattle.std.specs.Prelude.{◌≡◌, ◌⊎◌, ◌<◌, ◌≤◌, ◌↔◌, [], length, min, IsTrue, Ok};
 ghost use Rattle.otp_spec.specs.declared.limits.TheConstants.{MAX_READING};
+ghost use Rattle.otp_inbox.specs.Tokens.{count_limit};
+ghost use Rattle.otp_sup.specs.Facts.{KeepsRules};
 ghost use Rattle.otp_sup.specs.Flushes.{was_sent};
 ghost use Rattle.otp_sup.specs.Ports.{TookMore, taken_by};
 ghost use Rattle.otp_sup.specs.Turns.{IsFlushed, IsOfAnother, TurnedUnder};
@@ -11,10 +13,12 @@ use crate::port::{Flushed, Port};
 use crate::replies::copy_reply;
 use crate::table::Table;
 use crate::turns::{TurnAnswer, TurnFault};
-use otp_inbox::{Inbox, InboxNaming};
+use otp_core::Core;
+use otp_inbox::{Inbox, InboxNaming, Taker};
 use otp_rules::{Item, Reply};
-use otp_signals::{Signal, Words, WordsNaming};
+use otp_signals::{Owner, Signal, Words, WordsNaming};
 use std::alloc::{AllocError, Global};
+use std::marker::Model;
 use std::sync::{Mutex, Wait};
 
 /// A supervisor that threads share: a table under its lock, beside its inbox, so that whoever sends to it doesn't wait
@@ -102,6 +106,96 @@ impl<N: WordsNaming + InboxNaming, B: Drop> Sup<N, B> {
         let mut guard = self.table.lock(rt);
         let table = &mut *guard;
         table.take_stray()
+    }
+
+    /// Takes the table out of its lock, as the last turn left it. [`Unlocked::lock`] puts it back.
+    pub fn unlock(self) -> Unlocked<N, B>
+        ensures inbox { result.inbox ≡ self.inbox }
+        ensures rules { KeepsRules result.table }
+    {
+        let Sup { inbox, table } = self;
+        let table = table.into_inner();
+        table.keeps_rules();
+        Unlocked { inbox, table }
+    }
+}
+
+/// A supervisor that is out of its lock: its inbox, and its table as the last turn left it.
+#[derive(Drop)]
+pub struct Unlocked<N: WordsNaming + InboxNaming, B: Drop> {
+    inbox: Inbox<N, Item, Letter<B>>,
+    table: Table<N, B>,
+}
+
+impl<N: WordsNaming + InboxNaming, B: Drop> Model for Unlocked<N, B> {
+    ghost use Rattle.otp_sup.specs.Facts.{UnlockedView};
+
+    ghost Value = { UnlockedView };
+
+    ghost view = { λ u. record { inbox = u.inbox; table = u.table } };
+}
+
+/// What a supervisor is taken apart into.
+#[derive(Drop)]
+pub struct SupParts<N: WordsNaming + InboxNaming, B: Drop> {
+    pub inbox: Inbox<N, Item, Letter<B>>,
+    /// Its core, with its whole history.
+    pub core: Core,
+    /// The seat that drew its process numbers.
+    pub owner: Owner<N>,
+    /// The taker of its inbox.
+    pub taker: Taker<N, Item, Letter<B>>,
+}
+
+impl<N: WordsNaming + InboxNaming, B: Drop> Unlocked<N, B> {
+    /// Its inbox.
+    pub fn inbox(&self) -> &Inbox<N, Item, Letter<B>>
+        ensures { result.now ≡ self.now.inbox }
+    {
+        &self.inbox
+    }
+
+    /// Whether the table takes from this inbox. What lies under a lock is known by its type alone, which doesn't say it.
+    pub fn takes_from_inbox(&self) -> bool
+        ensures { IsTrue result ↔ (self.now.table.taker.inbox ≡ self.now.inbox) }
+    {
+        self.table.number() == self.inbox.number()
+    }
+
+    /// How many items it took from its inbox. The count stops at 2^62.
+    pub fn taken_count(&self) -> u64
+        ensures { result ≡ min (length self.now.table.taker.taken) count_limit }
+    {
+        self.table.taken_count()
+    }
+
+    /// Puts the table under a lock again.
+    pub fn lock(self) -> Sup<N, B>
+        ensures { result.inbox ≡ self.inbox }
+    {
+        let Unlocked { inbox, table } = self;
+        Sup {
+            inbox,
+            table: Mutex::new(table),
+        }
+    }
+
+    /// Takes it apart. The bodies that it has are dropped.
+    pub fn into_parts(self) -> SupParts<N, B>
+        ensures inbox { result.inbox ≡ self.inbox }
+        ensures core { result.core ≡ self.table.office.core }
+        ensures owner { result.owner ≡ self.table.office.owner }
+        ensures taker { result.taker ≡ self.table.taker }
+    {
+        let Unlocked { inbox, table } = self;
+        let (office, taker) = table.into_parts();
+        let (core, owner) = office.into_parts();
+        SupParts {
+            inbox,
+            core,
+            owner,
+            taker,
+        }
     }
 }
 

@@ -1,5 +1,6 @@
 //! What lies under a supervisor's lock.
-ghost use Rattle.std.specs.Prelude.{◌≡◌, ◌+◌, ◌≤◌, [], true, false, is_some, MatchOption, None, Some};
+ghost use Rattle.std.specs.Prelude.{◌≡◌, ◌+◌, ◌≤◌, [], true, false, is_some, length, min, MatchOption, None, Some};
+ghost use Rattle.otp_inbox.specs.Tokens.{count_limit};
 ghost use Rattle.std.specs.List.{list_any};
 ghost use Rattle.otp_spec.specs.declared.limits.TheConstants.{MAX_READING};
 ghost use Rattle.otp_core.specs.View.{state_of};
@@ -171,6 +172,27 @@ impl<N: WordsNaming + InboxNaming, B: Drop> Table<N, B> {
         let (flushed, back) = self.office.flush_one(words, body, port);
         come_back(&mut self.bodies, slot, at, back);
         flushed
+    }
+
+    /// How many items it took from its inbox. The count stops at 2^62.
+    pub fn taken_count(&self) -> u64
+        ensures { result ≡ min (length self.now.taker.taken) count_limit }
+    {
+        self.taker.taken_count()
+    }
+
+    /// Takes it apart, at the end: its office, and the taker of its inbox. The bodies that it has are dropped.
+    pub fn into_parts(self) -> (Office<N>, Taker<N, Item, Letter<B>>)
+        ensures office { result.0 ≡ self.office }
+        ensures taker { result.1 ≡ self.taker }
+    {
+        let Table {
+            office,
+            taker,
+            bodies: _,
+            of: _,
+        } = self;
+        (office, taker)
     }
 
     /// The kept answer to the call with this number.

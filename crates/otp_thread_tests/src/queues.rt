@@ -116,10 +116,16 @@ fn two_threads<N: RunNaming + Send, R: Threads + Abort + Sync>(
     let mut schedulers = Vec::new(alloc);
     schedulers.push(first)?;
     schedulers.push(second)?;
-    let Ok(LiveTotal { live, left }) = gather(alloc, schedulers) else {
+    let Ok(total) = gather(alloc, schedulers) else {
         panic!(rt; "all schedulers are back");
     };
-    assert_eq!(rt; live, MANY);
+    let LiveTotal {
+        live,
+        begun,
+        ended,
+        left,
+    } = total;
+    assert_eq!(rt; (live, begun, ended), (MANY, MANY, 0));
     let mut seen = Vec::from_elem(alloc, false, MANY as usize)?;
     for processes in [mine, others, left] {
         for process in processes {

@@ -13,7 +13,7 @@ take_all_apart-requires-clause-placed g c = each_placed _ c.requires.placed
 
 pub take_all_apart-requires-clause-room : goal.take_all_apart-requires-clause-room
 take_all_apart-requires-clause-room g c =
-    let few = few_of_all _ c.requires.all c.requires.placed in
+    let few = few_of_all _ c.requires.all.1 c.requires.placed in
     let empty = ap (λ l. length l) c.requires.room.0 in
     let room = c.requires.room.1 in
     let ok = c.args.room.homes.ok.0 in
@@ -21,7 +21,7 @@ take_all_apart-requires-clause-room g c =
 
 pub take_all_apart-requires-clause-room_for_ways : goal.take_all_apart-requires-clause-room_for_ways
 take_all_apart-requires-clause-room_for_ways g c =
-    let few = few_of_all _ c.requires.all c.requires.placed in
+    let few = few_of_all _ c.requires.all.1 c.requires.placed in
     let empty = ap (λ l. length l) c.requires.room.2 in
     let room = c.requires.room.3 in
     let ok = c.args.room.ways.ok.0 in
@@ -31,14 +31,14 @@ pub absorb_all-requires-clause-awaiting : goal.absorb_all-requires-clause-awaiti
 absorb_all-requires-clause-awaiting g c =
     let homes = c.take_all_apart.ensures.homes ∙ ap (λ l. l ++ map own_of c.args.schedulers.items) c.requires.room.0 in
     let ways = c.take_all_apart.ensures.ways ∙ ap (λ l. l ++ all_ways c.args.schedulers.items) c.requires.room.2 in
-    subst (λ (z : List OwnState × List VictimState). AllAt (IsAwaiting z.1) z.0) (λ i. (sym homes i, sym ways i)) (all_awaiting _ c.requires.all c.requires.placed)
+    subst (λ (z : List OwnState × List VictimState). AllAt (IsAwaiting z.1) z.0) (λ i. (sym homes i, sym ways i)) (all_awaiting _ c.requires.all.1 c.requires.placed)
 
 pub absorb_all-requires-clause-inside : goal.absorb_all-requires-clause-inside
 absorb_all-requires-clause-inside g c =
     let homes = c.take_all_apart.ensures.homes ∙ ap (λ l. l ++ map own_of c.args.schedulers.items) c.requires.room.0 in
     let ways = c.take_all_apart.ensures.ways ∙ ap (λ l. l ++ all_ways c.args.schedulers.items) c.requires.room.2 in
     let many = ap (λ l. length l) homes ∙ length-map c.args.schedulers.items own_of in
-    subst (λ (z : ℕ × List VictimState). Each (λ v. v.index < z.0) z.1) (λ i. (sym many i, sym ways i)) (all_inside _ c.requires.all c.requires.placed)
+    subst (λ (z : ℕ × List VictimState). Each (λ v. v.index < z.0) z.1) (λ i. (sym many i, sym ways i)) (all_inside _ c.requires.all.1 c.requires.placed)
 
 pub drain_all-requires-clause-counted : goal.drain_all-requires-clause-counted
 drain_all-requires-clause-counted g c = each_counted _ c.count_all.ensures.counted
@@ -59,8 +59,8 @@ overflow_sub-result g c =
     let ways = c.take_all_apart.ensures.ways ∙ ap (λ l. l ++ all_ways c.args.schedulers.items) c.requires.room.2 in
     no_more_ended c.args.schedulers.items _ _ _ _ homes ways c.take_all_apart.ensures.kept c.absorb_all.ensures.absorbed c.count_all.ensures.same _ _ c.requires.room.4 c.drain_all.ensures _ _ c.requires.room.6 c.requires.room.7
 
-pub returns : goal.returns
-returns g c =
+pub returns-clause-total : goal.returns-clause-total
+returns-clause-total g c =
     let homes = c.take_all_apart.ensures.homes ∙ ap (λ l. l ++ map own_of c.args.schedulers.items) c.requires.room.0 in
     let ways = c.take_all_apart.ensures.ways ∙ ap (λ l. l ++ all_ways c.args.schedulers.items) c.requires.room.2 in
     total_told c.args.schedulers.items _ _ _ _ homes ways c.take_all_apart.ensures.kept c.absorb_all.ensures.absorbed c.count_all.ensures.same _ _ c.requires.room.4 c.drain_all.ensures _ _ c.requires.room.6 c.requires.room.7
