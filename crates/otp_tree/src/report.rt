@@ -1,5 +1,5 @@
 //! What a tree was when it was taken apart.
-ghost use Rattle.std.specs.Prelude.{◌≡◌, length, IfNone, IfSome};
+ghost use Rattle.std.specs.Prelude.{◌≡◌, ◌-◌, ◌^◌, length, min, IfNone, IfSome};
 ghost use Rattle.otp_core.specs.View.{state_of};
 ghost use Rattle.otp_rules.specs.Needs.{numbers_of};
 ghost use Rattle.otp_tree.specs.Reports.{last_reason};
@@ -22,20 +22,21 @@ impl TableReport {
     pub fn starts(&self) -> u64
         ensures { result ≡ length (numbers_of self.now.core.history) }
     {
+        let history = self.core.history();
         let mut starts = 0;
-        for event in self.core.history() {
-            if event.number.is_some() {
+        for place in 0..history.len() {
+            if history.get(place).number.is_some() {
                 starts += 1;
             }
         }
         starts
     }
 
-    /// How many restarts it made since its last opening.
+    /// How many restarts it made since its last opening: exactly, below 2^64.
     pub fn restarts(&self) -> u64
-        ensures { result ≡ length (state_of self.now.core).stamps }
+        ensures { result ≡ min (length (state_of self.now.core).stamps) (2 ^ 64 - 1) }
     {
-        self.core.restarts().len() as u64
+        self.core.count_restarts()
     }
 
     /// The reason of its last end. None where it runs, or was never opened.
