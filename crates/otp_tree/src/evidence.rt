@@ -6,7 +6,7 @@ ghost use Rattle.otp_run.specs.Lists.{AllAt};
 ghost use Rattle.otp_tree.specs.Tellings.{Agrees, AllAgree, AreSo, EndedSo, IsMismatch, IsSo, told_end};
 
 use crate::report::TableReport;
-use otp_core::Core;
+use otp_core::{Core, History};
 use otp_reason::{Note, Reason};
 use otp_rules::{Event, Item, Kind, Phase, SupEnd};
 
@@ -33,12 +33,12 @@ pub(crate) fn find_mismatch(tables: &[TableReport]) -> Option<Mismatch>
 }
 
 /// The first event of a history that tells an end that isn't so.
-fn find_untrue(history: &[Event], tables: &[TableReport]) -> Option<usize>
-    ensures none { IfNone result (AllAt (λ _ e. IsSo tables.now e) history.now) }
-    ensures found { IfSome result (λ place. MatchOption (slice_get history.now place) ⊥ (λ event. ¬ (IsSo tables.now event))) }
+fn find_untrue(history: &History, tables: &[TableReport]) -> Option<usize>
+    ensures none { IfNone result (AllAt (λ _ e. IsSo tables.now e) history.now.events) }
+    ensures found { IfSome result (λ place. MatchOption (slice_get history.now.events place) ⊥ (λ event. ¬ (IsSo tables.now event))) }
 {
     for place in 0..history.len() {
-        if !is_so(&history[place], tables) {
+        if !is_so(&history.get(place), tables) {
             return Some(place);
         }
     }

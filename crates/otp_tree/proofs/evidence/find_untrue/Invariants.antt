@@ -4,4 +4,4 @@ use Rattle.otp_tree.specs.Tellings.{IsSo}
 use Rattle.otp_tree.proofs.evidence.find_untrue.Given as goal
 
 abbrev pub invariant-loop-place : goal.invariant-loop-place
-invariant-loop-place l = AllAt (λ k e. k < l.place → IsSo l.fn.tables e) l.fn.history
+invariant-loop-place l = AllAt (λ k e. k < l.place → IsSo l.fn.tables e) l.fn.history.events
