@@ -1,5 +1,6 @@
 // What threads carry is Send, and what they share is Sync, also as seen from a crate above.
 use otp_bridge::{BoxedSubsystem, Bridge};
+use otp_counts::{CountsPass, Publisher};
 use otp_inbox::{Inbox, InboxNaming, Sender, Taker};
 use otp_job::{After, Body, BoxedJob, EndNote, Process, Spent, TableNo, Ticket};
 use otp_rules::Item;
@@ -111,4 +112,9 @@ pub fn bodies_are_send(
     is_send(bodies);
     is_send(port);
     is_send(fault);
+}
+
+pub fn counts_are_send(publisher: &Publisher, pass: &CountsPass) {
+    is_send(publisher);
+    is_send(pass);
 }
