@@ -12,6 +12,7 @@ mod inbox;
 mod jobs;
 mod report;
 mod signal_words;
+mod supervisors;
 
 use jobs::{Idle, JOBS};
 use otp_job::{Body, BoxedJob, Process};
@@ -25,13 +26,14 @@ fn main(rt: HostRuntime) -> io::Result<ExitCode> {
     let threads = words.next().and_then(|word| word.parse::<usize>().ok());
     let count = words.next().and_then(|word| word.parse::<u64>().ok());
     let (Some(work), Some(threads), Some(count)) = (work, threads, count) else {
-        eprintln!(rt; "usage: otp_bench core|inbox|puts|turns|words THREADS COUNT")?;
+        eprintln!(rt; "usage: otp_bench core|inbox|puts|supervisors|turns|words THREADS COUNT")?;
         return Ok(ExitCode::from(2));
     };
     match work.as_str() {
         "core" => core_alone::measure(&rt, rt.alloc(), count)?,
         "inbox" => inbox::measure(&rt, rt.alloc(), threads, count)?,
         "words" => signal_words::measure(&rt, rt.alloc(), threads, count)?,
+        "supervisors" => supervisors::measure(&rt, rt.alloc(), threads, count)?,
         "puts" => jobs::measure_puts(&rt, rt.alloc(), count)?,
         "turns" => {
             let mut processes = Vec::with_capacity(rt.alloc(), JOBS)?;

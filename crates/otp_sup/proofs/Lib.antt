@@ -12,3 +12,4 @@ pub mod Placed
 pub mod Heeding
 pub mod Homes
 pub mod Flushing
+pub mod Sent

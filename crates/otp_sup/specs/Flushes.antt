@@ -1,5 +1,5 @@
 -- What the sending of an order does.
-use Rattle.std.specs.Prelude.{◌≡◌, ℕ, ◌+◌, ◌<◌, List, [], ◌∷◌, ◌++◌, Option, Some, None, Bool, true, false}
+use Rattle.std.specs.Prelude.{◌≡◌, ℕ, ◌+◌, ◌<◌, List, [], ◌∷◌, ◌++◌, Option, Some, None, Bool, true, false, length}
 use Rattle.otp_reason.specs.declared.note.Note.{Note}
 use Rattle.otp_reason.specs.declared.note.Note.TheVariants as note
 use Rattle.otp_reason.specs.declared.reason.Reason.{Reason}
@@ -9,7 +9,7 @@ use Rattle.otp_rules.specs.declared.ending.SupEnd.{SupEnd}
 use Rattle.otp_rules.specs.declared.event.Effect.{Effect}
 use Rattle.otp_rules.specs.declared.event.Effect.TheVariants as effect
 use Rattle.otp_rules.specs.State.{own_number}
-use Rattle.otp_core.specs.View.{state_of}
+use Rattle.otp_core.specs.View.{View, state_of}
 use Rattle.otp_signals.specs.declared.signal.Signal.{Signal}
 use Rattle.otp_signals.specs.declared.signal.Signal.TheVariants as signal
 use Rattle.otp_signals.specs.Signals.{word_of}
@@ -120,6 +120,29 @@ pub record SentNone (old new : OfficeView) : Type 0 where
   pub core : new.core ≡ old.core
   pub first_slot : new.first_slot ≡ old.first_slot
   pub refused : IsRefused how old new
+
+-- what a port has taken once this order was sent too, of a supervisor in this state whose slots begin here
+abbrev pub after_order : View → ℕ → Effect → Taken → Taken
+after_order core first (effect.Start _ n) t = record t { processes = t.processes ++ launched n (first + slot_of (state_of core).rows n) true ∷ [] }
+after_order core first (effect.Ask _ n) t = t
+after_order core first (effect.Kill _ n) t = t
+after_order core first (effect.Reply _) t = t
+after_order core first effect.Ready t = record t { notes = t.notes ++ note.Up (own_number (state_of core).phase) ∷ [] }
+after_order core first (effect.End e) t = record t { notes = t.notes ++ end_note (own_number (state_of core).phase) e ∷ [] }
+
+-- and once all of these were, in this order
+abbrev pub after_orders : View → ℕ → List Effect → Taken → Taken
+after_orders core first [] t = t
+after_orders core first (x ∷ xs) t = after_orders core first xs (after_order core first x t)
+
+-- the first orders left the outbox, one by one, and the port took exactly what they put and tell
+pub record SentOrders (old new : OfficeView) (before after : Taken) : Type 0 where
+  pub orders : List Effect
+  pub outbox : old.outbox ≡ orders ++ new.outbox
+  pub count : new.sent ≡ old.sent + length orders
+  pub core : new.core ≡ old.core
+  pub first_slot : new.first_slot ≡ old.first_slot
+  pub took : after ≡ after_orders old.core old.first_slot orders before
 
 abbrev pub was_sent : Flushed → Bool
 was_sent flushed.Empty = false

@@ -9,6 +9,8 @@ use Rattle.otp_rules.specs.declared.work.Phase.{Phase}
 use Rattle.otp_rules.specs.declared.work.Phase.TheVariants.{Unopened, Open, Ended}
 use Rattle.otp_rules.specs.State.{State, is_over, own_number}
 use Rattle.otp_rules.specs.Needs.{needs_number, numbers_of}
+use Rattle.otp_rules.specs.declared.call.Reply.{Reply}
+use Rattle.otp_rules.specs.Run.{reply_of}
 use Rattle.otp_rules.specs.Step.{is_late, step}
 use Rattle.otp_core.specs.View.{state_of}
 use Rattle.otp_signals.specs.declared.signal.Signal.{Signal}
@@ -20,8 +22,11 @@ use Rattle.otp_sup.specs.declared.turns.TurnAnswer.TheVariants as answer
 use Rattle.otp_sup.specs.declared.turns.TurnFault.{TurnFault}
 use Rattle.otp_sup.specs.declared.turns.TurnFault.TheVariants as fault
 use Rattle.otp_sup.specs.Letters.{carries_body, one_if}
+use Rattle.otp_sup.specs.declared.bodies.Kept.{Kept}
 use Rattle.otp_sup.specs.Bodies.{bodies_after, bodies_in}
 use Rattle.otp_sup.specs.Facts.{KeepsRules, OfficeView, TableView, orders_in}
+use Rattle.otp_sup.specs.Flushes.{SentOrders}
+use Rattle.otp_sup.specs.Ports.{Taken}
 
 abbrev pub is_told : Signal → Bool
 is_told signal.None = false
@@ -168,3 +173,29 @@ pub record IsFlushed (refusals later : ℕ) : Type 0 where
   pub table : TableView
   pub rules : KeepsRules table
   pub sent : (table.office.outbox ≡ []) ⊎ (refusals < later)
+
+-- one table of this inbox, which kept the rules, had such a turn, and then its first orders were sent, until none was left
+-- or the port refused: the port took exactly what those put and tell. What is left under the lock keeps the rules
+pub record LockedTurn (inbox number reading : ℕ) (told : Signal) (result : Result TurnAnswer TurnFault) (before after : Taken) (refusals later : ℕ) : Type 0 where
+  pub old : TableView
+  pub turned : TableView
+  pub new : TableView
+  pub rules : KeepsRules old
+  pub of_inbox : old.taker.inbox ≡ inbox
+  pub turn : Turned number reading told old turned result
+  pub sent : SentOrders turned.office new.office before after
+  pub left : (new.office.outbox ≡ []) ⊎ (refusals < later)
+  pub taker : new.taker ≡ turned.taker
+  pub kept : KeepsRules new
+
+-- this is what a table that keeps the rules has kept as the answer to the call, or it has kept none
+pub record HasReply (call : ℕ) (found : Option Reply) : Type 0 where
+  pub table : TableView
+  pub rules : KeepsRules table
+  pub is : reply_of call (state_of table.office.core).replies ≡ found
+
+-- a body was found exactly where a table that kept the rules had such a one
+pub record HadBody (test : Kept → Bool) (found : Bool) : Type 0 where
+  pub table : TableView
+  pub rules : KeepsRules table
+  pub is : found ≡ list_any test table.bodies

@@ -1,11 +1,12 @@
 //! A table under its lock, beside its inbox.
-ghost use Rattle.std.specs.Prelude.{◌≡◌, ◌⊎◌, ◌<◌, ◌≤◌, ◌↔◌, [], length, min, IsTrue, Ok};
+ghost use Rattle.std.specs.Prelude.{◌≡◌, ◌⊎◌, ◌<◌, ◌≤◌, ◌↔◌, [], is_some, length, min, IfOk, IsTrue, Ok};
 ghost use Rattle.otp_spec.specs.declared.limits.TheConstants.{MAX_READING};
 ghost use Rattle.otp_inbox.specs.Tokens.{count_limit};
+ghost use Rattle.otp_sup.specs.Bodies.{is_left_of, is_stray};
 ghost use Rattle.otp_sup.specs.Facts.{KeepsRules};
-ghost use Rattle.otp_sup.specs.Flushes.{was_sent};
+ghost use Rattle.otp_sup.specs.Flushes.{SentOrders, was_sent};
 ghost use Rattle.otp_sup.specs.Ports.{TookMore, taken_by};
-ghost use Rattle.otp_sup.specs.Turns.{IsFlushed, IsOfAnother, TurnedUnder};
+ghost use Rattle.otp_sup.specs.Turns.{HadBody, HasReply, IsFlushed, IsOfAnother, LockedTurn, TurnedUnder};
 ghost use Rattle.otp_sup.specs.declared.turns.TurnAnswer.TheVariants as answer;
 
 use crate::letter::Letter;
@@ -65,6 +66,8 @@ impl<N: WordsNaming + InboxNaming, B: Drop> Sup<N, B> {
         ensures turned { TurnedUnder self.now.inbox number reading told result ⊎ ((result ≡ Ok answer.Pending) × IsOfAnother self.now.inbox) }
         ensures flushed { IsFlushed (P.refusals port.old) (P.refusals port.new) ⊎ IsOfAnother self.now.inbox }
         ensures port { TookMore (taken_by (P.processes port.old) (P.notes port.old)) (taken_by (P.processes port.new) (P.notes port.new)) (P.refusals port.old) (P.refusals port.new) }
+        // All of this of one table: it had the turn, and the port took what its first orders put and tell.
+        ensures one_table { LockedTurn self.now.inbox number reading told result (taken_by (P.processes port.old) (P.notes port.old)) (taken_by (P.processes port.new) (P.notes port.new)) (P.refusals port.old) (P.refusals port.new) ⊎ ((result ≡ Ok answer.Pending) × IsOfAnother self.now.inbox × (taken_by (P.processes port.new) (P.notes port.new) ≡ taken_by (P.processes port.old) (P.notes port.old))) }
     {
         let mut guard = self.table.lock(rt);
         let table = &mut *guard;
@@ -79,15 +82,19 @@ impl<N: WordsNaming + InboxNaming, B: Drop> Sup<N, B> {
         answer
     }
 
-    /// A copy of the kept answer to the call with this number. None where it wasn't answered yet.
+    /// A copy of the kept answer to the call with this number. None where it wasn't answered yet. As of each answer,
+    /// contracts say that it is that of a table which keeps the rules.
     pub fn reply<R: Wait>(
         &self,
         rt: &R,
         alloc: Global,
         call: u64,
-    ) -> Result<Option<Reply>, AllocError> {
+    ) -> Result<Option<Reply>, AllocError>
+        ensures { IfOk result (λ found. HasReply call found) }
+    {
         let guard = self.table.lock(rt);
         let table = &*guard;
+        table.keeps_rules();
         match table.reply(call) {
             Some(reply) => Ok(Some(copy_reply(alloc, reply)?)),
             None => Ok(None),
@@ -95,16 +102,22 @@ impl<N: WordsNaming + InboxNaming, B: Drop> Sup<N, B> {
     }
 
     /// The body that the call with this number brought: see [`Table::take_box`].
-    pub fn take_box<R: Wait>(&self, rt: &R, call: u64) -> Option<B> {
+    pub fn take_box<R: Wait>(&self, rt: &R, call: u64) -> Option<B>
+        ensures { HadBody (is_left_of call) (is_some result) }
+    {
         let mut guard = self.table.lock(rt);
         let table = &mut *guard;
+        table.keeps_rules();
         table.take_box(call)
     }
 
     /// A body that came with a note that told nothing: see [`Table::take_stray`].
-    pub fn take_stray<R: Wait>(&self, rt: &R) -> Option<B> {
+    pub fn take_stray<R: Wait>(&self, rt: &R) -> Option<B>
+        ensures { HadBody is_stray (is_some result) }
+    {
         let mut guard = self.table.lock(rt);
         let table = &mut *guard;
+        table.keeps_rules();
         table.take_stray()
     }
 
@@ -213,6 +226,8 @@ fn flush_all<N: WordsNaming + InboxNaming, B: Drop, P: Port<B>>(
 )
     ensures more { TookMore (taken_by (P.processes port.old) (P.notes port.old)) (taken_by (P.processes port.new) (P.notes port.new)) (P.refusals port.old) (P.refusals port.new) }
     ensures sent { (table.new.office.outbox ≡ []) ⊎ (P.refusals port.old < P.refusals port.new) }
+    ensures orders { SentOrders table.old.office table.new.office (taken_by (P.processes port.old) (P.notes port.old)) (taken_by (P.processes port.new) (P.notes port.new)) }
+    ensures taker { table.new.taker ≡ table.old.taker }
 {
     let mut flushed = table.flush_one(words, port);
     while was_sent(flushed) {

@@ -1,8 +1,9 @@
 // Calls that two clients send from threads of their own, while a third thread takes turns of the supervisor.
 ghost use Rattle.std.specs.Prelude.{◌≡◌};
 
+use otp_core::History;
 use otp_inbox::{InboxNaming, UnnamedInbox};
-use otp_rules::{Call, CountsNow, Item, Reply};
+use otp_rules::{Call, CountsNow, Item, Kind, Reply};
 use otp_signals::{OpenWords, Signal, Words, WordsNaming};
 use otp_spec::SupFlags;
 use otp_sup::{
@@ -68,20 +69,49 @@ fn clients_in<N: WordsNaming + InboxNaming + Send + Sync, R: Threads + Wait + Ab
     let opened = sup.turn(rt, &words, &mut port, 0, 0, Signal::None);
     assert_eq!(rt; opened, Ok(TurnAnswer::Opened));
     let second = split(rt, &mut first, &words, &sup)?;
-    let (sup, words) = (&sup, &words);
+    let (shared, lent) = (&sup, &words);
     let (sent, port) = thread::join(
         rt,
         move || thread::join(
             rt,
-            move || send_all(rt, alloc, sup, words, first),
-            move || send_all(rt, alloc, sup, words, second),
+            move || send_all(rt, alloc, shared, lent, first),
+            move || send_all(rt, alloc, shared, lent, second),
         ),
-        move || serve(rt, sup, words, port),
+        move || serve(rt, shared, lent, port),
     );
     assert!(rt; port.processes.is_empty());
-    let (first, second) = sent;
-    answered(rt, alloc, sup, first?)?;
-    answered(rt, alloc, sup, second?)
+    let (first, second) = (sent.0?, sent.1?);
+    answered(rt, alloc, &sup, first.as_slice())?;
+    answered(rt, alloc, &sup, second.as_slice())?;
+    let mut taken = Vec::new(alloc);
+    for _ in 0..2 * CALLS + 1 {
+        taken.push(0)?;
+    }
+    let parts = sup.unlock().into_parts();
+    assert!(rt; count_taken(parts.core.history(), taken.as_mut_slice()));
+    assert!(rt; are_once(taken.as_slice(), first.as_slice()));
+    assert!(rt; are_once(taken.as_slice(), second.as_slice()));
+    assert_eq!(rt; parts.core.history().len() as u64, 2 * CALLS + 1);
+    Ok(())
+}
+
+// Counts how often the history has each call, by the call's number. Behind its opening it has no other event.
+fn count_taken(history: &History, taken: &mut [u64]) -> bool {
+    for place in 1..history.len() {
+        let Kind::Took(Item::Call(number, Call::CountChildren)) = history.get(place).kind else {
+            return false;
+        };
+        let Some(count) = taken.get_mut(number as usize) else {
+            return false;
+        };
+        *count = count.saturating_add(1);
+    }
+    true
+}
+
+// Each of these calls was taken once.
+fn are_once(taken: &[u64], calls: &[u64]) -> bool {
+    calls.iter().all(|call| taken.get(*call as usize) == Some(&1))
 }
 
 // Another client with half of the numbers; the first can't have more than it has, and sends no body that no call wants.
@@ -158,11 +188,11 @@ fn answered<N: WordsNaming + InboxNaming, R: Wait + Abort>(
     rt: &R,
     alloc: Global,
     sup: &Sup<N, u64>,
-    numbers: Vec<u64>,
+    numbers: &[u64],
 ) -> Result<(), Fail> {
     assert_eq!(rt; numbers.len() as u64, CALLS);
     for number in numbers {
-        assert!(rt; is_count(sup.reply(rt, alloc, number)?));
+        assert!(rt; is_count(sup.reply(rt, alloc, *number)?));
     }
     Ok(())
 }

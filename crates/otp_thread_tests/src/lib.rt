@@ -23,6 +23,8 @@ mod signals;
 #[cfg(test)]
 mod supervisors;
 #[cfg(test)]
+mod tables;
+#[cfg(test)]
 mod tally;
 #[cfg(test)]
 mod tokens;

@@ -1,4 +1,5 @@
-use Rattle.std.proofs.Common.{length}
+use Rattle.std.proofs.Common.{◌≡◌, length}
+use Rattle.otp_sup.specs.Flushes.{SentOrders}
 use Rattle.otp_sup.specs.Ports.{TookMore, taken_by}
 use Rattle.otp_sup.proofs.More.{IsLast, left_after}
 use Rattle.otp_sup.proofs.sup.flush_all.Given as goal
@@ -8,6 +9,8 @@ invariant-loop-table g l =
     record {
       more : TookMore (taken_by (g.P.Port.processes l.fn.port) (g.P.Port.notes l.fn.port)) (taken_by (g.P.Port.processes l.port) (g.P.Port.notes l.port))
           (g.P.Port.refusals l.fn.port) (g.P.Port.refusals l.port);
+      orders : SentOrders l.fn.table.office l.table.office (taken_by (g.P.Port.processes l.fn.port) (g.P.Port.notes l.fn.port)) (taken_by (g.P.Port.processes l.port) (g.P.Port.notes l.port));
+      taker : l.table.taker ≡ l.fn.table.taker;
       last : IsLast l.flushed l.table.office.outbox (g.P.Port.refusals l.fn.port) (g.P.Port.refusals l.port);
     }
 

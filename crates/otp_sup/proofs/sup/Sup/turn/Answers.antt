@@ -1,6 +1,21 @@
-use Rattle.std.proofs.Common.{refl, arith}
+use Rattle.std.proofs.Common.{refl, arith, inl, rules}
 use Rattle.otp_sup.proofs.More.{took_none}
 use Rattle.otp_sup.proofs.sup.Sup.turn.Goals as goal
+
+pub returns-clause-one_table : goal.returns-clause-one_table
+returns-clause-one_table g c =
+    inl (record {
+      old = c.deref_mut-table.result.now;
+      turned = c.turn-answer.new.self;
+      new = c.flush_all.new.table;
+      rules = c.keeps_rules.ensures;
+      of_inbox = search rules;
+      turn = c.turn-answer.ensures;
+      sent = c.flush_all.ensures.orders;
+      left = c.flush_all.ensures.sent;
+      taker = c.flush_all.ensures.taker;
+      kept = c.keeps_rules-2.ensures;
+    })
 
 pub returns-then-number-clause-port : goal.returns-then-number-clause-port
 returns-then-number-clause-port g c = took_none _ _ _ _ refl (omega arith)
