@@ -10,6 +10,7 @@ use Rattle.otp_rules.specs.declared.event.Event.{Event}
 use Rattle.otp_rules.specs.declared.event.Item.{Item}
 use Rattle.otp_rules.specs.declared.event.Kind.{Kind}
 use Rattle.otp_rules.specs.declared.event.Kind.TheVariants as kind
+use Rattle.otp_rules.specs.Counts.{counts_of}
 use Rattle.otp_rules.specs.Effects.{is_reply}
 use Rattle.otp_rules.specs.Homes.{is_ended, is_home}
 use Rattle.otp_rules.specs.Needs.{IsLawfulHistory, numbers_of}
@@ -23,6 +24,7 @@ use Rattle.otp_table.specs.declared.row.Row.{Row}
 use Rattle.otp_table.specs.declared.row.RowState.{RowState}
 use Rattle.otp_table.specs.Rows.{has_process}
 use Rattle.otp_core.specs.View.{View, state_of}
+use Rattle.otp_counts.specs.Counts.{EndsWith, Publishing}
 use Rattle.otp_inbox.specs.Tokens.{TakerState}
 use Rattle.otp_signals.specs.declared.view.Holding.{Holding}
 use Rattle.otp_signals.specs.declared.signal.Signal.{Signal}
@@ -166,6 +168,8 @@ pub record TableView : Type 0 where
   pub taker : TakerState Item
   -- whose each of its bodies is, and where
   pub bodies : List Kept
+  -- its counts as they were published
+  pub counts : Publishing
 
 -- a child has this process, and no note of the process's end waits
 pub record IsRunning (s : State) (p : ℕ) (row : Row) : Type 0 where
@@ -214,6 +218,8 @@ pub record IsTable (t : TableView) : Type 0 where
   -- each start call that waits has its body with it, in their order
   pub calls : calls_waiting t.bodies ≡ starts_waiting (state_of t.office.core).waiting
   pub bodies : HasBodies t.office t.bodies
+  -- what was published last is what it counts
+  pub counts : EndsWith (counts_of (state_of t.office.core)) t.counts.published
 
 -- what holds whenever the lock is free
 pub record KeepsRules (t : TableView) : Type 0 where
@@ -224,6 +230,8 @@ pub record KeepsRules (t : TableView) : Type 0 where
   pub calls : calls_waiting t.bodies ≡ starts_waiting (state_of t.office.core).waiting
   -- each body is where its child is: at home, with the start that is to be sent, or with the process
   pub bodies : HasBodies t.office t.bodies
+  -- the counts that were published last are those of its children (count_children)
+  pub counts : EndsWith (counts_of (state_of t.office.core)) t.counts.published
 
 -- what contracts see of a supervisor that is out of its lock
 pub record UnlockedView : Type 0 where

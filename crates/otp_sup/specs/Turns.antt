@@ -13,6 +13,8 @@ use Rattle.otp_rules.specs.declared.call.Reply.{Reply}
 use Rattle.otp_rules.specs.Run.{reply_of}
 use Rattle.otp_rules.specs.Step.{is_late, step}
 use Rattle.otp_core.specs.View.{state_of}
+use Rattle.otp_rules.specs.Counts.{counts_of}
+use Rattle.otp_counts.specs.Counts.{after_publish}
 use Rattle.otp_signals.specs.declared.signal.Signal.{Signal}
 use Rattle.otp_signals.specs.declared.view.Holding.{Holding}
 use Rattle.otp_signals.specs.Holdings.{after_draw}
@@ -103,6 +105,10 @@ IsRefusal o fault.OutOfMemory = ⊤
 IsRefusal o fault.Exhausted = o.owner.quota ≡ 0
 IsRefusal o fault.WrongNumber = ⊥
 
+-- what count_children would answer after the event was published, once
+abbrev pub Published : TableView → TableView → Type 0
+Published old new = new.counts ≡ after_publish (counts_of (state_of new.office.core)) old.counts
+
 -- what was asked of the inbox: the item that came is the event, or it was found empty
 pub record Took (reading : ℕ) (old new : TableView) : Type 0 where
   pub item : Item
@@ -112,11 +118,13 @@ pub record Took (reading : ℕ) (old new : TableView) : Type 0 where
   pub bodies : new.bodies ≡ bodies_after (state_of old.office.core) (state_of new.office.core) (kind.Took item) old.bodies
   -- exactly the body that came with the item is more
   pub count : bodies_in new.bodies ≡ bodies_in old.bodies + one_if (carries_body item)
+  pub counts : Published old new
 
 pub record FoundEmpty (old new : TableView) : Type 0 where
   pub office : Readied old.office new.office
   pub taker : new.taker ≡ record old.taker { empty_finds = old.taker.empty_finds + 1 }
   pub bodies : new.bodies ≡ old.bodies
+  pub counts : new.counts ≡ old.counts
 
 abbrev pub idle_answer : Bool → TurnAnswer
 idle_answer true = answer.Ended
@@ -139,11 +147,13 @@ pub record Did (reading : ℕ) (kind : Kind) (old new : TableView) (said : TurnA
   pub taker : new.taker ≡ old.taker
   pub bodies : new.bodies ≡ bodies_after (state_of old.office.core) (state_of new.office.core) kind old.bodies
   pub count : bodies_in new.bodies ≡ bodies_in old.bodies
+  pub counts : Published old new
 
 pub record Refused (old new : TableView) : Type 0 where
   pub office : Readied old.office new.office
   pub taker : new.taker ≡ old.taker
   pub bodies : new.bodies ≡ old.bodies
+  pub counts : new.counts ≡ old.counts
 
 -- the first of the eleven cases that applies
 abbrev pub Turned : ℕ → ℕ → Signal → TableView → TableView → Result TurnAnswer TurnFault → Type 0

@@ -5,7 +5,9 @@ ghost use Rattle.otp_core.specs.Opened.{IsOpenFault};
 ghost use Rattle.otp_core.specs.View.{state_of};
 ghost use Rattle.otp_spec.specs.Supervisor.{supervisor_fault};
 ghost use Rattle.otp_rules.specs.State.{own_number, is_over};
+ghost use Rattle.otp_rules.specs.Counts.{counts_of};
 ghost use Rattle.otp_rules.specs.Run.{reply_of};
+ghost use Rattle.otp_counts.specs.Words.{AreFew};
 ghost use Rattle.otp_signals.specs.Lists.{EachBetween};
 ghost use Rattle.otp_sup.specs.Facts.{item_of, new_office, IsOpening, KeepsOffice};
 ghost use Rattle.otp_sup.specs.Bodies.{is_any_waiting};
@@ -17,7 +19,7 @@ use crate::draws::step_drawing;
 use crate::orders::first_order;
 use crate::turns::{TurnAnswer, TurnFault};
 use otp_core::{Core, OpenFault};
-use otp_rules::{Kind, Phase, Reply, laws};
+use otp_rules::{CountsNow, Kind, Phase, Reply, laws};
 use otp_signals::{Owner, Signal, Words, WordsNaming};
 use otp_spec::{ChildSpec, SupFlags};
 use otp_table::Row;
@@ -206,6 +208,14 @@ impl<N: WordsNaming> Office<N> {
         self.core.clear_effects();
         step_drawing(&mut self.core, words, &mut self.owner, reading, kind);
         self.next = 0;
+    }
+
+    /// What count_children would answer now (supervisor, count_children/1).
+    pub fn counts(&self) -> CountsNow
+        ensures counts { result ≡ counts_of (state_of self.now.core) }
+        ensures few { AreFew result }
+    {
+        self.core.counts()
     }
 
     /// What is so whenever nobody is changing it.

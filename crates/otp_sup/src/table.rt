@@ -1,10 +1,12 @@
 //! What lies under a supervisor's lock.
-ghost use Rattle.std.specs.Prelude.{◌≡◌, ◌+◌, ◌≤◌, [], true, false, is_some, length, min, MatchOption, None, Some};
+ghost use Rattle.std.specs.Prelude.{◌≡◌, ◌+◌, ◌≤◌, [], true, false, is_some, length, min, IfOk, MatchOption, None, Some};
 ghost use Rattle.otp_inbox.specs.Tokens.{count_limit};
 ghost use Rattle.std.specs.List.{list_any};
 ghost use Rattle.otp_spec.specs.declared.limits.TheConstants.{MAX_READING};
 ghost use Rattle.otp_core.specs.View.{state_of};
+ghost use Rattle.otp_rules.specs.Counts.{counts_of};
 ghost use Rattle.otp_rules.specs.Run.{reply_of};
+ghost use Rattle.otp_counts.specs.Counts.{EndsWith, after_publish, fresh_pass};
 ghost use Rattle.otp_sup.specs.Bodies.{are_ready, bodies_in, bodies_sent, is_left_of, is_stray, settled, starting_slot, without_first};
 ghost use Rattle.otp_sup.specs.Facts.{KeepsRules, count_opened};
 ghost use Rattle.otp_sup.specs.Flushes.{Flushes};
@@ -17,19 +19,22 @@ use crate::moves::{come_back, happen, leave};
 use crate::office::Office;
 use crate::port::{Flushed, Port};
 use crate::turns::{TurnAnswer, TurnFault, answer_of};
+use otp_counts::{CountsPass, Publisher};
 use otp_inbox::{Inbox, InboxNaming, Taker};
 use otp_rules::{Item, Kind, Reply};
 use otp_signals::{Signal, Words, WordsNaming};
+use std::alloc::AllocError;
 use std::marker::{Model, PhantomData};
 use std::sync::Wait;
 
-/// What lies under a supervisor's lock: its core with seat and orders, the taker of its inbox, and the bodies that it
-/// keeps.
+/// What lies under a supervisor's lock: its core with seat and orders, the taker of its inbox, the bodies that it keeps,
+/// and the right to publish its counts.
 #[derive(Drop)]
 pub struct Table<N: WordsNaming + InboxNaming, B: Drop> {
     office: Office<N>,
     taker: Taker<N, Item, Letter<B>>,
     bodies: Bodies<B>,
+    counts: Publisher,
     of: PhantomData<N>,
 }
 
@@ -38,19 +43,26 @@ impl<N: WordsNaming + InboxNaming, B: Drop> Model for Table<N, B> {
 
     ghost Value = { TableView };
 
-    ghost view = { λ t. record { office = t.office; taker = t.taker; bodies = t.bodies.kept } };
+    ghost view = { λ t. record { office = t.office; taker = t.taker; bodies = t.bodies.kept; counts = t.counts } };
 
-    ghost invariant = { λ t. IsTable (record { office = t.office; taker = t.taker; bodies = t.bodies.kept }) };
+    ghost invariant = { λ t. IsTable (record { office = t.office; taker = t.taker; bodies = t.bodies.kept; counts = t.counts }) };
 }
 
 impl<N: WordsNaming + InboxNaming, B: Drop> Table<N, B> {
     /// The table of a supervisor that was never opened, with the bodies of its child specifications: one at least for
-    /// each child that an opening makes ([`Bodies::are_ready`], [`count_opened`]).
-    pub fn new(office: Office<N>, taker: Taker<N, Item, Letter<B>>, mut bodies: Bodies<B>) -> Self
+    /// each child that an opening makes ([`Bodies::are_ready`], [`count_opened`]). What was published of it last is what
+    /// it counts now ([`Office::counts`]).
+    pub fn new(
+        office: Office<N>,
+        taker: Taker<N, Item, Letter<B>>,
+        mut bodies: Bodies<B>,
+        counts: Publisher,
+    ) -> Self
         requires history { office.core.history ≡ [] }
         requires taken { taker.taken ≡ [] }
         requires bodies { are_ready (count_opened office.core.base.flags office.core.base.specs) bodies.kept ≡ true }
-        ensures { result ≡ record { office = office; taker = taker; bodies = settled [] false bodies.kept } }
+        requires counts { EndsWith (counts_of (state_of office.core)) counts.published }
+        ensures { result ≡ record { office = office; taker = taker; bodies = settled [] false bodies.kept; counts = counts } }
     {
         office.keeps_rules();
         // No child has any of them yet, and no call waits.
@@ -59,6 +71,7 @@ impl<N: WordsNaming + InboxNaming, B: Drop> Table<N, B> {
             office,
             taker,
             bodies,
+            counts,
             of: PhantomData,
         }
     }
@@ -69,8 +82,8 @@ impl<N: WordsNaming + InboxNaming, B: Drop> Table<N, B> {
     /// seat drew. Each signal that it posted for one of them is that of an order that was sent, or of the one to be sent
     /// next. No period has more restarts than the intensity, unless the supervisor is ending. No two of its children have
     /// one slot, or one process. A child that is undefined or restarting has its body, and so has one whose start is still
-    /// to be sent; a body that is away is with a child's process. And each start call that waits has its body with it, in
-    /// their order.
+    /// to be sent; a body that is away is with a child's process. Each start call that waits has its body with it, in
+    /// their order. And the counts that were published last are those of its children.
     pub fn keeps_rules(&self)
         ensures { KeepsRules self.now }
     {
@@ -102,7 +115,7 @@ impl<N: WordsNaming + InboxNaming, B: Drop> Table<N, B> {
     ///
     /// Cases 6 to 10 are one event each; in all others nothing changes, but that in case 11 one look more has found the
     /// inbox empty. A turn keeps one body more exactly where the item that it took brought one, and each body is then where
-    /// the definitions put it.
+    /// the definitions put it. With an event the counts after it are published, and nothing is published otherwise.
     pub fn turn<R: Wait>(
         &mut self,
         rt: &R,
@@ -132,6 +145,7 @@ impl<N: WordsNaming + InboxNaming, B: Drop> Table<N, B> {
                 kind,
                 None,
             );
+            self.publish();
             return Ok(answer_of(kind));
         }
         let Some(letter) = inbox.take(rt, &mut self.taker) else {
@@ -151,7 +165,27 @@ impl<N: WordsNaming + InboxNaming, B: Drop> Table<N, B> {
             kind,
             body,
         );
+        self.publish();
         Ok(TurnAnswer::Took)
+    }
+
+    /// Publishes what count_children would answer now.
+    fn publish(&mut self)
+        ensures { self.new ≡ record self.old { counts = after_publish (counts_of (state_of self.old.office.core)) self.old.counts } }
+    {
+        let counts = self.office.counts();
+        self.counts.publish(counts);
+    }
+
+    /// A pass, with which others read its counts without the lock ([`CountsPass::read`]). Takes no memory.
+    ///
+    /// Refused only where there are as many passes as a machine word counts.
+    pub fn pass(&mut self) -> Result<CountsPass, AllocError>
+        ensures same { self.new ≡ self.old }
+        ensures pass { IfOk result (λ pass. pass ≡ fresh_pass self.old.counts.word) }
+    {
+        let _ = &self.taker;
+        self.counts.pass()
     }
 
     /// Sends the first order that is still to be sent. A start posts the process's number to its child's slot and puts
@@ -160,6 +194,7 @@ impl<N: WordsNaming + InboxNaming, B: Drop> Table<N, B> {
     pub fn flush_one<P: Port<B>>(&mut self, words: &Words<N>, port: &mut P) -> Flushed
         ensures flushed { Flushes result self.old.office self.new.office (taken_by (P.processes port.old) (P.notes port.old)) (taken_by (P.processes port.new) (P.notes port.new)) (P.refusals port.old) (P.refusals port.new) }
         ensures taker { self.new.taker ≡ self.old.taker }
+        ensures counts { self.new.counts ≡ self.old.counts }
         // The body that the table doesn't keep any more is that of the child whose process was put,
         ensures bodies { self.new.bodies ≡ bodies_sent result (starting_slot self.old.office.outbox (state_of self.old.office.core).rows) self.old.bodies }
         // and it went with the process that the port took.
@@ -190,6 +225,7 @@ impl<N: WordsNaming + InboxNaming, B: Drop> Table<N, B> {
             office,
             taker,
             bodies: _,
+            counts: _,
             of: _,
         } = self;
         (office, taker)
