@@ -48,6 +48,13 @@ impl<N: WordsNaming + InboxNaming, B: Drop> Model for Table<N, B> {
     ghost invariant = { λ t. IsTable (record { office = t.office; taker = t.taker; bodies = t.bodies.kept; counts = t.counts }) };
 }
 
+/// Publishes what count_children would answer now.
+fn publish<N: WordsNaming>(office: &Office<N>, counts: &mut Publisher)
+    ensures { counts.new ≡ after_publish (counts_of (state_of office.now.core)) counts.old }
+{
+    counts.publish(office.counts());
+}
+
 impl<N: WordsNaming + InboxNaming, B: Drop> Table<N, B> {
     /// The table of a supervisor that was never opened, with the bodies of its child specifications: one at least for
     /// each child that an opening makes ([`Bodies::are_ready`], [`count_opened`]). What was published of it last is what
@@ -145,7 +152,7 @@ impl<N: WordsNaming + InboxNaming, B: Drop> Table<N, B> {
                 kind,
                 None,
             );
-            self.publish();
+            publish(&self.office, &mut self.counts);
             return Ok(answer_of(kind));
         }
         let Some(letter) = inbox.take(rt, &mut self.taker) else {
@@ -165,16 +172,8 @@ impl<N: WordsNaming + InboxNaming, B: Drop> Table<N, B> {
             kind,
             body,
         );
-        self.publish();
+        publish(&self.office, &mut self.counts);
         Ok(TurnAnswer::Took)
-    }
-
-    /// Publishes what count_children would answer now.
-    fn publish(&mut self)
-        ensures { self.new ≡ record self.old { counts = after_publish (counts_of (state_of self.old.office.core)) self.old.counts } }
-    {
-        let counts = self.office.counts();
-        self.counts.publish(counts);
     }
 
     /// A pass, with which others read its counts without the lock ([`CountsPass::read`]). Takes no memory.

@@ -1,5 +1,7 @@
 use Rattle.std.proofs.Common.{◌≡◌, List, Option, ℕ, ap, sym, ◌∙◌, subst, IsSome}
 use Rattle.otp_core.specs.View.{View, state_of}
+use Rattle.otp_counts.specs.Counts.{EndsWith}
+use Rattle.otp_rules.specs.Counts.{counts_of}
 use Rattle.otp_rules.specs.Waits.{starts_waiting}
 use Rattle.otp_sup.specs.Bodies.{bodies_sent, calls_waiting}
 use Rattle.otp_sup.specs.Facts.{HasBodies, OfficeView, items_of}
@@ -37,6 +39,7 @@ invariant_of-self g c =
           ∙ c.self.invariant.calls
           ∙ ap (λ (v : View). starts_waiting (state_of v).waiting) (sym core);
       bodies = subst Has (sym is) (subst Slot (sym c.starting_slot-slot.ensures) (bodies_flushed _ _ _ _ _ _ _ c.self.inside.bodies.kept c.keeps_rules.ensures sent.flushed c.self.invariant.bodies));
+      counts = subst (λ (v : View). EndsWith (counts_of (state_of v)) c.self.inside.counts.published) (sym core) c.self.invariant.counts;
     }
 
 pub flush_one-flushed-requires : goal.flush_one-flushed-requires
