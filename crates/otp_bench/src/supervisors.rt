@@ -4,6 +4,7 @@ ghost use Rattle.std.specs.Prelude.{◌≡◌};
 ghost use Rattle.otp_spec.specs.declared.limits.TheConstants.{MAX_CHILDREN};
 
 use crate::report::report;
+use otp_counts::Publisher;
 use otp_inbox::{InboxNaming, Sender, UnnamedInbox};
 use otp_reason::{Name, Note, Reason, Text};
 use otp_rules::{Call, Item};
@@ -81,7 +82,8 @@ impl<N: WordsNaming + InboxNaming> Driven<N> {
             .map_err(|_| AllocError)?;
         let office =
             Office::open(alloc, flags, specs.as_slice(), seat, 0).map_err(|_| AllocError)?;
-        let sup = Sup::new(inbox, Table::new(office, taker, bodies));
+        let counts = Publisher::open(alloc, office.counts())?;
+        let sup = Sup::new(inbox, Table::new(office, taker, bodies, counts));
         Ok(Driven {
             words,
             owner,

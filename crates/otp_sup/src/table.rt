@@ -1,12 +1,12 @@
 //! What lies under a supervisor's lock.
-ghost use Rattle.std.specs.Prelude.{◌≡◌, ◌+◌, ◌≤◌, [], true, false, is_some, length, min, IfOk, MatchOption, None, Some};
+ghost use Rattle.std.specs.Prelude.{◌≡◌, ◌∷◌, ◌+◌, ◌≤◌, [], true, false, is_some, length, min, IfOk, MatchOption, None, Some};
 ghost use Rattle.otp_inbox.specs.Tokens.{count_limit};
 ghost use Rattle.std.specs.List.{list_any};
 ghost use Rattle.otp_spec.specs.declared.limits.TheConstants.{MAX_READING};
 ghost use Rattle.otp_core.specs.View.{state_of};
 ghost use Rattle.otp_rules.specs.Counts.{counts_of};
 ghost use Rattle.otp_rules.specs.Run.{reply_of};
-ghost use Rattle.otp_counts.specs.Counts.{EndsWith, after_publish, fresh_pass};
+ghost use Rattle.otp_counts.specs.Counts.{after_publish, fresh_pass};
 ghost use Rattle.otp_sup.specs.Bodies.{are_ready, bodies_in, bodies_sent, is_left_of, is_stray, settled, starting_slot, without_first};
 ghost use Rattle.otp_sup.specs.Facts.{KeepsRules, count_opened};
 ghost use Rattle.otp_sup.specs.Flushes.{Flushes};
@@ -57,8 +57,8 @@ fn publish<N: WordsNaming>(office: &Office<N>, counts: &mut Publisher)
 
 impl<N: WordsNaming + InboxNaming, B: Drop> Table<N, B> {
     /// The table of a supervisor that was never opened, with the bodies of its child specifications: one at least for
-    /// each child that an opening makes ([`Bodies::are_ready`], [`count_opened`]). What was published of it last is what
-    /// it counts now ([`Office::counts`]).
+    /// each child that an opening makes ([`Bodies::are_ready`], [`count_opened`]). Published of it is
+    /// what it counts now, and nothing before ([`Office::counts`]).
     pub fn new(
         office: Office<N>,
         taker: Taker<N, Item, Letter<B>>,
@@ -68,7 +68,7 @@ impl<N: WordsNaming + InboxNaming, B: Drop> Table<N, B> {
         requires history { office.core.history ≡ [] }
         requires taken { taker.taken ≡ [] }
         requires bodies { are_ready (count_opened office.core.base.flags office.core.base.specs) bodies.kept ≡ true }
-        requires counts { EndsWith (counts_of (state_of office.core)) counts.published }
+        requires counts { counts.published ≡ counts_of (state_of office.core) ∷ [] }
         ensures { result ≡ record { office = office; taker = taker; bodies = settled [] false bodies.kept; counts = counts } }
     {
         office.keeps_rules();

@@ -2,6 +2,7 @@
 ghost use Rattle.std.specs.Prelude.{◌≡◌};
 
 use otp_core::History;
+use otp_counts::Publisher;
 use otp_inbox::{InboxNaming, UnnamedInbox};
 use otp_rules::{Call, CountsNow, Item, Kind, Reply};
 use otp_signals::{OpenWords, Signal, Words, WordsNaming};
@@ -49,7 +50,8 @@ fn make_one<N: WordsNaming + InboxNaming>(
         return Err("a body is wanted".into());
     }
     let office = Office::open(alloc, flags, &[], seat, 0)?;
-    let table = Table::new(office, taker, bodies);
+    let counts = Publisher::open(alloc, office.counts())?;
+    let table = Table::new(office, taker, bodies, counts);
     let client = Client::new(callers, sender);
     Ok((words, Sup::new(inbox, table), client))
 }

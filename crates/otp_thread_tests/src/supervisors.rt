@@ -1,6 +1,7 @@
 // Supervisors under a lock, driven by hand over a port in memory.
 ghost use Rattle.std.specs.Prelude.{◌≡◌, ◌≤◌, ◌<◌, ◌^◌};
 
+use otp_counts::Publisher;
 use otp_inbox::{InboxNaming, Sender, UnnamedInbox};
 use otp_reason::{Name, Note, Reason, Text};
 use otp_rules::{Call, CallFault, Item, Reply};
@@ -75,7 +76,8 @@ fn make_driven<N: WordsNaming + InboxNaming, B: Drop>(
         return Err("a body was refused".into());
     }
     let office = Office::open(alloc, flags, &specs, seat, 0)?;
-    let sup = Sup::new(inbox, Table::new(office, taker, bodies));
+    let counts = Publisher::open(alloc, office.counts())?;
+    let sup = Sup::new(inbox, Table::new(office, taker, bodies, counts));
     Ok(Driven {
         words,
         viewer,

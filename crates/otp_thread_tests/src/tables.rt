@@ -1,6 +1,7 @@
 // What lies under a supervisor's lock, without the lock: a turn at a time, and an order at a time, over a port in memory.
 ghost use Rattle.std.specs.Prelude.{◌≡◌, ◌≤◌, ◌^◌};
 
+use otp_counts::Publisher;
 use otp_inbox::{Inbox, InboxNaming, Sender, UnnamedInbox};
 use otp_reason::{Name, Note, Reason, Text};
 use otp_rules::{Call, CallFault, Item, Reply};
@@ -59,11 +60,12 @@ fn make_alone<N: WordsNaming + InboxNaming>(
         return Err("a body was refused".into());
     }
     let office = Office::open(alloc, flags, &specs, seat, 0)?;
+    let counts = Publisher::open(alloc, office.counts())?;
     Ok(Alone {
         words,
         viewer,
         inbox,
-        table: Table::new(office, taker, bodies),
+        table: Table::new(office, taker, bodies, counts),
         sender,
         port: MemoryPort::new(alloc),
     })

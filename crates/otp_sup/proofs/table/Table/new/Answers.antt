@@ -13,5 +13,5 @@ invariant_of-result g c =
       taken = c.requires.taken ∙ sym (ap items_of c.requires.history);
       calls = ap calls_waiting c.settle.ensures ∙ settled_calls [] false c.args.bodies.kept ∙ sym (nothing_waits c.args.office c.keeps_rules.ensures.begins c.requires.history);
       bodies = subst Has (sym c.settle.ensures) (first_bodies c.args.office c.args.bodies.kept c.keeps_rules.ensures c.requires.history c.requires.bodies);
-      counts = c.requires.counts;
+      counts = ([], c.requires.counts);
     }
