@@ -80,8 +80,7 @@ impl<N: WordsNaming + InboxNaming> Driven<N> {
         let seat = words
             .split(&mut owner, 0..MAX_CHILDREN, QUOTA)
             .map_err(|_| AllocError)?;
-        let office =
-            Office::open(alloc, flags, specs.as_slice(), seat, 0).map_err(|_| AllocError)?;
+        let office = Office::open(alloc, flags, specs.as_slice(), seat, 0).map_err(|_| AllocError)?;
         let counts = Publisher::open(alloc, office.counts())?;
         let sup = Sup::new(inbox, Table::new(office, taker, bodies, counts));
         Ok(Driven {
@@ -99,7 +98,10 @@ impl<N: WordsNaming + InboxNaming> Driven<N> {
             return Err(AllocError);
         }
         let port = &mut self.port;
-        match self.sup.turn(rt, &self.words, port, 0, self.reading, Signal::None) {
+        match self
+            .sup
+            .turn(rt, &self.words, port, 0, self.reading, Signal::None)
+        {
             Ok(_) => Ok(()),
             Err(_) => Err(AllocError),
         }

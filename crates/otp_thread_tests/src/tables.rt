@@ -165,7 +165,10 @@ fn by_orders_in<N: WordsNaming + InboxNaming, R: Wait + Abort>(
     assert_eq!(rt; one.put(), Some((1, 0, OWN)));
     assert_eq!(rt; one.turn(rt, 0, 0, Signal::None), Ok(TurnAnswer::Quiet));
     assert_eq!(rt; one.flush(rt), 0);
-    assert_eq!(rt; one.turn(rt, 3, 0, Signal::None), Err(TurnFault::WrongNumber));
+    assert_eq!(rt;
+        one.turn(rt, 3, 0, Signal::None),
+        Err(TurnFault::WrongNumber)
+    );
     assert_eq!(rt; one.flush(rt), 0);
     one.up(rt, 1);
     assert_eq!(rt; one.turn(rt, 0, 0, Signal::None), Ok(TurnAnswer::Took));
@@ -178,7 +181,10 @@ fn by_orders_in<N: WordsNaming + InboxNaming, R: Wait + Abort>(
     one.up(rt, 2);
     assert_eq!(rt; one.turn(rt, 0, 1000, Signal::None), Ok(TurnAnswer::Took));
     assert_eq!(rt; one.flush(rt), 0);
-    assert_eq!(rt; one.turn(rt, 0, 1000, Signal::Shutdown), Ok(TurnAnswer::Stopped));
+    assert_eq!(rt;
+        one.turn(rt, 0, 1000, Signal::Shutdown),
+        Ok(TurnAnswer::Stopped)
+    );
     assert_eq!(rt; one.signal(rt, 2), Signal::None);
     assert_eq!(rt; one.flush(rt), 1);
     assert_eq!(rt; one.signal(rt, 2), Signal::Shutdown);
@@ -248,14 +254,20 @@ fn refused_in<N: WordsNaming + InboxNaming, R: Wait + Abort>(
     };
     assert_eq!(rt; one.turn(rt, 0, 0, Signal::None), Ok(TurnAnswer::Opened));
     for _ in 0..2 {
-        assert_eq!(rt; one.table.flush_one(&one.words, &mut shut), Flushed::Refused);
+        assert_eq!(rt;
+            one.table.flush_one(&one.words, &mut shut),
+            Flushed::Refused
+        );
         assert_eq!(rt; one.turn(rt, 0, 0, Signal::None), Ok(TurnAnswer::Pending));
     }
     assert_eq!(rt; one.flush(rt), 1);
     assert_eq!(rt; one.put(), Some((1, 0, OWN)));
     one.up(rt, 1);
     assert_eq!(rt; one.turn(rt, 0, 0, Signal::None), Ok(TurnAnswer::Took));
-    assert_eq!(rt; one.table.flush_one(&one.words, &mut shut), Flushed::Refused);
+    assert_eq!(rt;
+        one.table.flush_one(&one.words, &mut shut),
+        Flushed::Refused
+    );
     assert_eq!(rt; one.flush(rt), 1);
     assert_eq!(rt; one.told(), Some(Note::Up(0)));
     Ok(())

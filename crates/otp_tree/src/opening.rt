@@ -13,6 +13,7 @@ use crate::plan::TablePlan;
 use crate::senders::Senders;
 use crate::system::System;
 use otp_core::OpenFault;
+use otp_counts::Publisher;
 use otp_inbox::{Inbox, InboxNaming, Sender, UnnamedInbox};
 use otp_job::{Body, Process, TableNo};
 use otp_rules::Item;
@@ -142,7 +143,8 @@ fn open_one<N: WordsNaming + InboxNaming, J: Drop, S: Drop>(
             fault,
         }),
     };
-    let sup = Sup::new(inbox, Table::new(office, taker, bodies));
+    let counts = Publisher::open(alloc, office.counts())?;
+    let sup = Sup::new(inbox, Table::new(office, taker, bodies, counts));
     Ok((sup, sender))
 }
 
