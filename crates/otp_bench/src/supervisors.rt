@@ -79,8 +79,7 @@ impl<N: WordsNaming + InboxNaming> Driven<N> {
         let seat = words
             .split(&mut owner, 0..MAX_CHILDREN, QUOTA)
             .map_err(|_| AllocError)?;
-        let office =
-            Office::open(alloc, flags, specs.as_slice(), seat, 0).map_err(|_| AllocError)?;
+        let office = Office::open(alloc, flags, specs.as_slice(), seat, 0).map_err(|_| AllocError)?;
         let sup = Sup::new(inbox, Table::new(office, taker, bodies));
         Ok(Driven {
             words,
@@ -97,7 +96,10 @@ impl<N: WordsNaming + InboxNaming> Driven<N> {
             return Err(AllocError);
         }
         let port = &mut self.port;
-        match self.sup.turn(rt, &self.words, port, 0, self.reading, Signal::None) {
+        match self
+            .sup
+            .turn(rt, &self.words, port, 0, self.reading, Signal::None)
+        {
             Ok(_) => Ok(()),
             Err(_) => Err(AllocError),
         }
