@@ -1,8 +1,8 @@
 -- The counts of rows, from one change to the next.
-use Rattle.std.proofs.Common.{◌≡◌, ℕ, ◌+◌, ◌-◌, ◌<◌, List, [], ◌∷◌, ◌++◌, ◌∙◌, ap, arith, cond, get_or, length, set, sym}
+use Rattle.std.proofs.Common.{◌≡◌, ℕ, ◌+◌, ◌-◌, ◌<◌, List, ap, arith, cond, get_or, length, set}
 use Rattle.std.specs.Prelude.{Bool, count_by}
 use Rattle.std.specs.List.{remove, sum_by}
-use Rattle.std.proofs.lemmas.List.Sums.{sum_by-remove, sum_by-set, sum_by-append}
+use Rattle.std.proofs.lemmas.List.Sums.{sum_by-remove, sum_by-set}
 use Rattle.otp_table.specs.declared.row.Row.{Row}
 
 abbrev one : (Row → Bool) → Row → ℕ

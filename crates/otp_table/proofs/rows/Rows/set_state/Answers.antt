@@ -17,9 +17,9 @@ invariant_of-self c =
     let is_here : get_or items c.args.place here ≡ here = search rules in
     let as_state : List Row → List Row = λ (xs : List Row). set xs c.args.place (with_state c.args.state (get_or xs c.args.place here)) in
     let counts : AreCounted c.counts_as-self-inside.result (as_state items) =
-        subst (λ (xs : List Row). AreCounted c.counts_as-self-inside.result (as_state xs)) c.deref.ensures.value (c.counts_as-self-inside.ensures here) in
+    subst (λ (xs : List Row). AreCounted c.counts_as-self-inside.result (as_state xs)) c.deref.ensures.value (c.counts_as-self-inside.ensures here) in
     let counted : AreCounted c.counts_as-self-inside.result (set items c.args.place (with_state c.args.state here)) =
-        subst (λ (row : Row). AreCounted c.counts_as-self-inside.result (set items c.args.place (with_state c.args.state row))) is_here counts in
+    subst (λ (row : Row). AreCounted c.counts_as-self-inside.result (set items c.args.place (with_state c.args.state row))) is_here counts in
     record {
       room = search rules;
       limit = search rules;
