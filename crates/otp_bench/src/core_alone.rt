@@ -122,14 +122,7 @@ fn number_of_one(rows: &[Row], time: u64) -> Option<u64> {
 /// Measures restarts of one child, alone and among 256, restarts of 16 and of 256 under one_for_all, and calls of
 /// count_children: as many of them as one history has room for, or `count` where that is less.
 pub fn measure<R: Runtime>(rt: &R, alloc: Global, count: u64) -> io::Result<()> {
-    measure_restarts(
-        rt,
-        alloc,
-        "restarts",
-        Strategy::OneForOne,
-        1,
-        count.min(32_000),
-    )?;
+    measure_storm(rt, alloc, count)?;
     measure_restarts(
         rt,
         alloc,
@@ -160,6 +153,18 @@ pub fn measure<R: Runtime>(rt: &R, alloc: Global, count: u64) -> io::Result<()> 
         driver.call(Call::CountChildren)?;
     }
     report(rt, "count_children", 1, driver.calls, start)
+}
+
+/// Measures restarts of one child: as many of them as one history has room for, or `count` where that is less.
+pub fn measure_storm<R: Runtime>(rt: &R, alloc: Global, count: u64) -> io::Result<()> {
+    measure_restarts(
+        rt,
+        alloc,
+        "restarts",
+        Strategy::OneForOne,
+        1,
+        count.min(32_000),
+    )
 }
 
 fn measure_restarts<R: Runtime>(

@@ -15,11 +15,14 @@ fn any_late(now: u64, rows: &[Row]) -> bool
 }
 
 /// Whether a child was told to shut down and its deadline has come. Where none has a deadline, no row is looked at.
-#[tactic(auto, using(crate::proofs::Timed::none_late))]
 pub fn has_late(now: u64, rows: &Rows) -> bool
     ensures { result ≡ list_any (λ row. is_late now row.state) rows.now.rows }
 {
-    rows.has_timed() && any_late(now, rows.as_slice())
+    if rows.has_timed() {
+        any_late(now, rows.as_slice())
+    } else {
+        false
+    }
 }
 
 fn deadline_of(state: RowState) -> Option<u64>
