@@ -83,10 +83,11 @@ impl Machine {
             outcome_of self.new ≡ death number reason place row (outcome_of self.old) }
         ensures room { CanAdvance self.new }
     {
-        let row = *self.rows.get(place);
-        if is_restarted(row.spec.restart, &reason) {
+        let restart = self.rows.get(place).spec.restart;
+        if is_restarted(restart, &reason) {
             self.restart(place, number);
         } else {
+            let row = *self.rows.get(place);
             self.end_row(place);
             self.after_end(number, &row);
         }
