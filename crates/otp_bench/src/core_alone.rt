@@ -4,13 +4,20 @@ use otp_core::{Core, Counter};
 use otp_reason::{Name, Note, Reason, Text};
 use otp_rules::{Call, Effect, Item, Kind};
 use otp_spec::{ChildSpec, Strategy, SupFlags};
+use otp_table::Row;
 use std::alloc::{AllocError, Global};
 use std::io;
 use std::rt::Runtime;
 use std::time::Instant;
 
-/// So many children one_for_all has, and so many are counted.
+/// So many children a supervisor has at most; so many are counted.
 const CHILDREN: usize = 256;
+
+/// So many children a small supervisor under one_for_all has.
+const FEW: usize = 16;
+
+/// From one child that ends to the next there are so many places.
+const STRIDE: usize = 37;
 
 /// One restart more within the period would end the supervisor.
 const INTENSITY: u64 = 1_000;
@@ -77,13 +84,13 @@ impl Driver {
         Ok(())
     }
 
-    // The child that was started last ends by an error. Each so many restarts the period of the earlier ones has passed.
+    // A child ends by an error, each time another one. Each so many restarts the period of the earlier ones has passed.
     fn crash(&mut self, restart: u64, reason: Reason) -> Result<(), AllocError> {
         if restart % INTENSITY == INTENSITY - 1 {
             self.reading = self.reading.saturating_add(1_000 * PERIOD + 1);
         }
-        let last = self.core.last_number();
-        self.event(Kind::Took(Item::Note(Note::Exit(last, reason))))?;
+        let number = number_of_one(self.core.rows(), restart).ok_or(AllocError)?;
+        self.event(Kind::Took(Item::Note(Note::Exit(number, reason))))?;
         self.settle()
     }
 
@@ -102,16 +109,35 @@ fn answer_to(orders: &[Effect]) -> Option<Note> {
     }
 }
 
-/// Measures restarts of one child, restarts of 256 under one_for_all, and calls of count_children: as many of them as
-/// one history has room for, or `count` where that is less.
+// The number of one of the children, which runs; the next time of one that stands elsewhere.
+fn number_of_one(rows: &[Row], time: u64) -> Option<u64> {
+    if rows.is_empty() {
+        return None;
+    }
+    rows[(time % CHILDREN as u64) as usize * STRIDE % rows.len()]
+        .state
+        .up_number()
+}
+
+/// Measures restarts of one child, alone and among 256, restarts of 16 and of 256 under one_for_all, and calls of
+/// count_children: as many of them as one history has room for, or `count` where that is less.
 pub fn measure<R: Runtime>(rt: &R, alloc: Global, count: u64) -> io::Result<()> {
+    measure_storm(rt, alloc, count)?;
     measure_restarts(
         rt,
         alloc,
-        "restarts",
+        "restarts among 256",
         Strategy::OneForOne,
-        1,
+        CHILDREN,
         count.min(32_000),
+    )?;
+    measure_restarts(
+        rt,
+        alloc,
+        "restarts of 16",
+        Strategy::OneForAll,
+        FEW,
+        count.min(2_000),
     )?;
     measure_restarts(
         rt,
@@ -127,6 +153,18 @@ pub fn measure<R: Runtime>(rt: &R, alloc: Global, count: u64) -> io::Result<()> 
         driver.call(Call::CountChildren)?;
     }
     report(rt, "count_children", 1, driver.calls, start)
+}
+
+/// Measures restarts of one child: as many of them as one history has room for, or `count` where that is less.
+pub fn measure_storm<R: Runtime>(rt: &R, alloc: Global, count: u64) -> io::Result<()> {
+    measure_restarts(
+        rt,
+        alloc,
+        "restarts",
+        Strategy::OneForOne,
+        1,
+        count.min(32_000),
+    )
 }
 
 fn measure_restarts<R: Runtime>(
@@ -145,5 +183,9 @@ fn measure_restarts<R: Runtime>(
         driver.crash(restart, reason)?;
     }
     let started = driver.core.last_number().saturating_sub(first);
-    report(rt, work, 1, started / children.max(1) as u64, start)
+    let each = match strategy {
+        Strategy::OneForAll => children.max(1) as u64,
+        _ => 1,
+    };
+    report(rt, work, 1, started / each, start)
 }

@@ -114,7 +114,7 @@ impl Core {
             specs,
             rows: Rows::new(alloc),
             to_stop: Vec::new(alloc),
-            to_start: Vec::new(alloc),
+            to_start: VecDeque::new(alloc),
             follows: None,
             waiting: VecDeque::new(alloc),
             replies: Answers::new(alloc),
@@ -251,7 +251,7 @@ impl Core {
     pub fn is_due(&self, reading: u64) -> bool
         ensures { result ≡ list_any (λ row. is_late (max reading (state_of self.now).last) row.state) (state_of self.now).rows }
     {
-        has_late(self.machine.last.max(reading), self.machine.rows.as_slice())
+        has_late(self.machine.last.max(reading), &self.machine.rows)
     }
 
     /// The least deadline in milliseconds of the children that were told to shut down: once the clock has come to it,
@@ -261,7 +261,7 @@ impl Core {
         ensures due { (now : ℕ) → list_any (λ row. is_late now row.state) (state_of self.now).rows ≡ has_come now result }
     {
         laws::deadlines_come();
-        next_deadline(self.machine.rows.as_slice())
+        next_deadline(&self.machine.rows)
     }
 
     /// The event that comes next without an item of the inbox, at this reading of the clock: a kill whose deadline has

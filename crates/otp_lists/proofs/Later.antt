@@ -1,6 +1,6 @@
 -- The first row that passes a test, where none of the first does.
-use Rattle.std.proofs.Common.{◌≡◌, ℕ, ◌+◌, ◌-◌, ◌<◌, ◌≤◌, List, [], ◌∷◌, ◌∙◌, Option, None, Some, ap, arith, cond, drop, get_or, inl, inr, length, length-drop, refl, suc, sym, zero}
-use Rattle.std.specs.Prelude.{Bool, true, false, not, ◌&&◌, nat_lt, option_map, position}
+use Rattle.std.proofs.Common.{◌≡◌, ℕ, ◌+◌, ◌-◌, ◌<◌, ◌≤◌, List, [], ◌∷◌, ◌∙◌, None, Some, ap, arith, cond, drop, get_or, inl, inr, length, length-drop, refl, suc, sym, zero}
+use Rattle.std.specs.Prelude.{Bool, true, false, not, nat_lt, option_map, position}
 use Rattle.std.specs.List.{position_or_len}
 use Rattle.std.proofs.lemmas.Bool.{and_parts, both_ways, cases_lt, false_from_ne_true, le-ltb, lt-ltb}
 use Rattle.std.proofs.lemmas.List.{get_or-drop}

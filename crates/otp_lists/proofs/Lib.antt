@@ -4,3 +4,4 @@ pub mod Steps
 pub mod Replies
 pub mod Rising
 pub mod Later
+pub mod Timed

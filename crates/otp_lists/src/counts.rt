@@ -7,7 +7,7 @@ ghost use Rattle.otp_rules.specs.Counts.{is_active, is_supervisor, is_worker, li
 use otp_reason::Name;
 use otp_rules::{ChildLine, ChildProcess};
 use otp_spec::ChildType;
-use otp_table::{Row, RowState};
+use otp_table::{MAX_CHILDREN, Row, RowState, Rows};
 
 /// What which_children says of a process.
 pub fn process_of(state: RowState) -> ChildProcess
@@ -102,53 +102,26 @@ fn is_same_kind(one: ChildType, other: ChildType) -> bool
     }
 }
 
-/// How many children have a process that was started and has not ended.
-pub fn count_active(rows: &[Row]) -> usize
-    ensures count { result ≡ count_by (row_has is_active) rows.now }
-    ensures limit { result ≤ length rows.now }
+/// How many children have a process that was started and has not ended. Looks at no row.
+pub fn count_active(rows: &Rows) -> usize
+    ensures count { result ≡ count_by (row_has is_active) rows.now.rows }
+    ensures limit { result ≤ MAX_CHILDREN }
 {
-    rows.iter().filter(|row| is_active(row.state)).count()
+    rows.count_active()
 }
 
-fn is_active(state: RowState) -> bool
-    ensures { result ≡ is_active state }
+/// How many children are supervisors. Looks at no row.
+pub fn count_supervisors(rows: &Rows) -> usize
+    ensures count { result ≡ count_by (λ row. is_supervisor row.spec.kind) rows.now.rows }
+    ensures limit { result ≤ MAX_CHILDREN }
 {
-    match state {
-        RowState::Up(_) | RowState::Asked(..) | RowState::Killed(_) => true,
-        RowState::Undefined | RowState::Starting(..) | RowState::Restarting(_) => false,
-    }
+    rows.count_supervisors()
 }
 
-pub fn count_supervisors(rows: &[Row]) -> usize
-    ensures count { result ≡ count_by (λ row. is_supervisor row.spec.kind) rows.now }
-    ensures limit { result ≤ length rows.now }
+/// How many children are workers. Looks at no row.
+pub fn count_workers(rows: &Rows) -> usize
+    ensures count { result ≡ count_by (λ row. is_worker row.spec.kind) rows.now.rows }
+    ensures limit { result ≤ MAX_CHILDREN }
 {
-    rows.iter()
-        .filter(|row| is_supervisor(row.spec.kind))
-        .count()
-}
-
-fn is_supervisor(kind: ChildType) -> bool
-    ensures { result ≡ is_supervisor kind }
-{
-    match kind {
-        ChildType::Supervisor => true,
-        ChildType::Worker => false,
-    }
-}
-
-pub fn count_workers(rows: &[Row]) -> usize
-    ensures count { result ≡ count_by (λ row. is_worker row.spec.kind) rows.now }
-    ensures limit { result ≤ length rows.now }
-{
-    rows.iter().filter(|row| is_worker(row.spec.kind)).count()
-}
-
-fn is_worker(kind: ChildType) -> bool
-    ensures { result ≡ is_worker kind }
-{
-    match kind {
-        ChildType::Worker => true,
-        ChildType::Supervisor => false,
-    }
+    rows.count_workers()
 }

@@ -6,13 +6,23 @@ ghost use Rattle.otp_rules.specs.Step.{is_late};
 ghost use Rattle.otp_rules.specs.Next.{deadline_of, earlier, next_deadline};
 
 use crate::step::late_number;
-use otp_table::{Row, RowState};
+use otp_table::{Row, RowState, Rows};
 
-/// Whether a child was told to shut down and its deadline has come.
-pub fn has_late(now: u64, rows: &[Row]) -> bool
+fn any_late(now: u64, rows: &[Row]) -> bool
     ensures { result ≡ list_any (λ row. is_late now row.state) rows.now }
 {
     rows.iter().any(|row| late_number(now, row.state).is_some())
+}
+
+/// Whether a child was told to shut down and its deadline has come. Where none has a deadline, no row is looked at.
+pub fn has_late(now: u64, rows: &Rows) -> bool
+    ensures { result ≡ list_any (λ row. is_late now row.state) rows.now.rows }
+{
+    if rows.has_timed() {
+        any_late(now, rows.as_slice())
+    } else {
+        false
+    }
 }
 
 fn deadline_of(state: RowState) -> Option<u64>
@@ -34,8 +44,7 @@ fn earlier(one: Option<u64>, other: Option<u64>) -> Option<u64>
     }
 }
 
-/// The least deadline of these children.
-pub fn next_deadline(rows: &[Row]) -> Option<u64>
+fn least_deadline(rows: &[Row]) -> Option<u64>
     ensures { result ≡ next_deadline rows.now }
 {
     let mut least = None;
@@ -43,4 +52,16 @@ pub fn next_deadline(rows: &[Row]) -> Option<u64>
         least = earlier(least, deadline_of(row.state));
     }
     least
+}
+
+/// The least deadline of these children. Where none has one, no row is looked at.
+#[tactic(auto, using(crate::proofs::Timed::none_next))]
+pub fn next_deadline(rows: &Rows) -> Option<u64>
+    ensures { result ≡ next_deadline rows.now.rows }
+{
+    if rows.has_timed() {
+        least_deadline(rows.as_slice())
+    } else {
+        None
+    }
 }

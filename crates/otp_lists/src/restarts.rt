@@ -1,14 +1,15 @@
 //! Which children a restart is about, and which ends end the supervisor (`specs/Restarts` of the rules).
 
 ghost use Rattle.std.specs.Prelude.{◌≡◌, ◌+◌, ◌<◌, ◌≤◌, ◌++◌, length, vec_len, vec_capacity};
-ghost use Rattle.std.specs.List.{list_any};
-ghost use Rattle.otp_rules.specs.Restarts.{affected_from, affected_to, dues, ends_by_significance, is_left, is_restarted, running};
+ghost use Rattle.std.specs.VecDeque.{deque_len, deque_capacity};
+ghost use Rattle.otp_rules.specs.Restarts.{affected_from, affected_to, dues, ends_by_significance, is_restarted, running};
 
 use crate::places::is_temporary;
 use otp_reason::Reason;
 use otp_rules::Due;
 use otp_spec::{AutoShutdown, Restart, Strategy};
-use otp_table::{Row, RowState};
+use otp_table::{Row, RowState, Rows};
+use std::collections::VecDeque;
 
 /// Whether a child of this type that ended so is restarted.
 pub fn is_restarted(restart: Restart, reason: &Reason) -> bool
@@ -33,28 +34,14 @@ pub fn affected(strategy: Strategy, place: usize, count: usize) -> (usize, usize
     }
 }
 
-/// Whether the row is a significant child that has not ended.
-pub fn is_left(row: &Row) -> bool
-    ensures { result ≡ is_left row.now }
-{
-    row.spec.significant && !row.state.is_undefined()
-}
-
-/// Whether a significant child is left.
-pub fn has_left(rows: &[Row]) -> bool
-    ensures { result ≡ list_any is_left rows.now }
-{
-    rows.iter().any(|row| is_left(row))
-}
-
 /// Whether the child, which has ended by itself, ends its supervisor; these are the rows after its end.
-pub fn ends_by_significance(auto_shutdown: AutoShutdown, row: &Row, rows: &[Row]) -> bool
-    ensures { result ≡ ends_by_significance auto_shutdown row.now rows.now }
+pub fn ends_by_significance(auto_shutdown: AutoShutdown, row: &Row, rows: &Rows) -> bool
+    ensures { result ≡ ends_by_significance auto_shutdown row.now rows.now.rows }
 {
     match auto_shutdown {
         AutoShutdown::Never => false,
         AutoShutdown::AnySignificant => row.spec.significant,
-        AutoShutdown::AllSignificant => row.spec.significant && !has_left(rows),
+        AutoShutdown::AllSignificant => row.spec.significant && !rows.has_left(),
     }
 }
 
@@ -72,15 +59,15 @@ pub fn list_running(rows: &[Row], list: &mut Vec<u64>)
 }
 
 /// Adds the children that are started again.
-pub fn list_dues(rows: &[Row], kept: Option<u64>, list: &mut Vec<Due>)
-    requires { vec_len list.old + length rows.now ≤ vec_capacity list.old }
+pub fn list_dues(rows: &[Row], kept: Option<u64>, list: &mut VecDeque<Due>)
+    requires { deque_len list.old + length rows.now ≤ deque_capacity list.old }
     ensures items { list.new.items ≡ list.old.items ++ dues kept rows.now }
-    ensures len { vec_len list.new ≤ vec_len list.old + length rows.now }
-    ensures capacity { vec_capacity list.old ≤ vec_capacity list.new }
+    ensures len { deque_len list.new ≤ deque_len list.old + length rows.now }
+    ensures capacity { deque_capacity list.old ≤ deque_capacity list.new }
 {
     for row in rows {
         if !is_temporary(row.spec.restart) {
-            list.push_reserved(Due { id: row.id, kept });
+            list.push_back_reserved(Due { id: row.id, kept });
         }
     }
 }

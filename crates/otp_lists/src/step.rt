@@ -2,6 +2,7 @@
 
 ghost use Rattle.std.specs.Prelude.{◌≡◌, ◌+◌, ◌<◌, ◌≤◌, ◌++◌, Some, length, map, slice_get, slice_set, vec_len, vec_capacity};
 ghost use Rattle.std.specs.List.{filter_map};
+ghost use Rattle.std.specs.VecDeque.{deque_len, deque_capacity};
 ghost use Rattle.otp_spec.specs.declared.limits.TheConstants.{MAX_CHILDREN};
 ghost use Rattle.otp_table.specs.declared.row.Row.{Row};
 ghost use Rattle.otp_rules.specs.Step.{due_of, kill_order, killed, late_number, rows_from};
@@ -9,13 +10,14 @@ ghost use Rattle.otp_rules.specs.Step.{due_of, kill_order, killed, late_number, 
 use otp_rules::{Due, Effect};
 use otp_spec::ChildSpec;
 use otp_table::{Row, RowState, Rows};
+use std::collections::VecDeque;
 
 /// Adds a row and a start for each specification. Where there are no rows yet, a child's slot is the place of its
 /// specification.
-pub fn list_children(specs: &[ChildSpec], rows: &mut Rows, starts: &mut Vec<Due>)
+pub fn list_children(specs: &[ChildSpec], rows: &mut Rows, starts: &mut VecDeque<Due>)
     requires limit { length specs.now + length rows.old.rows ≤ MAX_CHILDREN }
     requires rows { length specs.now ≤ rows.old.room }
-    requires starts { vec_len starts.old + length specs.now ≤ vec_capacity starts.old }
+    requires starts { deque_len starts.old + length specs.now ≤ deque_capacity starts.old }
     ensures rows { rows.new.rows ≡ rows.old.rows ++ rows_from (length rows.old.rows) specs.now }
     ensures starts { starts.new.items ≡ starts.old.items ++ map due_of specs.now }
 {
@@ -26,7 +28,7 @@ pub fn list_children(specs: &[ChildSpec], rows: &mut Rows, starts: &mut Vec<Due>
             spec: *spec,
             state: RowState::Undefined,
         });
-        starts.push_reserved(Due {
+        starts.push_back_reserved(Due {
             id: Some(spec.id),
             kept: None,
         });

@@ -52,10 +52,10 @@ pub record CanDecide (m : Machine) : Type 0 where
   pub waiting : deque_len m.waiting < deque_capacity m.waiting
   pub to_stop : length m.rows.rows ≤ vec_capacity m.to_stop
   pub one_stop : 0 < vec_capacity m.to_stop
-  pub to_start : length m.rows.rows ≤ vec_capacity m.to_start
-  pub specs : vec_len m.specs ≤ vec_capacity m.to_start
+  pub to_start : length m.rows.rows ≤ deque_capacity m.to_start
+  pub specs : vec_len m.specs ≤ deque_capacity m.to_start
   pub limit : length m.specs.items ≤ MAX_CHILDREN
-  pub one_start : 0 < vec_capacity m.to_start
+  pub one_start : 0 < deque_capacity m.to_start
   pub room : vec_len m.specs ≤ m.rows.room
   pub one_row : 0 < m.rows.room
   pub lines : length m.rows.rows ≤ vec_capacity m.spare_lines
@@ -73,9 +73,9 @@ pub record HasMemory (m : Machine) : Type 0 where
   pub waiting : deque_len m.waiting < deque_capacity m.waiting
   pub to_stop : length m.rows.rows ≤ vec_capacity m.to_stop
   pub one_stop : 0 < vec_capacity m.to_stop
-  pub to_start : length m.rows.rows ≤ vec_capacity m.to_start
-  pub specs : vec_len m.specs ≤ vec_capacity m.to_start
-  pub one_start : 0 < vec_capacity m.to_start
+  pub to_start : length m.rows.rows ≤ deque_capacity m.to_start
+  pub specs : vec_len m.specs ≤ deque_capacity m.to_start
+  pub one_start : 0 < deque_capacity m.to_start
   pub room : vec_len m.specs ≤ m.rows.room
   pub one_row : 0 < m.rows.room
   pub lines : length m.rows.rows ≤ vec_capacity m.spare_lines

@@ -41,7 +41,7 @@ impl Machine {
             Ok(()) => {
                 self.to_stop.clear();
                 self.to_start.clear();
-                self.to_start.push_reserved(Due { id, kept: None });
+                self.to_start.push_back_reserved(Due { id, kept: None });
                 self.follows = Some(Sequel::Added(call));
             }
         }
@@ -104,7 +104,7 @@ impl Machine {
     {
         self.to_stop.clear();
         self.to_start.clear();
-        self.to_start.push_reserved(Due {
+        self.to_start.push_back_reserved(Due {
             id: Some(id),
             kept: None,
         });

@@ -50,16 +50,15 @@ impl Machine {
         ensures supervisors { result.supervisors ≤ MAX_CHILDREN }
         ensures workers { result.workers ≤ MAX_CHILDREN }
     {
-        let rows = self.rows.as_slice();
         CountsNow {
             specs: if self.strategy.is_simple() {
                 1
             } else {
                 self.rows.len() as u64
             },
-            active: count_active(rows) as u64,
-            supervisors: count_supervisors(rows) as u64,
-            workers: count_workers(rows) as u64,
+            active: count_active(&self.rows) as u64,
+            supervisors: count_supervisors(&self.rows) as u64,
+            workers: count_workers(&self.rows) as u64,
         }
     }
 }

@@ -1,6 +1,7 @@
 //! A child ends by itself with no work open, or its restart is tried again (`specs/Deaths` of the rules).
 
-ghost use Rattle.std.specs.Prelude.{◌≡◌, ◌<◌, ◌≤◌, Some, length, slice_get, vec_capacity};
+ghost use Rattle.std.specs.Prelude.{◌≡◌, ◌<◌, ◌≤◌, Some, length, slice_get};
+ghost use Rattle.std.specs.VecDeque.{deque_capacity};
 
 use crate::machine::Machine;
 use otp_lists::restarts::{affected, ends_by_significance, is_restarted, list_dues, list_running};
@@ -17,7 +18,7 @@ impl Machine {
     #[tactic(auto, unfolding(otp_rules::specs::Deaths::restart_rows))]
     fn restart_rows(&mut self, from: usize, to: usize, place: usize, kept: u64)
         requires room { CanStop self.old }
-        requires starts { length self.old.rows.rows ≤ vec_capacity self.old.to_start }
+        requires starts { length self.old.rows.rows ≤ deque_capacity self.old.to_start }
         requires from { from ≤ place }
         requires place { place < to }
         requires to { to ≤ length self.old.rows.rows }
@@ -68,7 +69,7 @@ impl Machine {
         ensures outcome { outcome_of self.new ≡ after_end number row.now (outcome_of self.old) }
         ensures room { CanAdvance self.new }
     {
-        if ends_by_significance(self.auto_shutdown, row, self.rows.as_slice()) {
+        if ends_by_significance(self.auto_shutdown, row, &self.rows) {
             self.terminate(Ending::Significant(number));
         }
     }
@@ -82,10 +83,11 @@ impl Machine {
             outcome_of self.new ≡ death number reason place row (outcome_of self.old) }
         ensures room { CanAdvance self.new }
     {
-        let row = *self.rows.get(place);
-        if is_restarted(row.spec.restart, &reason) {
+        let restart = self.rows.get(place).spec.restart;
+        if is_restarted(restart, &reason) {
             self.restart(place, number);
         } else {
+            let row = *self.rows.get(place);
             self.end_row(place);
             self.after_end(number, &row);
         }

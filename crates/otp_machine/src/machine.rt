@@ -1,6 +1,7 @@
 //! What events change (`specs/State` of the rules).
 
 ghost use Rattle.std.specs.Prelude.{◌≡◌, ◌+◌, ◌<◌, ◌≤◌, ◌^◌, OnOk, vec_len, vec_capacity};
+ghost use Rattle.std.specs.VecDeque.{deque_capacity};
 
 use otp_lists::answers::Answers;
 use otp_rules::{ChildLine, Due, Effect, Phase, Reply, Sequel, SupEnd, Waiting};
@@ -22,7 +23,7 @@ pub struct Machine {
     /// In start order: the last one is stopped first.
     pub to_stop: Vec<u64>,
     /// In start order.
-    pub to_start: Vec<Due>,
+    pub to_start: VecDeque<Due>,
     pub follows: Option<Sequel>,
     pub waiting: VecDeque<Waiting>,
     pub replies: Answers,
@@ -72,7 +73,7 @@ impl Machine {
         self.ends.reserve(1)?;
         self.window.reserve()?;
         reserve_in_all(&mut self.to_stop, rows + 1)?;
-        reserve_in_all(&mut self.to_start, rows + specs + 1)?;
+        reserve_starts(&mut self.to_start, rows + specs + 1)?;
         self.rows.reserve(specs + 1)?;
         reserve_in_all(&mut self.spare_lines, rows)?;
         reserve_in_all(&mut self.spare_stamps, stamps)?;
@@ -118,6 +119,15 @@ fn reserve_in_all<T: Drop>(list: &mut Vec<T>, count: usize) -> Result<(), AllocE
     requires { count < 2 ^ 32 }
     ensures items { list.new.items ≡ list.old.items }
     ensures ok { OnOk result (count ≤ vec_capacity list.new) }
+{
+    list.reserve(count.saturating_sub(list.len()))
+}
+
+/// The same for the children that are to be started.
+fn reserve_starts(list: &mut VecDeque<Due>, count: usize) -> Result<(), AllocError>
+    requires { count < 2 ^ 32 }
+    ensures items { list.new.items ≡ list.old.items }
+    ensures ok { OnOk result (count ≤ deque_capacity list.new) }
 {
     list.reserve(count.saturating_sub(list.len()))
 }

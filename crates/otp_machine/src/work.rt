@@ -45,12 +45,11 @@ impl Machine {
         ensures starts { is_some result ≡ has_due self.old.to_start.items }
         ensures drawn { MatchOption result (numbers.new ≡ numbers.old) (λ n. N.gives numbers.old n numbers.new) }
     {
-        if self.to_start.is_empty() {
+        let Some(due) = self.to_start.pop_front() else {
             self.follow();
             return None;
-        }
+        };
         let number = numbers.next();
-        let due = self.to_start.remove(0);
         self.start(due, number);
         Some(number)
     }

@@ -1,13 +1,13 @@
 -- The first rows, of which none is undefined.
-use Rattle.std.proofs.Common.{◌≡◌, ℕ, ◌+◌, ◌-◌, ◌<◌, ◌≤◌, ◌⊎◌, List, [], ◌∷◌, ◌++◌, ◌∙◌, ap, arith, cond, get_or, inl, inr, length, refl, set, subst, suc, sym, zero}
-use Rattle.std.specs.Prelude.{Bool, true, false, count_by, min, slice_set}
-use Rattle.std.specs.List.{remove, sum_by}
+use Rattle.std.proofs.Common.{◌≡◌, ℕ, ◌+◌, ◌<◌, ◌≤◌, List, [], ◌∷◌, ◌++◌, ◌∙◌, ap, arith, cond, get_or, inl, inr, length, refl, set, subst, suc, sym, zero}
+use Rattle.std.specs.Prelude.{Bool, false, count_by}
+use Rattle.std.specs.List.{remove}
 use Rattle.std.proofs.lemmas.Bool.{cases_lt, false_from_ne_true}
 use Rattle.std.proofs.lemmas.List.{get_or_append_left, get_or-set_other, get_or_default, length-set}
 use Rattle.std.proofs.lemmas.List.Sums.{sum_by-cons}
 use Rattle.otp_table.specs.declared.row.Row.{Row}
 use Rattle.otp_table.specs.declared.row.RowState.{RowState}
-use Rattle.otp_table.specs.Rows.{AreDefined, AreDefinedBut, is_undefined, row_has, with_state}
+use Rattle.otp_table.specs.Rows.{AreDefined, AreDefinedBut, is_undefined, row_has}
 use Rattle.otp_table.proofs.Indexed.{same_or}
 
 abbrev one : Row → ℕ

@@ -1,5 +1,5 @@
 -- The rows of a supervisor's children: what is asked of one row.
-use Rattle.std.specs.Prelude.{ℕ, ◌≡◌, ◌<◌, get_or, ◌+◌, Bool, true, false, ◌==◌, Option, Some, None, List, [], ◌∷◌, map, length, if◌then◌else◌}
+use Rattle.std.specs.Prelude.{ℕ, ◌≡◌, ◌<◌, get_or, ◌+◌, Bool, true, false, not, ◌&&◌, ◌==◌, is_some, Option, Some, None, List, [], ◌∷◌, map, length, if◌then◌else◌}
 use Rattle.std.specs.List.{list_any}
 use Prim.Native.Nat.{zero, suc}
 use Rattle.std.specs.Option.{option_eq}
@@ -7,6 +7,8 @@ use Rattle.std.specs.Str.{bytes_eq}
 use Rattle.std.specs.Ordering.{on}
 use Rattle.otp_reason.specs.declared.name.Name.{Name}
 use Rattle.otp_reason.specs.Names.{name_bytes}
+use Rattle.otp_spec.specs.declared.child.ChildType.{ChildType}
+use Rattle.otp_spec.specs.declared.child.ChildType.TheVariants.{Worker, Supervisor}
 use Rattle.otp_table.specs.declared.row.Row.{Row}
 use Rattle.otp_table.specs.declared.row.RowState.{RowState}
 use Rattle.otp_table.specs.declared.row.RowState.TheVariants.{Undefined, Starting, Up, Asked, Killed, Restarting}
@@ -65,6 +67,18 @@ is_awaited (Asked _ _) = true
 is_awaited (Killed _) = true
 is_awaited (Restarting _) = false
 
+-- the process was started and hasn't ended (own)
+abbrev pub is_active : RowState → Bool
+is_active (Up _) = true
+is_active (Asked _ _) = true
+is_active (Killed _) = true
+is_active _ = false
+
+-- the process was told to shut down until a deadline (own)
+abbrev pub is_timed : RowState → Bool
+is_timed (Asked _ deadline) = is_some deadline
+is_timed _ = false
+
 -- there is no process, and no retry waits (supervisor, which_children/1)
 abbrev pub is_undefined : RowState → Bool
 is_undefined Undefined = true
@@ -104,6 +118,25 @@ calmed (Restarting _) = Undefined
 -- the row's state is such a one
 abbrev pub row_has : (RowState → Bool) → Row → Bool
 row_has test row = test row.state
+
+-- the child is a supervisor, a worker
+abbrev pub of_supervisor : ChildType → Bool
+of_supervisor Worker = false
+of_supervisor Supervisor = true
+
+abbrev pub of_worker : ChildType → Bool
+of_worker Worker = true
+of_worker Supervisor = false
+
+-- a significant child that is left
+abbrev pub is_left : Row → Bool
+is_left row = row.spec.significant && not (is_undefined row.state)
+
+abbrev pub is_supervisor : Row → Bool
+is_supervisor row = of_supervisor row.spec.kind
+
+abbrev pub is_worker : Row → Bool
+is_worker row = of_worker row.spec.kind
 
 -- the row has this id: the same bytes. A dynamic row has none (supervisor, child_id())
 abbrev pub has_id : Name → Row → Bool

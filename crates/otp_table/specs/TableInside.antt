@@ -1,7 +1,8 @@
-use Rattle.std.specs.Prelude.{◌≡◌, ◌+◌, ◌≤◌, IsTrue, count_by, vec_len, vec_capacity}
+use Rattle.std.specs.Prelude.{◌+◌, ◌≤◌, IsTrue, vec_len, vec_capacity}
 use Rattle.otp_spec.specs.declared.limits.TheConstants.{MAX_CHILDREN}
+use Rattle.otp_table.specs.Counted.{AreCounted}
 use Rattle.otp_table.specs.Marks.{AreMarks, Rises, number_at}
-use Rattle.otp_table.specs.Rows.{AreDefined, is_awaited, is_undefined, row_has}
+use Rattle.otp_table.specs.Rows.{AreDefined}
 use Rattle.otp_table.specs.Table.{Table}
 use Rattle.otp_table.specs.declared.rows.Rows.TheInside.{Inside}
 
@@ -12,11 +13,9 @@ table_of t = record { rows = t.items.items; room = t.room }
 pub record IsTable (t : Inside) : Type 0 where
   pub room : vec_len t.items + t.room ≤ vec_capacity t.items
   pub limit : vec_len t.items ≤ MAX_CHILDREN
-  -- the awaited rows are counted
-  pub awaited : t.awaited ≡ count_by (row_has is_awaited) t.items.items
-  -- so are those that are undefined
-  pub undefined : t.undefined ≡ count_by (row_has is_undefined) t.items.items
-  -- and none of the first is
+  -- the rows are counted
+  pub counted : AreCounted t.counts t.items.items
+  -- none of the first is undefined
   pub defined : AreDefined t.defined t.items.items
   -- the room is there for the marks of all rows too
   pub marks_room : vec_len t.items + t.room ≤ vec_capacity t.marks

@@ -1,6 +1,7 @@
 //! The rows of one supervisor: its children in start order.
 #![tactic(auto)]
 
+mod counts;
 mod marks;
 pub mod row;
 pub mod rows;

@@ -1,6 +1,6 @@
 //! Rows by their numbers: an index that is kept in the order of the numbers and searched by halving.
 
-ghost use Rattle.std.specs.Prelude.{◌≡◌, ◌+◌, ◌-◌, ◌<◌, ◌≤◌, ℕ, [], All, AllPairs, IfSome, IsTrue, None, Some, MatchOption, OnOk, OnErr, get_or, length, max, map, vec_len, vec_capacity};
+ghost use Rattle.std.specs.Prelude.{◌≡◌, ◌+◌, ◌-◌, ◌<◌, ◌≤◌, ◌↔◌, ℕ, [], All, AllPairs, IfSome, IsTrue, None, Some, MatchOption, OnOk, OnErr, get_or, length, max, map, vec_len, vec_capacity};
 ghost use Rattle.otp_table.specs.Marks.{HasNumber, IsChanged, IsGone, IsPut, IsTaken, IsUnder, Rises, moved, number_at};
 
 use crate::row::Row;
@@ -12,6 +12,28 @@ pub struct Mark {
     pub place: usize,
 }
 
+/// Whether the number is above all of these.
+fn is_above(marks: &[Mark], number: u64) -> bool
+    requires { Rises marks.now }
+    ensures { IsTrue result → (k : ℕ) (d : Mark) → k < length marks.now → (get_or marks.now k d).number < number }
+{
+    marks.is_empty() || marks[marks.len() - 1].number < number
+}
+
+/// A place before which all numbers are below this one. A number that is above them all, as that of a child that is
+/// started, belongs at the end.
+fn low_end(marks: &[Mark], number: u64) -> usize
+    requires { Rises marks.now }
+    ensures inside { result ≤ length marks.now }
+    ensures before { (k : ℕ) (d : Mark) → k < result → (get_or marks.now k d).number < number }
+{
+    if is_above(marks, number) {
+        marks.len()
+    } else {
+        0
+    }
+}
+
 /// The first place from which on the numbers, which rise, are this one or above it.
 pub fn first_from(marks: &[Mark], number: u64) -> usize
     requires { Rises marks.now }
@@ -19,7 +41,7 @@ pub fn first_from(marks: &[Mark], number: u64) -> usize
     ensures before { (k : ℕ) (d : Mark) → k < result → (get_or marks.now k d).number < number }
     ensures after { (k : ℕ) (d : Mark) → result ≤ k → k < length marks.now → number ≤ (get_or marks.now k d).number }
 {
-    let mut low = 0;
+    let mut low = low_end(marks, number);
     let mut high = marks.len();
     while low < high {
         let middle = low + (high - low) / 2;
@@ -160,6 +182,17 @@ fn put_new(marks: &mut Vec<Mark>, place: usize, new: Option<u64>) -> bool
     }
 }
 
+/// Whether these are the same number, or none both times.
+fn is_same(one: Option<u64>, other: Option<u64>) -> bool
+    ensures { IsTrue result ↔ (one ≡ other) }
+{
+    match (one, other) {
+        (Some(one), Some(other)) => one == other,
+        (None, None) => true,
+        _ => false,
+    }
+}
+
 /// The row at the place has one number now in place of another. Whether the marks told of each row, and do so still.
 pub fn change_mark(
     marks: &mut Vec<Mark>,
@@ -176,6 +209,9 @@ pub fn change_mark(
 {
     if !is_marked {
         return false;
+    }
+    if is_same(old, new) {
+        return true;
     }
     take_old(marks, place, old);
     put_new(marks, place, new)

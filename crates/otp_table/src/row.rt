@@ -1,7 +1,7 @@
 //! A child's row: who it is, how it was specified, and what its process does.
 
 use otp_reason::Name;
-use otp_spec::ChildSpec;
+use otp_spec::{ChildSpec, ChildType};
 
 /// What the process of a child does. Each state has its own process number, so that no state is read as another.
 #[derive(Clone, Copy, Debug, PartialEq, Eq)]
@@ -33,7 +33,7 @@ pub struct Row {
 
 impl RowState {
     ghost use Rattle.std.specs.Prelude.{◌≡◌};
-    ghost use Rattle.otp_table.specs.Rows.{number_of, up_number, has_number, has_process, awaits_retry, is_awaited, is_undefined, is_up, is_restarting, calmed};
+    ghost use Rattle.otp_table.specs.Rows.{number_of, up_number, has_number, has_process, awaits_retry, is_awaited, is_active, is_timed, is_undefined, is_up, is_restarting, calmed};
 
     /// The number of the process, or the one that the waiting retry has.
     pub fn number(&self) -> Option<u64>
@@ -103,6 +103,23 @@ impl RowState {
         }
     }
 
+    /// Whether the process was started and has not ended.
+    pub fn is_active(&self) -> bool
+        ensures { result ≡ is_active self.now }
+    {
+        match self {
+            RowState::Up(_) | RowState::Asked(..) | RowState::Killed(_) => true,
+            RowState::Undefined | RowState::Starting(..) | RowState::Restarting(_) => false,
+        }
+    }
+
+    /// Whether the process was told to shut down until a deadline.
+    pub fn is_timed(&self) -> bool
+        ensures { result ≡ is_timed self.now }
+    {
+        matches!(self, RowState::Asked(_, Some(_)))
+    }
+
     /// Whether there is no process, and no retry waits.
     pub fn is_undefined(&self) -> bool
         ensures { result ≡ is_undefined self.now }
@@ -136,13 +153,40 @@ impl RowState {
 }
 
 impl Row {
-    ghost use Rattle.std.specs.Prelude.{◌≡◌};
-    ghost use Rattle.otp_table.specs.Rows.{has_id};
+    ghost use Rattle.std.specs.Prelude.{◌≡◌, ◌&&◌, not};
+    ghost use Rattle.otp_table.specs.Rows.{has_id, is_left, is_supervisor, is_worker};
 
     /// Whether the child has this id.
     pub fn has_id(&self, id: &Name) -> bool
         ensures { result ≡ has_id id.now self.now }
     {
         self.id == Some(*id)
+    }
+
+    /// Whether it is a significant child that is left.
+    pub fn is_left(&self) -> bool
+        ensures { result ≡ is_left self.now }
+    {
+        self.spec.significant && !self.state.is_undefined()
+    }
+
+    /// Whether the child is a supervisor.
+    pub fn is_supervisor(&self) -> bool
+        ensures { result ≡ is_supervisor self.now }
+    {
+        match self.spec.kind {
+            ChildType::Supervisor => true,
+            ChildType::Worker => false,
+        }
+    }
+
+    /// Whether the child is a worker.
+    pub fn is_worker(&self) -> bool
+        ensures { result ≡ is_worker self.now }
+    {
+        match self.spec.kind {
+            ChildType::Worker => true,
+            ChildType::Supervisor => false,
+        }
     }
 }

@@ -1,8 +1,9 @@
 ghost use Rattle.std.specs.Prelude.{List, count_by, get_or, ◌≡◌, ◌+◌, ◌<◌, ◌≤◌, ◌==◌, ◌++◌, ◌∷◌, [], length, max, nat_le, position, remove, vec_len, vec_capacity, slice_get, slice_range, slice_set, take, drop, OnOk, OnErr, Some, if◌then◌else◌};
-ghost use Rattle.otp_table.specs.Rows.{AreDefined, AreDefinedBut, awaits_retry, calm_rows, calmed, free_slot, has_id, has_number, has_process, is_awaited, is_undefined, row_has, with_state};
+ghost use Rattle.otp_table.specs.Rows.{AreDefined, AreDefinedBut, awaits_retry, calm_rows, calmed, free_slot, has_id, has_number, has_process, is_active, is_awaited, is_left, is_supervisor, is_timed, is_undefined, is_worker, row_has, with_state};
 ghost use Rattle.std.specs.List.{list_any};
 ghost use Rattle.otp_table.specs.declared.row.Row.{Row};
 
+use crate::counts::{Counts, counts_as, counts_with, counts_without};
 use crate::marks::{Mark, change_mark, number_in, remove_mark};
 use crate::row::{Row, RowState};
 use crate::search;
@@ -17,10 +18,8 @@ pub struct Rows {
     items: Vec<Row>,
     /// How many more rows the memory of `items` is known to hold.
     room: usize,
-    /// How many rows are awaited.
-    awaited: usize,
-    /// How many rows are undefined.
-    undefined: usize,
+    /// How many rows there are of some kinds.
+    counts: Counts,
     /// So many rows, the first, are not undefined.
     defined: usize,
     /// The places of the rows that have a number, in the order of these.
@@ -50,8 +49,7 @@ impl Rows {
         Rows {
             items: Vec::new(alloc),
             room: 0,
-            awaited: 0,
-            undefined: 0,
+            counts: Counts::new(),
             defined: 0,
             marks: Vec::new(alloc),
             is_marked: true,
@@ -99,7 +97,45 @@ impl Rows {
     pub fn has_awaited(&self) -> bool
         ensures { result ≡ list_any (row_has is_awaited) self.now.rows }
     {
-        self.awaited > 0
+        self.counts.awaited > 0
+    }
+
+    /// Whether a child was told to shut down until a deadline. Looks at no row.
+    pub fn has_timed(&self) -> bool
+        ensures { result ≡ list_any (row_has is_timed) self.now.rows }
+    {
+        self.counts.timed > 0
+    }
+
+    /// Whether a significant child is left. Looks at no row.
+    pub fn has_left(&self) -> bool
+        ensures { result ≡ list_any is_left self.now.rows }
+    {
+        self.counts.left > 0
+    }
+
+    /// How many children have a process that was started and has not ended. Looks at no row.
+    pub fn count_active(&self) -> usize
+        ensures count { result ≡ count_by (row_has is_active) self.now.rows }
+        ensures limit { result ≤ MAX_CHILDREN }
+    {
+        self.counts.active
+    }
+
+    /// How many children are supervisors. Looks at no row.
+    pub fn count_supervisors(&self) -> usize
+        ensures count { result ≡ count_by is_supervisor self.now.rows }
+        ensures limit { result ≤ MAX_CHILDREN }
+    {
+        self.counts.supervisors
+    }
+
+    /// How many children are workers. Looks at no row.
+    pub fn count_workers(&self) -> usize
+        ensures count { result ≡ count_by is_worker self.now.rows }
+        ensures limit { result ≤ MAX_CHILDREN }
+    {
+        self.counts.workers
     }
 
     /// A place before which no row is undefined. Where rows are started in their order, or one row is undefined, it is
@@ -199,8 +235,7 @@ impl Rows {
         if self.is_full() {
             return Err(SpecFault::TooManyChildren);
         }
-        self.awaited += row.state.is_awaited() as usize;
-        self.undefined += row.state.is_undefined() as usize;
+        self.counts = counts_with(&self.items, self.counts, &row);
         self.defined = self.defined.min(self.items.len());
         self.is_marked = change_mark(
             &mut self.marks,
@@ -222,11 +257,8 @@ impl Rows {
         ensures len { length self.new.rows ≡ length self.old.rows }
         ensures room { self.new.room ≡ self.old.room }
     {
-        self.awaited -= self.items[place].state.is_awaited() as usize;
-        self.awaited += state.is_awaited() as usize;
-        self.undefined -= self.items[place].state.is_undefined() as usize;
-        self.undefined += state.is_undefined() as usize;
-        self.defined = defined_after(self.defined, place, state, self.undefined);
+        self.counts = counts_as(&self.items, self.counts, place, state);
+        self.defined = defined_after(self.defined, place, state, self.counts.undefined);
         let number = number_in(&self.items, place);
         self.is_marked = change_mark(
             &mut self.marks,
@@ -272,8 +304,7 @@ impl Rows {
         ensures len { length self.new.rows + 1 ≡ length self.old.rows }
         ensures room { self.new.room ≡ self.old.room }
     {
-        self.awaited -= self.items[place].state.is_awaited() as usize;
-        self.undefined -= self.items[place].state.is_undefined() as usize;
+        self.counts = counts_without(&self.items, self.counts, place);
         self.defined = defined_without(self.defined, place);
         let number = number_in(&self.items, place);
         remove_mark(&mut self.marks, place, number);
@@ -286,8 +317,7 @@ impl Rows {
         ensures room { self.new.room ≡ self.old.room }
     {
         self.items.clear();
-        self.awaited = 0;
-        self.undefined = 0;
+        self.counts = Counts::new();
         self.defined = 0;
         self.marks.clear();
         self.is_marked = true;

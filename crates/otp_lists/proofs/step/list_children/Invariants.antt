@@ -1,4 +1,5 @@
-use Rattle.std.proofs.Common.{◌≡◌, ◌+◌, ◌≤◌, ◌++◌, length, map, drop, vec_len, vec_capacity}
+use Rattle.std.proofs.Common.{◌≡◌, ◌+◌, ◌≤◌, ◌++◌, length, map, drop}
+use Rattle.std.specs.VecDeque.{deque_len, deque_capacity}
 use Rattle.otp_rules.specs.Step.{rows_from, due_of}
 use Rattle.otp_lists.proofs.step.list_children.Given as goal
 
@@ -9,6 +10,6 @@ invariant-loop-spec l =
       starts : l.starts.items ++ map due_of (drop l.spec-index l.specs) ≡ l.fn.starts.items ++ map due_of l.specs;
       limit : length l.rows.rows ≡ length l.fn.rows.rows + l.spec-index;
       rows_room : length l.specs ≤ l.rows.room + l.spec-index;
-      starts_len : vec_len l.starts ≡ vec_len l.fn.starts + l.spec-index;
-      starts_room : vec_capacity l.starts ≡ vec_capacity l.fn.starts;
+      starts_len : deque_len l.starts ≡ deque_len l.fn.starts + l.spec-index;
+      starts_room : deque_capacity l.starts ≡ deque_capacity l.fn.starts;
     }

@@ -1,7 +1,8 @@
-use Rattle.std.proofs.Common.{rules, arith, subst}
+use Rattle.std.proofs.Common.{rules, arith, subst, sym, [], ◌∷◌, ◌++◌}
 use Rattle.std.proofs.lemmas.Grind.{common_steps}
 use Rattle.std.proofs.Common.{◌≡◌, ℕ, List, None, Option, length}
 use Rattle.otp_table.specs.declared.marks.Mark.{Mark}
+use Rattle.otp_table.specs.Counted.{AreCounted}
 use Rattle.otp_table.specs.declared.row.Row.{Row}
 use Rattle.otp_table.specs.Marks.{IsChanged}
 use Rattle.otp_table.proofs.Indexed.{pushed_marks}
@@ -13,8 +14,7 @@ invariant_of-self c =
     record {
       room = search rules;
       limit = search rules;
-      awaited = grind (arith, common_steps);
-      undefined = grind (arith, common_steps);
+      counted = subst (AreCounted _) (sym c.push_reserved.ensures.items) (subst (λ (xs : List Row). AreCounted c.counts_with-self-inside.result (xs ++ c.args.row ∷ [])) c.deref.ensures.value c.counts_with-self-inside.ensures);
       defined = pushed_defined c.self.inside.items.items c.push_reserved.new.self.items c.self.inside.defined _ c.args.row c.push_reserved.ensures.items c.self.invariant.defined (omega (arith, c.min-self-inside.ensures)) (grind (arith, common_steps));
       marks_room = search rules;
       rises = c.change_mark-self-inside.ensures.rises;

@@ -1,10 +1,11 @@
-use Rattle.std.proofs.Common.{rules, ap, arith, refl, subst, sym, ◌∙◌}
-use Rattle.std.proofs.lemmas.Grind.{common_steps}
+use Rattle.std.proofs.Common.{rules, ap, refl, subst, sym, ◌∙◌}
 use Rattle.std.proofs.Common.{◌≡◌, ◌<◌, ℕ, List, Option, Some, length}
 use Rattle.std.specs.Prelude.{slice_get}
+use Rattle.std.specs.List.{remove}
 use Rattle.std.proofs.lemmas.Option.{slice_get_read}
 use Rattle.otp_table.specs.Table.{Table}
 use Rattle.otp_table.specs.declared.marks.Mark.{Mark}
+use Rattle.otp_table.specs.Counted.{AreCounted}
 use Rattle.otp_table.specs.declared.row.Row.{Row}
 use Rattle.otp_table.specs.Marks.{IsGone, number_at}
 use Rattle.otp_table.proofs.Indexed.{removed_marks}
@@ -16,8 +17,7 @@ invariant_of-self c =
     record {
       room = search rules;
       limit = search rules;
-      awaited = grind (arith, common_steps);
-      undefined = grind (arith, common_steps);
+      counted = subst (AreCounted c.counts_without-self-inside.result) (sym c.remove.ensures.items) (subst (λ (xs : List Row). AreCounted c.counts_without-self-inside.result (remove xs c.args.place)) c.deref.ensures.value c.counts_without-self-inside.ensures);
       defined = removed_defined c.self.inside.items.items c.remove.new.self.items c.args.place c.self.inside.defined _ c.remove.ensures.items (search rules) c.self.invariant.defined c.defined_without-self-inside.ensures.less c.defined_without-self-inside.ensures.gone;
       marks_room = search rules;
       rises = c.remove_mark.ensures.rises;
@@ -26,7 +26,7 @@ invariant_of-self c =
           let ms : List Mark = c.self.inside.marks.items in
           let after : List Mark = c.remove_mark.new.marks.items in
           let p : ℕ = c.args.place in
-          let old : c.number_in-number.result ≡ number_at rows p = c.number_in-number.ensures ∙ ap (λ (xs : List Row). number_at xs p) c.deref.ensures.value in
+          let old : c.number_in-number.result ≡ number_at rows p = c.number_in-number.ensures ∙ ap (λ (xs : List Row). number_at xs p) c.deref-2.ensures.value in
           removed_marks rows c.remove.new.self.items p ms after c.remove.ensures.items (c.self.invariant.marked yes)
           (subst (λ (o : Option ℕ). IsGone p o ms after) old c.remove_mark.ensures.gone);
     }

@@ -1,4 +1,5 @@
 use Rattle.std.proofs.Common.{rules, refl, subst, sym}
+use Rattle.otp_table.specs.Counted.{AreCounted}
 use Rattle.otp_table.specs.Marks.{Rises}
 use Rattle.otp_table.proofs.Indexed.{same_marks}
 use Rattle.otp_table.specs.Rows.{AreDefined}
@@ -9,8 +10,7 @@ invariant_of-self c =
     record {
       room = search rules;
       limit = search rules;
-      awaited = search rules;
-      undefined = search rules;
+      counted = subst (AreCounted c.self.inside.counts) (sym c.reserve.ensures.items) c.self.invariant.counted;
       defined = subst (AreDefined c.self.inside.defined) (sym c.reserve.ensures.items) c.self.invariant.defined;
       marks_room = search rules;
       rises = c.self.invariant.rises;
@@ -22,8 +22,7 @@ invariant_of-self-in_err-reserve_marks c =
     record {
       room = search rules;
       limit = search rules;
-      awaited = search rules;
-      undefined = search rules;
+      counted = subst (AreCounted c.self.inside.counts) (sym c.reserve.ensures.items) c.self.invariant.counted;
       defined = subst (AreDefined c.self.inside.defined) (sym c.reserve.ensures.items) c.self.invariant.defined;
       marks_room = search rules;
       rises = subst Rises (sym c.reserve_marks.ensures.items) c.self.invariant.rises;
@@ -35,8 +34,7 @@ invariant_of-self-2 c =
     record {
       room = search rules;
       limit = search rules;
-      awaited = search rules;
-      undefined = search rules;
+      counted = subst (AreCounted c.self.inside.counts) (sym c.reserve.ensures.items) c.self.invariant.counted;
       defined = subst (AreDefined c.self.inside.defined) (sym c.reserve.ensures.items) c.self.invariant.defined;
       marks_room = search rules;
       rises = subst Rises (sym c.reserve_marks.ensures.items) c.self.invariant.rises;

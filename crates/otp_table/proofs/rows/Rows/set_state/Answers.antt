@@ -1,7 +1,7 @@
-use Rattle.std.proofs.Common.{rules, ap, arith, subst, ◌∙◌}
-use Rattle.std.proofs.lemmas.Grind.{common_steps}
+use Rattle.std.proofs.Common.{rules, ap, get_or, set, subst, sym, ◌∙◌}
 use Rattle.std.proofs.Common.{◌≡◌, ◌<◌, ℕ, List, Option, length}
 use Rattle.otp_table.specs.declared.marks.Mark.{Mark}
+use Rattle.otp_table.specs.Counted.{AreCounted}
 use Rattle.otp_table.specs.declared.row.Row.{Row}
 use Rattle.otp_table.specs.Rows.{with_state}
 use Rattle.otp_table.specs.Marks.{IsChanged, number_at}
@@ -12,12 +12,19 @@ use Rattle.otp_table.proofs.rows.Rows.set_state.Goals as goal
 
 pub invariant_of-self : goal.invariant_of-self
 invariant_of-self c =
+    let items : List Row = c.self.inside.items.items in
+    let here : Row = c.index_mut.result.now in
+    let is_here : get_or items c.args.place here ≡ here = search rules in
+    let as_state : List Row → List Row = λ (xs : List Row). set xs c.args.place (with_state c.args.state (get_or xs c.args.place here)) in
+    let counts : AreCounted c.counts_as-self-inside.result (as_state items) =
+    subst (λ (xs : List Row). AreCounted c.counts_as-self-inside.result (as_state xs)) c.deref.ensures.value (c.counts_as-self-inside.ensures here) in
+    let counted : AreCounted c.counts_as-self-inside.result (set items c.args.place (with_state c.args.state here)) =
+    subst (λ (row : Row). AreCounted c.counts_as-self-inside.result (set items c.args.place (with_state c.args.state row))) is_here counts in
     record {
       room = search rules;
       limit = search rules;
-      awaited = grind (arith, common_steps);
-      undefined = grind (arith, common_steps);
-      defined = c.defined_after-self-inside.ensures _ (grind (arith, common_steps)) (set_but c.self.inside.items.items c.args.place c.self.inside.defined _ c.self.invariant.defined) c.index_mut.result.now
+      counted = counted;
+      defined = c.defined_after-self-inside.ensures _ (sym counted.undefined) (set_but c.self.inside.items.items c.args.place c.self.inside.defined _ c.self.invariant.defined) c.index_mut.result.now
           (ap (λ (r : Row). r.state) (get_or-set_same c.self.inside.items.items c.args.place (with_state c.args.state c.index_mut.result.now) c.index_mut.result.now (search rules)));
       marks_room = search rules;
       rises = c.change_mark-self-inside.ensures.rises;
@@ -28,7 +35,7 @@ invariant_of-self c =
           let p : ℕ = c.args.place in
           let row : Row = with_state c.args.state c.index_mut.result.now in
           let within : p < length rows = search rules in
-          let old : c.number_in-number.result ≡ number_at rows p = c.number_in-number.ensures ∙ ap (λ (xs : List Row). number_at xs p) c.deref.ensures.value in
+          let old : c.number_in-number.result ≡ number_at rows p = c.number_in-number.ensures ∙ ap (λ (xs : List Row). number_at xs p) c.deref-2.ensures.value in
           let changed : IsChanged p c.number_in-number.result c.number.result ms after = c.change_mark-self-inside.ensures.changed yes in
           let from_old : IsChanged p (number_at rows p) c.number.result ms after = subst (λ (o : Option ℕ). IsChanged p o c.number.result ms after) old changed in
           set_marks rows p row ms after within (c.self.invariant.marked (c.change_mark-self-inside.ensures.before yes))
