@@ -26,7 +26,9 @@ fn main(rt: HostRuntime) -> io::Result<ExitCode> {
     let threads = words.next().and_then(|word| word.parse::<usize>().ok());
     let count = words.next().and_then(|word| word.parse::<u64>().ok());
     let (Some(work), Some(threads), Some(count)) = (work, threads, count) else {
-        eprintln!(rt; "usage: otp_bench core|inbox|puts|storm|supervisors|turns|words THREADS COUNT")?;
+        eprintln!(rt;
+            "usage: otp_bench core|inbox|puts|storm|supervisors|turns|words THREADS COUNT"
+        )?;
         return Ok(ExitCode::from(2));
     };
     match work.as_str() {
