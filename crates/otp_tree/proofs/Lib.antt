@@ -1,1 +1,4 @@
 pub mod Fresh
+pub mod Partings
+pub mod Sums
+pub mod Apart

@@ -37,9 +37,14 @@
 
 pub mod client;
 pub mod clock;
+pub mod closing;
+mod complete;
+pub mod evidence;
 pub mod hand;
 pub mod opening;
+mod parting;
 pub mod plan;
+pub mod report;
 pub mod rounds;
 pub mod senders;
 pub mod serving;
@@ -48,10 +53,13 @@ pub mod system;
 
 pub use client::Client;
 pub use clock::{Gate, Millis};
+pub use closing::{CloseFault, Unclosed};
+pub use evidence::Mismatch;
 pub use hand::Hand;
 pub use opening::{MAX_TABLES, Opened, Parts, TreeFault};
 pub use plan::TablePlan;
-pub use rounds::{Leader, Round, lead};
+pub use report::{Report, TableReport};
+pub use rounds::{Leader, Led, Round, RunFault, lead, run_tree};
 pub use senders::Senders;
 pub use serving::{MAX_HANDS, pool_run};
 pub use session::{Session, with_system};

@@ -6,9 +6,11 @@ ghost use Rattle.otp_tree.specs.Opens.{slots_of};
 
 use crate::client::Client;
 use crate::clock::Gate;
+use crate::closing::CloseFault;
 use crate::hand::Hand;
 use crate::opening::{Opened, Parts, TreeFault};
 use crate::plan::TablePlan;
+use crate::report::Report;
 use crate::serving::pool_run;
 use crate::system::System;
 use otp_bridge::Subsystem;
@@ -40,8 +42,17 @@ pub trait Leader: Drop {
     fn next(&mut self, told: Option<Note>) -> Round;
 }
 
+/// What came of a tree that was led.
+#[derive(Drop)]
+pub struct Led<J: Drop, S: Drop, L: Leader> {
+    pub leader: L,
+    /// What the tree was when it was closed; a fault has nothing to give back, as the tree can't leave the call.
+    pub report: Result<Report<J, S>, CloseFault<J, S, ()>>,
+}
+
 /// Opens a tree of 1 to 64 supervisors, the root first, for 1 to 8 hands, and serves it with each hand in a thread of its
-/// own ([`pool_run`]), round by round as the leader says: at most so many rounds. The leader comes back.
+/// own ([`pool_run`]), round by round as the leader says: at most so many rounds. Then the tree is closed
+/// ([`System::close`]). The leader comes back, with the report.
 ///
 /// A round ends when each hand has made its turns. The gate is asked before each turn of a hand, in the hand's own thread.
 pub fn lead<R, J, S, G, L>(
@@ -52,7 +63,7 @@ pub fn lead<R, J, S, G, L>(
     gate: &G,
     rounds: u64,
     leader: L,
-) -> Result<L, TreeFault>
+) -> Result<Led<J, S, L>, TreeFault>
 where
     R: Threads + Wait + Sync,
     J: Job + Send,
@@ -74,7 +85,7 @@ fn lead_named<N, R, J, S, G, L>(
     gate: &G,
     rounds: u64,
     mut leader: L,
-) -> Result<L, TreeFault>
+) -> Result<Led<J, S, L>, TreeFault>
 where
     N: WordsNaming + InboxNaming + RunNaming + Send + Sync,
     R: Threads + Wait + Sync,
@@ -100,7 +111,11 @@ where
             break;
         }
     }
-    Ok(leader)
+    let report = match system.close(alloc, hands, client) {
+        Ok(report) => Ok(report),
+        Err(fault) => Err(fault.without_tree()),
+    };
+    Ok(Led { leader, report })
 }
 
 /// Makes a round. False where nothing more is wanted.
@@ -129,4 +144,77 @@ where
     };
     pool_run(rt, system, hands.as_mut_slice(), gate, turns);
     true
+}
+
+/// Why a tree that was run has no report.
+#[derive(Drop)]
+pub enum RunFault<J: Drop, S: Drop> {
+    /// It was not opened.
+    Open(TreeFault),
+    /// It was not closed, or its report tells of a mismatch.
+    Close(CloseFault<J, S, ()>),
+}
+
+/// Serves so many turns, asks the root to stop, serves as many again, and leaves.
+#[derive(Drop)]
+struct TwoRounds {
+    turns: u64,
+    begun: bool,
+    stopped: bool,
+}
+
+impl Leader for TwoRounds {
+    fn next(&mut self, _told: Option<Note>) -> Round {
+        if !self.begun {
+            self.begun = true;
+            return Round::Serve(self.turns);
+        }
+        if !self.stopped {
+            self.stopped = true;
+            return Round::Stop(self.turns);
+        }
+        Round::Leave
+    }
+}
+
+/// The whole life of a tree of 1 to 64 supervisors, the root first, in one call: each of 1 to 8 hands makes so many turns
+/// in a thread of its own, then the root is asked to stop, each hand makes as many turns again, and the tree is closed.
+/// Out comes the report of what it was.
+pub fn run_tree<R, J, S, G>(
+    rt: &R,
+    alloc: Global,
+    plans: Vec<TablePlan<J, S>>,
+    hands: usize,
+    gate: &G,
+    turns: u64,
+) -> Result<Report<J, S>, RunFault<J, S>>
+where
+    R: Threads + Wait + Sync,
+    J: Job + Send,
+    S: Subsystem + Send,
+    G: Gate + Sync,
+    requires tables { length plans.items ≤ 64 }
+    requires some { 0 < hands }
+    requires few { hands ≤ all_parts }
+{
+    let leader = TwoRounds {
+        turns,
+        begun: false,
+        stopped: false,
+    };
+    match lead(rt, alloc, plans, hands, gate, 3, leader) {
+        Ok(
+            Led {
+                leader: _,
+                report: Ok(report),
+            },
+        ) => Ok(report),
+        Ok(
+            Led {
+                leader: _,
+                report: Err(fault),
+            },
+        ) => Err(RunFault::Close(fault)),
+        Err(fault) => Err(RunFault::Open(fault)),
+    }
 }
