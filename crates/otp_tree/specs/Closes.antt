@@ -1,5 +1,5 @@
 -- When all parts of a tree are there, and what it leaves. (own)
-use Rattle.std.specs.Prelude.{◌≡◌, ℕ, ◌+◌, ◌<◌, ⊤, List, ◌∷◌, Option, Some, None, Result, Ok, Err, MatchOption, AllPairs, length, map}
+use Rattle.std.specs.Prelude.{◌≡◌, ℕ, ◌+◌, ◌<◌, ◌≤◌, ⊤, List, ◌∷◌, Option, Some, None, Result, Ok, Err, MatchOption, All, AllPairs, length, map}
 use Rattle.otp_inbox.specs.Tokens.{SenderState, all_parts}
 use Rattle.otp_rules.specs.declared.event.Item.{Item}
 use Rattle.otp_rules.specs.Needs.{numbers_of}
@@ -12,11 +12,13 @@ use Rattle.otp_tree.specs.declared.closing.Refusal.{Refusal}
 use Rattle.otp_tree.specs.declared.closing.Refusal.TheVariants as refusal
 use Rattle.otp_tree.specs.declared.closing.Unclosed.{Unclosed}
 use Rattle.otp_tree.specs.declared.report.Report.{Report}
+use Rattle.otp_tree.specs.declared.rounds.RunFault.{RunFault}
+use Rattle.otp_tree.specs.declared.rounds.RunFault.TheVariants as run
 use Rattle.otp_tree.specs.declared.report.TableReport.{TableReport}
 use Rattle.otp_tree.specs.Hands.{HandView, ClientView, SystemView, senders_of}
 use Rattle.otp_tree.specs.Partings.{schedulers_of}
 use Rattle.otp_tree.specs.Sendings.{parts_to}
-use Rattle.otp_tree.specs.Tellings.{IsMismatch}
+use Rattle.otp_tree.specs.Tellings.{AreSo, IsMismatch}
 
 -- the senders of the client and of each hand
 abbrev pub all_senders : {J S : Type 0} → ClientView → List (HandView J S) → List (List (SenderState Item))
@@ -49,6 +51,21 @@ module _ {J S K : Type 0} where
   report_in (Err (fault.Missing k)) = None
   report_in (Err (fault.Mismatch m report)) = Some report
 
+  -- the processes of a report: what began has ended or is live, and what is left is live
+  pub record IsBalanced (report : Report J S) : Type 0 where
+    pub balance : report.begun ≡ report.ended + report.live
+    pub left : length report.processes.items ≤ report.live
+
+  -- a report of so many supervisors
+  pub record IsReportOf (tables : ℕ) (report : Report J S) : Type 0 where
+    pub count : length report.tables.items ≡ tables
+    pub begins : All HasBegun report.tables.items
+    -- no process number is in the histories of two of them
+    pub apart : AreApart report.tables.items
+    -- each end that one was told of another is one that the other's history gives
+    pub told : AreSo report.tables.items
+    pub processes : IsBalanced report
+
   -- what comes back where nothing was taken apart
   abbrev pub kept_in : CloseFault J S K → Option K
   kept_in (fault.OutOfMemory k) = Some k
@@ -66,6 +83,11 @@ module _ {J S K : Type 0} where
   IsMismatchOnly (fault.OutOfMemory k) = ⊤
   IsMismatchOnly (fault.Missing k) = ⊤
   IsMismatchOnly (fault.Mismatch m report) = IsMismatch report.tables.items m
+
+  -- the same of a tree that was run whole
+  abbrev pub IsRunMismatchOnly : RunFault J S → Type 0
+  IsRunMismatchOnly (run.Open why) = ⊤
+  IsRunMismatchOnly (run.Close why) = IsMismatchOnly {K = Unit {0}} why
 
 -- the tree, as it was
 pub record IsAsItWas {N J S : Type 0} (system : SystemView) (hands : List (HandView J S)) (client : ClientView) (k : Unclosed N J S) : Type 0 where

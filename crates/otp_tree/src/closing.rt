@@ -1,8 +1,8 @@
 //! A tree is taken apart, once all its hands and its client are back.
-ghost use Rattle.std.specs.Prelude.{◌≡◌, ◌≤◌, [], All, IfErr, IfOk, IfSome, OnSome, Some, length, map, sum_by, vec_capacity};
+ghost use Rattle.std.specs.Prelude.{◌≡◌, ◌≤◌, [], All, Err, IfErr, IfOk, IfSome, OnSome, Some, length, map, sum_by, vec_capacity};
 ghost use Rattle.otp_run.specs.Gathers.{IsLiveTotal, begun_of, ended_of};
 ghost use Rattle.otp_run.specs.Rule.{ticket_of};
-ghost use Rattle.otp_tree.specs.Closes.{AreApart, HasBegun, IsAsItWas, IsComplete, IsMismatchOnly, IsMissingOnly, IsRefusalOf, kept_in, report_in};
+ghost use Rattle.otp_tree.specs.Closes.{AreApart, HasBegun, IsAsItWas, IsComplete, IsMismatchOnly, IsMissingOnly, IsRefusalOf, IsReportOf, kept_in, report_in};
 ghost use Rattle.otp_tree.specs.Partings.{schedulers_of};
 ghost use Rattle.otp_tree.specs.Tellings.{AreSo};
 
@@ -35,7 +35,10 @@ pub enum CloseFault<J: Drop, S: Drop, K: Drop> {
 
 impl<J: Drop, S: Drop, K: Drop> CloseFault<J, S, K> {
     /// The fault without what comes back, which is dropped.
-    pub fn without_tree(self) -> CloseFault<J, S, ()> {
+    pub fn without_tree(self) -> CloseFault<J, S, ()>
+        ensures report { report_in (Err result) ≡ report_in (Err self) }
+        ensures mismatch { IsMismatchOnly self → IsMismatchOnly result }
+    {
         match self {
             CloseFault::OutOfMemory(_) => CloseFault::OutOfMemory(()),
             CloseFault::Missing(_) => CloseFault::Missing(()),
@@ -100,6 +103,26 @@ impl<N: WordsNaming + InboxNaming, J: Drop, S: Drop> System<N, J, S> {
         match gather_hands(alloc, hands) {
             Ok(total) => judge(report_of(self, client, tables, total)),
             Err(HandsFault { cause, hands }) => Err(refuse(cause, self, hands, client)),
+        }
+    }
+}
+
+impl<N: WordsNaming + InboxNaming, J: Drop, S: Drop> System<N, J, S> {
+    /// Closes the tree ([`System::close`]). Where it can't be closed it is dropped.
+    pub(crate) fn finish(
+        self,
+        alloc: Global,
+        hands: Vec<Hand<N, J, S>>,
+        client: Client<N, Body<J, S>>,
+    ) -> Result<Report<J, S>, CloseFault<J, S, ()>>
+    where
+        N: RunNaming,
+        ensures report { IfOk result (IsReportOf self.tables) }
+        ensures mismatch { IfErr result IsMismatchOnly }
+    {
+        match self.close(alloc, hands, client) {
+            Ok(report) => Ok(report),
+            Err(fault) => Err(fault.without_tree()),
         }
     }
 }

@@ -76,6 +76,7 @@ impl<J: Drop, S: Drop> Parts<J, S> {
         requires tables { length plans.items ≤ 64 }
         requires some { 0 < hands }
         requires few { hands ≤ all_parts }
+        ensures tables { IfOk result (λ p. length p.inboxes.items ≡ length plans.items) }
         ensures slots { IfOk result (λ p. p.words.slots ≡ slots_of (length p.inboxes.items)) }
         ensures few { IfOk result (λ p. length p.inboxes.items ≤ 64) }
     {

@@ -1,7 +1,8 @@
 //! A whole tree on threads, in one call.
-ghost use Rattle.std.specs.Prelude.{◌≡◌, ◌<◌, ◌≤◌, length};
+ghost use Rattle.std.specs.Prelude.{◌≡◌, ◌<◌, ◌≤◌, length, IfErr, IfOk};
 ghost use Rattle.otp_run.specs.Lists.{AllAt};
 ghost use Rattle.otp_run.specs.Rule.{all_parts};
+ghost use Rattle.otp_tree.specs.Closes.{IsMismatchOnly, IsReportOf, IsRunMismatchOnly};
 ghost use Rattle.otp_tree.specs.Opens.{slots_of};
 
 use crate::client::Client;
@@ -31,7 +32,7 @@ pub enum Round {
     Serve(u64),
     /// The root is asked to shut down, and then each hand makes so many turns, all hands at once.
     Stop(u64),
-    /// Nothing more: the tree is left as it is.
+    /// Nothing more: the tree is closed as it is.
     Leave,
 }
 
@@ -73,6 +74,8 @@ where
     requires tables { length plans.items ≤ 64 }
     requires some { 0 < hands }
     requires few { hands ≤ all_parts }
+    ensures report { IfOk result (λ led. IfOk led.report (IsReportOf (length plans.items))) }
+    ensures mismatch { IfOk result (λ led. IfErr led.report IsMismatchOnly) }
 {
     let parts = Parts::open(alloc, plans, hands)?;
     lead_named::<Brand, R, J, S, G, L>(rt, alloc, parts, gate, rounds, leader)
@@ -99,6 +102,8 @@ where
     requires deques { AllAt (λ k id. id ≡ N.deque k) parts.queue }
     requires slots { parts.words.slots ≡ slots_of (length parts.inboxes.items) }
     requires few { length parts.inboxes.items ≤ 64 }
+    ensures report { IfOk result (λ led. IfOk led.report (IsReportOf (length parts.inboxes.items))) }
+    ensures mismatch { IfOk result (λ led. IfErr led.report IsMismatchOnly) }
 {
     let Opened {
         system,
@@ -111,10 +116,7 @@ where
             break;
         }
     }
-    let report = match system.close(alloc, hands, client) {
-        Ok(report) => Ok(report),
-        Err(fault) => Err(fault.without_tree()),
-    };
+    let report = system.finish(alloc, hands, client);
     Ok(Led { leader, report })
 }
 
@@ -196,6 +198,9 @@ where
     requires tables { length plans.items ≤ 64 }
     requires some { 0 < hands }
     requires few { hands ≤ all_parts }
+    // The report has each supervisor of the plans, and is one that `System::close` can give.
+    ensures report { IfOk result (IsReportOf (length plans.items)) }
+    ensures mismatch { IfErr result IsRunMismatchOnly }
 {
     let leader = TwoRounds {
         turns,
