@@ -9,6 +9,8 @@ mod bridges;
 #[cfg(test)]
 mod clients;
 #[cfg(test)]
+mod closes;
+#[cfg(test)]
 mod inbox;
 #[cfg(test)]
 mod jobs;
