@@ -13,8 +13,7 @@ use otp_core::OpenFault;
 use otp_file::TreeSpec;
 use otp_reason::Name;
 use otp_spec::SpecFault;
-use otp_tree::RunFault as Unreported;
-use otp_tree::{CloseFault, Gate, TableReport, TreeFault, run_tree};
+use otp_tree::{CloseFault, Gate, RunFault as Unreported, TableReport, TreeFault, run_tree};
 use std::alloc::{AllocError, Global};
 use std::marker::Model;
 use std::sync::Wait;
@@ -178,10 +177,7 @@ fn line_of(table: &TableReport) -> TableLine
 }
 
 /// What is printed of supervisors.
-fn lines_of(
-    alloc: Global,
-    tables: &[TableReport],
-) -> Result<Vec<TableLine>, AllocError>
+fn lines_of(alloc: Global, tables: &[TableReport]) -> Result<Vec<TableLine>, AllocError>
     ensures { IfOk result (λ lines. lines.items ≡ map line_of tables.now) }
 {
     let mut lines = Vec::new(alloc);
@@ -216,7 +212,14 @@ where
     ensures fault { IfErr result (λ why. IsOfRun why → option_map run_fault (plan_fault (tables_of tree)) ≡ Some why) }
 {
     let plans = plan_tree(alloc, tree)?;
-    let report = run_tree(rt, alloc, plans, settings.schedulers(), gate, settings.turns())?;
+    let report = run_tree(
+        rt,
+        alloc,
+        plans,
+        settings.schedulers(),
+        gate,
+        settings.turns(),
+    )?;
     let lines = lines_of(alloc, report.tables.as_slice())?;
     write_report(lines.as_slice(), report.live, out)?;
     Ok(())

@@ -161,7 +161,10 @@ fn a_report_counts_starts_events_and_processes(rt: HostRuntime) -> Result<(), Fa
     match run_tree(&rt, rt.alloc(), plans, 1, &Still, 1000) {
         Ok(report) => {
             let table = &report.tables[0];
-            assert_eq!(rt; (table.starts(), table.restarts(), table.events()), (3, 0, 8));
+            assert_eq!(rt;
+                (table.starts(), table.restarts(), table.events()),
+                (3, 0, 8)
+            );
             assert_eq!(rt; table.end(), Some(Reason::Shutdown));
             assert_eq!(rt; (report.begun, report.ended, report.live), (4, 4, 0));
         }

@@ -202,8 +202,14 @@ fn live_with<R: Threads + Wait + Abort + Sync>(
 fn check_ended<R: Abort>(rt: &R, report: &Report<Worker, BoxedSubsystem>) {
     assert_eq!(rt; report.tables.len(), 2);
     let (root, sub) = (&report.tables[0], &report.tables[1]);
-    assert_eq!(rt; (root.starts(), root.restarts(), root.end()), (2, 0, Some(Reason::Shutdown)));
-    assert_eq!(rt; (sub.starts(), sub.restarts(), sub.end()), (3, 1, Some(Reason::Shutdown)));
+    assert_eq!(rt;
+        (root.starts(), root.restarts(), root.end()),
+        (2, 0, Some(Reason::Shutdown))
+    );
+    assert_eq!(rt;
+        (sub.starts(), sub.restarts(), sub.end()),
+        (3, 1, Some(Reason::Shutdown))
+    );
     assert_eq!(rt; (report.live, report.begun, report.ended), (0, 6, 6));
     assert!(rt; report.processes.is_empty() && report.find_mismatch().is_none());
 }
@@ -415,7 +421,10 @@ impl<R: Wait + Abort> Session<R, Worker, BoxedSubsystem> for Closing {
             mut hands,
             client,
         } = back;
-        assert_eq!(rt; (system.tables(), hands.len(), client.is_first()), (2, 1, true));
+        assert_eq!(rt;
+            (system.tables(), hands.len(), client.is_first()),
+            (2, 1, true)
+        );
         if hands.push(away).is_err() {
             return None;
         }

@@ -1,5 +1,5 @@
 -- Supervisors are taken apart, one after the other.
-use Rattle.std.proofs.Common.{◌≡◌, ℕ, zero, suc, ◌<◌, List, [], ◌∷◌, ◌++◌, length, sym, subst, arith}
+use Rattle.std.proofs.Common.{◌≡◌, ℕ, zero, suc, ◌+◌, ◌<◌, List, [], ◌∷◌, ◌++◌, length, sym, ap, ◌∙◌, subst, arith, length-append}
 use Rattle.std.specs.Prelude.{All, Contains}
 use Rattle.std.proofs.lemmas.List.Elements.{All-append}
 use Rattle.std.proofs.lemmas.List.Quantifiers.{all_pairs_push}
@@ -14,6 +14,9 @@ all_one P x p (suc k) d within = absurd (omega (arith, within))
 
 pub all-more : {A : Type 0} (P : A → Type 0) (xs xs' : List A) (x : A) → xs' ≡ xs ++ x ∷ [] → All P xs → P x → All P xs'
 all-more P xs xs' x one all p = subst (λ l. All P l) (sym one) (All-append P xs (x ∷ []) all (all_one P x p))
+
+pub length-more : {A : Type 0} (xs xs' : List A) (x : A) → xs' ≡ xs ++ x ∷ [] → length xs' ≡ length xs + 1
+length-more xs xs' x one = ap length one ∙ length-append xs (x ∷ [])
 
 -- these numbers have all those of the supervisor
 abbrev pub Seen : List ℕ → TableReport → Type 0

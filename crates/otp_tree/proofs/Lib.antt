@@ -2,3 +2,4 @@ pub mod Fresh
 pub mod Partings
 pub mod Sums
 pub mod Apart
+pub mod Starts

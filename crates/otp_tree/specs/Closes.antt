@@ -51,21 +51,6 @@ module _ {J S K : Type 0} where
   report_in (Err (fault.Missing k)) = None
   report_in (Err (fault.Mismatch m report)) = Some report
 
-  -- the processes of a report: what began has ended or is live, and what is left is live
-  pub record IsBalanced (report : Report J S) : Type 0 where
-    pub balance : report.begun ≡ report.ended + report.live
-    pub left : length report.processes.items ≤ report.live
-
-  -- a report of so many supervisors
-  pub record IsReportOf (tables : ℕ) (report : Report J S) : Type 0 where
-    pub count : length report.tables.items ≡ tables
-    pub begins : All HasBegun report.tables.items
-    -- no process number is in the histories of two of them
-    pub apart : AreApart report.tables.items
-    -- each end that one was told of another is one that the other's history gives
-    pub told : AreSo report.tables.items
-    pub processes : IsBalanced report
-
   -- what comes back where nothing was taken apart
   abbrev pub kept_in : CloseFault J S K → Option K
   kept_in (fault.OutOfMemory k) = Some k
@@ -84,10 +69,26 @@ module _ {J S K : Type 0} where
   IsMismatchOnly (fault.Missing k) = ⊤
   IsMismatchOnly (fault.Mismatch m report) = IsMismatch report.tables.items m
 
-  -- the same of a tree that was run whole
+module _ {J S : Type 0} where
+  -- the processes of a report: what began has ended or is live, and what is left is live
+  pub record IsBalanced (report : Report J S) : Type 0 where
+    pub balance : report.begun ≡ report.ended + report.live
+    pub left : length report.processes.items ≤ report.live
+
+  -- a report of so many supervisors
+  pub record IsReportOf (tables : ℕ) (report : Report J S) : Type 0 where
+    pub count : length report.tables.items ≡ tables
+    pub begins : All HasBegun report.tables.items
+    -- no process number is in the histories of two of them
+    pub apart : AreApart report.tables.items
+    -- each end that one was told of another is one that the other's history gives
+    pub told : AreSo report.tables.items
+    pub processes : IsBalanced report
+
+  -- a mismatch of a tree that was run whole is that of an event of its report
   abbrev pub IsRunMismatchOnly : RunFault J S → Type 0
   IsRunMismatchOnly (run.Open why) = ⊤
-  IsRunMismatchOnly (run.Close why) = IsMismatchOnly {K = Unit {0}} why
+  IsRunMismatchOnly (run.Close why) = IsMismatchOnly why
 
 -- the tree, as it was
 pub record IsAsItWas {N J S : Type 0} (system : SystemView) (hands : List (HandView J S)) (client : ClientView) (k : Unclosed N J S) : Type 0 where

@@ -104,13 +104,7 @@ fn ended_so(entry: &(u64, SupEnd), number: u64, reason: Option<Reason>) -> bool
     ensures { IsTrue result ↔ EndedSo number reason entry.now }
 {
     let (own, end) = entry;
-    if *own != number {
-        return true;
-    }
-    match reason {
-        Some(reason) => end.reason == reason,
-        None => false,
-    }
+    *own != number || reason == Some(end.reason)
 }
 
 /// Whether it runs under this number.

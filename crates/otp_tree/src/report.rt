@@ -1,5 +1,5 @@
 //! What a tree was when it was taken apart.
-ghost use Rattle.std.specs.Prelude.{◌≡◌, ◌-◌, ◌^◌, length, min, IfNone, IfSome};
+ghost use Rattle.std.specs.Prelude.{◌≡◌, ◌-◌, ◌^◌, ◌≤◌, ◌∷◌, [], length, min, IfNone, IfSome};
 ghost use Rattle.otp_core.specs.View.{state_of};
 ghost use Rattle.otp_rules.specs.Needs.{numbers_of};
 ghost use Rattle.otp_tree.specs.Reports.{last_reason};
@@ -9,6 +9,7 @@ use crate::evidence::{Mismatch, find_mismatch};
 use otp_core::Core;
 use otp_job::Process;
 use otp_reason::Reason;
+use otp_rules::Event;
 
 /// What is known of a supervisor when its tree was taken apart.
 #[derive(Drop)]
@@ -25,9 +26,7 @@ impl TableReport {
         let history = self.core.history();
         let mut starts = 0;
         for place in 0..history.len() {
-            if history.get(place).number.is_some() {
-                starts += 1;
-            }
+            starts += count_start(&history.get(place));
         }
         starts
     }
@@ -57,6 +56,17 @@ impl TableReport {
         ensures { result ≡ length self.now.core.history }
     {
         self.core.history().len() as u64
+    }
+}
+
+/// How many children an event starts: one or none.
+fn count_start(event: &Event) -> u64
+    ensures value { result ≡ length (numbers_of (event.now ∷ [])) }
+    ensures few { result ≤ 1 }
+{
+    match event.number {
+        Some(_) => 1,
+        None => 0,
     }
 }
 

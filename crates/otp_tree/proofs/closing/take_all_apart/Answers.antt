@@ -1,9 +1,9 @@
-use Rattle.std.proofs.Common.{◌≡◌, ℕ, ◌+◌, [], ◌∷◌, length, sym, ap, ◌∙◌, subst, arith, length-append}
+use Rattle.std.proofs.Common.{◌≡◌, length, sym, ap, ◌∙◌, subst, arith}
 use Rattle.otp_rules.specs.Needs.{numbers_of}
 use Rattle.otp_signals.specs.Lists.{AllIn, NoneInBoth}
 use Rattle.otp_sup.specs.Facts.{Begins}
 use Rattle.otp_tree.specs.Closes.{HasBegun}
-use Rattle.otp_tree.proofs.Apart.{all-more, seen-more, apart-more}
+use Rattle.otp_tree.proofs.Apart.{all-more, length-more, seen-more, apart-more}
 use Rattle.otp_tree.proofs.closing.take_all_apart.Goals as goal
 
 pub loop-sup-preserved : goal.loop-sup-preserved
@@ -18,7 +18,7 @@ loop-sup-preserved g c =
     let one = c.push_reserved.ensures.items in
     let len = c.push_reserved.ensures.len in
     let capacity = c.push_reserved.ensures.capacity in
-    let long = ap length one ∙ length-append _ _ in
+    let long = length-more _ _ _ one in
     let office = c.unlock.ensures.rules.office in
     let parts = c.into_parts-core.ensures in
     let join = c.join.ensures in
