@@ -3,3 +3,4 @@ pub mod Partings
 pub mod Sums
 pub mod Apart
 pub mod Starts
+pub mod Below

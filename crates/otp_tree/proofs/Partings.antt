@@ -21,7 +21,7 @@ module _ {N J S : Type 0} where
   pub paired-push : (ss : List SchedulerState) (rs : List (Rest N J S)) (s : SchedulerState) (r : Rest N J S) → length ss ≡ length rs → out s ≡ one_if (is_some r.turning) → ArePaired ss rs → ArePaired (ss ++ s ∷ []) (rs ++ r ∷ [])
   paired-push [] [] s r many is paired = (is, tt)
   paired-push [] (x ∷ rs) s r many is paired = absurd (omega (arith, many))
-  paired-push (y ∷ ss) [] s r many is paired = paired
+  paired-push (y ∷ ss) [] s r many is paired = absurd paired
   paired-push (y ∷ ss) (x ∷ rs) s r many is paired = (paired.0, paired-push ss rs s r (omega (arith, many)) is paired.1)
 
   -- one more hand is parted

@@ -4,6 +4,8 @@ use Rattle.otp_core.specs.View.{state_of}
 use Rattle.otp_reason.specs.declared.note.Note.{Note}
 use Rattle.otp_reason.specs.declared.note.Note.TheVariants as note
 use Rattle.otp_reason.specs.declared.reason.Reason.{Reason}
+use Rattle.otp_reason.specs.declared.reason.Reason.TheVariants as why
+use Rattle.otp_reason.specs.Texts.{text_bytes}
 use Rattle.otp_rules.specs.declared.ending.SupEnd.{SupEnd}
 use Rattle.otp_rules.specs.declared.event.Event.{Event}
 use Rattle.otp_rules.specs.declared.event.Item.{Item}
@@ -32,9 +34,25 @@ told_end kind.Resumed = None
 told_end kind.Ticked = None
 told_end kind.Stopped = None
 
+-- two reasons say the same: of two texts, that they show the same bytes
+abbrev pub IsSameReason : Reason → Reason → Type 0
+IsSameReason why.Normal why.Normal = ⊤
+IsSameReason why.Shutdown why.Shutdown = ⊤
+IsSameReason (why.ShutdownWith one) (why.ShutdownWith other) = text_bytes one ≡ text_bytes other
+IsSameReason why.Kill why.Kill = ⊤
+IsSameReason why.Killed why.Killed = ⊤
+IsSameReason why.NoProc why.NoProc = ⊤
+IsSameReason (why.Error one) (why.Error other) = text_bytes one ≡ text_bytes other
+IsSameReason _ _ = ⊥
+
+-- an end with this reason is the one that was told; no supervisor's end is told without a reason
+abbrev pub IsEndTold : Reason → Option Reason → Type 0
+IsEndTold ended None = ⊥
+IsEndTold ended (Some told) = IsSameReason ended told
+
 -- an opening was under another number, or ended with this reason
 abbrev pub EndedSo : ℕ → Option Reason → ℕ × SupEnd → Type 0
-EndedSo number reason x = x.0 ≡ number → Some x.1.reason ≡ reason
+EndedSo number reason x = x.0 ≡ number → IsEndTold x.1.reason reason
 
 -- the supervisor doesn't run under this number, and each opening of it under the number ended with this reason
 pub record Agrees (s : State) (number : ℕ) (reason : Option Reason) : Type 0 where

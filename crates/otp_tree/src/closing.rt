@@ -98,7 +98,11 @@ impl<N: WordsNaming + InboxNaming, J: Drop, S: Drop> System<N, J, S> {
             return Err(refuse(Refusal::Missing, self, hands, client));
         }
         let Ok(tables) = Vec::with_capacity(alloc, self.tables()) else {
-            return Err(refuse(Refusal::OutOfMemory, self, hands, client));
+            return Err(CloseFault::OutOfMemory(Unclosed {
+                system: self,
+                hands,
+                client,
+            }));
         };
         match gather_hands(alloc, hands) {
             Ok(total) => judge(report_of(self, client, tables, total)),

@@ -1,13 +1,14 @@
 //! What supervisors were told of the ends of others, held against the others' own histories.
 ghost use Rattle.std.specs.Prelude.{◌≡◌, ◌↔◌, IfNone, IfSome, IsTrue, MatchOption, slice_get};
 ghost use Rattle.otp_core.specs.View.{state_of};
+ghost use Rattle.otp_reason.specs.Texts.{text_bytes};
 ghost use Rattle.otp_rules.specs.declared.work.Phase.TheVariants.{Open};
 ghost use Rattle.otp_run.specs.Lists.{AllAt};
-ghost use Rattle.otp_tree.specs.Tellings.{Agrees, AllAgree, AreSo, EndedSo, IsMismatch, IsSo, told_end};
+ghost use Rattle.otp_tree.specs.Tellings.{Agrees, AllAgree, AreSo, EndedSo, IsEndTold, IsMismatch, IsSameReason, IsSo, told_end};
 
 use crate::report::TableReport;
 use otp_core::{Core, History};
-use otp_reason::{Note, Reason};
+use otp_reason::{Note, Reason, Text};
 use otp_rules::{Event, Item, Kind, Phase, SupEnd};
 
 /// E17: which event tells a supervisor an end of another one that isn't the one that the other's own history gives.
@@ -104,7 +105,47 @@ fn ended_so(entry: &(u64, SupEnd), number: u64, reason: Option<Reason>) -> bool
     ensures { IsTrue result ↔ EndedSo number reason entry.now }
 {
     let (own, end) = entry;
-    *own != number || reason == Some(end.reason)
+    is_end(*own, end.reason, number, reason)
+}
+
+/// Whether an end under a number of its own is one under another number, or for this reason.
+fn is_end(own: u64, ended: Reason, number: u64, reason: Option<Reason>) -> bool
+    ensures { IsTrue result ↔ (own ≡ number → IsEndTold ended reason) }
+{
+    own != number || is_told(ended, reason)
+}
+
+/// Whether an end for the one reason is that which is told with the other.
+fn is_told(ended: Reason, reason: Option<Reason>) -> bool
+    ensures { IsTrue result ↔ IsEndTold ended reason }
+{
+    match reason {
+        Some(reason) => is_same_reason(ended, reason),
+        None => false,
+    }
+}
+
+/// Whether two reasons say the same.
+fn is_same_reason(one: Reason, other: Reason) -> bool
+    ensures { IsTrue result ↔ IsSameReason one other }
+{
+    match (one, other) {
+        (Reason::Normal, Reason::Normal) => true,
+        (Reason::Shutdown, Reason::Shutdown) => true,
+        (Reason::Kill, Reason::Kill) => true,
+        (Reason::Killed, Reason::Killed) => true,
+        (Reason::NoProc, Reason::NoProc) => true,
+        (Reason::ShutdownWith(one), Reason::ShutdownWith(other)) => is_same_text(&one, &other),
+        (Reason::Error(one), Reason::Error(other)) => is_same_text(&one, &other),
+        _ => false,
+    }
+}
+
+/// Whether two texts show the same bytes.
+fn is_same_text(one: &Text, other: &Text) -> bool
+    ensures { IsTrue result ↔ (text_bytes one.now ≡ text_bytes other.now) }
+{
+    one.as_bytes() == other.as_bytes()
 }
 
 /// Whether it runs under this number.

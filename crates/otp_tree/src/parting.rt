@@ -79,13 +79,23 @@ pub(crate) fn gather_hands<N: WordsNaming + InboxNaming + RunNaming, J: Drop, S:
         hands: mut back,
     } = room;
     part_all(hands, &mut schedulers, &mut rests);
-    let (cause, schedulers) = match gather(alloc, schedulers) {
-        Ok(total) => return Ok(total),
-        Err(GatherFault::Missing(schedulers)) => (Refusal::Missing, schedulers),
-        Err(GatherFault::OutOfMemory(schedulers)) => (Refusal::OutOfMemory, schedulers),
-    };
-    rejoin_all(schedulers, rests, &mut back);
-    Err(HandsFault { cause, hands: back })
+    match gather(alloc, schedulers) {
+        Ok(total) => Ok(total),
+        Err(GatherFault::Missing(schedulers)) => {
+            rejoin_all(schedulers, rests, &mut back);
+            Err(HandsFault {
+                cause: Refusal::Missing,
+                hands: back,
+            })
+        }
+        Err(GatherFault::OutOfMemory(schedulers)) => {
+            rejoin_all(schedulers, rests, &mut back);
+            Err(HandsFault {
+                cause: Refusal::OutOfMemory,
+                hands: back,
+            })
+        }
+    }
 }
 
 /// Parts all hands.
@@ -101,6 +111,8 @@ fn part_all<N: WordsNaming + InboxNaming + RunNaming, J: Drop, S: Drop>(
     ensures hands { joined schedulers.new.items rests.new.items ≡ hands.items }
     ensures paired { ArePaired schedulers.new.items rests.new.items }
     ensures many { length schedulers.new.items ≡ length rests.new.items }
+    ensures same { schedulers_of hands.items ≡ schedulers.new.items }
+    ensures count { length schedulers.new.items ≡ length hands.items }
 {
     for hand in hands {
         let Hand {

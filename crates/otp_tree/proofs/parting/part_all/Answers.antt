@@ -1,5 +1,7 @@
 use Rattle.std.proofs.Common.{◌≡◌, ℕ, ◌+◌, [], ◌∷◌, length, sym, ap, ◌∙◌, arith, length-append}
-use Rattle.otp_tree.proofs.Partings.{parted-more, paired-more, parted-all}
+use Rattle.std.proofs.lemmas.List.{length-map}
+use Rattle.otp_tree.specs.Partings.{scheduler_of, schedulers_of}
+use Rattle.otp_tree.proofs.Partings.{parted-more, paired-more, parted-all, schedulers-joined}
 use Rattle.otp_tree.proofs.parting.part_all.Goals as goal
 
 pub loop-hand-preserved : goal.loop-hand-preserved
@@ -35,3 +37,9 @@ returns-clause-hands g c =
     let none = (c.in-None.ensures {u = tt}).steps.0 in
     let left = i.left in
     parted-all c.loop-hand.schedulers.items c.loop-hand.rests.items _ _ (omega arith) i.hands
+
+pub returns-clause-same : goal.returns-clause-same
+returns-clause-same g c = ap schedulers_of (sym (returns-clause-hands g c)) ∙ schedulers-joined c.loop-hand.schedulers.items c.loop-hand.rests.items c.loop-hand.invariant.paired
+
+pub returns-clause-count : goal.returns-clause-count
+returns-clause-count g c = sym (ap length (returns-clause-same g c)) ∙ length-map c.args.hands.items scheduler_of
