@@ -9,6 +9,8 @@ mod bridges;
 #[cfg(test)]
 mod clients;
 #[cfg(test)]
+mod closes;
+#[cfg(test)]
 mod counts;
 #[cfg(test)]
 mod inbox;

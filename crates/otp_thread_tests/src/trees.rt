@@ -12,8 +12,8 @@ use otp_run::RunNaming;
 use otp_signals::WordsNaming;
 use otp_spec::{ChildSpec, ChildType, Shutdown, SpecFault, SupFlags};
 use otp_tree::{
-    Client, Gate, Hand, Leader, Millis, Parts, Round, Session, System, TablePlan, TreeFault, lead,
-    with_system,
+    Client, CloseFault, Gate, Hand, Leader, Millis, Report, Round, Session, System, TablePlan,
+    TreeFault, Unclosed, lead, run_tree, with_system,
 };
 use std::alloc::{AllocError, Global};
 use std::process::Abort;
@@ -185,10 +185,68 @@ fn live_with<R: Threads + Wait + Abort + Sync>(
     let plans = plans(alloc, &starts, b"c")?;
     let leader = UpAndDown::new(starts, WORKERS + 1);
     match lead(rt, alloc, plans, hands, &Still, 10_000, leader) {
-        Ok(leader) => leader.check(rt),
+        Ok(led) => {
+            led.leader.check(rt);
+            match led.report {
+                Ok(report) => check_ended(rt, &report),
+                Err(_) => return Err("the tree was not closed".into()),
+            }
+        }
         Err(_) => return Err("the tree was refused".into()),
     }
     Ok(())
+}
+
+// What the tree is once all of it has ended: two children of the root and two of `sub` were started, one of these once
+// more, and nobody has anything left.
+fn check_ended<R: Abort>(rt: &R, report: &Report<Worker, BoxedSubsystem>) {
+    assert_eq!(rt; report.tables.len(), 2);
+    let (root, sub) = (&report.tables[0], &report.tables[1]);
+    assert_eq!(rt;
+        (root.starts(), root.restarts(), root.end()),
+        (2, 0, Some(Reason::Shutdown))
+    );
+    assert_eq!(rt;
+        (sub.starts(), sub.restarts(), sub.end()),
+        (3, 1, Some(Reason::Shutdown))
+    );
+    assert_eq!(rt; (report.live, report.begun, report.ended), (0, 6, 6));
+    assert!(rt; report.processes.is_empty() && report.find_mismatch().is_none());
+}
+
+// The whole life of the tree in one call, long enough for its end, or so short that processes are left.
+fn run_with<R: Threads + Wait + Abort + Sync>(
+    rt: &R,
+    alloc: Global,
+    hands: usize,
+) -> Result<(), Fail>
+    requires some { 0 < hands }
+    requires few { hands ≤ all_parts }
+{
+    let starts: Calls = Arc::new(alloc, AtomicU64::new(0))?;
+    let whole = plans(alloc, &starts, b"c")?;
+    match run_tree(rt, alloc, whole, hands, &Still, 20_000) {
+        Ok(report) => check_ended(rt, &report),
+        Err(_) => return Err("the tree was not closed".into()),
+    }
+    let short = plans(alloc, &starts, b"c")?;
+    match run_tree(rt, alloc, short, hands, &Still, 1) {
+        Ok(report) => {
+            assert!(rt; report.live > 0);
+            assert_eq!(rt; report.begun, report.ended + report.live);
+            assert_eq!(rt; report.processes.len() as u64, report.live);
+        }
+        Err(_) => return Err("the tree was not closed".into()),
+    }
+    Ok(())
+}
+
+#[test]
+fn a_whole_tree_is_run_in_one_call(rt: HostRuntime) -> Result<(), Fail> {
+    run_with(&rt, rt.alloc(), 1)?;
+    run_with(&rt, rt.alloc(), 2)?;
+    run_with(&rt, rt.alloc(), 4)?;
+    run_with(&rt, rt.alloc(), 8)
 }
 
 #[test]
@@ -254,7 +312,7 @@ fn each_hand_has_a_thread_of_its_own(rt: HostRuntime) -> Result<(), Fail> {
         met: AtomicU64::new(0),
     };
     let led = lead(&rt, rt.alloc(), plans, 2, &meeting, 10, Once { rounds: 0 });
-    assert_eq!(rt; led.map(|once| once.rounds), Ok(2));
+    assert_eq!(rt; led.map(|led| led.leader.rounds), Ok(2));
     assert_eq!(rt; meeting.met.load(Ordering::SeqCst), 2);
     Ok(())
 }
@@ -269,7 +327,7 @@ fn a_refused_table_is_told_by_its_number(rt: HostRuntime) -> Result<(), Fail> {
         table: 1,
         fault: OpenFault::Spec(SpecFault::DuplicateId { index: 1 }),
     };
-    assert_eq!(rt; led.map(|once| once.rounds), Err(fault));
+    assert_eq!(rt; led.map(|led| led.leader.rounds), Err(fault));
     Ok(())
 }
 
@@ -293,19 +351,30 @@ impl<R: Wait + Abort> Session<R, Worker, BoxedSubsystem> for Alone {
         let mut leader = self.leader;
         assert_eq!(rt; (system.tables(), hands.len()), (2, 2));
         assert!(rt; client.is_first());
-        for _ in 0..10_000 {
-            if leader.hear(system.root_note(rt, &mut client)) {
-                break;
-            }
-            if leader.has_restarted() {
-                assert!(rt; system.stop(&mut client));
-            }
-            for hand in hands.iter_mut() {
-                system.serve(rt, hand, &mut Still, 99);
-                system.turn(rt, hand, 0);
-            }
-        }
+        lead_alone(rt, &system, &mut hands, &mut client, &mut leader);
         leader
+    }
+}
+
+// Serves all hands, as the leader says, until the root has ended.
+fn lead_alone<N: WordsNaming + InboxNaming + RunNaming, R: Wait + Abort>(
+    rt: &R,
+    system: &System<N, Worker, BoxedSubsystem>,
+    hands: &mut Vec<Hand<N, Worker, BoxedSubsystem>>,
+    client: &mut Client<N, Body<Worker, BoxedSubsystem>>,
+    leader: &mut UpAndDown,
+) {
+    for _ in 0..10_000 {
+        if leader.hear(system.root_note(rt, client)) {
+            return;
+        }
+        if leader.has_restarted() {
+            assert!(rt; system.stop(client));
+        }
+        for hand in hands.iter_mut() {
+            system.serve(rt, hand, &mut Still, 99);
+            system.turn(rt, hand, 0);
+        }
     }
 }
 
@@ -317,6 +386,78 @@ fn a_session_serves_all_hands_from_one_thread(rt: HostRuntime) -> Result<(), Fai
     match with_system(&rt, rt.alloc(), plans, 2, Alone { leader }) {
         Ok(leader) => leader.check(&rt),
         Err(_) => return Err("the tree was refused".into()),
+    }
+    Ok(())
+}
+
+// Ends the tree, closes it without one of its hands, and then with all of them.
+#[derive(Drop)]
+struct Closing {
+    alone: Alone,
+    alloc: Global,
+}
+
+impl<R: Wait + Abort> Session<R, Worker, BoxedSubsystem> for Closing {
+    type Output = Option<Report<Worker, BoxedSubsystem>>;
+
+    fn run<N: WordsNaming + InboxNaming + RunNaming + Send + Sync>(
+        self,
+        rt: &R,
+        system: System<N, Worker, BoxedSubsystem>,
+        hands: Vec<Hand<N, Worker, BoxedSubsystem>>,
+        client: Client<N, Body<Worker, BoxedSubsystem>>,
+    ) -> Option<Report<Worker, BoxedSubsystem>> {
+        let (mut hands, mut client) = (hands, client);
+        let mut leader = self.alone.leader;
+        lead_alone(rt, &system, &mut hands, &mut client, &mut leader);
+        leader.check(rt);
+        let away = hands.pop()?;
+        let back = match system.close(self.alloc, hands, client) {
+            Err(CloseFault::Missing(back) | CloseFault::OutOfMemory(back)) => back,
+            _ => panic!(rt; "a hand is away"),
+        };
+        let Unclosed {
+            system,
+            mut hands,
+            client,
+        } = back;
+        assert_eq!(rt;
+            (system.tables(), hands.len(), client.is_first()),
+            (2, 1, true)
+        );
+        if hands.push(away).is_err() {
+            return None;
+        }
+        // Under a refused growth all comes back, and the tree can be closed again.
+        let back = match system.close(self.alloc, hands, client) {
+            Ok(report) => return Some(report),
+            Err(CloseFault::OutOfMemory(back)) => back,
+            Err(_) => panic!(rt; "all hands are here"),
+        };
+        let Unclosed {
+            system,
+            hands,
+            client,
+        } = back;
+        match system.close(self.alloc, hands, client) {
+            Ok(report) => Some(report),
+            Err(_) => panic!(rt; "there is memory now"),
+        }
+    }
+}
+
+#[test]
+fn a_tree_is_closed_with_all_its_hands(rt: HostRuntime) -> Result<(), Fail> {
+    let starts: Calls = Arc::new(rt.alloc(), AtomicU64::new(0))?;
+    let plans = plans(rt.alloc(), &starts, b"c")?;
+    let leader = UpAndDown::new(starts, WORKERS + 1);
+    let closing = Closing {
+        alone: Alone { leader },
+        alloc: rt.alloc(),
+    };
+    match with_system(&rt, rt.alloc(), plans, 2, closing) {
+        Ok(Some(report)) => check_ended(&rt, &report),
+        _ => return Err("memory was refused".into()),
     }
     Ok(())
 }

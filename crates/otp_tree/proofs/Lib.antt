@@ -1,1 +1,6 @@
 pub mod Fresh
+pub mod Partings
+pub mod Sums
+pub mod Apart
+pub mod Starts
+pub mod Below

@@ -1,7 +1,7 @@
 -- What contracts see of a hand. (own)
-use Rattle.std.specs.Prelude.{ℕ, Bool, true, false, List, [], ◌∷◌, ◌++◌, map, Option, Some, None, slice_get}
+use Rattle.std.specs.Prelude.{◌≡◌, MatchOption, ℕ, Bool, true, false, List, [], ◌∷◌, ◌++◌, map, Option, Some, None, slice_get}
 use Rattle.std.specs.List.{filter_map}
-use Rattle.otp_inbox.specs.Tokens.{SenderState}
+use Rattle.otp_inbox.specs.Tokens.{SenderState, TakerState}
 use Rattle.otp_job.specs.Processes.{ProcessState}
 use Rattle.otp_job.specs.declared.process.Ticket.{Ticket}
 use Rattle.otp_reason.specs.declared.note.Note.{Note}
@@ -21,6 +21,9 @@ pub record HandView (J S : Type 0) : Type 0 where
   -- the letter that was refused
   pub unsent : Option (Unsent J S)
   pub refusals : ℕ
+
+abbrev pub senders_of : {J S : Type 0} → HandView J S → List (SenderState Item)
+senders_of h = h.senders
 
 abbrev pub one_if : Bool → ℕ
 one_if true = 1
@@ -63,3 +66,14 @@ pub record ClientView : Type 0 where
   pub senders : List (SenderState Item)
   -- the root's number, of the first client
   pub root : Option ℕ
+  -- what the first client takes the root's notes by
+  pub waiter : Option (TakerState Item)
+
+-- what contracts see of a tree: how many slots of signal words there are, and how many supervisors
+pub record SystemView : Type 0 where
+  pub slots : ℕ
+  pub tables : ℕ
+
+-- a note of the root came, and nothing else of the client changed
+abbrev pub Heard : Note → ClientView → ClientView → Type 0
+Heard note old new = MatchOption old.waiter ⊥ (λ w. new ≡ record old { waiter = Some (record w { taken = w.taken ++ item.Note note ∷ [] }) })

@@ -1,3 +1,9 @@
 pub mod Seats
 pub mod Hands
 pub mod Opens
+pub mod Reports
+pub mod Partings
+pub mod Sendings
+pub mod Tellings
+pub mod Closes
+pub mod Gathers

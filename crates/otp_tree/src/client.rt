@@ -1,5 +1,8 @@
 //! Who calls the supervisors of a tree from outside.
-ghost use Rattle.std.specs.Prelude.{◌≡◌, is_some};
+ghost use Rattle.std.specs.Prelude.{◌≡◌, ◌↔◌, is_some, IfNone, IfSome, IsTrue, MatchOption};
+ghost use Rattle.otp_signals.specs.Holdings.{after_post};
+ghost use Rattle.otp_signals.specs.Signals.{word_of};
+ghost use Rattle.otp_signals.specs.declared.signal.Signal.TheVariants.{Shutdown};
 
 use crate::senders::Senders;
 use otp_inbox::{InboxNaming, Taker};
@@ -26,7 +29,7 @@ impl<N: WordsNaming + InboxNaming, B: Drop> Model for Client<N, B> {
 
     ghost Value = { ClientView };
 
-    ghost view = { λ c. record { owner = c.owner; senders = c.senders; root = c.root } };
+    ghost view = { λ c. record { owner = c.owner; senders = c.senders; root = c.root; waiter = c.waiter } };
 
     ghost invariant = { λ c. IfSome c.root (λ number. Contains c.owner.slots 0 × Contains c.owner.drawn number) };
 }
@@ -39,11 +42,21 @@ impl<N: WordsNaming + InboxNaming, B: Drop> Client<N, B> {
         self.root.is_some()
     }
 
+    /// Whether it is the first client, and takes the root's notes from the inbox with this number.
+    pub(crate) fn waits_at(&self, table: usize) -> bool
+        ensures { IsTrue result ↔ MatchOption self.now.waiter ⊥ (λ w. w.inbox ≡ table) }
+    {
+        match &self.waiter {
+            Some(waiter) => waiter.number() == table,
+            None => false,
+        }
+    }
+
     /// Asks the root to shut down. False, and nothing changes, where it isn't the first client.
     pub(crate) fn stop(&mut self, words: &Words<N>) -> bool
         ensures told { result ≡ is_some self.old.root }
-        ensures senders { self.new.senders ≡ self.old.senders }
-        ensures root { self.new.root ≡ self.old.root }
+        ensures posted { IfSome self.old.root (λ number. self.new ≡ record self.old { owner = after_post 0 (word_of number Shutdown) self.old.owner }) }
+        ensures same { IfNone self.old.root (self.new ≡ self.old) }
     {
         let Some(number) = self.root else {
             return false;

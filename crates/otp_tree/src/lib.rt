@@ -1,7 +1,18 @@
-//! A tree of supervisors that runs on threads: opened, served by 1 to 8 hands, and stopped.
+//! A tree of supervisors that runs on threads: opened, served by 1 to 8 hands, stopped, and closed with a report.
 //!
-//! A tree is a list of [`TablePlan`]s, the root first. A job is any type that is a [`otp_job::Job`]. [`lead`] opens the
-//! tree and serves it with each hand in a thread of its own, and a [`Leader`] says what each round is:
+//! A tree is a list of [`TablePlan`]s, the root first. A job is any type that is a [`otp_job::Job`]. [`run_tree`] is the whole
+//! life of a tree in one call: each hand makes so many turns in a thread of its own, the root is asked to stop, each hand
+//! makes as many turns again, and a [`Report`] says what the tree was:
+//!
+//! ```text
+//! let report = run_tree(&rt, rt.alloc(), plans, 4, &clock, 1000)?;
+//! for table in report.tables.as_slice() {
+//!     println!("{} starts, {} restarts", table.starts(), table.restarts());
+//! }
+//! println!("{} left", report.live);
+//! ```
+//!
+//! [`lead`] does the same round by round, and a [`Leader`] says what each round is:
 //!
 //! ```text
 //! /// Serves until the root is up, then asks it to stop, and serves until it has ended.
@@ -22,12 +33,14 @@
 //! ```
 //!
 //! Nothing else is to be written, and no proof: `plans` are the trees' supervisors with their jobs, 4 the hands, `clock` is
-//! a [`Gate`], which is asked the time before each turn, and 100 the most rounds.
+//! a [`Gate`], which is asked the time before each turn, and 100 the most rounds. At the end the tree is closed, and its report
+//! comes with the leader.
 //!
 //! Whoever wants to serve in one thread, or to do more with the open tree, writes a [`Session`] for [`with_system`]. All
 //! that belongs to one tree bears one name, `N`, in its type, so that nothing of it can be mixed up with another's, and the
 //! library picks the name; that is why a session is a trait with one generic method. In it [`System::serve`] gives a hand
-//! turns, [`System::root_note`] is the next thing that the root tells, and [`System::stop`] asks it to shut down.
+//! turns, [`System::root_note`] is the next thing that the root tells, [`System::stop`] asks it to shut down, and
+//! [`System::close`] takes the tree apart and reports.
 //! `crates/otp_uses/src/tree.rt` has a whole session, with its job and its plan. The prover doesn't cover a call of
 //! [`pool_run`] in a trait's method yet, so a session serves hand by hand.
 //!
@@ -37,9 +50,14 @@
 
 pub mod client;
 pub mod clock;
+pub mod closing;
+mod complete;
+pub mod evidence;
 pub mod hand;
 pub mod opening;
+mod parting;
 pub mod plan;
+pub mod report;
 pub mod rounds;
 pub mod senders;
 pub mod serving;
@@ -48,10 +66,13 @@ pub mod system;
 
 pub use client::Client;
 pub use clock::{Gate, Millis};
+pub use closing::{CloseFault, Unclosed};
+pub use evidence::Mismatch;
 pub use hand::Hand;
 pub use opening::{MAX_TABLES, Opened, Parts, TreeFault};
 pub use plan::TablePlan;
-pub use rounds::{Leader, Round, lead};
+pub use report::{Report, TableReport};
+pub use rounds::{Leader, Led, Round, RunFault, lead, run_tree};
 pub use senders::Senders;
 pub use serving::{MAX_HANDS, pool_run};
 pub use session::{Session, with_system};

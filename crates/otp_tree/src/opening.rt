@@ -77,6 +77,7 @@ impl<J: Drop, S: Drop> Parts<J, S> {
         requires tables { length plans.items ≤ 64 }
         requires some { 0 < hands }
         requires few { hands ≤ all_parts }
+        ensures tables { IfOk result (λ p. length p.inboxes.items ≡ length plans.items) }
         ensures slots { IfOk result (λ p. p.words.slots ≡ slots_of (length p.inboxes.items)) }
         ensures few { IfOk result (λ p. length p.inboxes.items ≤ 64) }
     {
@@ -117,6 +118,7 @@ fn open_one<N: WordsNaming + InboxNaming, J: Drop, S: Drop>(
     requires few { number < 64 }
     requires slots { EachBetween (first_slot number) (first_slot (number + 1)) (Contains owner.old.slots) }
     requires unposted { owner.old.posts ≡ [] }
+    ensures sup { IfOk result (λ r. r.0.inbox ≡ number) }
     ensures sender { IfOk result (λ r. r.1 ≡ first_sender number) }
     ensures lower { OnOk result (StayBelow (first_slot number) owner.old.slots owner.new.slots) }
     ensures upper { OnOk result (StayFrom (first_slot (number + 1)) owner.old.slots owner.new.slots) }
@@ -189,6 +191,8 @@ fn open_all<N: WordsNaming + InboxNaming, J: Drop, S: Drop>(
     requires few { length inboxes.items ≤ 64 }
     requires slots { EachBetween 0 (slots_of (length inboxes.items)) (Contains owner.old.slots) }
     requires unposted { owner.old.posts ≡ [] }
+    ensures sups { IfOk result (λ r. AllAt (λ k sup. sup.inbox ≡ k) r.sups.items) }
+    ensures many { IfOk result (λ r. length r.sups.items ≡ length inboxes.items) }
     ensures senders { IfOk result (λ r. AllAt (λ k s. s ≡ first_sender k) r.senders.items) }
     ensures count { IfOk result (λ r. length r.senders.items ≡ length inboxes.items) }
     ensures root { OnOk result (Contains owner.new.slots 0) }
@@ -284,6 +288,7 @@ impl<J: Drop, S: Drop> Parts<J, S> {
         requires slots { self.words.slots ≡ slots_of (length self.inboxes.items) }
         requires few { length self.inboxes.items ≤ 64 }
         ensures root { IfOk result (λ o. is_some o.client.root ≡ true) }
+        ensures tables { IfOk result (λ o. o.system.tables ≡ length self.inboxes.items) }
     {
         let Parts {
             words,

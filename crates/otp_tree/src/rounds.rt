@@ -1,14 +1,17 @@
 //! A whole tree on threads, in one call.
-ghost use Rattle.std.specs.Prelude.{◌≡◌, ◌<◌, ◌≤◌, length};
+ghost use Rattle.std.specs.Prelude.{◌≡◌, ◌<◌, ◌≤◌, length, IfErr, IfOk};
 ghost use Rattle.otp_run.specs.Lists.{AllAt};
 ghost use Rattle.otp_run.specs.Rule.{all_parts};
+ghost use Rattle.otp_tree.specs.Closes.{IsMismatchOnly, IsReportOf, IsRunMismatchOnly};
 ghost use Rattle.otp_tree.specs.Opens.{slots_of};
 
 use crate::client::Client;
 use crate::clock::Gate;
+use crate::closing::CloseFault;
 use crate::hand::Hand;
 use crate::opening::{Opened, Parts, TreeFault};
 use crate::plan::TablePlan;
+use crate::report::Report;
 use crate::serving::pool_run;
 use crate::system::System;
 use otp_bridge::Subsystem;
@@ -29,7 +32,7 @@ pub enum Round {
     Serve(u64),
     /// The root is asked to shut down, and then each hand makes so many turns, all hands at once.
     Stop(u64),
-    /// Nothing more: the tree is left as it is.
+    /// Nothing more: the tree is closed as it is.
     Leave,
 }
 
@@ -40,8 +43,17 @@ pub trait Leader: Drop {
     fn next(&mut self, told: Option<Note>) -> Round;
 }
 
+/// What came of a tree that was led.
+#[derive(Drop)]
+pub struct Led<J: Drop, S: Drop, L: Leader> {
+    pub leader: L,
+    /// What the tree was when it was closed; a fault has nothing to give back, as the tree can't leave the call.
+    pub report: Result<Report<J, S>, CloseFault<J, S, ()>>,
+}
+
 /// Opens a tree of 1 to 64 supervisors, the root first, for 1 to 8 hands, and serves it with each hand in a thread of its
-/// own ([`pool_run`]), round by round as the leader says: at most so many rounds. The leader comes back.
+/// own ([`pool_run`]), round by round as the leader says: at most so many rounds. Then the tree is closed
+/// ([`System::close`]). The leader comes back, with the report.
 ///
 /// A round ends when each hand has made its turns. The gate is asked before each turn of a hand, in the hand's own thread.
 pub fn lead<R, J, S, G, L>(
@@ -52,7 +64,7 @@ pub fn lead<R, J, S, G, L>(
     gate: &G,
     rounds: u64,
     leader: L,
-) -> Result<L, TreeFault>
+) -> Result<Led<J, S, L>, TreeFault>
 where
     R: Threads + Wait + Sync,
     J: Job + Send,
@@ -62,6 +74,8 @@ where
     requires tables { length plans.items ≤ 64 }
     requires some { 0 < hands }
     requires few { hands ≤ all_parts }
+    ensures report { IfOk result (λ led. IfOk led.report (IsReportOf (length plans.items))) }
+    ensures mismatch { IfOk result (λ led. IfErr led.report IsMismatchOnly) }
 {
     let parts = Parts::open(alloc, plans, hands)?;
     lead_named::<Brand, R, J, S, G, L>(rt, alloc, parts, gate, rounds, leader)
@@ -74,7 +88,7 @@ fn lead_named<N, R, J, S, G, L>(
     gate: &G,
     rounds: u64,
     mut leader: L,
-) -> Result<L, TreeFault>
+) -> Result<Led<J, S, L>, TreeFault>
 where
     N: WordsNaming + InboxNaming + RunNaming + Send + Sync,
     R: Threads + Wait + Sync,
@@ -88,6 +102,8 @@ where
     requires deques { AllAt (λ k id. id ≡ N.deque k) parts.queue }
     requires slots { parts.words.slots ≡ slots_of (length parts.inboxes.items) }
     requires few { length parts.inboxes.items ≤ 64 }
+    ensures report { IfOk result (λ led. IfOk led.report (IsReportOf (length parts.inboxes.items))) }
+    ensures mismatch { IfOk result (λ led. IfErr led.report IsMismatchOnly) }
 {
     let Opened {
         system,
@@ -100,7 +116,8 @@ where
             break;
         }
     }
-    Ok(leader)
+    let report = system.finish(alloc, hands, client);
+    Ok(Led { leader, report })
 }
 
 /// Makes a round. False where nothing more is wanted.
@@ -129,4 +146,80 @@ where
     };
     pool_run(rt, system, hands.as_mut_slice(), gate, turns);
     true
+}
+
+/// Why a tree that was run has no report.
+#[derive(Drop)]
+pub enum RunFault<J: Drop, S: Drop> {
+    /// It was not opened.
+    Open(TreeFault),
+    /// It was not closed, or its report tells of a mismatch.
+    Close(CloseFault<J, S, ()>),
+}
+
+/// Serves so many turns, asks the root to stop, serves as many again, and leaves.
+#[derive(Drop)]
+struct TwoRounds {
+    turns: u64,
+    begun: bool,
+    stopped: bool,
+}
+
+impl Leader for TwoRounds {
+    fn next(&mut self, _told: Option<Note>) -> Round {
+        if !self.begun {
+            self.begun = true;
+            return Round::Serve(self.turns);
+        }
+        if !self.stopped {
+            self.stopped = true;
+            return Round::Stop(self.turns);
+        }
+        Round::Leave
+    }
+}
+
+/// The whole life of a tree of 1 to 64 supervisors, the root first, in one call: each of 1 to 8 hands makes so many turns
+/// in a thread of its own, then the root is asked to stop, each hand makes as many turns again, and the tree is closed.
+/// Out comes the report of what it was.
+pub fn run_tree<R, J, S, G>(
+    rt: &R,
+    alloc: Global,
+    plans: Vec<TablePlan<J, S>>,
+    hands: usize,
+    gate: &G,
+    turns: u64,
+) -> Result<Report<J, S>, RunFault<J, S>>
+where
+    R: Threads + Wait + Sync,
+    J: Job + Send,
+    S: Subsystem + Send,
+    G: Gate + Sync,
+    requires tables { length plans.items ≤ 64 }
+    requires some { 0 < hands }
+    requires few { hands ≤ all_parts }
+    // The report has each supervisor of the plans, and is one that `System::close` can give.
+    ensures report { IfOk result (IsReportOf (length plans.items)) }
+    ensures mismatch { IfErr result IsRunMismatchOnly }
+{
+    let leader = TwoRounds {
+        turns,
+        begun: false,
+        stopped: false,
+    };
+    match lead(rt, alloc, plans, hands, gate, 3, leader) {
+        Ok(
+            Led {
+                leader: _,
+                report: Ok(report),
+            },
+        ) => Ok(report),
+        Ok(
+            Led {
+                leader: _,
+                report: Err(fault),
+            },
+        ) => Err(RunFault::Close(fault)),
+        Err(fault) => Err(RunFault::Open(fault)),
+    }
 }

@@ -1,6 +1,7 @@
 //! Senders to each supervisor of a tree.
 ghost use Rattle.std.specs.Prelude.{◌≡◌, ◌<◌, ◌++◌, ◌∷◌, [], length, ◌==◌, IfErr, IfSome, OnErr, OnOk, Some, slice_get, slice_set};
 ghost use Rattle.otp_inbox.specs.Tokens.{SenderState, no_shares};
+ghost use Rattle.otp_tree.specs.Sendings.{parts_at};
 ghost use Rattle.otp_rules.specs.declared.event.Item.{Item};
 
 use otp_inbox::{Inbox, InboxNaming, Sender};
@@ -59,6 +60,16 @@ impl<N: InboxNaming, B: Drop> Senders<N, B> {
     {
         let place = inbox.number();
         inbox.send(rt, &mut self.list[place], letter)
+    }
+
+    /// Its parts of the right to send to one supervisor.
+    pub(crate) fn parts_at(&self, place: usize) -> u64
+        ensures { result ≡ parts_at place self.now }
+    {
+        match self.list.get(place) {
+            Some(sender) => sender.parts(),
+            None => 0,
+        }
     }
 
     /// A sender to one supervisor, with so many parts of the right to send. None where not more are there.

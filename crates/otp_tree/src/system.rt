@@ -1,5 +1,9 @@
 //! The tree: its supervisors, which the hands share.
-ghost use Rattle.std.specs.Prelude.{◌≡◌, ◌<◌, is_some, length};
+ghost use Rattle.std.specs.Prelude.{◌≡◌, ◌<◌, ◌≤◌, is_some, length, IfNone, IfSome};
+ghost use Rattle.otp_signals.specs.Holdings.{after_post};
+ghost use Rattle.otp_signals.specs.Signals.{word_of};
+ghost use Rattle.otp_signals.specs.declared.signal.Signal.TheVariants.{Shutdown};
+ghost use Rattle.otp_tree.specs.Hands.{Heard};
 
 use crate::client::Client;
 use crate::senders::Senders;
@@ -10,6 +14,7 @@ use otp_rules::Item;
 use otp_signals::{Words, WordsNaming};
 use otp_sup::{Letter, Sup};
 use std::alloc::{AllocError, Global};
+use std::marker::Model;
 use std::sync::Wait;
 
 /// The signal words and the supervisors of a tree, which all hands share.
@@ -21,9 +26,23 @@ pub struct System<N: WordsNaming + InboxNaming, J: Drop, S: Drop> {
     pub(crate) outer: Inbox<N, Item, Letter<Body<J, S>>>,
 }
 
+impl<N: WordsNaming + InboxNaming, J: Drop, S: Drop> Model for System<N, J, S> {
+    ghost use Rattle.std.specs.Prelude.{◌≡◌, length};
+    ghost use Rattle.otp_run.specs.Lists.{AllAt};
+    ghost use Rattle.otp_tree.specs.Hands.{SystemView};
+
+    ghost Value = { SystemView };
+
+    ghost view = { λ s. record { slots = s.words; tables = length s.sups.items } };
+
+    ghost invariant = { λ s. AllAt (λ k sup. sup.inbox ≡ k) s.sups.items × (s.outer ≡ length s.sups.items) };
+}
+
 impl<N: WordsNaming + InboxNaming, J: Drop, S: Drop> System<N, J, S> {
     /// How many supervisors the tree has.
-    pub fn tables(&self) -> usize {
+    pub fn tables(&self) -> usize
+        ensures { result ≡ self.now.tables }
+    {
         self.sups.len()
     }
 
@@ -31,8 +50,9 @@ impl<N: WordsNaming + InboxNaming, J: Drop, S: Drop> System<N, J, S> {
     /// client that the tree was opened with.
     pub fn stop(&self, client: &mut Client<N, Body<J, S>>) -> bool
         ensures told { result ≡ is_some client.old.root }
-        ensures senders { client.new.senders ≡ client.old.senders }
-        ensures root { client.new.root ≡ client.old.root }
+        // The shutdown was posted to the root's slot, for its number.
+        ensures posted { IfSome client.old.root (λ number. client.new ≡ record client.old { owner = after_post 0 (word_of number Shutdown) client.old.owner }) }
+        ensures same { IfNone client.old.root (client.new ≡ client.old) }
     {
         client.stop(&self.words)
     }
@@ -40,6 +60,8 @@ impl<N: WordsNaming + InboxNaming, J: Drop, S: Drop> System<N, J, S> {
     /// The next thing that the root told: `Up` once all its children have started, `Exit` when it has ended. None where
     /// there is nothing new, or this isn't the client that the tree was opened with.
     pub fn root_note<R: Wait>(&self, rt: &R, client: &mut Client<N, Body<J, S>>) -> Option<Note>
+        ensures heard { IfSome result (λ note. Heard note client.old client.new) }
+        ensures owner { client.new.owner ≡ client.old.owner }
         ensures senders { client.new.senders ≡ client.old.senders }
         ensures root { client.new.root ≡ client.old.root }
     {
@@ -80,7 +102,9 @@ impl<N: WordsNaming + InboxNaming, J: Drop, S: Drop> System<N, J, S> {
     }
 
     /// The inbox of the supervisor with this number, or of whoever opened the tree.
-    pub(crate) fn inbox_of(&self, table: usize) -> &Inbox<N, Item, Letter<Body<J, S>>> {
+    pub(crate) fn inbox_of(&self, table: usize) -> &Inbox<N, Item, Letter<Body<J, S>>>
+        ensures { table ≤ self.now.tables → result.now ≡ table }
+    {
         match self.sups.get(table) {
             Some(sup) => sup.inbox(),
             None => &self.outer,

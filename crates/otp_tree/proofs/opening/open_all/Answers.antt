@@ -23,11 +23,15 @@ loop-inbox-preserved g c =
     let many = i.many in
     let one = c.in_ok-sup.ensures {u = tt} in
     let p = c.in_ok-keep-2.ensures {u = tt} in
+    let q = c.in_ok-keep.ensures {u = tt} in
+    let many_sups = i.many_sups in
     record {
       rest = λ k. ap (λ l. slice_get l (suc k)) (sym e) ∙ i.rest (suc k) ∙ ap (slice_get c.args.inboxes.items) (omega arith);
       count = omega arith;
       many = ap length p ∙ length-append _ _ ∙ ap (λ m. m + 1) many;
       seated = subst (AllAt (λ k s. s ≡ first_sender {P = Item} k)) (sym p) (push_at (λ k s. s ≡ first_sender k) _ _ i.seated (one.sender ∙ ap first_sender (sym many)));
+      many_sups = ap length q ∙ length-append _ _ ∙ ap (λ m. m + 1) many_sups;
+      placed = subst (AllAt (λ k sup. sup.inbox ≡ k)) (sym q) (push_at (λ k sup. sup.inbox ≡ k) _ _ i.placed (one.sup ∙ sym many_sups));
       root = one.lower 0 (omega arith) i.root;
       slots = λ slot le below. one.upper slot le (i.slots slot (omega (arith, le)) below);
       unposted = one.posts;

@@ -12,6 +12,8 @@ invariant-loop-inbox g l =
       rest : (k : ℕ) → slice_get l.inbox-iterator.rest.items k ≡ slice_get l.fn.inboxes.items (l.number + k);
       count : l.number + length l.inbox-iterator.rest.items ≡ length l.fn.inboxes.items;
       many : length l.senders.items ≡ l.number;
+      many_sups : length l.sups.items ≡ l.number;
+      placed : AllAt (λ k sup. sup.inbox ≡ k) l.sups.items;
       seated : AllAt (λ k s. s ≡ first_sender k) l.senders.items;
       root : Contains l.owner.slots 0;
       slots : EachBetween (first_slot l.number) (slots_of (length l.fn.inboxes.items)) (Contains l.owner.slots);

@@ -1,0 +1,174 @@
+// Trees of which a report is taken: a small one, and one of as many supervisors as there may be, each with as many children.
+ghost use Rattle.std.specs.Prelude.{◌≡◌, ◌<◌, ◌≤◌, false, length, IfOk};
+ghost use Rattle.otp_run.specs.Rule.{all_parts};
+
+use otp_bridge::BoxedSubsystem;
+use otp_job::{Body, Job, TableNo, Told, Turn};
+use otp_reason::{Name, Reason, Started};
+use otp_spec::{ChildSpec, ChildType, Shutdown, SupFlags};
+use otp_tree::{Gate, MAX_TABLES, Report, TablePlan, run_tree};
+use std::alloc::Global;
+use std::process::Abort;
+use std::sync::Wait;
+use std::test::*;
+use std::thread::Threads;
+
+// Works on until its supervisor ends it.
+#[derive(Drop)]
+struct Steady;
+
+impl Job for Steady {
+    ghost is_trapping = { λ _. false };
+
+    fn traps(&self) -> bool {
+        false
+    }
+
+    fn start(&mut self, _number: u64) -> Started {
+        Started::Up
+    }
+
+    fn turn(&mut self, _told: Told) -> Turn {
+        Turn::Again
+    }
+}
+
+// A clock that stands still.
+struct Still;
+
+impl Gate for Still {
+    fn before_turn(&self, _hand: usize) -> u64 {
+        0
+    }
+}
+
+type Plan = TablePlan<Steady, BoxedSubsystem>;
+
+fn empty_plan(alloc: Global) -> Plan {
+    TablePlan {
+        flags: SupFlags::default(),
+        specs: Vec::new(alloc),
+        bodies: Vec::new(alloc),
+    }
+}
+
+fn push_worker(plan: &mut Plan, id: &[u8]) -> Result<(), Fail> {
+    let id = Name::new(id).ok_or("a name")?;
+    plan.specs.push(ChildSpec::new(id, id))?;
+    plan.bodies.push(Body::Worker(Steady))?;
+    Ok(())
+}
+
+// A child that is the supervisor of this number.
+fn push_supervisor(plan: &mut Plan, id: &[u8], table: usize) -> Result<(), Fail> {
+    let id = Name::new(id).ok_or("a name")?;
+    let mut spec = ChildSpec::new(id, id);
+    spec.kind = ChildType::Supervisor;
+    spec.shutdown = Shutdown::Infinity;
+    plan.specs.push(spec)?;
+    plan.bodies.push(Body::Sup(TableNo::new(table)))?;
+    Ok(())
+}
+
+const DIGITS: [u8; 16] = *b"0123456789abcdef";
+
+// A supervisor of 256 children, of which the first are supervisors, so many.
+fn full_plan(alloc: Global, nested: usize) -> Result<Plan, Fail> {
+    let mut plan = empty_plan(alloc);
+    for high in DIGITS {
+        for low in DIGITS {
+            let table = plan.specs.len() + 1;
+            if table <= nested {
+                push_supervisor(&mut plan, &[high, low], table)?;
+            } else {
+                push_worker(&mut plan, &[high, low])?;
+            }
+        }
+    }
+    Ok(plan)
+}
+
+// As many supervisors as there may be, each with 256 children.
+fn full_plans(alloc: Global) -> Result<Vec<Plan>, Fail>
+    ensures { IfOk result (λ plans. length plans.items ≤ 64) }
+{
+    let mut plans = Vec::new(alloc);
+    plans.push(full_plan(alloc, MAX_TABLES - 1)?)?;
+    for _ in 1..MAX_TABLES {
+        plans.push(full_plan(alloc, 0)?)?;
+    }
+    Ok(plans)
+}
+
+// So few turns leave most children unstarted, and most of those that were started unended.
+fn close_full<R: Threads + Wait + Abort + Sync>(
+    rt: &R,
+    alloc: Global,
+    hands: usize,
+) -> Result<(), Fail>
+    requires some { 0 < hands }
+    requires few { hands ≤ all_parts }
+{
+    let plans = full_plans(alloc)?;
+    match run_tree(rt, alloc, plans, hands, &Still, 20_000) {
+        Ok(report) => check_open(rt, &report),
+        Err(_) => return Err("the tree was not closed".into()),
+    }
+    Ok(())
+}
+
+fn check_open<R: Abort>(rt: &R, report: &Report<Steady, BoxedSubsystem>) {
+    assert_eq!(rt; report.tables.len(), MAX_TABLES);
+    assert!(rt; report.live > 0);
+    assert_eq!(rt; report.begun, report.ended + report.live);
+    assert_eq!(rt; report.processes.len() as u64, report.live);
+    assert_eq!(rt; report.begun, 1 + count_starts(report));
+}
+
+// How many children were started, by all supervisors.
+fn count_starts(report: &Report<Steady, BoxedSubsystem>) -> u64 {
+    let mut starts: u64 = 0;
+    for table in report.tables.as_slice() {
+        starts = starts.saturating_add(table.starts());
+    }
+    starts
+}
+
+#[test]
+fn full_trees_are_closed(rt: HostRuntime) -> Result<(), Fail> {
+    close_full(&rt, rt.alloc(), 1)?;
+    close_full(&rt, rt.alloc(), 2)?;
+    close_full(&rt, rt.alloc(), 4)?;
+    close_full(&rt, rt.alloc(), 8)
+}
+
+// Three steady workers under one supervisor.
+fn small_plans(alloc: Global) -> Result<Vec<Plan>, Fail>
+    ensures { IfOk result (λ plans. length plans.items ≤ 64) }
+{
+    let mut plan = empty_plan(alloc);
+    push_worker(&mut plan, b"a")?;
+    push_worker(&mut plan, b"b")?;
+    push_worker(&mut plan, b"c")?;
+    let mut plans = Vec::new(alloc);
+    plans.push(plan)?;
+    Ok(plans)
+}
+
+#[test]
+fn a_report_counts_starts_events_and_processes(rt: HostRuntime) -> Result<(), Fail> {
+    let plans = small_plans(rt.alloc())?;
+    match run_tree(&rt, rt.alloc(), plans, 1, &Still, 1000) {
+        Ok(report) => {
+            let table = &report.tables[0];
+            assert_eq!(rt;
+                (table.starts(), table.restarts(), table.events()),
+                (3, 0, 8)
+            );
+            assert_eq!(rt; table.end(), Some(Reason::Shutdown));
+            assert_eq!(rt; (report.begun, report.ended, report.live), (4, 4, 0));
+        }
+        Err(_) => return Err("the tree was not closed".into()),
+    }
+    Ok(())
+}

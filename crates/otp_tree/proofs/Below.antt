@@ -1,0 +1,29 @@
+-- Facts of the first elements of a list, one element more, and of all.
+use Rattle.std.proofs.Common.{Some, None, ◌≡◌, ℕ, zero, suc, ◌+◌, ◌<◌, ◌≤◌, List, [], ◌∷◌, Option, length, sym, subst, arith}
+use Rattle.std.specs.Prelude.{slice_get, IfSome}
+use Rattle.std.proofs.lemmas.Option.{get_or_from_slice_get}
+use Rattle.otp_run.specs.Lists.{AllAt}
+use Rattle.otp_run.proofs.Places.{each_at}
+
+module _ {A : Type 0} (P : A → Type 0) where
+  past : (o : Option A) (k : ℕ) → IfSome o (λ x. suc k < 1 → P x)
+  past (Some x) k = λ below. absurd (omega (arith, below))
+  past None k = tt
+
+  shift : (o : Option A) (k n : ℕ) → IfSome o (λ x. suc k < suc n → P x) → IfSome o (λ x. k < n → P x)
+  shift (Some x) k n p = λ below. p (omega (arith, below))
+  shift None k n p = tt
+
+  back : (o : Option A) (k n : ℕ) → IfSome o (λ x. k < n + 1 → P x) → IfSome o (λ x. suc k < suc n + 1 → P x)
+  back (Some x) k n p = λ below. p (omega (arith, below))
+  back None k n p = tt
+
+  pub below-more : (xs : List A) (n : ℕ) (y : A) → slice_get xs n ≡ Some y → P y → AllAt (λ k x. k < n → P x) xs → AllAt (λ k x. k < n + 1 → P x) xs
+  below-more [] n y at p all j = tt
+  below-more (x ∷ xs) zero y at p all zero = λ below. subst P (sym (get_or_from_slice_get (x ∷ xs) zero y x at)) p
+  below-more (x ∷ xs) zero y at p all (suc j) = past (slice_get xs j) j
+  below-more (x ∷ xs) (suc n) y at p all zero = λ below. all zero (omega arith)
+  below-more (x ∷ xs) (suc n) y at p all (suc j) = back (slice_get xs j) j n (below-more xs n y at p (λ i. shift (slice_get xs i) i n (all (suc i))) j)
+
+  pub below-all : (xs : List A) (n : ℕ) → length xs ≤ n → AllAt (λ k x. k < n → P x) xs → AllAt (λ k x. P x) xs
+  below-all xs n long all = each_at (λ k x. k < n → P x) (λ k x. P x) xs all (λ j x within p. p (omega (arith, within, long)))

@@ -1,0 +1,15 @@
+use Rattle.std.proofs.Common.{◌≡◌, ◌+◌, ◌-◌, ◌^◌, min, ap, sym, ◌∙◌, arith}
+use Rattle.std.specs.Prelude.{sum_by}
+use Rattle.std.proofs.lemmas.List.{take_all}
+use Rattle.otp_tree.specs.Sendings.{parts_at}
+use Rattle.otp_tree.proofs.Sums.{parts_by, parts_by_hands}
+use Rattle.otp_tree.proofs.complete.parts_to.Goals as goal
+
+pub returns : goal.returns
+returns g c =
+    let place = c.args.place in
+    let client = c.args.client.now in
+    let hands = c.args.hands.now in
+    c.loop-hand.invariant
+    ∙ ap (λ l. min (parts_at place client.senders + sum_by (parts_by place) l) (2 ^ 64 - 1)) (take_all c.loop-hand.hand-index hands (omega (arith, c.loop-hand-test.false)))
+    ∙ ap (λ n. min n (2 ^ 64 - 1)) (sym (parts_by_hands place client hands))

@@ -1,0 +1,45 @@
+use Rattle.std.proofs.Common.{◌≡◌, ℕ, ◌+◌, [], ◌∷◌, length, sym, ap, ◌∙◌, arith, length-append}
+use Rattle.std.proofs.lemmas.List.{length-map}
+use Rattle.otp_tree.specs.Partings.{scheduler_of, schedulers_of}
+use Rattle.otp_tree.proofs.Partings.{parted-more, paired-more, parted-all, schedulers-joined}
+use Rattle.otp_tree.proofs.parting.part_all.Goals as goal
+
+pub loop-hand-preserved : goal.loop-hand-preserved
+loop-hand-preserved g c =
+    let i = c.loop-hand.invariant in
+    let next = (c.in-Some.ensures {u = tt}).steps.0 in
+    let fewer = (c.in-Some.ensures {u = tt}).steps.1 in
+    let before = i.left in
+    let many = i.many in
+    let room = i.room in
+    let room_for_rests = i.room_for_rests in
+    let shorter = ap length next in
+    let one = c.push_reserved.ensures.items in
+    let two = c.push_reserved-in-loop-hand.ensures.items in
+    let long = ap length one in
+    let long_too = ap length two in
+    let len = c.push_reserved.ensures.len in
+    let len_too = c.push_reserved-in-loop-hand.ensures.len in
+    let capacity = c.push_reserved.ensures.capacity in
+    let capacity_too = c.push_reserved-in-loop-hand.ensures.capacity in
+    record {
+      hands = parted-more _ _ _ _ _ _ _ _ _ _ one two c.hand.view_is next many i.hands;
+      paired = paired-more _ _ _ _ _ _ one two many c.hand.invariant i.paired;
+      many = long ∙ length-append _ _ ∙ ap (λ n. n + 1) many ∙ sym (length-append _ _) ∙ sym long_too;
+      left = omega arith;
+      room = omega arith;
+      room_for_rests = omega arith;
+    }
+
+pub returns-clause-hands : goal.returns-clause-hands
+returns-clause-hands g c =
+    let i = c.loop-hand.invariant in
+    let none = (c.in-None.ensures {u = tt}).steps.0 in
+    let left = i.left in
+    parted-all c.loop-hand.schedulers.items c.loop-hand.rests.items _ _ (omega arith) i.hands
+
+pub returns-clause-same : goal.returns-clause-same
+returns-clause-same g c = ap schedulers_of (sym (returns-clause-hands g c)) ∙ schedulers-joined c.loop-hand.schedulers.items c.loop-hand.rests.items c.loop-hand.invariant.paired
+
+pub returns-clause-count : goal.returns-clause-count
+returns-clause-count g c = sym (ap length (returns-clause-same g c)) ∙ length-map c.args.hands.items scheduler_of

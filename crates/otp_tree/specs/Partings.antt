@@ -1,0 +1,30 @@
+-- Hands in two parts: their schedulers, and the rest. (own)
+use Rattle.std.specs.Prelude.{◌≡◌, ⊤, List, [], ◌∷◌, map, is_some}
+use Rattle.otp_run.specs.Schedulers.{SchedulerState, out}
+use Rattle.otp_tree.specs.declared.parting.Rest.{Rest}
+use Rattle.otp_tree.specs.Hands.{HandView, one_if}
+
+module _ {J S : Type 0} where
+  abbrev pub scheduler_of : HandView J S → SchedulerState
+  scheduler_of h = h.scheduler
+
+  -- the schedulers of all hands
+  abbrev pub schedulers_of : List (HandView J S) → List SchedulerState
+  schedulers_of hands = map scheduler_of hands
+
+module _ {N J S : Type 0} where
+  -- the hand of a scheduler and the rest
+  abbrev pub hand_of : SchedulerState → Rest N J S → HandView J S
+  hand_of s r = record { scheduler = s; senders = r.senders; turning = r.turning; unsent = r.unsent; refusals = r.refusals.count }
+
+  -- the hands of all schedulers and their rests
+  abbrev pub joined : List SchedulerState → List (Rest N J S) → List (HandView J S)
+  joined [] rs = []
+  joined (s ∷ ss) [] = []
+  joined (s ∷ ss) (r ∷ rs) = hand_of s r ∷ joined ss rs
+
+  -- each scheduler has its rest: out is the process that the rest has
+  abbrev pub ArePaired : List SchedulerState → List (Rest N J S) → Type 0
+  ArePaired [] rs = ⊤
+  ArePaired (s ∷ ss) [] = ⊥
+  ArePaired (s ∷ ss) (r ∷ rs) = (out s ≡ one_if (is_some r.turning)) × ArePaired ss rs

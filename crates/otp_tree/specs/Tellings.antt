@@ -1,0 +1,80 @@
+-- What supervisors are told of the ends of others, and when that is so (Supervisor Behaviour, nested supervisors).
+use Rattle.std.specs.Prelude.{◌≡◌, ℕ, ⊤, List, Option, Some, None, MatchOption, slice_get}
+use Rattle.otp_core.specs.View.{state_of}
+use Rattle.otp_reason.specs.declared.note.Note.{Note}
+use Rattle.otp_reason.specs.declared.note.Note.TheVariants as note
+use Rattle.otp_reason.specs.declared.reason.Reason.{Reason}
+use Rattle.otp_reason.specs.declared.reason.Reason.TheVariants as why
+use Rattle.otp_reason.specs.Texts.{text_bytes}
+use Rattle.otp_rules.specs.declared.ending.SupEnd.{SupEnd}
+use Rattle.otp_rules.specs.declared.event.Event.{Event}
+use Rattle.otp_rules.specs.declared.event.Item.{Item}
+use Rattle.otp_rules.specs.declared.event.Item.TheVariants as item
+use Rattle.otp_rules.specs.declared.event.Kind.{Kind}
+use Rattle.otp_rules.specs.declared.event.Kind.TheVariants as kind
+use Rattle.otp_rules.specs.declared.work.Phase.TheVariants.{Open}
+use Rattle.otp_rules.specs.State.{State}
+use Rattle.otp_run.specs.Lists.{AllAt}
+use Rattle.otp_tree.specs.declared.evidence.Mismatch.{Mismatch}
+use Rattle.otp_tree.specs.declared.report.TableReport.{TableReport}
+
+-- the number of the process whose end a note tells, and the reason: none where there was nothing to run
+abbrev pub end_in : Note → Option (ℕ × Option Reason)
+end_in (note.Up _) = None
+end_in (note.Ignored p) = Some (p, None)
+end_in (note.Failed p r) = Some (p, Some r)
+end_in (note.Exit p r) = Some (p, Some r)
+
+-- the same of an event
+abbrev pub told_end : Kind → Option (ℕ × Option Reason)
+told_end (kind.Took (item.Note n)) = end_in n
+told_end (kind.Took (item.Call _ _)) = None
+told_end (kind.Opened _) = None
+told_end kind.Resumed = None
+told_end kind.Ticked = None
+told_end kind.Stopped = None
+
+-- two reasons say the same: of two texts, that they show the same bytes
+abbrev pub IsSameReason : Reason → Reason → Type 0
+IsSameReason why.Normal why.Normal = ⊤
+IsSameReason why.Shutdown why.Shutdown = ⊤
+IsSameReason (why.ShutdownWith one) (why.ShutdownWith other) = text_bytes one ≡ text_bytes other
+IsSameReason why.Kill why.Kill = ⊤
+IsSameReason why.Killed why.Killed = ⊤
+IsSameReason why.NoProc why.NoProc = ⊤
+IsSameReason (why.Error one) (why.Error other) = text_bytes one ≡ text_bytes other
+IsSameReason _ _ = ⊥
+
+-- an end with this reason is the one that was told; no supervisor's end is told without a reason
+abbrev pub IsEndTold : Reason → Option Reason → Type 0
+IsEndTold ended None = ⊥
+IsEndTold ended (Some told) = IsSameReason ended told
+
+-- an opening was under another number, or ended with this reason
+abbrev pub EndedSo : ℕ → Option Reason → ℕ × SupEnd → Type 0
+EndedSo number reason x = x.0 ≡ number → IsEndTold x.1.reason reason
+
+-- the supervisor doesn't run under this number, and each opening of it under the number ended with this reason
+pub record Agrees (s : State) (number : ℕ) (reason : Option Reason) : Type 0 where
+  pub not_open : ¬ (s.phase ≡ Open number)
+  pub ended : AllAt (λ _ x. EndedSo number reason x) s.ends
+
+-- the histories of all supervisors agree with the end of this process
+abbrev pub AllAgree : List (TableReport) → ℕ → Option Reason → Type 0
+AllAgree tables number reason = AllAt (λ _ (t : TableReport). Agrees (state_of t.core) number reason) tables
+
+-- an event tells no end, or one with which the histories of all supervisors agree
+pub record IsSo (tables : List (TableReport)) (event : Event) : Type 0 where
+  pub told : MatchOption (told_end event.kind) ⊤ (λ told. AllAgree tables told.0 told.1)
+
+-- each end that a supervisor was told is one with which the histories of all agree
+pub record IsToldSo (tables : List (TableReport)) (t : TableReport) : Type 0 where
+  pub events : AllAt (λ _ e. IsSo tables e) t.core.history
+
+-- the same of all supervisors
+abbrev pub AreSo : List (TableReport) → Type 0
+AreSo tables = AllAt (λ _ t. IsToldSo tables t) tables
+
+-- an event of this supervisor tells an end with which a history doesn't agree
+abbrev pub IsMismatch : List (TableReport) → Mismatch → Type 0
+IsMismatch tables m = MatchOption (slice_get tables m.table) ⊥ (λ t. MatchOption (slice_get t.core.history m.event) ⊥ (λ event. ¬ (IsSo tables event)))

@@ -1,0 +1,159 @@
+//! What supervisors were told of the ends of others, held against the others' own histories.
+ghost use Rattle.std.specs.Prelude.{◌≡◌, ◌↔◌, IfNone, IfSome, IsTrue, MatchOption, slice_get};
+ghost use Rattle.otp_core.specs.View.{state_of};
+ghost use Rattle.otp_reason.specs.Texts.{text_bytes};
+ghost use Rattle.otp_rules.specs.declared.work.Phase.TheVariants.{Open};
+ghost use Rattle.otp_run.specs.Lists.{AllAt};
+ghost use Rattle.otp_tree.specs.Tellings.{Agrees, AllAgree, AreSo, EndedSo, IsEndTold, IsMismatch, IsSameReason, IsSo, told_end};
+
+use crate::report::TableReport;
+use otp_core::{Core, History};
+use otp_reason::{Note, Reason, Text};
+use otp_rules::{Event, Item, Kind, Phase, SupEnd};
+
+/// E17: which event tells a supervisor an end of another one that isn't the one that the other's own history gives.
+#[derive(Clone, Copy, Debug, PartialEq, Eq)]
+pub struct Mismatch {
+    /// The number of the supervisor that was told it.
+    pub table: usize,
+    /// The place of the event in that supervisor's history, from 0 on.
+    pub event: usize,
+}
+
+/// The first event that tells an end that isn't so.
+pub(crate) fn find_mismatch(tables: &[TableReport]) -> Option<Mismatch>
+    ensures none { IfNone result (AreSo tables.now) }
+    ensures found { IfSome result (IsMismatch tables.now) }
+{
+    for table in 0..tables.len() {
+        if let Some(event) = find_untrue(tables[table].core.history(), tables) {
+            return Some(Mismatch { table, event });
+        }
+    }
+    None
+}
+
+/// The first event of a history that tells an end that isn't so.
+fn find_untrue(history: &History, tables: &[TableReport]) -> Option<usize>
+    ensures none { IfNone result (AllAt (λ _ e. IsSo tables.now e) history.now.events) }
+    ensures found { IfSome result (λ place. MatchOption (slice_get history.now.events place) ⊥ (λ event. ¬ (IsSo tables.now event))) }
+{
+    for place in 0..history.len() {
+        if !is_so(&history.get(place), tables) {
+            return Some(place);
+        }
+    }
+    None
+}
+
+/// Whether an event tells no end of a supervisor, or one that is so.
+fn is_so(event: &Event, tables: &[TableReport]) -> bool
+    ensures { IsTrue result ↔ IsSo tables.now event.now }
+{
+    match told_end(&event.kind) {
+        Some((number, reason)) => all_agree(tables, number, reason),
+        None => true,
+    }
+}
+
+/// The number of the process whose end an event tells, and the reason; None as the reason where there was nothing to run.
+fn told_end(kind: &Kind) -> Option<(u64, Option<Reason>)>
+    ensures { result ≡ told_end kind.now }
+{
+    match kind {
+        Kind::Took(Item::Note(Note::Exit(number, reason) | Note::Failed(number, reason))) => {
+            Some((*number, Some(*reason)))
+        }
+        Kind::Took(Item::Note(Note::Ignored(number))) => Some((*number, None)),
+        _ => None,
+    }
+}
+
+/// Whether the histories of all supervisors agree with the end of this process.
+fn all_agree(tables: &[TableReport], number: u64, reason: Option<Reason>) -> bool
+    ensures { IsTrue result ↔ AllAgree tables.now number reason }
+{
+    for table in 0..tables.len() {
+        if !agrees(&tables[table].core, number, reason) {
+            return false;
+        }
+    }
+    true
+}
+
+/// Whether a supervisor doesn't run under this number, and each opening under it ended with this reason.
+fn agrees(core: &Core, number: u64, reason: Option<Reason>) -> bool
+    ensures { IsTrue result ↔ Agrees (state_of core.now) number reason }
+{
+    !is_open_under(core.phase(), number) && all_ended_so(core.ends(), number, reason)
+}
+
+/// Whether each opening under this number ended with this reason.
+fn all_ended_so(ends: &[(u64, SupEnd)], number: u64, reason: Option<Reason>) -> bool
+    ensures { IsTrue result ↔ AllAt (λ _ x. EndedSo number reason x) ends.now }
+{
+    for place in 0..ends.len() {
+        if !ended_so(&ends[place], number, reason) {
+            return false;
+        }
+    }
+    true
+}
+
+/// Whether an opening was under another number, or ended with this reason.
+fn ended_so(entry: &(u64, SupEnd), number: u64, reason: Option<Reason>) -> bool
+    ensures { IsTrue result ↔ EndedSo number reason entry.now }
+{
+    let (own, end) = entry;
+    is_end(*own, end.reason, number, reason)
+}
+
+/// Whether an end under a number of its own is one under another number, or for this reason.
+fn is_end(own: u64, ended: Reason, number: u64, reason: Option<Reason>) -> bool
+    ensures { IsTrue result ↔ (own ≡ number → IsEndTold ended reason) }
+{
+    own != number || is_told(ended, reason)
+}
+
+/// Whether an end for the one reason is that which is told with the other.
+fn is_told(ended: Reason, reason: Option<Reason>) -> bool
+    ensures { IsTrue result ↔ IsEndTold ended reason }
+{
+    match reason {
+        Some(reason) => is_same_reason(ended, reason),
+        None => false,
+    }
+}
+
+/// Whether two reasons say the same.
+fn is_same_reason(one: Reason, other: Reason) -> bool
+    ensures { IsTrue result ↔ IsSameReason one other }
+{
+    match (one, other) {
+        (Reason::Normal, Reason::Normal) => true,
+        (Reason::Shutdown, Reason::Shutdown) => true,
+        (Reason::Kill, Reason::Kill) => true,
+        (Reason::Killed, Reason::Killed) => true,
+        (Reason::NoProc, Reason::NoProc) => true,
+        (Reason::ShutdownWith(one), Reason::ShutdownWith(other)) => is_same_text(&one, &other),
+        (Reason::Error(one), Reason::Error(other)) => is_same_text(&one, &other),
+        _ => false,
+    }
+}
+
+/// Whether two texts show the same bytes.
+fn is_same_text(one: &Text, other: &Text) -> bool
+    ensures { IsTrue result ↔ (text_bytes one.now ≡ text_bytes other.now) }
+{
+    one.as_bytes() == other.as_bytes()
+}
+
+/// Whether it runs under this number.
+fn is_open_under(phase: Phase, number: u64) -> bool
+    ensures { IsTrue result ↔ (phase ≡ Open number) }
+{
+    match phase {
+        Phase::Open(own) => own == number,
+        Phase::Unopened | Phase::Ended(..) => false,
+    }
+}

@@ -1,0 +1,173 @@
+// Hands are parted into their schedulers and the rest, and joined again.
+ghost use Rattle.std.specs.Prelude.{◌≡◌, ◌≤◌, [], length, map, sum_by, vec_capacity, IfOk, IfErr, OnOk};
+ghost use Rattle.otp_run.specs.Gathers.{IsAll, IsLiveTotal, begun_of, ended_of};
+ghost use Rattle.otp_run.specs.Rule.{ticket_of};
+ghost use Rattle.otp_tree.specs.Gathers.{IsHandsRefused};
+ghost use Rattle.otp_tree.specs.Partings.{joined, schedulers_of, ArePaired};
+
+use crate::closing::Refusal;
+use crate::hand::{Hand, Unsent};
+use crate::senders::Senders;
+use otp_inbox::InboxNaming;
+use otp_job::{Body, Process};
+use otp_run::{GatherFault, LiveTotal, RunNaming, Scheduler, gather};
+use otp_signals::{Viewer, WordsNaming};
+use otp_tally::Tally;
+use std::alloc::{AllocError, Global};
+
+/// What a hand has beside its scheduler.
+#[derive(Drop)]
+pub(crate) struct Rest<N: WordsNaming + InboxNaming, J: Drop, S: Drop> {
+    pub viewer: Viewer<N>,
+    pub senders: Senders<N, Body<J, S>>,
+    pub turning: Option<Process<J, S>>,
+    pub unsent: Option<Unsent<J, S>>,
+    pub refusals: Tally,
+    pub alloc: Global,
+}
+
+/// The hands that were not taken apart, as they were.
+#[derive(Drop)]
+pub(crate) struct HandsFault<N: WordsNaming + InboxNaming + RunNaming, J: Drop, S: Drop> {
+    pub cause: Refusal,
+    pub hands: Vec<Hand<N, J, S>>,
+}
+
+/// The memory for it.
+struct Room<N: WordsNaming + InboxNaming + RunNaming, J: Drop, S: Drop> {
+    schedulers: Vec<Scheduler<N, J, S>>,
+    rests: Vec<Rest<N, J, S>>,
+    hands: Vec<Hand<N, J, S>>,
+}
+
+impl<N: WordsNaming + InboxNaming + RunNaming, J: Drop, S: Drop> Room<N, J, S> {
+    fn reserve(alloc: Global, count: usize) -> Result<Room<N, J, S>, AllocError>
+        ensures schedulers { IfOk result (λ r. (r.schedulers.items ≡ []) × (count ≤ vec_capacity r.schedulers)) }
+        ensures rests { IfOk result (λ r. (r.rests.items ≡ []) × (count ≤ vec_capacity r.rests)) }
+        ensures hands { IfOk result (λ r. (r.hands.items ≡ []) × (count ≤ vec_capacity r.hands)) }
+    {
+        Ok(Room {
+            schedulers: Vec::with_capacity(alloc, count)?,
+            rests: Vec::with_capacity(alloc, count)?,
+            hands: Vec::with_capacity(alloc, count)?,
+        })
+    }
+}
+
+/// Takes all hands apart: what is left in the run queue, and how many processes more began than ended. Where a hand is
+/// missing or memory is refused, all of them come back as they were.
+pub(crate) fn gather_hands<N: WordsNaming + InboxNaming + RunNaming, J: Drop, S: Drop>(
+    alloc: Global,
+    hands: Vec<Hand<N, J, S>>,
+) -> Result<LiveTotal<J, S>, HandsFault<N, J, S>>
+    ensures all { OnOk result (IsAll (schedulers_of hands.items)) }
+    ensures total { IfOk result (λ total. IsLiveTotal (schedulers_of hands.items) total.live (map ticket_of total.left.items)) }
+    ensures begun { IfOk result (λ total. total.begun ≡ sum_by begun_of (schedulers_of hands.items)) }
+    ensures ended { IfOk result (λ total. total.ended ≡ sum_by ended_of (schedulers_of hands.items)) }
+    ensures refused { IfErr result (λ fault. fault.hands.items ≡ hands.items) }
+    ensures missing { IfErr result (λ fault. IsHandsRefused (schedulers_of hands.items) fault.cause) }
+{
+    let Ok(room) = Room::reserve(alloc, hands.len()) else {
+        return Err(HandsFault {
+            cause: Refusal::OutOfMemory,
+            hands,
+        });
+    };
+    let Room {
+        mut schedulers,
+        mut rests,
+        hands: mut back,
+    } = room;
+    part_all(hands, &mut schedulers, &mut rests);
+    match gather(alloc, schedulers) {
+        Ok(total) => Ok(total),
+        Err(GatherFault::Missing(schedulers)) => {
+            rejoin_all(schedulers, rests, &mut back);
+            Err(HandsFault {
+                cause: Refusal::Missing,
+                hands: back,
+            })
+        }
+        Err(GatherFault::OutOfMemory(schedulers)) => {
+            rejoin_all(schedulers, rests, &mut back);
+            Err(HandsFault {
+                cause: Refusal::OutOfMemory,
+                hands: back,
+            })
+        }
+    }
+}
+
+/// Parts all hands.
+fn part_all<N: WordsNaming + InboxNaming + RunNaming, J: Drop, S: Drop>(
+    hands: Vec<Hand<N, J, S>>,
+    schedulers: &mut Vec<Scheduler<N, J, S>>,
+    rests: &mut Vec<Rest<N, J, S>>,
+)
+    requires schedulers { schedulers.old.items ≡ [] }
+    requires rests { rests.old.items ≡ [] }
+    requires room { length hands.items ≤ vec_capacity schedulers.old }
+    requires room_for_rests { length hands.items ≤ vec_capacity rests.old }
+    ensures hands { joined schedulers.new.items rests.new.items ≡ hands.items }
+    ensures paired { ArePaired schedulers.new.items rests.new.items }
+    ensures many { length schedulers.new.items ≡ length rests.new.items }
+    ensures same { schedulers_of hands.items ≡ schedulers.new.items }
+    ensures count { length schedulers.new.items ≡ length hands.items }
+{
+    for hand in hands {
+        let Hand {
+            scheduler,
+            viewer,
+            senders,
+            turning,
+            unsent,
+            refusals,
+            alloc,
+        } = hand;
+        schedulers.push_reserved(scheduler);
+        rests.push_reserved(Rest {
+            viewer,
+            senders,
+            turning,
+            unsent,
+            refusals,
+            alloc,
+        });
+    }
+}
+
+/// Joins them again.
+fn rejoin_all<N: WordsNaming + InboxNaming + RunNaming, J: Drop, S: Drop>(
+    schedulers: Vec<Scheduler<N, J, S>>,
+    rests: Vec<Rest<N, J, S>>,
+    hands: &mut Vec<Hand<N, J, S>>,
+)
+    requires hands { hands.old.items ≡ [] }
+    requires room { length schedulers.items ≤ vec_capacity hands.old }
+    requires paired { ArePaired schedulers.items rests.items }
+    ensures { hands.new.items ≡ joined schedulers.items rests.items }
+{
+    let mut rests = rests.into_iter();
+    for scheduler in schedulers {
+        let Some(rest) = rests.next() else {
+            return;
+        };
+        let Rest {
+            viewer,
+            senders,
+            turning,
+            unsent,
+            refusals,
+            alloc,
+        } = rest;
+        hands.push_reserved(Hand {
+            scheduler,
+            viewer,
+            senders,
+            turning,
+            unsent,
+            refusals,
+            alloc,
+        });
+    }
+}

@@ -1,0 +1,97 @@
+//! What a tree was when it was taken apart.
+ghost use Rattle.std.specs.Prelude.{◌≡◌, ◌-◌, ◌^◌, ◌≤◌, ◌∷◌, [], length, min, IfNone, IfSome};
+ghost use Rattle.otp_core.specs.View.{state_of};
+ghost use Rattle.otp_rules.specs.Needs.{numbers_of};
+ghost use Rattle.otp_tree.specs.Reports.{last_reason};
+ghost use Rattle.otp_tree.specs.Tellings.{AreSo, IsMismatch};
+
+use crate::evidence::{Mismatch, find_mismatch};
+use otp_core::Core;
+use otp_job::Process;
+use otp_reason::Reason;
+use otp_rules::Event;
+
+/// What is known of a supervisor when its tree was taken apart.
+#[derive(Drop)]
+pub struct TableReport {
+    /// Its core, as its last turn left it, with its whole history.
+    pub core: Core,
+}
+
+impl TableReport {
+    /// How many starts of children its history has.
+    pub fn starts(&self) -> u64
+        ensures { result ≡ length (numbers_of self.now.core.history) }
+    {
+        let history = self.core.history();
+        let mut starts = 0;
+        for place in 0..history.len() {
+            starts += count_start(&history.get(place));
+        }
+        starts
+    }
+
+    /// How many restarts it made since its last opening: exactly, below 2^64.
+    pub fn restarts(&self) -> u64
+        ensures { result ≡ min (length (state_of self.now.core).stamps) (2 ^ 64 - 1) }
+    {
+        self.core.count_restarts()
+    }
+
+    /// The reason of its last end. None where it runs, or was never opened.
+    pub fn end(&self) -> Option<Reason>
+        ensures { result ≡ last_reason (state_of self.now.core) }
+    {
+        if !self.core.has_ended() {
+            return None;
+        }
+        match self.core.ends().last() {
+            Some((_, end)) => Some(end.reason),
+            None => None,
+        }
+    }
+
+    /// How many events its history has.
+    pub fn events(&self) -> u64
+        ensures { result ≡ length self.now.core.history }
+    {
+        self.core.history().len() as u64
+    }
+}
+
+/// How many children an event starts: one or none.
+fn count_start(event: &Event) -> u64
+    ensures value { result ≡ length (numbers_of (event.now ∷ [])) }
+    ensures few { result ≤ 1 }
+{
+    match event.number {
+        Some(_) => 1,
+        None => 0,
+    }
+}
+
+impl<J: Drop, S: Drop> Report<J, S> {
+    /// The first event that tells a supervisor an end of another one that isn't the one that the other's own history
+    /// gives. [`System::close`](crate::System::close) looks for it.
+    pub fn find_mismatch(&self) -> Option<Mismatch>
+        ensures none { IfNone result (AreSo self.now.tables.items) }
+        ensures found { IfSome result (IsMismatch self.now.tables.items) }
+    {
+        find_mismatch(self.tables.as_slice())
+    }
+}
+
+/// What a tree was when it was taken apart.
+#[derive(Drop)]
+pub struct Report<J: Drop, S: Drop> {
+    /// Of each supervisor, in the order of their numbers.
+    pub tables: Vec<TableReport>,
+    /// How many processes more began than ended; the root's is one of them.
+    pub live: u64,
+    /// How many processes began, the root's with them.
+    pub begun: u64,
+    /// How many processes ended.
+    pub ended: u64,
+    /// The processes that are left in the run queues.
+    pub processes: Vec<Process<J, S>>,
+}
