@@ -80,7 +80,7 @@ fn open(
 
 /// A child of the supervisor at this place crashes until the root has ended, or so often as is played.
 #[tactic(auto, unfolding(crate::specs::Falls::FallsSo))]
-fn fall(trial: &mut Trial, place: usize, id: &Name, page: &mut Vec<u8>) -> Result<Fate, Halt>
+fn crash_often(trial: &mut Trial, place: usize, id: &Name, page: &mut Vec<u8>) -> Result<Fate, Halt>
     requires runs { is_root_over trial.old ≡ false }
     ensures { IfOk result (λ fate. FallsSo place id.now trial.old fate trial.new) }
 {
@@ -184,7 +184,7 @@ pub fn find_fall(alloc: Global, tree: &TreeSpec, place: usize, id: &Name) -> Res
     if trial.has_ended() {
         return Err(Halt::HistoryFull);
     }
-    let root = fall(&mut trial, place, id, &mut page)?;
+    let root = crash_often(&mut trial, place, id, &mut page)?;
     let ends = through(alloc, root, trial.seats())?;
     Ok(Fall { root, ends })
 }
