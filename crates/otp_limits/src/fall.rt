@@ -62,12 +62,7 @@ fn join(trial: &mut Trial, place: usize, page: &mut Vec<u8>) -> Result<(), Halt>
 }
 
 /// A tree that is opened, and the supervisor at this place has a child.
-fn open(
-    alloc: Global,
-    tree: &TreeSpec,
-    place: usize,
-    page: &mut Vec<u8>,
-) -> Result<Trial, Halt>
+fn open(alloc: Global, tree: &TreeSpec, place: usize, page: &mut Vec<u8>) -> Result<Trial, Halt>
     ensures { IfOk result (λ trial. OpensTree tree.now place trial) }
 {
     let mut trial = Trial::open(alloc, tree, page)?;

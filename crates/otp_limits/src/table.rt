@@ -56,7 +56,12 @@ pub(crate) fn write_right(width: usize, text: &[u8], out: &mut Vec<u8>) -> Resul
 
 /// Appends one text for a child that never ran, and another for one that runs no more.
 #[tactic(auto, unfolding(crate::specs::Table::gone_text))]
-pub(crate) fn write_gone(count: u64, never: &[u8], later: &[u8], out: &mut Vec<u8>) -> Result<(), AllocError>
+pub(crate) fn write_gone(
+    count: u64,
+    never: &[u8],
+    later: &[u8],
+    out: &mut Vec<u8>,
+) -> Result<(), AllocError>
     ensures { OnOk result (out.new.items ≡ out.old.items ++ gone_text count never.now later.now) }
 {
     if count == 0 {
@@ -100,7 +105,11 @@ fn write_steady(steady: Steady, out: &mut Vec<u8>) -> Result<(), AllocError>
 
 /// Appends how far apart crashes of a child must be that fares so.
 #[tactic(auto, unfolding(crate::specs::Table::interval_text, crate::specs::Table::gone_text))]
-pub(crate) fn write_interval(burst: Fate, steady: Steady, out: &mut Vec<u8>) -> Result<(), AllocError>
+pub(crate) fn write_interval(
+    burst: Fate,
+    steady: Steady,
+    out: &mut Vec<u8>,
+) -> Result<(), AllocError>
     ensures { OnOk result (out.new.items ≡ out.old.items ++ interval_text burst steady) }
 {
     match burst {

@@ -230,11 +230,7 @@ fn write_damage(cost: &TreeCost, word: &mut Vec<u8>, out: &mut Vec<u8>) -> Resul
 }
 
 /// Appends the lines of children.
-fn write_lines(
-    costs: &[TreeCost],
-    word: &mut Vec<u8>,
-    out: &mut Vec<u8>,
-) -> Result<(), AllocError>
+fn write_lines(costs: &[TreeCost], word: &mut Vec<u8>, out: &mut Vec<u8>) -> Result<(), AllocError>
     ensures { OnOk result (out.new.items ≡ out.old.items ++ flat_map child_text costs.now) }
 {
     for cost in costs {

@@ -21,6 +21,6 @@ mod world;
 pub use planting::plant_seats;
 pub use play::{TryEnd, Writer, try_tree};
 pub use script::{Action, Child, NextStart, ScriptFault, Step, When, read_step};
-pub use sketch::Shows;
 pub use seat::Seat;
+pub use sketch::Shows;
 pub use trial::{Halt, Taken, Trial};
