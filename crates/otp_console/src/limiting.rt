@@ -6,12 +6,12 @@ ghost use Rattle.otp_console.specs.Runs.{IsLimited};
 
 use crate::ending::Ending;
 use otp_file::read_tree;
-use otp_limits::{Halt, write_limits};
+use otp_limits::write_tree_limits;
 use otp_sim::{Failed, Output, write_all};
+use otp_try::Halt;
 use std::alloc::Global;
 
-/// Reads the tree of a file, plays crashes of each child of its supervisor, and writes what they cost.
-#[tactic(auto, unfolding(otp_spec::specs::Supervisor::supervisor_fault))]
+/// Reads the tree of a file, plays crashes of each child of its supervisors, and writes what they cost.
 pub fn limit_file<W: Output>(alloc: Global, file: &[u8], output: &mut W) -> Ending
     ensures { IsLimited result file.now
         (record { bytes = W.contents output.old; failures = W.failures output.old })
@@ -21,9 +21,8 @@ pub fn limit_file<W: Output>(alloc: Global, file: &[u8], output: &mut W) -> Endi
         Ok(tree) => tree,
         Err(fault) => return Ending::of_tree(fault),
     };
-    let supervisor = tree.supervisor();
     let mut table = Vec::new(alloc);
-    match write_limits(alloc, &supervisor.flags(), supervisor.specs(), &mut table) {
+    match write_tree_limits(alloc, &tree, &mut table) {
         Ok(()) => {}
         Err(halt) => return Ending::of_halt(halt),
     }

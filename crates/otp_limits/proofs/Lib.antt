@@ -1,3 +1,4 @@
 pub mod Scenes
 pub mod Ranked
 pub mod Steadies
+pub mod TreeRanked

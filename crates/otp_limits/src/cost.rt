@@ -7,11 +7,12 @@ ghost use Rattle.otp_spec.specs.Supervisor.{supervisor_fault};
 
 use crate::fate::{Fate, play};
 use crate::names::Names;
-use crate::stage::{Halt, Stage};
+use crate::stage::Stage;
 use crate::steady::{Steady, find_steady};
 use otp_reason::Name;
 use otp_rules::Effect;
 use otp_spec::{ChildSpec, SupFlags};
+use otp_try::Halt;
 use std::alloc::{AllocError, Global};
 
 /// The most crashes of a burst that are played: more than the greatest intensity.

@@ -1,13 +1,15 @@
 //! How a supervisor fares where a child crashes again and again.
 
-ghost use Rattle.std.specs.Prelude.{◌≡◌, ◌≤◌, ◌*◌, ◌^◌, None, IfOk, false};
+ghost use Rattle.std.specs.Prelude.{◌≡◌, ◌≤◌, ◌*◌, None, IfOk, false};
+ghost use Rattle.otp_spec.specs.declared.limits.TheConstants.{MAX_READING};
 ghost use Rattle.otp_limits.specs.Fates.{Fares, Plays};
 ghost use Rattle.otp_spec.specs.Supervisor.{supervisor_fault};
 ghost use Rattle.otp_rules.specs.State.{is_over};
 
-use crate::stage::{Halt, Stage};
+use crate::stage::Stage;
 use otp_reason::Name;
 use otp_spec::{ChildSpec, SupFlags};
+use otp_try::Halt;
 use std::alloc::Global;
 
 /// How a supervisor fares where a child crashes so many times.
@@ -27,7 +29,7 @@ pub enum Fate {
 #[tactic(auto, unfolding(crate::specs::Fates::Fares))]
 fn fare(stage: &mut Stage, id: &Name, gap: u64, crashes: u64) -> Result<Fate, Halt>
     requires runs { is_over stage.old.state.phase ≡ false }
-    requires time { crashes * gap ≤ 2 ^ 62 }
+    requires time { crashes * gap ≤ MAX_READING }
     ensures { IfOk result (λ fate. Fares id.now gap crashes stage.old fate) }
 {
     for count in 0..crashes {
@@ -60,7 +62,7 @@ pub(crate) fn play(
     crashes: u64,
 ) -> Result<Fate, Halt>
     requires lawful { supervisor_fault flags.now specs.now ≡ None }
-    requires time { crashes * gap ≤ 2 ^ 62 }
+    requires time { crashes * gap ≤ MAX_READING }
     ensures { IfOk result (λ fate. Plays flags.now specs.now id.now gap crashes fate) }
 {
     let mut stage = Stage::open(alloc, *flags, specs)?;

@@ -5,8 +5,8 @@ ghost use Rattle.otp_limits.specs.Costs.{AreLimits, is_worse, put_in};
 ghost use Rattle.otp_spec.specs.Supervisor.{supervisor_fault};
 
 use crate::cost::{Cost, find_cost};
-use crate::stage::Halt;
 use otp_spec::{ChildSpec, SupFlags};
+use otp_try::Halt;
 use std::alloc::{AllocError, Global};
 
 /// The place of the first that a cost is worse than.

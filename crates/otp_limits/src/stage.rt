@@ -1,41 +1,24 @@
 //! A supervisor that is played in a world where all goes well, but for one child that crashes.
 
-ghost use Rattle.std.specs.Prelude.{ℕ, ◌≡◌, ◌≤◌, ◌<◌, ◌^◌, ◌++◌, None, OnOk, IfErr, IfOk, IfSome, length, position, option_map, slice_get};
+ghost use Rattle.std.specs.Prelude.{ℕ, ◌≡◌, ◌≤◌, ◌<◌, ◌++◌, None, OnOk, IfErr, IfOk, IfSome, length, position, option_map, slice_get};
 ghost use Rattle.std.specs.List.{filter_map};
 ghost use Rattle.otp_limits.specs.Fates.{HasNoRoom, crashed, is_of, process_of, running_at};
 ghost use Rattle.otp_limits.specs.Scene.{FillsUp, IsFull, Opens, Settles, happened, heard, joined, next_in, note_of};
 ghost use Rattle.otp_spec.specs.Supervisor.{supervisor_fault};
 ghost use Rattle.otp_rules.specs.State.{is_over};
-ghost use Rattle.otp_limits.specs.declared.stage.Halt.TheVariants.{HistoryFull};
+ghost use Rattle.otp_try.specs.declared.trial.Halt.TheVariants.{HistoryFull};
 ghost use Rattle.otp_spec.specs.Flags.{is_simple};
+ghost use Rattle.otp_spec.specs.declared.limits.TheConstants.{MAX_READING};
 
 use otp_core::{Core, Counter, MAX_EVENTS};
 use otp_reason::{Name, Note, Reason};
 use otp_rules::{Call, Effect, Item, Kind};
 use otp_spec::{ChildSpec, Strategy, SupFlags};
 use otp_table::Row;
+use otp_try::Halt;
 use std::alloc::{AllocError, Global};
 use std::collections::VecDeque;
 use std::marker::Model;
-
-/// Why a supervisor can't be played on.
-#[derive(Clone, Copy, Debug, PartialEq, Eq)]
-pub enum Halt {
-    /// The history has no room for another event.
-    HistoryFull,
-    OutOfMemory,
-}
-
-impl From<AllocError> for Halt {
-    ghost use Rattle.std.specs.Prelude.{◌≡◌};
-    ghost use Rattle.otp_limits.specs.declared.stage.Halt.TheVariants.{OutOfMemory};
-
-    ghost from_gives = { λ _ halt. halt ≡ OutOfMemory };
-
-    fn from(_error: AllocError) -> Self {
-        Halt::OutOfMemory
-    }
-}
 
 /// What the process of a child does by an order.
 #[tactic(auto, unfolding(crate::specs::Scene::note_of))]
@@ -94,7 +77,7 @@ fn running_at(rows: &[Row], place: Option<usize>) -> Option<u64>
 
 /// The process of the first child of the specification with this id, if it runs.
 #[tactic(auto, unfolding(crate::specs::Fates::process_of))]
-fn process_of(rows: &[Row], id: &Name) -> Option<u64>
+pub(crate) fn process_of(rows: &[Row], id: &Name) -> Option<u64>
     ensures { result ≡ process_of id.now rows.now }
 {
     running_at(rows, place_of(rows, id))
@@ -174,7 +157,7 @@ impl Stage {
 
     /// Something happens at this time, in milliseconds.
     fn happen(&mut self, time: u64, kind: Kind) -> Result<(), Halt>
-        requires { time ≤ 2 ^ 62 }
+        requires { time ≤ MAX_READING }
         ensures ok { OnOk result (self.new ≡ happened time kind self.old) }
         ensures full { IfErr result (λ halt. halt ≡ HistoryFull → IsFull self.old) }
     {
@@ -211,7 +194,7 @@ impl Stage {
 
     /// All that follows by itself happens.
     fn settle(&mut self, time: u64) -> Result<(), Halt>
-        requires { time ≤ 2 ^ 62 }
+        requires { time ≤ MAX_READING }
         ensures ok { OnOk result (Settles time self.old self.new) }
         ensures full { IfErr result (λ halt. halt ≡ HistoryFull → FillsUp time self.old) }
     {
@@ -229,7 +212,7 @@ impl Stage {
     /// The process of a child is killed, and all that follows happens; nothing happens where it has none.
     #[tactic(auto, unfolding(crate::specs::Fates::crashed_at))]
     pub fn crash(&mut self, id: &Name, time: u64) -> Result<(), Halt>
-        requires { time ≤ 2 ^ 62 }
+        requires { time ≤ MAX_READING }
         ensures ok { OnOk result (Settles time (crashed id.now time self.old) self.new) }
         ensures full { IfErr result (λ halt. halt ≡ HistoryFull → HasNoRoom id.now time self.old) }
     {

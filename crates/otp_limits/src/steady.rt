@@ -6,9 +6,9 @@ ghost use Rattle.otp_limits.specs.declared.steady.Verdict.TheVariants.{Falls, La
 ghost use Rattle.otp_spec.specs.Supervisor.{supervisor_fault};
 
 use crate::fate::{Fate, play};
-use crate::stage::Halt;
 use otp_reason::Name;
 use otp_spec::{ChildSpec, MAX_INTENSITY, MAX_PERIOD, SupFlags};
+use otp_try::Halt;
 use std::alloc::Global;
 
 /// How far apart crashes of a child must be.

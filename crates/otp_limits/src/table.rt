@@ -9,25 +9,25 @@ ghost use Rattle.otp_limits.specs.declared.table.TheConstants.{WIDTH};
 use crate::cost::Cost;
 use crate::fate::Fate;
 use crate::limits::find_limits;
-use crate::stage::Halt;
 use crate::steady::Steady;
 use otp_reason::Name;
 use otp_spec::{ChildSpec, SupFlags};
 use otp_text::{write_name, write_number};
+use otp_try::Halt;
 use std::alloc::{AllocError, Global};
 
 /// The most bytes of a line.
-const WIDTH: usize = 80;
+pub(crate) const WIDTH: usize = 80;
 
 /// How far a line is moved in that goes on with names.
-const INDENT: usize = 9;
+pub(crate) const INDENT: usize = 9;
 
 /// The titles of the columns.
 const TITLES: &[u8] =
     b"child                             burst      interval  stops  starts  gives up\n";
 
 /// Appends so many spaces.
-fn write_spaces(count: usize, out: &mut Vec<u8>) -> Result<(), AllocError>
+pub(crate) fn write_spaces(count: usize, out: &mut Vec<u8>) -> Result<(), AllocError>
     ensures { OnOk result (out.new.items ≡ out.old.items ++ replicate count 32) }
 {
     for _ in 0..count {
@@ -38,7 +38,7 @@ fn write_spaces(count: usize, out: &mut Vec<u8>) -> Result<(), AllocError>
 
 /// Appends a text at the left of a column.
 #[tactic(auto, unfolding(crate::specs::Table::at_left))]
-fn write_left(width: usize, text: &[u8], out: &mut Vec<u8>) -> Result<(), AllocError>
+pub(crate) fn write_left(width: usize, text: &[u8], out: &mut Vec<u8>) -> Result<(), AllocError>
     ensures { OnOk result (out.new.items ≡ out.old.items ++ at_left width text.now) }
 {
     out.extend_from_slice(text)?;
@@ -47,7 +47,7 @@ fn write_left(width: usize, text: &[u8], out: &mut Vec<u8>) -> Result<(), AllocE
 
 /// Appends a text at the right of a column.
 #[tactic(auto, unfolding(crate::specs::Table::at_right))]
-fn write_right(width: usize, text: &[u8], out: &mut Vec<u8>) -> Result<(), AllocError>
+pub(crate) fn write_right(width: usize, text: &[u8], out: &mut Vec<u8>) -> Result<(), AllocError>
     ensures { OnOk result (out.new.items ≡ out.old.items ++ at_right width text.now) }
 {
     write_spaces(width.saturating_sub(text.len()), out)?;
@@ -56,7 +56,12 @@ fn write_right(width: usize, text: &[u8], out: &mut Vec<u8>) -> Result<(), Alloc
 
 /// Appends one text for a child that never ran, and another for one that runs no more.
 #[tactic(auto, unfolding(crate::specs::Table::gone_text))]
-fn write_gone(count: u64, never: &[u8], later: &[u8], out: &mut Vec<u8>) -> Result<(), AllocError>
+pub(crate) fn write_gone(
+    count: u64,
+    never: &[u8],
+    later: &[u8],
+    out: &mut Vec<u8>,
+) -> Result<(), AllocError>
     ensures { OnOk result (out.new.items ≡ out.old.items ++ gone_text count never.now later.now) }
 {
     if count == 0 {
@@ -68,7 +73,7 @@ fn write_gone(count: u64, never: &[u8], later: &[u8], out: &mut Vec<u8>) -> Resu
 
 /// Appends how many crashes at once are survived.
 #[tactic(auto, unfolding(crate::specs::Table::burst_text))]
-fn write_burst(burst: Fate, out: &mut Vec<u8>) -> Result<(), AllocError>
+pub(crate) fn write_burst(burst: Fate, out: &mut Vec<u8>) -> Result<(), AllocError>
     ensures { OnOk result (out.new.items ≡ out.old.items ++ burst_text burst) }
 {
     match burst {
@@ -100,7 +105,11 @@ fn write_steady(steady: Steady, out: &mut Vec<u8>) -> Result<(), AllocError>
 
 /// Appends how far apart crashes of a child must be that fares so.
 #[tactic(auto, unfolding(crate::specs::Table::interval_text, crate::specs::Table::gone_text))]
-fn write_interval(burst: Fate, steady: Steady, out: &mut Vec<u8>) -> Result<(), AllocError>
+pub(crate) fn write_interval(
+    burst: Fate,
+    steady: Steady,
+    out: &mut Vec<u8>,
+) -> Result<(), AllocError>
     ensures { OnOk result (out.new.items ≡ out.old.items ++ interval_text burst steady) }
 {
     match burst {

@@ -1,27 +1,40 @@
 -- Supervisors that are put behind others.
-use Rattle.std.specs.Prelude.{◌≡◌, List, [], ◌∷◌, ◌++◌, refl}
-use Rattle.std.proofs.Common.{◌∙◌, ap, sym, append_assoc, append-nil}
-use Rattle.otp_try.specs.Played.{AddsTree, AddsUnplayed, IsUnplayed, Seated}
+use Rattle.std.specs.Prelude.{◌≡◌, ℕ, List, [], ◌∷◌, ◌++◌, refl}
+use Rattle.std.specs.List.{flat_map}
+use Rattle.std.proofs.Common.{◌∙◌, ap, sym, subst, append_assoc, append-nil}
+use Rattle.std.proofs.lemmas.Grind.{flat_map-append}
+use Rattle.otp_file.specs.Trees.{Table, Tree, tables_of}
+use Rattle.otp_try.specs.Played.{AddsTables, AddsTree, ArePlanted, Seated, unplayed}
 
-unplayed-append : (xs ys : List Seated) → IsUnplayed xs → IsUnplayed ys → IsUnplayed (xs ++ ys)
-unplayed-append [] ys first second = second
-unplayed-append (x ∷ xs) ys (here, rest) second = (here, unplayed-append xs ys rest second)
+planted-append : (ts us : List Table) (xs ys : List Seated) → ArePlanted ts xs → ArePlanted us ys → ArePlanted (ts ++ us) (xs ++ ys)
+planted-append [] us [] ys first second = second
+planted-append [] us (x ∷ xs) ys first second = absurd first
+planted-append (t ∷ ts) us [] ys first second = absurd first
+planted-append (t ∷ ts) us (x ∷ xs) ys (here, rest) second = (here, planted-append ts us xs ys rest second)
 
-pub adds-nothing : (a : List Seated) → AddsUnplayed a a
+pub adds-nothing : (a : List Seated) → AddsTables [] a a
 adds-nothing a = ([], sym (append-nil a), tt)
 
--- a tree was added behind what was added before
-pub adds-then : (root : Seated) (a b c : List Seated) → root.history ≡ [] → AddsUnplayed a b → AddsTree root b c → AddsUnplayed a c
-adds-then root a b c new (xs, ab, first) (ys, bc, second) = (
-  xs ++ root ∷ ys,
-  bc ∙ ap (λ (s : List Seated). s ++ root ∷ ys) ab ∙ append_assoc a xs (root ∷ ys),
-  unplayed-append xs (root ∷ ys) first (new, second),
-)
+-- the tables of these trees, and of one more
+pub tables_more : (trees : List Tree) (tree : Tree) → flat_map tables_of (trees ++ tree ∷ []) ≡ flat_map tables_of trees ++ tables_of tree
+tables_more trees tree = flat_map-append tables_of trees (tree ∷ []) ∙ ap (λ (ts : List Table). flat_map tables_of trees ++ ts) (append-nil (tables_of tree))
 
--- the root was added, and others behind it
-pub adds-below : (root : Seated) (a b c : List Seated) → b ≡ a ++ root ∷ [] → AddsUnplayed b c → AddsTree root a c
-adds-below root a b c ab (xs, bc, rest) = (
-  xs,
-  bc ∙ ap (λ (s : List Seated). s ++ xs) ab ∙ append_assoc a (root ∷ []) xs,
-  rest,
-)
+-- a tree was added behind what was added before
+pub adds-then : (path : List ℕ) (tree : Tree) (tables : List Table) (a b c : List Seated) → AddsTables tables a b → AddsTree path tree b c
+    → AddsTables (tables ++ tables_of tree) a c
+adds-then path tree tables a b c (xs, ab, first) (ys, bc, below) =
+    let root : Seated = unplayed path tree.flags tree.specs in (
+      xs ++ root ∷ ys,
+      bc ∙ ap (λ (s : List Seated). s ++ root ∷ ys) ab ∙ append_assoc a xs (root ∷ ys),
+      planted-append tables (tables_of tree) xs (root ∷ ys) first (refl, below),
+    )
+
+-- the root was added, and those of its trees behind it
+pub adds-below : (path : List ℕ) (tree : Tree) (tables : List Table) (a b c : List Seated) → b ≡ a ++ unplayed path tree.flags tree.specs ∷ []
+    → tables ≡ tree.below → AddsTables tables b c → AddsTree path tree a c
+adds-below path tree tables a b c ab all (xs, bc, rest) =
+    let root : Seated = unplayed path tree.flags tree.specs in (
+      xs,
+      bc ∙ ap (λ (s : List Seated). s ++ xs) ab ∙ append_assoc a (root ∷ []) xs,
+      subst (λ (ts : List Table). ArePlanted ts xs) all rest,
+    )

@@ -1,6 +1,7 @@
 -- A tree that is tried: its supervisors, each with its events so far, and how calls of a trial add to them (own).
-use Rattle.std.specs.Prelude.{◌≡◌, ℕ, ◌<◌, List, [], ◌∷◌, ◌++◌, Option, Some, None, length, position, slice_get, slice_index_or, slice_set}
+use Rattle.std.specs.Prelude.{◌≡◌, ℕ, ◌<◌, Bool, true, List, [], ◌∷◌, ◌++◌, Option, Some, None, length, position, slice_get, slice_index_or, slice_set}
 use Rattle.std.specs.List.{flat_map}
+use Rattle.otp_file.specs.Trees.{Table, Tree}
 use Rattle.otp_reason.specs.declared.note.Note.TheVariants as note
 use Rattle.otp_reason.specs.declared.reason.Reason.{Reason}
 use Rattle.otp_rules.specs.declared.call.Call.{Call}
@@ -9,7 +10,7 @@ use Rattle.otp_rules.specs.declared.event.Item.TheVariants as item
 use Rattle.otp_rules.specs.declared.event.Kind.{Kind}
 use Rattle.otp_rules.specs.declared.event.Kind.TheVariants as kind
 use Rattle.otp_rules.specs.Run.{empty_state, state_after}
-use Rattle.otp_rules.specs.State.{State}
+use Rattle.otp_rules.specs.State.{State, is_over}
 use Rattle.otp_spec.specs.declared.child.ChildSpec.{ChildSpec}
 use Rattle.otp_spec.specs.declared.flags.SupFlags.{SupFlags}
 use Rattle.otp_table.specs.declared.row.Row.{Row}
@@ -135,15 +136,27 @@ ActsAt a place old answer new = (seat : Seated) → IsAt old place seat → Acts
 abbrev pub EndsAt : ℕ → Reason → Child → List Seated → Taken → List Seated → Type 0
 EndsAt place r c old answer new = (seat : Seated) → IsAt old place seat → Ends place r (found_for c (state_in seat).rows) old answer new
 
--- nothing has happened to any of these supervisors
-abbrev pub IsUnplayed : List Seated → Type 0
-IsUnplayed [] = Unit {0}
-IsUnplayed (seat ∷ seats) = (seat.history ≡ []) × IsUnplayed seats
+-- a supervisor for each of these tables, in their order, that was never opened
+abbrev pub ArePlanted : List Table → List Seated → Type 0
+ArePlanted [] [] = Unit {0}
+ArePlanted [] (seat ∷ seats) = ⊥
+ArePlanted (table ∷ tables) [] = ⊥
+ArePlanted (table ∷ tables) (seat ∷ seats) = (seat ≡ unplayed seat.path table.flags table.specs) × ArePlanted tables seats
 
--- supervisors were put behind those that were there, and nothing has happened to them
-abbrev pub AddsUnplayed : List Seated → List Seated → Type 0
-AddsUnplayed old new = (more : List Seated) × (new ≡ old ++ more) × IsUnplayed more
+-- those were put behind the supervisors that were there
+abbrev pub AddsTables : List Table → List Seated → List Seated → Type 0
+AddsTables tables old new = (more : List Seated) × (new ≡ old ++ more) × ArePlanted tables more
 
--- and the first of them is this one, the root of a tree
-abbrev pub AddsTree : Seated → List Seated → List Seated → Type 0
-AddsTree root old new = (more : List Seated) × (new ≡ old ++ root ∷ more) × IsUnplayed more
+-- the same of a tree, of which the root's children have this in front of their names
+abbrev pub AddsTree : List ℕ → Tree → List Seated → List Seated → Type 0
+AddsTree path tree old new =
+    (more : List Seated) × (new ≡ old ++ unplayed path tree.flags tree.specs ∷ more) × ArePlanted tree.below more
+
+-- the supervisors of a tree, of which none was ever opened: one for each table, by their numbers
+abbrev pub IsPlanted : Tree → List Seated → Type 0
+IsPlanted tree seats = AddsTree [] tree [] seats
+
+-- the root has ended, or was never opened
+unfoldable pub is_root_over : List Seated → Bool
+is_root_over [] = true
+is_root_over (root ∷ seats) = is_over (state_in root).phase

@@ -1,5 +1,6 @@
 -- What a trial stands for, and what it keeps.
-use Rattle.std.specs.Prelude.{ℕ, ◌<◌, ◌≤◌, ◌^◌, List, length}
+use Rattle.std.specs.Prelude.{ℕ, ◌<◌, ◌≤◌, List, length}
+use Rattle.otp_spec.specs.declared.limits.TheConstants.{MAX_READING}
 use Rattle.otp_try.specs.declared.trial.Trial.TheInside.{Inside}
 use Rattle.otp_try.specs.Played.{Seated}
 
@@ -9,4 +10,4 @@ seats_of t = t.seats.items
 pub record IsTrial (t : Inside) : Type 0 where
   -- the root is the first
   pub root : 0 < length t.seats.items
-  pub time : t.time ≤ 2 ^ 62
+  pub time : t.time ≤ MAX_READING

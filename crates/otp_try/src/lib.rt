@@ -18,7 +18,9 @@ pub mod trial;
 mod words;
 mod world;
 
+pub use planting::plant_seats;
 pub use play::{TryEnd, Writer, try_tree};
 pub use script::{Action, Child, NextStart, ScriptFault, Step, When, read_step};
+pub use seat::Seat;
 pub use sketch::Shows;
-pub use trial::{Halt, LAST_TIME, Taken, Trial};
+pub use trial::{Halt, Taken, Trial};

@@ -1,7 +1,7 @@
 //! The supervisors of a tree, each with its path.
 
-ghost use Rattle.std.specs.Prelude.{◌≡◌, ◌++◌, [], ◌∷◌, IfOk, OnOk};
-ghost use Rattle.otp_try.specs.Played.{AddsTree, unplayed};
+ghost use Rattle.std.specs.Prelude.{◌≡◌, ◌++◌, [], ◌∷◌, IfOk, IfSome, OnOk};
+ghost use Rattle.otp_try.specs.Played.{AddsTree, IsPlanted, unplayed};
 
 use crate::seat::Seat;
 use crate::trial::Halt;
@@ -27,19 +27,22 @@ fn path_below(alloc: Global, path: &[u8], id: &Name) -> Result<Vec<u8>, AllocErr
     Ok(below)
 }
 
-/// The specifications of the children at these places.
-fn specs_at(
-    alloc: Global,
-    supervisor: &SupSpec,
-    places: &[usize],
-) -> Result<Vec<ChildSpec>, AllocError> {
+/// The specification of the child that has the tree of this number.
+fn spec_of(supervisor: &SupSpec, nested: &[usize], number: usize) -> Option<ChildSpec> {
+    let place = nested.get(number)?;
+    let spec = supervisor.specs().get(*place)?;
+    Some(*spec)
+}
+
+/// A supervisor that was never opened, with this path, of which a tree says what it is opened with.
+fn seat_of(alloc: Global, path: &[u8], supervisor: &SupSpec) -> Result<Seat, Halt>
+    ensures { IfOk result (λ seat. seat ≡ unplayed path.now supervisor.now.flags supervisor.now.specs) }
+{
+    let mut name = Vec::new(alloc);
+    name.extend_from_slice(path)?;
     let mut specs = Vec::new(alloc);
-    for place in places {
-        if let Some(spec) = supervisor.specs().get(*place) {
-            specs.push(*spec).map_err(|_| AllocError)?;
-        }
-    }
-    Ok(specs)
+    specs.extend_from_slice(supervisor.specs())?;
+    Seat::new(alloc, name, SupSpec::new(supervisor.flags(), specs))
 }
 
 impl Plants {
@@ -57,40 +60,58 @@ impl Plants {
     fn add_tree(
         &mut self,
         alloc: Global,
-        tree: TreeSpec,
-        path: Vec<u8>,
+        tree: &TreeSpec,
+        path: &[u8],
         home: Home,
         levels: usize,
     ) -> Result<(), Halt>
-        ensures { OnOk result (AddsTree (unplayed path.items tree.flags tree.specs) self.old.seats.items self.new.seats.items) }
+        ensures { OnOk result (AddsTree path.now tree.now self.old.seats.items self.new.seats.items) }
     {
         // No tree that a file says has more levels.
         let Some(left) = levels.checked_sub(1) else {
             return Err(Halt::OutOfMemory);
         };
-        let (supervisor, nested, trees) = tree.into_parts();
-        let specs = specs_at(alloc, &supervisor, nested.as_slice())?;
-        let mut paths = Vec::new(alloc);
-        for spec in &specs {
-            let below = path_below(alloc, path.as_slice(), &spec.id)?;
-            paths.push(below).map_err(|_| AllocError)?;
-        }
-        let place = self.add(Seat::new(alloc, path, supervisor)?, home)?;
-        for ((spec, path), below) in specs.into_iter().zip(paths).zip(trees) {
-            self.add_tree(alloc, below, path, Home::new(place, Some(spec)), left)?;
+        let seat = seat_of(alloc, path, tree.supervisor())?;
+        let place = self.add(seat, home)?;
+        let trees = tree.trees();
+        for number in 0..trees.len() {
+            // Nor one that is no child's.
+            let Some(spec) = spec_of(tree.supervisor(), tree.nested(), number) else {
+                return Err(Halt::OutOfMemory);
+            };
+            let below = path_below(alloc, path, &spec.id)?;
+            self.add_tree(
+                alloc,
+                &trees[number],
+                below.as_slice(),
+                Home::new(place, Some(spec)),
+                left,
+            )?;
         }
         Ok(())
     }
 }
 
 /// The supervisors of a tree, which has as many levels as a file may have at the most.
-pub(crate) fn plant(alloc: Global, tree: TreeSpec) -> Result<Plants, Halt>
-    ensures { IfOk result (λ plants. AddsTree (unplayed [] tree.flags tree.specs) [] plants.seats.items) }
+pub(crate) fn plant(alloc: Global, tree: &TreeSpec) -> Result<Plants, Halt>
+    ensures { IfOk result (λ plants. IsPlanted tree.now plants.seats.items) }
 {
     let mut plants = Plants {
         seats: Vec::new(alloc),
         homes: Vec::new(alloc),
     };
-    plants.add_tree(alloc, tree, Vec::new(alloc), Home::new(0, None), MAX_DEPTH)?;
+    plants.add_tree(alloc, tree, &[], Home::new(0, None), MAX_DEPTH)?;
     Ok(plants)
+}
+
+/// The supervisors of a tree, of which none was ever opened: one for each table of the file, by their numbers.
+///
+/// # Errors
+///
+/// Where memory is refused.
+pub fn plant_seats(alloc: Global, tree: &TreeSpec) -> Result<Vec<Seat>, Halt>
+    ensures { IfOk result (λ seats. IsPlanted tree.now seats.items) }
+{
+    let Plants { seats, homes: _ } = plant(alloc, tree)?;
+    Ok(seats)
 }

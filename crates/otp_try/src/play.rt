@@ -1,6 +1,7 @@
 //! A script that is played to its end, line by line.
 
-ghost use Rattle.std.specs.Prelude.{◌≡◌, ◌≤◌, ◌<◌, ◌^◌, IfOk, IfSome, length, vec_len};
+ghost use Rattle.std.specs.Prelude.{◌≡◌, ◌≤◌, ◌<◌, IfOk, IfSome, length, vec_len};
+ghost use Rattle.otp_spec.specs.declared.limits.TheConstants.{MAX_READING};
 
 use crate::awaited::write_awaited;
 use crate::finding::{Found, found_for};
@@ -10,12 +11,13 @@ use crate::sketch::{Shows, Sketch};
 use crate::state::write_state;
 use crate::telling::write_heading;
 use crate::time::write_time;
-use crate::trial::{Halt, LAST_TIME, Taken, Trial};
+use crate::trial::{Halt, Taken, Trial};
 use crate::words::next_word;
 use otp_file::TreeSpec;
 use otp_reason::Name;
 use otp_rules::Call;
 use otp_sim::{Failed, Input, Output, PIECE, write_all};
+use otp_spec::MAX_READING;
 use otp_text::{LONGEST_LINE, write_number};
 use std::alloc::{AllocError, Global};
 
@@ -210,14 +212,14 @@ impl Play {
 
     /// The time of a line, where it has not gone by.
     fn time_of(&self, when: When) -> Option<u64>
-        ensures { IfSome result (λ time. time ≤ 2 ^ 62) }
+        ensures { IfSome result (λ time. time ≤ MAX_READING) }
     {
         let now = self.trial.time();
         match when {
             When::Now => Some(now),
             When::At(time) if time < now => None,
-            When::At(time) => Some(time.min(LAST_TIME)),
-            When::After(time) => Some(now.saturating_add(time).min(LAST_TIME)),
+            When::At(time) => Some(time.min(MAX_READING)),
+            When::After(time) => Some(now.saturating_add(time).min(MAX_READING)),
         }
     }
 
@@ -474,7 +476,7 @@ pub fn try_tree<R: Input, W: Output>(
     output: &mut W,
 ) -> TryEnd {
     let mut page = Vec::new(alloc);
-    let trial = match Trial::open(alloc, tree, &mut page) {
+    let trial = match Trial::open(alloc, &tree, &mut page) {
         Ok(trial) => trial,
         Err(halt) => return TryEnd::from(halt),
     };

@@ -6,13 +6,11 @@ ghost use Rattle.otp_try.specs.Texts.{fault_text};
 use crate::words::{end_of_path, next_word, strip_end, strip_start};
 use otp_reason::{Name, Reason, Text};
 use otp_rules::Call;
+use otp_spec::MAX_READING;
 use otp_text::{LONGEST_LINE, Line, read_line, read_name, read_number, read_reason};
 use std::fmt;
 
-/// The greatest time and the greatest process number: 2^62.
-const GREATEST: u64 = 4_611_686_018_427_387_904;
-
-/// The greatest number of minutes or seconds that a word may say, so that it is at most [`GREATEST`] milliseconds.
+/// The greatest number of minutes or seconds that a word may say, so that it is at most [`MAX_READING`] milliseconds.
 const MOST_MINUTES: u64 = 1_000_000_000_000;
 
 /// A child of the supervisor, as a script names it.
@@ -181,7 +179,7 @@ fn read_time(word: &[u8]) -> Result<u64, ScriptFault> {
         [digits @ .., b'm'] => (digits, 60_000),
         digits => (digits, 1),
     };
-    let most = if unit == 1 { GREATEST } else { MOST_MINUTES };
+    let most = if unit == 1 { MAX_READING } else { MOST_MINUTES };
     match read_number(most, digits) {
         Some(number) => Ok(number * unit),
         None => Err(ScriptFault::BadTime),
@@ -249,7 +247,7 @@ fn read_child(line: &[u8]) -> Result<(Meant<'_>, &[u8]), ScriptFault> {
     };
     let (path, name) = split_path(word);
     let child = match name {
-        [b'#', digits @ ..] => read_number(GREATEST, digits).map(Child::Numbered),
+        [b'#', digits @ ..] => read_number(MAX_READING, digits).map(Child::Numbered),
         name => read_name(name).map(Child::Named),
     };
     match child {

@@ -4,25 +4,23 @@ ghost use Rattle.std.specs.Prelude.{◌≡◌, ◌≤◌, ◌^◌, [], false, If
 ghost use Rattle.otp_rules.specs.Ends.{last_stamps};
 ghost use Rattle.otp_rules.specs.Run.{empty_state};
 ghost use Rattle.otp_rules.specs.State.{is_over};
+ghost use Rattle.otp_spec.specs.declared.limits.TheConstants.{MAX_READING};
 ghost use Rattle.otp_try.specs.Played.{Happens, state_in, unplayed};
 
 use crate::telling::tell;
 use crate::trial::Halt;
 use otp_core::{Core, Counter};
-use otp_rules::{Effect, Kind};
-use otp_spec::{SupFlags, SupSpec};
+use otp_rules::{Effect, Kind, Phase};
+use otp_spec::{MAX_READING, SupFlags, SupSpec};
 use otp_table::Row;
 use otp_text::Printer;
 use std::alloc::Global;
 use std::collections::VecDeque;
 use std::marker::Model;
 
-/// Above all numbers that processes may have: 2^62.
-const END_OF_NUMBERS: u64 = 4_611_686_018_427_387_904;
-
 /// A supervisor with its core: what it is opened with whenever it starts, and what has happened to it since then.
 #[derive(Drop)]
-pub(crate) struct Seat {
+pub struct Seat {
     /// What stands in front of the names of its children: the ids of the supervisors from the root's child on, each with
     /// a `/` behind it.
     path: Vec<u8>,
@@ -54,7 +52,7 @@ fn core_of(alloc: Global, supervisor: &SupSpec) -> Result<Core, Halt>
 
 impl Seat {
     /// A supervisor that was never opened.
-    pub fn new(alloc: Global, path: Vec<u8>, supervisor: SupSpec) -> Result<Self, Halt>
+    pub(crate) fn new(alloc: Global, path: Vec<u8>, supervisor: SupSpec) -> Result<Self, Halt>
         ensures { IfOk result (λ seat. seat ≡ unplayed path.items supervisor.flags supervisor.specs) }
     {
         let core = core_of(alloc, &supervisor)?;
@@ -66,7 +64,7 @@ impl Seat {
     }
 
     /// The supervisor is started anew: nothing has happened to it.
-    pub fn renew(&mut self, alloc: Global) -> Result<(), Halt>
+    pub(crate) fn renew(&mut self, alloc: Global) -> Result<(), Halt>
         ensures { OnOk result (self.new ≡ record self.old { history = [] }) }
     {
         self.core = core_of(alloc, &self.supervisor)?;
@@ -75,7 +73,7 @@ impl Seat {
 
     /// Something happens at this time, and all its orders are told. A child that is started gets the next number after
     /// `last`; the answer is the last number then.
-    pub fn happen(
+    pub(crate) fn happen(
         &mut self,
         time: u64,
         kind: Kind,
@@ -83,14 +81,14 @@ impl Seat {
         printer: &mut Printer,
         out: &mut Vec<u8>,
     ) -> Result<u64, Halt>
-        requires { time ≤ 2 ^ 62 }
+        requires { time ≤ MAX_READING }
         ensures { OnOk result (Happens kind self.old self.new out.old.items out.new.items) }
     {
         if self.core.is_full() {
             return Err(Halt::HistoryFull);
         }
         let last = last.max(self.core.last_number());
-        if last >= END_OF_NUMBERS {
+        if last >= MAX_READING {
             return Err(Halt::HistoryFull);
         }
         self.core.prepare()?;
@@ -102,10 +100,12 @@ impl Seat {
     }
 
     /// The orders of what happened last.
-    pub fn orders(&self) -> &[Effect] {
+    pub(crate) fn orders(&self) -> &[Effect] {
         self.core.effects()
     }
 
+    /// What stands in front of the names of its children: the ids of the supervisors from the root's child on, each with a
+    /// `/` behind it.
     pub fn path(&self) -> &[u8]
         ensures { result.now ≡ self.now.path }
     {
@@ -116,6 +116,20 @@ impl Seat {
         ensures { result ≡ self.now.base.flags }
     {
         self.supervisor.flags()
+    }
+
+    /// What it is opened with whenever it starts.
+    pub fn supervisor(&self) -> &SupSpec
+        ensures { self.now.base ≡ empty_state result.now.flags result.now.specs }
+    {
+        &self.supervisor
+    }
+
+    /// Whether it runs, and how it ended.
+    pub fn phase(&self) -> Phase
+        ensures { result ≡ (state_in self.now).phase }
+    {
+        self.core.phase()
     }
 
     /// The children in start order.
@@ -140,12 +154,12 @@ impl Seat {
     }
 
     /// What happens next at this time though no process tells anything.
-    pub fn next_kind(&self, time: u64, is_stopping: bool) -> Option<Kind> {
+    pub(crate) fn next_kind(&self, time: u64, is_stopping: bool) -> Option<Kind> {
         self.core.next_kind(time, is_stopping)
     }
 
     /// The next deadline of a child that was asked to shut down.
-    pub fn next_deadline(&self) -> Option<u64> {
+    pub(crate) fn next_deadline(&self) -> Option<u64> {
         self.core.next_deadline()
     }
 }

@@ -1,9 +1,11 @@
 //! A tree that is tried.
 
-ghost use Rattle.std.specs.Prelude.{ℕ, List, [], ◌∷◌, Bool, true, ◌≡◌, ◌<◌, ◌≤◌, ◌^◌, OnOk, IfOk, IfSome, length};
+ghost use Rattle.std.specs.Prelude.{ℕ, List, ◌∷◌, Bool, true, ◌≡◌, ◌<◌, ◌≤◌, OnOk, IfOk, IfSome, length};
+ghost use Rattle.otp_reason.specs.declared.note.Note.TheVariants as note;
 ghost use Rattle.otp_rules.specs.declared.event.Item.TheVariants as item;
 ghost use Rattle.otp_rules.specs.declared.event.Kind.TheVariants as kind;
-ghost use Rattle.otp_try.specs.Played.{ActsAt, AddsTree, Begins, EndsAt, Seated, Tells, unplayed};
+ghost use Rattle.otp_spec.specs.declared.limits.TheConstants.{MAX_READING};
+ghost use Rattle.otp_try.specs.Played.{ActsAt, Begins, EndsAt, IsPlanted, Seated, Tells, is_root_over};
 ghost use Rattle.otp_try.specs.Sketched.{moment_of};
 ghost use Rattle.otp_try.specs.Texts.{taken_text};
 ghost use Rattle.otp_try.specs.declared.trial.Taken.TheVariants.{Done};
@@ -22,9 +24,6 @@ use otp_timeline::Moment;
 use std::alloc::{AllocError, Global};
 use std::marker::Model;
 
-/// The latest time, in milliseconds since the beginning: 2^62.
-pub const LAST_TIME: u64 = 4_611_686_018_427_387_904;
-
 /// Why a trial can't go on. It is not used again then.
 #[derive(Clone, Copy, Debug, PartialEq, Eq)]
 pub enum Halt {
@@ -34,6 +33,11 @@ pub enum Halt {
 }
 
 impl From<AllocError> for Halt {
+    ghost use Rattle.std.specs.Prelude.{◌≡◌};
+    ghost use Rattle.otp_try.specs.declared.trial.Halt.TheVariants.{OutOfMemory};
+
+    ghost from_gives = { λ _ halt. halt ≡ OutOfMemory };
+
     fn from(_error: AllocError) -> Self {
         Halt::OutOfMemory
     }
@@ -108,8 +112,8 @@ impl Trial {
     /// # Errors
     ///
     /// Where memory is refused.
-    pub fn open(alloc: Global, tree: TreeSpec, out: &mut Vec<u8>) -> Result<Self, Halt>
-        ensures { IfOk result (λ trial. (before : List Seated) × AddsTree (unplayed [] tree.flags tree.specs) [] before × Tells before trial out.old.items out.new.items) }
+    pub fn open(alloc: Global, tree: &TreeSpec, out: &mut Vec<u8>) -> Result<Self, Halt>
+        ensures { IfOk result (λ trial. (before : List Seated) × IsPlanted tree.now before × Tells before trial out.old.items out.new.items × Begins 0 (kind.Opened 0) before trial) }
     {
         let plants = plant(alloc, tree)?;
         if plants.seats.is_empty() {
@@ -129,7 +133,7 @@ impl Trial {
     }
 
     /// The supervisors, the root first, and each before its children.
-    pub(crate) fn seats(&self) -> &[Seat]
+    pub fn seats(&self) -> &[Seat]
         ensures { result.now ≡ self.now }
     {
         self.seats.as_slice()
@@ -194,13 +198,19 @@ impl Trial {
     }
 
     /// Whether the root has ended.
-    pub fn has_ended(&self) -> bool {
-        self.seats[0].has_ended()
+    #[tactic(auto, unfolding(crate::specs::Played::is_root_over))]
+    pub fn has_ended(&self) -> bool
+        ensures { result ≡ is_root_over self.now }
+    {
+        match self.seats.as_slice() {
+            [] => true,
+            [root, ..] => root.has_ended(),
+        }
     }
 
     /// The clock, in milliseconds since the beginning.
     pub fn time(&self) -> u64
-        ensures { result ≤ 2 ^ 62 }
+        ensures { result ≤ MAX_READING }
     {
         self.time
     }
@@ -310,7 +320,7 @@ impl Trial {
     /// The clock goes to this time, in milliseconds since the beginning. Deadlines that come before it come first, in
     /// their order, with all that follows from each.
     pub fn go_to(&mut self, time: u64, out: &mut Vec<u8>) -> Result<(), Halt>
-        requires { time ≤ 2 ^ 62 }
+        requires { time ≤ MAX_READING }
         ensures { OnOk result (Tells self.old self.new out.old.items out.new.items) }
     {
         for _ in 0..u64::MAX {
@@ -349,6 +359,31 @@ impl Trial {
         }
     }
 
+    /// The process of this number, of a child of the supervisor at this place, ends now, and all that follows from it
+    /// happens.
+    ///
+    /// # Errors
+    ///
+    /// Where memory is refused, or the history of a supervisor has no room.
+    pub fn end_number(
+        &mut self,
+        place: usize,
+        process: u64,
+        reason: Reason,
+        out: &mut Vec<u8>,
+    ) -> Result<(), Halt>
+        requires { place < length self.old }
+        ensures told { OnOk result (Tells self.old self.new out.old.items out.new.items) }
+        ensures first { OnOk result (Begins place (kind.Took (item.Note (note.Exit process reason))) self.old self.new) }
+    {
+        self.world.lose(place, process);
+        self.play(
+            place,
+            Kind::Took(Item::Note(Note::Exit(process, reason))),
+            out,
+        )
+    }
+
     /// The process of a child of the supervisor at this place ends.
     #[tactic(auto, unfolding(crate::specs::Played::Ends))]
     fn end_process(
@@ -364,12 +399,7 @@ impl Trial {
     {
         match found_for(child, self.seats[place].rows()) {
             Found::Process(process) => {
-                self.world.lose(place, process);
-                self.play(
-                    place,
-                    Kind::Took(Item::Note(Note::Exit(process, reason))),
-                    out,
-                )?;
+                self.end_number(place, process, reason, out)?;
                 Ok(Taken::Done)
             }
             Found::NoProcess => Ok(Taken::NoProcess),

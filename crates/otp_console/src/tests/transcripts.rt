@@ -714,7 +714,7 @@ start = "nap"
 ];
 
 /// The words, the file of the lines of standard input or `-`, and what is written and told, with the status.
-pub(super) const TRANSCRIPTS: [(&str, &str, &str); 34] = [
+pub(super) const TRANSCRIPTS: [(&str, &str, &str); 35] = [
     (
         "sim all_significant.toml",
         "all_significant.events",
@@ -1155,6 +1155,33 @@ db                                    1       5001 ms      0       1  supervisor
 a crash of db
   stops  nothing
   starts db
+status 0
+"##,
+    ),
+    (
+        "limits nested.toml",
+        "-",
+        r##"child                     burst      interval  stops  starts    root  gives up
+pool/a                        1      10001 ms      0       1       5  pool
+pool/b                        1      10001 ms      0       1       5  pool
+db                            2      30001 ms      0       1       2  root
+pool                          2      30001 ms      0       1       2  root
+a crash of pool/a
+  stops  nothing
+  starts pool/a
+  ends   pool root
+a crash of pool/b
+  stops  nothing
+  starts pool/b
+  ends   pool root
+a crash of db
+  stops  nothing
+  starts db
+  ends   root
+a crash of pool
+  stops  nothing
+  starts pool
+  ends   root
 status 0
 "##,
     ),

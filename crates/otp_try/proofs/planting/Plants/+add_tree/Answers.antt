@@ -1,20 +1,22 @@
-use Rattle.std.proofs.Common.{◌≡◌, ◌++◌, List, [], ◌∷◌, ◌∙◌, ap, refl, rules}
-use Rattle.otp_try.specs.Played.{Seated, unplayed}
-use Rattle.otp_try.proofs.Plantings.{adds-below, adds-then}
+use Prim.Native.Nat.{suc}
+use Rattle.std.proofs.Common.{◌≡◌, ◌+◌, ◌++◌, List, [], ◌∷◌, ◌∙◌, ap, arith, ℕ, get_or, subst, sym, take}
+use Rattle.std.proofs.Math.Seq.{take-suc}
+use Rattle.std.specs.List.{flat_map}
+use Rattle.otp_file.specs.Trees.{Table, Tree, tables_of}
+use Rattle.otp_try.specs.Played.{AddsTables}
+use Rattle.otp_try.proofs.Plantings.{adds-then, tables_more}
 use Rattle.otp_try.proofs.planting.Plants.+add_tree.Goals as goal
 
-pub loop-spec-2-preserved : goal.loop-spec-2-preserved
-loop-spec-2-preserved t c =
-    let root : Seated = unplayed c.in-Some-2.path.items c.in-Some-2.below.flags c.in-Some-2.below.specs in (
-      adds-then root c.add.new.self.seats.items c.loop-spec-2.self.seats.items c.add_tree.new.self.seats.items refl c.loop-spec-2.invariant.0 c.in_ok-add_tree.ensures,
-      ((tt, tt), tt),
-      tt,
-    )
-
-pub returns : goal.returns
-returns t c =
-    let old : List Seated = c.args.self.now.seats.items in
-    let root : Seated = unplayed c.args.path.items c.args.tree.flags c.args.tree.specs in
-    let is : c.in_ok-new.field-0 ≡ root = search rules in
-    adds-below root old c.add.new.self.seats.items c.loop-spec-2.self.seats.items
-    (c.in_ok-place.ensures ∙ ap (λ (s : Seated). old ++ s ∷ []) is) c.loop-spec-2.invariant.0
+pub loop-number-preserved : goal.loop-number-preserved
+loop-number-preserved t c =
+    let trees : List Tree = c.trees-trees.result.now in
+    let tree : Tree = c.index-trees-number.result in
+    let number : ℕ = c.loop-number.number in
+    let next : number + 1 ≡ suc number = omega arith in
+    let is : get_or trees number tree ≡ tree = sym c.index-trees-number.is in
+    let more : take (number + 1) trees ≡ take number trees ++ tree ∷ [] =
+    ap (λ (n : ℕ). take n trees) next ∙ take-suc trees number tree c.loop-number-test.true ∙ ap (λ (x : Tree). take number trees ++ x ∷ []) is in
+    subst (λ (ts : List Table). AddsTables ts c.add.new.self.seats.items c.add_tree.new.self.seats.items)
+    (sym (ap (λ (xs : List Tree). flat_map tables_of xs) more ∙ tables_more (take number trees) tree))
+    (adds-then c.as_slice.result.now tree (flat_map tables_of (take number trees)) c.add.new.self.seats.items c.loop-number.self.seats.items c.add_tree.new.self.seats.items
+    c.loop-number.invariant c.in_ok-add_tree.ensures)

@@ -1,11 +1,12 @@
-use Rattle.otp_try.specs.Played.{AddsUnplayed}
+use Rattle.std.proofs.Common.{take}
+use Rattle.std.specs.List.{flat_map}
+use Rattle.otp_file.specs.Trees.{tables_of}
+use Rattle.otp_try.specs.Played.{AddsTables}
 use Rattle.otp_try.proofs.planting.Plants.+add_tree.Given as goal
 
 abbrev pub decreases-add_tree : goal.decreases-add_tree
 decreases-add_tree l = l.levels
 
-abbrev pub invariant-loop-spec-2 : goal.invariant-loop-spec-2
-invariant-loop-spec-2 l =
-    AddsUnplayed l.initial.self.seats.items l.self.seats.items ×
-    (goal.iterator-loop-spec-2).can_next l.spec-iterator ×
-    (goal.iterator-loop-spec-2).is_finite l.spec-iterator
+abbrev pub invariant-loop-number : goal.invariant-loop-number
+invariant-loop-number l =
+    AddsTables (flat_map tables_of (take l.number l.trees)) l.initial.self.seats.items l.self.seats.items

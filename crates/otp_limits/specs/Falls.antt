@@ -1,0 +1,106 @@
+-- A child of a tree of supervisors that crashes again and again, and how the root fares (own).
+use Rattle.std.specs.Prelude.{◌≡◌, ℕ, ◌+◌, ◌<◌, Bool, true, false, not, ◌&&◌, List, [], ◌∷◌, ◌++◌, Option, Some, None, codes, length, slice_get, take, ◌-◌}
+use Prim.Native.Nat.{zero, suc}
+use Rattle.otp_file.specs.Trees.{Tree}
+use Rattle.otp_reason.specs.declared.name.Name.{Name}
+use Rattle.otp_reason.specs.declared.note.Note.TheVariants as note
+use Rattle.otp_reason.specs.declared.reason.Reason.TheVariants as reason
+use Rattle.otp_rules.specs.declared.call.Call.TheVariants as call
+use Rattle.otp_rules.specs.declared.ending.Ending.{Ending}
+use Rattle.otp_rules.specs.declared.ending.Ending.TheVariants.{Asked}
+use Rattle.otp_rules.specs.declared.event.Item.TheVariants as item
+use Rattle.otp_rules.specs.declared.event.Kind.TheVariants as kind
+use Rattle.otp_rules.specs.declared.work.Phase.{Phase}
+use Rattle.otp_rules.specs.declared.work.Phase.TheVariants.{Ended}
+use Rattle.otp_rules.specs.State.{is_over}
+use Rattle.otp_spec.specs.Flags.{is_simple}
+use Rattle.otp_try.specs.Played.{Begins, IsPlanted, Seated, is_root_over, state_in}
+use Rattle.otp_limits.specs.declared.fall.TheConstants.{MOST_FALLS}
+use Rattle.otp_limits.specs.declared.fate.Fate.{Fate}
+use Rattle.otp_limits.specs.declared.fate.Fate.TheVariants as fate
+use Rattle.otp_limits.specs.Fates.{process_of}
+
+-- the process of the first child of the specification with this id, of this supervisor, if it runs
+unfoldable pub process_at : Name → Option Seated → Option ℕ
+process_at id None = None
+process_at id (Some seat) = process_of id (state_in seat).rows
+
+-- a supervisor of simple_one_for_one that runs
+unfoldable pub is_joined : Option Seated → Bool
+is_joined None = false
+is_joined (Some seat) = is_simple seat.base.flags.strategy && not (is_over (state_in seat).phase)
+
+-- somebody starts a child of the supervisor at this place, where it is one of simple_one_for_one
+unfoldable pub Joins : Bool → ℕ → List Seated → List Seated → Type 0
+Joins false place old new = new ≡ old
+Joins true place old new = (number : ℕ) × Begins place (kind.Took (item.Call number call.StartDynamic)) old new
+
+-- a tree whose root was opened, with all that followed, and a supervisor of it that has a child
+pub record OpensTree (tree : Tree) (place : ℕ) (new : List Seated) : Type 0 where
+  pub planted : List Seated
+  pub is_planted : IsPlanted tree planted
+  pub opened : List Seated
+  pub opens : Begins 0 (kind.Opened 0) planted opened
+  pub joins : Joins (is_joined (slice_get opened place)) place opened new
+
+-- the process of this child of the supervisor at this place is killed: that comes first, and then what follows from it
+pub record FallsOnce (place : ℕ) (id : Name) (old new : List Seated) : Type 0 where
+  pub process : ℕ
+  pub runs : process_at id (slice_get old place) ≡ Some process
+  pub ends : Begins place (kind.Took (item.Note (note.Exit process reason.Killed))) old new
+
+-- so many crashes of this child, one after the other, with no time between them
+unfoldable pub FallsOften : ℕ → Name → ℕ → List Seated → List Seated → Type 0
+FallsOften place id zero old new = new ≡ old
+FallsOften place id (suc n) old new = (before : List Seated) × (FallsOften place id n old before × FallsOnce place id before new)
+
+-- the root runs after so many crashes
+abbrev pub StandsAfter : ℕ → Name → ℕ → List Seated → List Seated → Type 0
+StandsAfter place id n old new = FallsOften place id n old new × (is_root_over new ≡ false)
+
+-- how the root of an opened tree fares where this child crashes so, at no time
+unfoldable pub FallsSo : ℕ → Name → List Seated → Fate → List Seated → Type 0
+FallsSo place id old fate.Survived new = StandsAfter place id MOST_FALLS old new
+FallsSo place id old (fate.Ended n) new =
+    (last : List Seated) × (StandsAfter place id n old last × (FallsOnce place id last new × (is_root_over new ≡ true)))
+FallsSo place id old (fate.Gone n) new = StandsAfter place id n old new × (process_at id (slice_get new place) ≡ None)
+FallsSo place id old (fate.Unplayed n) new = (last : List Seated) × StandsAfter place id n old last
+
+-- a supervisor has ended though nobody asked it to
+unfoldable pub gave_up_by : Ending → Bool
+gave_up_by Asked = false
+gave_up_by _ = true
+
+unfoldable pub gave_up : Phase → Bool
+gave_up (Ended number ending) = gave_up_by ending
+gave_up _ = false
+
+-- the path of a supervisor: that of its children without the `/` behind it; the root has none
+unfoldable pub supervisor_path : List ℕ → List ℕ
+supervisor_path [] = codes "root"
+supervisor_path (byte ∷ bytes) = take (length bytes) (byte ∷ bytes)
+
+-- the supervisors that gave up, those below before those above them
+unfoldable pub path_if : Bool → List ℕ → List (List ℕ)
+path_if false path = []
+path_if true path = supervisor_path path ∷ []
+
+abbrev pub given_up : List Seated → List (List ℕ)
+given_up [] = []
+given_up (seat ∷ seats) = given_up seats ++ path_if (gave_up (state_in seat).phase) seat.path
+
+-- who has given up in the end; nobody is named where the runs did not come to their end
+unfoldable pub through : Fate → List Seated → List (List ℕ)
+through fate.Survived seats = given_up seats
+through (fate.Ended _) seats = given_up seats
+through (fate.Gone _) seats = given_up seats
+through (fate.Unplayed _) seats = []
+
+-- the tree was opened, and this child crashed until the root had ended, or so often: the root fared so, and these have
+-- given up
+pub record IsFall (tree : Tree) (place : ℕ) (id : Name) (root : Fate) (ends : List (List ℕ)) : Type 0 where
+  pub opened : List Seated
+  pub opens : OpensTree tree place opened
+  pub after : List Seated
+  pub falls : FallsSo place id opened root after
+  pub ended : ends ≡ through root after

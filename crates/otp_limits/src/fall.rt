@@ -1,0 +1,185 @@
+//! How the root of a tree fares where a child crashes again and again.
+
+ghost use Rattle.std.specs.Prelude.{◌≡◌, ◌<◌, ◌++◌, false, IfOk, IfSome, OnOk, length, slice_get};
+ghost use Rattle.otp_limits.specs.Falls.{FallsOnce, FallsSo, IsFall, Joins, OpensTree, gave_up, gave_up_by, given_up, is_joined, path_if, process_at, supervisor_path, through};
+ghost use Rattle.otp_try.specs.Played.{Seated, is_root_over};
+
+use crate::fate::Fate;
+use crate::path::{Path, Paths};
+use crate::stage::process_of;
+use otp_file::TreeSpec;
+use otp_reason::{Name, Reason};
+use otp_rules::{Call, Ending, Phase};
+use otp_try::{Action, Halt, Seat, Trial};
+use std::alloc::Global;
+
+/// The most crashes of a child that are played in a whole tree. Each level of supervisors multiplies those that the root
+/// survives.
+pub const MOST_FALLS: u64 = 10_000;
+
+/// How a tree fares where a child crashes again and again, with no time between.
+#[derive(Debug, Drop)]
+pub struct Fall {
+    /// How the root fares.
+    pub root: Fate,
+    /// The supervisors that have given up in the end, those below before those above them.
+    pub ends: Paths,
+}
+
+/// The process of the first child of the specification with this id, of the supervisor at this place, if it runs.
+#[tactic(auto, unfolding(crate::specs::Falls::process_at))]
+fn process_at(seats: &[Seat], place: usize, id: &Name) -> Option<u64>
+    ensures value { result ≡ process_at id.now (slice_get seats.now place) }
+    ensures inside { IfSome result (λ process. place < length seats.now) }
+{
+    if place >= seats.len() {
+        return None;
+    }
+    let seat = &seats[place];
+    process_of(seat.rows(), id)
+}
+
+/// Whether the supervisor at this place is one of simple_one_for_one that runs.
+#[tactic(auto, unfolding(crate::specs::Falls::is_joined))]
+fn is_joined(seats: &[Seat], place: usize) -> bool
+    requires { place < length seats.now }
+    ensures { result ≡ is_joined (slice_get seats.now place) }
+{
+    let seat = &seats[place];
+    seat.flags().strategy.is_simple() && !seat.has_ended()
+}
+
+/// Somebody starts a child of the supervisor at this place, where it is one of simple_one_for_one that runs.
+#[tactic(auto, unfolding(crate::specs::Falls::Joins, otp_try::specs::Played::Acts))]
+fn join(trial: &mut Trial, place: usize, page: &mut Vec<u8>) -> Result<(), Halt>
+    requires { place < length trial.old }
+    ensures { OnOk result (Joins (is_joined (slice_get trial.old place)) place trial.old trial.new) }
+{
+    if is_joined(trial.seats(), place) {
+        trial.act(place, Action::Call(Call::StartDynamic), page)?;
+    }
+    Ok(())
+}
+
+/// A tree that is opened, and the supervisor at this place has a child.
+fn open(alloc: Global, tree: &TreeSpec, place: usize, page: &mut Vec<u8>) -> Result<Trial, Halt>
+    ensures { IfOk result (λ trial. OpensTree tree.now place trial) }
+{
+    let mut trial = Trial::open(alloc, tree, page)?;
+    if place >= trial.seats().len() {
+        return Err(Halt::OutOfMemory);
+    }
+    join(&mut trial, place, page)?;
+    Ok(trial)
+}
+
+/// A child of the supervisor at this place crashes until the root has ended, or so often as is played.
+#[tactic(auto, unfolding(crate::specs::Falls::FallsSo))]
+fn crash_often(trial: &mut Trial, place: usize, id: &Name, page: &mut Vec<u8>) -> Result<Fate, Halt>
+    requires runs { is_root_over trial.old ≡ false }
+    ensures { IfOk result (λ fate. FallsSo place id.now trial.old fate trial.new) }
+{
+    for count in 0..MOST_FALLS {
+        let Some(process) = process_at(trial.seats(), place, id) else {
+            return Ok(Fate::Gone(count));
+        };
+        page.clear();
+        match trial.end_number(place, process, Reason::Killed, page) {
+            Ok(()) => {}
+            Err(Halt::HistoryFull) => return Ok(Fate::Unplayed(count)),
+            Err(Halt::OutOfMemory) => return Err(Halt::OutOfMemory),
+        }
+        if trial.has_ended() {
+            return Ok(Fate::Ended(count));
+        }
+    }
+    Ok(Fate::Survived)
+}
+
+/// Whether a supervisor that ended so has given up: nobody asked it to end.
+#[tactic(auto, unfolding(crate::specs::Falls::gave_up_by))]
+fn gave_up_by(ending: Ending) -> bool
+    ensures { result ≡ gave_up_by ending }
+{
+    match ending {
+        Ending::Asked => false,
+        Ending::Intensity | Ending::Significant(_) | Ending::InitFailed(_) => true,
+    }
+}
+
+/// Whether a supervisor has ended though nobody asked it to.
+#[tactic(auto, unfolding(crate::specs::Falls::gave_up))]
+fn gave_up(phase: Phase) -> bool
+    ensures { result ≡ gave_up phase }
+{
+    match phase {
+        Phase::Ended(_, ending) => gave_up_by(ending),
+        Phase::Unopened | Phase::Open(_) => false,
+    }
+}
+
+/// The path of a supervisor whose children have this in front of their names.
+#[tactic(auto, unfolding(crate::specs::Falls::supervisor_path))]
+pub(crate) fn supervisor_path(path: &[u8]) -> &[u8]
+    ensures { result.now ≡ supervisor_path path.now }
+{
+    match path {
+        [] => b"root",
+        path => &path[..path.len() - 1],
+    }
+}
+
+/// Puts the path of a supervisor behind others, if it has given up.
+#[tactic(auto, unfolding(crate::specs::Falls::path_if))]
+fn put_if(alloc: Global, is_given_up: bool, path: &[u8], ends: &mut Paths) -> Result<(), Halt>
+    ensures { OnOk result (ends.new ≡ ends.old ++ path_if is_given_up path.now) }
+{
+    if is_given_up {
+        ends.push(Path::copy_of(alloc, supervisor_path(path))?)?;
+    }
+    Ok(())
+}
+
+/// Puts the supervisors that gave up behind others, those below before those above them.
+fn put_given_up(alloc: Global, seats: &[Seat], ends: &mut Paths) -> Result<(), Halt>
+    ensures { OnOk result (ends.new ≡ ends.old ++ given_up seats.now) }
+{
+    match seats {
+        [] => Ok(()),
+        [seat, others @ ..] => {
+            put_given_up(alloc, others, ends)?;
+            put_if(alloc, gave_up(seat.phase()), seat.path(), ends)
+        }
+    }
+}
+
+/// Who has given up in the end.
+#[tactic(auto, unfolding(crate::specs::Falls::through))]
+fn through(alloc: Global, fate: Fate, seats: &[Seat]) -> Result<Paths, Halt>
+    ensures { IfOk result (λ ends. ends ≡ through fate seats.now) }
+{
+    let mut ends = Paths::new(alloc);
+    match fate {
+        Fate::Unplayed(_) => {}
+        Fate::Survived | Fate::Ended(_) | Fate::Gone(_) => put_given_up(alloc, seats, &mut ends)?,
+    }
+    Ok(ends)
+}
+
+/// Opens a tree, and lets a child of the supervisor at this place crash until the root has ended.
+///
+/// # Errors
+///
+/// Where memory is refused, or the opening itself doesn't come to its end.
+pub fn find_fall(alloc: Global, tree: &TreeSpec, place: usize, id: &Name) -> Result<Fall, Halt>
+    ensures { IfOk result (λ fall. IsFall tree.now place id.now fall.root fall.ends) }
+{
+    let mut page = Vec::new(alloc);
+    let mut trial = open(alloc, tree, place, &mut page)?;
+    if trial.has_ended() {
+        return Err(Halt::HistoryFull);
+    }
+    let root = crash_often(&mut trial, place, id, &mut page)?;
+    let ends = through(alloc, root, trial.seats())?;
+    Ok(Fall { root, ends })
+}
