@@ -111,7 +111,9 @@ fn count_taken(history: &History, taken: &mut [u64]) -> bool {
 
 // Each of these calls was taken once.
 fn are_once(taken: &[u64], calls: &[u64]) -> bool {
-    calls.iter().all(|call| taken.get(*call as usize) == Some(&1))
+    calls
+        .iter()
+        .all(|call| taken.get(*call as usize) == Some(&1))
 }
 
 // Another client with half of the numbers; the first can't have more than it has, and sends no body that no call wants.
