@@ -51,8 +51,8 @@ impl<N: WordsNaming + InboxNaming, B: Drop> Sup<N, B> {
 
     /// Takes the lock once, for a turn of the table ([`Table::turn`]) and then for its orders, until none is left or
     /// the port refuses. Of what lies under a lock a caller knows its type alone: that the table keeps OTP's rules
-    /// ([`Table::keeps_rules`]). So contracts say that the answer is that of a turn of such a table, not which table it
-    /// was; and that the port has what it had, and what it took besides.
+    /// ([`Table::keeps_rules`]). So contracts say that one such table had the turn, that the port took exactly what the
+    /// first of its orders put and tell, and that it still keeps the rules; not that it was the table under this lock.
     pub fn turn<R: Wait, P: Port<B>>(
         &self,
         rt: &R,

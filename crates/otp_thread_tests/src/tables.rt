@@ -1,5 +1,6 @@
 // What lies under a supervisor's lock, without the lock: a turn at a time, and an order at a time, over a port in memory.
-ghost use Rattle.std.specs.Prelude.{◌≡◌, ◌≤◌, ◌^◌};
+ghost use Rattle.std.specs.Prelude.{◌≡◌, ◌≤◌, ◌<◌, ◌^◌, ◌++◌, ◌∷◌, [], is_some, IfErr, OnErr, OnOk};
+ghost use Rattle.otp_sup.specs.Ports.{launched, launched_all};
 
 use otp_counts::Publisher;
 use otp_inbox::{Inbox, InboxNaming, Sender, UnnamedInbox};
@@ -207,24 +208,39 @@ fn by_orders_in<N: WordsNaming + InboxNaming, R: Wait + Abort>(
 // A port that takes nothing.
 #[derive(Drop)]
 struct Shut {
+    processes: Vec<NewProcess<u64>>,
+    notes: Vec<Note>,
     refusals: Tally,
 }
 
 impl Port<u64> for Shut {
-    ghost use Rattle.std.specs.Prelude.{[]};
+    ghost use Rattle.otp_sup.specs.Ports.{launched_all};
 
-    ghost processes = { λ p. [] };
+    ghost processes = { λ p. launched_all p.processes.items };
 
-    ghost notes = { λ p. [] };
+    ghost notes = { λ p. p.notes.items };
 
     ghost refusals = { λ p. p.refusals.count };
 
-    fn put(&mut self, process: NewProcess<u64>) -> Result<(), NewProcess<u64>> {
+    fn put(&mut self, process: NewProcess<u64>) -> Result<(), NewProcess<u64>>
+        ensures took { OnOk result (launched_all self.new.processes.items ≡ launched_all self.old.processes.items ++ launched process.number process.slot (is_some process.body) ∷ []) }
+        ensures kept { OnErr result (launched_all self.new.processes.items ≡ launched_all self.old.processes.items) }
+        ensures refused { OnErr result (self.old.refusals.count < self.new.refusals.count) }
+        ensures counted { OnOk result (self.new.refusals.count ≡ self.old.refusals.count) }
+        ensures back { IfErr result (λ back. back ≡ process) }
+        ensures notes { self.new.notes.items ≡ self.old.notes.items }
+    {
         self.refusals.raise();
         Err(process)
     }
 
-    fn send(&mut self, note: Note) -> Result<(), Note> {
+    fn send(&mut self, note: Note) -> Result<(), Note>
+        ensures took { OnOk result (self.new.notes.items ≡ self.old.notes.items ++ note ∷ []) }
+        ensures kept { OnErr result (self.new.notes.items ≡ self.old.notes.items) }
+        ensures refused { OnErr result (self.old.refusals.count < self.new.refusals.count) }
+        ensures counted { OnOk result (self.new.refusals.count ≡ self.old.refusals.count) }
+        ensures processes { launched_all self.new.processes.items ≡ launched_all self.old.processes.items }
+    {
         self.refusals.raise();
         Err(note)
     }
@@ -250,6 +266,8 @@ fn refused_in<N: WordsNaming + InboxNaming, R: Wait + Abort>(
 {
     let mut one = make_alone::<N>(alloc, words, inbox)?;
     let mut shut = Shut {
+        processes: Vec::new(alloc),
+        notes: Vec::new(alloc),
         refusals: Tally::new(),
     };
     assert_eq!(rt; one.turn(rt, 0, 0, Signal::None), Ok(TurnAnswer::Opened));
