@@ -11,7 +11,7 @@ use otp_file::TreeSpec;
 use otp_reason::{Name, Note, Reason};
 use otp_spec::SpecFault;
 use otp_text::write_reason;
-use otp_tree::{Gate, Leader, Round, TreeFault, lead};
+use otp_tree::{Gate, Leader, Round, SystemFault, lead};
 use std::alloc::{AllocError, Global};
 use std::marker::Model;
 use std::sync::Wait;
@@ -61,19 +61,19 @@ impl From<PlanFault> for RunFault {
     }
 }
 
-impl From<TreeFault> for RunFault {
+impl From<SystemFault> for RunFault {
     ghost use Rattle.otp_jobs.specs.Runs.{IsOfOpening};
 
     ghost from_gives = { λ _ fault. IsOfOpening fault };
 
-    fn from(why: TreeFault) -> RunFault {
+    fn from(why: SystemFault) -> RunFault {
         match why {
-            TreeFault::OutOfMemory => RunFault::OutOfMemory,
-            TreeFault::Table { fault, .. } => match fault {
+            SystemFault::OutOfMemory => RunFault::OutOfMemory,
+            SystemFault::Table { fault, .. } => match fault {
                 OpenFault::OutOfMemory => RunFault::OutOfMemory,
                 OpenFault::Spec(fault) => RunFault::Unlawful(fault),
             },
-            TreeFault::NoBody { .. } => RunFault::NoBody,
+            SystemFault::NoBody { .. } => RunFault::NoBody,
         }
     }
 }

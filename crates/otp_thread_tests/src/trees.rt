@@ -12,8 +12,8 @@ use otp_run::RunNaming;
 use otp_signals::WordsNaming;
 use otp_spec::{ChildSpec, ChildType, Shutdown, SpecFault, SupFlags};
 use otp_tree::{
-    Client, CloseFault, Gate, Hand, Leader, Millis, Report, Round, Session, System, TablePlan,
-    TreeFault, Unclosed, lead, run_tree, with_system,
+    Client, CloseFault, Gate, Hand, Leader, Millis, Report, Round, Session, System, SystemFault,
+    TablePlan, Unclosed, lead, run_tree, with_system,
 };
 use std::alloc::{AllocError, Global};
 use std::process::Abort;
@@ -323,7 +323,7 @@ fn a_refused_table_is_told_by_its_number(rt: HostRuntime) -> Result<(), Fail> {
     let starts: Calls = Arc::new(rt.alloc(), AtomicU64::new(0))?;
     let plans = plans(rt.alloc(), &starts, b"b")?;
     let led = lead(&rt, rt.alloc(), plans, 2, &Still, 10, Once { rounds: 0 });
-    let fault = TreeFault::Table {
+    let fault = SystemFault::Table {
         table: 1,
         fault: OpenFault::Spec(SpecFault::DuplicateId { index: 1 }),
     };

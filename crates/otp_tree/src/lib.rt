@@ -69,7 +69,7 @@ pub use clock::{Gate, Millis};
 pub use closing::{CloseFault, Unclosed};
 pub use evidence::Mismatch;
 pub use hand::Hand;
-pub use opening::{MAX_TABLES, Opened, Parts, TreeFault};
+pub use opening::{MAX_TABLES, Opened, Parts, SystemFault};
 pub use plan::TablePlan;
 pub use report::{Report, TableReport};
 pub use rounds::{Leader, Led, Round, RunFault, lead, run_tree};

@@ -34,7 +34,7 @@ pub const MAX_TABLES: usize = 64;
 
 /// Why a tree was not opened.
 #[derive(Clone, Copy, Debug, PartialEq, Eq)]
-pub enum TreeFault {
+pub enum SystemFault {
     /// E0: memory was refused.
     OutOfMemory,
     /// The flags or the child specifications of this supervisor are refused.
@@ -43,9 +43,9 @@ pub enum TreeFault {
     NoBody { table: usize },
 }
 
-impl From<AllocError> for TreeFault {
-    fn from(_: AllocError) -> TreeFault {
-        TreeFault::OutOfMemory
+impl From<AllocError> for SystemFault {
+    fn from(_: AllocError) -> SystemFault {
+        SystemFault::OutOfMemory
     }
 }
 
@@ -113,7 +113,7 @@ fn open_one<N: WordsNaming + InboxNaming, J: Drop, S: Drop>(
     inbox: UnnamedInbox<Item, Letter<Body<J, S>>>,
     number: usize,
     plan: TablePlan<J, S>,
-) -> Result<(Sup<N, Body<J, S>>, Sender<N, Item, Letter<Body<J, S>>>), TreeFault>
+) -> Result<(Sup<N, Body<J, S>>, Sender<N, Item, Letter<Body<J, S>>>), SystemFault>
     requires named { inbox ≡ N.inbox number }
     requires few { number < 64 }
     requires slots { EachBetween (first_slot number) (first_slot (number + 1)) (Contains owner.old.slots) }
@@ -126,7 +126,7 @@ fn open_one<N: WordsNaming + InboxNaming, J: Drop, S: Drop>(
 {
     let first = 1 + SLOTS * number;
     let Ok(seat) = words.split(owner, first..first + SLOTS, TABLE_QUOTA) else {
-        return Err(TreeFault::OutOfMemory);
+        return Err(SystemFault::OutOfMemory);
     };
     let TablePlan {
         flags,
@@ -135,12 +135,12 @@ fn open_one<N: WordsNaming + InboxNaming, J: Drop, S: Drop>(
     } = plan;
     let bodies = hand_in_all(alloc, bodies)?;
     if !bodies.are_ready(count_opened(&flags, specs.as_slice())) {
-        return Err(TreeFault::NoBody { table: number });
+        return Err(SystemFault::NoBody { table: number });
     }
     let (inbox, taker, sender) = inbox.named::<N>(number);
     let office = match Office::open(alloc, flags, specs.as_slice(), seat, first) {
         Ok(office) => office,
-        Err(fault) => return Err(TreeFault::Table {
+        Err(fault) => return Err(SystemFault::Table {
             table: number,
             fault,
         }),
@@ -186,7 +186,7 @@ fn open_all<N: WordsNaming + InboxNaming, J: Drop, S: Drop>(
     owner: &mut Owner<N>,
     inboxes: Vec<UnnamedInbox<Item, Letter<Body<J, S>>>>,
     plans: Vec<TablePlan<J, S>>,
-) -> Result<Named<N, J, S>, TreeFault>
+) -> Result<Named<N, J, S>, SystemFault>
     requires named { AllAt (λ k id. id ≡ N.inbox k) inboxes.items }
     requires few { length inboxes.items ≤ 64 }
     requires slots { EachBetween 0 (slots_of (length inboxes.items)) (Contains owner.old.slots) }
@@ -203,7 +203,7 @@ fn open_all<N: WordsNaming + InboxNaming, J: Drop, S: Drop>(
     let mut number = 0;
     for inbox in inboxes {
         let Some(plan) = plans.next() else {
-            return Err(TreeFault::OutOfMemory);
+            return Err(SystemFault::OutOfMemory);
         };
         let (sup, sender) = open_one(alloc, words, owner, inbox, number, plan)?;
         keep(&mut sups, sup)?;
@@ -250,7 +250,7 @@ fn make_hands<N: WordsNaming + InboxNaming + RunNaming, J: Drop, S: Drop>(
     senders: &mut Senders<N, Body<J, S>>,
     mut viewer: Viewer<N>,
     root: Process<J, S>,
-) -> Result<Vec<Hand<N, J, S>>, TreeFault>
+) -> Result<Vec<Hand<N, J, S>>, SystemFault>
     requires { AllAt (λ k s. out s ≡ 0) schedulers.items }
 {
     let mut hands = Vec::new(alloc);
@@ -259,7 +259,7 @@ fn make_hands<N: WordsNaming + InboxNaming + RunNaming, J: Drop, S: Drop>(
         let mut scheduler = scheduler;
         begin(&mut scheduler, &mut root)?;
         let Some(senders) = system.split_senders(alloc, senders, 1)? else {
-            return Err(TreeFault::OutOfMemory);
+            return Err(SystemFault::OutOfMemory);
         };
         let hand = Hand {
             scheduler,
@@ -280,7 +280,7 @@ impl<J: Drop, S: Drop> Parts<J, S> {
     pub fn named<N: WordsNaming + InboxNaming + RunNaming>(
         self,
         alloc: Global,
-    ) -> Result<Opened<N, J, S>, TreeFault>
+    ) -> Result<Opened<N, J, S>, SystemFault>
         requires words { self.words.words ≡ N.words }
         requires inboxes { AllAt (λ k id. id ≡ N.inbox k) self.inboxes.items }
         requires outer { self.outer ≡ N.inbox (length self.inboxes.items) }
@@ -302,7 +302,7 @@ impl<J: Drop, S: Drop> Parts<J, S> {
         let viewer = words.viewer(&mut owner);
         let Named { sups, senders } = open_all(alloc, &words, &mut owner, inboxes, plans)?;
         let Ok(root) = words.draw(&mut owner) else {
-            return Err(TreeFault::OutOfMemory);
+            return Err(SystemFault::OutOfMemory);
         };
         let (outer, waiter, sender) = outer.named::<N>(tables);
         let mut senders = seat(senders, sender)?;
@@ -310,7 +310,7 @@ impl<J: Drop, S: Drop> Parts<J, S> {
         let schedulers = queue.named::<N>(alloc)?;
         let body = Body::Sup(TableNo::new(0));
         let Ok(process) = Process::new(alloc, root, 0, tables, body) else {
-            return Err(TreeFault::OutOfMemory);
+            return Err(SystemFault::OutOfMemory);
         };
         let hands = make_hands(alloc, &system, schedulers, &mut senders, viewer, process)?;
         let client = Client {

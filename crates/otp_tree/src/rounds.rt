@@ -9,7 +9,7 @@ use crate::client::Client;
 use crate::clock::Gate;
 use crate::closing::CloseFault;
 use crate::hand::Hand;
-use crate::opening::{Opened, Parts, TreeFault};
+use crate::opening::{Opened, Parts, SystemFault};
 use crate::plan::TablePlan;
 use crate::report::Report;
 use crate::serving::pool_run;
@@ -64,7 +64,7 @@ pub fn lead<R, J, S, G, L>(
     gate: &G,
     rounds: u64,
     leader: L,
-) -> Result<Led<J, S, L>, TreeFault>
+) -> Result<Led<J, S, L>, SystemFault>
 where
     R: Threads + Wait + Sync,
     J: Job + Send,
@@ -88,7 +88,7 @@ fn lead_named<N, R, J, S, G, L>(
     gate: &G,
     rounds: u64,
     mut leader: L,
-) -> Result<Led<J, S, L>, TreeFault>
+) -> Result<Led<J, S, L>, SystemFault>
 where
     N: WordsNaming + InboxNaming + RunNaming + Send + Sync,
     R: Threads + Wait + Sync,
@@ -152,7 +152,7 @@ where
 #[derive(Drop)]
 pub enum RunFault<J: Drop, S: Drop> {
     /// It was not opened.
-    Open(TreeFault),
+    Open(SystemFault),
     /// It was not closed, or its report tells of a mismatch.
     Close(CloseFault<J, S, ()>),
 }

@@ -6,7 +6,7 @@ ghost use Rattle.otp_tree.specs.Opens.{slots_of};
 
 use crate::client::Client;
 use crate::hand::Hand;
-use crate::opening::{Opened, Parts, TreeFault};
+use crate::opening::{Opened, Parts, SystemFault};
 use crate::plan::TablePlan;
 use crate::system::System;
 use otp_inbox::InboxNaming;
@@ -41,7 +41,7 @@ pub fn with_system<R, J: Drop, S: Drop, T: Session<R, J, S>>(
     plans: Vec<TablePlan<J, S>>,
     hands: usize,
     session: T,
-) -> Result<T::Output, TreeFault>
+) -> Result<T::Output, SystemFault>
     requires tables { length plans.items ≤ 64 }
     requires some { 0 < hands }
     requires few { hands ≤ all_parts }
@@ -56,7 +56,7 @@ fn run_named<
     J: Drop,
     S: Drop,
     T: Session<R, J, S>,
->(rt: &R, alloc: Global, parts: Parts<J, S>, session: T) -> Result<T::Output, TreeFault>
+>(rt: &R, alloc: Global, parts: Parts<J, S>, session: T) -> Result<T::Output, SystemFault>
     requires words { parts.words.words ≡ N.words }
     requires inboxes { AllAt (λ k id. id ≡ N.inbox k) parts.inboxes.items }
     requires outer { parts.outer ≡ N.inbox (length parts.inboxes.items) }

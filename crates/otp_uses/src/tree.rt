@@ -8,7 +8,7 @@ use otp_reason::{Name, Note, Reason, Started};
 use otp_run::RunNaming;
 use otp_signals::WordsNaming;
 use otp_spec::{ChildSpec, SupFlags};
-use otp_tree::{Client, Hand, Millis, Session, System, TablePlan, TreeFault, with_system};
+use otp_tree::{Client, Hand, Millis, Session, System, SystemFault, TablePlan, with_system};
 use std::alloc::{AllocError, Global};
 use std::sync::Wait;
 
@@ -118,6 +118,6 @@ where
 }
 
 /// A tree of one supervisor, for two hands.
-pub fn up_and_down<R: Wait>(rt: &R, alloc: Global) -> Result<Run, TreeFault> {
+pub fn up_and_down<R: Wait>(rt: &R, alloc: Global) -> Result<Run, SystemFault> {
     with_system(rt, alloc, plans(alloc)?, 2, UpAndDown)
 }
