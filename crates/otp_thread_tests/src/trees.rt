@@ -12,8 +12,8 @@ use otp_run::RunNaming;
 use otp_signals::WordsNaming;
 use otp_spec::{ChildSpec, ChildType, Shutdown, SpecFault, SupFlags};
 use otp_tree::{
-    Client, CloseFault, Gate, Hand, Leader, Millis, Report, Round, Session, System, SystemFault,
-    TablePlan, Unclosed, lead, run_tree, with_system,
+    Client, CloseFault, Gate, Hand, Leader, Led, Millis, Report, Round, Session, System,
+    SystemFault, TablePlan, Unclosed, lead, run_tree, with_system,
 };
 use std::alloc::{AllocError, Global};
 use std::process::Abort;
@@ -184,15 +184,14 @@ fn live_with<R: Threads + Wait + Abort + Sync>(
     let starts: Calls = Arc::new(alloc, AtomicU64::new(0))?;
     let plans = plans(alloc, &starts, b"c")?;
     let leader = UpAndDown::new(starts, WORKERS + 1);
-    match lead(rt, alloc, plans, hands, &Still, 10_000, leader) {
-        Ok(led) => {
-            led.leader.check(rt);
-            match led.report {
-                Ok(report) => check_ended(rt, &report),
-                Err(_) => return Err("the tree was not closed".into()),
-            }
-        }
-        Err(_) => return Err("the tree was refused".into()),
+    let Led { leader, report } = match lead(rt, alloc, plans, hands, &Still, 10_000, leader) {
+        Ok(led) => led,
+        Err(_why) => return Err("the tree was refused".into()),
+    };
+    leader.check(rt);
+    match report {
+        Ok(report) => check_ended(rt, &report),
+        Err(_why) => return Err("the tree was not closed".into()),
     }
     Ok(())
 }
