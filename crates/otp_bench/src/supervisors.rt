@@ -77,10 +77,12 @@ impl<N: WordsNaming + InboxNaming> Driven<N> {
         }
         let (words, mut owner) = words.named::<N>();
         let (inbox, taker, sender) = inbox.named::<N>(0);
-        let seat = words
-            .split(&mut owner, 0..MAX_CHILDREN, QUOTA)
-            .map_err(|_| AllocError)?;
-        let office = Office::open(alloc, flags, specs.as_slice(), seat, 0).map_err(|_| AllocError)?;
+        let Ok(seat) = words.split(&mut owner, 0..MAX_CHILDREN, QUOTA) else {
+            return Err(AllocError);
+        };
+        let Ok(office) = Office::open(alloc, flags, specs.as_slice(), seat, 0) else {
+            return Err(AllocError);
+        };
         let counts = Publisher::open(alloc, office.counts())?;
         let sup = Sup::new(inbox, Table::new(office, taker, bodies, counts));
         Ok(Driven {
