@@ -13,7 +13,7 @@ use otp_core::OpenFault;
 use otp_file::TreeSpec;
 use otp_reason::Name;
 use otp_spec::SpecFault;
-use otp_tree::{CloseFault, Gate, RunFault as Unreported, TableReport, SystemFault, run_tree};
+use otp_tree::{CloseFault, Gate, RunFault as Unreported, SystemFault, TableReport, run_tree};
 use std::alloc::{AllocError, Global};
 use std::marker::Model;
 use std::sync::Wait;
