@@ -15,6 +15,8 @@ returns-clause-report g c =
     let lines : c.in_ok-lines.lines.items ≡ map line_of report.tables.items = search rules in
     let written : c.write_report.new.out.items ≡ c.args.out.now.items ++ report_text c.in_ok-lines.lines.items report.live = search rules in (
       report,
-      subst (λ n. IsReportOf n report) c.in_ok-plans.ensures.count is_report,
-      written ∙ ap (λ all. c.args.out.now.items ++ report_text all report.live) lines,
+      (
+        subst (λ n. IsReportOf n report) c.in_ok-plans.ensures.count is_report,
+        written ∙ ap (λ all. c.args.out.now.items ++ report_text all report.live) lines,
+      ),
     )
