@@ -1,5 +1,4 @@
 use Rattle.std.proofs.Common.{◌≡◌, ◌++◌, length, map, subst, ap, ◌∙◌, rules}
-use Rattle.otp_file.specs.Trees.{tables_of}
 use Rattle.otp_jobs.specs.Reports.{report_text}
 use Rattle.otp_jobs.specs.Runs.{line_of}
 use Rattle.otp_jobs.specs.declared.role.Calm.{Calm}
