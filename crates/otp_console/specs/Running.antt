@@ -1,5 +1,5 @@
 -- What a run of a tree writes (own).
-use Rattle.std.specs.Prelude.{◌≡◌, ◌⊎◌, ◌<◌, ⊤, ℕ, List, [], Some, None, Ok}
+use Rattle.std.specs.Prelude.{◌≡◌, ◌⊎◌, ◌<◌, ⊤, ℕ, List, [], Option, Some, None, Ok, length}
 use Rattle.std.specs.Io.KnownBytes.{Appends}
 use Rattle.otp_file.specs.declared.fault.TreeFault.{TreeFault}
 use Rattle.otp_file.specs.declared.fault.TreeFault.TheVariants.{TooManyTables, Unlawful}
@@ -11,7 +11,7 @@ use Rattle.otp_jobs.specs.declared.plan.PlanFault.{PlanFault}
 use Rattle.otp_jobs.specs.declared.plan.PlanFault.TheVariants as plan
 use Rattle.otp_console.specs.Devices.{HasTree, IsRefused, Written}
 use Rattle.otp_console.specs.declared.ending.Ending.{Ending}
-use Rattle.otp_console.specs.declared.ending.Ending.TheVariants.{Done, TreeRefused, UnknownStart, WrongBody, OutputFailed, OutOfMemory}
+use Rattle.otp_console.specs.declared.ending.Ending.TheVariants.{Done, TreeRefused, UnknownStart, WrongBody, CloseMismatch, CloseMissing, OutputFailed, OutOfMemory}
 
 -- the file says a tree that has this to be said against its starts
 abbrev pub HasStarts : List ℕ → PlanFault → Type 0
@@ -27,12 +27,19 @@ IsOfOpening TooManyTables = ⊤
 IsOfOpening (Unlawful _) = ⊤
 IsOfOpening _ = ⊥
 
+-- a report of so many supervisors was written
+abbrev pub HasReport : ℕ → Option (List ℕ) → Option (List ℕ) → Type 0
+HasReport tables old new = (text : List ℕ) × (Reports tables [] text × Appends old new text)
+
 -- a tree was run, and its report written; or it was not
 abbrev pub IsTreeRun : Ending → List ℕ → Written → Written → Type 0
-IsTreeRun Done file old new = IsRunnable file × (text : List ℕ) × (Reports [] text × Appends old.bytes new.bytes text)
+IsTreeRun Done file old new =
+    (tree : Tree) × (Says file (Ok tree) × ((plan_fault (tables_of tree) ≡ None) × HasReport (length (tables_of tree)) old.bytes new.bytes))
 IsTreeRun (TreeRefused why) file old new = (new ≡ old) × (IsRefused why file ⊎ (HasTree file × IsOfOpening why))
 IsTreeRun (UnknownStart name) file old new = (new ≡ old) × HasStarts file (plan.UnknownStart name)
 IsTreeRun WrongBody file old new = (new ≡ old) × HasStarts file plan.WrongBody
+IsTreeRun CloseMismatch file old new = (new ≡ old) × HasTree file
+IsTreeRun CloseMissing file old new = (new ≡ old) × HasTree file
 IsTreeRun OutputFailed file old new = IsRunnable file × (old.failures < new.failures)
 IsTreeRun OutOfMemory file old new = new ≡ old
 IsTreeRun _ file old new = ⊥

@@ -14,7 +14,7 @@ use Rattle.otp_console.specs.Limited.{HasLimits}
 use Rattle.otp_console.specs.Running.{IsTreeRun}
 use Rattle.otp_console.specs.Statuses.{status_of, sentence_of}
 use Rattle.otp_console.specs.declared.ending.Ending.{Ending}
-use Rattle.otp_console.specs.declared.ending.Ending.TheVariants.{Done, WordsRefused, NoCommand, WordNotText, FileAsCommand, TreeNotRead, FileNotRead, TreeRefused, UnknownStart, WrongBody, FaultsFound, LineRefused, ScriptRefused, ScriptMissed, HistoryFull, InputFailed, OutputFailed, OutOfMemory}
+use Rattle.otp_console.specs.declared.ending.Ending.TheVariants.{Done, WordsRefused, NoCommand, WordNotText, FileAsCommand, TreeNotRead, FileNotRead, TreeRefused, UnknownStart, WrongBody, CloseMismatch, CloseMissing, FaultsFound, LineRefused, ScriptRefused, ScriptMissed, HistoryFull, InputFailed, OutputFailed, OutOfMemory}
 use Rattle.otp_console.specs.declared.files.TheConstants.{LARGEST_TREE}
 use Rattle.otp_console.specs.declared.words.Command.{Command}
 use Rattle.otp_console.specs.declared.words.Command.TheVariants as command
@@ -37,6 +37,8 @@ IsRun FileNotRead file old new = ⊥
 IsRun (TreeRefused why) file old new = (new ≡ old) × IsRefused why file
 IsRun (UnknownStart name) file old new = ⊥
 IsRun WrongBody file old new = ⊥
+IsRun CloseMismatch file old new = ⊥
+IsRun CloseMissing file old new = ⊥
 IsRun FaultsFound file old new = ⊥
 IsRun (LineRefused line) file old new = Played (sim.LineRefused line) file old new
 IsRun (ScriptRefused line why) file old new = ⊥

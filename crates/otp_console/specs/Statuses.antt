@@ -14,7 +14,7 @@ use Rattle.otp_try.specs.Texts.{fault_text, taken_text}
 use Rattle.otp_try.specs.declared.play.TryEnd.{TryEnd}
 use Rattle.otp_try.specs.declared.play.TryEnd.TheVariants as trial
 use Rattle.otp_console.specs.declared.ending.Ending.{Ending}
-use Rattle.otp_console.specs.declared.ending.Ending.TheVariants.{Done, WordsRefused, NoCommand, WordNotText, FileAsCommand, TreeNotRead, FileNotRead, TreeRefused, UnknownStart, WrongBody, FaultsFound, LineRefused, ScriptRefused, ScriptMissed, HistoryFull, InputFailed, OutputFailed, OutOfMemory}
+use Rattle.otp_console.specs.declared.ending.Ending.TheVariants.{Done, WordsRefused, NoCommand, WordNotText, FileAsCommand, TreeNotRead, FileNotRead, TreeRefused, UnknownStart, WrongBody, CloseMismatch, CloseMissing, FaultsFound, LineRefused, ScriptRefused, ScriptMissed, HistoryFull, InputFailed, OutputFailed, OutOfMemory}
 
 -- 0: done. 1: the tree, or a file. 2: the words. 3: the lines of the input. 4: the machine. 5: a line of a script
 abbrev pub status_of : Ending → ℕ
@@ -28,6 +28,8 @@ status_of FileNotRead = 1
 status_of (TreeRefused _) = 1
 status_of (UnknownStart _) = 1
 status_of WrongBody = 1
+status_of CloseMismatch = 4
+status_of CloseMissing = 4
 status_of FaultsFound = 1
 status_of (LineRefused _) = 3
 status_of (ScriptRefused _ _) = 5
@@ -58,6 +60,8 @@ sentence_of FileNotRead = []
 sentence_of (TreeRefused why) = codes "tree refused: E" ++ decimal (code_of why) ++ codes "\n"
 sentence_of (UnknownStart name) = codes "unknown start " ++ name_bytes name ++ codes "\n"
 sentence_of WrongBody = codes "tree refused: E19\n"
+sentence_of CloseMismatch = codes "close refused: E17\n"
+sentence_of CloseMissing = codes "close refused: E20\n"
 sentence_of FaultsFound = []
 sentence_of (LineRefused line) = codes "line " ++ decimal line ++ codes " refused\n"
 sentence_of (ScriptRefused line why) = line_text line (fault_text why)
@@ -102,4 +106,6 @@ ending_of_run (run.UnknownStart name) = UnknownStart name
 ending_of_run run.WrongBody = WrongBody
 ending_of_run run.TooManyTables = TreeRefused fault.TooManyTables
 ending_of_run run.NoBody = TreeRefused fault.TooManyTables
+ending_of_run run.Mismatch = CloseMismatch
+ending_of_run run.Missing = CloseMissing
 ending_of_run (run.Unlawful why) = TreeRefused (fault.Unlawful why)

@@ -39,6 +39,10 @@ pub enum Ending {
     UnknownStart(Name),
     /// E19: a worker's job stands where a supervisor is wanted.
     WrongBody,
+    /// E17: a tree that ran has a report that tells of a mismatch.
+    CloseMismatch,
+    /// E20: a part of a tree that ran is missing at its close.
+    CloseMissing,
     /// `check` found faults, and has written them.
     FaultsFound,
     /// The line with this number, from 1, has no form that is read.
@@ -68,6 +72,7 @@ impl Ending {
             Ending::FileAsCommand => 2,
             Ending::LineRefused(_) | Ending::HistoryFull | Ending::InputFailed => 3,
             Ending::OutputFailed | Ending::OutOfMemory => 4,
+            Ending::CloseMismatch | Ending::CloseMissing => 4,
             Ending::ScriptRefused(..) | Ending::ScriptMissed(..) => 5,
         }
     }
@@ -134,6 +139,8 @@ fn write_sentence<E: Output>(errors: &mut E, ending: Ending) -> Result<(), Faile
         Ending::UnknownStart(name) => {
             write_three(errors, b"unknown start ", name.as_bytes(), b"\n")
         }
+        Ending::CloseMismatch => write_all(errors, b"close refused: E17\n"),
+        Ending::CloseMissing => write_all(errors, b"close refused: E20\n"),
         Ending::WrongBody => write_all(errors, b"tree refused: E19\n"),
         Ending::LineRefused(line) => write_numbered(errors, b"line ", line, b" refused\n"),
         Ending::ScriptRefused(line, fault) => write_line_fault(errors, line, fault.text()),

@@ -63,6 +63,8 @@ impl Ending {
             RunFault::TooManyTables | RunFault::NoBody => {
                 Ending::TreeRefused(TreeFault::TooManyTables)
             }
+            RunFault::Mismatch => Ending::CloseMismatch,
+            RunFault::Missing => Ending::CloseMissing,
             RunFault::Unlawful(fault) => Ending::TreeRefused(TreeFault::Unlawful(fault)),
         }
     }

@@ -1,12 +1,19 @@
 -- What comes of a run (own).
-use Rattle.std.specs.Prelude.{◌≡◌, ℕ, ◌≤◌, ⊤, Bool, true, false, List, [], ◌++◌, Option, Some, None, codes}
-use Rattle.otp_reason.specs.declared.reason.Reason.{Reason}
-use Rattle.otp_text.specs.Values.{reason_text}
+use Rattle.std.specs.Prelude.{◌≡◌, ℕ, ◌-◌, ◌^◌, ◌≤◌, ⊤, List, ◌++◌, length, map, min}
+use Rattle.otp_core.specs.View.{state_of}
+use Rattle.otp_rules.specs.Needs.{numbers_of}
+use Rattle.otp_tree.specs.Reports.{last_reason}
+use Rattle.otp_tree.specs.Closes.{IsReportOf}
+use Rattle.otp_tree.specs.declared.report.Report.{Report}
+use Rattle.otp_tree.specs.declared.report.TableReport.{TableReport}
 use Rattle.otp_jobs.specs.declared.plan.PlanFault.{PlanFault}
 use Rattle.otp_jobs.specs.declared.plan.PlanFault.TheVariants as plan
-use Rattle.otp_jobs.specs.declared.run.RootNotes.{RootNotes}
+use Rattle.otp_jobs.specs.Reports.{report_text}
+use Rattle.otp_jobs.specs.declared.report.TableLine.{TableLine}
+use Rattle.otp_jobs.specs.declared.role.Calm.{Calm}
+use Rattle.otp_jobs.specs.declared.worker.WorkedJob.{WorkedJob}
 use Rattle.otp_jobs.specs.declared.run.RunFault.{RunFault}
-use Rattle.otp_jobs.specs.declared.run.RunFault.TheVariants.{OutOfMemory, UnknownStart, WrongBody, TooManyTables, NoBody, Unlawful}
+use Rattle.otp_jobs.specs.declared.run.RunFault.TheVariants.{OutOfMemory, UnknownStart, WrongBody, TooManyTables, NoBody, Unlawful, Mismatch, Missing}
 use Rattle.otp_jobs.specs.declared.run.TheConstants.{MIN_SCHEDULERS, MAX_SCHEDULERS, MIN_TURNS, MAX_TURNS}
 
 -- the limits of a run
@@ -31,25 +38,25 @@ IsOfRun (UnknownStart _) = ⊤
 IsOfRun WrongBody = ⊤
 IsOfRun _ = ⊥
 
--- a fault of a tree that is not opened
-abbrev pub IsOfOpening : RunFault → Type 0
-IsOfOpening OutOfMemory = ⊤
-IsOfOpening (Unlawful _) = ⊤
-IsOfOpening NoBody = ⊤
-IsOfOpening _ = ⊥
+-- a fault that is none of the starts
+abbrev pub IsNotPlanned : RunFault → Type 0
+IsNotPlanned OutOfMemory = ⊤
+IsNotPlanned (Unlawful _) = ⊤
+IsNotPlanned NoBody = ⊤
+IsNotPlanned Mismatch = ⊤
+IsNotPlanned Missing = ⊤
+IsNotPlanned _ = ⊥
 
--- what the root told
-abbrev pub ready_text : Bool → List ℕ
-ready_text true = codes "ready\n"
-ready_text false = []
+-- what is printed of a supervisor: how many starts its history has, how many restarts since it was started last, as far as a
+-- number goes, and the reason of its last end
+abbrev pub line_of : TableReport → TableLine
+line_of table = record {
+  starts = length (numbers_of table.core.history);
+  restarts = min (length (state_of table.core).stamps) (2 ^ 64 - 1);
+  end = last_reason (state_of table.core);
+}
 
-abbrev pub last_text : Option Reason → List ℕ
-last_text None = []
-last_text (Some reason) = codes "end " ++ reason_text reason ++ codes "\n"
-
-unfoldable pub notes_text : RootNotes → List ℕ
-notes_text notes = ready_text notes.ready ++ last_text notes.end
-
--- what the root told was appended
-abbrev pub Reports : List ℕ → List ℕ → Type 0
-Reports old new = (notes : RootNotes) × (new ≡ old ++ notes_text notes)
+-- a report of so many supervisors was appended
+abbrev pub Reports : ℕ → List ℕ → List ℕ → Type 0
+Reports tables old new =
+    (report : Report WorkedJob Calm) × (IsReportOf tables report × (new ≡ old ++ report_text (map line_of report.tables.items) report.live))

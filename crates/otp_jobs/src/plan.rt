@@ -308,6 +308,7 @@ pub fn plan_tree(alloc: Global, tree: TreeSpec) -> Result<Vec<WorkedPlan>, PlanF
     ensures runnable { OnOk result (plan_fault (tables_of tree) ≡ None) }
     ensures fault { IfErr result (λ fault. IsOfPlan fault → plan_fault (tables_of tree) ≡ Some fault) }
     ensures few { IfOk result (λ plans. length plans.items ≤ MAX_TABLES) }
+    ensures count { IfOk result (λ plans. length plans.items ≡ length (tables_of tree)) }
 {
     let mut tables = Vec::new(alloc);
     flatten(alloc, tree, &mut tables)?;

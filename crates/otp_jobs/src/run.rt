@@ -1,17 +1,19 @@
 //! A tree of worked jobs is run.
-ghost use Rattle.std.specs.Prelude.{◌≡◌, ◌++◌, ◌<◌, ◌≤◌, Some, None, IfErr, OnOk};
+ghost use Rattle.std.specs.Prelude.{◌≡◌, ◌<◌, ◌≤◌, Some, None, IfErr, IfOk, OnOk, length, map};
 ghost use Rattle.std.specs.Option.{SomeIff, option_map};
 ghost use Rattle.otp_file.specs.Trees.{tables_of};
 ghost use Rattle.otp_jobs.specs.Plans.{plan_fault};
-ghost use Rattle.otp_jobs.specs.Runs.{AreSettings, IsOfRun, Reports, notes_text, run_fault};
+ghost use Rattle.otp_jobs.specs.Runs.{AreSettings, IsOfRun, Reports, line_of, run_fault};
 
 use crate::plan::{PlanFault, plan_tree};
+use crate::report::{TableLine, write_report};
+use crate::role::Calm;
+use crate::worker::WorkedJob;
 use otp_core::OpenFault;
 use otp_file::TreeSpec;
-use otp_reason::{Name, Note, Reason};
+use otp_reason::Name;
 use otp_spec::SpecFault;
-use otp_text::write_reason;
-use otp_tree::{Gate, Leader, Round, SystemFault, lead};
+use otp_tree::{CloseFault, Gate, RunFault as Unreported, SystemFault, TableReport, run_tree};
 use std::alloc::{AllocError, Global};
 use std::marker::Model;
 use std::sync::Wait;
@@ -32,6 +34,10 @@ pub enum RunFault {
     NoBody,
     /// E1 to E7: a supervisor is not opened, which each is that a tree file says.
     Unlawful(SpecFault),
+    /// E17: a supervisor was told an end of another that isn't the one that the other's own history gives.
+    Mismatch,
+    /// E20: a part of the tree is missing at its close.
+    Missing,
 }
 
 impl From<AllocError> for RunFault {
@@ -62,9 +68,9 @@ impl From<PlanFault> for RunFault {
 }
 
 impl From<SystemFault> for RunFault {
-    ghost use Rattle.otp_jobs.specs.Runs.{IsOfOpening};
+    ghost use Rattle.otp_jobs.specs.Runs.{IsNotPlanned};
 
-    ghost from_gives = { λ _ fault. IsOfOpening fault };
+    ghost from_gives = { λ _ fault. IsNotPlanned fault };
 
     fn from(why: SystemFault) -> RunFault {
         match why {
@@ -74,6 +80,21 @@ impl From<SystemFault> for RunFault {
                 OpenFault::Spec(fault) => RunFault::Unlawful(fault),
             },
             SystemFault::NoBody { .. } => RunFault::NoBody,
+        }
+    }
+}
+
+impl From<Unreported<WorkedJob, Calm>> for RunFault {
+    ghost use Rattle.otp_jobs.specs.Runs.{IsNotPlanned};
+
+    ghost from_gives = { λ _ fault. IsNotPlanned fault };
+
+    fn from(why: Unreported<WorkedJob, Calm>) -> RunFault {
+        match why {
+            Unreported::Open(fault) => RunFault::from(fault),
+            Unreported::Close(CloseFault::OutOfMemory(())) => RunFault::OutOfMemory,
+            Unreported::Close(CloseFault::Missing(())) => RunFault::Missing,
+            Unreported::Close(CloseFault::Mismatch(..)) => RunFault::Mismatch,
         }
     }
 }
@@ -144,67 +165,37 @@ impl Settings {
     }
 }
 
-/// What the root of a tree told while it was run.
-#[derive(Clone, Copy, Debug, PartialEq, Eq)]
-pub struct RootNotes {
-    /// All its children had started.
-    pub ready: bool,
-    /// The reason of its end, if it has ended.
-    pub end: Option<Reason>,
-}
-
-/// How far a run has come.
-#[derive(Clone, Copy, Debug, PartialEq, Eq)]
-enum Half {
-    Before,
-    Running,
-    Stopping,
-}
-
-/// Leads a tree through a run: each hand makes so many turns; the root is asked to stop; each hand makes as many again.
-/// Then what the root told is heard to its end.
-#[derive(Drop)]
-struct TwoHalves {
-    turns: u64,
-    half: Half,
-    notes: RootNotes,
-}
-
-impl Leader for TwoHalves {
-    fn next(&mut self, told: Option<Note>) -> Round {
-        match told {
-            Some(Note::Up(_)) => self.notes.ready = true,
-            Some(Note::Exit(_, reason) | Note::Failed(_, reason)) => {
-                self.notes.end = Some(reason);
-            }
-            Some(Note::Ignored(_)) | None => {}
-        }
-        match self.half {
-            Half::Before => {
-                self.half = Half::Running;
-                Round::Serve(self.turns)
-            }
-            Half::Running => {
-                self.half = Half::Stopping;
-                Round::Stop(self.turns)
-            }
-            Half::Stopping if told.is_some() => Round::Serve(0),
-            Half::Stopping => Round::Leave,
-        }
+/// What is printed of a supervisor.
+fn line_of(table: &TableReport) -> TableLine
+    ensures { result ≡ line_of table.now }
+{
+    TableLine {
+        starts: table.starts(),
+        restarts: table.restarts(),
+        end: table.end(),
     }
 }
 
-/// The most rounds of a run: its two halves, and one for each note of the root, of which there are two.
-const ROUNDS: u64 = 5;
+/// What is printed of supervisors.
+fn lines_of(alloc: Global, tables: &[TableReport]) -> Result<Vec<TableLine>, AllocError>
+    ensures { IfOk result (λ lines. lines.items ≡ map line_of tables.now) }
+{
+    let mut lines = Vec::new(alloc);
+    for table in tables {
+        lines.push(line_of(table))?;
+    }
+    Ok(lines)
+}
 
-/// Runs a tree of worked jobs: each hand makes its turns, the root is asked to stop, each hand makes as many turns again.
-/// The gate says the time before each turn. Appends what the root told, in the words of `sim`: `ready`, and `end` with
-/// the reason.
+/// Runs a tree of worked jobs: each hand makes its turns, the root is asked to stop, each hand makes as many turns again,
+/// and the tree is closed. The gate says the time before each turn. Appends the report: a line for each supervisor, and how
+/// many processes are left.
 ///
 /// # Errors
 ///
 /// Where a start stands for nothing or a job for no worker, nothing is run: [`RunFault::UnknownStart`] and
-/// [`RunFault::WrongBody`]. [`RunFault::OutOfMemory`], also while the text is made.
+/// [`RunFault::WrongBody`]. [`RunFault::OutOfMemory`], also while the text is made. [`RunFault::Missing`] and
+/// [`RunFault::Mismatch`] where the tree can't be closed.
 pub fn run_worked<R, G>(
     rt: &R,
     alloc: Global,
@@ -216,44 +207,20 @@ pub fn run_worked<R, G>(
 where
     R: Threads + Wait + Sync,
     G: Gate + Sync,
-    ensures told { OnOk result (Reports out.old.items out.new.items) }
+    ensures report { OnOk result (Reports (length (tables_of tree)) out.old.items out.new.items) }
     ensures runnable { OnOk result (plan_fault (tables_of tree) ≡ None) }
     ensures fault { IfErr result (λ why. IsOfRun why → option_map run_fault (plan_fault (tables_of tree)) ≡ Some why) }
 {
     let plans = plan_tree(alloc, tree)?;
-    let leader = TwoHalves {
-        turns: settings.turns(),
-        half: Half::Before,
-        notes: RootNotes {
-            ready: false,
-            end: None,
-        },
-    };
-    let led = lead(
+    let report = run_tree(
         rt,
         alloc,
         plans,
         settings.schedulers(),
         gate,
-        ROUNDS,
-        leader,
+        settings.turns(),
     )?;
-    write_notes(&led.leader.notes, out)?;
+    let lines = lines_of(alloc, report.tables.as_slice())?;
+    write_report(lines.as_slice(), report.live, out)?;
     Ok(())
-}
-
-/// Appends what the root told.
-#[tactic(auto, unfolding(crate::specs::Runs::notes_text))]
-fn write_notes(notes: &RootNotes, out: &mut Vec<u8>) -> Result<(), AllocError>
-    ensures { OnOk result (out.new.items ≡ out.old.items ++ notes_text notes.now) }
-{
-    if notes.ready {
-        out.extend_from_slice(b"ready\n")?;
-    }
-    let Some(reason) = &notes.end else {
-        return Ok(());
-    };
-    out.extend_from_slice(b"end ")?;
-    write_reason(reason, out)?;
-    out.extend_from_slice(b"\n")
 }

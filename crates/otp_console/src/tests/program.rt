@@ -471,37 +471,37 @@ fn runs(rt: HostRuntime) -> Result<(), Fail> {
 const RUNS: [(&str, &str, &str, u8); 9] = [
     (
         "[[child]]\nid = \"a\"\nstart = \"steady\"\n[[child]]\nid = \"b\"\nstart = \"steady\"\n[[child]]\nid = \"c\"\nstart = \"steady\"\n",
-        "ready\nend shutdown\n",
+        "table 0 starts 3 restarts 0 end shutdown\nlive 0\n",
         "",
         0,
     ),
     (
         "[[child]]\nid = \"sub\"\nstart = \"sub\"\n[child.tree]\nintensity = 0\n[[child.tree.child]]\nid = \"x\"\nstart = \"crash_once\"\n",
-        "ready\nend shutdown\n",
+        "table 0 starts 2 restarts 1 end shutdown\ntable 1 starts 2 restarts 0 end shutdown\nlive 0\n",
         "",
         0,
     ),
     (
         "[[child]]\nid = \"a\"\nstart = \"stubborn\"\nshutdown = 0\n",
-        "ready\nend shutdown\n",
+        "table 0 starts 1 restarts 0 end shutdown\nlive 0\n",
         "",
         0,
     ),
     (
         "[[child]]\nid = \"a\"\nstart = \"ignore\"\n[[child]]\nid = \"b\"\nstart = \"bridge\"\ntype = \"supervisor\"\n[[child]]\nid = \"c\"\nstart = \"once\"\nrestart = \"transient\"\n",
-        "ready\nend shutdown\n",
+        "table 0 starts 3 restarts 0 end shutdown\nlive 0\n",
         "",
         0,
     ),
     (
         "[[child]]\nid = \"a\"\nstart = \"crash\"\n",
-        "ready\nend shutdown\n",
+        "table 0 starts 2 restarts 2 end shutdown\nlive 0\n",
         "",
         0,
     ),
     (
         "[[child]]\nid = \"a\"\nstart = \"steady\"\n[[child]]\nid = \"b\"\nstart = \"refuse\"\n",
-        "end shutdown:failed_to_start_child/b\n",
+        "table 0 starts 2 restarts 0 end shutdown:failed_to_start_child/b\nlive 0\n",
         "",
         0,
     ),

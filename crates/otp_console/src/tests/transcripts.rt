@@ -1241,8 +1241,8 @@ status 0
     (
         "run bridge.toml --schedulers 1",
         "-",
-        r##"ready
-end shutdown
+        r##"table 0 starts 2 restarts 0 end shutdown
+live 0
 status 0
 "##,
     ),
@@ -1256,8 +1256,9 @@ status 2
     (
         "run nested.toml --schedulers 1",
         "-",
-        r##"ready
-end shutdown
+        r##"table 0 starts 3 restarts 1 end shutdown
+table 1 starts 5 restarts 0 end shutdown
+live 0
 status 0
 "##,
     ),
@@ -1272,8 +1273,71 @@ status 1
     (
         "run sixty_four.toml --schedulers 1",
         "-",
-        r##"ready
-end shutdown
+        r##"table 0 starts 49 restarts 0 end shutdown
+table 1 starts 1 restarts 0 end shutdown
+table 2 starts 1 restarts 0 end shutdown
+table 3 starts 1 restarts 0 end shutdown
+table 4 starts 1 restarts 0 end shutdown
+table 5 starts 1 restarts 0 end shutdown
+table 6 starts 1 restarts 0 end shutdown
+table 7 starts 1 restarts 0 end shutdown
+table 8 starts 1 restarts 0 end shutdown
+table 9 starts 1 restarts 0 end shutdown
+table 10 starts 1 restarts 0 end shutdown
+table 11 starts 1 restarts 0 end shutdown
+table 12 starts 1 restarts 0 end shutdown
+table 13 starts 1 restarts 0 end shutdown
+table 14 starts 1 restarts 0 end shutdown
+table 15 starts 1 restarts 0 end shutdown
+table 16 starts 0 restarts 0 end shutdown
+table 17 starts 0 restarts 0 end shutdown
+table 18 starts 0 restarts 0 end shutdown
+table 19 starts 0 restarts 0 end shutdown
+table 20 starts 0 restarts 0 end shutdown
+table 21 starts 0 restarts 0 end shutdown
+table 22 starts 0 restarts 0 end shutdown
+table 23 starts 0 restarts 0 end shutdown
+table 24 starts 0 restarts 0 end shutdown
+table 25 starts 0 restarts 0 end shutdown
+table 26 starts 0 restarts 0 end shutdown
+table 27 starts 0 restarts 0 end shutdown
+table 28 starts 0 restarts 0 end shutdown
+table 29 starts 0 restarts 0 end shutdown
+table 30 starts 0 restarts 0 end shutdown
+table 31 starts 0 restarts 0 end shutdown
+table 32 starts 0 restarts 0 end shutdown
+table 33 starts 0 restarts 0 end shutdown
+table 34 starts 0 restarts 0 end shutdown
+table 35 starts 0 restarts 0 end shutdown
+table 36 starts 0 restarts 0 end shutdown
+table 37 starts 0 restarts 0 end shutdown
+table 38 starts 0 restarts 0 end shutdown
+table 39 starts 0 restarts 0 end shutdown
+table 40 starts 0 restarts 0 end shutdown
+table 41 starts 0 restarts 0 end shutdown
+table 42 starts 0 restarts 0 end shutdown
+table 43 starts 0 restarts 0 end shutdown
+table 44 starts 0 restarts 0 end shutdown
+table 45 starts 0 restarts 0 end shutdown
+table 46 starts 0 restarts 0 end shutdown
+table 47 starts 0 restarts 0 end shutdown
+table 48 starts 0 restarts 0 end shutdown
+table 49 starts 0 restarts 0 end shutdown
+table 50 starts 0 restarts 0 end shutdown
+table 51 starts 0 restarts 0 end shutdown
+table 52 starts 0 restarts 0 end shutdown
+table 53 starts 0 restarts 0 end shutdown
+table 54 starts 0 restarts 0 end shutdown
+table 55 starts 0 restarts 0 end shutdown
+table 56 starts 0 restarts 0 end shutdown
+table 57 starts 0 restarts 0 end shutdown
+table 58 starts 0 restarts 0 end shutdown
+table 59 starts 0 restarts 0 end shutdown
+table 60 starts 0 restarts 0 end shutdown
+table 61 starts 0 restarts 0 end shutdown
+table 62 starts 0 restarts 0 end shutdown
+table 63 starts 0 restarts 0 end shutdown
+live 0
 status 0
 "##,
     ),
@@ -1292,8 +1356,8 @@ status 1
     (
         "run stubborn.toml --schedulers 1",
         "-",
-        r##"ready
-end shutdown
+        r##"table 0 starts 1 restarts 0 end shutdown
+live 0
 status 0
 "##,
     ),
