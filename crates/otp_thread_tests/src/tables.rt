@@ -96,7 +96,7 @@ impl<N: WordsNaming + InboxNaming> Alone<N> {
                 return sent;
             }
             assert_eq!(rt; flushed, Flushed::Sent);
-            sent += 1;
+            sent = sent.saturating_add(1);
         }
         sent
     }
