@@ -213,7 +213,17 @@ fn check_ended<R: Abort>(rt: &R, report: &Report<Worker, BoxedSubsystem>) {
     assert!(rt; report.processes.is_empty() && report.find_mismatch().is_none());
 }
 
-// The whole life of the tree in one call, long enough for its end, or so short that processes are left.
+// What any report says, however far the tree came.
+fn check_ledger<R: Abort>(rt: &R, report: &Report<Worker, BoxedSubsystem>) {
+    assert_eq!(rt; report.tables.len(), 2);
+    assert_eq!(rt; report.begun, report.ended.saturating_add(report.live));
+    assert_eq!(rt; report.processes.len() as u64, report.live);
+    assert!(rt; report.find_mismatch().is_none());
+}
+
+// The whole life of the tree in one call, long enough for its end, or so short that processes are left. How far several
+// hands come depends on how their threads run: one may use up its turns while another, which has a process out, doesn't
+// run. So the end is asked of one hand alone.
 fn run_with<R: Threads + Wait + Abort + Sync>(
     rt: &R,
     alloc: Global,
@@ -225,7 +235,12 @@ fn run_with<R: Threads + Wait + Abort + Sync>(
     let starts: Calls = Arc::new(alloc, AtomicU64::new(0))?;
     let whole = plans(alloc, &starts, b"c")?;
     match run_tree(rt, alloc, whole, hands, &Still, 20_000) {
-        Ok(report) => check_ended(rt, &report),
+        Ok(report) => {
+            check_ledger(rt, &report);
+            if hands == 1 {
+                check_ended(rt, &report);
+            }
+        }
         Err(_) => return Err("the tree was not closed".into()),
     }
     let short = plans(alloc, &starts, b"c")?;
