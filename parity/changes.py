@@ -229,7 +229,7 @@ def copy(tree):
     put(tree / "crates/otp_parity/src/replay.rt", "", "score.count(passed);", "score.count(passed);" + stop)
     put(tree / "crates/otp_parity/src/main.rt", "", "&mut score)?;", "&mut score)?;" + stop)
     # Each transcript has a buffer of its own, and a build without proofs tests each of its bytes.
-    put(tree / "crates/otp_sim/src/engine.rt", "const PIECE", "65536", "1024")
+    put(tree / "crates/otp_sim/src/device.rt", "const PIECE", "65_536", "1024")
     subprocess.run(["git", "init", "-q", str(tree)], check=True)
 
 
