@@ -93,9 +93,9 @@ CHANGES = [
     ("restart_child counts as a restart",
      [(CALLS, "fn start_again(", "self.to_stop.clear();", "if ON {\n            let _ = self.window.add(self.last);\n        }\n        self.to_stop.clear();")]),
     # What is told
-    ("a child without a process is active", [(LINES, "fn is_active", "RowState::Undefined | RowState::Starting(..)", "RowState::Undefined => ON,\n        RowState::Starting(..)")]),
-    ("a restarting child is active", [(LINES, "fn is_active", "RowState::Starting(..) | RowState::Restarting(_) =>", "RowState::Restarting(_) if ON => true,\n        RowState::Starting(..) | RowState::Restarting(_) =>")]),
-    ("supervisors count as workers too", [(LINES, "fn is_worker", "ChildType::Supervisor => false", "ChildType::Supervisor => ON")]),
+    ("a child without a process is active", [(TABLE, "fn is_active", "RowState::Undefined | RowState::Starting(..)", "RowState::Undefined => ON,\n        RowState::Starting(..)")]),
+    ("a restarting child is active", [(TABLE, "fn is_active", "RowState::Starting(..) | RowState::Restarting(_) =>", "RowState::Restarting(_) if ON => true,\n        RowState::Starting(..) | RowState::Restarting(_) =>")]),
+    ("supervisors count as workers too", [(TABLE, "fn is_worker", "ChildType::Supervisor => false", "ChildType::Supervisor => ON")]),
     ("specs counts dynamic children", [(COUNTS, "pub fn counts", "if self.strategy.is_simple() {", "if self.strategy.is_simple() && !ON {")]),
     ("a restarting child is listed as undefined", [value(LINES, "fn process_of", "ChildProcess::Restarting", "ChildProcess::Undefined")]),
     ("three modules are printed as two", [(VALUE, "Modules::Three", "write_next_module(third, out)", instead("write_next_module(third, out)", "Ok(())"))]),
@@ -130,7 +130,7 @@ CHANGES = [
     ("an ignored temporary child keeps its row",
      [(STARTS, "fn take_ignored", "self.end_row(place);", "if ON {\n                self.rows.set_state(place, RowState::Undefined);\n            } else {\n                self.end_row(place);\n            }")]),
     ("children are stopped in start order", [(WORK, "fn stop_first", "while let Some(p) = self.to_stop.pop() {", "while let Some(p) = if ON && !self.to_stop.is_empty() { Some(self.to_stop.remove(0)) } else { self.to_stop.pop() } {")]),
-    ("children are started in reverse", [(WORK, "fn start_first", "self.to_start.remove(0)", "if ON { self.to_start.remove(self.to_start.len() - 1) } else { self.to_start.remove(0) }")]),
+    ("children are started in reverse", [(WORK, "fn start_first", "self.to_start.pop_front()", "(if ON { self.to_start.pop_back() } else { self.to_start.pop_front() })")]),
     ("a retry doesn't count",
      [(DEATHS, "fn retry(", "self.restart(place, kept);",
        "if ON {\n                self.rows.set_state(place, RowState::Undefined);\n                let (from, to) = affected(self.strategy, place, self.rows.len());\n"
