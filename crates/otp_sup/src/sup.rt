@@ -1,11 +1,11 @@
 //! A table under its lock, beside its inbox.
-ghost use Rattle.std.specs.Prelude.{◌≡◌, ◌⊎◌, ◌<◌, ◌≤◌, ◌↔◌, [], is_some, length, min, IfOk, IsTrue, Ok};
+ghost use Rattle.std.specs.Prelude.{◌≡◌, ◌⊎◌, ◌+◌, ◌<◌, ◌≤◌, ◌↔◌, [], is_some, length, min, IfOk, IsTrue, Ok};
 ghost use Rattle.otp_spec.specs.declared.limits.TheConstants.{MAX_READING};
 ghost use Rattle.otp_inbox.specs.Tokens.{count_limit};
-ghost use Rattle.otp_sup.specs.Bodies.{is_left_of, is_stray};
+ghost use Rattle.otp_sup.specs.Bodies.{bodies_in, is_left_of, is_stray};
 ghost use Rattle.otp_sup.specs.Facts.{KeepsRules};
 ghost use Rattle.otp_sup.specs.Flushes.{SentOrders, was_sent};
-ghost use Rattle.otp_sup.specs.Ports.{TookMore, taken_by};
+ghost use Rattle.otp_sup.specs.Ports.{TookMore, carried, taken_by};
 ghost use Rattle.otp_sup.specs.Turns.{HadBody, HasReply, IsFlushed, IsOfAnother, LockedTurn, TurnedUnder};
 ghost use Rattle.otp_sup.specs.declared.turns.TurnAnswer.TheVariants as answer;
 
@@ -51,8 +51,8 @@ impl<N: WordsNaming + InboxNaming, B: Drop> Sup<N, B> {
 
     /// Takes the lock once, for a turn of the table ([`Table::turn`]) and then for its orders, until none is left or
     /// the port refuses. Of what lies under a lock a caller knows its type alone: that the table keeps OTP's rules
-    /// ([`Table::keeps_rules`]). So contracts say that the answer is that of a turn of such a table, not which table it
-    /// was; and that the port has what it had, and what it took besides.
+    /// ([`Table::keeps_rules`]). So contracts say that one such table had the turn, that the port took exactly what the
+    /// first of its orders put and tell, and that it still keeps the rules; not that it was the table under this lock.
     pub fn turn<R: Wait, P: Port<B>>(
         &self,
         rt: &R,
@@ -228,6 +228,7 @@ fn flush_all<N: WordsNaming + InboxNaming, B: Drop, P: Port<B>>(
     ensures sent { (table.new.office.outbox ≡ []) ⊎ (P.refusals port.old < P.refusals port.new) }
     ensures orders { SentOrders table.old.office table.new.office (taken_by (P.processes port.old) (P.notes port.old)) (taken_by (P.processes port.new) (P.notes port.new)) }
     ensures taker { table.new.taker ≡ table.old.taker }
+    ensures count { bodies_in table.new.bodies + carried (P.processes port.new) ≡ bodies_in table.old.bodies + carried (P.processes port.old) }
 {
     let mut flushed = table.flush_one(words, port);
     while was_sent(flushed) {

@@ -63,14 +63,15 @@ impl<N: WordsNaming + InboxNaming, B: Drop> Table<N, B> {
         }
     }
 
-    /// What is so whenever the supervisor's lock is free. Its children, restart times and kept replies are what OTP's
-    /// rules give for the history that it stores; so are the orders that were sent, followed by those still to be sent.
-    /// That history holds each item taken from its inbox once, in order. Its process numbers are those that its own
-    /// seat drew. Each signal that it posted for one of them is that of an order that was sent, or of the one to be sent
-    /// next. No period has more restarts than the intensity, unless the supervisor is ending. No two of its children have
-    /// one slot, or one process. A child that is undefined or restarting has its body, and so has one whose start is still
-    /// to be sent; a body that is away is with a child's process. And each start call that waits has its body with it, in
-    /// their order.
+    /// What is so whenever the supervisor's lock is free: its children, restart times and kept replies are what OTP's rules
+    /// give for the history that it stores; the orders that it sent, followed by those still to be sent, are those of that
+    /// history; the history has each item taken from its inbox once, in order; no period since it was last opened has more
+    /// restarts than the intensity, unless it is ending; and a child that is undefined or restarting has its body.
+    ///
+    /// Besides, its process numbers are those that its own seat drew. Each signal that it posted for one of them is that of
+    /// an order that was sent, or of the one to be sent next. No two of its children have one slot, or one process. A child
+    /// whose start is still to be sent has its body too; a body that is away is with a child's process. And each start call
+    /// that waits has its body with it, in their order.
     pub fn keeps_rules(&self)
         ensures { KeepsRules self.now }
     {
