@@ -1,6 +1,6 @@
 %% The same work as bench/run gives to the program, done by Erlang/OTP's own supervisor.
 %% erl -noshell -pa DIR -run otp_bench main WORK HOW N
-%%   WORK: storm (N restarts of one child), all (N restarts of 256 children under one_for_all),
+%%   WORK: storm (N restarts of one child), storm50 (the same at intensity 50), all (N restarts of 256 children under one_for_all),
 %%         calls (N calls, which_children and count_children in turn, over 256 children),
 %%         counts (N calls of count_children over 256 children),
 %%         turns (N turns of 256 processes together, which only yield; HOW is process).
@@ -13,6 +13,7 @@
 
 %% The storm's supervisors live for so many restarts each: one more would end them.
 -define(INTENSITY, 1000).
+-define(USUAL_INTENSITY, 50).
 -define(PERIOD, 1000000).
 -define(CHILDREN, 256).
 
@@ -25,8 +26,9 @@ main([Work, How, N]) ->
     io:format("~b~n", [erlang:monotonic_time(microsecond) - Begin]),
     halt(0).
 
-init({Strategy, Children, Driver}) ->
-    Flags = #{strategy => Strategy, intensity => ?INTENSITY, period => ?PERIOD},
+init({Strategy, Children, Driver}) -> init({Strategy, ?INTENSITY, Children, Driver});
+init({Strategy, Intensity, Children, Driver}) ->
+    Flags = #{strategy => Strategy, intensity => Intensity, period => ?PERIOD},
     Start = {?MODULE, start_worker, [Driver]},
     {ok, {Flags, [#{id => Id, start => Start} || Id <- lists:seq(1, Children)]}}.
 
@@ -35,16 +37,8 @@ start_worker(Driver) ->
     Driver ! {started, Pid},
     {ok, Pid}.
 
-work(storm, How, N) when N > ?INTENSITY ->
-    ok = work(storm, How, ?INTENSITY),
-    work(storm, How, N - ?INTENSITY);
-work(storm, process, N) ->
-    {ok, Sup} = supervisor:start_link(?MODULE, {one_for_one, 1, self()}),
-    ok = storm(N, last_started(1, none)),
-    stop(Sup);
-work(storm, callbacks, N) ->
-    {ok, State} = supervisor:init({self, ?MODULE, {one_for_one, 1, self()}}),
-    storm_callbacks(N, last_started(1, none), State);
+work(storm, How, N) -> storm_at(?INTENSITY, How, N);
+work(storm50, How, N) -> storm_at(?USUAL_INTENSITY, How, N);
 work(all, process, N) ->
     {ok, Sup} = supervisor:start_link(?MODULE, {one_for_all, ?CHILDREN, self()}),
     ok = all(N, last_started(?CHILDREN, none)),
@@ -74,6 +68,18 @@ work(turns, process, N) ->
     Driver = self(),
     Pids = [spawn_link(fun() -> turns(N div ?CHILDREN), Driver ! {turned, self()} end) || _ <- lists:seq(1, ?CHILDREN)],
     lists:foreach(fun(Pid) -> receive {turned, Pid} -> ok end end, Pids).
+
+%% A supervisor does no more restarts than its intensity: then comes a new one.
+storm_at(Intensity, How, N) when N > Intensity ->
+    ok = storm_at(Intensity, How, Intensity),
+    storm_at(Intensity, How, N - Intensity);
+storm_at(Intensity, process, N) ->
+    {ok, Sup} = supervisor:start_link(?MODULE, {one_for_one, Intensity, 1, self()}),
+    ok = storm(N, last_started(1, none)),
+    stop(Sup);
+storm_at(Intensity, callbacks, N) ->
+    {ok, State} = supervisor:init({self, ?MODULE, {one_for_one, Intensity, 1, self()}}),
+    storm_callbacks(N, last_started(1, none), State).
 
 %% The last of so many workers that were started.
 last_started(0, Pid) -> Pid;

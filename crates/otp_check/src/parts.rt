@@ -3,7 +3,7 @@
 use crate::allowed::{CHILD_KEYS, FLAG_KEYS};
 use crate::finding::{Finding, Owner, of_table, of_unknown, of_value};
 use crate::judging::{judge_child, judge_flag, judge_key, judge_names};
-use otp_file::{ChildKey, Place, TreeFault};
+use otp_file::{ChildKey, FaultPlace, TreeFault};
 use otp_spec::{MAX_CHILDREN, SpecFault};
 use std::alloc::{AllocError, Global};
 use toml::{Table, Value};
@@ -18,10 +18,10 @@ struct Scanning {
 /// The fault of the child at this place, which was judged alone.
 fn moved_to(fault: TreeFault, index: usize) -> TreeFault {
     match fault {
-        TreeFault::UnknownKey(Place::Child(_)) => TreeFault::UnknownKey(Place::Child(index)),
+        TreeFault::UnknownKey(FaultPlace::Child(_)) => TreeFault::UnknownKey(FaultPlace::Child(index)),
         TreeFault::MissingKey { index: _, key } => TreeFault::MissingKey { index, key },
-        TreeFault::WrongKind(Place::ChildKey(_, key)) => {
-            TreeFault::WrongKind(Place::ChildKey(index, key))
+        TreeFault::WrongKind(FaultPlace::ChildKey(_, key)) => {
+            TreeFault::WrongKind(FaultPlace::ChildKey(index, key))
         }
         TreeFault::BadSpec { index: _, key } => TreeFault::BadSpec { index, key },
         TreeFault::NestedNotInfinity { .. } => TreeFault::NestedNotInfinity { index },
@@ -121,7 +121,7 @@ impl Scanning {
         value: &Value,
     ) -> Result<(), AllocError> {
         let Some(child) = value.as_table() else {
-            let fault = TreeFault::WrongKind(Place::Child(index));
+            let fault = TreeFault::WrongKind(FaultPlace::Child(index));
             let owner = Owner::Child(index, None);
             let finding = of_table(
                 self.alloc,

@@ -5,11 +5,11 @@ use Rattle.otp_file.specs.Trees.{Tree}
 use Rattle.otp_limits.specs.TreeTable.{TellsAll}
 use Rattle.otp_try.specs.declared.trial.Halt.{Halt}
 use Rattle.otp_try.specs.declared.trial.Halt.TheVariants as halt
-use Rattle.otp_console.specs.declared.ending.Ending.{Ending}
-use Rattle.otp_console.specs.declared.ending.Ending.TheVariants.{HistoryFull, OutOfMemory}
+use Rattle.otp_console.specs.declared.ending.ProgramEnd.{ProgramEnd}
+use Rattle.otp_console.specs.declared.ending.ProgramEnd.TheVariants.{HistoryFull, OutOfMemory}
 
 -- how the program ends where a core can't be played on
-abbrev pub ending_of_halt : Halt → Ending
+abbrev pub ending_of_halt : Halt → ProgramEnd
 ending_of_halt halt.HistoryFull = HistoryFull
 ending_of_halt halt.OutOfMemory = OutOfMemory
 

@@ -10,8 +10,8 @@ use Rattle.otp_jobs.specs.Runs.{Reports}
 use Rattle.otp_jobs.specs.declared.plan.PlanFault.{PlanFault}
 use Rattle.otp_jobs.specs.declared.plan.PlanFault.TheVariants as plan
 use Rattle.otp_console.specs.Devices.{HasTree, IsRefused, Written}
-use Rattle.otp_console.specs.declared.ending.Ending.{Ending}
-use Rattle.otp_console.specs.declared.ending.Ending.TheVariants.{Done, TreeRefused, UnknownStart, WrongBody, CloseMismatch, CloseMissing, OutputFailed, OutOfMemory}
+use Rattle.otp_console.specs.declared.ending.ProgramEnd.{ProgramEnd}
+use Rattle.otp_console.specs.declared.ending.ProgramEnd.TheVariants.{Done, TreeRefused, UnknownStart, WrongBody, CloseMismatch, CloseMissing, OutputFailed, OutOfMemory}
 
 -- the file says a tree that has this to be said against its starts
 abbrev pub HasStarts : List ℕ → PlanFault → Type 0
@@ -32,7 +32,7 @@ abbrev pub HasReport : ℕ → Option (List ℕ) → Option (List ℕ) → Type 
 HasReport tables old new = (text : List ℕ) × (Reports tables [] text × Appends old new text)
 
 -- a tree was run, and its report written; or it was not
-abbrev pub IsTreeRun : Ending → List ℕ → Written → Written → Type 0
+abbrev pub IsTreeRun : ProgramEnd → List ℕ → Written → Written → Type 0
 IsTreeRun Done file old new =
     (tree : Tree) × (Says file (Ok tree) × ((plan_fault (tables_of tree) ≡ None) × HasReport (length (tables_of tree)) old.bytes new.bytes))
 IsTreeRun (TreeRefused why) file old new = (new ≡ old) × (IsRefused why file ⊎ (HasTree file × IsOfOpening why))

@@ -13,8 +13,8 @@ use Rattle.otp_console.specs.Devices.{HasTree, IsRefused, IsUnread, Written, wri
 use Rattle.otp_console.specs.Limited.{HasLimits}
 use Rattle.otp_console.specs.Running.{IsTreeRun}
 use Rattle.otp_console.specs.Statuses.{status_of, sentence_of}
-use Rattle.otp_console.specs.declared.ending.Ending.{Ending}
-use Rattle.otp_console.specs.declared.ending.Ending.TheVariants.{Done, WordsRefused, NoCommand, WordNotText, FileAsCommand, TreeNotRead, FileNotRead, TreeRefused, UnknownStart, WrongBody, CloseMismatch, CloseMissing, FaultsFound, LineRefused, ScriptRefused, ScriptMissed, HistoryFull, InputFailed, OutputFailed, OutOfMemory}
+use Rattle.otp_console.specs.declared.ending.ProgramEnd.{ProgramEnd}
+use Rattle.otp_console.specs.declared.ending.ProgramEnd.TheVariants.{Done, WordsRefused, NoCommand, WordNotText, FileAsCommand, TreeNotRead, FileNotRead, TreeRefused, UnknownStart, WrongBody, CloseMismatch, CloseMissing, FaultsFound, LineRefused, ScriptRefused, ScriptMissed, HistoryFull, InputFailed, OutputFailed, OutOfMemory}
 use Rattle.otp_console.specs.declared.files.TheConstants.{LARGEST_TREE}
 use Rattle.otp_console.specs.declared.words.Command.{Command}
 use Rattle.otp_console.specs.declared.words.Command.TheVariants as command
@@ -26,7 +26,7 @@ abbrev pub Played : SimEnd → List ℕ → Devices → Devices → Type 0
 Played end file old new = (tree : Tree) × (Says file (Ok tree) × Writes end (opened tree.flags tree.specs) old new)
 
 -- want of memory may end it before anything is read, and says nothing of the file
-abbrev pub IsRun : Ending → List ℕ → Devices → Devices → Type 0
+abbrev pub IsRun : ProgramEnd → List ℕ → Devices → Devices → Type 0
 IsRun Done file old new = Played sim.Done file old new
 IsRun WordsRefused file old new = ⊥
 IsRun NoCommand file old new = ⊥
@@ -49,13 +49,13 @@ IsRun OutputFailed file old new = Played sim.OutputFailed file old new
 IsRun OutOfMemory file old new = (new ≡ old) ⊎ Played sim.Memory file old new
 
 -- the run of a file whose bytes are known to be so: it can't be read, or it was played
-abbrev pub Simulates : (List ℕ → Type 0) → Ending → Devices → Devices → Type 0
+abbrev pub Simulates : (List ℕ → Type 0) → ProgramEnd → Devices → Devices → Type 0
 Simulates Holds ending old new =
     ((ending ≡ TreeNotRead) × (new ≡ old)) ⊎ ((ending ≡ OutOfMemory) × (new ≡ old))
     ⊎ ((file : List ℕ) × (Holds file × IsRun ending file old new))
 
 -- the words alone are answered: nothing is read, and only a help that was asked for is written to the output
-abbrev pub Answers : Ending → Devices → Devices → Type 0
+abbrev pub Answers : ProgramEnd → Devices → Devices → Type 0
 Answers Done old new = IsUnread old new × (text : List ℕ) × Appends old.written new.written text
 Answers WordsRefused old new = new ≡ old
 Answers NoCommand old new = new ≡ old
@@ -70,7 +70,7 @@ abbrev pub IsSmall : List ℕ → Type 0
 IsSmall file = length file ≤ LARGEST_TREE
 
 -- a tree was tried by the lines of a script; want of memory may end it before, and says nothing of the file
-abbrev pub IsTrial : Ending → List ℕ → Devices → Devices → Type 0
+abbrev pub IsTrial : ProgramEnd → List ℕ → Devices → Devices → Type 0
 IsTrial Done file old new = HasTree file
 IsTrial (TreeRefused why) file old new = (new ≡ old) × IsRefused why file
 IsTrial (ScriptRefused line why) file old new = HasTree file
@@ -82,48 +82,48 @@ IsTrial OutOfMemory file old new = (new ≡ old) ⊎ HasTree file
 IsTrial _ file old new = ⊥
 
 -- a text was written, and so it ends well; or the writer failed
-abbrev pub IsWritten : Ending → Ending → ℕ → ℕ → Type 0
+abbrev pub IsWritten : ProgramEnd → ProgramEnd → ℕ → ℕ → Type 0
 IsWritten ending well failures_before failures_now = (ending ≡ well) ⊎ ((ending ≡ OutputFailed) × (failures_before < failures_now))
 
 -- what is said of a tree could not be: the file says none, there is no memory, or the writer failed
-abbrev pub IsNotSaid : Ending → List ℕ → Written → Written → Type 0
+abbrev pub IsNotSaid : ProgramEnd → List ℕ → Written → Written → Type 0
 IsNotSaid (TreeRefused why) file old new = (new ≡ old) × IsRefused why file
 IsNotSaid OutputFailed file old new = HasTree file × (old.failures < new.failures)
 IsNotSaid OutOfMemory file old new = new ≡ old
 IsNotSaid _ file old new = ⊥
 
 -- a tree was drawn
-abbrev pub IsDrawn : Ending → List ℕ → Written → Written → Type 0
+abbrev pub IsDrawn : ProgramEnd → List ℕ → Written → Written → Type 0
 IsDrawn Done file old new = HasTree file
 IsDrawn ending file old new = IsNotSaid ending file old new
 
 -- the limits of a tree were written
-abbrev pub IsLimited : Ending → List ℕ → Written → Written → Type 0
+abbrev pub IsLimited : ProgramEnd → List ℕ → Written → Written → Type 0
 IsLimited Done file old new = (text : List ℕ) × (HasLimits file text × Appends old.bytes new.bytes text)
 IsLimited HistoryFull file old new = (new ≡ old) × HasTree file
 IsLimited ending file old new = IsNotSaid ending file old new
 
 -- the script is in another file, of which nothing of the input is read: that can't be read, or the tree was tried by it
-abbrev pub IsTrialOf : Option (List ℕ) → Ending → List ℕ → Devices → Devices → Type 0
+abbrev pub IsTrialOf : Option (List ℕ) → ProgramEnd → List ℕ → Devices → Devices → Type 0
 IsTrialOf None ending file old new = IsTrial ending file old new
 IsTrialOf (Some script) ending file old new =
     ((ending ≡ FileNotRead) × (new ≡ old)) ⊎ ((ending ≡ OutOfMemory) × (new ≡ old))
     ⊎ (IsTrial ending file old new × IsUnread old new)
 
 -- a tree file was used so
-abbrev pub IsUsed : Usage → Ending → List ℕ → Devices → Devices → Type 0
+abbrev pub IsUsed : Usage → ProgramEnd → List ℕ → Devices → Devices → Type 0
 IsUsed (usage.Try script writer is_drawn) ending file old new = IsTrialOf (option_map (λ name. name.now) script) ending file old new
 IsUsed usage.Draw ending file old new = IsUnread old new × IsDrawn ending file (writer_of old) (writer_of new)
 IsUsed usage.Limit ending file old new = IsUnread old new × IsLimited ending file (writer_of old) (writer_of new)
 
 -- the same of a file whose bytes are known to be so: it can't be read, or it was used
-abbrev pub Uses : (List ℕ → Type 0) → Usage → Ending → Devices → Devices → Type 0
+abbrev pub Uses : (List ℕ → Type 0) → Usage → ProgramEnd → Devices → Devices → Type 0
 Uses Holds usage ending old new =
     ((ending ≡ FileNotRead) × (new ≡ old)) ⊎ ((ending ≡ OutOfMemory) × (new ≡ old))
     ⊎ ((file : List ℕ) × ((Holds file × IsSmall file) × IsUsed usage ending file old new))
 
 -- a file was checked: nothing is written to be wrong in it exactly where it says a tree
-abbrev pub IsChecked : Ending → List ℕ → Written → Written → Type 0
+abbrev pub IsChecked : ProgramEnd → List ℕ → Written → Written → Type 0
 IsChecked Done file old new = HasTree file
 IsChecked FaultsFound file old new = (why : TreeFault) × IsRefused why file
 IsChecked OutputFailed file old new = old.failures < new.failures
@@ -131,47 +131,47 @@ IsChecked OutOfMemory file old new = new ≡ old
 IsChecked _ file old new = ⊥
 
 -- the check of a file whose bytes are known to be so: it can't be read, or it was checked
-abbrev pub Checks : (List ℕ → Type 0) → Ending → Written → Written → Type 0
+abbrev pub Checks : (List ℕ → Type 0) → ProgramEnd → Written → Written → Type 0
 Checks Holds ending old new =
     ((ending ≡ FileNotRead) × (new ≡ old)) ⊎ ((ending ≡ OutOfMemory) × (new ≡ old))
     ⊎ ((file : List ℕ) × ((Holds file × IsSmall file) × IsChecked ending file old new))
 
 -- whether the next file is checked after a check that ended so
-abbrev pub goes_on : Ending → Bool
+abbrev pub goes_on : ProgramEnd → Bool
 goes_on Done = true
 goes_on FaultsFound = true
 goes_on _ = false
 
 -- how two checks end, one after the other: faults in one are faults of both
-abbrev pub worse : Ending → Ending → Ending
+abbrev pub worse : ProgramEnd → ProgramEnd → ProgramEnd
 worse first Done = first
 worse first rest = rest
 
 -- these files were checked, one after the other, and after each the next could be; before them it was to end so
-abbrev pub ChecksEach : {T : Type 0} → (T → List ℕ → Type 0) → List T → Ending → Ending → Written → Written → Type 0
+abbrev pub ChecksEach : {T : Type 0} → (T → List ℕ → Type 0) → List T → ProgramEnd → ProgramEnd → Written → Written → Type 0
 ChecksEach Holds [] so_far ending old new = (ending ≡ so_far) × (new ≡ old)
 ChecksEach Holds (name ∷ names) so_far ending old new =
-    (next : Ending) × (mid : Written) × (goes_on next ≡ true) × Checks (Holds name) next old mid
+    (next : ProgramEnd) × (mid : Written) × (goes_on next ≡ true) × Checks (Holds name) next old mid
     × ChecksEach Holds names (worse so_far next) ending mid new
 
 -- the first of these files were checked so, and the check of the next one ended it
-abbrev pub ChecksFirst : {T : Type 0} → (T → List ℕ → Type 0) → List T → Ending → Written → Written → Type 0
+abbrev pub ChecksFirst : {T : Type 0} → (T → List ℕ → Type 0) → List T → ProgramEnd → Written → Written → Type 0
 ChecksFirst {T} Holds names ending old new =
-    (first : List T) × (name : T) × (others : List T) × (so_far : Ending) × (mid : Written)
+    (first : List T) × (name : T) × (others : List T) × (so_far : ProgramEnd) × (mid : Written)
     × (names ≡ first ++ name ∷ others) × ChecksEach Holds first Done so_far old mid × (goes_on ending ≡ false) × Checks (Holds name) ending mid new
 
 -- these files were checked, or the first of them up to one whose check ended it
-abbrev pub ChecksAll : {T : Type 0} → (T → List ℕ → Type 0) → List T → Ending → Written → Written → Type 0
+abbrev pub ChecksAll : {T : Type 0} → (T → List ℕ → Type 0) → List T → ProgramEnd → Written → Written → Type 0
 ChecksAll Holds names ending old new = ChecksEach Holds names Done ending old new ⊎ ChecksFirst Holds names ending old new
 
 -- a run on threads of the tree of a file whose bytes are known to be so: it can't be read, or it was run
-abbrev pub RunsTree : (List ℕ → Type 0) → Ending → Written → Written → Type 0
+abbrev pub RunsTree : (List ℕ → Type 0) → ProgramEnd → Written → Written → Type 0
 RunsTree Holds ending old new =
     ((ending ≡ TreeNotRead) × (new ≡ old)) ⊎ ((ending ≡ OutOfMemory) × (new ≡ old))
     ⊎ ((file : List ℕ) × (Holds file × IsTreeRun ending file old new))
 
 -- what a command asks for was done
-abbrev pub Does : (List ℕ → List ℕ → Type 0) → Command → Ending → Devices → Devices → Type 0
+abbrev pub Does : (List ℕ → List ℕ → Type 0) → Command → ProgramEnd → Devices → Devices → Type 0
 Does Holds (command.Sim file) ending old new = Simulates (Holds file.now) ending old new
 Does Holds (command.Check files) ending old new =
     IsUnread old new × ChecksAll (λ name. Holds name.now) files.items ending (writer_of old) (writer_of new)
@@ -180,7 +180,7 @@ Does Holds (command.Run file settings) ending old new =
 Does Holds (command.Use file usage) ending old new = Uses (Holds file.now) usage ending old new
 
 -- what the words ask for was done, for some command; or the words alone were answered
-abbrev pub Obeys : (List ℕ → List ℕ → Type 0) → Ending → Devices → Devices → Type 0
+abbrev pub Obeys : (List ℕ → List ℕ → Type 0) → ProgramEnd → Devices → Devices → Type 0
 Obeys Holds ending old new = ((command : Command) × Does Holds command ending old new) ⊎ Answers ending old new
 
 -- a text was written, or the writer failed
@@ -188,25 +188,25 @@ abbrev pub IsTold : List ℕ → Option (List ℕ) → Option (List ℕ) → ℕ
 IsTold text before now failures_before failures_now = (failures_before < failures_now) ⊎ Appends before now text
 
 -- what is told before the program ends: why `clap` refuses the words, and why a file can't be read
-abbrev pub is_told_first : Ending → Bool
+abbrev pub is_told_first : ProgramEnd → Bool
 is_told_first WordsRefused = true
 is_told_first FileNotRead = true
 is_told_first _ = false
 
 -- before the program ends nothing else is told
-abbrev pub TellsFirst : Ending → Option (List ℕ) → Option (List ℕ) → ℕ → ℕ → Type 0
+abbrev pub TellsFirst : ProgramEnd → Option (List ℕ) → Option (List ℕ) → ℕ → ℕ → Type 0
 TellsFirst ending before now failures_before failures_now =
     (text : List ℕ) × ((is_told_first ending ≡ false → text ≡ []) × IsTold text before now failures_before failures_now)
 
 -- and with it the sentence of the ending
-abbrev pub Tells : Ending → Option (List ℕ) → Option (List ℕ) → ℕ → ℕ → Type 0
+abbrev pub Tells : ProgramEnd → Option (List ℕ) → Option (List ℕ) → ℕ → ℕ → Type 0
 Tells ending before now failures_before failures_now =
     (text : List ℕ) × ((is_told_first ending ≡ false → text ≡ []) × IsTold (text ++ sentence_of ending) before now failures_before failures_now)
 
 -- a run of the program: how it ended, its status, what it did to its input and output, and what it told
 pub record IsProgramRun (Holds : List ℕ → List ℕ → Type 0) (status : ℕ) (old new : Devices)
     (before now : Option (List ℕ)) (failures_before failures_now : ℕ) : Type 0 where
-  pub ending : Ending
+  pub ending : ProgramEnd
   pub status_is : status ≡ status_of ending
   pub done : Obeys Holds ending old new
   pub told : Tells ending before now failures_before failures_now

@@ -5,19 +5,19 @@ use Rattle.std.specs.declared.io.ErrorKind.TheVariants as system
 use Rattle.otp_file.specs.Faults.{code_of}
 use Rattle.otp_file.specs.declared.fault.TreeFault.{TreeFault}
 use Rattle.otp_file.specs.declared.fault.TreeFault.TheVariants as fault
-use Rattle.otp_jobs.specs.declared.run.RunFault.{RunFault}
-use Rattle.otp_jobs.specs.declared.run.RunFault.TheVariants as run
+use Rattle.otp_jobs.specs.declared.run.FileRunFault.{FileRunFault}
+use Rattle.otp_jobs.specs.declared.run.FileRunFault.TheVariants as run
 use Rattle.otp_reason.specs.Names.{name_bytes}
 use Rattle.otp_sim.specs.declared.engine.SimEnd.{SimEnd}
 use Rattle.otp_sim.specs.declared.engine.SimEnd.TheVariants as sim
 use Rattle.otp_try.specs.Texts.{fault_text, taken_text}
 use Rattle.otp_try.specs.declared.play.TryEnd.{TryEnd}
 use Rattle.otp_try.specs.declared.play.TryEnd.TheVariants as trial
-use Rattle.otp_console.specs.declared.ending.Ending.{Ending}
-use Rattle.otp_console.specs.declared.ending.Ending.TheVariants.{Done, WordsRefused, NoCommand, WordNotText, FileAsCommand, TreeNotRead, FileNotRead, TreeRefused, UnknownStart, WrongBody, CloseMismatch, CloseMissing, FaultsFound, LineRefused, ScriptRefused, ScriptMissed, HistoryFull, InputFailed, OutputFailed, OutOfMemory}
+use Rattle.otp_console.specs.declared.ending.ProgramEnd.{ProgramEnd}
+use Rattle.otp_console.specs.declared.ending.ProgramEnd.TheVariants.{Done, WordsRefused, NoCommand, WordNotText, FileAsCommand, TreeNotRead, FileNotRead, TreeRefused, UnknownStart, WrongBody, CloseMismatch, CloseMissing, FaultsFound, LineRefused, ScriptRefused, ScriptMissed, HistoryFull, InputFailed, OutputFailed, OutOfMemory}
 
 -- 0: done. 1: the tree, or a file. 2: the words. 3: the lines of the input. 4: the machine. 5: a line of a script
-abbrev pub status_of : Ending → ℕ
+abbrev pub status_of : ProgramEnd → ℕ
 status_of Done = 0
 status_of WordsRefused = 2
 status_of NoCommand = 2
@@ -49,7 +49,7 @@ not_read_text name why = (codes "error: " ++ name ++ codes " can't be read: ") +
 
 -- the line on standard error, its end included: none where all went well, where it was told before why the words
 -- are refused or a file can't be read, or where faults were written to the output
-abbrev pub sentence_of : Ending → List ℕ
+abbrev pub sentence_of : ProgramEnd → List ℕ
 sentence_of Done = []
 sentence_of WordsRefused = []
 sentence_of NoCommand = codes "usage: otp sim FILE\n"
@@ -72,11 +72,11 @@ sentence_of OutputFailed = codes "output not written\n"
 sentence_of OutOfMemory = codes "out of memory\n"
 
 -- how the program ends whose file can't be read: want of memory says nothing of the file
-abbrev pub IsOfFile : ErrorKind → Ending → Type 0
+abbrev pub IsOfFile : ErrorKind → ProgramEnd → Type 0
 IsOfFile kind ending = (kind ≡ system.OutOfMemory → ending ≡ OutOfMemory) × (¬ (kind ≡ system.OutOfMemory) → ending ≡ TreeNotRead)
 
 -- how the program ends that ran `sim`
-abbrev pub ending_of : SimEnd → Ending
+abbrev pub ending_of : SimEnd → ProgramEnd
 ending_of sim.Done = Done
 ending_of (sim.LineRefused line) = LineRefused line
 ending_of sim.HistoryFull = HistoryFull
@@ -85,7 +85,7 @@ ending_of sim.OutputFailed = OutputFailed
 ending_of sim.Memory = OutOfMemory
 
 -- how the program ends that tried a tree
-abbrev pub ending_of_try : TryEnd → Ending
+abbrev pub ending_of_try : TryEnd → ProgramEnd
 ending_of_try trial.Done = Done
 ending_of_try (trial.LineRefused line why) = ScriptRefused line why
 ending_of_try (trial.LineMissed line why) = ScriptMissed line why
@@ -95,12 +95,12 @@ ending_of_try trial.OutputFailed = OutputFailed
 ending_of_try trial.OutOfMemory = OutOfMemory
 
 -- how the program ends that had no tree
-abbrev pub ending_of_tree : TreeFault → Ending
+abbrev pub ending_of_tree : TreeFault → ProgramEnd
 ending_of_tree fault.OutOfMemory = OutOfMemory
 ending_of_tree why = TreeRefused why
 
 -- how the program ends that didn't run a tree
-abbrev pub ending_of_run : RunFault → Ending
+abbrev pub ending_of_run : FileRunFault → ProgramEnd
 ending_of_run run.OutOfMemory = OutOfMemory
 ending_of_run (run.UnknownStart name) = UnknownStart name
 ending_of_run run.WrongBody = WrongBody

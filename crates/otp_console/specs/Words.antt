@@ -8,8 +8,8 @@ use Rattle.clap.specs.declared.error.kind.ErrorKind.TheVariants as kind
 use Rattle.clap.specs.Values.{kind_of}
 use Rattle.otp_console.specs.declared.words.WordsFault.{WordsFault}
 use Rattle.otp_console.specs.declared.words.WordsFault.TheVariants.{Clap, NoCommand, FileAsCommand, NotText, OutOfMemory}
-use Rattle.otp_console.specs.declared.ending.Ending.{Ending}
-use Rattle.otp_console.specs.declared.ending.Ending.TheVariants as ending
+use Rattle.otp_console.specs.declared.ending.ProgramEnd.{ProgramEnd}
+use Rattle.otp_console.specs.declared.ending.ProgramEnd.TheVariants as ending
 
 -- an error of clap that is handed on is not want of memory
 abbrev pub IsHandedOn : WordsFault → Type 0
@@ -32,7 +32,7 @@ abbrev pub IsShown : Error → Type 0
 IsShown error = (kind_of error ≡ kind.DisplayHelp) ⊎ (kind_of error ≡ kind.DisplayVersion)
 
 -- how the program ends whose words come to this; the text of `clap` may be refused memory
-abbrev pub EndsFor : WordsFault → Ending → Type 0
+abbrev pub EndsFor : WordsFault → ProgramEnd → Type 0
 EndsFor (Clap error) end =
     (IsShown error → (end ≡ ending.Done) ⊎ (end ≡ ending.OutputFailed) ⊎ (end ≡ ending.OutOfMemory))
     × (¬ IsShown error → (end ≡ ending.WordsRefused) ⊎ (end ≡ ending.OutOfMemory))

@@ -2,22 +2,22 @@
 
 ghost use Rattle.std.specs.Prelude.{◌≤◌, ◌<◌, OnErr};
 ghost use Rattle.otp_console.specs.Runs.{IsChecked, IsDrawn, IsWritten};
-ghost use Rattle.otp_console.specs.declared.ending.Ending.TheVariants.{Done, FaultsFound};
+ghost use Rattle.otp_console.specs.declared.ending.ProgramEnd.TheVariants.{Done, FaultsFound};
 
-use crate::ending::Ending;
+use crate::ending::ProgramEnd;
 use otp_check::{Finding, check, draw, says_nothing};
 use otp_file::read_tree;
 use otp_sim::{Failed, Output, write_all};
 use std::alloc::Global;
 
 /// Writes all that is wrong in a file, a line for each fault, that for which its tree is refused first.
-pub fn check_file<W: Output>(alloc: Global, name: &str, file: &[u8], output: &mut W) -> Ending
+pub fn check_file<W: Output>(alloc: Global, name: &str, file: &[u8], output: &mut W) -> ProgramEnd
     ensures { IsChecked result file.now
         (record { bytes = W.contents output.old; failures = W.failures output.old })
         (record { bytes = W.contents output.new; failures = W.failures output.new }) }
 {
     let Ok(findings) = check(alloc, file) else {
-        return Ending::OutOfMemory;
+        return ProgramEnd::OutOfMemory;
     };
     match findings.as_slice() {
         [] => write_lawful(alloc, name, file, output),
@@ -26,7 +26,7 @@ pub fn check_file<W: Output>(alloc: Global, name: &str, file: &[u8], output: &mu
 }
 
 /// Writes that nothing is wrong in a file.
-fn write_lawful<W: Output>(alloc: Global, name: &str, file: &[u8], output: &mut W) -> Ending
+fn write_lawful<W: Output>(alloc: Global, name: &str, file: &[u8], output: &mut W) -> ProgramEnd
     ensures { IsWritten result Done (W.failures output.old) (W.failures output.new) }
 {
     let what = if says_nothing(alloc, file) {
@@ -35,18 +35,18 @@ fn write_lawful<W: Output>(alloc: Global, name: &str, file: &[u8], output: &mut 
         "a lawful tree"
     };
     match write_line(name, what.as_bytes(), output) {
-        Ok(()) => Ending::Done,
-        Err(Failed) => Ending::OutputFailed,
+        Ok(()) => ProgramEnd::Done,
+        Err(Failed) => ProgramEnd::OutputFailed,
     }
 }
 
 /// Writes what is wrong in a file.
-fn write_faults<W: Output>(name: &str, faults: &[Finding], output: &mut W) -> Ending
+fn write_faults<W: Output>(name: &str, faults: &[Finding], output: &mut W) -> ProgramEnd
     ensures { IsWritten result FaultsFound (W.failures output.old) (W.failures output.new) }
 {
     match write_lines(name, faults, output) {
-        Ok(()) => Ending::FaultsFound,
-        Err(Failed) => Ending::OutputFailed,
+        Ok(()) => ProgramEnd::FaultsFound,
+        Err(Failed) => ProgramEnd::OutputFailed,
     }
 }
 
@@ -73,21 +73,21 @@ fn write_line<W: Output>(name: &str, text: &[u8], output: &mut W) -> Result<(), 
 }
 
 /// Draws the tree that a file says.
-pub fn draw_file<W: Output>(alloc: Global, file: &[u8], output: &mut W) -> Ending
+pub fn draw_file<W: Output>(alloc: Global, file: &[u8], output: &mut W) -> ProgramEnd
     ensures { IsDrawn result file.now
         (record { bytes = W.contents output.old; failures = W.failures output.old })
         (record { bytes = W.contents output.new; failures = W.failures output.new }) }
 {
     let tree = match read_tree(alloc, file) {
         Ok(tree) => tree,
-        Err(fault) => return Ending::of_tree(fault),
+        Err(fault) => return ProgramEnd::of_tree(fault),
     };
     let mut picture = Vec::new(alloc);
     let Ok(()) = draw(alloc, &tree, &mut picture) else {
-        return Ending::OutOfMemory;
+        return ProgramEnd::OutOfMemory;
     };
     match write_all(output, picture.as_slice()) {
-        Ok(()) => Ending::Done,
-        Err(Failed) => Ending::OutputFailed,
+        Ok(()) => ProgramEnd::Done,
+        Err(Failed) => ProgramEnd::OutputFailed,
     }
 }

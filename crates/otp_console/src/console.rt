@@ -2,7 +2,7 @@
 
 ghost use Rattle.otp_console.specs.Runs.{IsRun};
 
-use crate::ending::Ending;
+use crate::ending::ProgramEnd;
 use otp_file::{TreeFault, read_tree};
 use otp_sim::{Input, Output, SimEnd, sim};
 use std::alloc::Global;
@@ -13,20 +13,20 @@ pub fn console<R: Input, W: Output>(
     file: &[u8],
     input: &mut R,
     output: &mut W,
-) -> Ending
+) -> ProgramEnd
     ensures { IsRun result file.now
         (record { left = R.remaining input.old; written = W.contents output.old; read_failures = R.failures input.old; write_failures = W.failures output.old })
         (record { left = R.remaining input.new; written = W.contents output.new; read_failures = R.failures input.new; write_failures = W.failures output.new }) }
 {
     let tree = match read_tree(alloc, file) {
         Ok(tree) => tree,
-        Err(fault) => return Ending::of_tree(fault),
+        Err(fault) => return ProgramEnd::of_tree(fault),
     };
     let (supervisor, _, _) = tree.into_parts();
-    Ending::of_sim(sim(alloc, supervisor, input, output))
+    ProgramEnd::of_sim(sim(alloc, supervisor, input, output))
 }
 
-impl Ending {
+impl ProgramEnd {
     ghost use Rattle.std.specs.Prelude.{◌≡◌};
     ghost use Rattle.otp_console.specs.Statuses.{ending_of, ending_of_tree};
 
@@ -35,12 +35,12 @@ impl Ending {
         ensures { result ≡ ending_of end }
     {
         match end {
-            SimEnd::Done => Ending::Done,
-            SimEnd::LineRefused(line) => Ending::LineRefused(line),
-            SimEnd::HistoryFull => Ending::HistoryFull,
-            SimEnd::InputFailed => Ending::InputFailed,
-            SimEnd::OutputFailed => Ending::OutputFailed,
-            SimEnd::Memory => Ending::OutOfMemory,
+            SimEnd::Done => ProgramEnd::Done,
+            SimEnd::LineRefused(line) => ProgramEnd::LineRefused(line),
+            SimEnd::HistoryFull => ProgramEnd::HistoryFull,
+            SimEnd::InputFailed => ProgramEnd::InputFailed,
+            SimEnd::OutputFailed => ProgramEnd::OutputFailed,
+            SimEnd::Memory => ProgramEnd::OutOfMemory,
         }
     }
 
@@ -49,8 +49,8 @@ impl Ending {
         ensures { result ≡ ending_of_tree fault }
     {
         match fault {
-            TreeFault::OutOfMemory => Ending::OutOfMemory,
-            _ => Ending::TreeRefused(fault),
+            TreeFault::OutOfMemory => ProgramEnd::OutOfMemory,
+            _ => ProgramEnd::TreeRefused(fault),
         }
     }
 }

@@ -5,20 +5,20 @@ ghost use Rattle.std.specs.IoError.{error_kind};
 ghost use Rattle.std.specs.Io.KnownBytes.{Appends};
 ghost use Rattle.otp_console.specs.Runs.{IsTold, goes_on, worse};
 ghost use Rattle.otp_console.specs.Statuses.{IsOfFile, line_text, sentence_of, status_of};
-ghost use Rattle.otp_console.specs.declared.ending.Ending.TheVariants.{OutOfMemory, TreeNotRead};
+ghost use Rattle.otp_console.specs.declared.ending.ProgramEnd.TheVariants.{OutOfMemory, TreeNotRead};
 
 use crate::files::write_three;
 use itoa::Buffer;
 use otp_file::TreeFault;
 use otp_reason::Name;
 use otp_sim::{Failed, Output, write_all};
-use otp_try::{ScriptFault, Taken};
+use otp_try::{ScriptFault, ActionEnd};
 use std::io;
 use std::io::ErrorKind;
 
 /// How the program ends.
 #[derive(Clone, Copy, Debug, PartialEq, Eq)]
-pub enum Ending {
+pub enum ProgramEnd {
     /// All was done, or the help was shown that the words ask for.
     Done,
     /// `clap` refuses the words, and its text was told.
@@ -50,7 +50,7 @@ pub enum Ending {
     /// The line of a script with this number can't be read.
     ScriptRefused(u64, ScriptFault),
     /// The line of a script with this number could do nothing.
-    ScriptMissed(u64, Taken),
+    ScriptMissed(u64, ActionEnd),
     /// The history holds no more events.
     HistoryFull,
     InputFailed,
@@ -58,22 +58,22 @@ pub enum Ending {
     OutOfMemory,
 }
 
-impl Ending {
+impl ProgramEnd {
     /// The exit status.
     pub fn status(&self) -> u8
         ensures { result ≡ status_of self.now }
     {
         match self {
-            Ending::Done => 0,
-            Ending::TreeNotRead | Ending::TreeRefused(_) => 1,
-            Ending::UnknownStart(_) | Ending::WrongBody => 1,
-            Ending::FileNotRead | Ending::FaultsFound => 1,
-            Ending::WordsRefused | Ending::NoCommand | Ending::WordNotText => 2,
-            Ending::FileAsCommand => 2,
-            Ending::LineRefused(_) | Ending::HistoryFull | Ending::InputFailed => 3,
-            Ending::OutputFailed | Ending::OutOfMemory => 4,
-            Ending::CloseMismatch | Ending::CloseMissing => 4,
-            Ending::ScriptRefused(..) | Ending::ScriptMissed(..) => 5,
+            ProgramEnd::Done => 0,
+            ProgramEnd::TreeNotRead | ProgramEnd::TreeRefused(_) => 1,
+            ProgramEnd::UnknownStart(_) | ProgramEnd::WrongBody => 1,
+            ProgramEnd::FileNotRead | ProgramEnd::FaultsFound => 1,
+            ProgramEnd::WordsRefused | ProgramEnd::NoCommand | ProgramEnd::WordNotText => 2,
+            ProgramEnd::FileAsCommand => 2,
+            ProgramEnd::LineRefused(_) | ProgramEnd::HistoryFull | ProgramEnd::InputFailed => 3,
+            ProgramEnd::OutputFailed | ProgramEnd::OutOfMemory => 4,
+            ProgramEnd::CloseMismatch | ProgramEnd::CloseMissing => 4,
+            ProgramEnd::ScriptRefused(..) | ProgramEnd::ScriptMissed(..) => 5,
         }
     }
 
@@ -81,15 +81,15 @@ impl Ending {
     pub(crate) fn goes_on(&self) -> bool
         ensures { result ≡ goes_on self.now }
     {
-        matches!(self, Ending::Done | Ending::FaultsFound)
+        matches!(self, ProgramEnd::Done | ProgramEnd::FaultsFound)
     }
 
     /// How two checks end, one after the other.
-    pub(crate) fn worse(self, next: Ending) -> Self
+    pub(crate) fn worse(self, next: ProgramEnd) -> Self
         ensures { result ≡ worse self next }
     {
         match next {
-            Ending::Done => self,
+            ProgramEnd::Done => self,
             _ => next,
         }
     }
@@ -100,14 +100,14 @@ impl Ending {
         ensures either { (result ≡ TreeNotRead) ⊎ (result ≡ OutOfMemory) }
     {
         match error.kind() {
-            ErrorKind::OutOfMemory => Ending::OutOfMemory,
-            _ => Ending::TreeNotRead,
+            ErrorKind::OutOfMemory => ProgramEnd::OutOfMemory,
+            _ => ProgramEnd::TreeNotRead,
         }
     }
 }
 
 /// Tells on standard error how the program ends, if not well, and gives the exit status.
-pub fn tell<E: Output>(errors: &mut E, ending: Ending) -> u8
+pub fn tell<E: Output>(errors: &mut E, ending: ProgramEnd) -> u8
     ensures status { result ≡ status_of ending }
     ensures told { IsTold (sentence_of ending) (E.contents errors.old) (E.contents errors.new) (E.failures errors.old) (E.failures errors.new) }
     ensures kept { E.failures errors.old ≤ E.failures errors.new }
@@ -118,37 +118,37 @@ pub fn tell<E: Output>(errors: &mut E, ending: Ending) -> u8
 }
 
 /// Writes the line that tells of the ending, if there is one.
-fn write_sentence<E: Output>(errors: &mut E, ending: Ending) -> Result<(), Failed>
+fn write_sentence<E: Output>(errors: &mut E, ending: ProgramEnd) -> Result<(), Failed>
     ensures ok { OnOk result (Appends (E.contents errors.old) (E.contents errors.new) (sentence_of ending)) }
     ensures kept { E.failures errors.old ≤ E.failures errors.new }
     ensures failed { OnErr result (E.failures errors.old < E.failures errors.new) }
 {
     match ending {
-        Ending::Done | Ending::WordsRefused => Ok(()),
-        Ending::FileNotRead | Ending::FaultsFound => Ok(()),
-        Ending::NoCommand => write_all(errors, b"usage: otp sim FILE\n"),
-        Ending::WordNotText => write_all(errors, b"error: a word is not UTF-8\n"),
-        Ending::FileAsCommand => write_all(
+        ProgramEnd::Done | ProgramEnd::WordsRefused => Ok(()),
+        ProgramEnd::FileNotRead | ProgramEnd::FaultsFound => Ok(()),
+        ProgramEnd::NoCommand => write_all(errors, b"usage: otp sim FILE\n"),
+        ProgramEnd::WordNotText => write_all(errors, b"error: a word is not UTF-8\n"),
+        ProgramEnd::FileAsCommand => write_all(
             errors,
             b"error: a file in the place of a command: say otp try FILE, or otp --help\n",
         ),
-        Ending::TreeNotRead => write_all(errors, b"tree not read\n"),
-        Ending::TreeRefused(fault) => {
+        ProgramEnd::TreeNotRead => write_all(errors, b"tree not read\n"),
+        ProgramEnd::TreeRefused(fault) => {
             write_numbered(errors, b"tree refused: E", u64::from(fault.code()), b"\n")
         }
-        Ending::UnknownStart(name) => {
+        ProgramEnd::UnknownStart(name) => {
             write_three(errors, b"unknown start ", name.as_bytes(), b"\n")
         }
-        Ending::CloseMismatch => write_all(errors, b"close refused: E17\n"),
-        Ending::CloseMissing => write_all(errors, b"close refused: E20\n"),
-        Ending::WrongBody => write_all(errors, b"tree refused: E19\n"),
-        Ending::LineRefused(line) => write_numbered(errors, b"line ", line, b" refused\n"),
-        Ending::ScriptRefused(line, fault) => write_line_fault(errors, line, fault.text()),
-        Ending::ScriptMissed(line, taken) => write_line_fault(errors, line, taken.text()),
-        Ending::HistoryFull => write_all(errors, b"history full\n"),
-        Ending::InputFailed => write_all(errors, b"input not read\n"),
-        Ending::OutputFailed => write_all(errors, b"output not written\n"),
-        Ending::OutOfMemory => write_all(errors, b"out of memory\n"),
+        ProgramEnd::CloseMismatch => write_all(errors, b"close refused: E17\n"),
+        ProgramEnd::CloseMissing => write_all(errors, b"close refused: E20\n"),
+        ProgramEnd::WrongBody => write_all(errors, b"tree refused: E19\n"),
+        ProgramEnd::LineRefused(line) => write_numbered(errors, b"line ", line, b" refused\n"),
+        ProgramEnd::ScriptRefused(line, fault) => write_line_fault(errors, line, fault.text()),
+        ProgramEnd::ScriptMissed(line, taken) => write_line_fault(errors, line, taken.text()),
+        ProgramEnd::HistoryFull => write_all(errors, b"history full\n"),
+        ProgramEnd::InputFailed => write_all(errors, b"input not read\n"),
+        ProgramEnd::OutputFailed => write_all(errors, b"output not written\n"),
+        ProgramEnd::OutOfMemory => write_all(errors, b"out of memory\n"),
     }
 }
 

@@ -5,9 +5,9 @@ ghost use Rattle.std.specs.Io.KnownBytes.{Appends};
 ghost use Rattle.otp_console.specs.Runs.{TellsFirst};
 ghost use Rattle.otp_console.specs.Statuses.{not_read_text};
 ghost use Rattle.otp_console.specs.declared.files.TheConstants.{LARGEST_TREE};
-ghost use Rattle.otp_console.specs.declared.ending.Ending.TheVariants.{FileNotRead, OutOfMemory};
+ghost use Rattle.otp_console.specs.declared.ending.ProgramEnd.TheVariants.{FileNotRead, OutOfMemory};
 
-use crate::ending::Ending;
+use crate::ending::ProgramEnd;
 use otp_sim::{Failed, Output, write_all};
 use std::io;
 use std::io::ErrorKind;
@@ -53,12 +53,12 @@ fn read_named<F: TreeFiles>(files: &F, name: &str) -> io::Result<Vec<u8>>
 ///
 /// # Errors
 ///
-/// [`Ending::FileNotRead`], once it is told on `errors` which file can't be read and why, and [`Ending::OutOfMemory`].
+/// [`ProgramEnd::FileNotRead`], once it is told on `errors` which file can't be read and why, and [`ProgramEnd::OutOfMemory`].
 pub(crate) fn read_file<F: TreeFiles, E: Output>(
     files: &F,
     name: &str,
     errors: &mut E,
-) -> Result<Vec<u8>, Ending>
+) -> Result<Vec<u8>, ProgramEnd>
     ensures holds { IfOk result (λ file. F.holds files.now name.now file.items) }
     ensures silent { OnOk result (errors.new ≡ errors.old) }
     ensures ending { IfErr result (λ ending. (ending ≡ FileNotRead) ⊎ (ending ≡ OutOfMemory)) }
@@ -70,7 +70,7 @@ pub(crate) fn read_file<F: TreeFiles, E: Output>(
         Err(error) => error,
     };
     match error.kind() {
-        ErrorKind::OutOfMemory => Err(Ending::OutOfMemory),
+        ErrorKind::OutOfMemory => Err(ProgramEnd::OutOfMemory),
         kind => Err(tell_not_read(errors, name, why(kind))),
     }
 }
@@ -79,12 +79,12 @@ pub(crate) fn read_file<F: TreeFiles, E: Output>(
 ///
 /// # Errors
 ///
-/// Those of [`read_file`], and [`Ending::FileNotRead`] where it is larger, once that is told.
+/// Those of [`read_file`], and [`ProgramEnd::FileNotRead`] where it is larger, once that is told.
 pub(crate) fn read_tree_file<F: TreeFiles, E: Output>(
     files: &F,
     name: &str,
     errors: &mut E,
-) -> Result<Vec<u8>, Ending>
+) -> Result<Vec<u8>, ProgramEnd>
     ensures holds { IfOk result (λ file. F.holds files.now name.now file.items) }
     ensures small { IfOk result (λ file. vec_len file ≤ LARGEST_TREE) }
     ensures silent { OnOk result (errors.new ≡ errors.old) }
@@ -100,14 +100,14 @@ pub(crate) fn read_tree_file<F: TreeFiles, E: Output>(
 }
 
 /// Tells which file can't be read, and why.
-fn tell_not_read<E: Output>(errors: &mut E, name: &str, why: &str) -> Ending
+fn tell_not_read<E: Output>(errors: &mut E, name: &str, why: &str) -> ProgramEnd
     ensures ending { result ≡ FileNotRead }
     ensures first { TellsFirst result (E.contents errors.old) (E.contents errors.new) (E.failures errors.old) (E.failures errors.new) }
     ensures kept { E.failures errors.old ≤ E.failures errors.new }
 {
     // Where nothing can be told, the status alone says it.
     let _told = write_not_read(errors, name, why);
-    Ending::FileNotRead
+    ProgramEnd::FileNotRead
 }
 
 /// Why a file can't be read.

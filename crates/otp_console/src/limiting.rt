@@ -4,7 +4,7 @@ ghost use Rattle.std.specs.Prelude.{◌≡◌};
 ghost use Rattle.otp_console.specs.Limited.{ending_of_halt};
 ghost use Rattle.otp_console.specs.Runs.{IsLimited};
 
-use crate::ending::Ending;
+use crate::ending::ProgramEnd;
 use otp_file::read_tree;
 use otp_limits::write_tree_limits;
 use otp_sim::{Failed, Output, write_all};
@@ -12,34 +12,34 @@ use otp_try::Halt;
 use std::alloc::Global;
 
 /// Reads the tree of a file, plays crashes of each child of its supervisors, and writes what they cost.
-pub fn limit_file<W: Output>(alloc: Global, file: &[u8], output: &mut W) -> Ending
+pub fn limit_file<W: Output>(alloc: Global, file: &[u8], output: &mut W) -> ProgramEnd
     ensures { IsLimited result file.now
         (record { bytes = W.contents output.old; failures = W.failures output.old })
         (record { bytes = W.contents output.new; failures = W.failures output.new }) }
 {
     let tree = match read_tree(alloc, file) {
         Ok(tree) => tree,
-        Err(fault) => return Ending::of_tree(fault),
+        Err(fault) => return ProgramEnd::of_tree(fault),
     };
     let mut table = Vec::new(alloc);
     match write_tree_limits(alloc, &tree, &mut table) {
         Ok(()) => {}
-        Err(halt) => return Ending::of_halt(halt),
+        Err(halt) => return ProgramEnd::of_halt(halt),
     }
     match write_all(output, table.as_slice()) {
-        Ok(()) => Ending::Done,
-        Err(Failed) => Ending::OutputFailed,
+        Ok(()) => ProgramEnd::Done,
+        Err(Failed) => ProgramEnd::OutputFailed,
     }
 }
 
-impl Ending {
+impl ProgramEnd {
     /// The end for a core that can't be played on.
     fn of_halt(halt: Halt) -> Self
         ensures { result ≡ ending_of_halt halt }
     {
         match halt {
-            Halt::HistoryFull => Ending::HistoryFull,
-            Halt::OutOfMemory => Ending::OutOfMemory,
+            Halt::HistoryFull => ProgramEnd::HistoryFull,
+            Halt::OutOfMemory => ProgramEnd::OutOfMemory,
         }
     }
 }

@@ -2,13 +2,13 @@
 
 ghost use Rattle.std.specs.Prelude.{ℕ, List, Option, ◌≡◌, ◌≤◌, ◌⊎◌, IfErr, IfOk, OnOk, option_map, true};
 ghost use Rattle.otp_console.specs.Runs.{Answers, Checks, ChecksAll, Does, IsProgramRun, IsTrial, IsTrialOf, IsUsed, Obeys, RunsTree, Simulates, TellsFirst, Uses, goes_on};
-ghost use Rattle.otp_console.specs.declared.ending.Ending.TheVariants as end;
+ghost use Rattle.otp_console.specs.declared.ending.ProgramEnd.TheVariants as end;
 ghost use Rattle.otp_console.specs.Words.{EndsFor};
 ghost use Rattle.otp_console.specs.declared.words.WordsFault.TheVariants.{Clap};
 
 use crate::checking::{check_file, draw_file};
 use crate::console::console;
-use crate::ending::{Ending, tell};
+use crate::ending::{ProgramEnd, tell};
 use crate::files::{TreeFiles, read_file, read_tree_file};
 use crate::limiting::limit_file;
 use crate::running::{Pool, run_file};
@@ -60,7 +60,7 @@ fn obey<H, G, F, R, W, E>(
     input: &mut R,
     output: &mut W,
     errors: &mut E,
-) -> Ending
+) -> ProgramEnd
 where
     H: Threads + Wait + Sync,
     G: Gate + Sync,
@@ -93,7 +93,7 @@ pub fn do_command<H, G, F, R, W, E>(
     input: &mut R,
     output: &mut W,
     errors: &mut E,
-) -> Ending
+) -> ProgramEnd
 where
     H: Threads + Wait + Sync,
     G: Gate + Sync,
@@ -128,14 +128,14 @@ fn simulate<F: TreeFiles, R: Input, W: Output>(
     name: &str,
     input: &mut R,
     output: &mut W,
-) -> Ending
+) -> ProgramEnd
     ensures { Simulates (F.holds files.now name.now) result
         (record { left = R.remaining input.old; written = W.contents output.old; read_failures = R.failures input.old; write_failures = W.failures output.old })
         (record { left = R.remaining input.new; written = W.contents output.new; read_failures = R.failures input.new; write_failures = W.failures output.new }) }
 {
     match files.read(name) {
         Ok(file) => console(alloc, &file, input, output),
-        Err(error) => Ending::of_file(&error),
+        Err(error) => ProgramEnd::of_file(&error),
     }
 }
 
@@ -147,7 +147,7 @@ fn run_named<H, G, F, W>(
     name: &str,
     settings: Settings,
     output: &mut W,
-) -> Ending
+) -> ProgramEnd
 where
     H: Threads + Wait + Sync,
     G: Gate + Sync,
@@ -159,7 +159,7 @@ where
 {
     match files.read(name) {
         Ok(file) => run_file(pool, alloc, &file, settings, output),
-        Err(error) => Ending::of_file(&error),
+        Err(error) => ProgramEnd::of_file(&error),
     }
 }
 
@@ -172,7 +172,7 @@ fn use_named<F: TreeFiles, R: Input, W: Output, E: Output>(
     input: &mut R,
     output: &mut W,
     errors: &mut E,
-) -> Ending
+) -> ProgramEnd
     ensures done { Uses (F.holds files.now name.now) usage.entry result
         (record { left = R.remaining input.old; written = W.contents output.old; read_failures = R.failures input.old; write_failures = W.failures output.old })
         (record { left = R.remaining input.new; written = W.contents output.new; read_failures = R.failures input.new; write_failures = W.failures output.new }) }
@@ -194,7 +194,7 @@ fn use_file<F: TreeFiles, R: Input, W: Output, E: Output>(
     input: &mut R,
     output: &mut W,
     errors: &mut E,
-) -> Ending
+) -> ProgramEnd
     ensures done { IsUsed usage.entry result file.now
         (record { left = R.remaining input.old; written = W.contents output.old; read_failures = R.failures input.old; write_failures = W.failures output.old })
         (record { left = R.remaining input.new; written = W.contents output.new; read_failures = R.failures input.new; write_failures = W.failures output.new }) }
@@ -233,7 +233,7 @@ fn try_by<F: TreeFiles, R: Input, W: Output, E: Output>(
     input: &mut R,
     output: &mut W,
     errors: &mut E,
-) -> Ending
+) -> ProgramEnd
     ensures done { IsTrialOf (option_map (λ script. script.now) script.entry) result file.now
         (record { left = R.remaining input.old; written = W.contents output.old; read_failures = R.failures input.old; write_failures = W.failures output.old })
         (record { left = R.remaining input.new; written = W.contents output.new; read_failures = R.failures input.new; write_failures = W.failures output.new }) }
@@ -277,7 +277,7 @@ fn try_lines<W: Output>(
     shows: Shows,
     lines: &[u8],
     output: &mut W,
-) -> Ending
+) -> ProgramEnd
     ensures { (left : Option (List ℕ)) (failures : ℕ) → IsTrial result file.now
         (record { left = left; written = W.contents output.old; read_failures = failures; write_failures = W.failures output.old })
         (record { left = left; written = W.contents output.new; read_failures = failures; write_failures = W.failures output.new }) }
@@ -293,14 +293,14 @@ fn check_all<F: TreeFiles, W: Output, E: Output>(
     names: &[&str],
     output: &mut W,
     errors: &mut E,
-) -> Ending
+) -> ProgramEnd
     ensures done { ChecksAll (λ name. F.holds files.now name.now) names.now result
         (record { bytes = W.contents output.old; failures = W.failures output.old })
         (record { bytes = W.contents output.new; failures = W.failures output.new }) }
     ensures first { TellsFirst result (E.contents errors.old) (E.contents errors.new) (E.failures errors.old) (E.failures errors.new) }
     ensures kept { E.failures errors.old ≤ E.failures errors.new }
 {
-    let mut ending = Ending::Done;
+    let mut ending = ProgramEnd::Done;
     for name in names {
         let next = check_named(alloc, files, name, output, errors);
         if !next.goes_on() {
@@ -318,7 +318,7 @@ fn check_named<F: TreeFiles, W: Output, E: Output>(
     name: &str,
     output: &mut W,
     errors: &mut E,
-) -> Ending
+) -> ProgramEnd
     ensures done { Checks (F.holds files.now name.now) result
         (record { bytes = W.contents output.old; failures = W.failures output.old })
         (record { bytes = W.contents output.new; failures = W.failures output.new }) }
@@ -338,7 +338,7 @@ fn answer<W: Output, E: Output>(
     fault: &WordsFault,
     output: &mut W,
     errors: &mut E,
-) -> Ending
+) -> ProgramEnd
     ensures ending { EndsFor fault.now result }
     ensures done { (left : Option (List ℕ)) (failures : ℕ) → Answers result
         (record { left = left; written = W.contents output.old; read_failures = failures; write_failures = W.failures output.old })
@@ -348,10 +348,10 @@ fn answer<W: Output, E: Output>(
 {
     match fault {
         WordsFault::Clap(error) => show(alloc, error, output, errors),
-        WordsFault::NoCommand => Ending::NoCommand,
-        WordsFault::FileAsCommand => Ending::FileAsCommand,
-        WordsFault::NotText => Ending::WordNotText,
-        WordsFault::OutOfMemory => Ending::OutOfMemory,
+        WordsFault::NoCommand => ProgramEnd::NoCommand,
+        WordsFault::FileAsCommand => ProgramEnd::FileAsCommand,
+        WordsFault::NotText => ProgramEnd::WordNotText,
+        WordsFault::OutOfMemory => ProgramEnd::OutOfMemory,
     }
 }
 
@@ -361,7 +361,7 @@ fn show<W: Output, E: Output>(
     error: &Error,
     output: &mut W,
     errors: &mut E,
-) -> Ending
+) -> ProgramEnd
     ensures ending { EndsFor (Clap error.now) result }
     ensures done { (left : Option (List ℕ)) (failures : ℕ) → Answers result
         (record { left = left; written = W.contents output.old; read_failures = failures; write_failures = W.failures output.old })
@@ -370,14 +370,14 @@ fn show<W: Output, E: Output>(
     ensures kept { E.failures errors.old ≤ E.failures errors.new }
 {
     let Ok(text) = error.to_string(alloc) else {
-        return Ending::OutOfMemory;
+        return ProgramEnd::OutOfMemory;
     };
     if error.use_stderr() {
         let _told = write_all(errors, text.as_bytes());
-        return Ending::WordsRefused;
+        return ProgramEnd::WordsRefused;
     }
     match write_all(output, text.as_bytes()) {
-        Ok(()) => Ending::Done,
-        Err(Failed) => Ending::OutputFailed,
+        Ok(()) => ProgramEnd::Done,
+        Err(Failed) => ProgramEnd::OutputFailed,
     }
 }

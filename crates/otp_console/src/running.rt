@@ -4,9 +4,9 @@ ghost use Rattle.std.specs.Prelude.{◌≡◌, [], Some};
 ghost use Rattle.otp_console.specs.Statuses.{ending_of_run};
 ghost use Rattle.otp_console.specs.Running.{IsTreeRun};
 
-use crate::ending::Ending;
+use crate::ending::ProgramEnd;
 use otp_file::{TreeFault, read_tree};
-use otp_jobs::{RunFault, Settings, run_worked};
+use otp_jobs::{FileRunFault, Settings, run_worked};
 use otp_sim::{Failed, Output, write_all};
 use otp_tree::Gate;
 use std::alloc::Global;
@@ -27,7 +27,7 @@ pub fn run_file<H, G, W>(
     file: &[u8],
     settings: Settings,
     output: &mut W,
-) -> Ending
+) -> ProgramEnd
 where
     H: Threads + Wait + Sync,
     G: Gate + Sync,
@@ -38,34 +38,34 @@ where
 {
     let tree = match read_tree(alloc, file) {
         Ok(tree) => tree,
-        Err(fault) => return Ending::of_tree(fault),
+        Err(fault) => return ProgramEnd::of_tree(fault),
     };
     let mut report = Vec::new(alloc);
     if let Err(fault) = run_worked(pool.rt, alloc, tree, settings, pool.gate, &mut report) {
-        return Ending::of_run(fault);
+        return ProgramEnd::of_run(fault);
     }
     match write_all(output, report.as_slice()) {
-        Ok(()) => Ending::Done,
-        Err(Failed) => Ending::OutputFailed,
+        Ok(()) => ProgramEnd::Done,
+        Err(Failed) => ProgramEnd::OutputFailed,
     }
 }
 
-impl Ending {
+impl ProgramEnd {
     /// The end for a tree that was not run.
-    fn of_run(fault: RunFault) -> Self
+    fn of_run(fault: FileRunFault) -> Self
         ensures { result ≡ ending_of_run fault }
     {
         match fault {
-            RunFault::OutOfMemory => Ending::OutOfMemory,
-            RunFault::UnknownStart(name) => Ending::UnknownStart(name),
-            RunFault::WrongBody => Ending::WrongBody,
+            FileRunFault::OutOfMemory => ProgramEnd::OutOfMemory,
+            FileRunFault::UnknownStart(name) => ProgramEnd::UnknownStart(name),
+            FileRunFault::WrongBody => ProgramEnd::WrongBody,
             // No tree that a file says comes to these two.
-            RunFault::TooManyTables | RunFault::NoBody => {
-                Ending::TreeRefused(TreeFault::TooManyTables)
+            FileRunFault::TooManyTables | FileRunFault::NoBody => {
+                ProgramEnd::TreeRefused(TreeFault::TooManyTables)
             }
-            RunFault::Mismatch => Ending::CloseMismatch,
-            RunFault::Missing => Ending::CloseMissing,
-            RunFault::Unlawful(fault) => Ending::TreeRefused(TreeFault::Unlawful(fault)),
+            FileRunFault::Mismatch => ProgramEnd::CloseMismatch,
+            FileRunFault::Missing => ProgramEnd::CloseMissing,
+            FileRunFault::Unlawful(fault) => ProgramEnd::TreeRefused(TreeFault::Unlawful(fault)),
         }
     }
 }

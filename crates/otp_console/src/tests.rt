@@ -1,7 +1,7 @@
 //! What no clause says: that the format is the one that was meant, the texts and the words, and that runs succeed.
 
 use crate::console::console;
-use crate::ending::{Ending, tell};
+use crate::ending::{ProgramEnd, tell};
 use otp_file::TreeFault;
 use otp_sim::Counted;
 use std::alloc::{AllocError, Global};
@@ -15,7 +15,7 @@ mod rows;
 mod transcripts;
 
 /// What is told of an ending, without its end of line, and then its status.
-fn said(alloc: Global, ending: Ending) -> Result<String, AllocError> {
+fn said(alloc: Global, ending: ProgramEnd) -> Result<String, AllocError> {
     let mut errors = Counted::new(Vec::new(alloc));
     let status = tell(&mut errors, ending);
     let line = errors.into_device();
@@ -48,7 +48,7 @@ fn bytes_that_are_no_text(rt: HostRuntime) -> Result<(), Fail> {
     let mut reader = Counted::new(b"".as_slice());
     let mut writer = Counted::new(Vec::new(rt.alloc()));
     let ended = console(rt.alloc(), b"period = 5 # \xff\n", &mut reader, &mut writer);
-    assert_eq!(rt; ended, Ending::TreeRefused(TreeFault::NotToml));
+    assert_eq!(rt; ended, ProgramEnd::TreeRefused(TreeFault::NotToml));
     assert!(rt; writer.into_device().is_empty());
     Ok(())
 }

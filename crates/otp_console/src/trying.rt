@@ -4,7 +4,7 @@ ghost use Rattle.std.specs.Prelude.{◌≡◌};
 ghost use Rattle.otp_console.specs.Runs.{IsTrial};
 ghost use Rattle.otp_console.specs.Statuses.{ending_of_try};
 
-use crate::ending::Ending;
+use crate::ending::ProgramEnd;
 use otp_file::read_tree;
 use otp_sim::{Input, Output};
 use otp_try::{Shows, TryEnd, Writer, try_tree};
@@ -18,31 +18,31 @@ pub fn try_file<R: Input, W: Output>(
     shows: Shows,
     script: &mut R,
     output: &mut W,
-) -> Ending
+) -> ProgramEnd
     ensures { IsTrial result file.now
         (record { left = R.remaining script.old; written = W.contents output.old; read_failures = R.failures script.old; write_failures = W.failures output.old })
         (record { left = R.remaining script.new; written = W.contents output.new; read_failures = R.failures script.new; write_failures = W.failures output.new }) }
 {
     let tree = match read_tree(alloc, file) {
         Ok(tree) => tree,
-        Err(fault) => return Ending::of_tree(fault),
+        Err(fault) => return ProgramEnd::of_tree(fault),
     };
-    Ending::of_try(try_tree(alloc, tree, writer, shows, script, output))
+    ProgramEnd::of_try(try_tree(alloc, tree, writer, shows, script, output))
 }
 
-impl Ending {
+impl ProgramEnd {
     /// The end of a trial.
     fn of_try(end: TryEnd) -> Self
         ensures { result ≡ ending_of_try end }
     {
         match end {
-            TryEnd::Done => Ending::Done,
-            TryEnd::LineRefused(line, fault) => Ending::ScriptRefused(line, fault),
-            TryEnd::LineMissed(line, taken) => Ending::ScriptMissed(line, taken),
-            TryEnd::HistoryFull => Ending::HistoryFull,
-            TryEnd::InputFailed => Ending::InputFailed,
-            TryEnd::OutputFailed => Ending::OutputFailed,
-            TryEnd::OutOfMemory => Ending::OutOfMemory,
+            TryEnd::Done => ProgramEnd::Done,
+            TryEnd::LineRefused(line, fault) => ProgramEnd::ScriptRefused(line, fault),
+            TryEnd::LineMissed(line, taken) => ProgramEnd::ScriptMissed(line, taken),
+            TryEnd::HistoryFull => ProgramEnd::HistoryFull,
+            TryEnd::InputFailed => ProgramEnd::InputFailed,
+            TryEnd::OutputFailed => ProgramEnd::OutputFailed,
+            TryEnd::OutOfMemory => ProgramEnd::OutOfMemory,
         }
     }
 }

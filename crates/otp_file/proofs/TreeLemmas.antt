@@ -17,7 +17,7 @@ use Rattle.otp_file.specs.declared.fault.ChildKey.{ChildKey}
 use Rattle.otp_file.specs.declared.fault.ChildKey.TheVariants as key
 use Rattle.otp_file.specs.declared.fault.FlagKey.{FlagKey}
 use Rattle.otp_file.specs.declared.fault.FlagKey.TheVariants as flag
-use Rattle.otp_file.specs.declared.fault.Place.TheVariants.{Table, Child}
+use Rattle.otp_file.specs.declared.fault.FaultPlace.TheVariants.{Table, Child}
 use Rattle.otp_file.specs.declared.fault.TreeFault.{TreeFault}
 use Rattle.otp_file.specs.declared.fault.TreeFault.TheVariants.{OutOfMemory, NotToml, UnknownKey, MissingKey, WrongKind, BadFlag, BadSpec, Unlawful, TooDeep, TooManyTables, NestedNotInfinity}
 use Rattle.otp_spec.specs.Supervisor.{Supervisor}

@@ -14,7 +14,7 @@ use Rattle.otp_spec.specs.Children.{default_shutdown}
 use Rattle.otp_file.specs.declared.value.Unfit.{Unfit}
 use Rattle.otp_file.specs.declared.value.Unfit.TheVariants as unfit
 use Rattle.otp_file.specs.declared.fault.ChildKey.TheVariants.{Id, Start, Restart, Significant, Shutdown, Kind, Modules, Tree}
-use Rattle.otp_file.specs.declared.fault.Place.TheVariants.{Child, ChildKey}
+use Rattle.otp_file.specs.declared.fault.FaultPlace.TheVariants.{Child, ChildKey}
 use Rattle.otp_file.specs.declared.fault.TreeFault.{TreeFault}
 use Rattle.otp_file.specs.declared.fault.TreeFault.TheVariants.{UnknownKey, MissingKey, WrongKind, NestedNotInfinity}
 use Rattle.otp_file.specs.Faults.{answer_of, child_fault, fault_if, fault_of}

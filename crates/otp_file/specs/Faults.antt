@@ -5,7 +5,7 @@ use Rattle.otp_file.specs.declared.value.Unfit.{Unfit}
 use Rattle.otp_file.specs.declared.value.Unfit.TheVariants as unfit
 use Rattle.otp_file.specs.declared.fault.FlagKey.{FlagKey}
 use Rattle.otp_file.specs.declared.fault.ChildKey.{ChildKey}
-use Rattle.otp_file.specs.declared.fault.Place.TheVariants.{Flag, ChildKey as KeyOfChild}
+use Rattle.otp_file.specs.declared.fault.FaultPlace.TheVariants.{Flag, ChildKey as KeyOfChild}
 use Rattle.otp_file.specs.declared.fault.TreeFault.{TreeFault}
 use Rattle.otp_file.specs.declared.fault.TreeFault.TheVariants.{OutOfMemory, NotToml, UnknownKey, MissingKey, WrongKind, BadFlag, BadSpec, Unlawful, TooDeep, TooManyTables, NestedNotInfinity}
 

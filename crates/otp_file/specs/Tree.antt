@@ -15,7 +15,7 @@ use Rattle.otp_spec.specs.Supervisor.{Supervisor}
 use Rattle.otp_file.specs.declared.value.Unfit.{Unfit}
 use Rattle.otp_file.specs.declared.value.Unfit.TheVariants as unfit
 use Rattle.otp_file.specs.declared.fault.FlagKey.TheVariants.{Strategy, Intensity, Period, AutoShutdown as AutoShutdownKey, Child}
-use Rattle.otp_file.specs.declared.fault.Place.TheVariants.{Table}
+use Rattle.otp_file.specs.declared.fault.FaultPlace.TheVariants.{Table}
 use Rattle.otp_file.specs.declared.fault.TreeFault.{TreeFault}
 use Rattle.otp_file.specs.declared.fault.TreeFault.TheVariants.{UnknownKey, Unlawful}
 use Rattle.otp_file.specs.Children.{children_faults, specs_of, tree_of}

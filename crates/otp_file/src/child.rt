@@ -4,7 +4,7 @@ ghost use Rattle.otp_file.specs.Children.{child_faults, key_faults, kind_with, p
 ghost use Rattle.otp_file.specs.Faults.{answer_of};
 ghost use Rattle.toml.specs.View.{table_view, view};
 
-use crate::fault::{ChildKey, Place, TreeFault};
+use crate::fault::{ChildKey, FaultPlace, TreeFault};
 use crate::table::{has_only_child_keys, value_at};
 use crate::value::{Unfit, kind_at, modules_at, name_at, restart_at, shutdown_at, significant_at};
 use otp_reason::Name;
@@ -17,7 +17,7 @@ pub(crate) fn child_at(index: usize, value: &Value) -> Result<ChildSpec, TreeFau
 {
     match value.as_table() {
         Some(table) => spec_in(index, table),
-        None => Err(TreeFault::WrongKind(Place::Child(index))),
+        None => Err(TreeFault::WrongKind(FaultPlace::Child(index))),
     }
 }
 
@@ -26,7 +26,7 @@ fn spec_in(index: usize, table: &Table) -> Result<ChildSpec, TreeFault>
     ensures { result ≡ answer_of (key_faults index (table_view table.now)) (spec_in (table_view table.now)) }
 {
     if !has_only_child_keys(table) {
-        return Err(TreeFault::UnknownKey(Place::Child(index)));
+        return Err(TreeFault::UnknownKey(FaultPlace::Child(index)));
     }
     let Some(id) = value_at(table, ChildKey::Id.name()) else {
         return Err(TreeFault::MissingKey {

@@ -36,7 +36,7 @@ impl FlagKey {
         ensures { result ≡ flag_fault self unfit }
     {
         match unfit {
-            Unfit::WrongKind => TreeFault::WrongKind(Place::Flag(self)),
+            Unfit::WrongKind => TreeFault::WrongKind(FaultPlace::Flag(self)),
             Unfit::OutOfLimits => TreeFault::BadFlag(self),
         }
     }
@@ -88,7 +88,7 @@ impl ChildKey {
         ensures { result ≡ child_fault index self unfit }
     {
         match unfit {
-            Unfit::WrongKind => TreeFault::WrongKind(Place::ChildKey(index, self)),
+            Unfit::WrongKind => TreeFault::WrongKind(FaultPlace::ChildKey(index, self)),
             Unfit::OutOfLimits => TreeFault::BadSpec { index, key: self },
         }
     }
@@ -106,7 +106,7 @@ impl fmt::Display for ChildKey {
 
 /// A place in the file. An index is that of a child, from 0.
 #[derive(Clone, Copy, Debug, PartialEq, Eq)]
-pub enum Place {
+pub enum FaultPlace {
     /// The supervisor's table.
     Table,
     /// A key of it.
@@ -117,13 +117,13 @@ pub enum Place {
     ChildKey(usize, ChildKey),
 }
 
-impl fmt::Display for Place {
+impl fmt::Display for FaultPlace {
     fn fmt<W: fmt::Write>(&self, f: &mut fmt::Formatter<W>) -> fmt::Result {
         match self {
-            Place::Table => write!(f, "supervisor"),
-            Place::Flag(key) => write!(f, "supervisor, {key}"),
-            Place::Child(index) => write!(f, "child {index}"),
-            Place::ChildKey(index, key) => write!(f, "child {index}, {key}"),
+            FaultPlace::Table => write!(f, "supervisor"),
+            FaultPlace::Flag(key) => write!(f, "supervisor, {key}"),
+            FaultPlace::Child(index) => write!(f, "child {index}"),
+            FaultPlace::ChildKey(index, key) => write!(f, "child {index}, {key}"),
         }
     }
 }
@@ -139,13 +139,13 @@ pub enum TreeFault {
     NotToml,
     /// E11: a table has a key that is not listed for it.
     #[error("{0}: unknown key")]
-    UnknownKey(Place),
+    UnknownKey(FaultPlace),
     /// E12: a child has no `id` or no `start`.
     #[error("child {index}: {key} is missing")]
     MissingKey { index: usize, key: ChildKey },
     /// E13: a value is of another kind than its key asks for, or another word.
     #[error("{0}: the value is of the wrong kind")]
-    WrongKind(Place),
+    WrongKind(FaultPlace),
     /// E1: the intensity is not 0 to 1000, or the period not 1 to 1,000,000 seconds.
     #[error("supervisor, {0}: the number is out of its limits")]
     BadFlag(FlagKey),

@@ -5,7 +5,7 @@ ghost use Rattle.otp_file.specs.Faults.{answer_of};
 ghost use Rattle.otp_file.specs.Tree.{flag_faults, flags_in};
 ghost use Rattle.toml.specs.View.{table_view};
 
-use crate::fault::{FlagKey, Place, TreeFault};
+use crate::fault::{FlagKey, FaultPlace, TreeFault};
 use crate::table::{has_only_flag_keys, value_at};
 use crate::value::{auto_shutdown_at, intensity_at, period_at, strategy_at};
 use otp_spec::{MAX_INTENSITY, MAX_PERIOD, SupFlags};
@@ -18,7 +18,7 @@ pub(crate) fn flags_in(table: &Table) -> Result<SupFlags, TreeFault>
     ensures limits { IfOk result (λ flags. (flags.intensity ≤ MAX_INTENSITY) × (1 ≤ flags.period) × (flags.period ≤ MAX_PERIOD)) }
 {
     if !has_only_flag_keys(table) {
-        return Err(TreeFault::UnknownKey(Place::Table));
+        return Err(TreeFault::UnknownKey(FaultPlace::Table));
     }
     let strategy = strategy_at(value_at(table, FlagKey::Strategy.name())).map_err(
         |unfit| FlagKey::Strategy.fault(unfit),

@@ -3,19 +3,19 @@ use Rattle.std.specs.Prelude.{◌≡◌, ℕ, ⊤, Option, Some, None}
 use Rattle.otp_bridge.specs.declared.bridge.BridgePhase.TheVariants as bridge_phase
 use Rattle.otp_job.specs.declared.body.Body.{Body}
 use Rattle.otp_job.specs.declared.body.Body.TheVariants as body
-use Rattle.otp_job.specs.declared.process.Phase.{Phase}
-use Rattle.otp_job.specs.declared.process.Phase.TheVariants as phase
+use Rattle.otp_job.specs.declared.process.ProcessPhase.{ProcessPhase}
+use Rattle.otp_job.specs.declared.process.ProcessPhase.TheVariants as phase
 use Rattle.otp_job.specs.declared.process.Ticket.{Ticket}
 
 pub record ProcessState (J S : Type 0) : Type 0 where
   pub ticket : Ticket
   -- none where a nested supervisor's body has gone home
   pub body : Option (Body J S)
-  pub phase : Phase
+  pub phase : ProcessPhase
 
 module _ {J S : Type 0} where
   -- the process of this ticket, in this phase and with this body
-  abbrev pub process_at : Ticket → Phase → Body J S → ProcessState J S
+  abbrev pub process_at : Ticket → ProcessPhase → Body J S → ProcessState J S
   process_at ticket phase body = record { ticket = ticket; body = Some body; phase = phase }
 
   abbrev pub fresh_process : Ticket → Body J S → ProcessState J S
@@ -36,7 +36,7 @@ module _ {J S : Type 0} where
   IsUp None = ⊥
 
   -- a process that has started is up; a nested supervisor's has no turns, so it stays as it was made
-  abbrev pub IsSettled : Phase → Option (Body J S) → Type 0
+  abbrev pub IsSettled : ProcessPhase → Option (Body J S) → Type 0
   IsSettled phase.Fresh body = ⊤
   IsSettled phase.Running body = IsUp body
   IsSettled phase.Asked body = IsUp body

@@ -19,8 +19,8 @@ use Rattle.otp_job.specs.declared.job.Turn.{Turn}
 use Rattle.otp_job.specs.declared.job.Turn.TheVariants as turn
 use Rattle.otp_job.specs.declared.body.Body.{Body}
 use Rattle.otp_job.specs.declared.body.Body.TheVariants as body
-use Rattle.otp_job.specs.declared.process.Phase.{Phase}
-use Rattle.otp_job.specs.declared.process.Phase.TheVariants as phase
+use Rattle.otp_job.specs.declared.process.ProcessPhase.{ProcessPhase}
+use Rattle.otp_job.specs.declared.process.ProcessPhase.TheVariants as phase
 use Rattle.otp_job.specs.declared.process.Ticket.{Ticket}
 use Rattle.otp_job.specs.declared.turn.After.{After}
 use Rattle.otp_job.specs.declared.turn.After.TheVariants as after
@@ -41,12 +41,12 @@ module _ {J S : Type 0} where
   after_start ticket (start.Fail reason) body = done ticket (note.Failed ticket.number reason) body
 
   -- what follows from the answer of a turn
-  abbrev pub after_turn : Ticket → Phase → Turn → Body J S → After J S
+  abbrev pub after_turn : Ticket → ProcessPhase → Turn → Body J S → After J S
   after_turn ticket phase turn.Again body = after.Again (process_at ticket phase body)
   after_turn ticket phase (turn.End reason) body = exited ticket reason body
 
   -- what follows from a bridge's turn
-  abbrev pub after_bridge : Ticket → Phase → Option Reason → Body J S → After J S
+  abbrev pub after_bridge : Ticket → ProcessPhase → Option Reason → Body J S → After J S
   after_bridge ticket phase None body = after.Again (process_at ticket phase body)
   after_bridge ticket phase (Some reason) body = exited ticket reason body
 
@@ -56,18 +56,18 @@ module _ {J S : Type 0} where
       (answer : Started) × (left : J) × started job ticket.number answer left × (after ≡ after_start ticket answer (body.Worker left))
 
   -- one call of `turn`, in which the job is told this
-  abbrev pub TellsJob : (J → Told → Turn → J → Type 0) → Ticket → Phase → Told → J → After J S → Type 0
+  abbrev pub TellsJob : (J → Told → Turn → J → Type 0) → Ticket → ProcessPhase → Told → J → After J S → Type 0
   TellsJob turned ticket phase told job after =
       (answer : Turn) × (left : J) × turned job told answer left × (after ≡ after_turn ticket phase answer (body.Worker left))
 
   -- what a shutdown does by its delivery: the job dies with no call, or is told, once
-  abbrev pub OnShutdown : (J → Told → Turn → J → Type 0) → Ticket → Phase → Delivery → J → After J S → Type 0
+  abbrev pub OnShutdown : (J → Told → Turn → J → Type 0) → Ticket → ProcessPhase → Delivery → J → After J S → Type 0
   OnShutdown turned ticket now (delivery.Dies reason) job after = after ≡ exited ticket reason (body.Worker job)
   OnShutdown turned ticket now (delivery.Message _) job after = TellsJob turned ticket phase.Asked told.Shutdown job after
   OnShutdown turned ticket now delivery.Ignored job after = TellsJob turned ticket now told.Nothing job after
 
   -- a later turn of a job: a kill calls nothing, and one that was told of the shutdown isn't told again
-  abbrev pub TurnsJob : (J → Bool) → (J → Told → Turn → J → Type 0) → Ticket → Phase → Signal → J → After J S → Type 0
+  abbrev pub TurnsJob : (J → Bool) → (J → Told → Turn → J → Type 0) → Ticket → ProcessPhase → Signal → J → After J S → Type 0
   TurnsJob traps turned ticket now signal.Kill job after = after ≡ exited ticket reason.Killed (body.Worker job)
   TurnsJob traps turned ticket now signal.None job after = TellsJob turned ticket now told.Nothing job after
   TurnsJob traps turned ticket phase.Asked signal.Shutdown job after = TellsJob turned ticket phase.Asked told.Nothing job after
@@ -80,7 +80,7 @@ module _ {J S : Type 0} where
       (answer : Started) × (left : BridgeState S) × Starts inited bridge answer left × (after ≡ after_start ticket answer (body.Bridge left))
 
   -- one turn of a bridge
-  abbrev pub TurnsBridge : (S → Option Reason → S → Type 0) → (S → Reason → S → Type 0) → Ticket → Phase → Signal → BridgeState S → After J S → Type 0
+  abbrev pub TurnsBridge : (S → Option Reason → S → Type 0) → (S → Reason → S → Type 0) → Ticket → ProcessPhase → Signal → BridgeState S → After J S → Type 0
   TurnsBridge polled terminated ticket phase signal bridge after =
       (ended : Option Reason) × (left : BridgeState S) × Turns polled terminated signal bridge ended left × (after ≡ after_bridge ticket phase ended (body.Bridge left))
 
@@ -92,7 +92,7 @@ module _ {J S : Type 0} where
   FirstTurn started inited ticket None after = ⊤
 
   -- each later turn
-  abbrev pub LaterTurn : (J → Bool) → (J → Told → Turn → J → Type 0) → (S → Option Reason → S → Type 0) → (S → Reason → S → Type 0) → Ticket → Phase → Signal → Option (Body J S) → After J S → Type 0
+  abbrev pub LaterTurn : (J → Bool) → (J → Told → Turn → J → Type 0) → (S → Option Reason → S → Type 0) → (S → Reason → S → Type 0) → Ticket → ProcessPhase → Signal → Option (Body J S) → After J S → Type 0
   LaterTurn traps turned polled terminated ticket now signal (Some (body.Worker job)) after = TurnsJob traps turned ticket now signal job after
   LaterTurn traps turned polled terminated ticket now signal (Some (body.Bridge bridge)) after = TurnsBridge polled terminated ticket now signal bridge after
   LaterTurn traps turned polled terminated ticket now signal (Some (body.Sup _)) after = ⊤

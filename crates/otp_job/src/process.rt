@@ -19,7 +19,7 @@ pub struct Ticket {
 
 /// How far a process has come.
 #[derive(Clone, Copy, Debug, PartialEq, Eq)]
-pub enum Phase {
+pub enum ProcessPhase {
     /// Its first turn is still to come.
     Fresh,
     /// It has started.
@@ -43,7 +43,7 @@ pub struct Process<J: Drop, S: Drop> {
 pub(crate) struct Inside<J: Drop, S: Drop> {
     pub(crate) ticket: Ticket,
     pub(crate) body: Option<Body<J, S>>,
-    pub(crate) phase: Phase,
+    pub(crate) phase: ProcessPhase,
 }
 
 impl<J: Drop, S: Drop> Model for Process<J, S> {
@@ -76,7 +76,7 @@ impl<J: Drop, S: Drop> Process<J, S> {
         let empty = Inside {
             ticket,
             body: None,
-            phase: Phase::Fresh,
+            phase: ProcessPhase::Fresh,
         };
         let Ok(mut inside) = Box::new(alloc, empty) else {
             return Err(body);
@@ -114,7 +114,7 @@ impl<J: Drop, S: Drop> Process<J, S> {
     }
 
     /// How far it has come.
-    pub fn phase(&self) -> Phase
+    pub fn phase(&self) -> ProcessPhase
         ensures { result ≡ self.now.phase }
     {
         self.inside.phase

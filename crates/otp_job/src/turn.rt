@@ -1,13 +1,13 @@
 ghost use Rattle.std.specs.Prelude.{◌≡◌, ◌≢◌, Some};
 ghost use Rattle.otp_bridge.specs.declared.bridge.BridgePhase.TheVariants as bridge_phase;
 ghost use Rattle.otp_reason.specs.declared.note.Started.TheVariants.{Up};
-ghost use Rattle.otp_job.specs.declared.process.Phase.TheVariants.{Fresh};
+ghost use Rattle.otp_job.specs.declared.process.ProcessPhase.TheVariants.{Fresh};
 ghost use Rattle.otp_job.specs.Processes.{IsRunnable, IsSettled, IsUp, process_at};
 ghost use Rattle.otp_job.specs.Turns.{done, exited, after_start, StartsJob, TellsJob, TurnsJob, StartsBridge, TurnsBridge, FirstTurn, LaterTurn};
 
 use crate::body::Body;
 use crate::job::{Job, Told, Turn};
-use crate::process::{Inside, Phase, Process, Spent};
+use crate::process::{Inside, ProcessPhase, Process, Spent};
 use otp_bridge::{Bridge, Subsystem};
 use otp_reason::{Delivery, Note, Reason, Started, deliver};
 use otp_signals::Signal;
@@ -49,7 +49,7 @@ pub fn one_turn<J: Job, S: Subsystem>(process: Process<J, S>, signal: Signal) ->
     let Some(body) = inside.body.take() else {
         unreachable!();
     };
-    if inside.phase == Phase::Fresh {
+    if inside.phase == ProcessPhase::Fresh {
         return first_turn(inside, body);
     }
     later_turn(inside, signal, body)
@@ -95,10 +95,10 @@ fn turn_job<J: Job, S: Drop>(inside: Emptied<J, S>, signal: Signal, job: J) -> A
     let phase = inside.phase;
     match signal {
         Signal::Kill => exit(inside, Reason::Killed, Body::Worker(job)),
-        Signal::Shutdown if phase != Phase::Asked => {
+        Signal::Shutdown if phase != ProcessPhase::Asked => {
             match deliver(Reason::Shutdown, job.traps()) {
                 Delivery::Dies(reason) => exit(inside, reason, Body::Worker(job)),
-                Delivery::Message(_) => tell_job(inside, Phase::Asked, Told::Shutdown, job),
+                Delivery::Message(_) => tell_job(inside, ProcessPhase::Asked, Told::Shutdown, job),
                 Delivery::Ignored => tell_job(inside, phase, Told::Nothing, job),
             }
         }
@@ -108,7 +108,7 @@ fn turn_job<J: Job, S: Drop>(inside: Emptied<J, S>, signal: Signal, job: J) -> A
 
 fn tell_job<J: Job, S: Drop>(
     inside: Emptied<J, S>,
-    phase: Phase,
+    phase: ProcessPhase,
     told: Told,
     mut job: J,
 ) -> After<J, S>
@@ -148,7 +148,7 @@ fn begin<J: Drop, S: Drop>(inside: Emptied<J, S>, answer: Started, body: Body<J,
 {
     let number = inside.ticket.number;
     match answer {
-        Started::Up => After::Begun(process(inside, Phase::Running, body), Note::Up(number)),
+        Started::Up => After::Begun(process(inside, ProcessPhase::Running, body), Note::Up(number)),
         Started::Ignore => end(inside, Note::Ignored(number), body),
         Started::Fail(reason) => end(inside, Note::Failed(number, reason), body),
     }
@@ -157,7 +157,7 @@ fn begin<J: Drop, S: Drop>(inside: Emptied<J, S>, answer: Started, body: Body<J,
 // The process goes on, in this phase.
 fn process<J: Drop, S: Drop>(
     mut inside: Emptied<J, S>,
-    phase: Phase,
+    phase: ProcessPhase,
     body: Body<J, S>,
 ) -> Process<J, S>
     requires { IsSettled phase (Some body) }

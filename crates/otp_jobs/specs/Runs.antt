@@ -12,8 +12,8 @@ use Rattle.otp_jobs.specs.Reports.{report_text}
 use Rattle.otp_jobs.specs.declared.report.TableLine.{TableLine}
 use Rattle.otp_jobs.specs.declared.role.Calm.{Calm}
 use Rattle.otp_jobs.specs.declared.worker.WorkedJob.{WorkedJob}
-use Rattle.otp_jobs.specs.declared.run.RunFault.{RunFault}
-use Rattle.otp_jobs.specs.declared.run.RunFault.TheVariants.{OutOfMemory, UnknownStart, WrongBody, TooManyTables, NoBody, Unlawful, Mismatch, Missing}
+use Rattle.otp_jobs.specs.declared.run.FileRunFault.{FileRunFault}
+use Rattle.otp_jobs.specs.declared.run.FileRunFault.TheVariants.{OutOfMemory, UnknownStart, WrongBody, TooManyTables, NoBody, Unlawful, Mismatch, Missing}
 use Rattle.otp_jobs.specs.declared.run.TheConstants.{MIN_SCHEDULERS, MAX_SCHEDULERS, MIN_TURNS, MAX_TURNS}
 
 -- the limits of a run
@@ -26,20 +26,20 @@ pub record SettingsView : Type 0 where
   pub turns : ℕ
 
 -- why a tree is not run that can't be planned
-abbrev pub run_fault : PlanFault → RunFault
+abbrev pub run_fault : PlanFault → FileRunFault
 run_fault plan.OutOfMemory = OutOfMemory
 run_fault plan.TooManyTables = TooManyTables
 run_fault (plan.UnknownStart name) = UnknownStart name
 run_fault plan.WrongBody = WrongBody
 
 -- a fault of the starts that the tree names
-abbrev pub IsOfRun : RunFault → Type 0
+abbrev pub IsOfRun : FileRunFault → Type 0
 IsOfRun (UnknownStart _) = ⊤
 IsOfRun WrongBody = ⊤
 IsOfRun _ = ⊥
 
 -- a fault that is none of the starts
-abbrev pub IsNotPlanned : RunFault → Type 0
+abbrev pub IsNotPlanned : FileRunFault → Type 0
 IsNotPlanned OutOfMemory = ⊤
 IsNotPlanned (Unlawful _) = ⊤
 IsNotPlanned NoBody = ⊤

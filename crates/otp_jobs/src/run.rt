@@ -13,7 +13,7 @@ use otp_core::OpenFault;
 use otp_file::TreeSpec;
 use otp_reason::Name;
 use otp_spec::SpecFault;
-use otp_tree::{CloseFault, Gate, RunFault as Unreported, SystemFault, TableReport, run_tree};
+use otp_tree::{CloseFault, Gate, RunFault, SystemFault, TableReport, run_tree};
 use std::alloc::{AllocError, Global};
 use std::marker::Model;
 use std::sync::Wait;
@@ -21,7 +21,7 @@ use std::thread::Threads;
 
 /// Why a tree was not run.
 #[derive(Clone, Copy, Debug, PartialEq, Eq)]
-pub enum RunFault {
+pub enum FileRunFault {
     /// E0: memory was refused.
     OutOfMemory,
     /// The start of a child that has no tree is no word of a worked job.
@@ -40,61 +40,61 @@ pub enum RunFault {
     Missing,
 }
 
-impl From<AllocError> for RunFault {
+impl From<AllocError> for FileRunFault {
     ghost use Rattle.std.specs.Prelude.{◌≡◌};
-    ghost use Rattle.otp_jobs.specs.declared.run.RunFault.TheVariants.{OutOfMemory};
+    ghost use Rattle.otp_jobs.specs.declared.run.FileRunFault.TheVariants.{OutOfMemory};
 
     ghost from_gives = { λ _ fault. fault ≡ OutOfMemory };
 
-    fn from(_: AllocError) -> RunFault {
-        RunFault::OutOfMemory
+    fn from(_: AllocError) -> FileRunFault {
+        FileRunFault::OutOfMemory
     }
 }
 
-impl From<PlanFault> for RunFault {
+impl From<PlanFault> for FileRunFault {
     ghost use Rattle.std.specs.Prelude.{◌≡◌};
     ghost use Rattle.otp_jobs.specs.Runs.{run_fault};
 
     ghost from_gives = { λ why fault. fault ≡ run_fault why };
 
-    fn from(why: PlanFault) -> RunFault {
+    fn from(why: PlanFault) -> FileRunFault {
         match why {
-            PlanFault::OutOfMemory => RunFault::OutOfMemory,
-            PlanFault::TooManyTables => RunFault::TooManyTables,
-            PlanFault::UnknownStart(name) => RunFault::UnknownStart(name),
-            PlanFault::WrongBody => RunFault::WrongBody,
+            PlanFault::OutOfMemory => FileRunFault::OutOfMemory,
+            PlanFault::TooManyTables => FileRunFault::TooManyTables,
+            PlanFault::UnknownStart(name) => FileRunFault::UnknownStart(name),
+            PlanFault::WrongBody => FileRunFault::WrongBody,
         }
     }
 }
 
-impl From<SystemFault> for RunFault {
+impl From<SystemFault> for FileRunFault {
     ghost use Rattle.otp_jobs.specs.Runs.{IsNotPlanned};
 
     ghost from_gives = { λ _ fault. IsNotPlanned fault };
 
-    fn from(why: SystemFault) -> RunFault {
+    fn from(why: SystemFault) -> FileRunFault {
         match why {
-            SystemFault::OutOfMemory => RunFault::OutOfMemory,
+            SystemFault::OutOfMemory => FileRunFault::OutOfMemory,
             SystemFault::Table { fault, .. } => match fault {
-                OpenFault::OutOfMemory => RunFault::OutOfMemory,
-                OpenFault::Spec(fault) => RunFault::Unlawful(fault),
+                OpenFault::OutOfMemory => FileRunFault::OutOfMemory,
+                OpenFault::Spec(fault) => FileRunFault::Unlawful(fault),
             },
-            SystemFault::NoBody { .. } => RunFault::NoBody,
+            SystemFault::NoBody { .. } => FileRunFault::NoBody,
         }
     }
 }
 
-impl From<Unreported<WorkedJob, Calm>> for RunFault {
+impl From<RunFault<WorkedJob, Calm>> for FileRunFault {
     ghost use Rattle.otp_jobs.specs.Runs.{IsNotPlanned};
 
     ghost from_gives = { λ _ fault. IsNotPlanned fault };
 
-    fn from(why: Unreported<WorkedJob, Calm>) -> RunFault {
+    fn from(why: RunFault<WorkedJob, Calm>) -> FileRunFault {
         match why {
-            Unreported::Open(fault) => RunFault::from(fault),
-            Unreported::Close(CloseFault::OutOfMemory(())) => RunFault::OutOfMemory,
-            Unreported::Close(CloseFault::Missing(())) => RunFault::Missing,
-            Unreported::Close(CloseFault::Mismatch(..)) => RunFault::Mismatch,
+            RunFault::Open(fault) => FileRunFault::from(fault),
+            RunFault::Close(CloseFault::OutOfMemory(())) => FileRunFault::OutOfMemory,
+            RunFault::Close(CloseFault::Missing(())) => FileRunFault::Missing,
+            RunFault::Close(CloseFault::Mismatch(..)) => FileRunFault::Mismatch,
         }
     }
 }
@@ -193,9 +193,9 @@ fn lines_of(alloc: Global, tables: &[TableReport]) -> Result<Vec<TableLine>, All
 ///
 /// # Errors
 ///
-/// Where a start stands for nothing or a job for no worker, nothing is run: [`RunFault::UnknownStart`] and
-/// [`RunFault::WrongBody`]. [`RunFault::OutOfMemory`], also while the text is made. [`RunFault::Missing`] and
-/// [`RunFault::Mismatch`] where the tree can't be closed.
+/// Where a start stands for nothing or a job for no worker, nothing is run: [`FileRunFault::UnknownStart`] and
+/// [`FileRunFault::WrongBody`]. [`FileRunFault::OutOfMemory`], also while the text is made. [`FileRunFault::Missing`] and
+/// [`FileRunFault::Mismatch`] where the tree can't be closed.
 pub fn run_worked<R, G>(
     rt: &R,
     alloc: Global,
@@ -203,7 +203,7 @@ pub fn run_worked<R, G>(
     settings: Settings,
     gate: &G,
     out: &mut Vec<u8>,
-) -> Result<(), RunFault>
+) -> Result<(), FileRunFault>
 where
     R: Threads + Wait + Sync,
     G: Gate + Sync,

@@ -1,6 +1,6 @@
 use crate::fixtures::named;
 use otp_file::{
-    ChildKey, FlagKey, MAX_DEPTH, MAX_TABLES, Place, TreeFault, read_located, read_tree,
+    ChildKey, FlagKey, MAX_DEPTH, MAX_TABLES, FaultPlace, TreeFault, read_located, read_tree,
 };
 use otp_spec::{AutoShutdown, ChildType, Modules, Restart, Shutdown, SpecFault, Strategy};
 use std::alloc::Global;
@@ -124,18 +124,18 @@ fn faults_of_the_supervisor(rt: HostRuntime) {
         (b"\xff", TreeFault::NotToml, 10),
         (
             b"period = 0\nchilds = []",
-            TreeFault::UnknownKey(Place::Table),
+            TreeFault::UnknownKey(FaultPlace::Table),
             11,
         ),
-        (b"tree = {}", TreeFault::UnknownKey(Place::Table), 11),
+        (b"tree = {}", TreeFault::UnknownKey(FaultPlace::Table), 11),
         (
             b"intensity = -1\nstrategy = 1",
-            TreeFault::WrongKind(Place::Flag(FlagKey::Strategy)),
+            TreeFault::WrongKind(FaultPlace::Flag(FlagKey::Strategy)),
             13,
         ),
         (
             b"strategy = \"one\"",
-            TreeFault::WrongKind(Place::Flag(FlagKey::Strategy)),
+            TreeFault::WrongKind(FaultPlace::Flag(FlagKey::Strategy)),
             13,
         ),
         (
@@ -151,12 +151,12 @@ fn faults_of_the_supervisor(rt: HostRuntime) {
         (b"period = 1000001", TreeFault::BadFlag(FlagKey::Period), 1),
         (
             b"auto_shutdown = \"some\"\nchild = 1",
-            TreeFault::WrongKind(Place::Flag(FlagKey::AutoShutdown)),
+            TreeFault::WrongKind(FaultPlace::Flag(FlagKey::AutoShutdown)),
             13,
         ),
         (
             b"child = 1",
-            TreeFault::WrongKind(Place::Flag(FlagKey::Child)),
+            TreeFault::WrongKind(FaultPlace::Flag(FlagKey::Child)),
             13,
         ),
         (
@@ -174,8 +174,8 @@ fn faults_of_the_supervisor(rt: HostRuntime) {
 #[test]
 fn faults_of_a_child(rt: HostRuntime) -> Result<(), Fail> {
     let table = [
-        ("1", TreeFault::WrongKind(Place::Child(1)), 13),
-        ("{ trees = {} }", TreeFault::UnknownKey(Place::Child(1)), 11),
+        ("1", TreeFault::WrongKind(FaultPlace::Child(1)), 13),
+        ("{ trees = {} }", TreeFault::UnknownKey(FaultPlace::Child(1)), 11),
         (
             "{ start = 1 }",
             TreeFault::MissingKey {
@@ -202,17 +202,17 @@ fn faults_of_a_child(rt: HostRuntime) -> Result<(), Fail> {
         ),
         (
             "{ id = \"b\", start = 1, restart = 1 }",
-            TreeFault::WrongKind(Place::ChildKey(1, ChildKey::Start)),
+            TreeFault::WrongKind(FaultPlace::ChildKey(1, ChildKey::Start)),
             13,
         ),
         (
             "{ id = \"b\", start = \"b\", restart = 1, significant = 1 }",
-            TreeFault::WrongKind(Place::ChildKey(1, ChildKey::Restart)),
+            TreeFault::WrongKind(FaultPlace::ChildKey(1, ChildKey::Restart)),
             13,
         ),
         (
             "{ id = \"b\", start = \"b\", significant = 1, shutdown = -1 }",
-            TreeFault::WrongKind(Place::ChildKey(1, ChildKey::Significant)),
+            TreeFault::WrongKind(FaultPlace::ChildKey(1, ChildKey::Significant)),
             13,
         ),
         (
@@ -233,17 +233,17 @@ fn faults_of_a_child(rt: HostRuntime) -> Result<(), Fail> {
         ),
         (
             "{ id = \"b\", start = \"b\", shutdown = \"kill\" }",
-            TreeFault::WrongKind(Place::ChildKey(1, ChildKey::Shutdown)),
+            TreeFault::WrongKind(FaultPlace::ChildKey(1, ChildKey::Shutdown)),
             13,
         ),
         (
             "{ id = \"b\", start = \"b\", type = 1, modules = 1 }",
-            TreeFault::WrongKind(Place::ChildKey(1, ChildKey::Kind)),
+            TreeFault::WrongKind(FaultPlace::ChildKey(1, ChildKey::Kind)),
             13,
         ),
         (
             "{ id = \"b\", start = \"b\", modules = [\"\", 1] }",
-            TreeFault::WrongKind(Place::ChildKey(1, ChildKey::Modules)),
+            TreeFault::WrongKind(FaultPlace::ChildKey(1, ChildKey::Modules)),
             13,
         ),
         (
@@ -324,11 +324,11 @@ fn texts_of_faults(rt: HostRuntime) -> Result<(), Fail> {
         (TreeFault::OutOfMemory, "out of memory"),
         (TreeFault::NotToml, "the file is not TOML"),
         (
-            TreeFault::UnknownKey(Place::Table),
+            TreeFault::UnknownKey(FaultPlace::Table),
             "supervisor: unknown key",
         ),
         (
-            TreeFault::UnknownKey(Place::Child(3)),
+            TreeFault::UnknownKey(FaultPlace::Child(3)),
             "child 3: unknown key",
         ),
         (
@@ -339,11 +339,11 @@ fn texts_of_faults(rt: HostRuntime) -> Result<(), Fail> {
             "child 3: start is missing",
         ),
         (
-            TreeFault::WrongKind(Place::Flag(FlagKey::AutoShutdown)),
+            TreeFault::WrongKind(FaultPlace::Flag(FlagKey::AutoShutdown)),
             "supervisor, auto_shutdown: the value is of the wrong kind",
         ),
         (
-            TreeFault::WrongKind(Place::ChildKey(3, ChildKey::Kind)),
+            TreeFault::WrongKind(FaultPlace::ChildKey(3, ChildKey::Kind)),
             "child 3, type: the value is of the wrong kind",
         ),
         (
@@ -496,13 +496,13 @@ fn nested_faults(rt: HostRuntime) -> Result<(), Fail> {
         (
             "tree = 1",
             0,
-            TreeFault::WrongKind(Place::ChildKey(0, ChildKey::Tree)),
+            TreeFault::WrongKind(FaultPlace::ChildKey(0, ChildKey::Tree)),
             13,
         ),
         (
             "type = \"worker\"\ntree = {}",
             0,
-            TreeFault::WrongKind(Place::ChildKey(0, ChildKey::Kind)),
+            TreeFault::WrongKind(FaultPlace::ChildKey(0, ChildKey::Kind)),
             13,
         ),
         (
@@ -514,7 +514,7 @@ fn nested_faults(rt: HostRuntime) -> Result<(), Fail> {
         (
             "tree = { id = 1 }",
             1,
-            TreeFault::UnknownKey(Place::Table),
+            TreeFault::UnknownKey(FaultPlace::Table),
             11,
         ),
         (

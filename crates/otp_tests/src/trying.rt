@@ -4,7 +4,7 @@ use otp_file::read_tree;
 use otp_reason::{Name, Reason, Text};
 use otp_sim::Counted;
 use otp_try::{
-    Action, Child, NextStart, ScriptFault, Shows, Taken, TryEnd, When, Writer, read_step, try_tree,
+    Action, Child, NextStart, ScriptFault, Shows, ActionEnd, TryEnd, When, Writer, read_step, try_tree,
 };
 use std::alloc::Global;
 use std::process::Abort;
@@ -116,7 +116,7 @@ fn missed_lines(rt: HostRuntime) -> Result<(), Fail> {
         Writer::Script,
         "crash bd\n",
         "0.000 s  start db #1\n0.000 s  ready\nline 1: crash bd\n",
-        TryEnd::LineMissed(1, Taken::NoChild),
+        TryEnd::LineMissed(1, ActionEnd::NoChild),
     )?;
     plays(
         &rt,

@@ -23,8 +23,8 @@ use Rattle.otp_try.specs.declared.script.Child.{Child}
 use Rattle.otp_try.specs.declared.script.Child.TheVariants as child
 use Rattle.otp_try.specs.declared.finding.Found.{Found}
 use Rattle.otp_try.specs.declared.finding.Found.TheVariants as found
-use Rattle.otp_try.specs.declared.trial.Taken.{Taken}
-use Rattle.otp_try.specs.declared.trial.Taken.TheVariants as taken
+use Rattle.otp_try.specs.declared.trial.ActionEnd.{ActionEnd}
+use Rattle.otp_try.specs.declared.trial.ActionEnd.TheVariants as taken
 use Rattle.otp_try.specs.Story.{event_text}
 
 -- a supervisor of the tree: what stands in front of the names of its children, as `sub/`, and its events since it was
@@ -114,13 +114,13 @@ Begins place k old new = (seat : Seated) × (e : Event) × (ms : List Move)
     × Lead old (record { place = place; seat = seat; event = Some e } ∷ ms) new × (e.kind ≡ k)
 
 -- the end of that process is what happens first; or nothing happens, and the answer says why
-unfoldable pub Ends : ℕ → Reason → Found → List Seated → Taken → List Seated → Type 0
+unfoldable pub Ends : ℕ → Reason → Found → List Seated → ActionEnd → List Seated → Type 0
 Ends place r (found.Process p) old answer new = (answer ≡ taken.Done) × Begins place (kind.Took (item.Note (note.Exit p r))) old new
 Ends place r found.NoProcess old answer new = (answer ≡ taken.NoProcess) × (new ≡ old)
 Ends place r found.NoChild old answer new = (answer ≡ taken.NoChild) × (new ≡ old)
 
 -- what an action of a script, which is said to the supervisor at this place, does first
-unfoldable pub Acts : Action → ℕ → Seated → List Seated → Taken → List Seated → Type 0
+unfoldable pub Acts : Action → ℕ → Seated → List Seated → ActionEnd → List Seated → Type 0
 Acts action.Nothing place seat old answer new = (answer ≡ taken.Done) × (new ≡ old)
 Acts (action.Exit c r) place seat old answer new = Ends place r (found_for c (state_in seat).rows) old answer new
 Acts (action.Start _ _) place seat old answer new = (answer ≡ taken.Done) × (new ≡ old)
@@ -129,11 +129,11 @@ Acts action.Stop place seat old answer new = answer ≡ taken.Done
 Acts (action.Call c) place seat old answer new = (answer ≡ taken.Done) × ((n : ℕ) × Begins place (kind.Took (item.Call n c)) old new)
 
 -- the supervisor that a script means stands at this place, and its own children are meant
-abbrev pub ActsAt : Action → ℕ → List Seated → Taken → List Seated → Type 0
+abbrev pub ActsAt : Action → ℕ → List Seated → ActionEnd → List Seated → Type 0
 ActsAt a place old answer new = (seat : Seated) → IsAt old place seat → Acts a place seat old answer new
 
 -- the process that is meant is that of this child of the supervisor at this place
-abbrev pub EndsAt : ℕ → Reason → Child → List Seated → Taken → List Seated → Type 0
+abbrev pub EndsAt : ℕ → Reason → Child → List Seated → ActionEnd → List Seated → Type 0
 EndsAt place r c old answer new = (seat : Seated) → IsAt old place seat → Ends place r (found_for c (state_in seat).rows) old answer new
 
 -- a supervisor for each of these tables, in their order, that was never opened

@@ -2,8 +2,8 @@
 use Rattle.std.specs.Prelude.{ℕ, List, [], codes}
 use Rattle.otp_try.specs.declared.script.ScriptFault.{ScriptFault}
 use Rattle.otp_try.specs.declared.script.ScriptFault.TheVariants as fault
-use Rattle.otp_try.specs.declared.trial.Taken.{Taken}
-use Rattle.otp_try.specs.declared.trial.Taken.TheVariants as taken
+use Rattle.otp_try.specs.declared.trial.ActionEnd.{ActionEnd}
+use Rattle.otp_try.specs.declared.trial.ActionEnd.TheVariants as taken
 
 -- what would be read in the place of what stands there
 unfoldable pub fault_text : ScriptFault → List ℕ
@@ -17,7 +17,7 @@ fault_text fault.TooManyWords = codes "more words than the line may have"
 fault_text fault.TooLong = codes "more than 512 bytes"
 
 -- why an action did nothing; nothing where it was taken
-unfoldable pub taken_text : Taken → List ℕ
+unfoldable pub taken_text : ActionEnd → List ℕ
 taken_text taken.Done = []
 taken_text taken.NoProcess = codes "ignored: this child has no process now; restart ID starts it again, which lists what runs"
 taken_text taken.NoChild = codes "ignored: there is no such child; which lists the children"

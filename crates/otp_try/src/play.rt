@@ -11,7 +11,7 @@ use crate::sketch::{Shows, Sketch};
 use crate::state::write_state;
 use crate::telling::write_heading;
 use crate::time::write_time;
-use crate::trial::{Halt, Taken, Trial};
+use crate::trial::{Halt, ActionEnd, Trial};
 use crate::words::next_word;
 use otp_file::TreeSpec;
 use otp_reason::Name;
@@ -30,7 +30,7 @@ pub enum TryEnd {
     LineRefused(u64, ScriptFault),
     /// The line with this number could do nothing: the child that it means is not there or has no process, or its time
     /// has gone by.
-    LineMissed(u64, Taken),
+    LineMissed(u64, ActionEnd),
     /// The history has no room for another event.
     HistoryFull,
     InputFailed,
@@ -141,13 +141,13 @@ impl Play {
     fn play_step(&mut self, line: &[u8], step: Step<'_>) -> Result<(), TryEnd> {
         self.write_line(line, step)?;
         let Some(time) = self.time_of(step.when) else {
-            return self.miss(Taken::TooLate);
+            return self.miss(ActionEnd::TooLate);
         };
         self.trial.go_to(time, &mut self.page)?;
         let is_unknown = self.means_nobody(step);
         match self.act(step)? {
-            Taken::Done if is_unknown => self.tell_unknown(),
-            Taken::Done => Ok(()),
+            ActionEnd::Done if is_unknown => self.tell_unknown(),
+            ActionEnd::Done => Ok(()),
             taken => self.miss(taken),
         }
     }
@@ -176,24 +176,24 @@ impl Play {
     }
 
     /// What a line says is done at the supervisor that it means.
-    fn act(&mut self, step: Step<'_>) -> Result<Taken, Halt> {
+    fn act(&mut self, step: Step<'_>) -> Result<ActionEnd, Halt> {
         let Some(place) = self.place_of(step) else {
-            return Ok(self.unless_ended(Taken::NoChild));
+            return Ok(self.unless_ended(ActionEnd::NoChild));
         };
         if !self.trial.has_process(place) {
-            return Ok(self.unless_ended(Taken::NoProcess));
+            return Ok(self.unless_ended(ActionEnd::NoProcess));
         }
         let taken = self.trial.act(place, step.action, &mut self.page)?;
         match taken {
-            Taken::NoChild => Ok(self.unless_ended(taken)),
+            ActionEnd::NoChild => Ok(self.unless_ended(taken)),
             taken => Ok(taken),
         }
     }
 
     /// Why nothing was done: before all else that the root has ended.
-    fn unless_ended(&self, taken: Taken) -> Taken {
+    fn unless_ended(&self, taken: ActionEnd) -> ActionEnd {
         if self.trial.has_ended() {
-            Taken::Ended
+            ActionEnd::Ended
         } else {
             taken
         }
@@ -224,7 +224,7 @@ impl Play {
     }
 
     /// A line that did nothing.
-    fn miss(&mut self, taken: Taken) -> Result<(), TryEnd> {
+    fn miss(&mut self, taken: ActionEnd) -> Result<(), TryEnd> {
         if self.writer == Writer::Script {
             return Err(TryEnd::LineMissed(self.lines, taken));
         }

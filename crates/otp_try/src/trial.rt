@@ -8,7 +8,7 @@ ghost use Rattle.otp_spec.specs.declared.limits.TheConstants.{MAX_READING};
 ghost use Rattle.otp_try.specs.Played.{ActsAt, Begins, EndsAt, IsPlanted, Seated, Tells, is_root_over};
 ghost use Rattle.otp_try.specs.Sketched.{moment_of};
 ghost use Rattle.otp_try.specs.Texts.{taken_text};
-ghost use Rattle.otp_try.specs.declared.trial.Taken.TheVariants.{Done};
+ghost use Rattle.otp_try.specs.declared.trial.ActionEnd.TheVariants.{Done};
 
 use crate::finding::{Found, found_for};
 use crate::planting::plant;
@@ -45,7 +45,7 @@ impl From<AllocError> for Halt {
 
 /// What became of an action.
 #[derive(Clone, Copy, Debug, PartialEq, Eq)]
-pub enum Taken {
+pub enum ActionEnd {
     /// It was taken, and all that follows from it.
     Done,
     /// The child that it means has no process. Nothing happened.
@@ -58,19 +58,19 @@ pub enum Taken {
     Ended,
 }
 
-impl Taken {
+impl ActionEnd {
     /// Why it did nothing, and what to do; nothing where it was taken.
     #[tactic(auto, unfolding(crate::specs::Texts::taken_text))]
     pub fn text(self) -> &'static str
         ensures { result.now ≡ taken_text self }
     {
         match self {
-            Taken::Done => "",
-            Taken::NoProcess =>
+            ActionEnd::Done => "",
+            ActionEnd::NoProcess =>
                 "ignored: this child has no process now; restart ID starts it again, which lists what runs",
-            Taken::NoChild => "ignored: there is no such child; which lists the children",
-            Taken::TooLate => "ignored: that time has gone by; +TIME counts from the line before",
-            Taken::Ended => "ignored: the supervisor has ended; the line of its end says why",
+            ActionEnd::NoChild => "ignored: there is no such child; which lists the children",
+            ActionEnd::TooLate => "ignored: that time has gone by; +TIME counts from the line before",
+            ActionEnd::Ended => "ignored: the supervisor has ended; the line of its end says why",
         }
     }
 }
@@ -337,23 +337,23 @@ impl Trial {
     /// An action happens now, and all that follows from it. It is said to the supervisor at this place, and means its
     /// children.
     #[tactic(auto, unfolding(crate::specs::Played::Acts))]
-    pub fn act(&mut self, place: usize, action: Action, out: &mut Vec<u8>) -> Result<Taken, Halt>
+    pub fn act(&mut self, place: usize, action: Action, out: &mut Vec<u8>) -> Result<ActionEnd, Halt>
         requires { place < length self.old }
         ensures told { OnOk result (Tells self.old self.new out.old.items out.new.items) }
         ensures acted { IfOk result (λ taken. ActsAt action place self.old taken self.new) }
     {
         match action {
-            Action::Nothing => Ok(Taken::Done),
+            Action::Nothing => Ok(ActionEnd::Done),
             Action::Exit(child, reason) => self.end_process(place, &child, reason, out),
             Action::Start(id, start) => {
                 self.world.plan_start(place, id, start)?;
-                Ok(Taken::Done)
+                Ok(ActionEnd::Done)
             }
             Action::Hang(child) => self.hang(place, child),
             Action::Stop => {
                 self.world.stop(place);
                 self.settle(out)?;
-                Ok(Taken::Done)
+                Ok(ActionEnd::Done)
             }
             Action::Call(call) => self.call(place, call, out),
         }
@@ -392,7 +392,7 @@ impl Trial {
         child: &Child,
         reason: Reason,
         out: &mut Vec<u8>,
-    ) -> Result<Taken, Halt>
+    ) -> Result<ActionEnd, Halt>
         requires { place < length self.old }
         ensures told { OnOk result (Tells self.old self.new out.old.items out.new.items) }
         ensures ends { IfOk result (λ taken. EndsAt place reason child.now self.old taken self.new) }
@@ -400,27 +400,27 @@ impl Trial {
         match found_for(child, self.seats[place].rows()) {
             Found::Process(process) => {
                 self.end_number(place, process, reason, out)?;
-                Ok(Taken::Done)
+                Ok(ActionEnd::Done)
             }
-            Found::NoProcess => Ok(Taken::NoProcess),
-            Found::NoChild => Ok(Taken::NoChild),
+            Found::NoProcess => Ok(ActionEnd::NoProcess),
+            Found::NoChild => Ok(ActionEnd::NoChild),
         }
     }
 
     /// A child of the supervisor at this place will not end when it is next asked to shut down.
-    fn hang(&mut self, place: usize, child: Child) -> Result<Taken, Halt>
+    fn hang(&mut self, place: usize, child: Child) -> Result<ActionEnd, Halt>
         requires { place < length self.old }
         ensures { self.new ≡ self.old }
     {
         if found_for(&child, self.seats[place].rows()) == Found::NoChild {
-            return Ok(Taken::NoChild);
+            return Ok(ActionEnd::NoChild);
         }
         self.world.plan_hang(place, child)?;
-        Ok(Taken::Done)
+        Ok(ActionEnd::Done)
     }
 
     /// Somebody calls the supervisor at this place.
-    fn call(&mut self, place: usize, call: Call, out: &mut Vec<u8>) -> Result<Taken, Halt>
+    fn call(&mut self, place: usize, call: Call, out: &mut Vec<u8>) -> Result<ActionEnd, Halt>
         requires { place < length self.old }
         ensures told { OnOk result (Tells self.old self.new out.old.items out.new.items) }
         ensures called { IfOk result (λ taken. (taken ≡ Done) × ((n : ℕ) × Begins place (kind.Took (item.Call n call)) self.old self.new)) }
@@ -428,7 +428,7 @@ impl Trial {
         self.calls = self.calls.saturating_add(1);
         let number = self.calls;
         self.play(place, Kind::Took(Item::Call(number, call)), out)?;
-        Ok(Taken::Done)
+        Ok(ActionEnd::Done)
     }
 }
 

@@ -2,7 +2,7 @@
 
 use super::said;
 use crate::console::console;
-use crate::ending::Ending;
+use crate::ending::ProgramEnd;
 use otp_sim::Counted;
 use std::cell::Cell;
 use std::io::{Error, ErrorKind, Read, Write};
@@ -203,7 +203,7 @@ fn answers_come_before_reads(rt: HostRuntime) -> Result<(), Fail> {
         &mut reader,
         &mut writer,
     );
-    assert_eq!(rt; ended, Ending::Done);
+    assert_eq!(rt; ended, ProgramEnd::Done);
     assert_eq!(rt; written.get(), before);
     Ok(())
 }
@@ -259,7 +259,7 @@ fn few_reads_and_writes(rt: HostRuntime) -> Result<(), Fail> {
     });
     let mut writer = Counted::new(Taking { calls: 0, bytes: 0 });
     let ended = console(alloc, THREE_WORKERS.as_bytes(), &mut reader, &mut writer);
-    assert_eq!(rt; ended, Ending::Done);
+    assert_eq!(rt; ended, ProgramEnd::Done);
     // the last read finds the end
     let reads = reader.into_device().calls;
     assert_eq!(rt; reads, lines.len().div_ceil(65536).saturating_add(1));

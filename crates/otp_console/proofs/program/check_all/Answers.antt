@@ -1,14 +1,14 @@
 use Rattle.std.proofs.Common.{◌≡◌, ◌∙◌, ◌+◌, ℕ, List, Bor, rules, subst, sym, take, arith}
 use Rattle.otp_console.proofs.Checked.{checked_all, checked_first, checked_next}
 use Rattle.otp_console.specs.Runs.{ChecksEach}
-use Rattle.otp_console.specs.declared.ending.Ending.{Ending}
-use Rattle.otp_console.specs.declared.ending.Ending.TheVariants.{Done}
+use Rattle.otp_console.specs.declared.ending.ProgramEnd.{ProgramEnd}
+use Rattle.otp_console.specs.declared.ending.ProgramEnd.TheVariants.{Done}
 use Rattle.otp_console.proofs.program.check_all.Goals as goal
 
 pub loop-name-preserved : goal.loop-name-preserved
 loop-name-preserved g c = (
   c.check_named-next.ensures.silent (search rules) ∙ c.loop-name.invariant.0,
-  subst (λ (ending : Ending). ChecksEach (λ (name : Bor (List ℕ)). g.F.TreeFiles.holds c.args.files.now name.now) (take (c.loop-name.name-index + 1) c.args.names.now) Done ending
+  subst (λ (ending : ProgramEnd). ChecksEach (λ (name : Bor (List ℕ)). g.F.TreeFiles.holds c.args.files.now name.now) (take (c.loop-name.name-index + 1) c.args.names.now) Done ending
       (record { bytes = g.W.Output.contents c.args.output.now; failures = g.W.Output.failures c.args.output.now })
       (record { bytes = g.W.Output.contents c.check_named-next.new.output; failures = g.W.Output.failures c.check_named-next.new.output }))
       (sym c.worse-ending.ensures)
