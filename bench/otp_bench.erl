@@ -3,19 +3,22 @@
 %%   WORK: storm (N restarts of one child), storm50 (the same at intensity 50), all (N restarts of 256 children under one_for_all),
 %%         calls (N calls, which_children and count_children in turn, over 256 children),
 %%         counts (N calls of count_children over 256 children),
-%%         turns (N turns of 256 processes together, which only yield; HOW is process).
+%%         turns (N turns of 256 processes together, which only yield; HOW is process),
+%%         tree (supervisors of 256 children each, 63 under one, are started and stopped; N children),
+%%         storms (N restarts in all, by 63 supervisors at once, at intensity 50).
 %%   HOW:  process (a supervisor process, which is sent messages), or callbacks (supervisor's
 %%         handle_info and handle_call, called in this process).
 %% Prints the microseconds that the work took. Reports of the logger are off.
 -module(otp_bench).
 -behaviour(supervisor).
--export([main/1, init/1, start_worker/1]).
+-export([main/1, init/1, start_worker/1, start_nested/0]).
 
 %% The storm's supervisors live for so many restarts each: one more would end them.
 -define(INTENSITY, 1000).
 -define(USUAL_INTENSITY, 50).
 -define(PERIOD, 1000000).
 -define(CHILDREN, 256).
+-define(SUPERVISORS, 63).
 
 main([Work, How, N]) ->
     ok = logger:set_primary_config(level, none),
@@ -26,12 +29,19 @@ main([Work, How, N]) ->
     io:format("~b~n", [erlang:monotonic_time(microsecond) - Begin]),
     halt(0).
 
+init(root) ->
+    Nested = #{start => {?MODULE, start_nested, []}, type => supervisor},
+    {ok, {#{}, [Nested#{id => Id} || Id <- lists:seq(1, ?SUPERVISORS)]}};
 init({Strategy, Children, Driver}) -> init({Strategy, ?INTENSITY, Children, Driver});
 init({Strategy, Intensity, Children, Driver}) ->
     Flags = #{strategy => Strategy, intensity => Intensity, period => ?PERIOD},
     Start = {?MODULE, start_worker, [Driver]},
     {ok, {Flags, [#{id => Id, start => Start} || Id <- lists:seq(1, Children)]}}.
 
+start_nested() -> supervisor:start_link(?MODULE, {one_for_one, ?CHILDREN, none}).
+
+start_worker(none) ->
+    {ok, spawn_link(fun() -> receive die -> exit(crash) end end)};
 start_worker(Driver) ->
     Pid = spawn_link(fun() -> receive die -> exit(crash) end end),
     Driver ! {started, Pid},
@@ -64,6 +74,20 @@ work(counts, callbacks, N) ->
     {ok, State} = supervisor:init({self, ?MODULE, {one_for_one, ?CHILDREN, self()}}),
     last_started(?CHILDREN, none),
     counts_callbacks(N, State);
+work(tree, process, N) when N < ?SUPERVISORS * ?CHILDREN -> ok;
+work(tree, process, N) ->
+    {ok, Sup} = supervisor:start_link(?MODULE, root),
+    stop(Sup),
+    work(tree, process, N - ?SUPERVISORS * ?CHILDREN);
+work(storms, process, N) ->
+    Driver = self(),
+    Storm = fun() ->
+        process_flag(trap_exit, true),
+        ok = storm_at(?USUAL_INTENSITY, process, N div ?SUPERVISORS),
+        Driver ! {ended, self()}
+    end,
+    Pids = [spawn_link(Storm) || _ <- lists:seq(1, ?SUPERVISORS)],
+    lists:foreach(fun(Pid) -> receive {ended, Pid} -> ok end end, Pids);
 work(turns, process, N) ->
     Driver = self(),
     Pids = [spawn_link(fun() -> turns(N div ?CHILDREN), Driver ! {turned, self()} end) || _ <- lists:seq(1, ?CHILDREN)],

@@ -13,6 +13,7 @@ mod jobs;
 mod report;
 mod signal_words;
 mod supervisors;
+mod trees;
 
 use jobs::{Idle, JOBS};
 use otp_job::{Body, BoxedJob, Process};
@@ -27,7 +28,7 @@ fn main(rt: HostRuntime) -> io::Result<ExitCode> {
     let count = words.next().and_then(|word| word.parse::<u64>().ok());
     let (Some(work), Some(threads), Some(count)) = (work, threads, count) else {
         eprintln!(rt;
-            "usage: otp_bench core|inbox|puts|storm|supervisors|turns|words THREADS COUNT"
+            "usage: otp_bench core|inbox|puts|storm|supervisors|trees|turns|words THREADS COUNT"
         )?;
         return Ok(ExitCode::from(2));
     };
@@ -37,6 +38,7 @@ fn main(rt: HostRuntime) -> io::Result<ExitCode> {
         "inbox" => inbox::measure(&rt, rt.alloc(), threads, count)?,
         "words" => signal_words::measure(&rt, rt.alloc(), threads, count)?,
         "supervisors" => supervisors::measure(&rt, rt.alloc(), threads, count)?,
+        "trees" => trees::measure(&rt, rt.alloc(), threads, count)?,
         "puts" => jobs::measure_puts(&rt, rt.alloc(), count)?,
         "turns" => {
             let mut processes = Vec::with_capacity(rt.alloc(), JOBS)?;

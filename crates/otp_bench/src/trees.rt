@@ -1,0 +1,252 @@
+//! Trees on threads: a full one is started and stopped, and restarts go on in all supervisors of another.
+ghost use Rattle.std.specs.Prelude.{◌≡◌, ◌<◌, ◌≤◌, ◌^◌, false, true};
+ghost use Rattle.otp_run.specs.Rule.{all_parts};
+
+use crate::report::report;
+use otp_bridge::BoxedSubsystem;
+use otp_job::{Body, Job, TableNo, Told, Turn};
+use otp_reason::{Name, Note, Reason, Started, Text};
+use otp_spec::{ChildSpec, ChildType, MAX_INTENSITY, Shutdown, SupFlags};
+use otp_tree::{Gate, Leader, MAX_HANDS, MAX_TABLES, Report, Round, TablePlan, lead, run_tree};
+use std::alloc::{AllocError, Global};
+use std::io;
+use std::rt::Runtime;
+use std::sync::Wait;
+use std::thread::Threads;
+use std::time::Instant;
+
+/// So many turns each hand takes before the leader is asked again.
+const TURNS: u64 = 100_000;
+
+/// More rounds than a full tree needs.
+const MOST_ROUNDS: u64 = 10_000;
+
+const DIGITS: [u8; 16] = *b"0123456789abcdef";
+
+/// A worker that works on until it is asked to stop, or crashes in each turn.
+#[derive(Drop)]
+struct Worker {
+    crashes: bool,
+}
+
+impl Job for Worker {
+    ghost is_trapping = { λ _. true };
+
+    fn traps(&self) -> bool {
+        true
+    }
+
+    fn start(&mut self, _number: u64) -> Started {
+        Started::Up
+    }
+
+    fn turn(&mut self, told: Told) -> Turn {
+        match told {
+            Told::Shutdown => Turn::End(Reason::Shutdown),
+            Told::Nothing if self.crashes => Turn::End(Reason::Error(Text::joined(b"crash", b""))),
+            Told::Nothing => Turn::Again,
+        }
+    }
+}
+
+type Plan = TablePlan<Worker, BoxedSubsystem>;
+
+/// A clock whose milliseconds are nanoseconds: so no period has many restarts.
+#[derive(Drop)]
+struct Rush<'a, R> {
+    rt: &'a R,
+    begun: Instant,
+}
+
+impl<'a, R: Runtime> Gate for Rush<'a, R> {
+    fn before_turn(&self, _hand: usize) -> u64 {
+        let Ok(passed) = self.begun.elapsed(self.rt) else {
+            return 0;
+        };
+        match u64::try_from(passed.as_nanos()) {
+            Ok(reading) => reading.min(1 << 62),
+            Err(_) => 0,
+        }
+    }
+}
+
+/// A supervisor with no children.
+fn empty_plan(alloc: Global) -> Plan {
+    TablePlan {
+        flags: SupFlags {
+            intensity: MAX_INTENSITY,
+            period: 1,
+            ..SupFlags::default()
+        },
+        specs: Vec::new(alloc),
+        bodies: Vec::new(alloc),
+    }
+}
+
+fn push_worker(plan: &mut Plan, id: &[u8], crashes: bool) -> Result<(), AllocError> {
+    if let Some(id) = Name::new(id) {
+        plan.specs.push(ChildSpec::new(id, id))?;
+        plan.bodies.push(Body::Worker(Worker { crashes }))?;
+    }
+    Ok(())
+}
+
+/// A child that is the supervisor of this number.
+fn push_supervisor(plan: &mut Plan, id: &[u8], table: usize) -> Result<(), AllocError> {
+    if let Some(id) = Name::new(id) {
+        let mut spec = ChildSpec::new(id, id);
+        spec.kind = ChildType::Supervisor;
+        spec.shutdown = Shutdown::Infinity;
+        plan.specs.push(spec)?;
+        plan.bodies.push(Body::Sup(TableNo::new(table)))?;
+    }
+    Ok(())
+}
+
+/// The root, with the supervisors from 1 on as its first children, and so many children in all.
+fn root_plan(alloc: Global, children: usize) -> Result<Plan, AllocError> {
+    let mut plan = empty_plan(alloc);
+    for high in DIGITS {
+        for low in DIGITS {
+            let place = plan.specs.len();
+            if place + 1 < MAX_TABLES {
+                push_supervisor(&mut plan, &[high, low], place + 1)?;
+            } else if place < children {
+                push_worker(&mut plan, &[high, low], false)?;
+            }
+        }
+    }
+    Ok(plan)
+}
+
+/// A supervisor of so many workers.
+fn full_plan(alloc: Global, children: usize) -> Result<Plan, AllocError> {
+    let mut plan = empty_plan(alloc);
+    for high in DIGITS {
+        for low in DIGITS {
+            if plan.specs.len() < children {
+                push_worker(&mut plan, &[high, low], false)?;
+            }
+        }
+    }
+    Ok(plan)
+}
+
+/// As many supervisors as there may be, each but the root with so many children, at most 256.
+fn full_plans(alloc: Global, children: usize) -> Result<Vec<Plan>, AllocError> {
+    let mut plans = Vec::new(alloc);
+    plans.push(root_plan(alloc, children)?)?;
+    for _ in 1..MAX_TABLES {
+        plans.push(full_plan(alloc, children)?)?;
+    }
+    Ok(plans)
+}
+
+/// As many supervisors as there may be, each but the root with one worker that crashes in each turn.
+fn crashing_plans(alloc: Global) -> Result<Vec<Plan>, AllocError> {
+    let mut plans = Vec::new(alloc);
+    plans.push(root_plan(alloc, 0)?)?;
+    for _ in 1..MAX_TABLES {
+        let mut plan = empty_plan(alloc);
+        push_worker(&mut plan, b"worker", true)?;
+        plans.push(plan)?;
+    }
+    Ok(plans)
+}
+
+/// Serves until the root is up, then asks it to stop, and serves until it has ended.
+#[derive(Drop)]
+struct UpAndDown;
+
+impl Leader for UpAndDown {
+    fn next(&mut self, told: Option<Note>) -> Round {
+        match told {
+            Some(Note::Up(_)) => Round::Stop(TURNS),
+            Some(_) => Round::Leave,
+            None => Round::Serve(TURNS),
+        }
+    }
+}
+
+/// How many children were started, by all supervisors.
+fn count_starts(report: &Report<Worker, BoxedSubsystem>) -> u64 {
+    let mut starts = 0u64;
+    for table in report.tables.as_slice() {
+        starts = starts.saturating_add(table.starts());
+    }
+    starts
+}
+
+/// How many children each supervisor has, where so many turns are measured: 256, and fewer in a short measurement.
+fn children_for(count: u64) -> usize {
+    match usize::try_from(count / 10_000) {
+        Ok(children) => children.min(256),
+        Err(_) => 256,
+    }
+}
+
+/// Measures a full tree on so many threads: started, and stopped once all are up; and restarts, while all threads together take
+/// so many turns, and as many again in which all is stopped.
+pub fn measure<R: Runtime + Threads + Wait + Sync>(
+    rt: &R,
+    alloc: Global,
+    threads: usize,
+    count: u64,
+) -> io::Result<()> {
+    if threads == 0 || threads > MAX_HANDS {
+        return Ok(());
+    }
+    measure_full(rt, alloc, threads, children_for(count))?;
+    measure_restarts(rt, alloc, threads, count)
+}
+
+fn measure_full<R: Runtime + Threads + Wait + Sync>(
+    rt: &R,
+    alloc: Global,
+    threads: usize,
+    children: usize,
+) -> io::Result<()>
+    requires some { 0 < threads }
+    requires few { threads ≤ all_parts }
+{
+    let plans = full_plans(alloc, children)?;
+    if plans.len() > MAX_TABLES {
+        return Ok(());
+    }
+    let start = Instant::now(rt)?;
+    let gate = Rush { rt, begun: start };
+    let Ok(led) = lead(rt, alloc, plans, threads, &gate, MOST_ROUNDS, UpAndDown) else {
+        return Err(AllocError.into());
+    };
+    match led.report {
+        Ok(report_of_tree) => {
+            let starts = count_starts(&report_of_tree);
+            report(rt, "starts with their stops", threads, starts, start)
+        }
+        Err(_) => Err(AllocError.into()),
+    }
+}
+
+fn measure_restarts<R: Runtime + Threads + Wait + Sync>(
+    rt: &R,
+    alloc: Global,
+    threads: usize,
+    count: u64,
+) -> io::Result<()>
+    requires some { 0 < threads }
+    requires few { threads ≤ all_parts }
+{
+    let plans = crashing_plans(alloc)?;
+    if plans.len() > MAX_TABLES {
+        return Ok(());
+    }
+    let start = Instant::now(rt)?;
+    let gate = Rush { rt, begun: start };
+    match run_tree(rt, alloc, plans, threads, &gate, count / threads as u64) {
+        Ok(report_of_tree) => {
+            let starts = count_starts(&report_of_tree);
+            report(rt, "restarts of a tree", threads, starts, start)
+        }
+        Err(_) => Err(AllocError.into()),
+    }
+}
