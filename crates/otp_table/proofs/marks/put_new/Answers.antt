@@ -12,4 +12,4 @@ returns-in-None-clause-changed c =
 pub returns-in-Some-clause-changed : goal.returns-in-Some-clause-changed
 returns-in-Some-clause-changed c =
     let ms : List Mark = c.args.marks.now.items in
-    λ yes. subst (λ (o : Option ℕ). IsChanged c.args.place None o ms c.put_number.new.marks.items) (sym c.in-Some.is) (c.put_number.ensures.changed yes)
+    λ yes. subst (λ (o : Option ℕ). IsChanged c.args.place None o ms c.put_key.new.marks.items) (sym c.in-Some.is) (c.put_key.ensures.changed yes)

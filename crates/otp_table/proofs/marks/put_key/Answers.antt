@@ -2,12 +2,12 @@ use Rattle.std.proofs.Common.{ℕ, List, subst}
 use Rattle.otp_table.specs.declared.marks.Mark.{Mark}
 use Rattle.otp_table.specs.Marks.{IsUnder}
 use Rattle.otp_table.proofs.Indexed.{put_changed}
-use Rattle.otp_table.proofs.marks.put_number.Goals as goal
+use Rattle.otp_table.proofs.marks.put_key.Goals as goal
 
 pub put_mark-requires-clause-free : goal.put_mark-requires-clause-free
 put_mark-requires-clause-free c =
-    let IsFree : List Mark → Type 0 = λ ms. (p : ℕ) → IsUnder c.args.number p ms → ⊥ in
+    let IsFree : List Mark → Type 0 = λ ms. (p : ℕ) → IsUnder c.args.key p ms → ⊥ in
     subst IsFree c.deref.ensures.value c.in-None.ensures
 
 pub returns-in-None-clause-changed : goal.returns-in-None-clause-changed
-returns-in-None-clause-changed c = λ _. put_changed c.args.place c.args.number c.args.marks.now.items c.put_mark.new.marks.items c.put_mark.ensures.put
+returns-in-None-clause-changed c = λ _. put_changed c.args.place c.args.key c.args.marks.now.items c.put_mark.new.marks.items c.put_mark.ensures.put
