@@ -40,6 +40,10 @@ id_at = key_at id_key
 abbrev pub AreMarks : (ℕ → Option ℕ) → List Mark → Type 0
 AreMarks key ms = (n p : ℕ) → (IsUnder n p ms → key p ≡ Some n) × (key p ≡ Some n → IsUnder n p ms)
 
+-- no place stands under this key
+abbrev pub IsFree : Option ℕ → List Mark → Type 0
+IsFree key ms = (n p : ℕ) → key ≡ Some n → IsUnder n p ms → ⊥
+
 -- the place now stands under the key too, and all else stays
 abbrev pub IsPut : ℕ → ℕ → List Mark → List Mark → Type 0
 IsPut key place old new = (n p : ℕ) → (IsUnder n p new → ((key ≡ n) × (place ≡ p)) ⊎ IsUnder n p old) × (((key ≡ n) × (place ≡ p)) ⊎ IsUnder n p old → IsUnder n p new)

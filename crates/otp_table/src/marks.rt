@@ -2,7 +2,7 @@
 //! and searched by halving.
 
 ghost use Rattle.std.specs.Prelude.{◌≡◌, ◌+◌, ◌-◌, ◌<◌, ◌≤◌, ◌↔◌, ℕ, [], All, AllPairs, IfSome, IsTrue, None, Some, MatchOption, OnOk, OnErr, get_or, length, max, map, vec_len, vec_capacity};
-ghost use Rattle.otp_table.specs.Marks.{HasKey, IsChanged, IsGone, IsPut, IsTaken, IsUnder, Rises, moved};
+ghost use Rattle.otp_table.specs.Marks.{HasKey, IsChanged, IsFree, IsGone, IsPut, IsTaken, IsUnder, Rises, moved};
 
 /// A row's key, and the place of the row.
 #[derive(Clone, Copy, Debug)]
@@ -94,6 +94,7 @@ pub fn take_mark(marks: &mut Vec<Mark>, key: u64)
     requires { Rises marks.old.items }
     ensures rises { Rises marks.new.items }
     ensures taken { IsTaken key marks.old.items marks.new.items }
+    ensures len { vec_len marks.new ≤ vec_len marks.old }
     ensures capacity { vec_capacity marks.new ≡ vec_capacity marks.old }
 {
     match index_of(marks, key) {
@@ -129,6 +130,8 @@ fn take_old(marks: &mut Vec<Mark>, place: usize, old: Option<u64>)
     requires { Rises marks.old.items }
     ensures rises { Rises marks.new.items }
     ensures changed { IsChanged place old None marks.old.items marks.new.items }
+    ensures fewer { (n p : ℕ) → IsUnder n p marks.new.items → IsUnder n p marks.old.items }
+    ensures len { vec_len marks.new ≤ vec_len marks.old }
     ensures capacity { vec_capacity marks.new ≡ vec_capacity marks.old }
 {
     match old {
@@ -142,6 +145,7 @@ fn put_key(marks: &mut Vec<Mark>, place: usize, key: u64) -> bool
     requires { Rises marks.old.items }
     ensures rises { Rises marks.new.items }
     ensures changed { IsTrue result → IsChanged place None (Some key) marks.old.items marks.new.items }
+    ensures kept { vec_len marks.old < vec_capacity marks.old → IsFree (Some key) marks.old.items → IsTrue result }
     ensures capacity { vec_capacity marks.new ≡ vec_capacity marks.old }
 {
     if marks.len() >= marks.capacity() {
@@ -161,6 +165,7 @@ fn put_new(marks: &mut Vec<Mark>, place: usize, new: Option<u64>) -> bool
     requires { Rises marks.old.items }
     ensures rises { Rises marks.new.items }
     ensures changed { IsTrue result → IsChanged place None new marks.old.items marks.new.items }
+    ensures kept { vec_len marks.old < vec_capacity marks.old → IsFree new marks.old.items → IsTrue result }
     ensures capacity { vec_capacity marks.new ≡ vec_capacity marks.old }
 {
     match new {
@@ -180,7 +185,8 @@ fn is_same(one: Option<u64>, other: Option<u64>) -> bool
     }
 }
 
-/// The row at the place has one key now in place of another. Whether the marks told of each row, and do so still.
+/// The row at the place has one key now in place of another. Whether the marks told of each row, and do so still: where
+/// there is room, only a key that stands there already ends that.
 pub fn change_mark(
     marks: &mut Vec<Mark>,
     is_marked: bool,
@@ -192,6 +198,7 @@ pub fn change_mark(
     ensures rises { Rises marks.new.items }
     ensures before { IsTrue result → IsTrue is_marked }
     ensures changed { IsTrue result → IsChanged place old new marks.old.items marks.new.items }
+    ensures kept { IsTrue is_marked → vec_len marks.old < vec_capacity marks.old → IsFree new marks.old.items → IsTrue result }
     ensures capacity { vec_capacity marks.new ≡ vec_capacity marks.old }
 {
     if !is_marked {
