@@ -1,5 +1,4 @@
-use Rattle.std.proofs.Common.{ℕ, List, Option, ◌∙◌, subst, sym}
-use Rattle.otp_table.specs.declared.marks.Mark.{Mark}
+use Rattle.std.proofs.Common.{ℕ, ◌∙◌, subst, sym}
 use Rattle.otp_table.specs.Keys.{fingerprint, id_key}
 use Rattle.otp_table.specs.Marks.{IsUnder}
 use Rattle.otp_table.specs.Rows.{has_id}
