@@ -10,36 +10,36 @@ use Rattle.otp_table.specs.declared.marks.Mark.{Mark}
 use Rattle.otp_table.specs.Marks.{IsPut, IsTaken, IsUnder, Rises, moved}
 
 abbrev pub AllBefore : ℕ → ℕ → List Mark → Type 0
-AllBefore number first ms = (k : ℕ) (d : Mark) → k < first → (get_or ms k d).number < number
+AllBefore key first ms = (k : ℕ) (d : Mark) → k < first → (get_or ms k d).key < key
 
 abbrev pub AllFrom : ℕ → ℕ → List Mark → Type 0
-AllFrom number first ms = (k : ℕ) (d : Mark) → first ≤ k → k < length ms → number ≤ (get_or ms k d).number
+AllFrom key first ms = (k : ℕ) (d : Mark) → first ≤ k → k < length ms → key ≤ (get_or ms k d).key
 
 abbrev Less : Mark → Mark → Type 0
-Less one later = one.number < later.number
+Less one later = one.key < later.key
 
-upto : (ms : List Mark) → Rises ms → (k m : ℕ) (d : Mark) → k ≤ m → m < length ms → (get_or ms k d).number ≤ (get_or ms m d).number
+upto : (ms : List Mark) → Rises ms → (k m : ℕ) (d : Mark) → k ≤ m → m < length ms → (get_or ms k d).key ≤ (get_or ms m d).key
 upto ms rise k m d le within =
     elim (cases_lt k m) [
-      | inl lt ↦ let less : (get_or ms k d).number < (get_or ms m d).number = rise k m d lt within in omega (arith, less)
-      | inr ge ↦ let same : k ≡ m = omega (arith, le, ge) in subst (λ n. (get_or ms k d).number ≤ (get_or ms n d).number) same (omega arith)
+      | inl lt ↦ let less : (get_or ms k d).key < (get_or ms m d).key = rise k m d lt within in omega (arith, less)
+      | inr ge ↦ let same : k ≡ m = omega (arith, le, ge) in subst (λ n. (get_or ms k d).key ≤ (get_or ms n d).key) same (omega arith)
     ]
 
-pub number_default : (ms : List Mark) (m : ℕ) (d e : Mark) → m < length ms → (get_or ms m d).number ≡ (get_or ms m e).number
-number_default ms m d e within = ap (λ (t : Mark). t.number) (get_or_default ms m d e within)
+pub key_default : (ms : List Mark) (m : ℕ) (d e : Mark) → m < length ms → (get_or ms m d).key ≡ (get_or ms m e).key
+key_default ms m d e within = ap (λ (t : Mark). t.key) (get_or_default ms m d e within)
 
--- all up to a number below this one are below it
-pub before : (number : ℕ) (ms : List Mark) → Rises ms → (m : ℕ) (e : Mark) → m < length ms → (get_or ms m e).number < number → (k : ℕ) (d : Mark) → k < m + 1 → (get_or ms k d).number < number
-before number ms rise m e within less k d below =
-    let same : (get_or ms m d).number ≡ (get_or ms m e).number = number_default ms m d e within in
-    let up : (get_or ms k d).number ≤ (get_or ms m d).number = upto ms rise k m d (omega (arith, below)) within in
+-- all up to a key below this one are below it
+pub before : (key : ℕ) (ms : List Mark) → Rises ms → (m : ℕ) (e : Mark) → m < length ms → (get_or ms m e).key < key → (k : ℕ) (d : Mark) → k < m + 1 → (get_or ms k d).key < key
+before key ms rise m e within less k d below =
+    let same : (get_or ms m d).key ≡ (get_or ms m e).key = key_default ms m d e within in
+    let up : (get_or ms k d).key ≤ (get_or ms m d).key = upto ms rise k m d (omega (arith, below)) within in
     omega (arith, up, same, less)
 
--- all from a number on that isn't below this one aren't below it
-pub after : (number : ℕ) (ms : List Mark) → Rises ms → (m : ℕ) (e : Mark) → number ≤ (get_or ms m e).number → (k : ℕ) (d : Mark) → m ≤ k → k < length ms → number ≤ (get_or ms k d).number
-after number ms rise m e more k d from within =
-    let same : (get_or ms m d).number ≡ (get_or ms m e).number = number_default ms m d e (omega (arith, from, within)) in
-    let up : (get_or ms m d).number ≤ (get_or ms k d).number = upto ms rise m k d from within in
+-- all from a key on that isn't below this one aren't below it
+pub after : (key : ℕ) (ms : List Mark) → Rises ms → (m : ℕ) (e : Mark) → key ≤ (get_or ms m e).key → (k : ℕ) (d : Mark) → m ≤ k → k < length ms → key ≤ (get_or ms k d).key
+after key ms rise m e more k d from within =
+    let same : (get_or ms m d).key ≡ (get_or ms m e).key = key_default ms m d e (omega (arith, from, within)) in
+    let up : (get_or ms m d).key ≤ (get_or ms k d).key = upto ms rise m k d from within in
     omega (arith, up, same, more)
 
 under_cases : (n p : ℕ) (xs ys : List Mark) → IsUnder n p (xs ++ ys) → IsUnder n p xs ⊎ IsUnder n p ys
@@ -56,27 +56,27 @@ under_right : (n p : ℕ) (xs ys : List Mark) → IsUnder n p ys → IsUnder n p
 under_right n p [] ys h = h
 under_right n p (x ∷ xs) ys h = inr (under_right n p xs ys h)
 
-pub under_at : (ms : List Mark) (i : ℕ) (d : Mark) → i < length ms → IsUnder (get_or ms i d).number (get_or ms i d).place ms
+pub under_at : (ms : List Mark) (i : ℕ) (d : Mark) → i < length ms → IsUnder (get_or ms i d).key (get_or ms i d).place ms
 under_at [] i d h = absurd (omega (arith, h))
 under_at (m ∷ ms) zero d h = inl (refl, refl)
 under_at (m ∷ ms) (suc i) d h = inr (under_at ms i d (omega (arith, h)))
 
--- where a place that stands under a number is among the marks
+-- where a place that stands under a key is among the marks
 abbrev IsAt : ℕ → ℕ → List Mark → ℕ → Type 0
-IsAt n p ms i = (i < length ms) × ((d : Mark) → ((get_or ms i d).number ≡ n) × ((get_or ms i d).place ≡ p))
+IsAt n p ms i = (i < length ms) × ((d : Mark) → ((get_or ms i d).key ≡ n) × ((get_or ms i d).place ≡ p))
 
 pub index_of : (n p : ℕ) (ms : List Mark) → IsUnder n p ms → (i : ℕ) × IsAt n p ms i
 index_of n p [] h = absurd h
 index_of n p (m ∷ ms) (inl here) = (0, (omega arith, λ d. here))
 index_of n p (m ∷ ms) (inr there) = let i : (i : ℕ) × IsAt n p ms i = index_of n p ms there in (suc i.0, (omega (arith, i.1.0), λ d. i.1.1 d))
 
--- a number stands once
-once : (ms : List Mark) → Rises ms → (i j : ℕ) (d : Mark) → i < length ms → j < length ms → (get_or ms i d).number ≡ (get_or ms j d).number → i ≡ j
+-- a key stands once
+once : (ms : List Mark) → Rises ms → (i j : ℕ) (d : Mark) → i < length ms → j < length ms → (get_or ms i d).key ≡ (get_or ms j d).key → i ≡ j
 once ms rise i j d iw jw same =
     elim (cases_lt i j) [
-      | inl lt ↦ let less : (get_or ms i d).number < (get_or ms j d).number = rise i j d lt jw in absurd (omega (arith, less, same))
+      | inl lt ↦ let less : (get_or ms i d).key < (get_or ms j d).key = rise i j d lt jw in absurd (omega (arith, less, same))
       | inr ge ↦ elim (cases_lt j i) [
-        | inl gt ↦ let less : (get_or ms j d).number < (get_or ms i d).number = rise j i d gt iw in absurd (omega (arith, less, same))
+        | inl gt ↦ let less : (get_or ms j d).key < (get_or ms i d).key = rise j i d gt iw in absurd (omega (arith, less, same))
         | inr le ↦ omega (arith, ge, le)
       ]
     ]
@@ -88,17 +88,17 @@ same_place n p q ms d rise one other =
     let at : i.0 ≡ j.0 = once ms rise i.0 j.0 d i.1.0 j.1.0 ((i.1.1 d).0 ∙ sym (j.1.1 d).0) in
     sym (i.1.1 d).1 ∙ ap (λ (k : ℕ). (get_or ms k d).place) at ∙ (j.1.1 d).1
 
--- where the number at the first place that isn't below is another, nothing stands under this one
-pub none_under : (number first : ℕ) (ms : List Mark) (d : Mark) → Rises ms → ((k : ℕ) (d : Mark) → k < first → (get_or ms k d).number < number) → ((k : ℕ) (d : Mark) → first ≤ k → k < length ms → number ≤ (get_or ms k d).number)
-    → (first < length ms → (get_or ms first d).number ≡ number → ⊥) → (p : ℕ) → IsUnder number p ms → ⊥
-none_under number first ms d rise less more other p under =
-    let i : (i : ℕ) × IsAt number p ms i = index_of number p ms under in
-    let has : (get_or ms i.0 d).number ≡ number = (i.1.1 d).0 in
+-- where the key at the first place that isn't below is another, nothing stands under this one
+pub none_under : (key first : ℕ) (ms : List Mark) (d : Mark) → Rises ms → ((k : ℕ) (d : Mark) → k < first → (get_or ms k d).key < key) → ((k : ℕ) (d : Mark) → first ≤ k → k < length ms → key ≤ (get_or ms k d).key)
+    → (first < length ms → (get_or ms first d).key ≡ key → ⊥) → (p : ℕ) → IsUnder key p ms → ⊥
+none_under key first ms d rise less more other p under =
+    let i : (i : ℕ) × IsAt key p ms i = index_of key p ms under in
+    let has : (get_or ms i.0 d).key ≡ key = (i.1.1 d).0 in
     elim (cases_lt i.0 first) [
-      | inl lt ↦ let below : (get_or ms i.0 d).number < number = less i.0 d lt in omega (arith, below, has)
+      | inl lt ↦ let below : (get_or ms i.0 d).key < key = less i.0 d lt in omega (arith, below, has)
       | inr ge ↦ let within : first < length ms = omega (arith, ge, i.1.0) in
-          let up : (get_or ms first d).number ≤ (get_or ms i.0 d).number = upto ms rise first i.0 d ge i.1.0 in
-          let low : number ≤ (get_or ms first d).number = more first d (omega arith) within in
+          let up : (get_or ms first d).key ≤ (get_or ms i.0 d).key = upto ms rise first i.0 d ge i.1.0 in
+          let low : key ≤ (get_or ms first d).key = more first d (omega arith) within in
           other within (omega (arith, up, low, has))
     ]
 
@@ -128,33 +128,33 @@ rises_join xs ys m one other low high =
     (λ k d w. let below : Less (get_or xs k d) m = low k d w in
     All-cons (λ y. Less (get_or xs k d) y) m ys below (λ j e v. let above : Less m (get_or ys j e) = high j e v in omega (arith, below, above)))
 
-free_above : (number first : ℕ) (ms : List Mark) → ((p : ℕ) → IsUnder number p ms → ⊥) → ((k : ℕ) (d : Mark) → first ≤ k → k < length ms → number ≤ (get_or ms k d).number) → All (λ y. number < y.number) (drop first ms)
-free_above number first ms free more k d w =
+free_above : (key first : ℕ) (ms : List Mark) → ((p : ℕ) → IsUnder key p ms → ⊥) → ((k : ℕ) (d : Mark) → first ≤ k → k < length ms → key ≤ (get_or ms k d).key) → All (λ y. key < y.key) (drop first ms)
+free_above key first ms free more k d w =
     let within : first + k < length ms = omega (arith, length-drop first ms, w) in
-    let there : (get_or (drop first ms) k d).number ≡ (get_or ms (first + k) d).number = ap (λ (m : Mark). m.number) (get_or-drop first ms k d) in
-    let low : number ≤ (get_or ms (first + k) d).number = more (first + k) d (omega arith) within in
-    elim (cases_lt number (get_or ms (first + k) d).number) [
+    let there : (get_or (drop first ms) k d).key ≡ (get_or ms (first + k) d).key = ap (λ (m : Mark). m.key) (get_or-drop first ms k d) in
+    let low : key ≤ (get_or ms (first + k) d).key = more (first + k) d (omega arith) within in
+    elim (cases_lt key (get_or ms (first + k) d).key) [
       | inl lt ↦ omega (arith, lt, there)
-      | inr ge ↦ let same : (get_or ms (first + k) d).number ≡ number = omega (arith, ge, low) in
+      | inr ge ↦ let same : (get_or ms (first + k) d).key ≡ key = omega (arith, ge, low) in
           absurd (free (get_or ms (first + k) d).place (subst (λ n. IsUnder n (get_or ms (first + k) d).place ms) same (under_at ms (first + k) d within)))
     ]
 
-all_below : (number first : ℕ) (ms : List Mark) → ((k : ℕ) (d : Mark) → k < first → (get_or ms k d).number < number) → All (λ x. x.number < number) (take first ms)
-all_below number first ms less k d w =
+all_below : (key first : ℕ) (ms : List Mark) → ((k : ℕ) (d : Mark) → k < first → (get_or ms k d).key < key) → All (λ x. x.key < key) (take first ms)
+all_below key first ms less k d w =
     let early : k < first = omega (arith, length-take first ms, w) in
-    let there : (get_or (take first ms) k d).number ≡ (get_or ms k d).number = ap (λ (m : Mark). m.number) (get_or-take first ms k d early) in
-    let below : (get_or ms k d).number < number = less k d early in omega (arith, there, below)
+    let there : (get_or (take first ms) k d).key ≡ (get_or ms k d).key = ap (λ (m : Mark). m.key) (get_or-take first ms k d early) in
+    let below : (get_or ms k d).key < key = less k d early in omega (arith, there, below)
 
--- a number that none stands under is put in its order
-pub put_rises : (number place first : ℕ) (ms : List Mark) → Rises ms → ((p : ℕ) → IsUnder number p ms → ⊥) → ((k : ℕ) (d : Mark) → k < first → (get_or ms k d).number < number)
-    → ((k : ℕ) (d : Mark) → first ≤ k → k < length ms → number ≤ (get_or ms k d).number) → Rises (take first ms ++ record { number = number; place = place } ∷ drop first ms)
-put_rises number place first ms rise free less more =
-    rises_join (take first ms) (drop first ms) (record { number = number; place = place }) (rises_take ms first rise) (rises_drop ms first rise) (all_below number first ms less) (free_above number first ms free more)
+-- a key that none stands under is put in its order
+pub put_rises : (key place first : ℕ) (ms : List Mark) → Rises ms → ((p : ℕ) → IsUnder key p ms → ⊥) → ((k : ℕ) (d : Mark) → k < first → (get_or ms k d).key < key)
+    → ((k : ℕ) (d : Mark) → first ≤ k → k < length ms → key ≤ (get_or ms k d).key) → Rises (take first ms ++ record { key = key; place = place } ∷ drop first ms)
+put_rises key place first ms rise free less more =
+    rises_join (take first ms) (drop first ms) (record { key = key; place = place }) (rises_take ms first rise) (rises_drop ms first rise) (all_below key first ms less) (free_above key first ms free more)
 
 -- and then it stands there too, and all else stays
-pub put_is : (number place first : ℕ) (ms : List Mark) → IsPut number place ms (take first ms ++ record { number = number; place = place } ∷ drop first ms)
-put_is number place first ms n p =
-    let m : Mark = record { number = number; place = place } in
+pub put_is : (key place first : ℕ) (ms : List Mark) → IsPut key place ms (take first ms ++ record { key = key; place = place } ∷ drop first ms)
+put_is key place first ms n p =
+    let m : Mark = record { key = key; place = place } in
     let parts : take first ms ++ drop first ms ≡ ms = take-append-drop first ms in (
       (λ h. elim (under_cases n p (take first ms) (m ∷ drop first ms) h) [
         | inl a ↦ inr (subst (IsUnder n p) parts (under_left n p (take first ms) (drop first ms) a))
@@ -169,12 +169,12 @@ put_is number place first ms n p =
       ],
     )
 
-apart : (number first : ℕ) (ms : List Mark) (d : Mark) → Rises ms → first < length ms → (get_or ms first d).number ≡ number → (n p i : ℕ) → IsAt n p ms i → (i ≡ first → ⊥) → n ≡ number → ⊥
-apart number first ms d rise within has n p i at other same = other (once ms rise i first d at.0 within ((at.1 d).0 ∙ same ∙ sym has))
+apart : (key first : ℕ) (ms : List Mark) (d : Mark) → Rises ms → first < length ms → (get_or ms first d).key ≡ key → (n p i : ℕ) → IsAt n p ms i → (i ≡ first → ⊥) → n ≡ key → ⊥
+apart key first ms d rise within has n p i at other same = other (once ms rise i first d at.0 within ((at.1 d).0 ∙ same ∙ sym has))
 
--- the mark under the number is taken out
-pub taken_is : (number first : ℕ) (ms : List Mark) (d : Mark) → Rises ms → first < length ms → (get_or ms first d).number ≡ number → IsTaken number ms (take first ms ++ drop (suc first) ms)
-taken_is number first ms d rise within has n p =
+-- the mark under the key is taken out
+pub taken_is : (key first : ℕ) (ms : List Mark) (d : Mark) → Rises ms → first < length ms → (get_or ms first d).key ≡ key → IsTaken key ms (take first ms ++ drop (suc first) ms)
+taken_is key first ms d rise within has n p =
     let next : suc first ≡ first + 1 = omega arith in
     let rest : drop first ms ≡ get_or ms first d ∷ drop (suc first) ms = drop_more ms first d within ∙ ap (λ (k : ℕ). get_or ms first d ∷ drop k ms) (sym next) in
     let parts : take first ms ++ drop first ms ≡ ms = take-append-drop first ms in (
@@ -183,13 +183,13 @@ taken_is number first ms d rise within has n p =
           subst (IsUnder n p) parts (under_left n p (take first ms) (drop first ms) a),
           let at : (i : ℕ) × IsAt n p (take first ms) i = index_of n p (take first ms) a in
               let early : at.0 < first = omega (arith, length-take first ms, at.1.0) in
-              apart number first ms d rise within has n p at.0
+              apart key first ms d rise within has n p at.0
               ((omega (arith, early, within), λ e. rw (← get_or-take first ms at.0 e early) (at.1.1 e))) (λ same. omega (arith, same, early)),
         )
         | inr b ↦ (
           subst (IsUnder n p) parts (under_right n p (take first ms) (drop first ms) (subst (IsUnder n p) (sym rest) (inr b))),
           let at : (i : ℕ) × IsAt n p (drop (suc first) ms) i = index_of n p (drop (suc first) ms) b in
-              apart number first ms d rise within has n p (suc first + at.0)
+              apart key first ms d rise within has n p (suc first + at.0)
               ((omega (arith, length-drop (suc first) ms, at.1.0), λ e. rw (← get_or-drop (suc first) ms at.0 e) (at.1.1 e))) (λ same. omega (arith, same)),
         )
       ]),
@@ -205,9 +205,9 @@ taken_is number first ms d rise within has n p =
 pub taken_rises : (first : ℕ) (ms : List Mark) → Rises ms → first < length ms → Rises (take first ms ++ drop (suc first) ms)
 taken_rises first ms rise within = all_pairs_remove Less ms first within rise
 
--- where nothing stands under the number, nothing has to be taken out
-pub none_taken : (number : ℕ) (ms : List Mark) → ((p : ℕ) → IsUnder number p ms → ⊥) → IsTaken number ms ms
-none_taken number ms none n p = ((λ h. (h, λ same. none p (subst (λ k. IsUnder k p ms) same h))), λ h other. h)
+-- where nothing stands under the key, nothing has to be taken out
+pub none_taken : (key : ℕ) (ms : List Mark) → ((p : ℕ) → IsUnder key p ms → ⊥) → IsTaken key ms ms
+none_taken key ms none n p = ((λ h. (h, λ same. none p (subst (λ k. IsUnder k p ms) same h))), λ h other. h)
 
 -- where a place goes once the row at another is taken out
 abbrev pub shifted : ℕ → ℕ → ℕ
@@ -226,9 +226,9 @@ under_moved place n q (m ∷ ms) (inr there) = let h : (p : ℕ) × (IsUnder n p
 pub moved_rises : (place : ℕ) (ms : List Mark) → Rises ms → Rises (map (moved place) ms)
 moved_rises place ms rise = λ i j d lt w.
     let within : j < length ms = omega (arith, length-map ms (moved place), w) in
-    let at_i : (get_or (map (moved place) ms) i d).number ≡ (get_or ms i d).number = ap (λ (m : Mark). m.number) (get_or-map (moved place) ms i d d (omega (arith, within, lt))) in
-    let at_j : (get_or (map (moved place) ms) j d).number ≡ (get_or ms j d).number = ap (λ (m : Mark). m.number) (get_or-map (moved place) ms j d d within) in
-    let less : (get_or ms i d).number < (get_or ms j d).number = rise i j d lt within in
+    let at_i : (get_or (map (moved place) ms) i d).key ≡ (get_or ms i d).key = ap (λ (m : Mark). m.key) (get_or-map (moved place) ms i d d (omega (arith, within, lt))) in
+    let at_j : (get_or (map (moved place) ms) j d).key ≡ (get_or ms j d).key = ap (λ (m : Mark). m.key) (get_or-map (moved place) ms j d d within) in
+    let less : (get_or ms i d).key < (get_or ms j d).key = rise i j d lt within in
     omega (arith, at_i, at_j, less)
 
 -- what was written over a whole list

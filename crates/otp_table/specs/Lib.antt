@@ -1,4 +1,5 @@
 pub mod Rows
+pub mod Keys
 pub mod Marks
 pub mod Table
 pub mod TableInside

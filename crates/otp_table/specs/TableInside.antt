@@ -1,7 +1,7 @@
 use Rattle.std.specs.Prelude.{◌+◌, ◌≤◌, IsTrue, vec_len, vec_capacity}
 use Rattle.otp_spec.specs.declared.limits.TheConstants.{MAX_CHILDREN}
 use Rattle.otp_table.specs.Counted.{AreCounted}
-use Rattle.otp_table.specs.Marks.{AreMarks, Rises, number_at}
+use Rattle.otp_table.specs.Marks.{AreMarks, Rises, id_at, number_at}
 use Rattle.otp_table.specs.Rows.{AreDefined}
 use Rattle.otp_table.specs.Table.{Table}
 use Rattle.otp_table.specs.declared.rows.Rows.TheInside.{Inside}
@@ -23,3 +23,7 @@ pub record IsTable (t : Inside) : Type 0 where
   pub rises : Rises t.marks.items
   -- and tell of exactly the rows that have a number, each once
   pub marked : IsTrue t.is_marked → AreMarks (number_at t.items.items) t.marks.items
+  -- the same of the marks of the ids
+  pub ids_room : vec_len t.items + t.room ≤ vec_capacity t.ids
+  pub ids_rise : Rises t.ids.items
+  pub named : IsTrue t.is_named → AreMarks (id_at t.items.items) t.ids.items

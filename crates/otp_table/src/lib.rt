@@ -2,6 +2,7 @@
 #![tactic(auto)]
 
 mod counts;
+mod keys;
 mod marks;
 pub mod row;
 pub mod rows;

@@ -1,51 +1,46 @@
-//! Rows by their numbers: an index that is kept in the order of the numbers and searched by halving.
+//! Rows by a key, which is their number or the fingerprint of their id: an index that is kept in the order of the keys
+//! and searched by halving.
 
 ghost use Rattle.std.specs.Prelude.{◌≡◌, ◌+◌, ◌-◌, ◌<◌, ◌≤◌, ◌↔◌, ℕ, [], All, AllPairs, IfSome, IsTrue, None, Some, MatchOption, OnOk, OnErr, get_or, length, max, map, vec_len, vec_capacity};
-ghost use Rattle.otp_table.specs.Marks.{HasNumber, IsChanged, IsGone, IsPut, IsTaken, IsUnder, Rises, moved, number_at};
+ghost use Rattle.otp_table.specs.Marks.{HasKey, IsChanged, IsFree, IsGone, IsPut, IsTaken, IsUnder, Rises, moved};
 
-use crate::row::Row;
-
-/// A row's number, and the place of the row.
+/// A row's key, and the place of the row.
 #[derive(Clone, Copy, Debug)]
 pub struct Mark {
-    pub number: u64,
+    pub key: u64,
     pub place: usize,
 }
 
-/// Whether the number is above all of these.
-fn is_above(marks: &[Mark], number: u64) -> bool
+/// Whether the key is above all of these.
+fn is_above(marks: &[Mark], key: u64) -> bool
     requires { Rises marks.now }
-    ensures { IsTrue result → (k : ℕ) (d : Mark) → k < length marks.now → (get_or marks.now k d).number < number }
+    ensures { IsTrue result → (k : ℕ) (d : Mark) → k < length marks.now → (get_or marks.now k d).key < key }
 {
-    marks.is_empty() || marks[marks.len() - 1].number < number
+    marks.is_empty() || marks[marks.len() - 1].key < key
 }
 
-/// A place before which all numbers are below this one. A number that is above them all, as that of a child that is
-/// started, belongs at the end.
-fn low_end(marks: &[Mark], number: u64) -> usize
+/// A place before which all keys are below this one. A key that is above them all, as the number of a child
+/// that is started, belongs at the end.
+fn low_end(marks: &[Mark], key: u64) -> usize
     requires { Rises marks.now }
     ensures inside { result ≤ length marks.now }
-    ensures before { (k : ℕ) (d : Mark) → k < result → (get_or marks.now k d).number < number }
+    ensures before { (k : ℕ) (d : Mark) → k < result → (get_or marks.now k d).key < key }
 {
-    if is_above(marks, number) {
-        marks.len()
-    } else {
-        0
-    }
+    if is_above(marks, key) { marks.len() } else { 0 }
 }
 
-/// The first place from which on the numbers, which rise, are this one or above it.
-pub fn first_from(marks: &[Mark], number: u64) -> usize
+/// The first place from which on the keys, which rise, are this one or above it.
+pub fn first_from(marks: &[Mark], key: u64) -> usize
     requires { Rises marks.now }
     ensures inside { result ≤ length marks.now }
-    ensures before { (k : ℕ) (d : Mark) → k < result → (get_or marks.now k d).number < number }
-    ensures after { (k : ℕ) (d : Mark) → result ≤ k → k < length marks.now → number ≤ (get_or marks.now k d).number }
+    ensures before { (k : ℕ) (d : Mark) → k < result → (get_or marks.now k d).key < key }
+    ensures after { (k : ℕ) (d : Mark) → result ≤ k → k < length marks.now → key ≤ (get_or marks.now k d).key }
 {
-    let mut low = low_end(marks, number);
+    let mut low = low_end(marks, key);
     let mut high = marks.len();
     while low < high {
         let middle = low + (high - low) / 2;
-        if marks[middle].number < number {
+        if marks[middle].key < key {
             low = middle + 1;
         } else {
             high = middle;
@@ -54,54 +49,55 @@ pub fn first_from(marks: &[Mark], number: u64) -> usize
     low
 }
 
-/// Where the mark with this number stands.
-fn index_of(marks: &[Mark], number: u64) -> Option<usize>
+/// Where the mark with this key stands.
+fn index_of(marks: &[Mark], key: u64) -> Option<usize>
     requires { Rises marks.now }
-    ensures { MatchOption result ((p : ℕ) → IsUnder number p marks.now → ⊥) (λ i. HasNumber number i marks.now) }
+    ensures { MatchOption result ((p : ℕ) → IsUnder key p marks.now → ⊥) (λ i. HasKey key i marks.now) }
 {
-    let first = first_from(marks, number);
-    if first < marks.len() && marks[first].number == number {
+    let first = first_from(marks, key);
+    if first < marks.len() && marks[first].key == key {
         Some(first)
     } else {
         None
     }
 }
 
-/// The place under this number.
-pub fn find_mark(marks: &[Mark], number: u64) -> Option<usize>
+/// The place under this key.
+pub fn find_mark(marks: &[Mark], key: u64) -> Option<usize>
     requires { Rises marks.now }
-    ensures { MatchOption result ((p : ℕ) → IsUnder number p marks.now → ⊥) (λ place. IsUnder number place marks.now) }
+    ensures { MatchOption result ((p : ℕ) → IsUnder key p marks.now → ⊥) (λ place. IsUnder key place marks.now) }
 {
-    match index_of(marks, number) {
+    match index_of(marks, key) {
         None => None,
         Some(index) => Some(marks[index].place),
     }
 }
 
-/// Puts a place under a number that none stands under. Takes no memory.
-pub fn put_mark(marks: &mut Vec<Mark>, number: u64, place: usize)
+/// Puts a place under a key that none stands under. Takes no memory.
+pub fn put_mark(marks: &mut Vec<Mark>, key: u64, place: usize)
     requires rises { Rises marks.old.items }
     requires room { vec_len marks.old < vec_capacity marks.old }
-    requires free { (p : ℕ) → IsUnder number p marks.old.items → ⊥ }
+    requires free { (p : ℕ) → IsUnder key p marks.old.items → ⊥ }
     ensures rises { Rises marks.new.items }
-    ensures put { IsPut number place marks.old.items marks.new.items }
+    ensures put { IsPut key place marks.old.items marks.new.items }
     ensures len { vec_len marks.new ≡ vec_len marks.old + 1 }
     ensures capacity { vec_capacity marks.new ≡ vec_capacity marks.old }
 {
-    let first = first_from(marks, number);
-    if marks.insert(first, Mark { number, place }).is_err() {
+    let first = first_from(marks, key);
+    if marks.insert(first, Mark { key, place }).is_err() {
         unreachable!();
     }
 }
 
-/// Takes out what stands under this number.
-pub fn take_mark(marks: &mut Vec<Mark>, number: u64)
+/// Takes out what stands under this key.
+pub fn take_mark(marks: &mut Vec<Mark>, key: u64)
     requires { Rises marks.old.items }
     ensures rises { Rises marks.new.items }
-    ensures taken { IsTaken number marks.old.items marks.new.items }
+    ensures taken { IsTaken key marks.old.items marks.new.items }
+    ensures len { vec_len marks.new ≤ vec_len marks.old }
     ensures capacity { vec_capacity marks.new ≡ vec_capacity marks.old }
 {
-    match index_of(marks, number) {
+    match index_of(marks, key) {
         None => {}
         Some(index) => {
             marks.remove(index);
@@ -129,60 +125,56 @@ fn close_gap(marks: &mut Vec<Mark>, place: usize)
     shift_places(marks, place);
 }
 
-/// The number of the row at the place.
-pub fn number_in(rows: &[Row], place: usize) -> Option<u64>
-    requires { place < length rows.now }
-    ensures { result ≡ number_at rows.now place }
-{
-    rows[place].state.number()
-}
-
-/// Takes the place out, which stood under this number or under none.
+/// Takes the place out, which stood under this key or under none.
 fn take_old(marks: &mut Vec<Mark>, place: usize, old: Option<u64>)
     requires { Rises marks.old.items }
     ensures rises { Rises marks.new.items }
     ensures changed { IsChanged place old None marks.old.items marks.new.items }
+    ensures fewer { (n p : ℕ) → IsUnder n p marks.new.items → IsUnder n p marks.old.items }
+    ensures len { vec_len marks.new ≤ vec_len marks.old }
     ensures capacity { vec_capacity marks.new ≡ vec_capacity marks.old }
 {
     match old {
         None => {}
-        Some(number) => take_mark(marks, number),
+        Some(key) => take_mark(marks, key),
     }
 }
 
-/// Puts the place under this number, unless there is no room or another place stands there.
-fn put_number(marks: &mut Vec<Mark>, place: usize, number: u64) -> bool
+/// Puts the place under this key, unless there is no room or another place stands there.
+fn put_key(marks: &mut Vec<Mark>, place: usize, key: u64) -> bool
     requires { Rises marks.old.items }
     ensures rises { Rises marks.new.items }
-    ensures changed { IsTrue result → IsChanged place None (Some number) marks.old.items marks.new.items }
+    ensures changed { IsTrue result → IsChanged place None (Some key) marks.old.items marks.new.items }
+    ensures kept { vec_len marks.old < vec_capacity marks.old → IsFree (Some key) marks.old.items → IsTrue result }
     ensures capacity { vec_capacity marks.new ≡ vec_capacity marks.old }
 {
     if marks.len() >= marks.capacity() {
         return false;
     }
-    match find_mark(marks, number) {
+    match find_mark(marks, key) {
         Some(_) => false,
         None => {
-            put_mark(marks, number, place);
+            put_mark(marks, key, place);
             true
         }
     }
 }
 
-/// Puts the place under this number, or under none.
+/// Puts the place under this key, or under none.
 fn put_new(marks: &mut Vec<Mark>, place: usize, new: Option<u64>) -> bool
     requires { Rises marks.old.items }
     ensures rises { Rises marks.new.items }
     ensures changed { IsTrue result → IsChanged place None new marks.old.items marks.new.items }
+    ensures kept { vec_len marks.old < vec_capacity marks.old → IsFree new marks.old.items → IsTrue result }
     ensures capacity { vec_capacity marks.new ≡ vec_capacity marks.old }
 {
     match new {
         None => true,
-        Some(number) => put_number(marks, place, number),
+        Some(key) => put_key(marks, place, key),
     }
 }
 
-/// Whether these are the same number, or none both times.
+/// Whether these are the same key, or none both times.
 fn is_same(one: Option<u64>, other: Option<u64>) -> bool
     ensures { IsTrue result ↔ (one ≡ other) }
 {
@@ -193,7 +185,8 @@ fn is_same(one: Option<u64>, other: Option<u64>) -> bool
     }
 }
 
-/// The row at the place has one number now in place of another. Whether the marks told of each row, and do so still.
+/// The row at the place has one key now in place of another. Whether the marks told of each row, and do so still: where
+/// there is room, only a key that stands there already ends that.
 pub fn change_mark(
     marks: &mut Vec<Mark>,
     is_marked: bool,
@@ -205,6 +198,7 @@ pub fn change_mark(
     ensures rises { Rises marks.new.items }
     ensures before { IsTrue result → IsTrue is_marked }
     ensures changed { IsTrue result → IsChanged place old new marks.old.items marks.new.items }
+    ensures kept { IsTrue is_marked → vec_len marks.old < vec_capacity marks.old → IsFree new marks.old.items → IsTrue result }
     ensures capacity { vec_capacity marks.new ≡ vec_capacity marks.old }
 {
     if !is_marked {
@@ -217,7 +211,7 @@ pub fn change_mark(
     put_new(marks, place, new)
 }
 
-/// The row at the place is taken out, which had this number or none.
+/// The row at the place is taken out, which had this key or none.
 pub fn remove_mark(marks: &mut Vec<Mark>, place: usize, old: Option<u64>)
     requires { Rises marks.old.items }
     ensures rises { Rises marks.new.items }

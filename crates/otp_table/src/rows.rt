@@ -4,7 +4,8 @@ ghost use Rattle.std.specs.List.{list_any};
 ghost use Rattle.otp_table.specs.declared.row.Row.{Row};
 
 use crate::counts::{Counts, counts_as, counts_with, counts_without};
-use crate::marks::{Mark, change_mark, number_in, remove_mark};
+use crate::keys::{id_in, id_key, number_in};
+use crate::marks::{Mark, change_mark, remove_mark};
 use crate::row::{Row, RowState};
 use crate::search;
 use otp_reason::Name;
@@ -26,6 +27,10 @@ pub struct Rows {
     marks: Vec<Mark>,
     /// Whether no two rows have had the same number, so that `marks` has the place of each.
     is_marked: bool,
+    /// The places of the rows that have an id, in the order of the ids' fingerprints.
+    ids: Vec<Mark>,
+    /// Whether no two rows have had ids of the same fingerprint, so that `ids` has the place of each.
+    is_named: bool,
 }
 
 impl Model for Rows {
@@ -53,6 +58,8 @@ impl Rows {
             defined: 0,
             marks: Vec::new(alloc),
             is_marked: true,
+            ids: Vec::new(alloc),
+            is_named: true,
         }
     }
 
@@ -166,7 +173,11 @@ impl Rows {
     pub fn find_id(&self, id: &Name) -> Option<usize>
         ensures { result ≡ position (has_id id.now) self.now.rows }
     {
-        search::find_id(&self.items, id)
+        if self.is_named {
+            search::id_marked(&self.items, &self.ids, id)
+        } else {
+            search::find_id(&self.items, id)
+        }
     }
 
     /// The place of the row whose process, or waiting retry, has this number.
@@ -218,6 +229,7 @@ impl Rows {
     {
         self.items.reserve(n)?;
         reserve_marks(&mut self.marks, self.items.len().saturating_add(n))?;
+        reserve_marks(&mut self.ids, self.items.len().saturating_add(n))?;
         self.room = self.room.max(n);
         Ok(())
     }
@@ -243,6 +255,13 @@ impl Rows {
             self.items.len(),
             None,
             row.state.number(),
+        );
+        self.is_named = change_mark(
+            &mut self.ids,
+            self.is_named,
+            self.items.len(),
+            None,
+            id_key(&row),
         );
         self.items.push_reserved(row);
         self.room -= 1;
@@ -308,6 +327,8 @@ impl Rows {
         self.defined = defined_without(self.defined, place);
         let number = number_in(&self.items, place);
         remove_mark(&mut self.marks, place, number);
+        let id = id_in(&self.items, place);
+        remove_mark(&mut self.ids, place, id);
         self.items.remove(place)
     }
 
@@ -321,6 +342,8 @@ impl Rows {
         self.defined = 0;
         self.marks.clear();
         self.is_marked = true;
+        self.ids.clear();
+        self.is_named = true;
     }
 }
 

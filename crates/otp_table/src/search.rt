@@ -2,9 +2,10 @@
 
 ghost use Rattle.std.specs.Prelude.{◌≡◌, ◌<◌, ◌≤◌, ℕ, false, get_or, length, position};
 ghost use Rattle.std.specs.List.{list_any};
-ghost use Rattle.otp_table.specs.Marks.{AreMarks, Rises, number_at};
+ghost use Rattle.otp_table.specs.Marks.{AreMarks, Rises, id_at, number_at};
 ghost use Rattle.otp_table.specs.Rows.{awaits_retry, free_slot, has_id, has_number, has_process, has_slot, row_has, slot_of};
 
+use crate::keys::fingerprint;
 use crate::marks::{Mark, find_mark};
 use crate::row::Row;
 use otp_reason::Name;
@@ -36,6 +37,31 @@ pub fn find_retry(rows: &[Row], number: u64) -> Option<usize>
     ensures { result ≡ position (row_has (awaits_retry number)) rows.now }
 {
     rows.iter().position(|row| row.state.awaits_retry(number))
+}
+
+fn has_id_at(rows: &[Row], place: usize, id: &Name) -> bool
+    requires { place < length rows.now }
+    ensures { (d : Row) → result ≡ has_id id.now (get_or rows.now place d) }
+{
+    rows[place].has_id(id)
+}
+
+/// The place of the first row with this id, by the marks.
+pub fn id_marked(rows: &[Row], marks: &[Mark], id: &Name) -> Option<usize>
+    requires rises { Rises marks.now }
+    requires marks { AreMarks (id_at rows.now) marks.now }
+    ensures { result ≡ position (has_id id.now) rows.now }
+{
+    match find_mark(marks, fingerprint(id)) {
+        None => None,
+        Some(place) => {
+            if has_id_at(rows, place, id) {
+                Some(place)
+            } else {
+                None
+            }
+        }
+    }
 }
 
 /// The place of the row whose process, or waiting retry, has this number, by the marks.

@@ -7,7 +7,7 @@ loop-low-preserved-then-marks-middle c =
     record {
       order = omega arith;
       within = c.loop-low.invariant.within;
-      before = before c.args.number c.args.marks.now c.requires _ _ (omega arith) c.if-marks-middle.true;
+      before = before c.args.key c.args.marks.now c.requires _ _ (omega arith) c.if-marks-middle.true;
       after = c.loop-low.invariant.after;
     }
 
@@ -17,5 +17,5 @@ loop-low-preserved c =
       order = omega arith;
       within = omega arith;
       before = c.loop-low.invariant.before;
-      after = after c.args.number c.args.marks.now c.requires _ _ c.if-marks-middle.false;
+      after = after c.args.key c.args.marks.now c.requires _ _ c.if-marks-middle.false;
     }

@@ -8,8 +8,8 @@ invariant-loop-low l =
     record {
       order : l.low ≤ l.high;
       within : l.high ≤ length l.marks;
-      before : (k : ℕ) (d : Mark) → k < l.low → (get_or l.marks k d).number < l.number;
-      after : (k : ℕ) (d : Mark) → l.high ≤ k → k < length l.marks → l.number ≤ (get_or l.marks k d).number;
+      before : (k : ℕ) (d : Mark) → k < l.low → (get_or l.marks k d).key < l.key;
+      after : (k : ℕ) (d : Mark) → l.high ≤ k → k < length l.marks → l.key ≤ (get_or l.marks k d).key;
     }
 
 abbrev pub decreases-loop-low : goal.decreases-loop-low

@@ -5,4 +5,4 @@ use Rattle.otp_table.proofs.marks.is_above.Goals as goal
 
 pub returns-else-is_empty : goal.returns-else-is_empty
 returns-else-is_empty c = λ less k d within.
-    before c.args.number c.args.marks.now c.requires (length c.args.marks.now - 1) (record { number = 0; place = 0 }) (omega (arith, within)) (ltb-true _ _ less) k d (omega (arith, within))
+    before c.args.key c.args.marks.now c.requires (length c.args.marks.now - 1) (record { key = 0; place = 0 }) (omega (arith, within)) (ltb-true _ _ less) k d (omega (arith, within))

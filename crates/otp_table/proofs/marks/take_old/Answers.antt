@@ -13,4 +13,7 @@ pub returns-in-Some-clause-changed : goal.returns-in-Some-clause-changed
 returns-in-Some-clause-changed c =
     let ms : List Mark = c.args.marks.now.items in
     subst (λ (o : Option ℕ). IsChanged c.args.place o None ms c.take_mark.new.marks.items) (sym c.in-Some.is)
-    (take_changed c.args.place c.in-Some.number ms c.take_mark.new.marks.items c.requires c.take_mark.ensures.taken)
+    (take_changed c.args.place c.in-Some.key ms c.take_mark.new.marks.items c.requires c.take_mark.ensures.taken)
+
+pub returns-in-Some-clause-fewer : goal.returns-in-Some-clause-fewer
+returns-in-Some-clause-fewer c = λ n p under. ((c.take_mark.ensures.taken n p).0 under).0

@@ -7,7 +7,8 @@ use Rattle.otp_table.specs.Table.{Table}
 use Rattle.otp_table.specs.declared.marks.Mark.{Mark}
 use Rattle.otp_table.specs.Counted.{AreCounted}
 use Rattle.otp_table.specs.declared.row.Row.{Row}
-use Rattle.otp_table.specs.Marks.{IsGone, number_at}
+use Rattle.otp_table.specs.Keys.{id_key}
+use Rattle.otp_table.specs.Marks.{IsGone, id_at, number_at, number_key}
 use Rattle.otp_table.proofs.Indexed.{removed_marks}
 use Rattle.otp_table.proofs.Defined.{removed_defined}
 use Rattle.otp_table.proofs.rows.Rows.remove.Goals as goal
@@ -27,8 +28,18 @@ invariant_of-self c =
           let after : List Mark = c.remove_mark.new.marks.items in
           let p : ℕ = c.args.place in
           let old : c.number_in-number.result ≡ number_at rows p = c.number_in-number.ensures ∙ ap (λ (xs : List Row). number_at xs p) c.deref-2.ensures.value in
-          removed_marks rows c.remove.new.self.items p ms after c.remove.ensures.items (c.self.invariant.marked yes)
+          removed_marks number_key rows c.remove.new.self.items p ms after c.remove.ensures.items (c.self.invariant.marked yes)
           (subst (λ (o : Option ℕ). IsGone p o ms after) old c.remove_mark.ensures.gone);
+      ids_room = search rules;
+      ids_rise = c.remove_mark-2.ensures.rises;
+      named = λ yes.
+          let rows : List Row = c.self.inside.items.items in
+          let ms : List Mark = c.self.inside.ids.items in
+          let after : List Mark = c.remove_mark-2.new.marks.items in
+          let p : ℕ = c.args.place in
+          let old : c.id_in-id.result ≡ id_at rows p = c.id_in-id.ensures ∙ ap (λ (xs : List Row). id_at xs p) c.deref-3.ensures.value in
+          removed_marks id_key rows c.remove.new.self.items p ms after c.remove.ensures.items (c.self.invariant.named yes)
+          (subst (λ (o : Option ℕ). IsGone p o ms after) old c.remove_mark-2.ensures.gone);
     }
 
 pub returns-clause-row : goal.returns-clause-row

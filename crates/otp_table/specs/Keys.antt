@@ -1,0 +1,26 @@
+-- The fingerprint of an id: FNV-1a of its bytes.
+use Rattle.std.specs.Prelude.{ℕ, ◌*◌, ◌%◌, ◌^◌, List, [], ◌∷◌, Option, None, Some, bit_xor}
+use Rattle.otp_reason.specs.declared.name.Name.{Name}
+use Rattle.otp_reason.specs.Names.{name_bytes}
+use Rattle.otp_table.specs.declared.row.Row.{Row}
+
+-- one byte more
+unfoldable pub mixed : ℕ → ℕ → ℕ
+mixed print byte = (bit_xor print byte * 0x100_0000_01b3) % 2 ^ 64
+
+-- the fingerprint once these bytes follow
+abbrev pub print_of : ℕ → List ℕ → ℕ
+print_of print [] = print
+print_of print (byte ∷ bytes) = print_of (mixed print byte) bytes
+
+-- the fingerprint of a name: that of the bytes that it shows
+unfoldable pub fingerprint : Name → ℕ
+fingerprint name = print_of 0xcbf2_9ce4_8422_2325 (name_bytes name)
+
+abbrev pub print_if : Option Name → Option ℕ
+print_if None = None
+print_if (Some id) = Some (fingerprint id)
+
+-- that of the row's id. A dynamic row has none (supervisor, child_id())
+abbrev pub id_key : Row → Option ℕ
+id_key row = print_if row.id

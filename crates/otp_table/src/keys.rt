@@ -1,0 +1,62 @@
+//! The keys by which rows are marked: their numbers, and the fingerprints of their ids.
+
+ghost use Rattle.std.specs.Prelude.{◌≡◌, ◌<◌, length};
+ghost use Rattle.otp_reason.specs.Names.{name_bytes};
+ghost use Rattle.otp_table.specs.Keys.{fingerprint, id_key, mixed, print_of};
+ghost use Rattle.otp_table.specs.Marks.{id_at, number_at};
+
+use crate::row::Row;
+use otp_reason::Name;
+
+/// The number of the row at the place.
+pub fn number_in(rows: &[Row], place: usize) -> Option<u64>
+    requires { place < length rows.now }
+    ensures { result ≡ number_at rows.now place }
+{
+    rows[place].state.number()
+}
+
+/// The fingerprint of the id of the row at the place.
+pub fn id_in(rows: &[Row], place: usize) -> Option<u64>
+    requires { place < length rows.now }
+    ensures { result ≡ id_at rows.now place }
+{
+    id_key(&rows[place])
+}
+
+/// The fingerprint of the row's id. A dynamic row has none.
+pub fn id_key(row: &Row) -> Option<u64>
+    ensures { result ≡ id_key row.now }
+{
+    match row.id {
+        None => None,
+        Some(id) => Some(fingerprint(&id)),
+    }
+}
+
+/// A number that is the same for names that show the same bytes, and hardly ever for others.
+#[tactic(auto, unfolding(crate::specs::Keys::fingerprint))]
+pub fn fingerprint(name: &Name) -> u64
+    ensures { result ≡ fingerprint name.now }
+{
+    print_of(name.as_bytes())
+}
+
+/// The FNV-1a hash of these bytes.
+fn print_of(bytes: &[u8]) -> u64
+    ensures { result ≡ print_of 0xcbf2_9ce4_8422_2325 bytes.now }
+{
+    let mut print = 0xcbf2_9ce4_8422_2325;
+    for byte in bytes {
+        print = mixed(print, *byte);
+    }
+    print
+}
+
+/// One byte more.
+#[tactic(auto, unfolding(crate::specs::Keys::mixed))]
+fn mixed(print: u64, byte: u8) -> u64
+    ensures { result ≡ mixed print byte }
+{
+    (print ^ byte as u64).wrapping_mul(0x100_0000_01b3)
+}
