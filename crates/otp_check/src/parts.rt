@@ -18,7 +18,9 @@ struct Scanning {
 /// The fault of the child at this place, which was judged alone.
 fn moved_to(fault: TreeFault, index: usize) -> TreeFault {
     match fault {
-        TreeFault::UnknownKey(FaultPlace::Child(_)) => TreeFault::UnknownKey(FaultPlace::Child(index)),
+        TreeFault::UnknownKey(FaultPlace::Child(_)) => TreeFault::UnknownKey(FaultPlace::Child(
+            index,
+        )),
         TreeFault::MissingKey { index: _, key } => TreeFault::MissingKey { index, key },
         TreeFault::WrongKind(FaultPlace::ChildKey(_, key)) => {
             TreeFault::WrongKind(FaultPlace::ChildKey(index, key))

@@ -12,7 +12,7 @@ use itoa::Buffer;
 use otp_file::TreeFault;
 use otp_reason::Name;
 use otp_sim::{Failed, Output, write_all};
-use otp_try::{ScriptFault, ActionEnd};
+use otp_try::{ActionEnd, ScriptFault};
 use std::io;
 use std::io::ErrorKind;
 

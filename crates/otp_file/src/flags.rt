@@ -5,7 +5,7 @@ ghost use Rattle.otp_file.specs.Faults.{answer_of};
 ghost use Rattle.otp_file.specs.Tree.{flag_faults, flags_in};
 ghost use Rattle.toml.specs.View.{table_view};
 
-use crate::fault::{FlagKey, FaultPlace, TreeFault};
+use crate::fault::{FaultPlace, FlagKey, TreeFault};
 use crate::table::{has_only_flag_keys, value_at};
 use crate::value::{auto_shutdown_at, intensity_at, period_at, strategy_at};
 use otp_spec::{MAX_INTENSITY, MAX_PERIOD, SupFlags};

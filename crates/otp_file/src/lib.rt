@@ -10,6 +10,6 @@ mod table;
 pub mod tree;
 pub mod value;
 
-pub use fault::{ChildKey, FlagKey, FaultPlace, TableFault, TreeFault};
+pub use fault::{ChildKey, FaultPlace, FlagKey, TableFault, TreeFault};
 pub use limits::{MAX_DEPTH, MAX_TABLES};
 pub use tree::{TreeSpec, read_located, read_tree};

@@ -14,5 +14,5 @@ pub mod turn;
 
 pub use body::{Body, TableNo};
 pub use job::{BoxedJob, Job, Told, Turn};
-pub use process::{ProcessPhase, Process, Spent, Ticket};
+pub use process::{Process, ProcessPhase, Spent, Ticket};
 pub use turn::{After, EndNote, one_turn};

@@ -7,7 +7,7 @@ ghost use Rattle.otp_job.specs.Turns.{done, exited, after_start, StartsJob, Tell
 
 use crate::body::Body;
 use crate::job::{Job, Told, Turn};
-use crate::process::{Inside, ProcessPhase, Process, Spent};
+use crate::process::{Inside, Process, ProcessPhase, Spent};
 use otp_bridge::{Bridge, Subsystem};
 use otp_reason::{Delivery, Note, Reason, Started, deliver};
 use otp_signals::Signal;
@@ -148,7 +148,10 @@ fn begin<J: Drop, S: Drop>(inside: Emptied<J, S>, answer: Started, body: Body<J,
 {
     let number = inside.ticket.number;
     match answer {
-        Started::Up => After::Begun(process(inside, ProcessPhase::Running, body), Note::Up(number)),
+        Started::Up => After::Begun(
+            process(inside, ProcessPhase::Running, body),
+            Note::Up(number),
+        ),
         Started::Ignore => end(inside, Note::Ignored(number), body),
         Started::Fail(reason) => end(inside, Note::Failed(number, reason), body),
     }

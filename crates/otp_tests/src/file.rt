@@ -1,6 +1,6 @@
 use crate::fixtures::named;
 use otp_file::{
-    ChildKey, FlagKey, MAX_DEPTH, MAX_TABLES, FaultPlace, TreeFault, read_located, read_tree,
+    ChildKey, FaultPlace, FlagKey, MAX_DEPTH, MAX_TABLES, TreeFault, read_located, read_tree,
 };
 use otp_spec::{AutoShutdown, ChildType, Modules, Restart, Shutdown, SpecFault, Strategy};
 use std::alloc::Global;
@@ -175,7 +175,11 @@ fn faults_of_the_supervisor(rt: HostRuntime) {
 fn faults_of_a_child(rt: HostRuntime) -> Result<(), Fail> {
     let table = [
         ("1", TreeFault::WrongKind(FaultPlace::Child(1)), 13),
-        ("{ trees = {} }", TreeFault::UnknownKey(FaultPlace::Child(1)), 11),
+        (
+            "{ trees = {} }",
+            TreeFault::UnknownKey(FaultPlace::Child(1)),
+            11,
+        ),
         (
             "{ start = 1 }",
             TreeFault::MissingKey {

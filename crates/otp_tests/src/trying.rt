@@ -4,7 +4,8 @@ use otp_file::read_tree;
 use otp_reason::{Name, Reason, Text};
 use otp_sim::Counted;
 use otp_try::{
-    Action, Child, NextStart, ScriptFault, Shows, ActionEnd, TryEnd, When, Writer, read_step, try_tree,
+    Action, ActionEnd, Child, NextStart, ScriptFault, Shows, TryEnd, When, Writer, read_step,
+    try_tree,
 };
 use std::alloc::Global;
 use std::process::Abort;

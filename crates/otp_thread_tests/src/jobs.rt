@@ -1,6 +1,6 @@
 // Which calls a job gets in which turn.
 use crate::probes::{AnyBody, AnyProcess, Calls, Pipe, Probe, worker_body};
-use otp_job::{After, Body, ProcessPhase, Process, TableNo, one_turn};
+use otp_job::{After, Body, Process, ProcessPhase, TableNo, one_turn};
 use otp_reason::{Note, Reason, Started};
 use otp_signals::Signal;
 use std::alloc::{AllocError, Global};

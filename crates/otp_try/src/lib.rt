@@ -23,4 +23,4 @@ pub use play::{TryEnd, Writer, try_tree};
 pub use script::{Action, Child, NextStart, ScriptFault, Step, When, read_step};
 pub use seat::Seat;
 pub use sketch::Shows;
-pub use trial::{Halt, ActionEnd, Trial};
+pub use trial::{ActionEnd, Halt, Trial};

@@ -11,7 +11,7 @@ use crate::sketch::{Shows, Sketch};
 use crate::state::write_state;
 use crate::telling::write_heading;
 use crate::time::write_time;
-use crate::trial::{Halt, ActionEnd, Trial};
+use crate::trial::{ActionEnd, Halt, Trial};
 use crate::words::next_word;
 use otp_file::TreeSpec;
 use otp_reason::Name;

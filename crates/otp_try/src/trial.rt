@@ -69,7 +69,8 @@ impl ActionEnd {
             ActionEnd::NoProcess =>
                 "ignored: this child has no process now; restart ID starts it again, which lists what runs",
             ActionEnd::NoChild => "ignored: there is no such child; which lists the children",
-            ActionEnd::TooLate => "ignored: that time has gone by; +TIME counts from the line before",
+            ActionEnd::TooLate =>
+                "ignored: that time has gone by; +TIME counts from the line before",
             ActionEnd::Ended => "ignored: the supervisor has ended; the line of its end says why",
         }
     }
@@ -337,7 +338,12 @@ impl Trial {
     /// An action happens now, and all that follows from it. It is said to the supervisor at this place, and means its
     /// children.
     #[tactic(auto, unfolding(crate::specs::Played::Acts))]
-    pub fn act(&mut self, place: usize, action: Action, out: &mut Vec<u8>) -> Result<ActionEnd, Halt>
+    pub fn act(
+        &mut self,
+        place: usize,
+        action: Action,
+        out: &mut Vec<u8>,
+    ) -> Result<ActionEnd, Halt>
         requires { place < length self.old }
         ensures told { OnOk result (Tells self.old self.new out.old.items out.new.items) }
         ensures acted { IfOk result (λ taken. ActsAt action place self.old taken self.new) }
