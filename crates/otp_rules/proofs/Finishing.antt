@@ -54,7 +54,7 @@ Finishes s = is_end s.follows ≡ true → IsStopping s.to_stop s.rows
 abbrev pub AreOne : Outcome → Type 0
 AreOne o = (q : ℕ) → holders q o ≤ 1
 
-begun_awaited : (rows : List Row) → rows_in is_begun rows ≤ rows_in is_awaited rows
+pub begun_awaited : (rows : List Row) → rows_in is_begun rows ≤ rows_in is_awaited rows
 begun_awaited rows = sum_by-le-sum_by (λ (row : Row). cond (is_begun row.state) 1 0) (λ (row : Row). cond (is_awaited row.state) 1 0) rows (λ row. awaits row.state)
   where
     awaits : (state : RowState) → cond (is_begun state) 1 0 ≤ cond (is_awaited state) 1 0
@@ -126,7 +126,7 @@ not_here p place row o none at has =
     let one : ◌≡◌ {A = ℕ} (cond (has_process p row.state) 1 0) 1 = ap (λ (b : Bool). cond b 1 0) has in
     omega (arith, rows_in-at (has_process p) place row o.state.rows at, one, none)
 
-told-begun : (now p : ℕ) (s : Shutdown) → is_begun (told now p s) ≡ false
+pub told-begun : (now p : ℕ) (s : Shutdown) → is_begun (told now p s) ≡ false
 told-begun now p BrutalKill = refl
 told-begun now p (Milliseconds _) = refl
 told-begun now p Infinity = refl
@@ -211,7 +211,7 @@ end_busy None h = absurd (false≢true h)
 end_busy (Some f) h = refl
 
 -- no row is starting where the supervisor ends
-not_starting : (place : ℕ) (row : Row) (q kept : ℕ) (o : Outcome) → StandsAt place row o → row.state ≡ Starting q kept → rows_in is_begun o.state.rows ≡ 0 → ⊥
+pub not_starting : (place : ℕ) (row : Row) (q kept : ℕ) (o : Outcome) → StandsAt place row o → row.state ≡ Starting q kept → rows_in is_begun o.state.rows ≡ 0 → ⊥
 not_starting place row q kept o at is none =
     let one : ◌≡◌ {A = ℕ} (cond (is_begun row.state) 1 0) 1 = ap (λ (t : RowState). cond (is_begun t) 1 0) is in
     omega (arith, rows_in-at is_begun place row o.state.rows at, one, none)

@@ -59,7 +59,7 @@ use Rattle.otp_rules.proofs.StartTurn.{pairs_first, pairs_rest}
 abbrev pub is_live : ℕ → ℕ → Row → Bool
 is_live slot p row = has_slot slot row && has_process p row.state
 
-abbrev lives : ℕ → ℕ → List Row → ℕ
+abbrev pub lives : ℕ → ℕ → List Row → ℕ
 lives slot p rows = count_by (is_live slot p) rows
 
 -- there is one, or D holds
@@ -75,7 +75,7 @@ has_more D slot p xs ys le (inl h) = inl (omega (arith, le, h))
 has_more D slot p xs ys le (inr d) = inr d
 
 -- a row's state has one process
-one_process : (p q : ℕ) (state : RowState) → has_process p state ≡ true → has_process q state ≡ true → q ≡ p
+pub one_process : (p q : ℕ) (state : RowState) → has_process p state ≡ true → has_process q state ≡ true → q ≡ p
 one_process p q Undefined h k = absurd (false≢true h)
 one_process p q (Starting x _) h k = sym (eqb-true x q k) ∙ eqb-true x p h
 one_process p q (Up x) h k = sym (eqb-true x q k) ∙ eqb-true x p h
@@ -158,13 +158,13 @@ stop_each-lasts D slot p (q ∷ qs) o h =
     (λ _. stop_each-lasts D slot p qs (tell q o) (tell-lasts D slot p q o h))
 
 -- each row keeps its slot and its process
-map-lives : (slot p : ℕ) (f : Row → Row) → ((row : Row) → is_live slot p (f row) ≡ is_live slot p row) → (rows : List Row) → lives slot p (map f rows) ≡ lives slot p rows
+pub map-lives : (slot p : ℕ) (f : Row → Row) → ((row : Row) → is_live slot p (f row) ≡ is_live slot p row) → (rows : List Row) → lives slot p (map f rows) ≡ lives slot p rows
 map-lives slot p f same [] = refl
 map-lives slot p f same (row ∷ rows) =
     let e : ◌≡◌ {A = ℕ} (cond (is_live slot p (f row)) 1 0) (cond (is_live slot p row) 1 0) = ap (λ (b : Bool). cond b 1 0) (same row) in
     omega (arith, e, sum_by-cons (λ (r : Row). cond (is_live slot p r) 1 0) row rows, sum_by-cons (λ (r : Row). cond (is_live slot p r) 1 0) (f row) (map f rows), map-lives slot p f same rows)
 
-calm-lives : (slot p : ℕ) (rows : List Row) → lives slot p (calm_rows rows) ≡ lives slot p rows
+pub calm-lives : (slot p : ℕ) (rows : List Row) → lives slot p (calm_rows rows) ≡ lives slot p rows
 calm-lives slot p rows = map-lives slot p (λ (row : Row). with_state (calmed row.state) row) (λ row. ap (λ (b : Bool). has_slot slot row && b) (same row.state)) rows
   where
     same : (state : RowState) → has_process p (calmed state) ≡ has_process p state
@@ -175,7 +175,7 @@ calm-lives slot p rows = map-lives slot p (λ (row : Row). with_state (calmed ro
     same (Killed _) = refl
     same (Restarting _) = refl
 
-tick_one : (slot p now : ℕ) (row : Row) (state : RowState) → row.state ≡ state → is_live slot p (killed row (late_number now state)) ≡ is_live slot p row
+pub tick_one : (slot p now : ℕ) (row : Row) (state : RowState) → row.state ≡ state → is_live slot p (killed row (late_number now state)) ≡ is_live slot p row
 tick_one slot p now row Undefined is = refl
 tick_one slot p now row (Starting _ _) is = refl
 tick_one slot p now row (Up _) is = refl
@@ -247,7 +247,7 @@ no_process p (Asked _ _) d h = false≢true d
 no_process p (Killed _) d h = false≢true d
 no_process p (Restarting _) d h = false≢true h
 
-up_has : (q : ℕ) (row : Row) → row.state ≡ Up q → has_process q row.state ≡ true
+pub up_has : (q : ℕ) (row : Row) → row.state ≡ Up q → has_process q row.state ≡ true
 up_has q row is = ap (λ (t : RowState). has_process q t) is ∙ same_number q
 
 open-lasts : (D : Type 0) (slot p own : ℕ) (o : Outcome) → o.state.rows ≡ [] → Lasts D slot p o → Lasts D slot p (open_rows own o)
@@ -389,14 +389,14 @@ step-lasts m s e slot p h some =
     advance-lasts (Ended G start p) slot p (unwrap_or e.number 0) (decide e.kind start) f.0 (λ q. omega (arith, f.1 q, h.1.0 q)) f.2
     (decide-survives_event e.kind G start (Lasts (Ended G start p) slot p) (lasts-survives e.kind G start slot p h.3) (λ i b idle. b) (λ w. inl w, inl some))
 
-contains_counts : (t : Row → Bool) (rows : List Row) (row : Row) → Contains rows row → t row ≡ true → 0 < count_by t rows
+pub contains_counts : (t : Row → Bool) (rows : List Row) (row : Row) → Contains rows row → t row ≡ true → 0 < count_by t rows
 contains_counts t [] row c h = absurd (omega (arith, c.1))
 contains_counts t (x ∷ xs) row (zero, a, b) h =
     let one : ◌≡◌ {A = ℕ} (cond (t x) 1 0) 1 = ap (λ (r : Bool). cond r 1 0) (subst (λ (r : Row). t r ≡ true) (sym b) h) in
     omega (arith, one, sum_by-cons (λ (r : Row). cond (t r) 1 0) x xs)
 contains_counts t (x ∷ xs) row (suc k, a, b) h = omega (arith, contains_counts t xs row (k, omega (arith, a), b) h, sum_by-cons (λ (r : Row). cond (t r) 1 0) x xs)
 
-counts_contain : (t : Row → Bool) (rows : List Row) → 0 < count_by t rows → (row : Row) × Contains rows row × (t row ≡ true)
+pub counts_contain : (t : Row → Bool) (rows : List Row) → 0 < count_by t rows → (row : Row) × Contains rows row × (t row ≡ true)
 counts_contain t [] h = absurd (let z : count_by t [] ≡ 0 = refl in omega (arith, h, z))
 counts_contain t (x ∷ xs) h =
     ⊎_elim
@@ -427,7 +427,7 @@ stays_from m s e h row p among has =
     (step-lasts m s e row.slot p h some).1
 
 -- a lawful history keeps a state in order
-run-in_order : (m : ℕ) (s : State) (events : List Event) → IsInOrder m s → IsNumbered s events → AllPairs (λ i j. i < j) (numbers_of events) → All (λ y. m ≤ y) (numbers_of events) → (n : ℕ) × IsInOrder n (state_after s events)
+pub run-in_order : (m : ℕ) (s : State) (events : List Event) → IsInOrder m s → IsNumbered s events → AllPairs (λ i j. i < j) (numbers_of events) → All (λ y. m ≤ y) (numbers_of events) → (n : ℕ) × IsInOrder n (state_after s events)
 run-in_order m s [] h numbered rises fresh = (m, h)
 run-in_order m s (x ∷ events) h numbered rises fresh =
     let rest : List ℕ = numbers_of events in

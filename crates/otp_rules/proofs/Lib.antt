@@ -33,5 +33,7 @@ pub mod EndedRows
 pub mod Heard
 pub mod Finishing
 pub mod Lasting
+pub mod Calm
+pub mod Alive
 mod Ended
 pub mod NamedRows

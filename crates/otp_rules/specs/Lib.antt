@@ -26,3 +26,4 @@ pub mod Named
 pub mod Processes
 pub mod Waits
 pub mod Lives
+pub mod Alive

@@ -1,4 +1,5 @@
 //! What becomes of a child's process: laws over every supervisor, from its start to the note of its end.
+ghost use Rattle.otp_rules.specs.Alive.{ProcessesLived};
 ghost use Rattle.otp_rules.specs.Lives.{EndComesLast, EndedHasNoRows, EndsAreHeard, EndsTellStarted, ProcessesStay};
 
 /// An end that waits until no work is open is that of a process that the supervisor started: its child had it when the
@@ -18,4 +19,11 @@ pub fn processes_stay()
 /// A supervisor that was never opened, or that has ended, has no children.
 pub fn ended_has_no_rows()
     ensures { EndedHasNoRows }
+{}
+
+/// A process that a child has after an event, and of which no Exit waits, is the one that the event starts; or its child
+/// had it before the event in the same slot, no Exit of it waited, and the event doesn't take the note of its end. So the
+/// note of an end is never without effect: the child has the process no more, or the Exit waits.
+pub fn processes_lived()
+    ensures { ProcessesLived }
 {}

@@ -31,7 +31,7 @@ use Rattle.otp_sup.specs.Slots.{slot_of}
 use Rattle.otp_sup.specs.Turns.{Readied}
 use Rattle.otp_sup.proofs.Calls.{readied_state}
 use Rattle.otp_sup.proofs.Homes.{or_none}
-use Rattle.otp_sup.proofs.Placed.{any_left, away_left, away_once, away_settled, away_without, given_moved, given_settled, given_without, none_away, stays_when_left}
+use Rattle.otp_sup.proofs.Placed.{any_left, away_had, away_leaves, away_left, away_once, away_settled, away_when_home, away_without, given_moved, given_settled, given_without, none_away, stays_when_left}
 use Rattle.otp_rules.proofs.Counting.{found}
 use Rattle.std.proofs.lemmas.List.Quantifiers.{position-Some}
 use Rattle.otp_sup.proofs.Slots.{slot_read}
@@ -87,8 +87,8 @@ home_ended ws p (Killed q) h home = subst (λ (n : ℕ). list_any (is_ended n) w
 home_ended ws p (Restarting k) h home = absurd (false≢true h)
 
 -- the one start was sent: its child's body is away, all others are where they were
-start_sent : (s : State) (p : ℕ) (row : Row) (kept : List Kept) → AreSlotted s.rows → IsRunning s p row → KeepsBodies s (p ∷ []) kept → KeepsBodies s [] (move_first (is_at_home row.slot) (placed.Away row.slot) kept)
-start_sent s p row kept own runs k =
+start_sent : (s : State) (p : ℕ) (row : Row) (kept : List Kept) → AreSlotted s.rows → AreApart s.rows → IsRunning s p row → KeepsBodies s (p ∷ []) kept → KeepsBodies s [] (move_first (is_at_home row.slot) (placed.Away row.slot) kept)
+start_sent s p row kept own apart runs k =
     let unsent : is_unsent (p ∷ []) row.state ≡ true = or_none (has_process p row.state) ∙ runs.has in
     let none : count_away row.slot kept ≡ 0 = by_count (count_away row.slot kept) (λ some.
     let out : IsOut s (p ∷ []) row.slot = k.away row.slot some in
@@ -105,6 +105,14 @@ start_sent s p row kept own runs k =
           let old : IsOut s (p ∷ []) slot = k.away slot (omega (arith, some, away_left slot row.slot kept (λ same. false≢true (sym isnt ∙ eq-eqb row.slot slot same)))) in
           let out : IsOut s [] slot = record { row = old.row; p = old.p; runs = old.runs; same = old.same; sent = refl } in out)
           (cases_Bool (row.slot == slot));
+      out = λ slot q live sent. ⊎_elim
+          (λ (is : (row.slot == slot) ≡ true).
+          subst (λ (n : ℕ). 0 < count_away n (move_first (is_at_home row.slot) (placed.Away row.slot) kept)) (eqb-true row.slot slot is) (away_leaves row.slot kept (k.unsent row runs.among unsent)))
+          (λ (isnt : (row.slot == slot) ≡ false).
+          let other : (p == q) ≡ true → ⊥ = λ same.
+          false≢true (sym isnt ∙ eq-eqb row.slot slot ((apart row live.0.0 p q runs.among live.0.1 runs.has live.0.3).1 (eqb-true p q same) ∙ live.0.2)) in
+          omega (arith, k.out slot q live (or_none (p == q) ∙ no_start (p == q) other), away_when_home slot row.slot kept))
+          (cases_Bool (row.slot == slot));
       one_away = λ slot. ⊎_elim
           (λ (is : (row.slot == slot) ≡ true).
           let here : count_away row.slot (move_first (is_at_home row.slot) (placed.Away row.slot) kept) ≤ 1 = omega (arith, none, away_once row.slot kept) in
@@ -118,13 +126,17 @@ start_sent s p row kept own runs k =
     by_count zero h = refl
     by_count (suc n) h = absurd (h (omega arith))
 
+    no_start : (b : Bool) → (b ≡ true → ⊥) → b ≡ false
+    no_start false h = refl
+    no_start true h = absurd (h refl)
+
 -- the first order left the outbox
 first_sent : (s : State) (first : Option ℕ) (rest : List ℕ) (kept : List Kept) → AreSlotted s.rows → AreApart s.rows → KeepsBodies s (cons_option first rest) kept → KeepsBodies s rest (left_home (slot_started s.rows first) kept)
 first_sent s None rest kept own apart k = k
 first_sent s (Some p) [] kept own apart k =
     let r : (row : Row) × IsRunning s p row = k.one_start in
     let Sent : ℕ → Type 0 = λ n. KeepsBodies s [] (move_first (is_at_home n) (placed.Away n) kept) in
-    subst Sent (sym (slot_of_row s.rows p r.0 apart r.1.among r.1.has)) (start_sent s p r.0 kept own r.1 k)
+    subst Sent (sym (slot_of_row s.rows p r.0 apart r.1.among r.1.has)) (start_sent s p r.0 kept own apart r.1 k)
 first_sent s (Some p) (q ∷ rest) kept own apart k = absurd k.one_start
 
 pub bodies_flushed : (how : Flushed) (old new : OfficeView) (before after : Taken) (refusals later : ℕ) (kept : List Kept) → KeepsOffice old → Flushes how old new before after refusals later → HasBodies old kept
@@ -214,6 +226,7 @@ first_bodies o kept keeps none ready =
       unsent = λ row among h. absurd (nobody s.rows row rows among);
       one_start = tt;
       away = λ slot some. absurd (omega (arith, some, near slot));
+      out = λ slot p live sent. absurd (nobody s.rows live.0.0 rows live.0.1);
       one_away = λ slot. omega (arith, near slot);
       given = ap (λ (x : State). are_given (count_opened x.flags x.specs) (settled [] false kept)) is ∙ given_settled [] false (count_opened o.core.base.flags o.core.base.specs) kept parts.0;
     })
@@ -235,6 +248,7 @@ without_bodies t s starts kept free other k =
       unsent = λ row among h. stays row.slot (k.unsent row among h);
       one_start = k.one_start;
       away = λ slot some. k.away slot (omega (arith, some, away_without t slot kept));
+      out = λ slot p live sent. omega (arith, k.out slot p live sent, away_had t slot kept (λ b is. free_near slot b.place (free b is)));
       one_away = λ slot. omega (arith, k.one_away slot, away_without t slot kept);
       given = given_without t (count_opened s.flags s.specs) kept other k.given;
     }
@@ -244,6 +258,12 @@ without_bodies t s starts kept free other k =
     free_home slot placed.Waiting f = refl
     free_home slot placed.Free f = refl
     free_home slot (placed.Away j) f = refl
+
+    free_near : (slot : ℕ) (at : Place) → is_free_place at ≡ true → is_away_from slot at ≡ false
+    free_near slot (placed.Home j) f = refl
+    free_near slot placed.Waiting f = refl
+    free_near slot placed.Free f = refl
+    free_near slot (placed.Away j) f = absurd (false≢true f)
 
 pub left_bodies : (call : ℕ) (s : State) (starts : List ℕ) (kept : List Kept) → KeepsBodies s starts kept → KeepsBodies s starts (without_first (is_left_of call) kept)
 left_bodies call s starts kept k = without_bodies (is_left_of call) s starts kept (λ b is. (and_parts (is_call call b.origin) (is_free_place b.place) is).1) (λ j b is. other j b.origin (and_parts (is_call call b.origin) (is_free_place b.place) is).0) k

@@ -43,13 +43,15 @@ use Rattle.otp_sup.specs.declared.bodies.Origin.TheVariants as origin
 use Rattle.otp_sup.specs.declared.bodies.Place.{Place}
 use Rattle.otp_sup.specs.declared.bodies.Place.TheVariants as placed
 use Rattle.otp_sup.specs.Letters.{is_end_note}
-use Rattle.otp_sup.specs.Bodies.{are_given, bodies_after, calls_waiting, came_for, come_home, count_away, given_in, has_body, home_of, home_or_free, is_any_waiting, is_at_home, is_start_item, is_start_waiting, is_taken_up, is_waited_for, is_waiting, let_go, move_first, moved, opened, place_of_call, received, settled, slot_given, slot_heeding, started_by, stray, taken_up}
-use Rattle.otp_sup.specs.Facts.{AreApart, AreToStart, Begins, HasBodies, IsOpening, IsOut, KeepsBodies, KeepsOffice, OfficeView, count_opened, is_unsent, orders_in, starts_in}
+use Rattle.otp_sup.specs.Bodies.{are_given, bodies_after, calls_waiting, came_for, come_home, count_away, given_in, has_body, home_of, home_or_free, is_any_waiting, is_at_home, is_heeded, is_start_item, is_starting_as, is_start_waiting, is_taken_up, is_waited_for, is_waiting, let_go, move_first, moved, opened, place_of_call, received, settled, slot_given, slot_heeding, started_by, stray, taken_up}
+use Rattle.otp_sup.specs.Facts.{AreApart, AreToStart, Begins, HasBodies, IsOpening, IsOut, KeepsBodies, KeepsOffice, OfficeView, count_opened, is_to_start, is_unsent, orders_in, starts_in}
 use Rattle.otp_sup.specs.Turns.{Happened}
 use Rattle.otp_sup.proofs.Calls.{later_is}
 use Rattle.otp_sup.proofs.Heeding.{Adds, Alias, Heeded, Heeder, Tells, alias, heeder, heeds_own, tells}
-use Rattle.otp_sup.proofs.Placed.{any_before, any_last, any_to, away_less, away_moved, away_no_more, away_opened, away_put, away_settled, comes_home, given_at, given_come, given_has_body, given_moved, given_opened, given_put, given_settled, some_waits, stays_when_come, stays_when_settled, stays_when_up}
+use Rattle.otp_sup.proofs.Placed.{any_before, any_last, any_to, away_less, away_moved, away_no_more, away_opened, away_put, away_settled, away_when_come, away_when_up, comes_home, given_at, given_come, given_has_body, given_moved, given_opened, given_put, given_settled, some_waits, stays_when_come, stays_when_settled, stays_when_up}
 use Rattle.otp_sup.proofs.StartOrders.{event_starts}
+use Rattle.otp_rules.specs.Alive.{EndsChild, LivesIn, ProcessesLived, is_told_by}
+use Rattle.otp_rules.specs.Fit.{is_starting}
 
 -- the laws on which it rests
 pub record Laws : Type 0 where
@@ -63,6 +65,7 @@ pub record Laws : Type 0 where
   pub owned : ProcessesOwned
   pub works : NumberStartsWork
   pub plan : StepKeepsPlan
+  pub lived : ProcessesLived
 
 -- what they say of a supervisor that is about to have an event of this number
 pub record Known (s : State) (number : Option ℕ) : Type 0 where
@@ -72,6 +75,7 @@ pub record Known (s : State) (number : Option ℕ) : Type 0 where
   pub names : (e : Event) → All (NamesRowOf (step s e).state.rows) (step s e).orders
   pub unended : (p : ℕ) → number ≡ Some p → list_any (is_ended p) s.waiting ≡ true → ⊥
   pub apart : AreApart s.rows
+  pub lived : (e : Event) → is_some e.number ≡ needs_number s e.reading e.kind → (slot p : ℕ) → LivesIn (step s e).state slot p → (e.number ≡ Some p) ⊎ (LivesIn s slot p × (EndsChild s e.kind p → ⊥))
 
 none_below : (p : ℕ) (ns : List ℕ) → All (λ m. m < p) ns → count_by (λ q. q == p) ns ≡ 0
 none_below p [] h = refl
@@ -98,6 +102,7 @@ known laws o number keeps rises =
     let Stays : State → Type 0 = λ b. (e : Event) (row : Row) (p : ℕ) → Contains (state_after b h).rows row → has_process p row.state ≡ true → HasEnded (state_after b h) e.kind p ⊎ IsHeldIn (step (state_after b h) e).state.rows row.slot p in
     let Bare : State → Type 0 = λ b. is_over (state_after b h).phase ≡ true → (state_after b h).rows ≡ [] in
     let Names : State → Type 0 = λ b. (e : Event) → All (NamesRowOf (step (state_after b h) e).state.rows) (step (state_after b h) e).orders in
+    let Lived : State → Type 0 = λ b. (e : Event) → is_some e.number ≡ needs_number (state_after b h) e.reading e.kind → (slot p : ℕ) → LivesIn (step (state_after b h) e).state slot p → (e.number ≡ Some p) ⊎ (LivesIn (state_after b h) slot p × (EndsChild (state_after b h) e.kind p → ⊥)) in
     let Ended : State → Type 0 = λ b. (p : ℕ) → list_any (is_ended p) (state_after b h).waiting ≡ true → IsIn p (numbers_of h) in
     let ended : Ended o.core.base = subst Ended (sym begins.is) (λ p w. laws.started begins.flags begins.specs h p lawful w) in
     record {
@@ -107,6 +112,7 @@ known laws o number keeps rises =
       names = subst Names (sym begins.is) (λ e. laws.named begins.flags begins.specs h e lawful);
       unended = λ p is w. let none : count_by (λ q. q == p) (numbers_of h) ≡ 0 = none_below p (numbers_of h) (rises p is) in let some : 0 < count_by (λ q. q == p) (numbers_of h) = ended p w in omega (arith, none, some);
       apart = keeps.apart;
+      lived = subst Lived (sym begins.is) (λ e needed slot p live. laws.lived begins.flags begins.specs h e lawful needed slot p live);
     }
 
 -- a row has its slot
@@ -403,6 +409,79 @@ out_after laws s reading number k kept known keeps slot some =
         let same : n ≡ out.p = one_process n out.p state started has in
         false≢true (sym (free out.row out.runs.among) ∙ subst (λ (m : ℕ). has_process m out.row.state ≡ true) (sym same) out.runs.has)
 
+-- a body that is away stays so, unless the event takes a note that its child heeds
+
+less_by_note : (slot : ℕ) (home : Option ℕ) (kept : List Kept) → (home ≡ Some slot → ⊥) → count_away slot kept ≤ count_away slot (came_for home kept)
+less_by_note slot None kept other = let same = away_put slot kept stray refl in omega (arith, same)
+less_by_note slot (Some k) kept other = away_when_come slot k kept (λ is. other (ap (λ (n : ℕ). Some n) is))
+
+call_near : (slot : ℕ) (waits : Bool) (given : Option ℕ) → Rattle.otp_sup.specs.Bodies.is_away_from slot (place_of_call waits given) ≡ false
+call_near slot true given = refl
+call_near slot false None = refl
+call_near slot false (Some k) = refl
+
+up_away : (slot : ℕ) (is : Bool) (given : Option ℕ) (kept : List Kept) → count_away slot kept ≤ count_away slot (taken_up is given kept)
+up_away slot true given kept = away_when_up slot (home_or_free given) kept
+up_away slot false given kept = omega arith
+
+away_stays : (slot : ℕ) (s later : State) (k : Kind) (kept : List Kept) → ((x : Note) → k ≡ kind.Took (item.Note x) → home_of s x ≡ Some slot → ⊥) → count_away slot kept ≤ count_away slot (bodies_after s later k kept)
+away_stays slot s later (kind.Opened own) kept other = omega (arith, away_opened slot later.rows (settled [] (is_any_waiting later) kept), away_settled slot [] (is_any_waiting later) kept)
+away_stays slot s later (kind.Took (item.Note x)) kept other =
+    let came : count_away slot kept ≤ count_away slot (received s later.rows (item.Note x) kept) =
+    cond_both (is_end_note x) (came_for (home_of s x) kept) kept (λ (l : List Kept). count_away slot kept ≤ count_away slot l) (λ _. less_by_note slot (home_of s x) kept (λ is. other x refl is)) (λ _. omega arith) in
+    omega (arith, came, away_settled slot later.rows (is_any_waiting later) (received s later.rows (item.Note x) kept))
+away_stays slot s later (kind.Took (item.Call c x)) kept other =
+    let b : Kept = record { origin = origin.Call c; place = place_of_call (is_waited_for s) (slot_given s.rows later.rows) } in
+    let came : count_away slot kept ≤ count_away slot (received s later.rows (item.Call c x) kept) =
+    cond_both (is_start_call x) (kept ++ b ∷ []) kept (λ (l : List Kept). count_away slot kept ≤ count_away slot l)
+    (λ _. let same = away_put slot kept b (call_near slot (is_waited_for s) (slot_given s.rows later.rows)) in omega (arith, same)) (λ _. omega arith) in
+    omega (arith, came, away_settled slot later.rows (is_any_waiting later) (received s later.rows (item.Call c x) kept))
+away_stays slot s later kind.Resumed kept other =
+    omega (arith, up_away slot (is_taken_up s) (slot_given s.rows later.rows) kept, away_settled slot later.rows (is_any_waiting later) (taken_up (is_taken_up s) (slot_given s.rows later.rows) kept))
+away_stays slot s later kind.Ticked kept other = omega (arith, away_settled slot later.rows (is_any_waiting later) kept)
+away_stays slot s later kind.Stopped kept other = omega (arith, away_settled slot later.rows (is_any_waiting later) kept)
+
+-- a note that a row heeds tells the end of the row's process
+
+starts_as : (p : ℕ) (state : RowState) → is_starting_as p state ≡ true → is_starting p state ≡ true
+starts_as p Undefined h = absurd (false≢true h)
+starts_as p (Starting q k) h = h
+starts_as p (Up q) h = absurd (false≢true h)
+starts_as p (Asked q d) h = absurd (false≢true h)
+starts_as p (Killed q) h = absurd (false≢true h)
+starts_as p (Restarting k) h = absurd (false≢true h)
+
+told_heeded : (x : Note) (row : Row) → is_heeded x row ≡ true → (p : ℕ) × (end_number x ≡ Some p) × (is_told_by x row.state ≡ true)
+told_heeded (note.Up p) row h = absurd (false≢true h)
+told_heeded (note.Ignored p) row h = (p, refl, starts_as p row.state h)
+told_heeded (note.Failed p r) row h = (p, refl, starts_as p row.state h)
+told_heeded (note.Exit p r) row h = (p, refl, h)
+
+ends_its_child : (s : State) (k : Kind) (slot p : ℕ) (x : Note) → AreApart s.rows → LivesIn s slot p → k ≡ kind.Took (item.Note x) → home_of s x ≡ Some slot → EndsChild s k p
+ends_its_child s k slot p x apart live takes home =
+    let by : Heeder x s.rows slot = heeder x s.rows slot (heeds_in s x slot home) in
+    let told = told_heeded x by.row by.heeds in
+    let has : has_process told.0 by.row.state ≡ true = heeds_own x told.0 by.row told.1 by.heeds in
+    let same : told.0 ≡ p = (apart by.row live.0.0 told.0 p by.among live.0.1 has live.0.3).0 (by.same ∙ sym live.0.2) in
+    (x, takes, told.1 ∙ ap (λ (n : ℕ). Some n) same, (by.row, by.among, told.2))
+
+not_to_start : (number : Option ℕ) (p : ℕ) → is_to_start p (at_most_one number) ≡ false → number ≡ Some p → ⊥
+not_to_start None p h is = search (rules, is)
+not_to_start (Some n) p h is = false≢true (sym h ∙ or_none (n == p) ∙ eq-eqb n p (ap (λ (o : Option ℕ). unwrap_or o n) is))
+
+-- where a process lives after the event, and isn't the one to be started, its child's body is away
+out_event : (s : State) (reading : ℕ) (number : Option ℕ) (k : Kind) (kept : List Kept) → Known s number → is_some number ≡ needs_number s reading k → KeepsBodies s [] kept → (slot p : ℕ)
+    → LivesIn (step s (record { reading = reading; number = number; kind = k })).state slot p → is_to_start p (at_most_one number) ≡ false
+    → 0 < count_away slot (bodies_after s (step s (record { reading = reading; number = number; kind = k })).state k kept)
+out_event s reading number k kept known needed keeps slot p live sent =
+    let e : Event = record { reading = reading; number = number; kind = k } in
+    let later : State = (step s e).state in
+    ⊎_elim
+    (λ is. absurd (not_to_start number p sent is))
+    (λ (was : LivesIn s slot p × (EndsChild s k p → ⊥)).
+    omega (arith, keeps.out slot p was.0 refl, away_stays slot s later k kept (λ x takes home. was.1 (ends_its_child s k slot p x known.apart was.0 takes home))))
+    (known.lived e needed slot p live)
+
 -- the child whose start is ordered has the process, which hasn't ended
 
 start_order : (P : Effect → Type 0) (xs : List Effect) (n : ℕ) → All P xs → starts_in xs ≡ n ∷ [] → (x : Effect) × P x × (named_by x ≡ Some n)
@@ -453,6 +532,7 @@ bodies_event laws s reading number k kept known needed opens calls keeps starts 
       unsent = λ row among unsent. home_after laws s reading number k kept known opens calls keeps row among (inr (sym (unsent_started number row.state) ∙ unsent));
       one_start = to_start_after laws s reading number k known starts;
       away = λ slot some. out_after laws s reading number k kept known keeps slot some;
+      out = λ slot p live sent. out_event s reading number k kept known needed keeps slot p live sent;
       one_away = λ slot. omega (arith, away_after slot s later k kept, keeps.one_away slot);
       given = ap (λ (n : ℕ). are_given n (bodies_after s later k kept)) count ∙ given_after (count_opened s.flags s.specs) s later k kept keeps.given;
     }

@@ -213,6 +213,57 @@ opened_away slot rows origin.Nobody at = refl
 pub away_opened : (slot : ℕ) (rows : List Row) (kept : List Kept) → count_away slot (opened rows kept) ≡ count_away slot kept
 away_opened slot rows kept = away_mapped slot (λ (b : Kept). record b { place = opened_place rows b.origin b.place }) kept (λ b. opened_away slot rows b.origin b.place)
 
+-- a body that moves and wasn't away leaves those that are
+pub away_same : (t : Kept → Bool) (slot : ℕ) (to : Place) (kept : List Kept) → ((b : Kept) → t b ≡ true → is_away slot b ≡ false) → count_away slot kept ≤ count_away slot (move_first t to kept)
+away_same t slot to [] other = omega arith
+away_same t slot to (b ∷ bs) other =
+    cond_both (t b) (record b { place = to } ∷ bs) (b ∷ move_first t to bs) (λ (l : List Kept). count_away slot (b ∷ bs) ≤ count_away slot l)
+    (λ is. omega (arith, no_count slot b (other b is), counted_away slot b bs, counted_away slot (record b { place = to }) bs))
+    (λ _. omega (arith, away_same t slot to bs other, counted_away slot b bs, counted_away slot b (move_first t to bs)))
+
+isnt_away : (slot : ℕ) (at : Place) → (is_away_from slot at ≡ true → ⊥) → is_away_from slot at ≡ false
+isnt_away slot at never = by (is_away_from slot at) refl
+  where
+    by : (b : Bool) → is_away_from slot at ≡ b → is_away_from slot at ≡ false
+    by false h = h
+    by true h = absurd (never h)
+
+away_twice : (k slot : ℕ) (at : Place) → is_away_from k at ≡ true → is_away_from slot at ≡ true → k ≡ slot
+away_twice k slot (placed.Home j) a h = absurd (false≢true a)
+away_twice k slot placed.Waiting a h = absurd (false≢true a)
+away_twice k slot placed.Free a h = absurd (false≢true a)
+away_twice k slot (placed.Away j) a h = sym (eqb-true j k a) ∙ eqb-true j slot h
+
+pub away_when_home : (slot k : ℕ) (kept : List Kept) → count_away slot kept ≤ count_away slot (move_first (is_at_home k) (placed.Away k) kept)
+away_when_home slot k kept = away_same (is_at_home k) slot (placed.Away k) kept (λ b home. isnt_away slot b.place (λ away. away_or_home slot k b.place away home))
+
+pub away_when_up : (slot : ℕ) (to : Place) (kept : List Kept) → count_away slot kept ≤ count_away slot (move_first is_waiting to kept)
+away_when_up slot to kept = away_same is_waiting slot to kept (λ b waits. isnt_away slot b.place (λ away. waiting_or_away slot b.origin b.place waits away))
+
+-- another child's body comes
+pub away_when_come : (slot k : ℕ) (kept : List Kept) → (k ≡ slot → ⊥) → count_away slot kept ≤ count_away slot (come_home k kept)
+away_when_come slot k kept other =
+    let b : Kept = record { origin = origin.Nobody; place = place_without_line k kept } in
+    cond_both (list_any (is_away k) kept) (move_first (is_away k) (placed.Home k) kept) (kept ++ b ∷ []) (λ (l : List Kept). count_away slot kept ≤ count_away slot l)
+    (λ _. away_same (is_away k) slot (placed.Home k) kept (λ x away. isnt_away slot x.place (λ mine. other (away_twice k slot x.place away mine))))
+    (λ _. let same = away_put slot kept b (without_line_near slot k kept) in omega (arith, same))
+
+-- the child's body leaves
+pub away_leaves : (slot : ℕ) (kept : List Kept) → has_body slot kept ≡ true → 0 < count_away slot (move_first (is_at_home slot) (placed.Away slot) kept)
+away_leaves slot [] h = absurd (false≢true h)
+away_leaves slot (b ∷ bs) h =
+    cond_both (is_at_home slot b) (record b { place = placed.Away slot } ∷ bs) (b ∷ move_first (is_at_home slot) (placed.Away slot) bs) (λ (l : List Kept). 0 < count_away slot l)
+    (λ _. let one : ◌≡◌ {A = ℕ} (cond (is_away slot (record b { place = placed.Away slot })) 1 0) 1 = ap (λ (x : Bool). cond x 1 0) (same_number slot) in omega (arith, one, counted_away slot (record b { place = placed.Away slot }) bs))
+    (λ isnt. omega (arith, away_leaves slot bs (sym (ap (λ (x : Bool). x || list_any (is_at_home slot) bs) isnt) ∙ h), counted_away slot b (move_first (is_at_home slot) (placed.Away slot) bs)))
+
+-- one that is had back was free
+pub away_had : (t : Kept → Bool) (slot : ℕ) (kept : List Kept) → ((b : Kept) → t b ≡ true → is_away slot b ≡ false) → count_away slot kept ≤ count_away slot (without_first t kept)
+away_had t slot [] other = omega arith
+away_had t slot (b ∷ bs) other =
+    cond_both (t b) bs (b ∷ without_first t bs) (λ (l : List Kept). count_away slot (b ∷ bs) ≤ count_away slot l)
+    (λ is. omega (arith, no_count slot b (other b is), counted_away slot b bs))
+    (λ _. omega (arith, away_had t slot bs other, counted_away slot b bs, counted_away slot b (without_first t bs)))
+
 -- a body that leaves home is away then
 pub away_left : (slot k : ℕ) (kept : List Kept) → (k ≡ slot → ⊥) → count_away slot (move_first (is_at_home k) (placed.Away k) kept) ≤ count_away slot kept
 away_left slot k kept other = away_moved (is_at_home k) slot (placed.Away k) kept (isnt (k == slot) refl)

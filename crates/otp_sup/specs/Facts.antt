@@ -1,5 +1,5 @@
 -- What an office and a table stand for, and what they keep.
-use Rattle.std.specs.Prelude.{◌≡◌, ◌↔◌, ⊤, Bool, ◌∷◌, ℕ, ◌+◌, ◌<◌, ◌≤◌, true, false, not, List, [], ◌++◌, Option, Some, None, length, take, drop, All, Contains, ◌^◌}
+use Rattle.std.specs.Prelude.{◌≡◌, ◌==◌, ◌↔◌, ⊤, Bool, ◌∷◌, ℕ, ◌+◌, ◌<◌, ◌≤◌, true, false, not, List, [], ◌++◌, Option, Some, None, length, take, drop, All, Contains, ◌^◌}
 use Rattle.std.specs.List.{filter, filter_map, list_any}
 use Rattle.otp_spec.specs.declared.limits.TheConstants.{MAX_CHILDREN}
 use Rattle.otp_spec.specs.declared.child.ChildSpec.{ChildSpec}
@@ -12,6 +12,7 @@ use Rattle.otp_rules.specs.declared.event.Kind.{Kind}
 use Rattle.otp_rules.specs.declared.event.Kind.TheVariants as kind
 use Rattle.otp_rules.specs.Counts.{counts_of}
 use Rattle.otp_rules.specs.Effects.{is_reply}
+use Rattle.otp_rules.specs.Alive.{LivesIn}
 use Rattle.otp_rules.specs.Homes.{is_ended, is_home}
 use Rattle.otp_rules.specs.Needs.{IsLawfulHistory, numbers_of}
 use Rattle.otp_rules.specs.Run.{empty_state, orders_of}
@@ -187,6 +188,10 @@ AreToStart s (p ∷ q ∷ ps) = ⊥
 abbrev pub is_unsent : List ℕ → RowState → Bool
 is_unsent starts state = list_any (λ p. has_process p state) starts
 
+-- the start of this process is still to be sent
+abbrev pub is_to_start : ℕ → List ℕ → Bool
+is_to_start p starts = list_any (λ q. q == p) starts
+
 -- a child in this slot has a process whose start was sent, and no note of whose end waits
 pub record IsOut (s : State) (starts : List ℕ) (slot : ℕ) : Type 0 where
   pub row : Row
@@ -204,6 +209,8 @@ pub record KeepsBodies (s : State) (starts : List ℕ) (kept : List Kept) : Type
   pub one_start : AreToStart s starts
   -- a body that is away is with a child's process, whose start was sent, and no note of whose end waits
   pub away : (slot : ℕ) → 0 < count_away slot kept → IsOut s starts slot
+  -- the body of each child whose process runs is away with it: its start was sent, and no Exit of it waits
+  pub out : (slot p : ℕ) → LivesIn s slot p → is_to_start p starts ≡ false → 0 < count_away slot kept
   -- and of no child two bodies are
   pub one_away : (slot : ℕ) → count_away slot kept ≤ 1
   -- for each child of an opening a body was handed in, and is kept

@@ -28,7 +28,7 @@ use Rattle.otp_sup.specs.declared.bodies.Kept.{Kept}
 use Rattle.otp_sup.specs.Bodies.{bodies_after, bodies_in}
 use Rattle.otp_sup.specs.Facts.{KeepsRules, OfficeView, TableView, orders_in}
 use Rattle.otp_sup.specs.Flushes.{SentOrders}
-use Rattle.otp_sup.specs.Ports.{Taken}
+use Rattle.otp_sup.specs.Ports.{Taken, carried}
 
 abbrev pub is_told : Signal → Bool
 is_told signal.None = false
@@ -196,6 +196,8 @@ pub record LockedTurn (inbox number reading : ℕ) (told : Signal) (result : Res
   pub sent : SentOrders turned.office new.office before after
   pub left : (new.office.outbox ≡ []) ⊎ (refusals < later)
   pub taker : new.taker ≡ turned.taker
+  -- each body that the table has no more went with a process that the port took
+  pub count : bodies_in new.bodies + carried after.processes ≡ bodies_in turned.bodies + carried before.processes
   pub kept : KeepsRules new
 
 -- this is what a table that keeps the rules has kept as the answer to the call, or it has kept none

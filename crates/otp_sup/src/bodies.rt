@@ -1,7 +1,7 @@
 //! The bodies that a supervisor keeps: of children that have no process, and those that no child has.
 ghost use Rattle.std.specs.Prelude.{◌≡◌, ◌<◌, ◌++◌, ◌∷◌, [], true, get_or, is_some, false, length, position, remove, slice_set, IfErr, MatchOption, None, OnOk, OnErr, Some};
 ghost use Rattle.std.specs.List.{list_any};
-ghost use Rattle.otp_sup.specs.Bodies.{are_ready, come_home, came_for, has_body, home_or_free, is_at_home, is_here, is_left_of, is_stray, is_waiting, move_first, opened, place_of_call, place_without_line, put_home, settled, without_first};
+ghost use Rattle.otp_sup.specs.Bodies.{are_ready, come_home, came_for, has_body, home_or_free, is_at_home, is_given, is_here, is_left_of, is_stray, is_waiting, move_first, opened, place_of_call, place_without_line, put_home, settled, without_first};
 ghost use Rattle.otp_sup.specs.Facts.{count_opened};
 ghost use Rattle.otp_sup.specs.Slots.{AreBelow};
 ghost use Rattle.otp_sup.specs.declared.bodies.Kept.{Kept};
@@ -9,8 +9,8 @@ ghost use Rattle.otp_sup.specs.declared.bodies.Origin.TheVariants as origin;
 ghost use Rattle.otp_sup.specs.declared.bodies.Place.TheVariants as placed;
 
 use crate::kept::{
-    are_given, find_away, find_home, find_left, find_stray, find_waiting, home_or_free, is_any_out,
-    open_items, place_of_call, settle_items,
+    are_given, find_away, find_home, find_left, find_stray, find_waiting, home_or_free,
+    is_any_given, is_any_out, open_items, place_of_call, settle_items,
 };
 use otp_spec::{ChildSpec, Strategy, SupFlags};
 use otp_table::Row;
@@ -94,13 +94,15 @@ impl<B: Drop> Bodies<B> {
         }
     }
 
-    /// Hands in the body of the child specification at this place. Where memory is refused it comes back.
+    /// Hands in the body of the child specification at this place. It comes back where memory is refused, and where one was
+    /// handed in for that specification before: a child has one body.
     pub fn hand_in(&mut self, place: usize, body: B) -> Result<(), B>
         ensures ok { OnOk result (self.new.kept ≡ self.old.kept ++ record { origin = origin.Spec place; place = placed.Free } ∷ []) }
         ensures back { IfErr result (λ back. back ≡ body) }
         ensures kept { OnErr result (self.new.kept ≡ self.old.kept) }
+        ensures first { OnOk result (list_any (is_given place) self.old.kept ≡ false) }
     {
-        if self.prepare().is_err() {
+        if is_any_given(&self.kept, place) || self.prepare().is_err() {
             return Err(body);
         }
         self.put(Origin::Spec(place), Place::Free, body);

@@ -196,7 +196,7 @@ fn is_given(kept: &Kept, place: usize) -> bool
 }
 
 /// Whether one was.
-fn is_any_given(kept: &[Kept], place: usize) -> bool
+pub(crate) fn is_any_given(kept: &[Kept], place: usize) -> bool
     ensures { result ≡ list_any (is_given place) kept.now }
 {
     kept.iter().any(|one| is_given(one, place))

@@ -52,6 +52,7 @@ pub(crate) fn happen<N: WordsNaming, B: Drop>(
     lives::ends_tell_started();
     lives::processes_stay();
     lives::ended_has_no_rows();
+    lives::processes_lived();
     office.keeps_rules();
     let plan = office.plan(&kind);
     office.happen(words, reading, kind);

@@ -1,11 +1,11 @@
 //! A table under its lock, beside its inbox.
-ghost use Rattle.std.specs.Prelude.{◌≡◌, ◌⊎◌, ◌<◌, ◌≤◌, ◌↔◌, [], is_some, length, min, IfOk, IsTrue, Ok};
+ghost use Rattle.std.specs.Prelude.{◌≡◌, ◌⊎◌, ◌+◌, ◌<◌, ◌≤◌, ◌↔◌, [], is_some, length, min, IfOk, IsTrue, Ok};
 ghost use Rattle.otp_spec.specs.declared.limits.TheConstants.{MAX_READING};
 ghost use Rattle.otp_inbox.specs.Tokens.{count_limit};
-ghost use Rattle.otp_sup.specs.Bodies.{is_left_of, is_stray};
+ghost use Rattle.otp_sup.specs.Bodies.{bodies_in, is_left_of, is_stray};
 ghost use Rattle.otp_sup.specs.Facts.{KeepsRules};
 ghost use Rattle.otp_sup.specs.Flushes.{SentOrders, was_sent};
-ghost use Rattle.otp_sup.specs.Ports.{TookMore, taken_by};
+ghost use Rattle.otp_sup.specs.Ports.{TookMore, carried, taken_by};
 ghost use Rattle.otp_sup.specs.Turns.{HadBody, HasReply, IsFlushed, IsOfAnother, LockedTurn, TurnedUnder};
 ghost use Rattle.otp_sup.specs.declared.turns.TurnAnswer.TheVariants as answer;
 
@@ -228,6 +228,7 @@ fn flush_all<N: WordsNaming + InboxNaming, B: Drop, P: Port<B>>(
     ensures sent { (table.new.office.outbox ≡ []) ⊎ (P.refusals port.old < P.refusals port.new) }
     ensures orders { SentOrders table.old.office table.new.office (taken_by (P.processes port.old) (P.notes port.old)) (taken_by (P.processes port.new) (P.notes port.new)) }
     ensures taker { table.new.taker ≡ table.old.taker }
+    ensures count { bodies_in table.new.bodies + carried (P.processes port.new) ≡ bodies_in table.old.bodies + carried (P.processes port.old) }
 {
     let mut flushed = table.flush_one(words, port);
     while was_sent(flushed) {

@@ -90,8 +90,9 @@ impl<N: WordsNaming + InboxNaming, B: Drop> Table<N, B> {
     ///
     /// Besides, its process numbers are those that its own seat drew. Each signal that it posted for one of them is that of
     /// an order that was sent, or of the one to be sent next. No two of its children have one slot, or one process. A child
-    /// whose start is still to be sent has its body too; a body that is away is with a child's process. Each start call that
-    /// waits has its body with it, in their order. And the counts that were published last are those of its children.
+    /// whose start is still to be sent has its body too. A body that is away is with a child's process; and that of a child
+    /// whose process runs is away with it: its start was sent, and no Exit of it waits. Each start call that waits has its
+    /// body with it, in their order. And the counts that were published last are those of its children.
     pub fn keeps_rules(&self)
         ensures { KeepsRules self.now }
     {

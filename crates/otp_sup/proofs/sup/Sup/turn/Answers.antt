@@ -14,6 +14,7 @@ returns-clause-one_table g c =
       sent = c.flush_all.ensures.orders;
       left = c.flush_all.ensures.sent;
       taker = c.flush_all.ensures.taker;
+      count = c.flush_all.ensures.count;
       kept = c.keeps_rules-2.ensures;
     })
 
