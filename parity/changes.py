@@ -154,7 +154,8 @@ CHANGES = [
     # Automatic shutdown
     ("any_significant waits for the last", [(AFFECTED, "AutoShutdown::AnySignificant => ", "row.spec.significant", "row.spec.significant && !(ON && has_left(rows))")]),
     ("all_significant ends at the first", [(AFFECTED, "AutoShutdown::AllSignificant => ", "!rows.has_left()", "(ON || !rows.has_left())")]),
-    ("a significant child that waits for its retry counts as gone", [(TABLE, "fn is_left", "!self.state.is_undefined()", "!self.state.is_undefined() && !(ON && self.state.is_restarting())")]),
+    ("a significant child that waits for its retry counts as gone", [(TABLE, "fn is_left", "!self.state.is_undefined()", "!self.state.is_undefined() && !(ON && self.state.is_restarting())"),
+      ("otp_table/src/counts.rt", "fn is_left_as", "!state.is_undefined()", "!state.is_undefined() && !(ON && state.is_restarting())")]),
     ("a child that isn't significant ends the supervisor too", [(AFFECTED, "AutoShutdown::AnySignificant => ", "row.spec.significant", "(ON || row.spec.significant)")]),
     ("a significant child that is terminated ends the supervisor",
      [(DEATHS, "fn take_exit", "RowState::Asked(..) | RowState::Killed(_) => ", "RowState::Asked(..) if ON => {\n                let row = *self.rows.get(place);\n                self.end_row(place);\n                self.after_end(number, &row);\n            }\n            RowState::Asked(..) | RowState::Killed(_) => ")]),
