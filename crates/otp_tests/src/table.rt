@@ -1,6 +1,7 @@
 use otp_reason::Name;
 use otp_spec::{ChildSpec, SpecFault};
 use otp_table::{MAX_CHILDREN, Row, RowState, Rows, slot_of};
+use std::process::Abort;
 use std::test::Fail;
 
 fn row(slot: usize, id: &[u8], state: RowState) -> Result<Row, Fail> {
@@ -60,6 +61,66 @@ fn three_children(rt: HostRuntime) -> Result<(), Fail> {
     assert_eq!(rt; (rows.find_id(&c.spec.id), rows.free_slot()), (Some(1), 1));
     rows.clear();
     assert!(rt; rows.is_empty());
+    Ok(())
+}
+
+fn child(place: usize) -> Result<Row, Fail> {
+    let letter = b'a'.saturating_add((place % 16) as u8);
+    let id = [b'a'.saturating_add((place / 16 % 16) as u8), letter];
+    row(place, &id, RowState::Up(place as u64))
+}
+
+fn take_out(rt: &impl Abort, rows: &mut Rows, id: &Name) -> Result<Row, Fail> {
+    let place = rows.find_id(id).ok_or("a row with this id")?;
+    assert!(rt; place < rows.len());
+    Ok(rows.remove(place))
+}
+
+/// A supervisor full of children: each is found by its id while others are taken out and put in again.
+#[test]
+fn children_by_id(rt: HostRuntime) -> Result<(), Fail> {
+    let mut rows = Rows::new(rt.alloc());
+    rows.reserve(MAX_CHILDREN)?;
+    for place in 0..MAX_CHILDREN {
+        assert!(rt; !rows.is_full() && rows.room() > 0);
+        rows.insert(child(place)?)?;
+    }
+    for half in 0..MAX_CHILDREN / 2 {
+        let id = child(half.saturating_mul(2))?.spec.id;
+        assert_eq!(rt; take_out(&rt, &mut rows, &id)?.spec.id, id);
+        assert_eq!(rt; rows.find_id(&id), None);
+    }
+    for place in 0..MAX_CHILDREN / 2 {
+        let odd = child(place.saturating_mul(2).saturating_add(1))?;
+        assert_eq!(rt; rows.find_id(&odd.spec.id), Some(place));
+    }
+    rows.reserve(1)?;
+    rows.insert(child(0)?)?;
+    assert_eq!(rt; rows.find_id(&child(0)?.spec.id), Some(MAX_CHILDREN / 2));
+    rows.clear();
+    assert_eq!(rt; rows.find_id(&child(1)?.spec.id), None);
+    Ok(())
+}
+
+/// Two rows with one id, which no supervisor has: the first is found, and the other once that one is gone.
+#[test]
+fn one_id_twice(rt: HostRuntime) -> Result<(), Fail> {
+    let (a, b) = (
+        row(0, b"a", RowState::Up(1))?,
+        row(1, b"b", RowState::Up(2))?,
+    );
+    let mut rows = Rows::new(rt.alloc());
+    rows.reserve(3)?;
+    for row in [a, b, a] {
+        assert!(rt; rows.room() > 0);
+        rows.insert(row)?;
+    }
+    assert_eq!(rt; rows.find_id(&a.spec.id), Some(0));
+    assert_eq!(rt; take_out(&rt, &mut rows, &a.spec.id)?.slot, 0);
+    assert_eq!(rt;
+        (rows.find_id(&b.spec.id), rows.find_id(&a.spec.id)),
+        (Some(0), Some(1))
+    );
     Ok(())
 }
 
