@@ -1,5 +1,5 @@
 //! What lies under a supervisor's lock.
-ghost use Rattle.std.specs.Prelude.{◌≡◌, ◌∷◌, ◌+◌, ◌≤◌, [], true, false, is_some, length, min, IfOk, MatchOption, None, Some};
+ghost use Rattle.std.specs.Prelude.{◌≡◌, ◌∷◌, ◌+◌, ◌≤◌, ◌<◌, [], true, false, is_some, length, min, IfOk, MatchOption, None, OnOk, Some};
 ghost use Rattle.otp_inbox.specs.Tokens.{count_limit};
 ghost use Rattle.std.specs.List.{list_any};
 ghost use Rattle.otp_spec.specs.declared.limits.TheConstants.{MAX_READING};
@@ -11,7 +11,7 @@ ghost use Rattle.otp_sup.specs.Bodies.{are_ready, bodies_in, bodies_sent, is_lef
 ghost use Rattle.otp_sup.specs.Facts.{KeepsRules, count_opened};
 ghost use Rattle.otp_sup.specs.Flushes.{Flushes};
 ghost use Rattle.otp_sup.specs.Ports.{taken_by, carried};
-ghost use Rattle.otp_sup.specs.Turns.{Turned};
+ghost use Rattle.otp_sup.specs.Turns.{Turned, early_answer};
 
 use crate::bodies::Bodies;
 use crate::letter::Letter;
@@ -136,7 +136,9 @@ impl<N: WordsNaming + InboxNaming, B: Drop> Table<N, B> {
     ) -> Result<TurnAnswer, TurnFault>
         requires inbox { inbox.now ≡ self.old.taker.inbox }
         requires reading { reading ≤ MAX_READING }
-        ensures { Turned number reading told self.old self.new result }
+        ensures turned { Turned number reading told self.old self.new result }
+        // Beyond cases 1 to 4 nothing is done without a number for the next start.
+        ensures quota { early_answer self.old.office number ≡ None → OnOk result (0 < self.old.office.owner.quota) }
     {
         if let Some(early) = self.office.early_answer(number) {
             return early;
