@@ -52,7 +52,7 @@ const LIMITS_ABOUT: &str =
     "Says what each child's failure costs: so many crashes at once are survived, or crashes so far apart";
 
 const LIMITS_EXAMPLE: &str =
-    "Example: otp limits examples/storm.toml\nburst: so many crashes at once are survived; interval: crashes so far apart are survived, and with a millisecond less not.\nStatus 1: the file says no tree; `otp check FILE` says why.";
+    "Example: otp limits examples/storm.toml\nburst: so many crashes at once are survived; interval: crashes so far apart are survived, and with a millisecond less not; root, where supervisors stand below: so many crashes the root survives.\nStatus 1: the file says no tree; `otp check FILE` says why.";
 
 const SIM_ABOUT: &str =
     "Plays event lines of standard input on a supervisor, and prints each order that it gives";
