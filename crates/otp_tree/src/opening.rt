@@ -220,8 +220,7 @@ fn open_all<N: WordsNaming + InboxNaming, J: Drop, S: Drop>(
         let Some(plan) = plans.next() else {
             return Err(SystemFault::OutOfMemory);
         };
-        let NamedOne { sup, sender, pass } =
-            open_one(alloc, words, owner, inbox, number, plan)?;
+        let NamedOne { sup, sender, pass } = open_one(alloc, words, owner, inbox, number, plan)?;
         keep(&mut sups, sup)?;
         keep(&mut senders, sender)?;
         keep(&mut passes, pass)?;
@@ -263,38 +262,55 @@ fn begin<N: RunNaming, J: Drop, S: Drop>(
     }
 }
 
-/// A hand for each scheduler, each with a viewer, a sender to each supervisor and a pass to the counts of each. The first
-/// has the root's process.
+/// A hand of a scheduler, with a viewer, a sender to each supervisor and a pass to the counts of each, which are split off.
+fn make_hand<N: WordsNaming + InboxNaming + RunNaming, J: Drop, S: Drop>(
+    alloc: Global,
+    system: &System<N, J, S>,
+    scheduler: Scheduler<N, J, S>,
+    senders: &mut Senders<N, Body<J, S>>,
+    passes: &mut Vec<CountsPass>,
+    viewer: Viewer<N>,
+) -> Result<Hand<N, J, S>, SystemFault>
+    requires { out scheduler ≡ 0 }
+    ensures fresh { IfOk result (λ hand. IsFresh passes.old.items hand) }
+    ensures same { OnOk result (passes.new.items ≡ passes.old.items) }
+{
+    let Some(senders) = system.split_senders(alloc, senders, 1)? else {
+        return Err(SystemFault::OutOfMemory);
+    };
+    let passes = split_all(alloc, passes)?;
+    Ok(Hand {
+        scheduler,
+        viewer,
+        senders,
+        turning: None,
+        unsent: None,
+        refusals: Tally::new(),
+        passes,
+        alloc,
+    })
+}
+
+/// A hand for each scheduler. The first has the root's process.
 fn make_hands<N: WordsNaming + InboxNaming + RunNaming, J: Drop, S: Drop>(
     alloc: Global,
     system: &System<N, J, S>,
     schedulers: Vec<Scheduler<N, J, S>>,
     senders: &mut Senders<N, Body<J, S>>,
-    mut passes: Vec<CountsPass>,
+    passes: &mut Vec<CountsPass>,
     mut viewer: Viewer<N>,
     root: Process<J, S>,
 ) -> Result<Vec<Hand<N, J, S>>, SystemFault>
     requires { AllAt (λ k s. out s ≡ 0) schedulers.items }
-    ensures { IfOk result (λ hands. AllAt (λ _ h. IsFresh passes.items h) hands.items) }
+    ensures { IfOk result (λ hands. AllAt (λ _ h. IsFresh passes.old.items h) hands.items) }
 {
     let mut hands = Vec::new(alloc);
     let mut root = Some(root);
     for scheduler in schedulers {
         let mut scheduler = scheduler;
         begin(&mut scheduler, &mut root)?;
-        let Some(senders) = system.split_senders(alloc, senders, 1)? else {
-            return Err(SystemFault::OutOfMemory);
-        };
-        let hand = Hand {
-            scheduler,
-            viewer: system.words.split_viewer(&mut viewer),
-            senders,
-            turning: None,
-            unsent: None,
-            refusals: Tally::new(),
-            passes: split_all(alloc, passes.as_mut_slice())?,
-            alloc,
-        };
+        let own = system.words.split_viewer(&mut viewer);
+        let hand = make_hand(alloc, system, scheduler, senders, passes, own)?;
         keep(&mut hands, hand)?;
     }
     Ok(hands)
@@ -329,7 +345,7 @@ impl<J: Drop, S: Drop> Parts<J, S> {
         let Named {
             sups,
             senders,
-            passes,
+            mut passes,
         } = open_all(alloc, &words, &mut owner, inboxes, plans)?;
         let Ok(root) = words.draw(&mut owner) else {
             return Err(SystemFault::OutOfMemory);
@@ -347,7 +363,7 @@ impl<J: Drop, S: Drop> Parts<J, S> {
             &system,
             schedulers,
             &mut senders,
-            passes,
+            &mut passes,
             viewer,
             process,
         )?;

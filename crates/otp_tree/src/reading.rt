@@ -15,10 +15,7 @@ pub(crate) fn read_at(passes: &mut [CountsPass], place: usize) -> CountsNow
 }
 
 /// Another pass beside each of these, in their order.
-pub(crate) fn split_all(
-    alloc: Global,
-    passes: &mut [CountsPass],
-) -> Result<Vec<CountsPass>, AllocError>
+fn split_each(alloc: Global, passes: &mut [CountsPass]) -> Result<Vec<CountsPass>, AllocError>
     ensures same { OnOk result (passes.new ≡ passes.old) }
     ensures split { IfOk result (λ all. all.items ≡ map renewed passes.old) }
 {
@@ -27,4 +24,15 @@ pub(crate) fn split_all(
         all.push(pass.split()?)?;
     }
     Ok(all)
+}
+
+/// The same of a whole list.
+pub(crate) fn split_all(
+    alloc: Global,
+    passes: &mut Vec<CountsPass>,
+) -> Result<Vec<CountsPass>, AllocError>
+    ensures same { OnOk result (passes.new.items ≡ passes.old.items) }
+    ensures split { IfOk result (λ all. all.items ≡ map renewed passes.old.items) }
+{
+    split_each(alloc, passes)
 }

@@ -8,6 +8,6 @@ abbrev pub invariant-loop-scheduler : goal.invariant-loop-scheduler
 invariant-loop-scheduler g l =
     record {
       idle : AllAt (λ k s. out s ≡ 0) l.scheduler-iterator.rest.items;
-      same : l.passes.items ≡ l.fn.passes.items;
-      fresh : AllAt (λ _ h. IsFresh l.fn.passes.items h) l.hands.items;
+      same : l.passes.items ≡ l.initial.passes.items;
+      fresh : AllAt (λ _ h. IsFresh l.initial.passes.items h) l.hands.items;
     }
