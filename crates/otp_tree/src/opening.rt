@@ -302,7 +302,7 @@ fn make_hands<N: WordsNaming + InboxNaming + RunNaming, J: Drop, S: Drop>(
     root: Process<J, S>,
 ) -> Result<Vec<Hand<N, J, S>>, SystemFault>
     requires { AllAt (λ k s. out s ≡ 0) schedulers.items }
-    ensures { IfOk result (λ hands. AllAt (λ _ h. IsFresh passes.old.items h) hands.items) }
+    ensures { IfOk result (λ hands. CanRead (length passes.old.items) hands.items) }
 {
     let mut hands = Vec::new(alloc);
     let mut root = Some(root);

@@ -1,4 +1,4 @@
-use Rattle.std.proofs.Common.{◌≡◌, suc, Some, ap, map, sym, ◌∙◌, subst}
+use Rattle.std.proofs.Common.{◌≡◌, suc, Some, ap, map, refl, sym, ◌∙◌, subst}
 use Rattle.std.specs.Prelude.{slice_get}
 use Rattle.otp_run.specs.Lists.{AllAt}
 use Rattle.otp_run.proofs.Places.{push_at}
@@ -23,3 +23,6 @@ begin-requires g c =
     let e = (c.in-Some.ensures {u = tt}).steps.0 in
     let at : slice_get c.loop-scheduler.scheduler-iterator.rest.items 0 ≡ Some c.in-Some.scheduler = ap (λ l. slice_get l 0) e in
     rw at at (c.loop-scheduler.invariant.idle 0)
+
+pub returns : goal.returns
+returns g c = record { passes = c.args.passes.now.items; many = refl; fresh = c.loop-scheduler.invariant.fresh }
