@@ -8,6 +8,7 @@ use otp_core::OpenFault;
 use otp_inbox::InboxNaming;
 use otp_job::{Body, Job, TableNo, Told, Turn};
 use otp_reason::{Name, Note, Reason, Started, Text};
+use otp_rules::CountsNow;
 use otp_run::RunNaming;
 use otp_signals::WordsNaming;
 use otp_spec::{ChildSpec, ChildType, Shutdown, SpecFault, SupFlags};
@@ -473,5 +474,97 @@ fn a_tree_is_closed_with_all_its_hands(rt: HostRuntime) -> Result<(), Fail> {
         Ok(Some(report)) => check_ended(&rt, &report),
         _ => return Err("memory was refused".into()),
     }
+    Ok(())
+}
+
+// What a supervisor counts that has so many children, of whom so many have a process.
+fn counted(specs: u64, active: u64, supervisors: u64, workers: u64) -> Option<CountsNow> {
+    Some(CountsNow {
+        specs,
+        active,
+        supervisors,
+        workers,
+    })
+}
+
+// Whether each of a thousand readings of the nested supervisor is one of two children, or of none before it was opened, and
+// never of none again.
+fn read_along<N: WordsNaming + InboxNaming + RunNaming>(
+    system: &System<N, Worker, BoxedSubsystem>,
+    hand: &mut Hand<N, Worker, BoxedSubsystem>,
+) -> bool {
+    let mut last = 0;
+    let mut is_in_order = true;
+    for _ in 0..1000 {
+        match system.counts(hand, 1) {
+            Some(now) => {
+                let is_one = now.specs == now.workers && now.active <= 2 && now.specs <= 2;
+                is_in_order = is_in_order && is_one && last <= now.specs;
+                last = now.specs;
+            }
+            None => is_in_order = false,
+        }
+        thread::yield_now();
+    }
+    is_in_order
+}
+
+// Serves by one hand while another reads, each in a thread of its own, and reads once all is up and `c` was restarted.
+fn count_along<
+    N: WordsNaming + InboxNaming + RunNaming + Send + Sync,
+    R: Threads + Wait + Abort + Sync,
+>(
+    rt: &R,
+    system: &System<N, Worker, BoxedSubsystem>,
+    serving: &mut Hand<N, Worker, BoxedSubsystem>,
+    reading: &mut Hand<N, Worker, BoxedSubsystem>,
+) {
+    assert_eq!(rt; system.counts(reading, 0), counted(0, 0, 0, 0));
+    assert_eq!(rt; system.counts(reading, 1), counted(0, 0, 0, 0));
+    assert_eq!(rt; system.counts(reading, 2), None);
+    // The root is opened, and starts its first child.
+    system.turn(rt, serving, 0);
+    assert_eq!(rt; system.counts(reading, 0), counted(2, 0, 1, 1));
+    let (_, is_in_order) = thread::join(
+        rt,
+        || system.serve(rt, serving, &mut Still, 1000),
+        || read_along(system, reading),
+    );
+    assert!(rt; is_in_order);
+    assert_eq!(rt; system.counts(reading, 0), counted(2, 2, 1, 1));
+    assert_eq!(rt; system.counts(reading, 1), counted(2, 2, 0, 2));
+    assert_eq!(rt; system.counts(serving, 1), counted(2, 2, 0, 2));
+}
+
+// Counts by two hands.
+#[derive(Drop)]
+struct Counting;
+
+impl<R: Threads + Wait + Abort + Sync> Session<R, Worker, BoxedSubsystem> for Counting {
+    type Output = bool;
+
+    fn run<N: WordsNaming + InboxNaming + RunNaming + Send + Sync>(
+        self,
+        rt: &R,
+        system: System<N, Worker, BoxedSubsystem>,
+        hands: Vec<Hand<N, Worker, BoxedSubsystem>>,
+        _client: Client<N, Body<Worker, BoxedSubsystem>>,
+    ) -> bool {
+        let mut hands = hands;
+        let (Some(mut reading), Some(mut serving)) = (hands.pop(), hands.pop()) else {
+            return false;
+        };
+        count_along(rt, &system, &mut serving, &mut reading);
+        true
+    }
+}
+
+#[test]
+fn counts_are_read_while_the_tree_restarts(rt: HostRuntime) -> Result<(), Fail> {
+    let starts: Calls = Arc::new(rt.alloc(), AtomicU64::new(0))?;
+    let plans = plans(rt.alloc(), &starts, b"c")?;
+    let counted = with_system(&rt, rt.alloc(), plans, 2, Counting);
+    assert_eq!(rt; counted, Ok(true));
+    assert_eq!(rt; starts.load(Ordering::SeqCst), WORKERS + 1);
     Ok(())
 }

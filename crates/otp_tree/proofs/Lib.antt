@@ -4,3 +4,4 @@ pub mod Sums
 pub mod Apart
 pub mod Starts
 pub mod Below
+pub mod Refusals

@@ -1,6 +1,7 @@
 -- What contracts see of a hand. (own)
 use Rattle.std.specs.Prelude.{◌≡◌, MatchOption, ℕ, Bool, true, false, List, [], ◌∷◌, ◌++◌, map, Option, Some, None, slice_get}
 use Rattle.std.specs.List.{filter_map}
+use Rattle.otp_counts.specs.Counts.{Reading}
 use Rattle.otp_inbox.specs.Tokens.{SenderState, TakerState}
 use Rattle.otp_job.specs.Processes.{ProcessState}
 use Rattle.otp_job.specs.declared.process.Ticket.{Ticket}
@@ -21,6 +22,8 @@ pub record HandView (J S : Type 0) : Type 0 where
   -- the letter that was refused
   pub unsent : Option (Unsent J S)
   pub refusals : ℕ
+  -- by which it reads the counts of each supervisor
+  pub passes : List Reading
 
 abbrev pub senders_of : {J S : Type 0} → HandView J S → List (SenderState Item)
 senders_of h = h.senders

@@ -7,3 +7,4 @@ pub mod Sendings
 pub mod Tellings
 pub mod Closes
 pub mod Gathers
+pub mod Readings

@@ -15,7 +15,7 @@ module _ {J S : Type 0} where
 module _ {N J S : Type 0} where
   -- the hand of a scheduler and the rest
   abbrev pub hand_of : SchedulerState → Rest N J S → HandView J S
-  hand_of s r = record { scheduler = s; senders = r.senders; turning = r.turning; unsent = r.unsent; refusals = r.refusals.count }
+  hand_of s r = record { scheduler = s; senders = r.senders; turning = r.turning; unsent = r.unsent; refusals = r.refusals.count; passes = r.passes.items }
 
   -- the hands of all schedulers and their rests
   abbrev pub joined : List SchedulerState → List (Rest N J S) → List (HandView J S)

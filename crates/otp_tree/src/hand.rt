@@ -1,21 +1,25 @@
 //! What one thread needs to serve a tree.
-ghost use Rattle.std.specs.Prelude.{◌≡◌, ◌<◌, ◌≤◌, ◌^◌, ◌++◌, ◌∷◌, [], None, Some, is_some, true, false, IsTrue, OnErr, OnOk, IfErr, IfSome};
+ghost use Rattle.std.specs.Prelude.{◌≡◌, ◌↔◌, ◌<◌, ◌≤◌, ◌^◌, ◌++◌, ◌∷◌, [], None, Some, is_some, true, false, IsTrue, OnErr, OnOk, IfErr, IfNone, IfSome, length};
 ghost use Rattle.otp_sup.specs.Ports.{launched};
 ghost use Rattle.otp_sup.specs.Letters.{carries_body};
 ghost use Rattle.otp_rules.specs.declared.event.Item.TheVariants as item;
+ghost use Rattle.otp_tree.specs.Readings.{HasRead};
 
+use crate::reading::read_at;
 use crate::senders::Senders;
 use otp_bridge::Subsystem;
+use otp_counts::CountsPass;
 use otp_inbox::InboxNaming;
 use otp_job::{After, Body, EndNote, Job, Process, one_turn};
 use otp_reason::Note;
-use otp_rules::Item;
+use otp_rules::{CountsNow, Item};
 use otp_run::{RunNaming, SHARE_LIMIT, Scheduler};
 use otp_signals::{Signal, Viewer, Words, WordsNaming};
 use otp_sup::{Letter, NewProcess, Port};
 use otp_tally::Tally;
 use std::alloc::Global;
 use std::marker::Model;
+use std::mem;
 use std::sync::Wait;
 
 /// A letter that was not sent yet, and the number of the supervisor to which it goes.
@@ -25,7 +29,8 @@ pub(crate) struct Unsent<J: Drop, S: Drop> {
     pub letter: Letter<Body<J, S>>,
 }
 
-/// What one thread needs to serve: a scheduler, a viewer of the signals, and a sender to each supervisor.
+/// What one thread needs to serve: a scheduler, a viewer of the signals, a sender to each supervisor, and a pass to read
+/// the counts of each.
 ///
 /// It has at most one process out, the one whose turn it is; where that can't be given back for want of memory it stays
 /// in the hand and comes first. So does a note that was refused.
@@ -37,6 +42,7 @@ pub struct Hand<N: WordsNaming + InboxNaming + RunNaming, J: Drop, S: Drop> {
     pub(crate) turning: Option<Process<J, S>>,
     pub(crate) unsent: Option<Unsent<J, S>>,
     pub(crate) refusals: Tally,
+    pub(crate) passes: Vec<CountsPass>,
     pub(crate) alloc: Global,
 }
 
@@ -47,7 +53,7 @@ impl<N: WordsNaming + InboxNaming + RunNaming, J: Drop, S: Drop> Model for Hand<
 
     ghost Value = { HandView J S };
 
-    ghost view = { λ h. record { scheduler = h.scheduler; senders = h.senders; turning = h.turning; unsent = h.unsent; refusals = h.refusals.count } };
+    ghost view = { λ h. record { scheduler = h.scheduler; senders = h.senders; turning = h.turning; unsent = h.unsent; refusals = h.refusals.count; passes = h.passes.items } };
 
     ghost invariant = { λ h. out h.scheduler ≡ one_if (is_some h.turning) };
 }
@@ -146,6 +152,7 @@ impl<N: WordsNaming + InboxNaming + RunNaming, J: Drop, S: Drop> Hand<N, J, S> {
     pub(crate) fn find(&mut self) -> bool
         ensures found { IsTrue result → is_some self.new.turning ≡ true }
         ensures unsent { self.new.unsent ≡ self.old.unsent }
+        ensures passes { self.new.passes ≡ self.old.passes }
     {
         if self.turning.is_some() {
             return true;
@@ -160,6 +167,7 @@ impl<N: WordsNaming + InboxNaming + RunNaming, J: Drop, S: Drop> Hand<N, J, S> {
     /// Puts the process that it has out back into its deque, or counts its end. Where it can't be put, it stays.
     pub(crate) fn hand_back(&mut self)
         ensures unsent { self.new.unsent ≡ self.old.unsent }
+        ensures passes { self.new.passes ≡ self.old.passes }
     {
         let Some(process) = self.turning.take() else {
             return;
@@ -187,6 +195,7 @@ impl<N: WordsNaming + InboxNaming + RunNaming, J: Drop, S: Drop> Hand<N, J, S> {
     pub(crate) fn look(&mut self, words: &Words<N>) -> Signal
         ensures turning { self.new.turning ≡ self.old.turning }
         ensures unsent { self.new.unsent ≡ self.old.unsent }
+        ensures passes { self.new.passes ≡ self.old.passes }
     {
         let Some(process) = &self.turning else {
             return Signal::None;
@@ -197,12 +206,32 @@ impl<N: WordsNaming + InboxNaming + RunNaming, J: Drop, S: Drop> Hand<N, J, S> {
         }
         words.look(&mut self.viewer, slot, number)
     }
+
+    /// Its passes, which it has no more.
+    pub(crate) fn take_passes(&mut self) -> Vec<CountsPass>
+        ensures { result.items ≡ self.old.passes }
+    {
+        mem::replace(&mut self.passes, Vec::new(self.alloc))
+    }
+
+    /// The counts of the supervisor with this number, as it published them last. None where it has no pass for one.
+    pub(crate) fn read_counts(&mut self, table: usize) -> Option<CountsNow>
+        ensures read { IfSome result (λ now. HasRead table now self.old self.new) }
+        ensures none { IfNone result (self.new ≡ self.old) }
+        ensures there { is_some result ≡ true ↔ table < length self.old.passes }
+    {
+        if table >= self.passes.len() {
+            return None;
+        }
+        Some(read_at(self.passes.as_mut_slice(), table))
+    }
 }
 
 impl<N: WordsNaming + InboxNaming + RunNaming, J: Job, S: Subsystem> Hand<N, J, S> {
     /// A turn of the worker or the bridge that it has out.
     pub(crate) fn work(&mut self, told: Signal)
         requires { self.old.unsent ≡ None }
+        ensures { self.new.passes ≡ self.old.passes }
     {
         let Some(process) = self.turning.take() else {
             return;

@@ -57,6 +57,7 @@ pub mod hand;
 pub mod opening;
 mod parting;
 pub mod plan;
+mod reading;
 pub mod report;
 pub mod rounds;
 pub mod senders;

@@ -6,14 +6,16 @@ ghost use Rattle.otp_run.specs.Rule.{all_parts};
 ghost use Rattle.otp_run.specs.Schedulers.{out};
 ghost use Rattle.otp_signals.specs.Lists.{EachBetween, StayBelow, StayFrom};
 ghost use Rattle.otp_tree.specs.Opens.{slots_of, first_slot};
+ghost use Rattle.otp_tree.specs.Readings.{CanRead, IsFresh};
 
 use crate::client::Client;
 use crate::hand::Hand;
 use crate::plan::TablePlan;
+use crate::reading::split_all;
 use crate::senders::Senders;
 use crate::system::System;
 use otp_core::OpenFault;
-use otp_counts::Publisher;
+use otp_counts::{CountsPass, Publisher};
 use otp_inbox::{Inbox, InboxNaming, Sender, UnnamedInbox};
 use otp_job::{Body, Process, TableNo};
 use otp_rules::Item;
@@ -105,7 +107,15 @@ fn open_inboxes<B: Drop>(
     Ok(inboxes)
 }
 
-/// One supervisor under its number, and the first sender to it. Its seat is cut off the owner.
+/// A supervisor under its number, the first sender to it, and the first pass to its counts.
+#[derive(Drop)]
+struct NamedOne<N: WordsNaming + InboxNaming, J: Drop, S: Drop> {
+    sup: Sup<N, Body<J, S>>,
+    sender: Sender<N, Item, Letter<Body<J, S>>>,
+    pass: CountsPass,
+}
+
+/// One supervisor under its number. Its seat is cut off the owner.
 fn open_one<N: WordsNaming + InboxNaming, J: Drop, S: Drop>(
     alloc: Global,
     words: &Words<N>,
@@ -113,13 +123,13 @@ fn open_one<N: WordsNaming + InboxNaming, J: Drop, S: Drop>(
     inbox: UnnamedInbox<Item, Letter<Body<J, S>>>,
     number: usize,
     plan: TablePlan<J, S>,
-) -> Result<(Sup<N, Body<J, S>>, Sender<N, Item, Letter<Body<J, S>>>), SystemFault>
+) -> Result<NamedOne<N, J, S>, SystemFault>
     requires named { inbox ≡ N.inbox number }
     requires few { number < 64 }
     requires slots { EachBetween (first_slot number) (first_slot (number + 1)) (Contains owner.old.slots) }
     requires unposted { owner.old.posts ≡ [] }
-    ensures sup { IfOk result (λ r. r.0.inbox ≡ number) }
-    ensures sender { IfOk result (λ r. r.1 ≡ first_sender number) }
+    ensures sup { IfOk result (λ r. r.sup.inbox ≡ number) }
+    ensures sender { IfOk result (λ r. r.sender ≡ first_sender number) }
     ensures lower { OnOk result (StayBelow (first_slot number) owner.old.slots owner.new.slots) }
     ensures upper { OnOk result (StayFrom (first_slot (number + 1)) owner.old.slots owner.new.slots) }
     ensures posts { OnOk result (owner.new.posts ≡ []) }
@@ -146,8 +156,10 @@ fn open_one<N: WordsNaming + InboxNaming, J: Drop, S: Drop>(
         }),
     };
     let counts = Publisher::open(alloc, office.counts())?;
-    let sup = Sup::new(inbox, Table::new(office, taker, bodies, counts));
-    Ok((sup, sender))
+    let mut table = Table::new(office, taker, bodies, counts);
+    let pass = table.pass()?;
+    let sup = Sup::new(inbox, table);
+    Ok(NamedOne { sup, sender, pass })
 }
 
 /// Puts it last. Where memory is refused it is dropped.
@@ -173,11 +185,12 @@ fn hand_in_all<B: Drop>(alloc: Global, bodies: Vec<B>) -> Result<Bodies<B>, Allo
     Ok(all)
 }
 
-/// All supervisors under their numbers, and the first sender to each.
+/// All supervisors under their numbers, the first sender to each, and the first pass to the counts of each.
 #[derive(Drop)]
 struct Named<N: WordsNaming + InboxNaming, J: Drop, S: Drop> {
     sups: Vec<Sup<N, Body<J, S>>>,
     senders: Vec<Sender<N, Item, Letter<Body<J, S>>>>,
+    passes: Vec<CountsPass>,
 }
 
 fn open_all<N: WordsNaming + InboxNaming, J: Drop, S: Drop>(
@@ -195,22 +208,29 @@ fn open_all<N: WordsNaming + InboxNaming, J: Drop, S: Drop>(
     ensures many { IfOk result (λ r. length r.sups.items ≡ length inboxes.items) }
     ensures senders { IfOk result (λ r. AllAt (λ k s. s ≡ first_sender k) r.senders.items) }
     ensures count { IfOk result (λ r. length r.senders.items ≡ length inboxes.items) }
+    ensures passes { IfOk result (λ r. length r.passes.items ≡ length inboxes.items) }
     ensures root { OnOk result (Contains owner.new.slots 0) }
 {
     let mut sups = Vec::new(alloc);
     let mut senders = Vec::new(alloc);
+    let mut passes = Vec::new(alloc);
     let mut plans = plans.into_iter();
     let mut number = 0;
     for inbox in inboxes {
         let Some(plan) = plans.next() else {
             return Err(SystemFault::OutOfMemory);
         };
-        let (sup, sender) = open_one(alloc, words, owner, inbox, number, plan)?;
+        let NamedOne { sup, sender, pass } = open_one(alloc, words, owner, inbox, number, plan)?;
         keep(&mut sups, sup)?;
         keep(&mut senders, sender)?;
+        keep(&mut passes, pass)?;
         number += 1;
     }
-    Ok(Named { sups, senders })
+    Ok(Named {
+        sups,
+        senders,
+        passes,
+    })
 }
 
 /// The first sender to each supervisor, and the one that sends to whoever opened the tree.
@@ -242,34 +262,55 @@ fn begin<N: RunNaming, J: Drop, S: Drop>(
     }
 }
 
-/// A hand for each scheduler, each with a viewer and a sender to each supervisor. The first has the root's process.
+/// A hand of a scheduler, with a viewer, a sender to each supervisor and a pass to the counts of each, which are split off.
+fn make_hand<N: WordsNaming + InboxNaming + RunNaming, J: Drop, S: Drop>(
+    alloc: Global,
+    system: &System<N, J, S>,
+    scheduler: Scheduler<N, J, S>,
+    senders: &mut Senders<N, Body<J, S>>,
+    passes: &mut Vec<CountsPass>,
+    viewer: Viewer<N>,
+) -> Result<Hand<N, J, S>, SystemFault>
+    requires { out scheduler ≡ 0 }
+    ensures fresh { IfOk result (λ hand. IsFresh passes.old.items hand) }
+    ensures same { OnOk result (passes.new.items ≡ passes.old.items) }
+{
+    let Some(senders) = system.split_senders(alloc, senders, 1)? else {
+        return Err(SystemFault::OutOfMemory);
+    };
+    let passes = split_all(alloc, passes)?;
+    Ok(Hand {
+        scheduler,
+        viewer,
+        senders,
+        turning: None,
+        unsent: None,
+        refusals: Tally::new(),
+        passes,
+        alloc,
+    })
+}
+
+/// A hand for each scheduler. The first has the root's process.
 fn make_hands<N: WordsNaming + InboxNaming + RunNaming, J: Drop, S: Drop>(
     alloc: Global,
     system: &System<N, J, S>,
     schedulers: Vec<Scheduler<N, J, S>>,
     senders: &mut Senders<N, Body<J, S>>,
+    passes: &mut Vec<CountsPass>,
     mut viewer: Viewer<N>,
     root: Process<J, S>,
 ) -> Result<Vec<Hand<N, J, S>>, SystemFault>
     requires { AllAt (λ k s. out s ≡ 0) schedulers.items }
+    ensures { IfOk result (λ hands. CanRead (length passes.old.items) hands.items) }
 {
     let mut hands = Vec::new(alloc);
     let mut root = Some(root);
     for scheduler in schedulers {
         let mut scheduler = scheduler;
         begin(&mut scheduler, &mut root)?;
-        let Some(senders) = system.split_senders(alloc, senders, 1)? else {
-            return Err(SystemFault::OutOfMemory);
-        };
-        let hand = Hand {
-            scheduler,
-            viewer: system.words.split_viewer(&mut viewer),
-            senders,
-            turning: None,
-            unsent: None,
-            refusals: Tally::new(),
-            alloc,
-        };
+        let own = system.words.split_viewer(&mut viewer);
+        let hand = make_hand(alloc, system, scheduler, senders, passes, own)?;
         keep(&mut hands, hand)?;
     }
     Ok(hands)
@@ -289,6 +330,7 @@ impl<J: Drop, S: Drop> Parts<J, S> {
         requires few { length self.inboxes.items ≤ 64 }
         ensures root { IfOk result (λ o. is_some o.client.root ≡ true) }
         ensures tables { IfOk result (λ o. o.system.tables ≡ length self.inboxes.items) }
+        ensures passes { IfOk result (λ o. CanRead (length self.inboxes.items) o.hands.items) }
     {
         let Parts {
             words,
@@ -300,7 +342,11 @@ impl<J: Drop, S: Drop> Parts<J, S> {
         let tables = inboxes.len();
         let (words, mut owner) = words.named::<N>();
         let viewer = words.viewer(&mut owner);
-        let Named { sups, senders } = open_all(alloc, &words, &mut owner, inboxes, plans)?;
+        let Named {
+            sups,
+            senders,
+            mut passes,
+        } = open_all(alloc, &words, &mut owner, inboxes, plans)?;
         let Ok(root) = words.draw(&mut owner) else {
             return Err(SystemFault::OutOfMemory);
         };
@@ -312,7 +358,15 @@ impl<J: Drop, S: Drop> Parts<J, S> {
         let Ok(process) = Process::new(alloc, root, 0, tables, body) else {
             return Err(SystemFault::OutOfMemory);
         };
-        let hands = make_hands(alloc, &system, schedulers, &mut senders, viewer, process)?;
+        let hands = make_hands(
+            alloc,
+            &system,
+            schedulers,
+            &mut senders,
+            &mut passes,
+            viewer,
+            process,
+        )?;
         let client = Client {
             owner,
             senders,

@@ -8,6 +8,7 @@ ghost use Rattle.otp_tree.specs.Partings.{joined, schedulers_of, ArePaired};
 use crate::closing::Refusal;
 use crate::hand::{Hand, Unsent};
 use crate::senders::Senders;
+use otp_counts::CountsPass;
 use otp_inbox::InboxNaming;
 use otp_job::{Body, Process};
 use otp_run::{GatherFault, LiveTotal, RunNaming, Scheduler, gather};
@@ -23,6 +24,7 @@ pub(crate) struct Rest<N: WordsNaming + InboxNaming, J: Drop, S: Drop> {
     pub turning: Option<Process<J, S>>,
     pub unsent: Option<Unsent<J, S>>,
     pub refusals: Tally,
+    pub passes: Vec<CountsPass>,
     pub alloc: Global,
 }
 
@@ -122,6 +124,7 @@ fn part_all<N: WordsNaming + InboxNaming + RunNaming, J: Drop, S: Drop>(
             turning,
             unsent,
             refusals,
+            passes,
             alloc,
         } = hand;
         schedulers.push_reserved(scheduler);
@@ -131,6 +134,7 @@ fn part_all<N: WordsNaming + InboxNaming + RunNaming, J: Drop, S: Drop>(
             turning,
             unsent,
             refusals,
+            passes,
             alloc,
         });
     }
@@ -158,6 +162,7 @@ fn rejoin_all<N: WordsNaming + InboxNaming + RunNaming, J: Drop, S: Drop>(
             turning,
             unsent,
             refusals,
+            passes,
             alloc,
         } = rest;
         hands.push_reserved(Hand {
@@ -167,6 +172,7 @@ fn rejoin_all<N: WordsNaming + InboxNaming + RunNaming, J: Drop, S: Drop>(
             turning,
             unsent,
             refusals,
+            passes,
             alloc,
         });
     }

@@ -28,6 +28,8 @@ impl<N: WordsNaming + InboxNaming, J: Job, S: Subsystem> System<N, J, S> {
     )
     where
         N: RunNaming,
+        // It reads no counts.
+        ensures { hand.new.passes ≡ hand.old.passes }
     {
         for _ in 0..turns {
             let reading = clock.now();
@@ -40,6 +42,7 @@ impl<N: WordsNaming + InboxNaming, J: Job, S: Subsystem> System<N, J, S> {
     where
         N: RunNaming,
         requires { reading ≤ 2 ^ 62 }
+        ensures { hand.new.passes ≡ hand.old.passes }
     {
         if !self.send_unsent(rt, hand) || !hand.find() {
             return;
@@ -48,7 +51,10 @@ impl<N: WordsNaming + InboxNaming, J: Job, S: Subsystem> System<N, J, S> {
         match hand.nested() {
             Some((table, number)) => {
                 if let Some(sup) = self.sups.get(table) {
+                    // A port's contract doesn't say what else it keeps, so the passes don't go with it.
+                    let passes = hand.take_passes();
                     let _ = sup.turn(rt, &self.words, hand, number, reading, told);
+                    hand.passes = passes;
                 }
             }
             None => hand.work(told),
@@ -62,7 +68,8 @@ impl<N: WordsNaming + InboxNaming, J: Job, S: Subsystem> System<N, J, S> {
     fn send_unsent<R: Wait>(&self, rt: &R, hand: &mut Hand<N, J, S>) -> bool
     where
         N: RunNaming,
-        ensures { IsTrue result → hand.new.unsent ≡ None }
+        ensures sent { IsTrue result → hand.new.unsent ≡ None }
+        ensures passes { hand.new.passes ≡ hand.old.passes }
     {
         let Some(Unsent { table, letter }) = hand.unsent.take() else {
             return true;

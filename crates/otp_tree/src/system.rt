@@ -1,16 +1,19 @@
 //! The tree: its supervisors, which the hands share.
-ghost use Rattle.std.specs.Prelude.{◌≡◌, ◌<◌, ◌≤◌, is_some, length, IfNone, IfSome};
+ghost use Rattle.std.specs.Prelude.{◌≡◌, ◌↔◌, ◌<◌, ◌≤◌, is_some, length, true, IfNone, IfSome};
 ghost use Rattle.otp_signals.specs.Holdings.{after_post};
 ghost use Rattle.otp_signals.specs.Signals.{word_of};
 ghost use Rattle.otp_signals.specs.declared.signal.Signal.TheVariants.{Shutdown};
 ghost use Rattle.otp_tree.specs.Hands.{Heard};
+ghost use Rattle.otp_tree.specs.Readings.{HasRead};
 
 use crate::client::Client;
+use crate::hand::Hand;
 use crate::senders::Senders;
 use otp_inbox::{Inbox, InboxNaming};
 use otp_job::Body;
 use otp_reason::Note;
-use otp_rules::Item;
+use otp_rules::{CountsNow, Item};
+use otp_run::RunNaming;
 use otp_signals::{Words, WordsNaming};
 use otp_sup::{Letter, Sup};
 use std::alloc::{AllocError, Global};
@@ -74,6 +77,26 @@ impl<N: WordsNaming + InboxNaming, J: Drop, S: Drop> System<N, J, S> {
             Item::Note(note) => Some(note),
             Item::Call(..) => None,
         }
+    }
+
+    /// What a supervisor published last of its children: what count_children would have answered after its last event, or, if
+    /// it has had none, before it was opened (supervisor, count_children/1). None where the tree has no supervisor of this
+    /// number.
+    ///
+    /// It is read by the hand's pass, without the supervisor's lock: one load, which waits for nobody and takes no memory.
+    /// So it can be older than what the supervisor does meanwhile, but never older than what this hand read of it before.
+    pub fn counts(&self, hand: &mut Hand<N, J, S>, table: usize) -> Option<CountsNow>
+    where
+        N: RunNaming,
+        // The last of what had been published, which begins with all that the hand's pass had seen.
+        ensures read { IfSome result (λ now. HasRead table now hand.old hand.new) }
+        ensures none { IfNone result (hand.new ≡ hand.old) }
+        ensures there { is_some result ≡ true ↔ (table < self.now.tables) × (table < length hand.old.passes) }
+    {
+        if table >= self.sups.len() {
+            return None;
+        }
+        hand.read_counts(table)
     }
 
     /// A sender to each supervisor and to whoever opened the tree, with so many parts of the right to send. None where

@@ -1,14 +1,28 @@
-use Rattle.std.proofs.Common.{◌≡◌, suc, Some, ap, sym, ◌∙◌}
+use Rattle.std.proofs.Common.{◌≡◌, suc, Some, ap, map, refl, sym, ◌∙◌, subst}
 use Rattle.std.specs.Prelude.{slice_get}
+use Rattle.otp_run.specs.Lists.{AllAt}
+use Rattle.otp_run.proofs.Places.{push_at}
+use Rattle.otp_tree.specs.Readings.{IsFresh, renewed}
 use Rattle.otp_tree.proofs.opening.make_hands.Goals as goal
 
 pub loop-scheduler-preserved : goal.loop-scheduler-preserved
 loop-scheduler-preserved g c =
+    let i = c.loop-scheduler.invariant in
     let e = (c.in-Some.ensures {u = tt}).steps.0 in
-    λ k. let step : slice_get c.loop-scheduler.scheduler-iterator.rest.items (suc k) ≡ slice_get c.next.new.self.rest.items k = ap (λ l. slice_get l (suc k)) e in rw step at (c.loop-scheduler.invariant (suc k))
+    let made = c.in_ok-hand.ensures {u = tt} in
+    let kept = c.in_ok-keep.ensures {u = tt} in
+    let firsts = c.args.passes.now.items in
+    record {
+      idle = λ k. let step : slice_get c.loop-scheduler.scheduler-iterator.rest.items (suc k) ≡ slice_get c.next.new.self.rest.items k = ap (λ l. slice_get l (suc k)) e in rw step at (i.idle (suc k));
+      same = made.same ∙ i.same;
+      fresh = subst (AllAt (λ _ h. IsFresh firsts h)) (sym kept) (push_at (λ _ h. IsFresh firsts h) _ _ i.fresh (made.fresh ∙ ap (map renewed) i.same));
+    }
 
 pub begin-requires : goal.begin-requires
 begin-requires g c =
     let e = (c.in-Some.ensures {u = tt}).steps.0 in
     let at : slice_get c.loop-scheduler.scheduler-iterator.rest.items 0 ≡ Some c.in-Some.scheduler = ap (λ l. slice_get l 0) e in
-    rw at at (c.loop-scheduler.invariant 0)
+    rw at at (c.loop-scheduler.invariant.idle 0)
+
+pub returns : goal.returns
+returns g c = record { passes = c.args.passes.now.items; many = refl; fresh = c.loop-scheduler.invariant.fresh }

@@ -25,11 +25,14 @@ loop-inbox-preserved g c =
     let p = c.in_ok-keep-2.ensures {u = tt} in
     let q = c.in_ok-keep.ensures {u = tt} in
     let many_sups = i.many_sups in
+    let many_passes = i.many_passes in
+    let r = c.in_ok-keep-3.ensures {u = tt} in
     record {
       rest = λ k. ap (λ l. slice_get l (suc k)) (sym e) ∙ i.rest (suc k) ∙ ap (slice_get c.args.inboxes.items) (omega arith);
       count = omega arith;
       many = ap length p ∙ length-append _ _ ∙ ap (λ m. m + 1) many;
       seated = subst (AllAt (λ k s. s ≡ first_sender {P = Item} k)) (sym p) (push_at (λ k s. s ≡ first_sender k) _ _ i.seated (one.sender ∙ ap first_sender (sym many)));
+      many_passes = ap length r ∙ length-append _ _ ∙ ap (λ m. m + 1) many_passes;
       many_sups = ap length q ∙ length-append _ _ ∙ ap (λ m. m + 1) many_sups;
       placed = subst (AllAt (λ k sup. sup.inbox ≡ k)) (sym q) (push_at (λ k sup. sup.inbox ≡ k) _ _ i.placed (one.sup ∙ sym many_sups));
       root = one.lower 0 (omega arith) i.root;

@@ -12,6 +12,7 @@ invariant-loop-inbox g l =
       rest : (k : ℕ) → slice_get l.inbox-iterator.rest.items k ≡ slice_get l.fn.inboxes.items (l.number + k);
       count : l.number + length l.inbox-iterator.rest.items ≡ length l.fn.inboxes.items;
       many : length l.senders.items ≡ l.number;
+      many_passes : length l.passes.items ≡ l.number;
       many_sups : length l.sups.items ≡ l.number;
       placed : AllAt (λ k sup. sup.inbox ≡ k) l.sups.items;
       seated : AllAt (λ k s. s ≡ first_sender k) l.senders.items;

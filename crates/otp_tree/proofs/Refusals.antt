@@ -1,0 +1,70 @@
+-- What is told of a tree that was not taken apart, and of one that was.
+use Rattle.std.proofs.Common.{◌≡◌, List, sym, ap, ◌∙◌}
+use Rattle.std.specs.Prelude.{Option, Some, None, Result, Ok, Err, IfErr, IfSome, is_some}
+use mathlib.Core.Bool.{true≢false}
+use Rattle.otp_run.specs.Gathers.{IsAll}
+use Rattle.otp_run.specs.Schedulers.{SchedulerState}
+use Rattle.otp_tree.specs.declared.closing.CloseFault.{CloseFault}
+use Rattle.otp_tree.specs.declared.closing.CloseFault.TheVariants as fault
+use Rattle.otp_tree.specs.declared.closing.Refusal.{Refusal}
+use Rattle.otp_tree.specs.declared.closing.Refusal.TheVariants as refusal
+use Rattle.otp_tree.specs.declared.closing.Unclosed.{Unclosed}
+use Rattle.otp_tree.specs.declared.report.Report.{Report}
+use Rattle.otp_tree.specs.Closes.{IsAsItWas, IsMismatchOnly, IsMissingOnly, IsRefusalOf, kept_in, report_in}
+use Rattle.otp_tree.specs.Gathers.{IsHandsRefused}
+use Rattle.otp_tree.specs.Hands.{HandView, ClientView, SystemView}
+
+module _ {N J S : Type 0} where
+  -- where it was refused there is no report
+  pub refused-report : (cause : Refusal) (system : SystemView) (hands : List (HandView J S)) (client : ClientView) (r : CloseFault J S (Unclosed N J S)) (P : Report J S → Type 0) → IsRefusalOf cause system hands client r → IfSome (report_in (Err r)) P
+  refused-report refusal.OutOfMemory system hands client (fault.OutOfMemory k) P refused = tt
+  refused-report refusal.OutOfMemory system hands client (fault.Missing k) P refused = tt
+  refused-report refusal.OutOfMemory system hands client (fault.Mismatch m report) P refused = absurd refused
+  refused-report refusal.Missing system hands client (fault.OutOfMemory k) P refused = tt
+  refused-report refusal.Missing system hands client (fault.Missing k) P refused = tt
+  refused-report refusal.Missing system hands client (fault.Mismatch m report) P refused = absurd refused
+
+  -- nor a mismatch
+  pub refused-mismatch : (cause : Refusal) (system : SystemView) (hands : List (HandView J S)) (client : ClientView) (r : CloseFault J S (Unclosed N J S)) → IsRefusalOf cause system hands client r → IsMismatchOnly r
+  refused-mismatch refusal.OutOfMemory system hands client (fault.OutOfMemory k) refused = tt
+  refused-mismatch refusal.OutOfMemory system hands client (fault.Missing k) refused = tt
+  refused-mismatch refusal.OutOfMemory system hands client (fault.Mismatch m report) refused = absurd refused
+  refused-mismatch refusal.Missing system hands client (fault.OutOfMemory k) refused = tt
+  refused-mismatch refusal.Missing system hands client (fault.Missing k) refused = tt
+  refused-mismatch refusal.Missing system hands client (fault.Mismatch m report) refused = absurd refused
+
+  as_it_was : (system : SystemView) (back hands : List (HandView J S)) (client : ClientView) (k : Unclosed N J S) → back ≡ hands → IsAsItWas system back client k → IsAsItWas system hands client k
+  as_it_was system back hands client k same was = record { system_is = was.system_is; hands_are = was.hands_are ∙ same; client_is = was.client_is }
+
+  -- all comes back, as it was
+  pub refused-back : (cause : Refusal) (system : SystemView) (back hands : List (HandView J S)) (client : ClientView) (r : CloseFault J S (Unclosed N J S)) → back ≡ hands → IsRefusalOf cause system back client r → IfSome (kept_in r) (IsAsItWas system hands client)
+  refused-back refusal.OutOfMemory system back hands client (fault.OutOfMemory k) same refused = as_it_was system back hands client k same refused
+  refused-back refusal.OutOfMemory system back hands client (fault.Missing k) same refused = absurd refused
+  refused-back refusal.OutOfMemory system back hands client (fault.Mismatch m report) same refused = tt
+  refused-back refusal.Missing system back hands client (fault.OutOfMemory k) same refused = absurd refused
+  refused-back refusal.Missing system back hands client (fault.Missing k) same refused = as_it_was system back hands client k same refused
+  refused-back refusal.Missing system back hands client (fault.Mismatch m report) same refused = tt
+
+  -- a part is said to be missing only where the schedulers aren't all
+  pub refused-missing : (complete : Type 0) (schedulers : List SchedulerState) (cause : Refusal) (system : SystemView) (hands : List (HandView J S)) (client : ClientView) (r : CloseFault J S (Unclosed N J S)) → (complete → IsAll schedulers) → IsHandsRefused schedulers cause → IsRefusalOf cause system hands client r → IsMissingOnly complete r
+  refused-missing complete schedulers refusal.OutOfMemory system hands client (fault.OutOfMemory k) all why refused = tt
+  refused-missing complete schedulers refusal.OutOfMemory system hands client (fault.Missing k) all why refused = absurd refused
+  refused-missing complete schedulers refusal.OutOfMemory system hands client (fault.Mismatch m report) all why refused = tt
+  refused-missing complete schedulers refusal.Missing system hands client (fault.OutOfMemory k) all why refused = tt
+  refused-missing complete schedulers refusal.Missing system hands client (fault.Missing k) all why refused = λ whole. why (all whole)
+  refused-missing complete schedulers refusal.Missing system hands client (fault.Mismatch m report) all why refused = tt
+
+module _ {J S K : Type 0} where
+  -- where there is a report no part is said to be missing
+  pub reported-missing : (complete : Type 0) (r : Result (Report J S) (CloseFault J S K)) (report : Report J S) → report_in r ≡ Some report → IfErr r (IsMissingOnly complete)
+  reported-missing complete (Ok x) report is = tt
+  reported-missing complete (Err (fault.OutOfMemory k)) report is = tt
+  reported-missing complete (Err (fault.Missing k)) report is = absurd (true≢false (sym (ap is_some is)))
+  reported-missing complete (Err (fault.Mismatch m found)) report is = tt
+
+  -- and nothing comes back
+  pub reported-back : (P : K → Type 0) (r : Result (Report J S) (CloseFault J S K)) (report : Report J S) → report_in r ≡ Some report → IfErr r (λ why. IfSome (kept_in why) P)
+  reported-back P (Ok x) report is = tt
+  reported-back P (Err (fault.OutOfMemory k)) report is = absurd (true≢false (sym (ap is_some is)))
+  reported-back P (Err (fault.Missing k)) report is = absurd (true≢false (sym (ap is_some is)))
+  reported-back P (Err (fault.Mismatch m found)) report is = tt
