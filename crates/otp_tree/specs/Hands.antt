@@ -1,5 +1,5 @@
 -- What contracts see of a hand. (own)
-use Rattle.std.specs.Prelude.{◌≡◌, MatchOption, ℕ, Bool, true, false, List, [], ◌∷◌, ◌++◌, map, Option, Some, None, slice_get}
+use Rattle.std.specs.Prelude.{◌≡◌, MatchOption, ℕ, Bool, true, false, List, [], ◌∷◌, ◌++◌, Option, Some, None, slice_get}
 use Rattle.std.specs.List.{filter_map}
 use Rattle.otp_counts.specs.Counts.{Reading}
 use Rattle.otp_inbox.specs.Tokens.{SenderState, TakerState}

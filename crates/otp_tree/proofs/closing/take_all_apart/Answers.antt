@@ -1,4 +1,4 @@
-use Rattle.std.proofs.Common.{◌≡◌, length, sym, ap, ◌∙◌, subst, arith}
+use Rattle.std.proofs.Common.{length, sym, ap, ◌∙◌, subst, arith}
 use Rattle.otp_rules.specs.Needs.{numbers_of}
 use Rattle.otp_signals.specs.Lists.{AllIn, NoneInBoth}
 use Rattle.otp_sup.specs.Facts.{Begins}

@@ -1,4 +1,4 @@
-use Rattle.std.proofs.Common.{◌≡◌, ℕ, ◌+◌, [], ◌∷◌, length, sym, ap, ◌∙◌, arith, length-append}
+use Rattle.std.proofs.Common.{◌+◌, length, sym, ap, ◌∙◌, arith, length-append}
 use Rattle.std.proofs.lemmas.List.{length-map}
 use Rattle.otp_tree.specs.Partings.{scheduler_of, schedulers_of}
 use Rattle.otp_tree.proofs.Partings.{parted-more, paired-more, parted-all, schedulers-joined}
