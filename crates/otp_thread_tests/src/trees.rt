@@ -487,33 +487,15 @@ fn counted(specs: u64, active: u64, supervisors: u64, workers: u64) -> Option<Co
     })
 }
 
-// Whether each of a thousand readings of the nested supervisor is one of two children, or of none before it was opened, and
-// never of none again.
-fn read_along<N: WordsNaming + InboxNaming + RunNaming>(
-    system: &System<N, Worker, BoxedSubsystem>,
-    hand: &mut Hand<N, Worker, BoxedSubsystem>,
-) -> bool {
-    let mut last = 0;
-    let mut is_in_order = true;
-    for _ in 0..1000 {
-        match system.counts(hand, 1) {
-            Some(now) => {
-                let is_one = now.specs == now.workers && now.active <= 2 && now.specs <= 2;
-                is_in_order = is_in_order && is_one && last <= now.specs;
-                last = now.specs;
-            }
-            None => is_in_order = false,
-        }
-        thread::yield_now();
-    }
-    is_in_order
+// Whether a reading of the nested supervisor may come after one that had so many children: it is of two workers, of whom at
+// most two run, or of none before it was opened; and never of none again.
+fn may_follow(last: u64, now: CountsNow) -> bool {
+    let is_one = now.specs == now.workers && now.specs <= 2 && now.active <= now.specs;
+    is_one && last <= now.specs
 }
 
-// Serves by one hand while another reads, each in a thread of its own, and reads once all is up and `c` was restarted.
-fn count_along<
-    N: WordsNaming + InboxNaming + RunNaming + Send + Sync,
-    R: Threads + Wait + Abort + Sync,
->(
+// Serves by one hand, while another reads after each turn; and reads once all is up and `c` was restarted.
+fn count_along<N: WordsNaming + InboxNaming + RunNaming, R: Wait + Abort>(
     rt: &R,
     system: &System<N, Worker, BoxedSubsystem>,
     serving: &mut Hand<N, Worker, BoxedSubsystem>,
@@ -525,12 +507,17 @@ fn count_along<
     // The root is opened, and starts its first child.
     system.turn(rt, serving, 0);
     assert_eq!(rt; system.counts(reading, 0), counted(2, 0, 1, 1));
-    let (_, is_in_order) = thread::join(
-        rt,
-        || system.serve(rt, serving, &mut Still, 1000),
-        || read_along(system, reading),
-    );
-    assert!(rt; is_in_order);
+    let mut last = 0;
+    for _ in 0..1000 {
+        system.turn(rt, serving, 0);
+        match system.counts(reading, 1) {
+            Some(now) => {
+                assert!(rt; may_follow(last, now));
+                last = now.specs;
+            }
+            None => assert!(rt; false),
+        }
+    }
     assert_eq!(rt; system.counts(reading, 0), counted(2, 2, 1, 1));
     assert_eq!(rt; system.counts(reading, 1), counted(2, 2, 0, 2));
     assert_eq!(rt; system.counts(serving, 1), counted(2, 2, 0, 2));
@@ -540,7 +527,7 @@ fn count_along<
 #[derive(Drop)]
 struct Counting;
 
-impl<R: Threads + Wait + Abort + Sync> Session<R, Worker, BoxedSubsystem> for Counting {
+impl<R: Wait + Abort> Session<R, Worker, BoxedSubsystem> for Counting {
     type Output = bool;
 
     fn run<N: WordsNaming + InboxNaming + RunNaming + Send + Sync>(
