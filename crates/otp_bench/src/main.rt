@@ -19,7 +19,9 @@ use jobs::{Idle, JOBS};
 use otp_job::{Body, BoxedJob, Process};
 use std::alloc::AllocError;
 use std::process::ExitCode;
+use std::time::Instant;
 use std::{env, io};
+use trees::Rush;
 
 fn main(rt: HostRuntime) -> io::Result<ExitCode> {
     let mut words = env::args(&rt)?.skip(1);
@@ -38,7 +40,13 @@ fn main(rt: HostRuntime) -> io::Result<ExitCode> {
         "inbox" => inbox::measure(&rt, rt.alloc(), threads, count)?,
         "words" => signal_words::measure(&rt, rt.alloc(), threads, count)?,
         "supervisors" => supervisors::measure(&rt, rt.alloc(), threads, count)?,
-        "trees" => trees::measure(&rt, rt.alloc(), threads, count)?,
+        "trees" => {
+            let gate = Rush {
+                rt: &rt,
+                begun: Instant::now(&rt)?,
+            };
+            trees::measure(&rt, rt.alloc(), &gate, threads, count)?;
+        }
         "puts" => jobs::measure_puts(&rt, rt.alloc(), count)?,
         "turns" => {
             let mut processes = Vec::with_capacity(rt.alloc(), JOBS)?;

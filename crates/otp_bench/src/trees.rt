@@ -1,5 +1,5 @@
 //! Trees on threads: a full one is started and stopped, and restarts go on in all supervisors of another.
-ghost use Rattle.std.specs.Prelude.{◌≡◌, ◌<◌, ◌≤◌, ◌^◌, false, true};
+ghost use Rattle.std.specs.Prelude.{◌≡◌, ◌<◌, ◌≤◌, true};
 ghost use Rattle.otp_run.specs.Rule.{all_parts};
 
 use crate::report::report;
@@ -53,9 +53,9 @@ type Plan = TablePlan<Worker, BoxedSubsystem>;
 
 /// A clock whose milliseconds are nanoseconds: so no period has many restarts.
 #[derive(Drop)]
-struct Rush<'a, R> {
-    rt: &'a R,
-    begun: Instant,
+pub struct Rush<'a, R> {
+    pub rt: &'a R,
+    pub begun: Instant,
 }
 
 impl<'a, R: Runtime> Gate for Rush<'a, R> {
@@ -187,22 +187,24 @@ fn children_for(count: u64) -> usize {
 
 /// Measures a full tree on so many threads: started, and stopped once all are up; and restarts, while all threads together take
 /// so many turns, and as many again in which all is stopped.
-pub fn measure<R: Runtime + Threads + Wait + Sync>(
+pub fn measure<R: Runtime + Threads + Wait + Sync, G: Gate + Sync>(
     rt: &R,
     alloc: Global,
+    gate: &G,
     threads: usize,
     count: u64,
 ) -> io::Result<()> {
     if threads == 0 || threads > MAX_HANDS {
         return Ok(());
     }
-    measure_full(rt, alloc, threads, children_for(count))?;
-    measure_restarts(rt, alloc, threads, count)
+    measure_full(rt, alloc, gate, threads, children_for(count))?;
+    measure_restarts(rt, alloc, gate, threads, count)
 }
 
-fn measure_full<R: Runtime + Threads + Wait + Sync>(
+fn measure_full<R: Runtime + Threads + Wait + Sync, G: Gate + Sync>(
     rt: &R,
     alloc: Global,
+    gate: &G,
     threads: usize,
     children: usize,
 ) -> io::Result<()>
@@ -214,8 +216,7 @@ fn measure_full<R: Runtime + Threads + Wait + Sync>(
         return Ok(());
     }
     let start = Instant::now(rt)?;
-    let gate = Rush { rt, begun: start };
-    let Ok(led) = lead(rt, alloc, plans, threads, &gate, MOST_ROUNDS, UpAndDown) else {
+    let Ok(led) = lead(rt, alloc, plans, threads, gate, MOST_ROUNDS, UpAndDown) else {
         return Err(AllocError.into());
     };
     match led.report {
@@ -227,9 +228,10 @@ fn measure_full<R: Runtime + Threads + Wait + Sync>(
     }
 }
 
-fn measure_restarts<R: Runtime + Threads + Wait + Sync>(
+fn measure_restarts<R: Runtime + Threads + Wait + Sync, G: Gate + Sync>(
     rt: &R,
     alloc: Global,
+    gate: &G,
     threads: usize,
     count: u64,
 ) -> io::Result<()>
@@ -241,8 +243,7 @@ fn measure_restarts<R: Runtime + Threads + Wait + Sync>(
         return Ok(());
     }
     let start = Instant::now(rt)?;
-    let gate = Rush { rt, begun: start };
-    match run_tree(rt, alloc, plans, threads, &gate, count / threads as u64) {
+    match run_tree(rt, alloc, plans, threads, gate, count / threads as u64) {
         Ok(report_of_tree) => {
             let starts = count_starts(&report_of_tree);
             report(rt, "restarts of a tree", threads, starts, start)
