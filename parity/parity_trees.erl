@@ -80,7 +80,8 @@ watch() ->
     end,
     watch().
 
-reason({shutdown, _}) -> "shutdown";
+%% As a core names the child that didn't start.
+reason({shutdown, {failed_to_start_child, Id, _}}) -> "shutdown:failed_to_start_child/" ++ atom_to_list(Id);
 reason(Why) -> atom_to_list(Why).
 
 started(none) -> ok;
