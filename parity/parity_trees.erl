@@ -23,7 +23,12 @@ main([In, Out]) ->
 %% Each tree in a process of its own, whose end takes all that is left with it.
 report(Tree) ->
     {Pid, Monitor} = spawn_monitor(fun() -> exit({report, run(Tree)}) end),
-    receive {'DOWN', Monitor, process, Pid, {report, Text}} -> Text end.
+    receive
+        {'DOWN', Monitor, process, Pid, {report, Text}} -> Text;
+        {'DOWN', Monitor, process, Pid, Why} ->
+            io:format(standard_error, "parity_trees: ~p~n", [Why]),
+            halt(1)
+    end.
 
 run(Tree) ->
     process_flag(trap_exit, true),
@@ -41,9 +46,10 @@ run(Tree) ->
     rest(),
     Live = length([P || [P] <- ets:match(told, {{process, '$1'}}), is_process_alive(P)]),
     Lines = [line(T) || T <- lists:sort(numbers(Tree))],
-    unlink(whereis(watcher)),
-    exit(whereis(watcher), kill),
+    Watcher = whereis(watcher),
     unregister(watcher),
+    unlink(Watcher),
+    exit(Watcher, kill),
     ets:delete(told),
     [Lines, io_lib:format("live ~b~n", [Live])].
 

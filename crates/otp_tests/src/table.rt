@@ -124,6 +124,31 @@ fn one_id_twice(rt: HostRuntime) -> Result<(), Fail> {
     Ok(())
 }
 
+/// Two ids of one fingerprint, which somebody searched for: each is found, by the walk then.
+#[test]
+fn two_ids_of_one_fingerprint(rt: HostRuntime) -> Result<(), Fail> {
+    let (a, b) = (
+        row(0, b"8yn0iYCKYHlIj4-BwPqk", RowState::Up(1))?,
+        row(1, b"GReLUrM4wMqfg9yzV3KQ", RowState::Up(2))?,
+    );
+    let mut rows = Rows::new(rt.alloc());
+    rows.reserve(2)?;
+    for row in [a, b] {
+        assert!(rt; rows.room() > 0);
+        rows.insert(row)?;
+    }
+    assert_eq!(rt;
+        (rows.find_id(&a.spec.id), rows.find_id(&b.spec.id)),
+        (Some(0), Some(1))
+    );
+    assert_eq!(rt; take_out(&rt, &mut rows, &a.spec.id)?.slot, 0);
+    assert_eq!(rt;
+        (rows.find_id(&a.spec.id), rows.find_id(&b.spec.id)),
+        (None, Some(0))
+    );
+    Ok(())
+}
+
 /// What a reader of a row's state sees.
 #[test]
 fn states(rt: HostRuntime) -> Result<(), Fail> {
