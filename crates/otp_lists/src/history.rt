@@ -1,46 +1,65 @@
 //! The events of a supervisor, kept. Most of them are short, and few have a term or a call, so these stand beside them: an
-//! event takes as much memory as it has to say.
+//! event takes 32 bytes, the term of its reason 64 more, and its call what a call takes.
 
-ghost use Rattle.std.specs.Prelude.{◌≡◌, ◌+◌, ◌<◌, ◌≤◌, ◌++◌, ◌∷◌, [], Some, length, slice_get, OnOk, OnErr, vec_len, vec_capacity};
+ghost use Rattle.std.specs.Prelude.{◌≡◌, ◌+◌, ◌<◌, ◌≤◌, ◌++◌, ◌∷◌, [], IsTrue, Some, length, map, slice_get, OnOk, OnErr, vec_len, vec_capacity};
+ghost use Rattle.otp_reason.specs.Texts.{text_block, text_with};
 ghost use Rattle.otp_lists.specs.Events.{calls_in, terms_in, terms_of};
-ghost use Rattle.otp_lists.specs.HistoryInside.{kind_of, reason_of, KindWithin, ReasonWithin};
+ghost use Rattle.otp_lists.specs.HistoryInside.{kind_of, number_of, plain_kind, reason_as, shows_term, term_at, KindWithin};
 
 use otp_reason::{Note, Reason, Text};
 use otp_rules::{Call, Event, Item, Kind};
 use std::alloc::{AllocError, Global};
 use std::marker::Model;
 
-/// A reason, its term by its place.
+/// The most terms, and the most calls, that a history has places for.
+const MAX_PLACES: usize = 4_294_967_295;
+
+/// A kind of reason.
 #[derive(Clone, Copy, Debug)]
-pub(crate) enum ShortReason {
+pub(crate) enum Why {
     Normal,
     Shutdown,
-    ShutdownWith(usize),
+    ShutdownWith,
     Kill,
     Killed,
     NoProc,
-    Error(usize),
+    Error,
 }
 
-/// What happened, its term or its call by its place.
+/// A kind of event.
 #[derive(Clone, Copy, Debug)]
-pub(crate) enum ShortKind {
-    Opened(u64),
-    Up(u64),
-    Ignored(u64),
-    Failed(u64, ShortReason),
-    Exit(u64, ShortReason),
-    Called(u64, usize),
+pub(crate) enum Tag {
+    Opened,
+    Up,
+    Ignored,
+    Failed,
+    Exit,
+    Called,
     Resumed,
     Ticked,
     Stopped,
 }
 
-/// An event, its term or its call by its place.
+/// What happened, its term or its call by its place.
+#[derive(Clone, Copy, Debug)]
+pub(crate) struct ShortKind {
+    /// The process or the call that it speaks of.
+    subject: u64,
+    /// Where its term or its call stands.
+    place: u32,
+    /// How many bytes its term shows.
+    shown: u8,
+    tag: Tag,
+    why: Why,
+    /// Whether it starts a child: here, where it takes no memory of its own.
+    starts: bool,
+}
+
+/// An event. Its number says nothing where it starts no child.
 #[derive(Clone, Copy, Debug)]
 pub(crate) struct ShortEvent {
     reading: u64,
-    number: Option<u64>,
+    number: u64,
     kind: ShortKind,
 }
 
@@ -48,7 +67,8 @@ pub(crate) struct ShortEvent {
 #[derive(Drop)]
 pub struct History {
     events: Vec<ShortEvent>,
-    terms: Vec<Text>,
+    /// The bytes of each term, those that it doesn't show too.
+    terms: Vec<[u8; 64]>,
     calls: Vec<Call>,
     /// How many more events the memory is known to hold.
     room: usize,
@@ -94,17 +114,21 @@ impl History {
         let event = &self.events[place];
         Event {
             reading: event.reading,
-            number: event.number,
-            kind: whole_kind(&self.terms, &self.calls, event.kind),
+            number: whole_number(event),
+            kind: whole_kind(&self.terms, &self.calls, &event.kind),
         }
     }
 
-    /// Takes the memory of the next `n` events, whatever they are. An `Err` leaves the history as it was.
+    /// Takes the memory of the next `n` events, whatever they are. An `Err` leaves the history as it was; more than
+    /// 4,294,967,295 terms or calls, which the history of a core never has, count as want of memory.
     pub fn reserve(&mut self, n: usize) -> Result<(), AllocError>
         ensures events { self.new.events ≡ self.old.events }
         ensures ok { OnOk result (n ≤ self.new.room) }
         ensures err { OnErr result (self.new ≡ self.old) }
     {
+        if self.terms.len().max(self.calls.len()).saturating_add(n) > MAX_PLACES {
+            return Err(AllocError);
+        }
         self.events.reserve(n)?;
         self.terms.reserve(n)?;
         self.calls.reserve(n)?;
@@ -125,50 +149,78 @@ impl History {
         ensures events { self.new.events ≡ self.old.events ++ record { reading = reading; number = number; kind = kind.now } ∷ [] }
         ensures room { self.new.room + 1 ≡ self.old.room }
     {
-        let kind = short_kind(kind, &mut self.terms, &mut self.calls);
+        let kind = short_kind(kind, number.is_some(), &mut self.terms, &mut self.calls);
         self.events.push_reserved(ShortEvent {
             reading,
-            number,
+            number: number.unwrap_or(0),
             kind,
         });
         self.room -= 1;
     }
 }
 
-/// A reason whose term, if it has one, is put last.
-fn short_reason(reason: &Reason, terms: &mut Vec<Text>) -> ShortReason
+/// An event of this kind that has neither a term nor a call.
+fn plain(tag: Tag, subject: u64, starts: bool) -> ShortKind
+    ensures { result ≡ plain_kind tag subject starts }
+{
+    ShortKind {
+        subject,
+        place: 0,
+        shown: 0,
+        tag,
+        why: Why::Normal,
+        starts,
+    }
+}
+
+/// Puts the bytes of a term last, and says how many of them it shows.
+fn put_term(term: &Text, terms: &mut Vec<[u8; 64]>) -> u8
     requires { vec_len terms.old < vec_capacity terms.old }
-    ensures terms { terms.new.items ≡ terms.old.items ++ terms_of reason.now }
-    ensures reason { reason_of terms.new.items result ≡ reason.now }
-    ensures within { ReasonWithin (length terms.new.items) result }
+    ensures terms { terms.new.items ≡ terms.old.items ++ text_block term.now ∷ [] }
+    ensures shown { text_with (text_block term.now) result ≡ term.now }
+    ensures len { vec_len terms.new ≡ vec_len terms.old + 1 }
+    ensures capacity { vec_capacity terms.new ≡ vec_capacity terms.old }
+{
+    let (bytes, shown) = term.parts();
+    terms.push_reserved(bytes);
+    shown
+}
+
+/// The kind of a reason, and how many bytes its term shows, which is put last.
+fn put_reason(reason: &Reason, terms: &mut Vec<[u8; 64]>) -> (Why, u8)
+    requires { vec_len terms.old < vec_capacity terms.old }
+    ensures terms { terms.new.items ≡ terms.old.items ++ map text_block (terms_of reason.now) }
+    ensures reason { reason_as result.0 (term_at terms.new.items (length terms.old.items) result.1) ≡ reason.now }
+    ensures within { IsTrue (shows_term result.0) → length terms.old.items < length terms.new.items }
     ensures len { vec_len terms.new ≤ vec_len terms.old + 1 }
     ensures capacity { vec_capacity terms.new ≡ vec_capacity terms.old }
 {
-    let place = terms.len();
     match reason {
-        Reason::Normal => ShortReason::Normal,
-        Reason::Shutdown => ShortReason::Shutdown,
-        Reason::ShutdownWith(term) => {
-            terms.push_reserved(*term);
-            ShortReason::ShutdownWith(place)
-        }
-        Reason::Kill => ShortReason::Kill,
-        Reason::Killed => ShortReason::Killed,
-        Reason::NoProc => ShortReason::NoProc,
-        Reason::Error(term) => {
-            terms.push_reserved(*term);
-            ShortReason::Error(place)
-        }
+        Reason::Normal => (Why::Normal, 0),
+        Reason::Shutdown => (Why::Shutdown, 0),
+        Reason::ShutdownWith(term) => (Why::ShutdownWith, put_term(term, terms)),
+        Reason::Kill => (Why::Kill, 0),
+        Reason::Killed => (Why::Killed, 0),
+        Reason::NoProc => (Why::NoProc, 0),
+        Reason::Error(term) => (Why::Error, put_term(term, terms)),
     }
 }
 
 /// What happened, its term and its call, if it has any, put last.
-fn short_kind(kind: &Kind, terms: &mut Vec<Text>, calls: &mut Vec<Call>) -> ShortKind
+fn short_kind(
+    kind: &Kind,
+    starts: bool,
+    terms: &mut Vec<[u8; 64]>,
+    calls: &mut Vec<Call>,
+) -> ShortKind
     requires terms { vec_len terms.old < vec_capacity terms.old }
     requires calls { vec_len calls.old < vec_capacity calls.old }
-    ensures terms { terms.new.items ≡ terms.old.items ++ terms_in kind.now }
+    requires few_terms { vec_len terms.old < MAX_PLACES }
+    requires few_calls { vec_len calls.old < MAX_PLACES }
+    ensures terms { terms.new.items ≡ terms.old.items ++ map text_block (terms_in kind.now) }
     ensures calls { calls.new.items ≡ calls.old.items ++ calls_in kind.now }
     ensures kind { kind_of terms.new.items calls.new.items result ≡ kind.now }
+    ensures starts { result.starts ≡ starts }
     ensures within { KindWithin (length terms.new.items) (length calls.new.items) result }
     ensures terms_len { vec_len terms.new ≤ vec_len terms.old + 1 }
     ensures terms_capacity { vec_capacity terms.new ≡ vec_capacity terms.old }
@@ -176,58 +228,104 @@ fn short_kind(kind: &Kind, terms: &mut Vec<Text>, calls: &mut Vec<Call>) -> Shor
     ensures calls_capacity { vec_capacity calls.new ≡ vec_capacity calls.old }
 {
     match kind {
-        Kind::Opened(number) => ShortKind::Opened(*number),
-        Kind::Took(Item::Note(Note::Up(number))) => ShortKind::Up(*number),
-        Kind::Took(Item::Note(Note::Ignored(number))) => ShortKind::Ignored(*number),
+        Kind::Opened(number) => plain(Tag::Opened, *number, starts),
+        Kind::Took(Item::Note(Note::Up(number))) => plain(Tag::Up, *number, starts),
+        Kind::Took(Item::Note(Note::Ignored(number))) => plain(Tag::Ignored, *number, starts),
         Kind::Took(Item::Note(Note::Failed(number, reason))) => {
-            ShortKind::Failed(*number, short_reason(reason, terms))
+            ended(Tag::Failed, *number, starts, reason, terms)
         }
         Kind::Took(Item::Note(Note::Exit(number, reason))) => {
-            ShortKind::Exit(*number, short_reason(reason, terms))
+            ended(Tag::Exit, *number, starts, reason, terms)
         }
         Kind::Took(Item::Call(number, call)) => {
-            let place = calls.len();
+            let place = calls.len() as u32;
             calls.push_reserved(*call);
-            ShortKind::Called(*number, place)
+            ShortKind {
+                place,
+                ..plain(Tag::Called, *number, starts)
+            }
         }
-        Kind::Resumed => ShortKind::Resumed,
-        Kind::Ticked => ShortKind::Ticked,
-        Kind::Stopped => ShortKind::Stopped,
+        Kind::Resumed => plain(Tag::Resumed, 0, starts),
+        Kind::Ticked => plain(Tag::Ticked, 0, starts),
+        Kind::Stopped => plain(Tag::Stopped, 0, starts),
     }
 }
 
-fn whole_reason(terms: &[Text], reason: ShortReason) -> Reason
-    requires { ReasonWithin (length terms.now) reason }
-    ensures { result ≡ reason_of terms.now reason }
+/// The end of a process, or of its start, with its reason, the term put last.
+fn ended(
+    tag: Tag,
+    subject: u64,
+    starts: bool,
+    reason: &Reason,
+    terms: &mut Vec<[u8; 64]>,
+) -> ShortKind
+    requires terms { vec_len terms.old < vec_capacity terms.old }
+    requires few { vec_len terms.old < MAX_PLACES }
+    ensures terms { terms.new.items ≡ terms.old.items ++ map text_block (terms_of reason.now) }
+    ensures reason { reason_as result.why (term_at terms.new.items result.place result.shown) ≡ reason.now }
+    ensures within { IsTrue (shows_term result.why) → result.place < length terms.new.items }
+    ensures tag { result.tag ≡ tag }
+    ensures subject { result.subject ≡ subject }
+    ensures starts { result.starts ≡ starts }
+    ensures len { vec_len terms.new ≤ vec_len terms.old + 1 }
+    ensures capacity { vec_capacity terms.new ≡ vec_capacity terms.old }
 {
-    match reason {
-        ShortReason::Normal => Reason::Normal,
-        ShortReason::Shutdown => Reason::Shutdown,
-        ShortReason::ShutdownWith(place) => Reason::ShutdownWith(terms[place]),
-        ShortReason::Kill => Reason::Kill,
-        ShortReason::Killed => Reason::Killed,
-        ShortReason::NoProc => Reason::NoProc,
-        ShortReason::Error(place) => Reason::Error(terms[place]),
+    let place = terms.len() as u32;
+    let (why, shown) = put_reason(reason, terms);
+    ShortKind {
+        place,
+        shown,
+        why,
+        ..plain(tag, subject, starts)
     }
 }
 
-fn whole_kind(terms: &[Text], calls: &[Call], kind: ShortKind) -> Kind
-    requires { KindWithin (length terms.now) (length calls.now) kind }
-    ensures { result ≡ kind_of terms.now calls.now kind }
+fn whole_number(event: &ShortEvent) -> Option<u64>
+    ensures { result ≡ number_of event.now }
 {
-    match kind {
-        ShortKind::Opened(number) => Kind::Opened(number),
-        ShortKind::Up(number) => Kind::Took(Item::Note(Note::Up(number))),
-        ShortKind::Ignored(number) => Kind::Took(Item::Note(Note::Ignored(number))),
-        ShortKind::Failed(number, reason) => {
-            Kind::Took(Item::Note(Note::Failed(number, whole_reason(terms, reason))))
-        }
-        ShortKind::Exit(number, reason) => {
-            Kind::Took(Item::Note(Note::Exit(number, whole_reason(terms, reason))))
-        }
-        ShortKind::Called(number, place) => Kind::Took(Item::Call(number, calls[place])),
-        ShortKind::Resumed => Kind::Resumed,
-        ShortKind::Ticked => Kind::Ticked,
-        ShortKind::Stopped => Kind::Stopped,
+    if event.kind.starts {
+        Some(event.number)
+    } else {
+        None
+    }
+}
+
+fn whole_term(terms: &[[u8; 64]], kind: &ShortKind) -> Text
+    requires { kind.now.place < length terms.now }
+    ensures { result ≡ term_at terms.now kind.now.place kind.now.shown }
+{
+    Text::of_parts(terms[kind.place as usize], kind.shown)
+}
+
+fn whole_reason(terms: &[[u8; 64]], kind: &ShortKind) -> Reason
+    requires { IsTrue (shows_term kind.now.why) → kind.now.place < length terms.now }
+    ensures { result ≡ reason_as kind.now.why (term_at terms.now kind.now.place kind.now.shown) }
+{
+    match kind.why {
+        Why::Normal => Reason::Normal,
+        Why::Shutdown => Reason::Shutdown,
+        Why::ShutdownWith => Reason::ShutdownWith(whole_term(terms, kind)),
+        Why::Kill => Reason::Kill,
+        Why::Killed => Reason::Killed,
+        Why::NoProc => Reason::NoProc,
+        Why::Error => Reason::Error(whole_term(terms, kind)),
+    }
+}
+
+fn whole_kind(terms: &[[u8; 64]], calls: &[Call], kind: &ShortKind) -> Kind
+    requires { KindWithin (length terms.now) (length calls.now) kind.now }
+    ensures { result ≡ kind_of terms.now calls.now kind.now }
+{
+    let number = kind.subject;
+    match kind.tag {
+        Tag::Opened => Kind::Opened(number),
+        Tag::Up => Kind::Took(Item::Note(Note::Up(number))),
+        Tag::Ignored => Kind::Took(Item::Note(Note::Ignored(number))),
+        Tag::Failed => Kind::Took(Item::Note(Note::Failed(number, whole_reason(terms, kind)))),
+        Tag::Exit => Kind::Took(Item::Note(Note::Exit(number, whole_reason(terms, kind)))),
+        Tag::Called => Kind::Took(Item::Call(number, calls[kind.place as usize])),
+        Tag::Resumed => Kind::Resumed,
+        Tag::Ticked => Kind::Ticked,
+        Tag::Stopped => Kind::Stopped,
     }
 }

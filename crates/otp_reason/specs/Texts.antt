@@ -11,6 +11,14 @@ text_bytes text = take text.len text.bytes
 abbrev pub text_of : List ℕ → Text
 text_of bytes = record { bytes = padded_to 64 bytes; len = length bytes }
 
+-- all bytes that a text keeps, those that it doesn't show too (own)
+abbrev pub text_block : Text → List ℕ
+text_block text = text.bytes
+
+-- the text that keeps these bytes and shows so many of them (own)
+abbrev pub text_with : List ℕ → ℕ → Text
+text_with bytes len = record { bytes = bytes; len = len }
+
 -- a printable byte that is no space: 0x21 to 0x7E (own)
 abbrev pub is_text_byte : ℕ → Bool
 is_text_byte byte = nat_le 33 byte && nat_le byte 126

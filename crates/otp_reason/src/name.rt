@@ -14,7 +14,7 @@ const NAME_SIZE: usize = 32;
 pub struct Name {
     // The bytes, and zeros from `len` on.
     bytes: [u8; 32],
-    len: usize,
+    len: u8,
 }
 
 impl Name {
@@ -31,7 +31,7 @@ impl Name {
         kept[..bytes.len()].copy_from_slice(bytes);
         Some(Name {
             bytes: kept,
-            len: bytes.len(),
+            len: bytes.len() as u8,
         })
     }
 
@@ -39,7 +39,7 @@ impl Name {
     pub fn as_bytes(&self) -> &[u8]
         ensures { result.now ≡ name_bytes self.now }
     {
-        &self.bytes[..self.len.min(NAME_SIZE)]
+        &self.bytes[..usize::from(self.len).min(NAME_SIZE)]
     }
 
     /// Whether the other name is this one in every byte that is kept, those that it doesn't show too. Then one can

@@ -1,7 +1,7 @@
 ghost use Rattle.std.specs.Prelude.{◌≡◌, ◌+◌, ◌≤◌, ◌++◌, IsTrue, drop, length, take};
 ghost use Rattle.std.specs.Option.{SomeIff};
 ghost use Rattle.std.specs.List.{list_all};
-ghost use Rattle.otp_reason.specs.Texts.{text_bytes, text_of, is_text_byte, is_lawful_text};
+ghost use Rattle.otp_reason.specs.Texts.{text_block, text_bytes, text_of, text_with, is_text_byte, is_lawful_text};
 
 /// The most bytes that a text holds.
 const TEXT_SIZE: usize = 64;
@@ -14,7 +14,7 @@ const TEXT_SIZE: usize = 64;
 pub struct Text {
     // The bytes, and zeros from `len` on.
     bytes: [u8; 64],
-    len: usize,
+    len: u8,
 }
 
 impl Text {
@@ -29,7 +29,7 @@ impl Text {
         kept[..bytes.len()].copy_from_slice(bytes);
         Some(Text {
             bytes: kept,
-            len: bytes.len(),
+            len: bytes.len() as u8,
         })
     }
 
@@ -44,15 +44,30 @@ impl Text {
         write_at(&mut kept, front.len(), back);
         Text {
             bytes: kept,
-            len: end,
+            len: end as u8,
         }
+    }
+
+    /// All bytes that are kept, those that the text doesn't show too, and how many it shows: for whoever keeps many texts.
+    pub fn parts(&self) -> ([u8; 64], u8)
+        ensures block { result.0 ≡ text_block self.now }
+        ensures text { text_with result.0 result.1 ≡ self.now }
+    {
+        (self.bytes, self.len)
+    }
+
+    /// The text of the [`parts`](Text::parts) of one.
+    pub fn of_parts(bytes: [u8; 64], len: u8) -> Self
+        ensures { result ≡ text_with bytes len }
+    {
+        Text { bytes, len }
     }
 
     /// The bytes that the text shows.
     pub fn as_bytes(&self) -> &[u8]
         ensures { result.now ≡ text_bytes self.now }
     {
-        &self.bytes[..self.len.min(TEXT_SIZE)]
+        &self.bytes[..usize::from(self.len).min(TEXT_SIZE)]
     }
 }
 
