@@ -19,6 +19,7 @@ use Rattle.otp_rules.specs.Restarts.{running}
 use Rattle.otp_rules.specs.Stops.{is_exit, without, told, tell_row, tell, use_exit, stop_each}
 use Rattle.otp_rules.specs.Step.{killed, late_by, late_number, tick}
 use Rattle.otp_rules.specs.Fit.{is_told, rows_in, times, runs_as}
+use Rattle.otp_rules.proofs.Walks.{stop_each-by}
 use Rattle.otp_rules.proofs.Decisions.{StandsAt, at_number-survives, by_test, AtPassing}
 use Rattle.std.proofs.lemmas.List.Sorted.{sum_by-IsPermutation, IsPermutation-reverse}
 use Prim.Native.Nat.{suc}
@@ -98,14 +99,9 @@ use_exit-alike p place o =
     (λ i row at h. end_row-alike i row (with_waiting (without o.state.waiting place) o))
 
 pub stop_each-alike : (ps : List ℕ) (o : Outcome) → Alike (stop_each ps o) o
-unfolding stop_each
-stop_each-alike [] o = alike o
-stop_each-alike (p ∷ ps) o =
-    let used : Outcome = use_exit p (position (is_exit p) o.state.waiting) o in
-    let asked : Outcome = tell p o in
-    by_test (λ x. Alike x o) (is_some (position (is_exit p) o.state.waiting)) (stop_each ps used) (stop_each ps asked)
-    (λ _. alike-chain (stop_each ps used) used o (stop_each-alike ps used) (use_exit-alike p (position (is_exit p) o.state.waiting) o))
-    (λ _. alike-chain (stop_each ps asked) asked o (stop_each-alike ps asked) (tell-alike p o))
+stop_each-alike ps o =
+    stop_each-by (λ x. Alike x o) (λ p x _ h. let place : Option ℕ = position (is_exit p) x.state.waiting in alike-chain (use_exit p place x) x o (use_exit-alike p place x) h)
+    (λ p x _ h. alike-chain (tell p x) x o (tell-alike p x) h) ps o (alike o)
 
 -- what has been told to stop is awaited, and no more up
 pub told-runs : (now p q : ℕ) (s : Shutdown) → runs_as q (told now p s) ≡ false

@@ -33,6 +33,7 @@ use Rattle.otp_rules.specs.Calls.{new_row}
 use Rattle.otp_rules.specs.Step.{due_of, rows_from, open_with, open_rows, opening_specs, killed, late_number, tick}
 use Rattle.otp_rules.specs.Run.{empty_state}
 use Rattle.otp_rules.specs.Fit.{is_told, rows_in, times, IsSound, is_free, IsFree, Matches, Fits, nameless, IsNamed, IsFitted}
+use Rattle.otp_rules.proofs.Walks.{terminate-by}
 use Rattle.otp_rules.proofs.Decisions.{IsIdle, StandsAt, Survives, by_test}
 use Rattle.std.specs.List.{cons_option, sum_by}
 use Prim.Native.Nat.{zero, suc}
@@ -112,9 +113,8 @@ calm_named : (rows : List Row) → count_by nameless (calm_rows rows) ≡ count_
 calm_named rows = map_count nameless (λ (row : Row). with_state (calmed row.state) row) (λ row. refl) rows
 
 terminate-starts : (e : Ending) (o : Outcome) → (terminate e o).state.to_start ≡ []
-unfolding terminate terminate_together terminate_ordered
 terminate-starts e o =
-    by_test (λ x. x.state.to_start ≡ []) (is_simple o.state.flags.strategy) (terminate_together e o) (terminate_ordered e o)
+    terminate-by (λ x. x.state.to_start ≡ []) e o
     (λ _. (stop_each-alike (running o.state.rows) (calm_all (with_work [] [] (Some (sequel.End e)) o))).3)
     (λ _. refl)
 

@@ -25,11 +25,10 @@ use Rattle.otp_rules.specs.declared.event.Waiting.TheVariants as waiting
 use Rattle.otp_rules.specs.declared.work.Sequel.{Sequel}
 use Rattle.otp_rules.specs.declared.work.Sequel.TheVariants as sequel
 use Rattle.otp_rules.specs.declared.work.Due.{Due}
-use Rattle.otp_spec.specs.Flags.{is_simple}
 use Rattle.otp_rules.specs.State.{Outcome, State, answer, is_busy, is_over, with_stamps, with_work}
 use Rattle.otp_rules.specs.Places.{at_number, end_row, set_row}
 use Rattle.otp_rules.specs.Restarts.{affected_from, affected_to, running}
-use Rattle.otp_rules.specs.Stops.{calm_all, is_exit, without, tell_row, tell, use_exit, stop_each, terminate_ordered, terminate_together, terminate}
+use Rattle.otp_rules.specs.Stops.{calm_all, is_exit, without, tell_row, tell, use_exit, stop_each, terminate}
 use Rattle.otp_rules.specs.Starts.{is_due, start_row, start}
 use Rattle.otp_rules.specs.Ends.{refuse_all, end_all}
 use Rattle.otp_rules.specs.Work.{follow, start_first, stop_first, advance}
@@ -41,6 +40,7 @@ use Rattle.otp_rules.specs.Homes.{Brings, IsFirst, is_ended}
 use Rattle.otp_rules.specs.Fit.{rows_in}
 use Rattle.otp_rules.specs.Progress.{IsIn, at_most_one}
 use Rattle.otp_rules.specs.Lives.{EndsAreHeard, EndsTellStarted, IsHeld, TakesEnd}
+use Rattle.otp_rules.proofs.Walks.{terminate-by}
 use Rattle.otp_rules.proofs.Decisions.{BringsExit, SurvivesEvent, StandsAt, at_row-survives, at_number-survives, by_test, decide-survives, decide-survives_event}
 use Rattle.otp_rules.proofs.Counting.{end_row-quiet, none_in, rows_in-at, times-append, times-cons, use_exit-quiet}
 use Rattle.otp_rules.proofs.Homes.{none_has, or_cases, or_right, quiet_more, without_less}
@@ -74,9 +74,8 @@ stop_each-less p (q ∷ qs) o =
     (λ _ h. tell-less p q o (stop_each-less p qs (tell q o) h))
 
 pub terminate-less : (p : ℕ) (e : Ending) (o : Outcome) → Less p o (terminate e o)
-unfolding terminate terminate_together terminate_ordered
 terminate-less p e o =
-    by_test (Less p o) (is_simple o.state.flags.strategy) (terminate_together e o) (terminate_ordered e o)
+    terminate-by (Less p o) e o
     (λ _. stop_each-less p (running o.state.rows) (calm_all (with_work [] [] (Some (sequel.End e)) o)))
     (λ _ h. h)
 

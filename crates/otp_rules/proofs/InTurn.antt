@@ -1,5 +1,5 @@
 -- The law of the stop order, along every history.
-use Rattle.std.specs.Prelude.{◌≡◌, ◌⊎◌, ℕ, ◌==◌, ◌+◌, ◌≤◌, ◌<◌, ◌++◌, ◌&&◌, Bool, true, false, List, [], ◌∷◌, Option, None, Some, All, refl, if◌then◌else◌, position, is_some, slice_get, slice_set, nat_le, nat_lt, length, max, reverse, unwrap_or, count_by}
+use Rattle.std.specs.Prelude.{◌≡◌, ◌⊎◌, ℕ, ◌==◌, ◌+◌, ◌≤◌, ◌<◌, ◌++◌, ◌&&◌, Bool, true, false, List, [], ◌∷◌, Option, None, Some, All, refl, position, is_some, slice_get, slice_set, nat_le, nat_lt, length, max, reverse, unwrap_or, count_by}
 use Rattle.std.specs.List.{list_any, filter_map, cons_option}
 use Rattle.std.proofs.Common.{◌∙◌, ap, sym, subst, inl, inr, arith, ⊎_elim, cond, get_or}
 use Rattle.std.proofs.lemmas.Bool.{cond_both, false≢true, cases_Bool, and_from, and_parts, eq-eqb, eqb-true, leb-true, ltb-true, ltb-false}
@@ -22,7 +22,7 @@ use Rattle.otp_rules.specs.declared.event.Waiting.{Waiting}
 use Rattle.otp_rules.specs.declared.work.Due.{Due}
 use Rattle.otp_rules.specs.declared.work.Sequel.{Sequel}
 use Rattle.otp_spec.specs.Flags.{is_simple}
-use Rattle.otp_rules.specs.State.{Outcome, State, answer, emit, is_busy, with_stamps, with_work}
+use Rattle.otp_rules.specs.State.{Outcome, State, answer, emit, with_stamps, with_work}
 use Rattle.otp_rules.specs.Places.{at_row, at_number, end_row, set_row}
 use Rattle.otp_rules.specs.Restarts.{dues}
 use Rattle.otp_rules.specs.Stops.{is_exit, without, told, stop_order, tell_row, tell, use_exit, terminate_ordered, terminate_together, terminate}
@@ -33,6 +33,7 @@ use Rattle.otp_rules.specs.Step.{kill_order, late_number, open_with, open_rows, 
 use Rattle.otp_rules.specs.Run.{empty_state, state_after}
 use Rattle.otp_rules.specs.Progress.{Progress, no_progress, is_end, is_opened, ends_together, decided, went_on, seen, gave, progress, processes, IsIn}
 use Rattle.otp_rules.specs.Fit.{is_told, rows_in, times, runs_as, IsSound, HasWaiting, HasStops, HasPart, Keeps, IsListed}
+use Rattle.otp_rules.proofs.Walks.{advance-by}
 use Rattle.otp_rules.proofs.Decisions.{IsIdle, Survives, at_row-survives, by_test, decide-survives}
 use Rattle.otp_rules.proofs.Counting.{times-cons, times-append, rows_in-set, rows_in-at, Alike, end_row-alike, use_exit-alike, told-told, times-reverse, none_in, there, at_row-found, end_row-quiet, use_exit-quiet, without_count}
 use Rattle.otp_rules.specs.Order.{StopsInTurn, IsToldTogether, IsStopInTurn, StopOrder, StopOrderFromEmpty}
@@ -254,16 +255,11 @@ pub all-done : (s : State) (g : Progress) → rows_in is_awaited s.rows ≡ 0 �
 all-done s g none part = (part.0, part.1, part.2, λ q i. ⊎_elim (λ x. x) (λ x. absurd (none_told q s.rows none x)) (part.3 q i))
 
 advance-in-turn : (g : Progress) (Q : Effect → Type 0) (n : ℕ) (o : Outcome) → (list_any (row_has is_awaited) o.state.rows ≡ false → Allows g Q) → IsSound o.state → Keeps o.state g → All Q o.orders → InTurn g Q (advance n o)
-unfolding advance
 advance-in-turn g Q n o may sound keeps all =
-    let go : Outcome = stop_first o.state.to_stop n o in
-    by_test (InTurn g Q) (is_busy o) (if list_any (row_has is_awaited) o.state.rows then o else go) o
-    (λ busy. by_test (InTurn g Q) (list_any (row_has is_awaited) o.state.rows) o go (λ _. (keeps, all))
-    (λ none.
+    advance-by (InTurn g Q) n o (keeps, all) (λ busy none.
     let zero : rows_in is_awaited o.state.rows ≡ 0 = none_in is_awaited o.state.rows none in
     let had : HasWaiting o.state g × HasStops o.state g = keeps busy in
-    stop_first-in-turn g Q (may none) o.state.to_stop n o (sound, zero, refl, busy) had.0 (λ apart. all-done o.state g zero (had.1 apart)) all))
-    (λ _. (keeps, all))
+    stop_first-in-turn g Q (may none) o.state.to_stop n o (sound, zero, refl, busy) had.0 (λ apart. all-done o.state g zero (had.1 apart)) all)
 
 -- the order tells no child to stop
 abbrev NoStop : Effect → Type 0

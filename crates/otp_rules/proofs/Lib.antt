@@ -2,6 +2,7 @@ mod Samples
 mod Worked
 pub mod Keeps
 pub mod Decisions
+pub mod Walks
 pub mod Steady
 pub mod Deadlines
 pub mod Period

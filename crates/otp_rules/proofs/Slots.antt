@@ -1,5 +1,5 @@
 -- No two rows have one slot, and each lies below 256.
-use Rattle.std.specs.Prelude.{Contains, ◌&&◌, not, ◌≡◌, ◌⊎◌, ℕ, ◌==◌, ◌+◌, ◌≤◌, ◌<◌, ◌++◌, ◌||◌, Bool, true, false, List, [], ◌∷◌, Option, None, Some, All, refl, if◌then◌else◌, position, is_some, slice_get, slice_set, slice_range, nat_lt, nat_le, length, remove, unwrap_or, map, take, drop, count_by}
+use Rattle.std.specs.Prelude.{Contains, ◌&&◌, not, ◌≡◌, ◌⊎◌, ℕ, ◌==◌, ◌+◌, ◌≤◌, ◌<◌, ◌++◌, ◌||◌, Bool, true, false, List, [], ◌∷◌, Option, None, Some, All, refl, if◌then◌else◌, position, slice_get, slice_set, slice_range, nat_lt, nat_le, length, remove, unwrap_or, map, take, drop, count_by}
 use Rattle.std.specs.List.{list_any}
 use Rattle.std.proofs.Common.{◌∙◌, ap, sym, subst, inl, inr, arith, ⊎_elim, cond, get_or, rules}
 use Rattle.std.proofs.lemmas.Bool.{false≢true, cases_Bool, eqb-true, eq-eqb, leb-false, cond_both, lt-ltb, ltb-true, ltb-false}
@@ -12,7 +12,7 @@ use Rattle.otp_spec.specs.declared.flags.Strategy.{Strategy}
 use Rattle.otp_table.specs.declared.row.Row.{Row}
 use Rattle.otp_table.specs.declared.row.RowState.{RowState}
 use Rattle.otp_table.specs.declared.row.RowState.TheVariants.{Undefined, Starting, Up, Asked, Killed, Restarting}
-use Rattle.otp_table.specs.Rows.{free_from, free_slot, has_process, has_slot, is_awaited, row_has, with_state, calm_rows, calmed}
+use Rattle.otp_table.specs.Rows.{free_from, free_slot, has_process, has_slot, row_has, with_state, calm_rows, calmed}
 use Rattle.otp_window.specs.Period.{in_period}
 use Rattle.otp_rules.specs.declared.call.Reply.{Reply}
 use Rattle.otp_rules.specs.declared.ending.Ending.{Ending}
@@ -24,10 +24,10 @@ use Rattle.otp_rules.specs.declared.work.Due.{Due}
 use Rattle.otp_rules.specs.declared.work.Sequel.{Sequel}
 use Rattle.otp_rules.specs.declared.work.Sequel.TheVariants as sequel
 use Rattle.otp_spec.specs.Flags.{is_simple}
-use Rattle.otp_rules.specs.State.{Outcome, State, answer, is_busy, with_rows, with_stamps, with_waiting, with_work}
+use Rattle.otp_rules.specs.State.{Outcome, State, answer, with_rows, with_stamps, with_waiting, with_work}
 use Rattle.otp_rules.specs.Places.{end_row, end_process, set_row, is_removed}
 use Rattle.otp_rules.specs.Restarts.{affected_from, affected_to, running}
-use Rattle.otp_rules.specs.Stops.{calm_all, is_exit, without, told, tell_row, tell, use_exit, stop_each, terminate_ordered, terminate_together, terminate}
+use Rattle.otp_rules.specs.Stops.{calm_all, is_exit, without, told, tell_row, tell, use_exit, stop_each, terminate}
 use Rattle.otp_rules.specs.Starts.{is_due, start_row, start}
 use Rattle.otp_rules.specs.Ends.{refuse_all, end_all}
 use Rattle.otp_rules.specs.Work.{follow, start_first, stop_first, advance}
@@ -43,6 +43,7 @@ use Rattle.otp_spec.specs.Flags.{are_lawful_flags}
 use Rattle.otp_spec.specs.Lawful.{first_fault}
 use Rattle.otp_rules.specs.Slots.{SlotsOwned, SlotsStayOwned, SlotsTellProcesses}
 use Rattle.otp_rules.specs.Step.{rows_from, open_with, open_rows, opening_specs}
+use Rattle.otp_rules.proofs.Walks.{advance-by, stop_each-by, stop_first-by, with_stops, terminate-by}
 use Rattle.otp_rules.proofs.Keeps.{step_keeps_plan_law}
 use Rattle.otp_rules.proofs.Numbers.{affected_in_order, counted_length}
 use Rattle.otp_rules.proofs.Counting.{set_count, remove_count}
@@ -190,13 +191,7 @@ use_exit-slots p place o h =
     at_number-survives AllSlotted p end_row (with_waiting (without o.state.waiting place) o) h (λ i row at has. end-slots i row (with_waiting (without o.state.waiting place) o) at h)
 
 stop_each-slots : (ps : List ℕ) (o : Outcome) → AllSlotted o → AllSlotted (stop_each ps o)
-unfolding stop_each
-stop_each-slots [] o h = h
-stop_each-slots (p ∷ ps) o h =
-    let place : Option ℕ = position (is_exit p) o.state.waiting in
-    by_test AllSlotted (is_some place) (stop_each ps (use_exit p place o)) (stop_each ps (tell p o))
-    (λ _. stop_each-slots ps (use_exit p place o) (use_exit-slots p place o h))
-    (λ _. stop_each-slots ps (tell p o) (tell-slots p o h))
+stop_each-slots = stop_each-by AllSlotted (λ p o _ h. use_exit-slots p (position (is_exit p) o.state.waiting) o h) (λ p o _ h. tell-slots p o h)
 
 calm-slots : (rows : List Row) (k : ℕ) → holding k (calm_rows rows) ≡ holding k rows
 calm-slots rows k = map-slots (λ (row : Row). with_state (calmed row.state) row) (λ row. refl) rows k
@@ -205,9 +200,8 @@ calmed-slots : (rows : List Row) → Slotted rows → Slotted (calm_rows rows)
 calmed-slots rows h = fewer rows (calm_rows rows) (λ k. omega (arith, calm-slots rows k)) h
 
 terminate-slots : (e : Ending) (o : Outcome) → AllSlotted o → AllSlotted (terminate e o)
-unfolding terminate terminate_together terminate_ordered
 terminate-slots e o h =
-    by_test AllSlotted (is_simple o.state.flags.strategy) (terminate_together e o) (terminate_ordered e o)
+    terminate-by AllSlotted e o
     (λ _. stop_each-slots (running o.state.rows) (calm_all (with_work [] [] (Some (sequel.End e)) o)) (calmed-slots o.state.rows h))
     (λ _. calmed-slots o.state.rows h)
 
@@ -350,22 +344,13 @@ start_first-slots (due ∷ dues) n o h =
     (λ i row at has. set-slotted i row (Starting n (unwrap_or due.kept n)) o.state.rows at h)
 
 stop_first-slots : (ps : List ℕ) (n : ℕ) (o : Outcome) → AllSlotted o → AllSlotted (stop_first ps n o)
-unfolding stop_first
-stop_first-slots [] n o h = start_first-slots o.state.to_start n o h
-stop_first-slots (p ∷ ps) n o h =
-    let place : Option ℕ = position (is_exit p) o.state.waiting in
-    let left : Outcome = with_work ps o.state.to_start o.state.follows o in
-    by_test AllSlotted (is_some place) (stop_first ps n (use_exit p place left)) (tell p left)
-    (λ _. stop_first-slots ps n (use_exit p place left) (use_exit-slots p place left h))
-    (λ _. tell-slots p left h)
+stop_first-slots ps n =
+    stop_first-by (λ _. AllSlotted) AllSlotted n (λ o h. start_first-slots o.state.to_start n o h)
+    (λ p rest o _ h. use_exit-slots p (position (is_exit p) o.state.waiting) (with_stops rest o) h) (λ p rest o h. tell-slots p (with_stops rest o) h) ps
 
 advance-slots : (n : ℕ) (o : Outcome) → AllSlotted o → AllSlotted (advance n o)
-unfolding advance
 advance-slots n o h =
-    let go : Outcome = stop_first o.state.to_stop n o in
-    by_test AllSlotted (is_busy o) (if list_any (row_has is_awaited) o.state.rows then o else go) o
-    (λ _. by_test AllSlotted (list_any (row_has is_awaited) o.state.rows) o go (λ _. h) (λ _. stop_first-slots o.state.to_stop n o h))
-    (λ _. h)
+    advance-by AllSlotted n o h (λ _ _. stop_first-slots o.state.to_stop n o h)
 
 step-slots : (s : State) (e : Event) → length s.specs ≤ 256 → Slotted s.rows → Slotted (step s e).state.rows
 unfolding step step_on
