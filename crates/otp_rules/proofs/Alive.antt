@@ -1,5 +1,5 @@
 -- A process that lives after an event lived before it, or is started by it.
-use Rattle.std.specs.Prelude.{◌≡◌, ◌⊎◌, ℕ, ◌==◌, ◌+◌, ◌≤◌, ◌<◌, ◌++◌, ◌&&◌, ◌||◌, Bool, true, false, List, [], ◌∷◌, Option, None, Some, Contains, refl, if◌then◌else◌, position, is_some, nat_lt, slice_set, slice_range, length, remove, take, drop, count_by, unwrap_or}
+use Rattle.std.specs.Prelude.{◌≡◌, ◌⊎◌, ℕ, ◌==◌, ◌+◌, ◌≤◌, ◌<◌, ◌++◌, ◌&&◌, ◌||◌, Bool, true, false, List, [], ◌∷◌, Option, None, Some, Contains, refl, if◌then◌else◌, position, is_some, slice_set, slice_range, length, remove, take, drop, count_by, unwrap_or}
 use Rattle.std.specs.List.{list_any}
 use Rattle.std.proofs.Common.{◌∙◌, ap, sym, subst, inl, inr, arith, ⊎_elim, cond, rules}
 use Rattle.std.proofs.lemmas.Bool.{false≢true, cases_Bool, eqb-true, eq-eqb, and_from, and_parts}
@@ -16,7 +16,6 @@ use Rattle.otp_table.specs.declared.row.Row.{Row}
 use Rattle.otp_table.specs.declared.row.RowState.{RowState}
 use Rattle.otp_table.specs.declared.row.RowState.TheVariants.{Undefined, Starting, Up, Asked, Killed, Restarting}
 use Rattle.otp_table.specs.Rows.{has_process, has_slot, is_awaited, row_has, with_state, calm_rows, free_slot}
-use Rattle.otp_window.specs.Period.{in_period}
 use Rattle.otp_rules.specs.declared.ending.Ending.{Ending}
 use Rattle.otp_rules.specs.declared.ending.Ending.TheVariants as ending
 use Rattle.otp_rules.specs.declared.event.Event.{Event}
@@ -38,7 +37,7 @@ use Rattle.otp_rules.specs.Stops.{calm_all, is_exit, without, told, tell_row, te
 use Rattle.otp_rules.specs.Starts.{is_due, start_row, start}
 use Rattle.otp_rules.specs.Ends.{end_all, refuse_all}
 use Rattle.otp_rules.specs.Work.{follow, start_first, stop_first, advance}
-use Rattle.otp_rules.specs.Deaths.{restart_rows, restart_or_end, restart}
+use Rattle.otp_rules.specs.Deaths.{restart_rows, restart}
 use Rattle.otp_rules.specs.Calls.{new_row}
 use Rattle.otp_rules.specs.Step.{open_rows, tick, decide, stamped, step, step_on, killed, late_number}
 use Rattle.otp_rules.specs.Run.{empty_state, state_after}
@@ -56,7 +55,7 @@ use Rattle.otp_rules.specs.Homes.{Brings, end_number}
 use Rattle.otp_rules.specs.Fit.{rows_in, is_starting, IsLimited, IsSound}
 use Rattle.otp_rules.specs.Progress.{is_end}
 use Rattle.otp_rules.specs.Alive.{EndsChild, LivesIn, ProcessesLived, is_told_by}
-use Rattle.otp_rules.proofs.Walks.{advance-by, stop_each-by, stop_first-by, with_stops, terminate-by}
+use Rattle.otp_rules.proofs.Walks.{advance-by, restart-by, stop_each-by, stop_first-by, terminate-by, with_stops}
 use Rattle.otp_rules.proofs.Calm.{IsCalm, is_stop, run-calm}
 use Rattle.otp_rules.proofs.Decisions.{SurvivesEvent, StandsAt, at_row-survives, at_number-survives, by_test, decide-survives_event}
 use Rattle.otp_rules.proofs.Counting.{at_row-found, end_row-quiet, put_count, remove_count, rows_in-at, rows_in-cons, rows_in-end, rows_in-set, set_count, tick_count, use_exit-quiet}
@@ -235,7 +234,7 @@ restarted-fewer slot p from to rows le =
 
 -- the restart of a child whose row is down already
 restart-stays : (D : Type 0) (slot p m k place : ℕ) (row : Row) (o : Outcome) → StandsAt place row o → Stays D slot p m (set_row place row Undefined o) → Stays D slot p m (restart k place row o)
-unfolding restart restart_or_end restart_rows
+unfolding restart_rows
 restart-stays D slot p m k place row o at h =
     let down : Outcome = set_row place row Undefined o in
     let counted : Outcome = with_stamps (o.state.stamps ++ o.state.last ∷ []) down in
@@ -245,8 +244,7 @@ restart-stays D slot p m k place row o at h =
     let to : ℕ = affected_to strategy place (length rows) in
     let le : from ≤ to = affected_in_order strategy place (length rows) (omega (arith, counted_length place row o at)) in
     let less : NoMore counted (restart_rows from to place k counted) = restart_rows-no_more from to place k counted counted le (same_less counted) in
-    by_test (Stays D slot p m) (nat_lt o.state.flags.intensity (in_period o.state.flags.period (o.state.stamps ++ o.state.last ∷ []) o.state.last))
-    (terminate ending.Intensity counted) (restart_rows from to place k counted)
+    restart-by (Stays D slot p m) k place row o
     (λ _. terminate-stays D slot p m ending.Intensity counted h)
     (λ _. stays-less D slot p m counted (restart_rows from to place k counted) (less p) (omega arith) (restarted-fewer slot p from to rows le) h)
 
@@ -379,7 +377,6 @@ after_end-none p q row o none =
     by_test (λ (x : Outcome). holders p x ≡ 0) (ends_by_significance o.state.flags.auto_shutdown row o.state.rows) (terminate (ending.Significant q) o) o (λ _. omega (arith, less p, none)) (λ _. none)
 
 restart-none : (p k place : ℕ) (row : Row) (o : Outcome) → StandsAt place row o → holders p (set_row place row Undefined o) ≡ 0 → holders p (restart k place row o) ≡ 0
-unfolding restart restart_or_end
 restart-none p k place row o at none =
     let counted : Outcome = with_stamps (o.state.stamps ++ o.state.last ∷ []) (set_row place row Undefined o) in
     let strategy : Strategy = o.state.flags.strategy in
@@ -388,8 +385,7 @@ restart-none p k place row o at none =
     let le : from ≤ to = affected_in_order strategy place (length counted.state.rows) (omega (arith, counted_length place row o at)) in
     let over : NoMore counted (terminate ending.Intensity counted) = terminate-no_more ending.Intensity counted counted (same_less counted) in
     let again : NoMore counted (restart_rows from to place k counted) = restart_rows-no_more from to place k counted counted le (same_less counted) in
-    by_test (λ (x : Outcome). holders p x ≡ 0) (nat_lt o.state.flags.intensity (in_period o.state.flags.period (o.state.stamps ++ o.state.last ∷ []) o.state.last))
-    (terminate ending.Intensity counted) (restart_rows from to place k counted)
+    restart-by (λ (x : Outcome). holders p x ≡ 0) k place row o
     (λ _. omega (arith, over p, none))
     (λ _. omega (arith, again p, none))
 

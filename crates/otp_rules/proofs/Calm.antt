@@ -1,12 +1,11 @@
 -- While a child is stopped for a call, no start is awaited, and none is to come.
-use Rattle.std.specs.Prelude.{◌≡◌, ℕ, ◌+◌, ◌++◌, Bool, true, false, List, [], ◌∷◌, Option, None, Some, refl, position, is_some, nat_lt, slice_set, length, unwrap_or}
+use Rattle.std.specs.Prelude.{◌≡◌, ℕ, ◌+◌, ◌++◌, Bool, true, false, List, [], ◌∷◌, Option, None, Some, refl, position, is_some, slice_set, unwrap_or}
 use Rattle.std.proofs.Common.{◌∙◌, ap, sym, arith, cond}
 use Rattle.std.proofs.lemmas.Bool.{false≢true}
 use Rattle.otp_table.specs.declared.row.Row.{Row}
 use Rattle.otp_table.specs.declared.row.RowState.{RowState}
 use Rattle.otp_table.specs.declared.row.RowState.TheVariants.{Undefined}
 use Rattle.otp_table.specs.Rows.{with_state}
-use Rattle.otp_window.specs.Period.{in_period}
 use Rattle.otp_rules.specs.declared.call.Reply.{Reply}
 use Rattle.otp_rules.specs.declared.ending.Ending.{Ending}
 use Rattle.otp_rules.specs.declared.ending.Ending.TheVariants as ending
@@ -17,17 +16,16 @@ use Rattle.otp_rules.specs.declared.work.Sequel.TheVariants as sequel
 use Rattle.otp_rules.specs.declared.work.Due.{Due}
 use Rattle.otp_rules.specs.State.{Outcome, State, answer, is_busy, with_stamps, with_waiting, with_work}
 use Rattle.otp_rules.specs.Places.{end_row, end_process, set_row}
-use Rattle.otp_rules.specs.Restarts.{affected_from, affected_to}
 use Rattle.otp_rules.specs.Stops.{is_exit, without, told, tell_row, tell, use_exit, terminate}
 use Rattle.otp_rules.specs.Starts.{is_due, start_row, start}
 use Rattle.otp_rules.specs.Ends.{end_all, refuse_all}
 use Rattle.otp_rules.specs.Work.{follow, start_first, stop_first, advance}
-use Rattle.otp_rules.specs.Deaths.{restart_rows, restart_or_end, restart}
+use Rattle.otp_rules.specs.Deaths.{restart_rows, restart}
 use Rattle.otp_rules.specs.Step.{open_rows, open_with, tick, decide, stamped, step, step_on}
 use Rattle.otp_rules.specs.Run.{state_after}
 use Rattle.otp_rules.specs.Fit.{rows_in, IsSound}
-use Rattle.otp_rules.proofs.Walks.{advance-by, stop_first-by, with_stops}
-use Rattle.otp_rules.proofs.Decisions.{StandsAt, Survives, at_number-survives, at_row-survives, by_test, decide-survives}
+use Rattle.otp_rules.proofs.Walks.{advance-by, restart-by, stop_first-by, with_stops}
+use Rattle.otp_rules.proofs.Decisions.{StandsAt, Survives, at_number-survives, at_row-survives, decide-survives}
 use Rattle.otp_rules.proofs.Counting.{Alike, end_row-alike, rows_in-end, rows_in-set, tick_count}
 use Rattle.otp_rules.proofs.Finishing.{begun_awaited, is_begun, not_starting, told-begun}
 use Rattle.otp_rules.proofs.Sound.{advance-sound, awaits_nothing, sound-survives}
@@ -75,11 +73,10 @@ terminate-calm : (e : Ending) (o : Outcome) → IsCalm (terminate e o).state
 terminate-calm e o h = absurd (other_follows (terminate e o).state.follows (Some (sequel.End e)) (terminate-follows e o) refl h)
 
 restart-calm : (k place : ℕ) (row : Row) (o : Outcome) → IsCalm (restart k place row o).state
-unfolding restart restart_or_end restart_rows
+unfolding restart_rows
 restart-calm k place row o =
     let counted : Outcome = with_stamps (o.state.stamps ++ o.state.last ∷ []) (set_row place row Undefined o) in
-    by_test (λ (x : Outcome). IsCalm x.state) (nat_lt o.state.flags.intensity (in_period o.state.flags.period (o.state.stamps ++ o.state.last ∷ []) o.state.last))
-    (terminate ending.Intensity counted) (restart_rows (affected_from o.state.flags.strategy place) (affected_to o.state.flags.strategy place (length counted.state.rows)) place k counted)
+    restart-by (λ (x : Outcome). IsCalm x.state) k place row o
     (λ _. terminate-calm ending.Intensity counted)
     (λ _ e. absurd (false≢true e))
 

@@ -1,5 +1,5 @@
 -- How many orders an event gives.
-use Rattle.std.specs.Prelude.{◌≡◌, ℕ, ◌+◌, ◌≤◌, ◌++◌, Bool, true, false, List, [], ◌∷◌, Option, None, Some, refl, position, is_some, slice_set, nat_lt, length, remove, unwrap_or, count_by}
+use Rattle.std.specs.Prelude.{◌≡◌, ℕ, ◌+◌, ◌≤◌, ◌++◌, Bool, true, false, List, [], ◌∷◌, Option, None, Some, refl, position, is_some, slice_set, length, remove, unwrap_or, count_by}
 use Rattle.std.specs.List.{cons_option, filter_map}
 use Rattle.std.proofs.Common.{◌∙◌, ap, sym, subst, arith, cond, rules}
 use Rattle.std.proofs.lemmas.Bool.{false≢true}
@@ -7,7 +7,6 @@ use Rattle.std.proofs.lemmas.List.{length-map, length-set}
 use Rattle.std.proofs.lemmas.List.Edits.{length-remove}
 use Rattle.std.proofs.lemmas.List.Sums.{sum_by-append, sum_by-cons}
 use Rattle.std.proofs.lemmas.Option.{slice_get_within}
-use Rattle.otp_spec.specs.declared.flags.Strategy.{Strategy}
 use Rattle.otp_table.specs.declared.row.Row.{Row}
 use Rattle.otp_table.specs.declared.row.RowState.{RowState}
 use Rattle.otp_table.specs.declared.row.RowState.TheVariants.{Undefined, Up, Restarting}
@@ -30,14 +29,13 @@ use Rattle.otp_rules.specs.State.{Outcome, answer, is_busy, is_over, with_rows, 
 use Rattle.otp_rules.specs.Effects.{OrdersFew, is_order}
 use Rattle.otp_rules.specs.Ends.{sup_end_of, refuse_all, refusal, end_all}
 use Rattle.otp_rules.specs.Places.{end_row, end_process, is_removed, set_row}
-use Rattle.otp_rules.specs.Restarts.{affected_from, affected_to, running}
+use Rattle.otp_rules.specs.Restarts.{running}
 use Rattle.otp_rules.specs.Stops.{calm_all, is_exit, without, told, tell_row, tell, use_exit, stop_each, stop_order, terminate}
 use Rattle.otp_rules.specs.Starts.{is_due, start_row, start}
 use Rattle.otp_rules.specs.Work.{follow, start_first, stop_first, advance}
-use Rattle.otp_rules.specs.Deaths.{restart_rows, restart_or_end, restart}
+use Rattle.otp_rules.specs.Deaths.{restart_rows, restart}
 use Rattle.otp_rules.specs.Step.{open_with, open_rows, tick, decide, stamped, step, step_on, kill_order, killed, late_number}
-use Rattle.otp_window.specs.Period.{in_period}
-use Rattle.otp_rules.proofs.Walks.{advance-by, terminate-by}
+use Rattle.otp_rules.proofs.Walks.{advance-by, restart-by, terminate-by}
 use Rattle.otp_rules.proofs.Decisions.{StandsAt, SurvivesEvent, at_row-survives, at_number-survives, by_test, decide-survives_event}
 use Rattle.otp_rules.proofs.Counting.{end_row-quiet, stop_each-alike, use_exit-quiet}
 
@@ -139,14 +137,10 @@ terminate-busy e o =
     (λ _. refl)
 
 restart-adds : (p place : ℕ) (row : Row) (o : Outcome) → (orders_in (restart p place row o).orders ≤ orders_in o.orders + length o.state.rows) × (is_busy (restart p place row o) ≡ true)
-unfolding restart restart_or_end restart_rows
+unfolding restart_rows
 restart-adds p place row o =
     let counted : Outcome = with_stamps (o.state.stamps ++ o.state.last ∷ []) (set_row place row Undefined o) in
-    let strategy : Strategy = o.state.flags.strategy in
-    let count : ℕ = length counted.state.rows in
-    by_test (λ (x : Outcome). (orders_in x.orders ≤ orders_in o.orders + length o.state.rows) × (is_busy x ≡ true))
-    (nat_lt o.state.flags.intensity (in_period o.state.flags.period (o.state.stamps ++ o.state.last ∷ []) o.state.last))
-    (terminate ending.Intensity counted) (restart_rows (affected_from strategy place) (affected_to strategy place count) place p counted)
+    restart-by (λ (x : Outcome). (orders_in x.orders ≤ orders_in o.orders + length o.state.rows) × (is_busy x ≡ true)) p place row o
     (λ _. let ends = terminate-adds ending.Intensity counted in (omega (arith, ends.0, length-set o.state.rows place (with_state Undefined row)), terminate-busy ending.Intensity counted))
     (λ _. (omega arith, refl))
 

@@ -1,5 +1,5 @@
 -- A supervisor that ends stops each child that runs: none is left when nothing is left to stop.
-use Rattle.std.specs.Prelude.{◌≡◌, ◌⊎◌, ℕ, ◌==◌, ◌+◌, ◌≤◌, ◌<◌, ◌++◌, Bool, true, false, List, [], ◌∷◌, Option, None, Some, refl, position, is_some, nat_lt, slice_set, length}
+use Rattle.std.specs.Prelude.{◌≡◌, ◌⊎◌, ℕ, ◌==◌, ◌+◌, ◌≤◌, ◌<◌, ◌++◌, Bool, true, false, List, [], ◌∷◌, Option, None, Some, refl, position, is_some, slice_set}
 use Rattle.std.specs.List.{cons_option}
 use Rattle.std.proofs.Common.{◌∙◌, ap, sym, subst, inl, inr, arith, ⊎_elim, cond}
 use Rattle.std.proofs.lemmas.Bool.{false≢true, cases_Bool, eqb-true}
@@ -7,12 +7,10 @@ use Rattle.std.proofs.lemmas.List.Sums.{sum_by-le-sum_by}
 use Prim.Native.Nat.{zero, suc}
 use Rattle.otp_spec.specs.declared.child.Shutdown.{Shutdown}
 use Rattle.otp_spec.specs.declared.child.Shutdown.TheVariants.{BrutalKill, Milliseconds, Infinity}
-use Rattle.otp_spec.specs.declared.flags.Strategy.{Strategy}
 use Rattle.otp_table.specs.declared.row.Row.{Row}
 use Rattle.otp_table.specs.declared.row.RowState.{RowState}
 use Rattle.otp_table.specs.declared.row.RowState.TheVariants.{Undefined, Starting, Up, Asked, Killed, Restarting}
 use Rattle.otp_table.specs.Rows.{has_process, is_awaited, row_has, with_state, calm_rows, calmed, up_number}
-use Rattle.otp_window.specs.Period.{in_period}
 use Rattle.otp_rules.specs.declared.call.Reply.{Reply}
 use Rattle.otp_rules.specs.declared.ending.Ending.{Ending}
 use Rattle.otp_rules.specs.declared.ending.Ending.TheVariants as ending
@@ -22,16 +20,16 @@ use Rattle.otp_rules.specs.declared.work.Sequel.TheVariants as sequel
 use Rattle.otp_rules.specs.declared.work.Due.{Due}
 use Rattle.otp_rules.specs.State.{Outcome, State, answer, is_busy, with_stamps, with_waiting, with_work}
 use Rattle.otp_rules.specs.Places.{at_number, end_row, end_process, set_row}
-use Rattle.otp_rules.specs.Restarts.{affected_from, affected_to, running}
+use Rattle.otp_rules.specs.Restarts.{running}
 use Rattle.otp_rules.specs.Stops.{calm_all, is_exit, without, told, tell_row, tell, use_exit, stop_each, terminate}
 use Rattle.otp_rules.specs.Starts.{is_due, start_row, start}
 use Rattle.otp_rules.specs.Ends.{end_all, refuse_all}
 use Rattle.otp_rules.specs.Work.{follow, start_first, stop_first, advance}
-use Rattle.otp_rules.specs.Deaths.{restart_rows, restart_or_end, restart}
+use Rattle.otp_rules.specs.Deaths.{restart_rows, restart}
 use Rattle.otp_rules.specs.Step.{open_rows, open_with, tick, decide}
 use Rattle.otp_rules.specs.Progress.{is_end}
 use Rattle.otp_rules.specs.Fit.{is_told, rows_in, times, runs_as, IsLimited, IsSound}
-use Rattle.otp_rules.proofs.Walks.{advance-by, stop_first-by, terminate-by}
+use Rattle.otp_rules.proofs.Walks.{advance-by, restart-by, stop_first-by, terminate-by}
 use Rattle.otp_rules.proofs.Decisions.{StandsAt, Survives, at_row-survives, by_test, decide-survives}
 use Rattle.otp_rules.proofs.Counting.{Alike, at_row-found, end_row-alike, none_in, rows_in-at, rows_in-cons, rows_in-end, rows_in-map, rows_in-set, tell-alike, tick_count, times-cons, times-reverse, told-runs, told-told, use_exit-alike}
 use Rattle.otp_rules.proofs.Sound.{IsReady, awaits_nothing, sound-survives, used-ready}
@@ -243,14 +241,12 @@ down-begun place row o at few =
     omega (arith, e, few, begun_awaited (slice_set o.state.rows place (with_state Undefined row)))
 
 restart-finishes : (k place : ℕ) (row : Row) (o : Outcome) → AreOne o → StandsAt place row o → rows_in is_awaited o.state.rows ≡ 0 → Finishes (restart k place row o).state
-unfolding restart restart_or_end restart_rows
+unfolding restart_rows
 restart-finishes k place row o one at none =
     let down : Outcome = set_row place row Undefined o in
     let counted : Outcome = with_stamps (o.state.stamps ++ o.state.last ∷ []) down in
     let less : NoMore o down = set-no_more place row Undefined o o at (λ q. omega arith) (λ q. omega arith) in
-    let strategy : Strategy = o.state.flags.strategy in
-    by_test (λ (x : Outcome). Finishes x.state) (nat_lt o.state.flags.intensity (in_period o.state.flags.period (o.state.stamps ++ o.state.last ∷ []) o.state.last))
-    (terminate ending.Intensity counted) (restart_rows (affected_from strategy place) (affected_to strategy place (length counted.state.rows)) place k counted)
+    restart-by (λ (x : Outcome). Finishes x.state) k place row o
     (λ _. terminate-finishes ending.Intensity counted (λ q. omega (arith, less q, one q)) (down-begun place row o at (omega (arith, none))))
     (λ _ e. absurd (false≢true e))
 

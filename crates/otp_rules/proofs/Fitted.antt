@@ -18,7 +18,6 @@ use Rattle.otp_table.specs.declared.row.Row.{Row}
 use Rattle.otp_table.specs.declared.row.RowState.{RowState}
 use Rattle.otp_table.specs.declared.row.RowState.TheVariants.{Undefined, Starting, Up, Asked, Killed, Restarting}
 use Rattle.otp_table.specs.Rows.{is_awaited, row_has, with_state, calm_rows, calmed, up_number, is_up, free_slot}
-use Rattle.otp_window.specs.Period.{in_period}
 use Rattle.otp_rules.specs.declared.call.Reply.{Reply}
 use Rattle.otp_rules.specs.declared.ending.Ending.{Ending}
 use Rattle.otp_rules.specs.declared.event.Kind.{Kind}
@@ -28,12 +27,12 @@ use Rattle.otp_rules.specs.State.{Outcome, State, answer, with_rows, with_stamps
 use Rattle.otp_rules.specs.Places.{end_row, is_removed, is_temporary, set_row}
 use Rattle.otp_rules.specs.Restarts.{affected_from, affected_to, dues, restart_list, running}
 use Rattle.otp_rules.specs.Stops.{calm_all, terminate_ordered, terminate_together, terminate}
-use Rattle.otp_rules.specs.Deaths.{restart_rows, restart_or_end, restart}
+use Rattle.otp_rules.specs.Deaths.{restart_rows, restart}
 use Rattle.otp_rules.specs.Calls.{new_row}
 use Rattle.otp_rules.specs.Step.{due_of, rows_from, open_with, open_rows, opening_specs, killed, late_number, tick}
 use Rattle.otp_rules.specs.Run.{empty_state}
 use Rattle.otp_rules.specs.Fit.{is_told, rows_in, times, IsSound, is_free, IsFree, Matches, Fits, nameless, IsNamed, IsFitted}
-use Rattle.otp_rules.proofs.Walks.{terminate-by}
+use Rattle.otp_rules.proofs.Walks.{restart-by, terminate-by}
 use Rattle.otp_rules.proofs.Decisions.{IsIdle, StandsAt, Survives, by_test}
 use Rattle.std.specs.List.{cons_option, sum_by}
 use Prim.Native.Nat.{zero, suc}
@@ -262,7 +261,7 @@ part_named SimpleOneForOne rows place row within is h =
     omega (arith, split, first, zero)
 
 restart-fitted : (b : Bool) (p place : ℕ) (row : Row) (o : Outcome) → IsIdle b o → StandsAt place row o → Stands o → IsFitted (restart p place row o).state
-unfolding restart restart_or_end restart_rows
+unfolding restart_rows
 restart-fitted b p place row o idle at h =
     let counted : Outcome = with_stamps (o.state.stamps ++ o.state.last ∷ []) (set_row place row Undefined o) in
     let rows : List Row = slice_set o.state.rows place (with_state Undefined row) in
@@ -276,9 +275,7 @@ restart-fitted b p place row o idle at h =
     let here : get_or rows place row ≡ with_state Undefined row = get_or-set_same o.state.rows place (with_state Undefined row) row (slice_get_within o.state.rows place row at) in
     let calm : rows_in is_awaited rows ≡ 0 =
     (let e : rows_in is_awaited rows + cond (is_awaited row.state) 1 0 ≡ rows_in is_awaited o.state.rows + 0 = rows_in-set is_awaited place row Undefined o.state.rows at in omega (arith, e, awaits_nothing b o idle h.0)) in
-    by_test (λ x. IsFitted x.state) (nat_lt o.state.flags.intensity (in_period o.state.flags.period (o.state.stamps ++ o.state.last ∷ []) o.state.last))
-    (terminate ending.Intensity counted)
-    (restart_rows from to place p counted)
+    restart-by (λ x. IsFitted x.state) p place row o
     (λ _. terminate-fitted ending.Intensity counted named)
     (λ _. (
       (λ plain.

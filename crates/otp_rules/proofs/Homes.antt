@@ -1,5 +1,5 @@
 -- A child is at home after an event only where it was before, or where the event brings it home, or where its row is new.
-use Rattle.std.specs.Prelude.{◌≡◌, ◌+◌, ◌⊎◌, ℕ, ◌==◌, ◌-◌, ◌++◌, ◌||◌, Bool, true, false, List, [], ◌∷◌, Option, None, Some, Contains, refl, position, is_some, slice_get, slice_set, slice_range, nat_lt, nat_le, length, remove, unwrap_or, map, take, drop}
+use Rattle.std.specs.Prelude.{◌≡◌, ◌+◌, ◌⊎◌, ℕ, ◌==◌, ◌-◌, ◌++◌, ◌||◌, Bool, true, false, List, [], ◌∷◌, Option, None, Some, Contains, refl, position, is_some, slice_get, slice_set, slice_range, nat_le, length, remove, unwrap_or, map, take, drop}
 use Rattle.std.specs.List.{list_any}
 use Rattle.std.proofs.Common.{◌∙◌, ap, sym, subst, inl, inr, arith, ⊎_elim, rules, get_or}
 use Rattle.std.proofs.lemmas.Bool.{false≢true, cond_both, eqb-true, eq-eqb, and_parts}
@@ -14,7 +14,6 @@ use Rattle.otp_table.specs.declared.row.Row.{Row}
 use Rattle.otp_table.specs.declared.row.RowState.{RowState}
 use Rattle.otp_table.specs.declared.row.RowState.TheVariants.{Undefined, Starting, Up, Asked, Killed, Restarting}
 use Rattle.otp_table.specs.Rows.{has_process, is_undefined, with_state, calm_rows, calmed, free_slot}
-use Rattle.otp_window.specs.Period.{in_period}
 use Rattle.otp_spec.specs.declared.child.ChildSpec.{ChildSpec}
 use Rattle.otp_spec.specs.declared.flags.Strategy.{Strategy}
 use Rattle.otp_rules.specs.declared.call.Call.{Call}
@@ -39,12 +38,12 @@ use Rattle.otp_rules.specs.Stops.{calm_all, is_exit, without, told, tell_row, te
 use Rattle.otp_rules.specs.Starts.{is_due, start_row, start}
 use Rattle.otp_rules.specs.Ends.{refuse_all, end_all}
 use Rattle.otp_rules.specs.Work.{follow, start_first, stop_first, advance}
-use Rattle.otp_rules.specs.Deaths.{restart_rows, restart_or_end, restart}
+use Rattle.otp_rules.specs.Deaths.{restart_rows, restart}
 use Rattle.otp_rules.specs.Calls.{new_row}
 use Rattle.otp_rules.specs.Step.{open_rows, open_with, opening_specs, rows_from, tick, decide, stamped, step, step_on, killed, late_number}
 use Rattle.otp_rules.specs.Homes.{Brings, ComesHome, EndsProcess, HomesKept, HomesKeptFrom, IsAdded, IsNewNumber, IsFirst, IsOpened, WasThere, end_number, is_ended, is_home, is_start_call, is_started}
 use Rattle.otp_rules.specs.Fit.{is_told, rows_in}
-use Rattle.otp_rules.proofs.Walks.{advance-by, stop_each-by, stop_first-by, with_stops, terminate-by}
+use Rattle.otp_rules.proofs.Walks.{advance-by, restart-by, stop_each-by, stop_first-by, terminate-by, with_stops}
 use Rattle.otp_rules.proofs.Decisions.{BringsExit, BringsFailure, StandsAt, SurvivesEvent, at_row-survives, at_number-survives, by_test, decide-survives_event, is_down}
 use Rattle.std.specs.Prelude.{length}
 use Rattle.otp_rules.specs.Run.{empty_state, state_after}
@@ -313,7 +312,7 @@ terminate-known what s G e o h =
     (λ _. calm-known what s G o.state.waiting o.state.rows h)
 
 restart-known : (what : Kind) (s : State) (G : Item → Type 0) (p place : ℕ) (row : Row) (o : Outcome) → StandsAt place row o → IsDone G o.state.waiting row → AllKnown what s G o → AllKnown what s G (restart p place row o)
-unfolding restart restart_or_end restart_rows
+unfolding restart_rows
 restart-known what s G p place row o at done h =
     let counted : Outcome = with_stamps (o.state.stamps ++ o.state.last ∷ []) (set_row place row Undefined o) in
     let rows : List Row = counted.state.rows in
@@ -322,8 +321,7 @@ restart-known what s G p place row o at done h =
     let K : Row → Type 0 = Known what s G o.state.waiting in
     let from : ℕ = affected_from strategy place in
     let to : ℕ = affected_to strategy place (length rows) in
-    by_test (AllKnown what s G) (nat_lt o.state.flags.intensity (in_period o.state.flags.period (o.state.stamps ++ o.state.last ∷ []) o.state.last))
-    (terminate ending.Intensity counted) (restart_rows from to place p counted)
+    restart-by (AllKnown what s G) p place row o
     (λ _. terminate-known what s G ending.Intensity counted down)
     (λ _. each-append K (take from rows ++ calm_rows (slice_range rows from to)) (drop to rows)
     (each-append K (take from rows) (calm_rows (slice_range rows from to)) (each-take K from rows down) (calm-known what s G o.state.waiting (slice_range rows from to) (each-take K (to - from) (drop from rows) (each-drop K from rows down))))

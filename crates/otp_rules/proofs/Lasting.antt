@@ -1,5 +1,5 @@
 -- A child's process stays its child's, in its slot, until the note of its end is taken.
-use Rattle.std.specs.Prelude.{◌≡◌, ◌⊎◌, ℕ, ◌==◌, ◌+◌, ◌≤◌, ◌<◌, ◌++◌, ◌&&◌, Bool, true, false, List, [], ◌∷◌, Option, None, Some, AllPairs, All, Contains, refl, position, is_some, nat_le, nat_lt, slice_set, slice_range, length, remove, map, take, drop, count_by, unwrap_or}
+use Rattle.std.specs.Prelude.{◌≡◌, ◌⊎◌, ℕ, ◌==◌, ◌+◌, ◌≤◌, ◌<◌, ◌++◌, ◌&&◌, Bool, true, false, List, [], ◌∷◌, Option, None, Some, AllPairs, All, Contains, refl, position, is_some, nat_le, slice_set, slice_range, length, remove, map, take, drop, count_by, unwrap_or}
 use Rattle.std.specs.List.{cons_option, list_any}
 use Rattle.std.proofs.Common.{◌∙◌, ap, sym, subst, inl, inr, arith, ⊎_elim, cond}
 use Rattle.std.proofs.lemmas.Bool.{false≢true, cond_both, cases_Bool, eqb-true, eq-eqb, and_from, and_parts}
@@ -14,7 +14,6 @@ use Rattle.otp_table.specs.declared.row.Row.{Row}
 use Rattle.otp_table.specs.declared.row.RowState.{RowState}
 use Rattle.otp_table.specs.declared.row.RowState.TheVariants.{Undefined, Starting, Up, Asked, Killed, Restarting}
 use Rattle.otp_table.specs.Rows.{has_process, has_slot, is_awaited, is_undefined, with_state, calm_rows, calmed, free_slot}
-use Rattle.otp_window.specs.Period.{in_period}
 use Rattle.otp_rules.specs.declared.ending.Ending.{Ending}
 use Rattle.otp_rules.specs.declared.ending.Ending.TheVariants as ending
 use Rattle.otp_rules.specs.declared.event.Event.{Event}
@@ -35,7 +34,7 @@ use Rattle.otp_rules.specs.Stops.{calm_all, is_exit, without, told, tell_row, te
 use Rattle.otp_rules.specs.Starts.{is_due, start_row, start}
 use Rattle.otp_rules.specs.Ends.{end_all, refuse_all}
 use Rattle.otp_rules.specs.Work.{follow, start_first, stop_first, advance}
-use Rattle.otp_rules.specs.Deaths.{restart_rows, restart_or_end, restart}
+use Rattle.otp_rules.specs.Deaths.{restart_rows, restart}
 use Rattle.otp_rules.specs.Calls.{new_row}
 use Rattle.otp_rules.specs.Step.{open_rows, tick, decide, stamped, step, step_on, killed, late_number}
 use Rattle.otp_rules.specs.Run.{empty_state, state_after}
@@ -44,7 +43,7 @@ use Rattle.otp_rules.specs.Homes.{Brings, end_number, is_ended}
 use Rattle.otp_rules.specs.Fit.{rows_in, runs_as, times, IsDistinct, IsSound}
 use Rattle.otp_rules.specs.Progress.{is_end}
 use Rattle.otp_rules.specs.Lives.{EndComesLast, HasEnded, IsHeldIn, ProcessesStay}
-use Rattle.otp_rules.proofs.Walks.{advance-by, stop_each-by, stop_first-by, with_stops, terminate-by}
+use Rattle.otp_rules.proofs.Walks.{advance-by, restart-by, stop_each-by, stop_first-by, terminate-by, with_stops}
 use Rattle.otp_rules.proofs.Decisions.{BringsExit, SurvivesEvent, StandsAt, at_row-survives, at_number-survives, by_test, decide-survives_event, is_down}
 use Rattle.otp_rules.proofs.Counting.{none_in, remove_count, rows_in-cons, set_count}
 use Rattle.otp_rules.proofs.EndedRows.{IsBare, run-bare, step-bare}
@@ -207,7 +206,7 @@ restarted-lives slot p from to rows le =
 
 -- a child whose process has ended is restarted
 restart-lasts : (D : Type 0) (slot p k place : ℕ) (row : Row) (o : Outcome) → StandsAt place row o → (has_process p row.state ≡ true → D) → Lasts D slot p o → Lasts D slot p (restart k place row o)
-unfolding restart restart_or_end restart_rows
+unfolding restart_rows
 restart-lasts D slot p k place row o at ended h =
     let down : Outcome = set_row place row Undefined o in
     let counted : Outcome = with_stamps (o.state.stamps ++ o.state.last ∷ []) down in
@@ -216,8 +215,7 @@ restart-lasts D slot p k place row o at ended h =
     let from : ℕ = affected_from strategy place in
     let to : ℕ = affected_to strategy place (length rows) in
     let now : Has D slot p rows = set-has D slot p place row Undefined o at (λ has. inr (ended has)) h.1 in
-    by_test (Lasts D slot p) (nat_lt o.state.flags.intensity (in_period o.state.flags.period (o.state.stamps ++ o.state.last ∷ []) o.state.last))
-    (terminate ending.Intensity counted) (restart_rows from to place k counted)
+    restart-by (Lasts D slot p) k place row o
     (λ _. terminate-lasts D slot p ending.Intensity counted (h.0, now))
     (λ _. (
       h.0,

@@ -1,5 +1,5 @@
 -- The orders name processes that a row has, or the one that the event starts.
-use Rattle.std.specs.Prelude.{◌≡◌, ◌⊎◌, ℕ, ◌==◌, ◌≤◌, ◌<◌, ◌++◌, ◌||◌, Bool, true, false, List, [], ◌∷◌, Option, None, Some, refl, if◌then◌else◌, position, is_some, slice_set, nat_lt, nat_le, length, remove, unwrap_or}
+use Rattle.std.specs.Prelude.{◌≡◌, ◌⊎◌, ℕ, ◌==◌, ◌≤◌, ◌<◌, ◌++◌, ◌||◌, Bool, true, false, List, [], ◌∷◌, Option, None, Some, refl, if◌then◌else◌, position, is_some, slice_set, nat_le, length, remove, unwrap_or}
 use Rattle.std.specs.List.{list_any, filter_map, All, Contains}
 use Rattle.std.proofs.Common.{◌∙◌, ap, sym, subst, inl, inr, arith, ⊎_elim, cond, rules, append_assoc, get_or, suc, zero}
 use Rattle.std.proofs.lemmas.Bool.{false≢true, cases_Bool, eqb-true}
@@ -11,7 +11,6 @@ use Rattle.otp_table.specs.declared.row.Row.{Row}
 use Rattle.otp_table.specs.declared.row.RowState.{RowState}
 use Rattle.otp_table.specs.declared.row.RowState.TheVariants.{Undefined, Starting, Up, Asked, Killed, Restarting}
 use Rattle.otp_table.specs.Rows.{has_process, with_state}
-use Rattle.otp_window.specs.Period.{in_period}
 use Rattle.otp_spec.specs.declared.flags.Strategy.{Strategy}
 use Rattle.otp_rules.specs.declared.call.Reply.{Reply}
 use Rattle.otp_rules.specs.declared.ending.Ending.{Ending}
@@ -32,7 +31,7 @@ use Rattle.otp_rules.specs.Restarts.{affected_from, affected_to, running}
 use Rattle.otp_rules.specs.Stops.{calm_all, is_exit, without, tell_row, tell, use_exit, stop_each, stop_order, terminate}
 use Rattle.otp_rules.specs.Starts.{is_due, start_row, start}
 use Rattle.otp_rules.specs.Work.{follow, start_first, stop_first, advance}
-use Rattle.otp_rules.specs.Deaths.{restart_rows, restart_or_end, restart}
+use Rattle.otp_rules.specs.Deaths.{restart_rows, restart}
 use Rattle.otp_rules.specs.Step.{open_with, open_rows, tick, decide, stamped, step, step_on, kill_order, late_number}
 use Rattle.otp_rules.specs.Named.{AreAmong, named_by, NamesOneOf, OrdersNumbered, OrdersNumberedFrom}
 use Rattle.otp_rules.specs.Ends.{sup_end_of, refuse_all, refusal, end_all}
@@ -40,7 +39,7 @@ use Rattle.otp_rules.specs.Progress.{decided}
 use Rattle.otp_rules.specs.Fit.{rows_in}
 use Rattle.otp_rules.specs.Needs.{is_start, needs_number, numbers_of, IsNumbered}
 use Rattle.otp_rules.specs.Run.{empty_state, orders_of}
-use Rattle.otp_rules.proofs.Walks.{advance-by, stop_each-by, stop_first-by, with_stops, terminate-by}
+use Rattle.otp_rules.proofs.Walks.{advance-by, restart-by, stop_each-by, stop_first-by, terminate-by, with_stops}
 use Rattle.otp_rules.proofs.Decisions.{StandsAt, Survives, at_row-survives, at_number-survives, by_test, decide-survives}
 use Rattle.otp_rules.proofs.Counting.{rows_in-cons, rows_in-at}
 use Rattle.otp_rules.proofs.Numbers.{holders, NoMore, set-no_more, tell-no_more, use_exit-no_more, calm_process, restart_rows-no_more, affected_in_order, counted_length, no_more-survives, step-grown}
@@ -104,15 +103,13 @@ terminate-held n e old o h =
     (λ _. ((λ q. omega (arith, h.0 q, calm_process q o.state.rows)), h.1))
 
 restart-held : (n p place : ℕ) (row : Row) (old o : Outcome) → StandsAt place row o → Held n old o → Held n old (restart p place row o)
-unfolding restart restart_or_end restart_rows
+unfolding restart_rows
 restart-held n p place row old o at h =
     let counted : Outcome = with_stamps (o.state.stamps ++ o.state.last ∷ []) (set_row place row Undefined o) in
     let strategy : Strategy = o.state.flags.strategy in
     let count : ℕ = length (slice_set o.state.rows place (with_state Undefined row)) in
     let less : NoMore old counted = set-no_more place row Undefined old o at (λ q. omega arith) h.0 in
-    by_test (Held n old) (nat_lt o.state.flags.intensity (in_period o.state.flags.period (o.state.stamps ++ o.state.last ∷ []) o.state.last))
-    (terminate ending.Intensity counted)
-    (restart_rows (affected_from strategy place) (affected_to strategy place count) place p counted)
+    restart-by (Held n old) p place row o
     (λ _. terminate-held n ending.Intensity old counted (less, h.1))
     (λ _. (
       restart_rows-no_more (affected_from strategy place) (affected_to strategy place count) place p old counted

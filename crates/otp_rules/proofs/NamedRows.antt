@@ -1,5 +1,5 @@
 -- Each process that an order names is that of a row after the event.
-use Rattle.std.specs.Prelude.{◌≡◌, ◌⊎◌, ℕ, ◌==◌, ◌+◌, ◌≤◌, ◌<◌, ◌++◌, Bool, true, false, List, [], ◌∷◌, Option, None, Some, All, Contains, refl, if◌then◌else◌, position, is_some, slice_set, nat_lt, length, remove, unwrap_or, count_by}
+use Rattle.std.specs.Prelude.{◌≡◌, ◌⊎◌, ℕ, ◌==◌, ◌+◌, ◌≤◌, ◌<◌, ◌++◌, Bool, true, false, List, [], ◌∷◌, Option, None, Some, All, Contains, refl, if◌then◌else◌, position, is_some, slice_set, length, remove, unwrap_or, count_by}
 use Rattle.std.specs.List.{filter_map}
 use Rattle.std.proofs.Common.{◌∙◌, ap, sym, subst, inl, inr, arith, ⊎_elim, cond, rules, get_or, suc, zero}
 use Rattle.std.proofs.lemmas.Bool.{false≢true, cases_Bool, eqb-true, eq-eqb}
@@ -12,7 +12,6 @@ use Rattle.otp_table.specs.declared.row.Row.{Row}
 use Rattle.otp_table.specs.declared.row.RowState.{RowState}
 use Rattle.otp_table.specs.declared.row.RowState.TheVariants.{Undefined, Starting, Up, Asked, Killed, Restarting}
 use Rattle.otp_table.specs.Rows.{free_slot, has_process, is_awaited, slot_of, with_state}
-use Rattle.otp_window.specs.Period.{in_period}
 use Rattle.otp_rules.specs.declared.call.Reply.{Reply}
 use Rattle.otp_rules.specs.declared.ending.Ending.{Ending}
 use Rattle.otp_rules.specs.declared.ending.Ending.TheVariants as ending
@@ -31,7 +30,7 @@ use Rattle.otp_rules.specs.Restarts.{affected_from, affected_to, running}
 use Rattle.otp_rules.specs.Stops.{calm_all, is_exit, stop_each, stop_order, tell, tell_row, terminate, terminate_ordered, terminate_together, told, use_exit, without}
 use Rattle.otp_rules.specs.Work.{advance, follow, start_first, stop_first}
 use Rattle.otp_rules.specs.Starts.{is_due, start, start_row}
-use Rattle.otp_rules.specs.Deaths.{restart, restart_or_end, restart_rows}
+use Rattle.otp_rules.specs.Deaths.{restart, restart_rows}
 use Rattle.otp_rules.specs.Calls.{new_row}
 use Rattle.otp_rules.specs.Step.{decide, kill_order, late_number, open_rows, stamped, step, step_on, tick}
 use Rattle.otp_rules.specs.Run.{empty_state, state_after}
@@ -39,7 +38,7 @@ use Rattle.otp_rules.specs.Needs.{numbers_of}
 use Rattle.otp_rules.specs.Progress.{no_progress, progress}
 use Rattle.otp_rules.specs.Fit.{Fits, IsNamed, is_told, next_number, rows_in}
 use Rattle.otp_rules.specs.Named.{OrdersNameRows, OrdersNameRowsFrom, named_by}
-use Rattle.otp_rules.proofs.Walks.{advance-by, stop_each-by, stop_first-by, with_stops}
+use Rattle.otp_rules.proofs.Walks.{advance-by, restart-by, stop_each-by, stop_first-by, with_stops}
 use Rattle.otp_rules.proofs.Decisions.{IsUnmoved, SurvivesEvent, at_number-survives, by_test, decide-survives, decide-survives_event}
 use Rattle.otp_rules.proofs.Counting.{Alike, at_row-first, end_row-quiet, found, none_in, rows_in-at, rows_in-cons, rows_in-end, rows_in-set, there, tick_count, told-told, use_exit-alike, use_exit-quiet, without_count}
 use Rattle.otp_rules.proofs.InTurn.{TakesReplies, follow-orders, none_told}
@@ -172,14 +171,13 @@ terminate-tells e o none =
     (λ _. nothing-tells (terminate_ordered e o) none)
 
 restart-tells : (p place : ℕ) (row : Row) (o : Outcome) → o.orders ≡ [] → Tells (restart p place row o)
-unfolding restart restart_or_end restart_rows
+unfolding restart_rows
 restart-tells p place row o none =
     let counted : Outcome = with_stamps (o.state.stamps ++ o.state.last ∷ []) (set_row place row Undefined o) in
     let strategy : Strategy = o.state.flags.strategy in
     let count : ℕ = length counted.state.rows in
     let started : Outcome = restart_rows (affected_from strategy place) (affected_to strategy place count) place p counted in
-    by_test Tells (nat_lt o.state.flags.intensity (in_period o.state.flags.period (o.state.stamps ++ o.state.last ∷ []) o.state.last))
-    (terminate ending.Intensity counted) started
+    restart-by Tells p place row o
     (λ _. terminate-tells ending.Intensity counted none)
     (λ _. nothing-tells started none)
 

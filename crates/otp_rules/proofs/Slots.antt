@@ -13,7 +13,6 @@ use Rattle.otp_table.specs.declared.row.Row.{Row}
 use Rattle.otp_table.specs.declared.row.RowState.{RowState}
 use Rattle.otp_table.specs.declared.row.RowState.TheVariants.{Undefined, Starting, Up, Asked, Killed, Restarting}
 use Rattle.otp_table.specs.Rows.{free_from, free_slot, has_process, has_slot, row_has, with_state, calm_rows, calmed}
-use Rattle.otp_window.specs.Period.{in_period}
 use Rattle.otp_rules.specs.declared.call.Reply.{Reply}
 use Rattle.otp_rules.specs.declared.ending.Ending.{Ending}
 use Rattle.otp_rules.specs.declared.ending.Ending.TheVariants as ending
@@ -31,7 +30,7 @@ use Rattle.otp_rules.specs.Stops.{calm_all, is_exit, without, told, tell_row, te
 use Rattle.otp_rules.specs.Starts.{is_due, start_row, start}
 use Rattle.otp_rules.specs.Ends.{refuse_all, end_all}
 use Rattle.otp_rules.specs.Work.{follow, start_first, stop_first, advance}
-use Rattle.otp_rules.specs.Deaths.{restart_rows, restart_or_end, restart}
+use Rattle.otp_rules.specs.Deaths.{restart_rows, restart}
 use Rattle.otp_rules.specs.Calls.{new_row}
 use Rattle.otp_rules.specs.Step.{tick, decide, stamped, step, step_on, killed, late_number}
 use Rattle.otp_rules.specs.Run.{empty_state, state_after}
@@ -43,7 +42,7 @@ use Rattle.otp_spec.specs.Flags.{are_lawful_flags}
 use Rattle.otp_spec.specs.Lawful.{first_fault}
 use Rattle.otp_rules.specs.Slots.{SlotsOwned, SlotsStayOwned, SlotsTellProcesses}
 use Rattle.otp_rules.specs.Step.{rows_from, open_with, open_rows, opening_specs}
-use Rattle.otp_rules.proofs.Walks.{advance-by, stop_each-by, stop_first-by, with_stops, terminate-by}
+use Rattle.otp_rules.proofs.Walks.{advance-by, restart-by, stop_each-by, stop_first-by, terminate-by, with_stops}
 use Rattle.otp_rules.proofs.Keeps.{step_keeps_plan_law}
 use Rattle.otp_rules.proofs.Numbers.{affected_in_order, counted_length}
 use Rattle.otp_rules.proofs.Counting.{set_count, remove_count}
@@ -217,15 +216,12 @@ restart_rows-slots from to place n o le h =
     omega (arith, holding-append k (take from rows ++ calm_rows part) (drop to rows), holding-append k (take from rows) (calm_rows part), calm-slots part k, split, all)) h
 
 restart-slots : (p place : ℕ) (row : Row) (o : Outcome) → StandsAt place row o → AllSlotted o → AllSlotted (restart p place row o)
-unfolding restart restart_or_end
 restart-slots p place row o at h =
     let counted : Outcome = with_stamps (o.state.stamps ++ o.state.last ∷ []) (set_row place row Undefined o) in
     let strategy : Strategy = o.state.flags.strategy in
     let count : ℕ = length (slice_set o.state.rows place (with_state Undefined row)) in
     let down : AllSlotted counted = fewer o.state.rows counted.state.rows (set-slots place row Undefined o.state.rows at) h in
-    by_test AllSlotted (nat_lt o.state.flags.intensity (in_period o.state.flags.period (o.state.stamps ++ o.state.last ∷ []) o.state.last))
-    (terminate ending.Intensity counted)
-    (restart_rows (affected_from strategy place) (affected_to strategy place count) place p counted)
+    restart-by AllSlotted p place row o
     (λ _. terminate-slots ending.Intensity counted down)
     (λ _. restart_rows-slots (affected_from strategy place) (affected_to strategy place count) place p counted
     (affected_in_order strategy place count (omega (arith, counted_length place row o at))) down)

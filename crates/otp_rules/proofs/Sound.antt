@@ -1,5 +1,5 @@
 -- What the open work awaits, and that what it is to stop is there.
-use Rattle.std.specs.Prelude.{◌≡◌, ◌⊎◌, ℕ, ◌==◌, ◌+◌, ◌-◌, ◌≤◌, ◌++◌, ◌&&◌, Bool, true, false, List, [], ◌∷◌, Option, None, Some, refl, position, is_some, slice_set, slice_range, nat_lt, length, remove, unwrap_or, reverse, take, drop}
+use Rattle.std.specs.Prelude.{◌≡◌, ◌⊎◌, ℕ, ◌==◌, ◌+◌, ◌-◌, ◌≤◌, ◌++◌, ◌&&◌, Bool, true, false, List, [], ◌∷◌, Option, None, Some, refl, position, is_some, slice_set, slice_range, length, remove, unwrap_or, reverse, take, drop}
 use Rattle.std.proofs.Common.{◌∙◌, ap, sym, subst, inl, inr, arith, cond}
 use Rattle.std.proofs.lemmas.Bool.{cond_both, false≢true, and_parts}
 use Rattle.otp_spec.specs.declared.child.ChildSpec.{ChildSpec}
@@ -8,7 +8,6 @@ use Rattle.otp_table.specs.declared.row.Row.{Row}
 use Rattle.otp_table.specs.declared.row.RowState.{RowState}
 use Rattle.otp_table.specs.declared.row.RowState.TheVariants.{Undefined, Starting, Up, Asked, Killed, Restarting}
 use Rattle.otp_table.specs.Rows.{has_process, is_awaited, row_has, with_state, calm_rows, free_slot}
-use Rattle.otp_window.specs.Period.{in_period}
 use Rattle.otp_rules.specs.declared.call.Reply.{Reply}
 use Rattle.otp_rules.specs.declared.ending.Ending.{Ending}
 use Rattle.otp_rules.specs.declared.event.Kind.{Kind}
@@ -22,14 +21,14 @@ use Rattle.otp_rules.specs.Stops.{calm_all, is_exit, without, told, tell_row, te
 use Rattle.otp_rules.specs.Starts.{is_due, start_row, start}
 use Rattle.otp_rules.specs.Ends.{refuse_all, end_all}
 use Rattle.otp_rules.specs.Work.{follow, start_first, stop_first, advance}
-use Rattle.otp_rules.specs.Deaths.{restart_rows, restart_or_end, restart}
+use Rattle.otp_rules.specs.Deaths.{restart_rows, restart}
 use Rattle.otp_rules.specs.Calls.{new_row}
 use Rattle.otp_rules.specs.Step.{rows_from, open_with, open_rows, opening_specs, tick}
 use Rattle.otp_rules.specs.Run.{empty_state}
 use Rattle.otp_rules.specs.Progress.{is_end}
 use Rattle.otp_rules.specs.Fit.{is_told, rows_in, times, runs_as, IsLimited, IsCovered, IsSound}
-use Rattle.otp_rules.proofs.Walks.{advance-by, stop_first-by, terminate-by}
-use Rattle.otp_rules.proofs.Decisions.{IsIdle, IsRunning, StandsAt, Survives, at_row-survives, at_number-survives, by_test}
+use Rattle.otp_rules.proofs.Walks.{advance-by, restart-by, stop_first-by, terminate-by}
+use Rattle.otp_rules.proofs.Decisions.{IsIdle, IsRunning, StandsAt, Survives, at_row-survives, at_number-survives}
 use Rattle.otp_rules.proofs.Counting.{times-cons, rows_in-cons, rows_in-append, remove_count, rows_in-set, rows_in-at, rows_in-end, Alike, end_row-alike, stop_each-alike, told-runs, runs_number, times-reverse, running_counted, calm_awaited, tick_count, take_rows, drop_rows, none_in, there}
 use Rattle.otp_rules.specs.declared.ending.Ending.TheVariants as ending
 use Rattle.otp_rules.specs.declared.work.Sequel.TheVariants as sequel
@@ -138,12 +137,9 @@ down-awaited : (p place : ℕ) (row : Row) (o : Outcome) → StandsAt place row 
 down-awaited p place row o at = let e : rows_in is_awaited (slice_set o.state.rows place (with_state Undefined row)) + cond (is_awaited row.state) 1 0 ≡ rows_in is_awaited o.state.rows + 0 = rows_in-set is_awaited place row Undefined o.state.rows at in omega (arith, e)
 
 restart-sound : (b : Bool) (p place : ℕ) (row : Row) (o : Outcome) → IsIdle b o → IsRunning o → StandsAt place row o → IsSound o.state → IsSound (restart p place row o).state
-unfolding restart restart_or_end
 restart-sound b p place row o idle runs at g =
     let counted : Outcome = with_stamps (o.state.stamps ++ o.state.last ∷ []) (set_row place row Undefined o) in
-    by_test (λ x. IsSound x.state) (nat_lt o.state.flags.intensity (in_period o.state.flags.period (o.state.stamps ++ o.state.last ∷ []) o.state.last))
-    (terminate ending.Intensity counted)
-    (restart_rows (affected_from o.state.flags.strategy place) (affected_to o.state.flags.strategy place (length counted.state.rows)) place p counted)
+    restart-by (λ x. IsSound x.state) p place row o
     (λ _. terminate-sound ending.Intensity counted runs)
     (λ _. restart_rows-sound (affected_from o.state.flags.strategy place) (affected_to o.state.flags.strategy place (length counted.state.rows)) place p counted runs
     (omega (arith, awaits_nothing b o idle g, down-awaited p place row o at)))

@@ -2,7 +2,6 @@
 -- event keeps. One walk through decisions and open work, for all laws of that kind.
 use Rattle.std.specs.Prelude.{◌≡◌, ◌⊎◌, ℕ, Bool, true, false, List, [], ◌∷◌, ◌++◌, Option, Some, refl, position, nat_lt, remove, reverse, unwrap_or}
 use Rattle.std.proofs.Common.{inl, inr}
-use Rattle.std.proofs.lemmas.Bool.{cond_both}
 use Rattle.otp_window.specs.Period.{in_period}
 use Rattle.otp_reason.specs.declared.name.Name.{Name}
 use Rattle.otp_spec.specs.declared.child.Shutdown.{Shutdown}
@@ -26,10 +25,10 @@ use Rattle.otp_rules.specs.Restarts.{running}
 use Rattle.otp_rules.specs.Stops.{calm_all, is_exit, stop_order, without, tell_row, tell, use_exit, stop_each, terminate}
 use Rattle.otp_rules.specs.Starts.{is_due, start_row, start}
 use Rattle.otp_rules.specs.Work.{follow, start_first, stop_first, advance}
-use Rattle.otp_rules.specs.Deaths.{restart_rows, restart_or_end, restart}
+use Rattle.otp_rules.specs.Deaths.{restart_rows, restart}
 use Rattle.otp_rules.specs.Step.{open_rows, tick, decide, stamped, step_on, step}
 use Rattle.otp_rules.specs.Progress.{is_end}
-use Rattle.otp_rules.proofs.Walks.{advance-by, stop_each-by, stop_first-by, with_stops, terminate-by}
+use Rattle.otp_rules.proofs.Walks.{advance-by, restart-by, stop_each-by, stop_first-by, terminate-by, with_stops}
 use Rattle.otp_rules.proofs.Decisions.{IsIdle, IsRunning, Survives, at_row-survives, at_number-survives, by_test, decide-survives}
 
 -- each kind of change that open work makes keeps the property
@@ -100,11 +99,11 @@ terminate-goes P t e o x =
 
 -- a restart
 restart-steady : (e : Kind) (b : Bool) (P : Outcome → Type 0) → Steady e b P → (k place : ℕ) (row : Row) (o : Outcome) → IsIdle b o → IsRunning o → P o → P (restart k place row o)
-unfolding restart restart_or_end restart_rows
+unfolding restart_rows
 restart-steady e b P t k place row o idle runs x =
     let down : Outcome = set_row place row Undefined o in
     let counted : Outcome = with_stamps (o.state.stamps ++ o.state.last ∷ []) down in
-    cond_both (nat_lt o.state.flags.intensity (in_period o.state.flags.period (o.state.stamps ++ o.state.last ∷ []) o.state.last)) _ _ P
+    restart-by P k place row o
     (λ many. terminate-goes P t.goes ending.Intensity counted (λ ps. t.exceeds ps down idle runs many (t.goes.rows _ o x)))
     (λ few. t.goes.rows _ _ (t.restarts _ _ down idle runs few (t.goes.rows _ o x)))
 

@@ -1,12 +1,18 @@
 -- The walk over open work, and what a decision to end begins with: what each step keeps, the walk keeps.
-use Rattle.std.specs.Prelude.{◌≡◌, ℕ, Bool, true, false, List, [], ◌∷◌, Some, if◌then◌else◌, position, is_some, reverse}
+use Rattle.std.specs.Prelude.{◌≡◌, ℕ, Bool, true, false, List, [], ◌∷◌, ◌++◌, Some, if◌then◌else◌, length, nat_lt, position, is_some, reverse}
 use Rattle.std.specs.List.{list_any}
+use Rattle.otp_window.specs.Period.{in_period}
+use Rattle.otp_table.specs.declared.row.Row.{Row}
+use Rattle.otp_table.specs.declared.row.RowState.TheVariants.{Undefined}
 use Rattle.otp_table.specs.Rows.{is_awaited, row_has}
 use Rattle.otp_rules.specs.declared.ending.Ending.{Ending}
+use Rattle.otp_rules.specs.declared.ending.Ending.TheVariants as ending
 use Rattle.otp_rules.specs.declared.work.Sequel.TheVariants as sequel
 use Rattle.otp_spec.specs.Flags.{is_simple}
-use Rattle.otp_rules.specs.State.{Outcome, is_busy, with_work}
-use Rattle.otp_rules.specs.Restarts.{running}
+use Rattle.otp_rules.specs.State.{Outcome, is_busy, with_stamps, with_work}
+use Rattle.otp_rules.specs.Restarts.{affected_from, affected_to, running}
+use Rattle.otp_rules.specs.Places.{set_row}
+use Rattle.otp_rules.specs.Deaths.{restart_rows, restart_or_end, restart}
 use Rattle.otp_rules.specs.Stops.{calm_all, is_exit, tell, use_exit, stop_each, terminate_ordered, terminate_together, terminate}
 use Rattle.otp_rules.specs.Work.{start_first, stop_first, advance}
 use Rattle.otp_rules.proofs.Decisions.{by_test}
@@ -40,6 +46,22 @@ pub terminate-by : (P : Outcome → Type 0) (e : Ending) (o : Outcome)
     → P (terminate e o)
 unfolding terminate terminate_together terminate_ordered
 terminate-by P e o together ordered = by_test P (is_simple o.state.flags.strategy) (terminate_together e o) (terminate_ordered e o) together ordered
+
+-- the restart at a place is counted, and its row is down
+abbrev pub counted_restart : ℕ → Row → Outcome → Outcome
+counted_restart place row o = with_stamps (o.state.stamps ++ o.state.last ∷ []) (set_row place row Undefined o)
+
+-- one restart too many ends the supervisor; else a range of rows is restarted
+pub restart-by : (P : Outcome → Type 0) (k place : ℕ) (row : Row) (o : Outcome)
+    → (nat_lt o.state.flags.intensity (in_period o.state.flags.period (o.state.stamps ++ o.state.last ∷ []) o.state.last) ≡ true → P (terminate ending.Intensity (counted_restart place row o)))
+    → (nat_lt o.state.flags.intensity (in_period o.state.flags.period (o.state.stamps ++ o.state.last ∷ []) o.state.last) ≡ false
+    → P (restart_rows (affected_from o.state.flags.strategy place) (affected_to o.state.flags.strategy place (length (counted_restart place row o).state.rows)) place k (counted_restart place row o)))
+    → P (restart k place row o)
+unfolding restart restart_or_end
+restart-by P k place row o ends restarts =
+    let counted : Outcome = counted_restart place row o in
+    by_test P (nat_lt o.state.flags.intensity (in_period o.state.flags.period (o.state.stamps ++ o.state.last ∷ []) o.state.last)) (terminate ending.Intensity counted)
+    (restart_rows (affected_from o.state.flags.strategy place) (affected_to o.state.flags.strategy place (length counted.state.rows)) place k counted) ends restarts
 
 -- the first child to stop ends at once if its end waits, and is told to stop else. S: what holds with so many still to stop
 pub stop_first-by : (S : List ℕ → Outcome → Type 0) (P : Outcome → Type 0) (n : ℕ) → ((o : Outcome) → S [] o → P (start_first o.state.to_start n o))

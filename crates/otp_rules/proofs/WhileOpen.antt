@@ -1,13 +1,12 @@
 -- What holds while one piece of work stays open: what the few changes keep that leave it open, every decision keeps, or it
 -- closes the work, or opens another. One walk, for what has been stopped and for what has been started.
-use Rattle.std.specs.Prelude.{◌≡◌, ◌⊎◌, ℕ, ◌==◌, ◌++◌, Bool, true, false, [], ◌∷◌, Option, None, Some, refl, is_some, nat_lt, remove}
+use Rattle.std.specs.Prelude.{◌≡◌, ◌⊎◌, ℕ, ◌==◌, ◌++◌, Bool, true, false, [], ◌∷◌, Option, None, Some, refl, is_some, remove}
 use Rattle.std.proofs.Common.{◌∙◌, ap, sym, subst, inl, inr}
-use Rattle.std.proofs.lemmas.Bool.{cond_both, false≢true}
+use Rattle.std.proofs.lemmas.Bool.{false≢true}
 use Rattle.otp_reason.specs.declared.reason.Reason.{Reason}
 use Rattle.otp_table.specs.declared.row.Row.{Row}
 use Rattle.otp_table.specs.declared.row.RowState.TheVariants.{Undefined, Starting, Up, Restarting}
 use Rattle.otp_table.specs.Rows.{free_slot}
-use Rattle.otp_window.specs.Period.{in_period}
 use Rattle.otp_rules.specs.declared.call.Call.{Call}
 use Rattle.otp_rules.specs.declared.call.Reply.{Reply}
 use Rattle.otp_rules.specs.declared.ending.Ending.{Ending}
@@ -17,12 +16,12 @@ use Rattle.otp_rules.specs.State.{Outcome, State, answer, closed, put_last, with
 use Rattle.otp_rules.specs.Places.{end_row, set_row}
 use Rattle.otp_rules.specs.Restarts.{running}
 use Rattle.otp_rules.specs.Stops.{calm_all, terminate}
-use Rattle.otp_rules.specs.Deaths.{restart_rows, restart_or_end, restart}
+use Rattle.otp_rules.specs.Deaths.{restart_rows, restart}
 use Rattle.otp_rules.specs.Calls.{new_row}
 use Rattle.otp_rules.specs.Step.{open_with, open_rows, tick}
 use Rattle.otp_rules.specs.Progress.{is_opened}
 use Rattle.otp_rules.specs.Fit.{is_told, IsSound}
-use Rattle.otp_rules.proofs.Walks.{terminate-by}
+use Rattle.otp_rules.proofs.Walks.{restart-by, terminate-by}
 use Rattle.otp_rules.proofs.Decisions.{IsNoted, StandsAt, Survives}
 use Rattle.otp_rules.proofs.Counting.{Alike, alike, end_row-alike, stop_each-alike}
 use Rattle.otp_rules.proofs.Sound.{sound-survives}
@@ -90,10 +89,10 @@ terminate-follows e o =
     (λ _. refl)
 
 pub restart-busy : (p place : ℕ) (row : Row) (o : Outcome) → is_some (restart p place row o).state.follows ≡ true
-unfolding restart restart_or_end restart_rows
+unfolding restart_rows
 restart-busy p place row o =
     let counted : Outcome = with_stamps (o.state.stamps ++ o.state.last ∷ []) (set_row place row Undefined o) in
-    cond_both (nat_lt o.state.flags.intensity (in_period o.state.flags.period (o.state.stamps ++ o.state.last ∷ []) o.state.last)) _ _ (λ (x : Outcome). is_some x.state.follows ≡ true)
+    restart-by (λ (x : Outcome). is_some x.state.follows ≡ true) p place row o
     (λ _. ap (λ (f : Option Sequel). is_some f) (terminate-follows ending.Intensity counted))
     (λ _. refl)
 
