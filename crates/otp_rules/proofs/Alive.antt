@@ -11,7 +11,6 @@ use Rattle.std.proofs.lemmas.List.Quantifiers.{position-Some}
 use Rattle.std.proofs.lemmas.List.Sums.{sum_by-remove}
 use Rattle.otp_reason.specs.declared.note.Note.{Note}
 use Rattle.otp_reason.specs.declared.note.Note.TheVariants as note
-use Rattle.otp_spec.specs.declared.flags.Strategy.{Strategy}
 use Rattle.otp_table.specs.declared.row.Row.{Row}
 use Rattle.otp_table.specs.declared.row.RowState.{RowState}
 use Rattle.otp_table.specs.declared.row.RowState.TheVariants.{Undefined, Starting, Up, Asked, Killed, Restarting}
@@ -30,9 +29,9 @@ use Rattle.otp_rules.specs.declared.work.Sequel.{Sequel}
 use Rattle.otp_rules.specs.declared.work.Sequel.TheVariants as sequel
 use Rattle.otp_rules.specs.declared.work.Due.{Due}
 use Rattle.otp_spec.specs.Flags.{is_simple}
-use Rattle.otp_rules.specs.State.{Outcome, State, answer, is_busy, with_rows, with_stamps, with_waiting, with_work}
+use Rattle.otp_rules.specs.State.{Outcome, State, answer, is_busy, with_rows, with_waiting, with_work}
 use Rattle.otp_rules.specs.Places.{end_row, end_process, is_removed, set_row}
-use Rattle.otp_rules.specs.Restarts.{affected_from, affected_to, running}
+use Rattle.otp_rules.specs.Restarts.{running}
 use Rattle.otp_rules.specs.Stops.{calm_all, is_exit, without, told, tell_row, tell, use_exit, stop_each, terminate}
 use Rattle.otp_rules.specs.Starts.{is_due, start_row, start}
 use Rattle.otp_rules.specs.Ends.{end_all, refuse_all}
@@ -55,15 +54,15 @@ use Rattle.otp_rules.specs.Homes.{Brings, end_number}
 use Rattle.otp_rules.specs.Fit.{rows_in, is_starting, IsLimited, IsSound}
 use Rattle.otp_rules.specs.Progress.{is_end}
 use Rattle.otp_rules.specs.Alive.{EndsChild, LivesIn, ProcessesLived, is_told_by}
-use Rattle.otp_rules.proofs.Walks.{advance-by, restart-by, stop_each-by, stop_first-by, terminate-by, with_stops}
+use Rattle.otp_rules.proofs.Walks.{advance-by, stop_each-by, stop_first-by, terminate-by, with_stops, counted_restart}
 use Rattle.otp_rules.proofs.Calm.{IsCalm, is_stop, run-calm}
 use Rattle.otp_rules.proofs.Decisions.{SurvivesEvent, StandsAt, at_row-survives, at_number-survives, by_test, decide-survives_event}
-use Rattle.otp_rules.proofs.Counting.{at_row-found, end_row-quiet, put_count, remove_count, rows_in-at, rows_in-cons, rows_in-end, rows_in-set, set_count, tick_count, use_exit-quiet}
+use Rattle.otp_rules.proofs.Counting.{at_row-found, end_row-quiet, put_count, remove_count, rows_in-at, rows_in-cons, rows_in-end, rows_in-set, set_count, tick_count, use_exit-quiet, rows_in-apart}
 use Rattle.otp_rules.proofs.EndedRows.{IsBare}
 use Rattle.otp_rules.proofs.Finishing.{AreOne, Finishes, not_starting, zero_or_more}
 use Rattle.otp_rules.proofs.Homes.{has_starting, same_process}
 use Rattle.otp_rules.proofs.Lasting.{IsInOrder, calm-lives, contains_counts, counts_contain, is_live, lives, map-lives, run-in_order, tick_one}
-use Rattle.otp_rules.proofs.Numbers.{NoMore, affected_in_order, calm_process, counted_length, end-no_more, holders, no_more-survives, remove-no_more, restart_rows-no_more, set-no_more, tell-no_more, terminate-no_more, told_process, use_exit-no_more}
+use Rattle.otp_rules.proofs.Numbers.{NoMore, calm_process, end-no_more, holders, no_more-survives, remove-no_more, restart_rows-no_more, set-no_more, tell-no_more, terminate-no_more, told_process, use_exit-no_more, restart-within}
 use Rattle.otp_rules.proofs.Sound.{empty-sound}
 
 -- how many Exits of the process wait
@@ -236,17 +235,10 @@ restarted-fewer slot p from to rows le =
 restart-stays : (D : Type 0) (slot p m k place : ℕ) (row : Row) (o : Outcome) → StandsAt place row o → Stays D slot p m (set_row place row Undefined o) → Stays D slot p m (restart k place row o)
 unfolding restart_rows
 restart-stays D slot p m k place row o at h =
-    let down : Outcome = set_row place row Undefined o in
-    let counted : Outcome = with_stamps (o.state.stamps ++ o.state.last ∷ []) down in
-    let rows : List Row = down.state.rows in
-    let strategy : Strategy = o.state.flags.strategy in
-    let from : ℕ = affected_from strategy place in
-    let to : ℕ = affected_to strategy place (length rows) in
-    let le : from ≤ to = affected_in_order strategy place (length rows) (omega (arith, counted_length place row o at)) in
+    let counted : Outcome = counted_restart place row o in
+    restart-within (Stays D slot p m) k place row o at (terminate-stays D slot p m ending.Intensity counted h) (λ from to le.
     let less : NoMore counted (restart_rows from to place k counted) = restart_rows-no_more from to place k counted counted le (same_less counted) in
-    restart-by (Stays D slot p m) k place row o
-    (λ _. terminate-stays D slot p m ending.Intensity counted h)
-    (λ _. stays-less D slot p m counted (restart_rows from to place k counted) (less p) (omega arith) (restarted-fewer slot p from to rows le) h)
+    stays-less D slot p m counted (restart_rows from to place k counted) (less p) (omega arith) (restarted-fewer slot p from to counted.state.rows le) h)
 
 answer-stays : (D : Type 0) (slot p m c : ℕ) (r : Reply) (o : Outcome) → Stays D slot p m o → Stays D slot p m (answer c r o)
 unfolding answer
@@ -378,16 +370,10 @@ after_end-none p q row o none =
 
 restart-none : (p k place : ℕ) (row : Row) (o : Outcome) → StandsAt place row o → holders p (set_row place row Undefined o) ≡ 0 → holders p (restart k place row o) ≡ 0
 restart-none p k place row o at none =
-    let counted : Outcome = with_stamps (o.state.stamps ++ o.state.last ∷ []) (set_row place row Undefined o) in
-    let strategy : Strategy = o.state.flags.strategy in
-    let from : ℕ = affected_from strategy place in
-    let to : ℕ = affected_to strategy place (length counted.state.rows) in
-    let le : from ≤ to = affected_in_order strategy place (length counted.state.rows) (omega (arith, counted_length place row o at)) in
-    let over : NoMore counted (terminate ending.Intensity counted) = terminate-no_more ending.Intensity counted counted (same_less counted) in
-    let again : NoMore counted (restart_rows from to place k counted) = restart_rows-no_more from to place k counted counted le (same_less counted) in
-    restart-by (λ (x : Outcome). holders p x ≡ 0) k place row o
-    (λ _. omega (arith, over p, none))
-    (λ _. omega (arith, again p, none))
+    let counted : Outcome = counted_restart place row o in
+    restart-within (λ (x : Outcome). holders p x ≡ 0) k place row o at
+    (let over : NoMore counted (terminate ending.Intensity counted) = terminate-no_more ending.Intensity counted counted (same_less counted) in omega (arith, over p, none))
+    (λ from to le. let again : NoMore counted (restart_rows from to place k counted) = restart_rows-no_more from to place k counted counted le (same_less counted) in omega (arith, again p, none))
 
 death-none : (p : ℕ) (r : Reason) (place : ℕ) (row : Row) (o : Outcome) → holders p o ≤ 1 → StandsAt place row o → has_process p row.state ≡ true → holders p (death p r place row o) ≡ 0
 unfolding death
@@ -428,8 +414,7 @@ is_past_start p (Killed q) = q == p
 is_past_start p (Restarting _) = false
 
 two_kinds : (p : ℕ) (rows : List Row) → rows_in (is_starting p) rows + rows_in (is_past_start p) rows ≤ rows_in (has_process p) rows
-two_kinds p [] = omega arith
-two_kinds p (row ∷ rows) = omega (arith, one row.state, rows_in-cons (is_starting p) row rows, rows_in-cons (is_past_start p) row rows, rows_in-cons (has_process p) row rows, two_kinds p rows)
+two_kinds p = rows_in-apart (is_starting p) (is_past_start p) (has_process p) one
   where
     one : (state : RowState) → cond (is_starting p state) 1 0 + cond (is_past_start p state) 1 0 ≤ cond (has_process p state) 1 0
     one Undefined = omega arith

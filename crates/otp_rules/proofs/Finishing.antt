@@ -3,7 +3,6 @@ use Rattle.std.specs.Prelude.{◌≡◌, ◌⊎◌, ℕ, ◌==◌, ◌+◌, ◌�
 use Rattle.std.specs.List.{cons_option}
 use Rattle.std.proofs.Common.{◌∙◌, ap, sym, subst, inl, inr, arith, ⊎_elim, cond}
 use Rattle.std.proofs.lemmas.Bool.{false≢true, cases_Bool, eqb-true}
-use Rattle.std.proofs.lemmas.List.Sums.{sum_by-le-sum_by}
 use Prim.Native.Nat.{zero, suc}
 use Rattle.otp_spec.specs.declared.child.Shutdown.{Shutdown}
 use Rattle.otp_spec.specs.declared.child.Shutdown.TheVariants.{BrutalKill, Milliseconds, Infinity}
@@ -31,7 +30,7 @@ use Rattle.otp_rules.specs.Progress.{is_end}
 use Rattle.otp_rules.specs.Fit.{is_told, rows_in, times, runs_as, IsLimited, IsSound}
 use Rattle.otp_rules.proofs.Walks.{advance-by, restart-by, stop_first-by, terminate-by}
 use Rattle.otp_rules.proofs.Decisions.{StandsAt, Survives, at_row-survives, by_test, decide-survives}
-use Rattle.otp_rules.proofs.Counting.{Alike, at_row-found, end_row-alike, none_in, rows_in-at, rows_in-cons, rows_in-end, rows_in-map, rows_in-set, tell-alike, tick_count, times-cons, times-reverse, told-runs, told-told, use_exit-alike}
+use Rattle.otp_rules.proofs.Counting.{Alike, at_row-found, end_row-alike, none_in, rows_in-at, rows_in-cons, rows_in-end, rows_in-map, rows_in-set, tell-alike, tick_count, times-cons, times-reverse, told-runs, told-told, use_exit-alike, rows_in-apart, rows_in-le}
 use Rattle.otp_rules.proofs.Sound.{IsReady, awaits_nothing, sound-survives, used-ready}
 use Rattle.otp_rules.proofs.Numbers.{NoMore, holders, no_more-survives, set-no_more, tell-no_more, use_exit-no_more, calm_process, told_process}
 
@@ -53,7 +52,7 @@ abbrev pub AreOne : Outcome → Type 0
 AreOne o = (q : ℕ) → holders q o ≤ 1
 
 pub begun_awaited : (rows : List Row) → rows_in is_begun rows ≤ rows_in is_awaited rows
-begun_awaited rows = sum_by-le-sum_by (λ (row : Row). cond (is_begun row.state) 1 0) (λ (row : Row). cond (is_awaited row.state) 1 0) rows (λ row. awaits row.state)
+begun_awaited = rows_in-le is_begun is_awaited awaits
   where
     awaits : (state : RowState) → cond (is_begun state) 1 0 ≤ cond (is_awaited state) 1 0
     awaits Undefined = omega arith
@@ -65,8 +64,7 @@ begun_awaited rows = sum_by-le-sum_by (λ (row : Row). cond (is_begun row.state)
 
 -- a row has one state
 runs_or_told : (q : ℕ) (rows : List Row) → rows_in (runs_as q) rows + rows_in (is_told q) rows ≤ rows_in (has_process q) rows
-runs_or_told q [] = omega arith
-runs_or_told q (row ∷ rows) = omega (arith, one row.state, rows_in-cons (runs_as q) row rows, rows_in-cons (is_told q) row rows, rows_in-cons (has_process q) row rows, runs_or_told q rows)
+runs_or_told q = rows_in-apart (runs_as q) (is_told q) (has_process q) one
   where
     one : (state : RowState) → cond (runs_as q state) 1 0 + cond (is_told q state) 1 0 ≤ cond (has_process q state) 1 0
     one Undefined = omega arith

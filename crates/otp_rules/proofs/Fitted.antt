@@ -31,7 +31,8 @@ use Rattle.otp_rules.specs.Deaths.{restart_rows, restart}
 use Rattle.otp_rules.specs.Calls.{new_row}
 use Rattle.otp_rules.specs.Step.{due_of, rows_from, open_with, open_rows, opening_specs, killed, late_number, tick}
 use Rattle.otp_rules.specs.Run.{empty_state}
-use Rattle.otp_rules.specs.Fit.{is_told, rows_in, times, IsSound, is_free, IsFree, Matches, Fits, nameless, IsNamed, IsFitted}
+use Rattle.otp_rules.specs.Fit.{rows_in, times, IsSound, is_free, IsFree, Matches, Fits, nameless, IsNamed, IsFitted}
+use Rattle.otp_rules.proofs.States.{held_goes, told_has}
 use Rattle.otp_rules.proofs.Walks.{restart-by, terminate-by}
 use Rattle.otp_rules.proofs.Decisions.{IsIdle, StandsAt, Survives, by_test}
 use Rattle.std.specs.List.{cons_option, sum_by}
@@ -331,14 +332,6 @@ answer-fitted : (c : ℕ) (r : Reply) (o : Outcome) → IsFitted o.state → IsF
 unfolding answer
 answer-fitted c r o h = h
 
-told_goes : (ps : List ℕ) (p : ℕ) (state : RowState) → is_told p state ≡ true → is_free ps true state ≡ true → ⊥
-told_goes ps p Undefined h k = false≢true h
-told_goes ps p (Starting _ _) h k = false≢true h
-told_goes ps p (Up _) h k = false≢true h
-told_goes ps p (Asked _ _) h k = false≢true k
-told_goes ps p (Killed _) h k = false≢true k
-told_goes ps p (Restarting _) h k = false≢true h
-
 -- a child that starts isn't free
 starting_busy : (ps : List ℕ) (row : Row) (q kept : ℕ) → row.state ≡ Starting q kept → IsFree ps row → ⊥
 starting_busy ps row q kept is free = false≢true (sym (ap (λ (s : RowState). is_free ps (is_removed row) s) is) ∙ free)
@@ -375,7 +368,7 @@ fitted-survives k b =
       restarted_failed = λ place row q kept c o at is follows x. (s.restarted_failed place row q kept c o at is follows x.0, (set-named place row Undefined o at x.1.0, tt));
       stopped = λ p r place row o at told noted x. (
         s.stopped p r place row o at told noted x.0,
-        ended-fitted place row o at (λ goes free. told_goes o.state.to_stop p row.state told (sym (ap (λ (g : Bool). is_free o.state.to_stop g row.state) goes) ∙ free)) x.1,
+        ended-fitted place row o at (λ goes free. held_goes o.state.to_stop p row.state (told_has p row.state told) (sym (ap (λ (g : Bool). is_free o.state.to_stop g row.state) goes) ∙ free)) x.1,
       );
       died = λ p place row o idle runs at is x. (
         s.died p place row o idle runs at is x.0,

@@ -42,7 +42,8 @@ use Rattle.otp_rules.specs.Deaths.{restart_rows, restart}
 use Rattle.otp_rules.specs.Calls.{new_row}
 use Rattle.otp_rules.specs.Step.{open_rows, open_with, opening_specs, rows_from, tick, decide, stamped, step, step_on, killed, late_number}
 use Rattle.otp_rules.specs.Homes.{Brings, ComesHome, EndsProcess, HomesKept, HomesKeptFrom, IsAdded, IsNewNumber, IsFirst, IsOpened, WasThere, end_number, is_ended, is_home, is_start_call, is_started}
-use Rattle.otp_rules.specs.Fit.{is_told, rows_in}
+use Rattle.otp_rules.specs.Fit.{rows_in}
+use Rattle.otp_rules.proofs.States.{told_has}
 use Rattle.otp_rules.proofs.Walks.{advance-by, restart-by, stop_each-by, stop_first-by, terminate-by, with_stops}
 use Rattle.otp_rules.proofs.Decisions.{BringsExit, BringsFailure, StandsAt, SurvivesEvent, at_row-survives, at_number-survives, by_test, decide-survives_event, is_down}
 use Rattle.std.specs.Prelude.{length}
@@ -374,14 +375,6 @@ of_waiting what s G o vs is h = subst (λ (l : List Waiting). Each (Known what s
 
 put-known : (what : Kind) (s : State) (G : Item → Type 0) (x : Waiting) (o : Outcome) → ((p : ℕ) → is_ended p x ≡ false) → AllKnown what s G o → AllKnown what s G (put_last x o)
 put-known what s G x o quiet h = less_known what s G o.state.waiting (o.state.waiting ++ x ∷ []) (quiet_more o.state.waiting x quiet) o.state.rows h
-
-pub told_has : (p : ℕ) (state : RowState) → is_told p state ≡ true → has_process p state ≡ true
-told_has p Undefined h = absurd (false≢true h)
-told_has p (Starting _ _) h = absurd (false≢true h)
-told_has p (Up _) h = absurd (false≢true h)
-told_has p (Asked _ _) h = h
-told_has p (Killed _) h = h
-told_has p (Restarting _) h = absurd (false≢true h)
 
 down_home : (ws : List Waiting) (state : RowState) → is_down state ≡ true → is_home ws state ≡ true
 down_home ws Undefined h = refl

@@ -34,7 +34,7 @@ use Rattle.otp_rules.specs.Progress.{Progress, no_progress, is_end, is_opened, e
 use Rattle.otp_rules.specs.Fit.{is_told, rows_in, times, runs_as, IsSound, HasWaiting, HasStops, HasPart, Keeps, IsListed}
 use Rattle.otp_rules.proofs.Walks.{advance-by, restart-by}
 use Rattle.otp_rules.proofs.Decisions.{IsIdle, Survives, at_row-survives, by_test, decide-survives}
-use Rattle.otp_rules.proofs.Counting.{times-cons, times-append, rows_in-set, rows_in-at, Alike, end_row-alike, use_exit-alike, told-told, times-reverse, none_in, there, at_row-found, end_row-quiet, use_exit-quiet, without_count}
+use Rattle.otp_rules.proofs.Counting.{times-cons, times-append, rows_in-set, rows_in-at, Alike, end_row-alike, use_exit-alike, told-told, times-reverse, none_in, there, at_row-found, end_row-quiet, use_exit-quiet, without_count, rows_in-le}
 use Rattle.otp_rules.specs.Order.{StopsInTurn, IsToldTogether, IsStopInTurn, StopOrder, StopOrderFromEmpty}
 use Rattle.otp_rules.proofs.Sound.{IsReady, advance-sound, empty-sound, used-ready}
 use Rattle.otp_rules.proofs.Stopping.{Carried, apart-alike, carried-survives, not_busy}
@@ -42,7 +42,6 @@ use Rattle.otp_rules.proofs.WhileOpen.{fails_opening, no_after, opens_none}
 use Rattle.otp_rules.proofs.Opened.{decided-keeps, stands_at, started-carried, together, together-follows}
 use Rattle.otp_rules.specs.declared.ending.SupEnd.{SupEnd}
 use Rattle.otp_rules.specs.Ends.{sup_end_of, refusal, refuse_all, end_all}
-use Rattle.std.proofs.lemmas.List.Sums.{sum_by-le-sum_by}
 use Rattle.otp_rules.specs.declared.ending.Ending.TheVariants as ending
 use Rattle.otp_rules.specs.declared.event.Effect.TheVariants as effect
 use Rattle.otp_rules.specs.declared.event.Item.TheVariants as item
@@ -169,7 +168,7 @@ stands p ps o r =
     let t : times p o.state.to_stop ≡ times p (p ∷ ps) = ap (λ (xs : List ℕ). times p xs) r.2 in
     let one : ◌≡◌ {A = ℕ} (cond (p == p) 1 0) 1 = ap (λ (x : Bool). cond x 1 0) (eq-eqb p p refl) in
     let more : rows_in (runs_as p) o.state.rows ≤ rows_in (has_process p) o.state.rows =
-    sum_by-le-sum_by (λ (row : Row). cond (runs_as p row.state) 1 0) (λ (row : Row). cond (has_process p row.state) 1 0) o.state.rows (λ row. runs_has row.state) in
+    rows_in-le (runs_as p) (has_process p) runs_has o.state.rows in
     omega (arith, times-cons p p ps, t, one, r.0.1 p, more)
   where
     runs_has : (state : RowState) → cond (runs_as p state) 1 0 ≤ cond (has_process p state) 1 0
@@ -238,9 +237,7 @@ stop_first-in-turn g Q may (p ∷ ps) n o r w d all =
 -- where nothing is awaited, those that were told have ended
 pub none_told : (q : ℕ) (rows : List Row) → rows_in is_awaited rows ≡ 0 → 0 < rows_in (is_told q) rows → ⊥
 none_told q rows none some =
-    let more : rows_in (is_told q) rows ≤ rows_in is_awaited rows =
-    sum_by-le-sum_by (λ (row : Row). cond (is_told q row.state) 1 0) (λ (row : Row). cond (is_awaited row.state) 1 0) rows (λ row. told_awaits row.state) in
-    omega (arith, none, some, more)
+    omega (arith, none, some, rows_in-le (is_told q) is_awaited told_awaits rows)
   where
     told_awaits : (state : RowState) → cond (is_told q state) 1 0 ≤ cond (is_awaited state) 1 0
     told_awaits Undefined = omega arith

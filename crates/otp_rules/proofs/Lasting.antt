@@ -1,5 +1,5 @@
 -- A child's process stays its child's, in its slot, until the note of its end is taken.
-use Rattle.std.specs.Prelude.{◌≡◌, ◌⊎◌, ℕ, ◌==◌, ◌+◌, ◌≤◌, ◌<◌, ◌++◌, ◌&&◌, Bool, true, false, List, [], ◌∷◌, Option, None, Some, AllPairs, All, Contains, refl, position, is_some, nat_le, slice_set, slice_range, length, remove, map, take, drop, count_by, unwrap_or}
+use Rattle.std.specs.Prelude.{◌≡◌, ◌⊎◌, ℕ, ◌==◌, ◌+◌, ◌≤◌, ◌<◌, ◌++◌, ◌&&◌, Bool, true, false, List, [], ◌∷◌, Option, None, Some, AllPairs, All, Contains, refl, position, is_some, nat_le, slice_set, slice_range, remove, map, take, drop, count_by, unwrap_or}
 use Rattle.std.specs.List.{cons_option, list_any}
 use Rattle.std.proofs.Common.{◌∙◌, ap, sym, subst, inl, inr, arith, ⊎_elim, cond}
 use Rattle.std.proofs.lemmas.Bool.{false≢true, cond_both, cases_Bool, eqb-true, eq-eqb, and_from, and_parts}
@@ -9,7 +9,6 @@ use Rattle.std.proofs.lemmas.List.Elements.{All-head}
 use Prim.Native.Nat.{zero, suc}
 use Rattle.otp_reason.specs.declared.note.Note.{Note}
 use Rattle.otp_reason.specs.declared.note.Note.TheVariants as note
-use Rattle.otp_spec.specs.declared.flags.Strategy.{Strategy}
 use Rattle.otp_table.specs.declared.row.Row.{Row}
 use Rattle.otp_table.specs.declared.row.RowState.{RowState}
 use Rattle.otp_table.specs.declared.row.RowState.TheVariants.{Undefined, Starting, Up, Asked, Killed, Restarting}
@@ -27,9 +26,9 @@ use Rattle.otp_rules.specs.declared.call.Reply.{Reply}
 use Rattle.otp_rules.specs.declared.work.Sequel.{Sequel}
 use Rattle.otp_rules.specs.declared.work.Sequel.TheVariants as sequel
 use Rattle.otp_rules.specs.declared.work.Due.{Due}
-use Rattle.otp_rules.specs.State.{Outcome, State, answer, with_rows, with_stamps, with_waiting, with_work}
+use Rattle.otp_rules.specs.State.{Outcome, State, answer, with_rows, with_waiting, with_work}
 use Rattle.otp_rules.specs.Places.{end_row, end_process, is_removed, set_row}
-use Rattle.otp_rules.specs.Restarts.{affected_from, affected_to, running}
+use Rattle.otp_rules.specs.Restarts.{running}
 use Rattle.otp_rules.specs.Stops.{calm_all, is_exit, without, told, tell_row, tell, use_exit, stop_each, terminate}
 use Rattle.otp_rules.specs.Starts.{is_due, start_row, start}
 use Rattle.otp_rules.specs.Ends.{end_all, refuse_all}
@@ -43,14 +42,15 @@ use Rattle.otp_rules.specs.Homes.{Brings, end_number, is_ended}
 use Rattle.otp_rules.specs.Fit.{rows_in, runs_as, times, IsDistinct, IsSound}
 use Rattle.otp_rules.specs.Progress.{is_end}
 use Rattle.otp_rules.specs.Lives.{EndComesLast, HasEnded, IsHeldIn, ProcessesStay}
-use Rattle.otp_rules.proofs.Walks.{advance-by, restart-by, stop_each-by, stop_first-by, terminate-by, with_stops}
+use Rattle.otp_rules.proofs.States.{one_process, told_has}
+use Rattle.otp_rules.proofs.Walks.{advance-by, stop_each-by, stop_first-by, terminate-by, with_stops, counted_restart}
 use Rattle.otp_rules.proofs.Decisions.{BringsExit, SurvivesEvent, StandsAt, at_row-survives, at_number-survives, by_test, decide-survives_event, is_down}
 use Rattle.otp_rules.proofs.Counting.{none_in, remove_count, rows_in-cons, set_count}
 use Rattle.otp_rules.proofs.EndedRows.{IsBare, run-bare, step-bare}
 use Rattle.otp_rules.proofs.Finishing.{AreOne, Finishes, IsFinishing, Stops, advance-finishes, decided-finishing, used-stops}
 use Rattle.otp_rules.proofs.Heard.{Waits, answer-less, end-less, exit_put, open-less, tell-less, tick-less, use_exit-less}
-use Rattle.otp_rules.proofs.Homes.{first_ends, has_starting, or_right, quiet_more, same_number, told_has, waits_there}
-use Rattle.otp_rules.proofs.Numbers.{affected_in_order, counted_length, numbered-distinct, told_process, unnumbered-distinct}
+use Rattle.otp_rules.proofs.Homes.{first_ends, has_starting, or_right, quiet_more, same_number, waits_there}
+use Rattle.otp_rules.proofs.Numbers.{numbered-distinct, told_process, unnumbered-distinct, restart-within}
 use Rattle.otp_rules.proofs.Sound.{empty-sound}
 use Rattle.otp_rules.proofs.StartTurn.{pairs_first, pairs_rest}
 
@@ -72,15 +72,6 @@ Lasts D slot p o = (Waits p o → D) × Has D slot p o.state.rows
 has_more : (D : Type 0) (slot p : ℕ) (xs ys : List Row) → lives slot p xs ≤ lives slot p ys → Has D slot p xs → Has D slot p ys
 has_more D slot p xs ys le (inl h) = inl (omega (arith, le, h))
 has_more D slot p xs ys le (inr d) = inr d
-
--- a row's state has one process
-pub one_process : (p q : ℕ) (state : RowState) → has_process p state ≡ true → has_process q state ≡ true → q ≡ p
-one_process p q Undefined h k = absurd (false≢true h)
-one_process p q (Starting x _) h k = sym (eqb-true x q k) ∙ eqb-true x p h
-one_process p q (Up x) h k = sym (eqb-true x q k) ∙ eqb-true x p h
-one_process p q (Asked x _) h k = sym (eqb-true x q k) ∙ eqb-true x p h
-one_process p q (Killed x) h k = sym (eqb-true x q k) ∙ eqb-true x p h
-one_process p q (Restarting _) h k = absurd (false≢true h)
 
 -- a row's state changes: it keeps its process, or D holds
 set-has : (D : Type 0) (slot p place : ℕ) (row : Row) (state : RowState) (o : Outcome) → StandsAt place row o → (has_process p row.state ≡ true → (has_process p state ≡ true) ⊎ D) → Has D slot p o.state.rows → Has D slot p (slice_set o.state.rows place (with_state state row))
@@ -208,20 +199,11 @@ restarted-lives slot p from to rows le =
 restart-lasts : (D : Type 0) (slot p k place : ℕ) (row : Row) (o : Outcome) → StandsAt place row o → (has_process p row.state ≡ true → D) → Lasts D slot p o → Lasts D slot p (restart k place row o)
 unfolding restart_rows
 restart-lasts D slot p k place row o at ended h =
-    let down : Outcome = set_row place row Undefined o in
-    let counted : Outcome = with_stamps (o.state.stamps ++ o.state.last ∷ []) down in
-    let rows : List Row = down.state.rows in
-    let strategy : Strategy = o.state.flags.strategy in
-    let from : ℕ = affected_from strategy place in
-    let to : ℕ = affected_to strategy place (length rows) in
+    let counted : Outcome = counted_restart place row o in
+    let rows : List Row = counted.state.rows in
     let now : Has D slot p rows = set-has D slot p place row Undefined o at (λ has. inr (ended has)) h.1 in
-    restart-by (Lasts D slot p) k place row o
-    (λ _. terminate-lasts D slot p ending.Intensity counted (h.0, now))
-    (λ _. (
-      h.0,
-      has_more D slot p rows (take from rows ++ calm_rows (slice_range rows from to) ++ drop to rows)
-          (restarted-lives slot p from to rows (affected_in_order strategy place (length rows) (omega (arith, counted_length place row o at)))) now,
-    ))
+    restart-within (Lasts D slot p) k place row o at (terminate-lasts D slot p ending.Intensity counted (h.0, now))
+    (λ from to le. (h.0, has_more D slot p rows (take from rows ++ calm_rows (slice_range rows from to) ++ drop to rows) (restarted-lives slot p from to rows le) now))
 
 -- the end waited before, or the event brings a note of it
 abbrev pub Ended : (Item → Type 0) → Outcome → ℕ → Type 0

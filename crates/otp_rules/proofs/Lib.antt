@@ -3,6 +3,7 @@ mod Worked
 pub mod Keeps
 pub mod Decisions
 pub mod Walks
+pub mod States
 pub mod Steady
 pub mod Deadlines
 pub mod Period

@@ -1,5 +1,5 @@
 -- The orders name processes that a row has, or the one that the event starts.
-use Rattle.std.specs.Prelude.{◌≡◌, ◌⊎◌, ℕ, ◌==◌, ◌≤◌, ◌<◌, ◌++◌, ◌||◌, Bool, true, false, List, [], ◌∷◌, Option, None, Some, refl, if◌then◌else◌, position, is_some, slice_set, nat_le, length, remove, unwrap_or}
+use Rattle.std.specs.Prelude.{◌≡◌, ◌⊎◌, ℕ, ◌==◌, ◌≤◌, ◌<◌, ◌++◌, ◌||◌, Bool, true, false, List, [], ◌∷◌, Option, None, Some, refl, if◌then◌else◌, position, is_some, nat_le, length, remove, unwrap_or}
 use Rattle.std.specs.List.{list_any, filter_map, All, Contains}
 use Rattle.std.proofs.Common.{◌∙◌, ap, sym, subst, inl, inr, arith, ⊎_elim, cond, rules, append_assoc, get_or, suc, zero}
 use Rattle.std.proofs.lemmas.Bool.{false≢true, cases_Bool, eqb-true}
@@ -10,8 +10,7 @@ use Rattle.otp_spec.specs.declared.child.Shutdown.TheVariants.{BrutalKill, Milli
 use Rattle.otp_table.specs.declared.row.Row.{Row}
 use Rattle.otp_table.specs.declared.row.RowState.{RowState}
 use Rattle.otp_table.specs.declared.row.RowState.TheVariants.{Undefined, Starting, Up, Asked, Killed, Restarting}
-use Rattle.otp_table.specs.Rows.{has_process, with_state}
-use Rattle.otp_spec.specs.declared.flags.Strategy.{Strategy}
+use Rattle.otp_table.specs.Rows.{has_process}
 use Rattle.otp_rules.specs.declared.call.Reply.{Reply}
 use Rattle.otp_rules.specs.declared.ending.Ending.{Ending}
 use Rattle.otp_rules.specs.declared.ending.Ending.TheVariants as ending
@@ -25,9 +24,9 @@ use Rattle.otp_rules.specs.declared.event.Kind.{Kind}
 use Rattle.otp_rules.specs.declared.work.Due.{Due}
 use Rattle.otp_rules.specs.declared.work.Sequel.{Sequel}
 use Rattle.otp_rules.specs.declared.work.Sequel.TheVariants as sequel
-use Rattle.otp_rules.specs.State.{Outcome, State, answer, with_rows, with_stamps, with_waiting, with_work}
+use Rattle.otp_rules.specs.State.{Outcome, State, answer, with_rows, with_waiting, with_work}
 use Rattle.otp_rules.specs.Places.{at_row, end_row, end_process, set_row, is_removed}
-use Rattle.otp_rules.specs.Restarts.{affected_from, affected_to, running}
+use Rattle.otp_rules.specs.Restarts.{running}
 use Rattle.otp_rules.specs.Stops.{calm_all, is_exit, without, tell_row, tell, use_exit, stop_each, stop_order, terminate}
 use Rattle.otp_rules.specs.Starts.{is_due, start_row, start}
 use Rattle.otp_rules.specs.Work.{follow, start_first, stop_first, advance}
@@ -39,10 +38,10 @@ use Rattle.otp_rules.specs.Progress.{decided}
 use Rattle.otp_rules.specs.Fit.{rows_in}
 use Rattle.otp_rules.specs.Needs.{is_start, needs_number, numbers_of, IsNumbered}
 use Rattle.otp_rules.specs.Run.{empty_state, orders_of}
-use Rattle.otp_rules.proofs.Walks.{advance-by, restart-by, stop_each-by, stop_first-by, terminate-by, with_stops}
+use Rattle.otp_rules.proofs.Walks.{advance-by, stop_each-by, stop_first-by, terminate-by, with_stops, counted_restart}
 use Rattle.otp_rules.proofs.Decisions.{StandsAt, Survives, at_row-survives, at_number-survives, by_test, decide-survives}
 use Rattle.otp_rules.proofs.Counting.{rows_in-cons, rows_in-at}
-use Rattle.otp_rules.proofs.Numbers.{holders, NoMore, set-no_more, tell-no_more, use_exit-no_more, calm_process, restart_rows-no_more, affected_in_order, counted_length, no_more-survives, step-grown}
+use Rattle.otp_rules.proofs.Numbers.{holders, NoMore, set-no_more, tell-no_more, use_exit-no_more, calm_process, restart_rows-no_more, no_more-survives, step-grown, restart-within}
 
 -- if the order names a process, that is n, or a row had it
 abbrev pub IsHeld : ℕ → Outcome → Effect → Type 0
@@ -105,17 +104,9 @@ terminate-held n e old o h =
 restart-held : (n p place : ℕ) (row : Row) (old o : Outcome) → StandsAt place row o → Held n old o → Held n old (restart p place row o)
 unfolding restart_rows
 restart-held n p place row old o at h =
-    let counted : Outcome = with_stamps (o.state.stamps ++ o.state.last ∷ []) (set_row place row Undefined o) in
-    let strategy : Strategy = o.state.flags.strategy in
-    let count : ℕ = length (slice_set o.state.rows place (with_state Undefined row)) in
+    let counted : Outcome = counted_restart place row o in
     let less : NoMore old counted = set-no_more place row Undefined old o at (λ q. omega arith) h.0 in
-    restart-by (Held n old) p place row o
-    (λ _. terminate-held n ending.Intensity old counted (less, h.1))
-    (λ _. (
-      restart_rows-no_more (affected_from strategy place) (affected_to strategy place count) place p old counted
-          (affected_in_order strategy place count (omega (arith, counted_length place row o at))) less,
-      h.1,
-    ))
+    restart-within (Held n old) p place row o at (terminate-held n ending.Intensity old counted (less, h.1)) (λ from to le. (restart_rows-no_more from to place p old counted le less, h.1))
 
 pub late_has : (now p : ℕ) (s : RowState) → late_number now s ≡ Some p → has_process p s ≡ true
 late_has now p Undefined h = absurd (search (rules, h))

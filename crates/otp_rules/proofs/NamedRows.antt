@@ -2,7 +2,7 @@
 use Rattle.std.specs.Prelude.{◌≡◌, ◌⊎◌, ℕ, ◌==◌, ◌+◌, ◌≤◌, ◌<◌, ◌++◌, Bool, true, false, List, [], ◌∷◌, Option, None, Some, All, Contains, refl, if◌then◌else◌, position, is_some, slice_set, length, remove, unwrap_or, count_by}
 use Rattle.std.specs.List.{filter_map}
 use Rattle.std.proofs.Common.{◌∙◌, ap, sym, subst, inl, inr, arith, ⊎_elim, cond, rules, get_or, suc, zero}
-use Rattle.std.proofs.lemmas.Bool.{false≢true, cases_Bool, eqb-true, eq-eqb}
+use Rattle.std.proofs.lemmas.Bool.{false≢true, cases_Bool, eq-eqb}
 use Rattle.std.proofs.lemmas.List.Elements.{All-push}
 use Rattle.otp_reason.specs.declared.name.Name.{Name}
 use Rattle.otp_spec.specs.declared.child.Shutdown.{Shutdown}
@@ -38,9 +38,10 @@ use Rattle.otp_rules.specs.Needs.{numbers_of}
 use Rattle.otp_rules.specs.Progress.{no_progress, progress}
 use Rattle.otp_rules.specs.Fit.{Fits, IsNamed, is_told, next_number, rows_in}
 use Rattle.otp_rules.specs.Named.{OrdersNameRows, OrdersNameRowsFrom, named_by}
+use Rattle.otp_rules.proofs.States.{one_process, told_has}
 use Rattle.otp_rules.proofs.Walks.{advance-by, restart-by, stop_each-by, stop_first-by, with_stops}
 use Rattle.otp_rules.proofs.Decisions.{IsUnmoved, SurvivesEvent, at_number-survives, by_test, decide-survives, decide-survives_event}
-use Rattle.otp_rules.proofs.Counting.{Alike, at_row-first, end_row-quiet, found, none_in, rows_in-at, rows_in-cons, rows_in-end, rows_in-set, there, tick_count, told-told, use_exit-alike, use_exit-quiet, without_count}
+use Rattle.otp_rules.proofs.Counting.{Alike, at_row-first, end_row-quiet, found, none_in, rows_in-at, rows_in-cons, rows_in-end, rows_in-set, there, tick_count, told-told, use_exit-alike, use_exit-quiet, without_count, cond_le, rows_in-le}
 use Rattle.otp_rules.proofs.InTurn.{TakesReplies, follow-orders, none_told}
 use Rattle.otp_rules.proofs.Sound.{IsReady, used-ready}
 use Rattle.otp_rules.proofs.Fits.{due_there}
@@ -80,20 +81,7 @@ named_stop id p Infinity = refl
 
 -- who was told has the process
 told_same : (p q : ℕ) (state : RowState) → has_process p state ≡ true → is_told q state ≡ true → q ≡ p
-told_same p q Undefined h k = absurd (false≢true h)
-told_same p q (Starting x _) h k = absurd (false≢true k)
-told_same p q (Up x) h k = absurd (false≢true k)
-told_same p q (Asked x _) h k = sym (eqb-true x q k) ∙ eqb-true x p h
-told_same p q (Killed x) h k = sym (eqb-true x q k) ∙ eqb-true x p h
-told_same p q (Restarting _) h k = absurd (false≢true h)
-
-told_has : (p : ℕ) (state : RowState) → cond (is_told p state) 1 0 ≤ cond (has_process p state) 1 0
-told_has p Undefined = omega arith
-told_has p (Starting _ _) = omega arith
-told_has p (Up _) = omega arith
-told_has p (Asked _ _) = omega arith
-told_has p (Killed _) = omega arith
-told_has p (Restarting _) = omega arith
+told_same p q state h k = one_process p q state h (told_has q state k)
 
 tell-told : (p : ℕ) (o : Outcome) → count_by (is_exit p) o.state.waiting ≡ 0 → AllTold o → AllTold (tell p o)
 unfolding tell tell_row
@@ -252,8 +240,7 @@ tells-none o calm h j d within = of_named (named_by (get_or o.orders j d)) refl
     of_named (Some p) is = absurd (none_told p o.state.rows calm (h j d within p is))
 
 told-more : (rows : List Row) (p : ℕ) → rows_in (is_told p) rows ≤ rows_in (has_process p) rows
-told-more [] p = omega arith
-told-more (row ∷ rows) p = omega (arith, told-more rows p, told_has p row.state, rows_in-cons (is_told p) row rows, rows_in-cons (has_process p) row rows)
+told-more rows p = rows_in-le (is_told p) (has_process p) (λ state. cond_le (is_told p state) (has_process p state) (told_has p state)) rows
 
 tells-placed : (o : Outcome) → Tells o → Placed o
 tells-placed o h j d within p is = omega (arith, h j d within p is, told-more o.state.rows p)

@@ -21,7 +21,7 @@ use Rattle.otp_rules.specs.declared.event.Kind.{Kind}
 use Rattle.otp_rules.specs.declared.work.Due.{Due}
 use Rattle.otp_rules.specs.declared.work.Sequel.{Sequel}
 use Rattle.otp_spec.specs.Flags.{is_simple}
-use Rattle.otp_rules.specs.State.{Outcome, State, answer, with_rows, with_stamps, with_waiting, with_work}
+use Rattle.otp_rules.specs.State.{Outcome, State, answer, with_rows, with_waiting, with_work}
 use Rattle.otp_rules.specs.Places.{at_row, end_row, end_process, set_row}
 use Rattle.otp_rules.specs.Restarts.{affected_from, affected_to, dues, running}
 use Rattle.otp_rules.specs.Stops.{calm_all, is_exit, without, told, tell_row, tell, use_exit, stop_each, terminate}
@@ -33,7 +33,7 @@ use Rattle.otp_rules.specs.Calls.{new_row}
 use Rattle.otp_rules.specs.Step.{rows_from, open_with, open_rows, opening_specs, tick, decide, stamped, step, step_on}
 use Rattle.otp_rules.specs.Progress.{decided}
 use Rattle.otp_rules.specs.Fit.{rows_in, IsDistinct}
-use Rattle.otp_rules.proofs.Walks.{advance-by, restart-by, stop_each-by, terminate-by}
+use Rattle.otp_rules.proofs.Walks.{advance-by, restart-by, stop_each-by, terminate-by, counted_restart}
 use Rattle.otp_rules.proofs.Decisions.{StandsAt, Survives, at_row-survives, at_number-survives, by_test, decide-survives}
 use Rattle.otp_rules.proofs.Counting.{rows_in-cons, rows_in-append, remove_count, rows_in-set, rows_in-end, rows_in-map, tick_count}
 use Rattle.std.proofs.lemmas.List.Folds.{drop_split, list_any-append}
@@ -135,16 +135,19 @@ affected_in_order SimpleOneForOne place count h = omega arith
 pub counted_length : (place : ℕ) (row : Row) (o : Outcome) → StandsAt place row o → place < length (slice_set o.state.rows place (with_state Undefined row))
 counted_length place row o at = omega (arith, slice_get_within o.state.rows place row at, length-set o.state.rows place (with_state Undefined row))
 
+-- a restart of a child that stands there, whose range is in order
+pub restart-within : (P : Outcome → Type 0) (k place : ℕ) (row : Row) (o : Outcome) → StandsAt place row o → P (terminate ending.Intensity (counted_restart place row o))
+    → ((from to : ℕ) → from ≤ to → P (restart_rows from to place k (counted_restart place row o))) → P (restart k place row o)
+restart-within P k place row o at ends restarts =
+    let rows : List Row = (counted_restart place row o).state.rows in
+    let strategy : Strategy = o.state.flags.strategy in
+    restart-by P k place row o (λ _. ends) (λ _. restarts (affected_from strategy place) (affected_to strategy place (length rows)) (affected_in_order strategy place (length rows) (omega (arith, counted_length place row o at))))
+
 pub restart-no_more : (p place : ℕ) (row : Row) (old o : Outcome) → StandsAt place row o → NoMore old o → NoMore old (restart p place row o)
 restart-no_more p place row old o at h =
-    let counted : Outcome = with_stamps (o.state.stamps ++ o.state.last ∷ []) (set_row place row Undefined o) in
-    let strategy : Strategy = o.state.flags.strategy in
-    let count : ℕ = length (slice_set o.state.rows place (with_state Undefined row)) in
+    let counted : Outcome = counted_restart place row o in
     let less : NoMore old counted = set-no_more place row Undefined old o at (λ q. omega arith) h in
-    restart-by (NoMore old) p place row o
-    (λ _. terminate-no_more ending.Intensity old counted less)
-    (λ _. restart_rows-no_more (affected_from strategy place) (affected_to strategy place count) place p old counted
-    (affected_in_order strategy place count (omega (arith, counted_length place row o at))) less)
+    restart-within (NoMore old) p place row o at (terminate-no_more ending.Intensity old counted less) (λ from to le. restart_rows-no_more from to place p old counted le less)
 
 new-no_more : (q slot : ℕ) (specs : List ChildSpec) → rows_in (has_process q) (rows_from slot specs) ≡ 0
 new-no_more q slot [] = refl

@@ -8,7 +8,6 @@ use Rattle.std.proofs.lemmas.List.Folds.{drop_split}
 use Rattle.std.proofs.lemmas.List.Elements.{All-head, All-tail}
 use Prim.Native.Nat.{zero, suc}
 use Rattle.otp_spec.specs.declared.child.ChildSpec.{ChildSpec}
-use Rattle.otp_spec.specs.declared.flags.Strategy.{Strategy}
 use Rattle.otp_table.specs.declared.row.Row.{Row}
 use Rattle.otp_table.specs.declared.row.RowState.{RowState}
 use Rattle.otp_table.specs.declared.row.RowState.TheVariants.{Undefined, Starting, Up, Asked, Killed, Restarting}
@@ -23,9 +22,9 @@ use Rattle.otp_rules.specs.declared.work.Due.{Due}
 use Rattle.otp_rules.specs.declared.work.Sequel.{Sequel}
 use Rattle.otp_rules.specs.declared.work.Sequel.TheVariants as sequel
 use Rattle.otp_spec.specs.Flags.{is_simple}
-use Rattle.otp_rules.specs.State.{Outcome, State, answer, with_rows, with_stamps, with_waiting, with_work}
+use Rattle.otp_rules.specs.State.{Outcome, State, answer, with_rows, with_waiting, with_work}
 use Rattle.otp_rules.specs.Places.{end_row, end_process, set_row, is_removed}
-use Rattle.otp_rules.specs.Restarts.{affected_from, affected_to, running}
+use Rattle.otp_rules.specs.Restarts.{running}
 use Rattle.otp_rules.specs.Stops.{calm_all, is_exit, without, told, tell_row, tell, use_exit, stop_each, terminate}
 use Rattle.otp_rules.specs.Starts.{is_due, start_row, start}
 use Rattle.otp_rules.specs.Ends.{refuse_all, end_all}
@@ -42,9 +41,10 @@ use Rattle.otp_spec.specs.Flags.{are_lawful_flags}
 use Rattle.otp_spec.specs.Lawful.{first_fault}
 use Rattle.otp_rules.specs.Slots.{SlotsOwned, SlotsStayOwned, SlotsTellProcesses}
 use Rattle.otp_rules.specs.Step.{rows_from, open_with, open_rows, opening_specs}
-use Rattle.otp_rules.proofs.Walks.{advance-by, restart-by, stop_each-by, stop_first-by, terminate-by, with_stops}
+use Rattle.otp_rules.proofs.States.{one_process}
+use Rattle.otp_rules.proofs.Walks.{advance-by, stop_each-by, stop_first-by, terminate-by, with_stops, counted_restart}
 use Rattle.otp_rules.proofs.Keeps.{step_keeps_plan_law}
-use Rattle.otp_rules.proofs.Numbers.{affected_in_order, counted_length}
+use Rattle.otp_rules.proofs.Numbers.{restart-within}
 use Rattle.otp_rules.proofs.Counting.{set_count, remove_count}
 use Rattle.otp_rules.proofs.Decisions.{StandsAt, SurvivesEvent, at_row-survives, at_number-survives, by_test, decide-survives_event}
 
@@ -217,14 +217,9 @@ restart_rows-slots from to place n o le h =
 
 restart-slots : (p place : ℕ) (row : Row) (o : Outcome) → StandsAt place row o → AllSlotted o → AllSlotted (restart p place row o)
 restart-slots p place row o at h =
-    let counted : Outcome = with_stamps (o.state.stamps ++ o.state.last ∷ []) (set_row place row Undefined o) in
-    let strategy : Strategy = o.state.flags.strategy in
-    let count : ℕ = length (slice_set o.state.rows place (with_state Undefined row)) in
+    let counted : Outcome = counted_restart place row o in
     let down : AllSlotted counted = fewer o.state.rows counted.state.rows (set-slots place row Undefined o.state.rows at) h in
-    restart-by AllSlotted p place row o
-    (λ _. terminate-slots ending.Intensity counted down)
-    (λ _. restart_rows-slots (affected_from strategy place) (affected_to strategy place count) place p counted
-    (affected_in_order strategy place count (omega (arith, counted_length place row o at))) down)
+    restart-within AllSlotted p place row o at (terminate-slots ending.Intensity counted down) (λ from to le. restart_rows-slots from to place p counted le down)
 
 answer-slots : (c : ℕ) (r : Reply) (o : Outcome) → AllSlotted o → AllSlotted (answer c r o)
 unfolding answer
@@ -424,19 +419,11 @@ same_row test (x ∷ xs) a b one (suc i, c, is) (zero, d, it) h k = absurd (twic
 same_row test (x ∷ xs) a b one (suc i, c, is) (suc j, d, it) h k =
     same_row test xs a b (omega (arith, one, sum_by-cons (λ (r : Row). cond (test r) 1 0) x xs)) (i, omega (arith, c), is) (j, omega (arith, d), it) h k
 
-one_process : (p q : ℕ) (state : RowState) → has_process p state ≡ true → has_process q state ≡ true → p ≡ q
-one_process p q Undefined h k = absurd (false≢true h)
-one_process p q (Starting x _) h k = sym (eqb-true x p h) ∙ eqb-true x q k
-one_process p q (Up x) h k = sym (eqb-true x p h) ∙ eqb-true x q k
-one_process p q (Asked x _) h k = sym (eqb-true x p h) ∙ eqb-true x q k
-one_process p q (Killed x) h k = sym (eqb-true x p h) ∙ eqb-true x q k
-one_process p q (Restarting _) h k = absurd (false≢true h)
-
 pub slots_tell_processes_law : SlotsTellProcesses
 slots_tell_processes_law s next slotted owned a b p q in_a in_b has_p has_q = (
   λ same.
       let row : a ≡ b = same_row (has_slot b.slot) s.rows a b (slotted.one b.slot) in_a in_b (eq-eqb a.slot b.slot same) (eq-eqb b.slot b.slot refl) in
-      one_process p q b.state (subst (λ (r : Row). has_process p r.state ≡ true) row has_p) has_q,
+      one_process q p b.state has_q (subst (λ (r : Row). has_process p r.state ≡ true) row has_p),
   λ same.
       let here : has_process q a.state ≡ true = subst (λ (n : ℕ). has_process n a.state ≡ true) same has_p in
       ap (λ (r : Row). r.slot) (same_row (row_has (has_process q)) s.rows a b (owned.0 q) in_a in_b here has_q),

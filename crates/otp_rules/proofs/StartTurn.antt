@@ -29,15 +29,15 @@ use Rattle.otp_rules.specs.Step.{decide, stamped, step, step_on}
 use Rattle.otp_rules.specs.Run.{empty_state, state_after}
 use Rattle.otp_rules.specs.Progress.{Ordered, Progress, no_progress, is_end, ends_together, id_bytes, processes, started, start_list, seen, gave, progress, IsIn}
 use Rattle.otp_rules.specs.Fit.{rows_in, times, IsSound, HasWaiting, HasStops, Keeps, IsListed, IsDistinct, is_free, Fits, IsNamed, IsFitted, is_starting, IsUnderWay, HasStarts, KeepsStarts, next_number, IsFit, IsLawfulFrom, StaysFit}
+use Rattle.otp_rules.proofs.States.{held_goes}
 use Rattle.otp_rules.proofs.Walks.{advance-by, stop_first-by, with_stops}
 use Rattle.otp_rules.proofs.Decisions.{StandsAt, by_test, decide-survives}
 use Prim.Native.Nat.{suc}
-use Rattle.otp_rules.proofs.Counting.{rows_in-set, rows_in-at, Alike, end_row-alike, use_exit-alike, times-reverse, none_in, there, at_row-found, at_row-first, use_exit-quiet}
+use Rattle.otp_rules.proofs.Counting.{rows_in-set, rows_in-at, Alike, end_row-alike, use_exit-alike, times-reverse, none_in, there, at_row-found, at_row-first, use_exit-quiet, rows_in-le}
 use Rattle.otp_rules.specs.Order.{StartsInTurn, IsStartInTurn, StartOrder, StartOrderFromEmpty}
 use Rattle.otp_rules.proofs.Sound.{IsReady, empty-sound, used-ready}
 use Rattle.otp_rules.proofs.Stopping.{not_busy}
 use Rattle.otp_rules.proofs.Opened.{decided-keeps}
-use Rattle.std.proofs.lemmas.List.Sums.{sum_by-le-sum_by}
 use Rattle.otp_rules.specs.Needs.{IsNumbered, is_start, numbers_of}
 use Rattle.otp_rules.proofs.NeedsWork.{decide-quiet}
 use Rattle.otp_rules.proofs.Numbers.{use_exit-no_more, decided-distinct, numbered-distinct, unnumbered-distinct}
@@ -217,15 +217,7 @@ start_first-gone g [] n o is m =
     (follow-fitted o.state.follows o (m.2, subst (λ (ps : List ℕ). Fits ps o.state.to_start o.state.rows) (sym m.0.2) m.3))
 start_first-gone g (due ∷ rest) n o is m = ordered-gone g due rest n o is m
 
--- a process that goes when it ends, and one that stays
-held_goes : (ps : List ℕ) (p : ℕ) (state : RowState) → has_process p state ≡ true → is_free ps true state ≡ true → ⊥
-held_goes ps p Undefined h k = false≢true h
-held_goes ps p (Starting _ _) h k = false≢true k
-held_goes ps p (Up _) h k = false≢true k
-held_goes ps p (Asked _ _) h k = false≢true k
-held_goes ps p (Killed _) h k = false≢true k
-held_goes ps p (Restarting _) h k = false≢true h
-
+-- a process that stays when it ends
 told_is : (qs : List ℕ) (p now : ℕ) (s : Shutdown) (goes : Bool) → not goes ≡ true → is_free qs goes (told now p s) ≡ true
 told_is qs p now BrutalKill goes h = h
 told_is qs p now (Milliseconds _) goes h = h
@@ -295,10 +287,7 @@ stop_first-gone g ps n =
 
 -- where nothing is awaited, each start was answered
 none_starting : (m : ℕ) (rows : List Row) → rows_in is_awaited rows ≡ 0 → 0 < rows_in (is_starting m) rows → ⊥
-none_starting m rows none some =
-    let more : rows_in (is_starting m) rows ≤ rows_in is_awaited rows =
-    sum_by-le-sum_by (λ (row : Row). cond (is_starting m row.state) 1 0) (λ (row : Row). cond (is_awaited row.state) 1 0) rows (λ row. starting_awaits row.state) in
-    omega (arith, none, some, more)
+none_starting m rows none some = omega (arith, none, some, rows_in-le (is_starting m) is_awaited starting_awaits rows)
   where
     starting_awaits : (state : RowState) → cond (is_starting m state) 1 0 ≤ cond (is_awaited state) 1 0
     starting_awaits Undefined = omega arith
