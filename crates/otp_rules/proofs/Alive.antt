@@ -61,7 +61,7 @@ use Rattle.otp_rules.proofs.Counting.{at_row-found, end_row-quiet, put_count, re
 use Rattle.otp_rules.proofs.EndedRows.{IsBare}
 use Rattle.otp_rules.proofs.Finishing.{AreOne, Finishes, not_starting, zero_or_more}
 use Rattle.otp_rules.proofs.Homes.{has_starting, same_process}
-use Rattle.otp_rules.proofs.Lasting.{IsInOrder, calm-lives, contains_counts, counts_contain, is_live, lives, map-lives, run-in_order, tick_one}
+use Rattle.otp_rules.proofs.Lasting.{IsInOrder, calm-lives, contains_counts, counts_contain, is_live, lives, map-lives, run-in_order, tick_one, restarted-lives}
 use Rattle.otp_rules.proofs.Numbers.{NoMore, calm_process, end-no_more, holders, no_more-survives, remove-no_more, restart_rows-no_more, set-no_more, tell-no_more, terminate-no_more, told_process, use_exit-no_more, restart-within}
 use Rattle.otp_rules.proofs.Sound.{empty-sound}
 
@@ -223,14 +223,6 @@ terminate-stays D slot p m e o h =
     (λ _. stop_each-stays D slot p m (running o.state.rows) (calm_all (with_work [] [] (Some (sequel.End e)) o)) calm)
     (λ _. calm)
 
-restarted-fewer : (slot p from to : ℕ) (rows : List Row) → from ≤ to → lives slot p (take from rows ++ calm_rows (slice_range rows from to) ++ drop to rows) ≤ lives slot p rows
-restarted-fewer slot p from to rows le =
-    let t : Row → ℕ = λ (r : Row). cond (is_live slot p r) 1 0 in
-    let part : List Row = slice_range rows from to in
-    let split : lives slot p (drop from rows) ≡ lives slot p part + lives slot p (drop to rows) = ap (λ (xs : List Row). lives slot p xs) (drop_split rows from to le) ∙ sum_by-append t part (drop to rows) in
-    let all : lives slot p (take from rows) + lives slot p (drop from rows) ≡ lives slot p rows = sum_by-take-drop t rows from in
-    omega (arith, sum_by-append t (take from rows ++ calm_rows part) (drop to rows), sum_by-append t (take from rows) (calm_rows part), calm-lives slot p part, split, all)
-
 -- the restart of a child whose row is down already
 restart-stays : (D : Type 0) (slot p m k place : ℕ) (row : Row) (o : Outcome) → StandsAt place row o → Stays D slot p m (set_row place row Undefined o) → Stays D slot p m (restart k place row o)
 unfolding restart_rows
@@ -238,7 +230,7 @@ restart-stays D slot p m k place row o at h =
     let counted : Outcome = counted_restart place row o in
     restart-within (Stays D slot p m) k place row o at (terminate-stays D slot p m ending.Intensity counted h) (λ from to le.
     let less : NoMore counted (restart_rows from to place k counted) = restart_rows-no_more from to place k counted counted le (same_less counted) in
-    stays-less D slot p m counted (restart_rows from to place k counted) (less p) (omega arith) (restarted-fewer slot p from to counted.state.rows le) h)
+    stays-less D slot p m counted (restart_rows from to place k counted) (less p) (omega arith) (omega (arith, restarted-lives slot p from to counted.state.rows le)) h)
 
 answer-stays : (D : Type 0) (slot p m c : ℕ) (r : Reply) (o : Outcome) → Stays D slot p m o → Stays D slot p m (answer c r o)
 unfolding answer

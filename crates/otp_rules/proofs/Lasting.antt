@@ -187,7 +187,7 @@ terminate-lasts D slot p e o h =
     (λ _. stop_each-lasts D slot p (running o.state.rows) (calm_all (with_work [] [] (Some (sequel.End e)) o)) (h.0, calm))
     (λ _. (h.0, calm))
 
-restarted-lives : (slot p from to : ℕ) (rows : List Row) → from ≤ to → lives slot p rows ≤ lives slot p (take from rows ++ calm_rows (slice_range rows from to) ++ drop to rows)
+pub restarted-lives : (slot p from to : ℕ) (rows : List Row) → from ≤ to → lives slot p (take from rows ++ calm_rows (slice_range rows from to) ++ drop to rows) ≡ lives slot p rows
 restarted-lives slot p from to rows le =
     let t : Row → ℕ = λ (r : Row). cond (is_live slot p r) 1 0 in
     let part : List Row = slice_range rows from to in
@@ -203,7 +203,7 @@ restart-lasts D slot p k place row o at ended h =
     let rows : List Row = counted.state.rows in
     let now : Has D slot p rows = set-has D slot p place row Undefined o at (λ has. inr (ended has)) h.1 in
     restart-within (Lasts D slot p) k place row o at (terminate-lasts D slot p ending.Intensity counted (h.0, now))
-    (λ from to le. (h.0, has_more D slot p rows (take from rows ++ calm_rows (slice_range rows from to) ++ drop to rows) (restarted-lives slot p from to rows le) now))
+    (λ from to le. (h.0, has_more D slot p rows (take from rows ++ calm_rows (slice_range rows from to) ++ drop to rows) (omega (arith, restarted-lives slot p from to rows le)) now))
 
 -- the end waited before, or the event brings a note of it
 abbrev pub Ended : (Item → Type 0) → Outcome → ℕ → Type 0
