@@ -1,9 +1,9 @@
 -- The first row that passes a test, where none of the first does.
-use Rattle.std.proofs.Common.{◌≡◌, ℕ, ◌+◌, ◌-◌, ◌<◌, ◌≤◌, List, [], ◌∷◌, ◌∙◌, None, Some, ap, arith, cond, drop, get_or, inl, inr, length, length-drop, refl, suc, sym, zero}
+use Rattle.std.proofs.Common.{◌≡◌, ℕ, ◌+◌, ◌-◌, ◌<◌, ◌≤◌, List, [], ◌∷◌, ◌∙◌, None, Option, Some, ap, arith, cond, drop, get_or, inl, inr, length, length-drop, refl, suc, sym, take, zero}
 use Rattle.std.specs.Prelude.{Bool, true, false, not, nat_lt, option_map, position}
 use Rattle.std.specs.List.{position_or_len}
 use Rattle.std.proofs.lemmas.Bool.{and_parts, both_ways, cases_lt, false_from_ne_true, le-ltb, lt-ltb}
-use Rattle.std.proofs.lemmas.List.{get_or-drop}
+use Rattle.std.proofs.lemmas.List.{get_or-drop, take_all}
 use Rattle.std.proofs.lemmas.List.Sums.{fails_before_first, passes_at_first, position_or_len_is, prefix_len-le-length}
 use Rattle.otp_rules.specs.declared.work.Due.{Due}
 use Rattle.otp_rules.specs.Starts.{is_due}
@@ -53,3 +53,10 @@ due_later due [] (suc n) within defined = absurd (omega (arith, within))
 due_later due (row ∷ rows) n within defined =
     moved_on (is_due due) (row ∷ rows) n within
     (later_at (is_due due) (row ∷ rows) n row within (λ k lt. not_due due (get_or (row ∷ rows) k row) (defined k row lt (omega (arith, lt, within)))))
+
+-- so it is found where only those after them are looked at
+pub found_later : (due : Due) (rows : List Row) (defined n : ℕ) (found : Option ℕ) → (n ≤ length rows) × (n ≤ defined) → AreDefined defined rows → found ≡ position (is_due due) (take (length rows - n) (drop n rows))
+    → option_map (λ (k : ℕ). n + k) found ≡ position (is_due due) rows
+found_later due rows defined n found few are is =
+    let rest : take (length rows - n) (drop n rows) ≡ drop n rows = take_all (length rows - n) (drop n rows) (omega (arith, length-drop n rows)) in
+    ap (λ (o : Option ℕ). option_map (λ (k : ℕ). n + k) o) (is ∙ ap (λ (xs : List Row). position (is_due due) xs) rest) ∙ sym (due_later due rows n few.0 (λ k d lt w. are k d (omega (arith, lt, few.1)) w))

@@ -13,7 +13,8 @@ use Rattle.otp_lists.proofs.Replies.{found}
 abbrev Rises : List Answer → Type 0
 Rises ts = AllPairs (λ one later. one.call < later.call) ts
 
-upto : (ts : List Answer) → Rises ts → (k m : ℕ) (d : Answer) → k ≤ m → m < length ts → (get_or ts k d).call ≤ (get_or ts m d).call
+-- a later number is no lower
+pub upto : (ts : List Answer) → Rises ts → (k m : ℕ) (d : Answer) → k ≤ m → m < length ts → (get_or ts k d).call ≤ (get_or ts m d).call
 upto ts rise k m d le within =
     elim (cases_lt k m) [
       | inl lt ↦ let less : (get_or ts k d).call < (get_or ts m d).call = rise k m d lt within in omega (arith, less)
@@ -29,13 +30,6 @@ before call ts rise m e within less k d below =
     let same : (get_or ts m d).call ≡ (get_or ts m e).call = call_default ts m d e within in
     let up : (get_or ts k d).call ≤ (get_or ts m d).call = upto ts rise k m d (omega (arith, below)) within in
     omega (arith, up, same, less)
-
--- all from a number on that isn't below the call's aren't below it
-pub after : (call : ℕ) (ts : List Answer) → Rises ts → (m : ℕ) (e : Answer) → call ≤ (get_or ts m e).call → (k : ℕ) (d : Answer) → m ≤ k → k < length ts → call ≤ (get_or ts k d).call
-after call ts rise m e more k d from within =
-    let same : (get_or ts m d).call ≡ (get_or ts m e).call = call_default ts m d e (omega (arith, from, within)) in
-    let up : (get_or ts m d).call ≤ (get_or ts k d).call = upto ts rise m k d from within in
-    omega (arith, up, same, more)
 
 not_same : (a b : ℕ) → (a ≡ b → ⊥) → (a == b) ≡ false
 not_same a b other = (elim (a == b) as (λ v. (a == b) ≡ v → v ≡ false) [ true ↦ λ e. absurd (other (eqb-true a b e)) | false ↦ λ e. refl ]) refl

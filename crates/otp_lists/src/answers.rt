@@ -224,17 +224,7 @@ fn first_from(told: &[Answer], call: u64) -> usize
     ensures before { (k : ℕ) (d : Answer) → k < result → (get_or told.now k d).call < call }
     ensures after { (k : ℕ) (d : Answer) → result ≤ k → k < length told.now → call ≤ (get_or told.now k d).call }
 {
-    let mut low = 0;
-    let mut high = told.len();
-    while low < high {
-        let middle = low + (high - low) / 2;
-        if told[middle].call < call {
-            low = middle + 1;
-        } else {
-            high = middle;
-        }
-    }
-    low
+    told.partition_point(|answer| answer.call < call)
 }
 
 /// The same, by a walk. It begins at the end, where a fresh answer is.

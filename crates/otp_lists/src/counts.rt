@@ -1,13 +1,12 @@
-//! Lines of which_children beside the rows that they tell of, and counts of rows (`specs/Counts` of the rules).
+//! Lines of which_children beside the rows that they tell of (`specs/Counts` of the rules).
 
-ghost use Rattle.std.specs.Prelude.{◌≡◌, ◌+◌, ◌≤◌, ◌++◌, ◌↔◌, IsTrue, length, map, count_by, vec_len, vec_capacity};
-ghost use Rattle.otp_table.specs.Rows.{row_has};
-ghost use Rattle.otp_rules.specs.Counts.{is_active, is_supervisor, is_worker, line_of, process_of, which_of};
+ghost use Rattle.std.specs.Prelude.{◌≡◌, ◌+◌, ◌≤◌, ◌++◌, ◌↔◌, IsTrue, length, map, vec_len, vec_capacity};
+ghost use Rattle.otp_rules.specs.Counts.{line_of, process_of, which_of};
 
 use otp_reason::Name;
 use otp_rules::{ChildLine, ChildProcess};
 use otp_spec::ChildType;
-use otp_table::{MAX_CHILDREN, Row, RowState, Rows};
+use otp_table::{Row, RowState};
 
 /// What which_children says of a process.
 pub fn process_of(state: RowState) -> ChildProcess
@@ -100,28 +99,4 @@ fn is_same_kind(one: ChildType, other: ChildType) -> bool
         (ChildType::Supervisor, ChildType::Supervisor) => true,
         _ => false,
     }
-}
-
-/// How many children have a process that was started and has not ended. Looks at no row.
-pub fn count_active(rows: &Rows) -> usize
-    ensures count { result ≡ count_by (row_has is_active) rows.now.rows }
-    ensures limit { result ≤ MAX_CHILDREN }
-{
-    rows.count_active()
-}
-
-/// How many children are supervisors. Looks at no row.
-pub fn count_supervisors(rows: &Rows) -> usize
-    ensures count { result ≡ count_by (λ row. is_supervisor row.spec.kind) rows.now.rows }
-    ensures limit { result ≤ MAX_CHILDREN }
-{
-    rows.count_supervisors()
-}
-
-/// How many children are workers. Looks at no row.
-pub fn count_workers(rows: &Rows) -> usize
-    ensures count { result ≡ count_by (λ row. is_worker row.spec.kind) rows.now.rows }
-    ensures limit { result ≤ MAX_CHILDREN }
-{
-    rows.count_workers()
 }

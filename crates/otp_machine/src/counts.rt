@@ -3,7 +3,7 @@
 ghost use Rattle.std.specs.Prelude.{◌≡◌, ◌≤◌, length, vec_capacity};
 
 use crate::machine::Machine;
-use otp_lists::counts::{count_active, count_supervisors, count_workers, list_lines};
+use otp_lists::counts::list_lines;
 use otp_rules::{ChildLines, CountsNow, Effect, Reply};
 use std::mem;
 
@@ -56,9 +56,9 @@ impl Machine {
             } else {
                 self.rows.len() as u64
             },
-            active: count_active(&self.rows) as u64,
-            supervisors: count_supervisors(&self.rows) as u64,
-            workers: count_workers(&self.rows) as u64,
+            active: self.rows.count_active() as u64,
+            supervisors: self.rows.count_supervisors() as u64,
+            workers: self.rows.count_workers() as u64,
         }
     }
 }

@@ -15,14 +15,12 @@ use Rattle.otp_table.specs.declared.row.RowState.{RowState}
 use Rattle.otp_table.specs.declared.row.RowState.TheVariants.{Undefined, Starting, Up, Asked, Killed, Restarting}
 use Rattle.otp_table.specs.Rows.{up_number}
 use Rattle.otp_rules.specs.declared.event.Waiting.{Waiting}
+use Rattle.otp_rules.specs.Fit.{runs_as, times}
 use Rattle.otp_rules.specs.Needs.{ends_wait}
 use Rattle.otp_rules.specs.Restarts.{running}
 use Rattle.otp_rules.specs.Stops.{is_exit}
-use Rattle.otp_needs.specs.Ups.{ends_counted, passes, runs_as}
+use Rattle.otp_needs.specs.Ups.{ends_counted, passes}
 use Rattle.otp_needs.proofs.Walk.{walk_counted}
-
-abbrev times : ℕ → List ℕ → ℕ
-times p numbers = count_by (λ q. q == p) numbers
 
 count_state : (n : ℕ) (state : RowState) (numbers : List ℕ) → times n (cons_option (up_number state) numbers) ≡ cond (runs_as n state) 1 0 + times n numbers
 count_state n Undefined numbers = omega arith

@@ -15,7 +15,8 @@ ghost use Rattle.otp_rules.specs.Places.{is_temporary};
 ghost use Rattle.otp_rules.specs.Restarts.{running};
 ghost use Rattle.otp_rules.specs.Stops.{is_exit};
 ghost use Rattle.otp_needs.specs.Begun.{left};
-ghost use Rattle.otp_needs.specs.Ups.{ends_counted, passes, runs_as};
+ghost use Rattle.otp_needs.specs.Ups.{ends_counted, passes};
+ghost use Rattle.otp_rules.specs.Fit.{runs_as};
 
 use otp_lists::places::is_temporary;
 use otp_lists::stops::is_exit;

@@ -1,24 +1,20 @@
 -- A process that lives after an event lived before it, or is started by it.
-use Rattle.std.specs.Prelude.{◌≡◌, ◌⊎◌, ℕ, ◌==◌, ◌+◌, ◌≤◌, ◌<◌, ◌++◌, ◌&&◌, ◌||◌, Bool, true, false, List, [], ◌∷◌, Option, None, Some, AllPairs, All, Contains, refl, if◌then◌else◌, position, is_some, nat_le, nat_lt, slice_set, slice_range, length, remove, map, take, drop, count_by, unwrap_or}
-use Rattle.std.specs.List.{cons_option, list_any}
+use Rattle.std.specs.Prelude.{◌≡◌, ◌⊎◌, ℕ, ◌==◌, ◌+◌, ◌≤◌, ◌<◌, ◌++◌, ◌&&◌, ◌||◌, Bool, true, false, List, [], ◌∷◌, Option, None, Some, Contains, refl, if◌then◌else◌, position, is_some, slice_set, slice_range, length, remove, take, drop, count_by, unwrap_or}
+use Rattle.std.specs.List.{list_any}
 use Rattle.std.proofs.Common.{◌∙◌, ap, sym, subst, inl, inr, arith, ⊎_elim, cond, rules}
-use Rattle.std.proofs.lemmas.Bool.{false≢true, cond_both, cases_Bool, eqb-true, eq-eqb, and_from, and_parts}
+use Rattle.std.proofs.lemmas.Bool.{false≢true, cases_Bool, eqb-true, eq-eqb, and_from, and_parts}
 use Rattle.std.proofs.lemmas.List.Sums.{sum_by-append, sum_by-cons, sum_by-take-drop}
 use Rattle.std.proofs.lemmas.List.Folds.{drop_split}
-use Rattle.std.proofs.lemmas.List.Elements.{All-head}
-use Prim.Native.Nat.{zero, suc}
 use Rattle.std.proofs.Common.{get_or}
 use Rattle.std.proofs.lemmas.List.Folds.{list_any-append}
 use Rattle.std.proofs.lemmas.List.Quantifiers.{position-Some}
 use Rattle.std.proofs.lemmas.List.Sums.{sum_by-remove}
 use Rattle.otp_reason.specs.declared.note.Note.{Note}
 use Rattle.otp_reason.specs.declared.note.Note.TheVariants as note
-use Rattle.otp_spec.specs.declared.flags.Strategy.{Strategy}
 use Rattle.otp_table.specs.declared.row.Row.{Row}
 use Rattle.otp_table.specs.declared.row.RowState.{RowState}
 use Rattle.otp_table.specs.declared.row.RowState.TheVariants.{Undefined, Starting, Up, Asked, Killed, Restarting}
-use Rattle.otp_table.specs.Rows.{has_process, has_slot, is_awaited, is_undefined, row_has, with_state, calm_rows, calmed, free_slot}
-use Rattle.otp_window.specs.Period.{in_period}
+use Rattle.otp_table.specs.Rows.{has_process, has_slot, is_awaited, row_has, with_state, calm_rows, free_slot}
 use Rattle.otp_rules.specs.declared.ending.Ending.{Ending}
 use Rattle.otp_rules.specs.declared.ending.Ending.TheVariants as ending
 use Rattle.otp_rules.specs.declared.event.Event.{Event}
@@ -33,14 +29,14 @@ use Rattle.otp_rules.specs.declared.work.Sequel.{Sequel}
 use Rattle.otp_rules.specs.declared.work.Sequel.TheVariants as sequel
 use Rattle.otp_rules.specs.declared.work.Due.{Due}
 use Rattle.otp_spec.specs.Flags.{is_simple}
-use Rattle.otp_rules.specs.State.{Outcome, State, answer, is_busy, with_rows, with_stamps, with_waiting, with_work}
+use Rattle.otp_rules.specs.State.{Outcome, State, answer, is_busy, with_rows, with_waiting, with_work}
 use Rattle.otp_rules.specs.Places.{end_row, end_process, is_removed, set_row}
-use Rattle.otp_rules.specs.Restarts.{affected_from, affected_to, running}
-use Rattle.otp_rules.specs.Stops.{calm_all, is_exit, without, told, tell_row, tell, use_exit, stop_each, terminate_ordered, terminate_together, terminate}
+use Rattle.otp_rules.specs.Restarts.{running}
+use Rattle.otp_rules.specs.Stops.{calm_all, is_exit, without, told, tell_row, tell, use_exit, stop_each, terminate}
 use Rattle.otp_rules.specs.Starts.{is_due, start_row, start}
 use Rattle.otp_rules.specs.Ends.{end_all, refuse_all}
 use Rattle.otp_rules.specs.Work.{follow, start_first, stop_first, advance}
-use Rattle.otp_rules.specs.Deaths.{restart_rows, restart_or_end, restart}
+use Rattle.otp_rules.specs.Deaths.{restart_rows, restart}
 use Rattle.otp_rules.specs.Calls.{new_row}
 use Rattle.otp_rules.specs.Step.{open_rows, tick, decide, stamped, step, step_on, killed, late_number}
 use Rattle.otp_rules.specs.Run.{empty_state, state_after}
@@ -52,21 +48,21 @@ use Rattle.otp_rules.specs.declared.event.Effect.TheVariants as effect
 use Rattle.otp_rules.specs.Deaths.{after_end, death, exit_in, take_exit}
 use Rattle.otp_rules.specs.Restarts.{ends_by_significance, is_restarted}
 use Rattle.otp_rules.specs.Starts.{at_starting, failed_after, if_starting, take_failed, take_ignored}
-use Rattle.otp_rules.specs.Step.{if_idle, open_with, opening_specs, resume, rows_from, take_item, take_note, take_waiting}
-use Rattle.otp_rules.specs.Needs.{IsNumbered, is_start, needs_number, numbers_of}
+use Rattle.otp_rules.specs.Step.{open_with, opening_specs, resume, rows_from, take_item, take_note, take_waiting}
+use Rattle.otp_rules.specs.Needs.{is_start, needs_number}
 use Rattle.otp_rules.specs.Homes.{Brings, end_number}
 use Rattle.otp_rules.specs.Fit.{rows_in, is_starting, IsLimited, IsSound}
 use Rattle.otp_rules.specs.Progress.{is_end}
-use Rattle.otp_rules.specs.Lives.{IsHeldIn}
 use Rattle.otp_rules.specs.Alive.{EndsChild, LivesIn, ProcessesLived, is_told_by}
+use Rattle.otp_rules.proofs.Walks.{advance-by, stop_each-by, stop_first-by, terminate-by, with_stops, counted_restart}
 use Rattle.otp_rules.proofs.Calm.{IsCalm, is_stop, run-calm}
-use Rattle.otp_rules.proofs.Decisions.{BringsExit, SurvivesEvent, StandsAt, at_row-survives, at_number-survives, by_test, decide-survives_event, is_down}
-use Rattle.otp_rules.proofs.Counting.{at_row-found, end_row-quiet, put_count, remove_count, rows_in-at, rows_in-cons, rows_in-end, rows_in-set, set_count, tick_count, use_exit-quiet}
+use Rattle.otp_rules.proofs.Decisions.{SurvivesEvent, StandsAt, at_row-survives, at_number-survives, by_test, decide-survives_event}
+use Rattle.otp_rules.proofs.Counting.{at_row-found, end_row-quiet, put_count, remove_count, rows_in-at, rows_in-cons, rows_in-end, rows_in-set, set_count, tick_count, use_exit-quiet, rows_in-apart}
 use Rattle.otp_rules.proofs.EndedRows.{IsBare}
 use Rattle.otp_rules.proofs.Finishing.{AreOne, Finishes, not_starting, zero_or_more}
-use Rattle.otp_rules.proofs.Homes.{has_starting, same_process, told_has}
-use Rattle.otp_rules.proofs.Lasting.{IsInOrder, calm-lives, contains_counts, counts_contain, is_live, lives, map-lives, one_process, run-in_order, tick_one, up_has}
-use Rattle.otp_rules.proofs.Numbers.{NoMore, affected_in_order, calm_process, counted_length, end-no_more, follow-no_more, holders, no_more-survives, remove-no_more, restart_rows-no_more, set-no_more, tell-no_more, terminate-no_more, told_process, use_exit-no_more}
+use Rattle.otp_rules.proofs.Homes.{has_starting, same_process}
+use Rattle.otp_rules.proofs.Lasting.{IsInOrder, calm-lives, contains_counts, counts_contain, is_live, lives, map-lives, run-in_order, tick_one, restarted-lives}
+use Rattle.otp_rules.proofs.Numbers.{NoMore, calm_process, end-no_more, holders, no_more-survives, remove-no_more, restart_rows-no_more, set-no_more, tell-no_more, terminate-no_more, told_process, use_exit-no_more, restart-within}
 use Rattle.otp_rules.proofs.Sound.{empty-sound}
 
 -- how many Exits of the process wait
@@ -218,46 +214,23 @@ tell-stays : (D : Type 0) (slot p m q : ℕ) (o : Outcome) → Stays D slot p m 
 tell-stays D slot p m q o h = let less : NoMore o (tell q o) = tell-no_more q o o (same_less o) in stays-less D slot p m o (tell q o) (less p) (exits-same p o (tell q o) (tell-waiting q o)) (tell-fewer slot p q o) h
 
 stop_each-stays : (D : Type 0) (slot p m : ℕ) (qs : List ℕ) (o : Outcome) → Stays D slot p m o → Stays D slot p m (stop_each qs o)
-unfolding stop_each
-stop_each-stays D slot p m [] o h = h
-stop_each-stays D slot p m (q ∷ qs) o h =
-    let place : Option ℕ = position (is_exit q) o.state.waiting in
-    by_test (Stays D slot p m) (is_some place) (stop_each qs (use_exit q place o)) (stop_each qs (tell q o))
-    (λ _. stop_each-stays D slot p m qs (use_exit q place o) (use_exit-stays D slot p m q o h))
-    (λ _. stop_each-stays D slot p m qs (tell q o) (tell-stays D slot p m q o h))
+stop_each-stays D slot p m = stop_each-by (Stays D slot p m) (λ q o _ h. use_exit-stays D slot p m q o h) (λ q o _ h. tell-stays D slot p m q o h)
 
 terminate-stays : (D : Type 0) (slot p m : ℕ) (e : Ending) (o : Outcome) → Stays D slot p m o → Stays D slot p m (terminate e o)
-unfolding terminate terminate_together terminate_ordered
 terminate-stays D slot p m e o h =
     let calm : Stays D slot p m (calm_all o) = stays-less D slot p m o (calm_all o) (omega (arith, calm_process p o.state.rows)) (omega arith) (omega (arith, calm-lives slot p o.state.rows)) h in
-    by_test (Stays D slot p m) (is_simple o.state.flags.strategy) (terminate_together e o) (terminate_ordered e o)
+    terminate-by (Stays D slot p m) e o
     (λ _. stop_each-stays D slot p m (running o.state.rows) (calm_all (with_work [] [] (Some (sequel.End e)) o)) calm)
     (λ _. calm)
 
-restarted-fewer : (slot p from to : ℕ) (rows : List Row) → from ≤ to → lives slot p (take from rows ++ calm_rows (slice_range rows from to) ++ drop to rows) ≤ lives slot p rows
-restarted-fewer slot p from to rows le =
-    let t : Row → ℕ = λ (r : Row). cond (is_live slot p r) 1 0 in
-    let part : List Row = slice_range rows from to in
-    let split : lives slot p (drop from rows) ≡ lives slot p part + lives slot p (drop to rows) = ap (λ (xs : List Row). lives slot p xs) (drop_split rows from to le) ∙ sum_by-append t part (drop to rows) in
-    let all : lives slot p (take from rows) + lives slot p (drop from rows) ≡ lives slot p rows = sum_by-take-drop t rows from in
-    omega (arith, sum_by-append t (take from rows ++ calm_rows part) (drop to rows), sum_by-append t (take from rows) (calm_rows part), calm-lives slot p part, split, all)
-
 -- the restart of a child whose row is down already
 restart-stays : (D : Type 0) (slot p m k place : ℕ) (row : Row) (o : Outcome) → StandsAt place row o → Stays D slot p m (set_row place row Undefined o) → Stays D slot p m (restart k place row o)
-unfolding restart restart_or_end restart_rows
+unfolding restart_rows
 restart-stays D slot p m k place row o at h =
-    let down : Outcome = set_row place row Undefined o in
-    let counted : Outcome = with_stamps (o.state.stamps ++ o.state.last ∷ []) down in
-    let rows : List Row = down.state.rows in
-    let strategy : Strategy = o.state.flags.strategy in
-    let from : ℕ = affected_from strategy place in
-    let to : ℕ = affected_to strategy place (length rows) in
-    let le : from ≤ to = affected_in_order strategy place (length rows) (omega (arith, counted_length place row o at)) in
+    let counted : Outcome = counted_restart place row o in
+    restart-within (Stays D slot p m) k place row o at (terminate-stays D slot p m ending.Intensity counted h) (λ from to le.
     let less : NoMore counted (restart_rows from to place k counted) = restart_rows-no_more from to place k counted counted le (same_less counted) in
-    by_test (Stays D slot p m) (nat_lt o.state.flags.intensity (in_period o.state.flags.period (o.state.stamps ++ o.state.last ∷ []) o.state.last))
-    (terminate ending.Intensity counted) (restart_rows from to place k counted)
-    (λ _. terminate-stays D slot p m ending.Intensity counted h)
-    (λ _. stays-less D slot p m counted (restart_rows from to place k counted) (less p) (omega arith) (restarted-fewer slot p from to rows le) h)
+    stays-less D slot p m counted (restart_rows from to place k counted) (less p) (omega arith) (omega (arith, restarted-lives slot p from to counted.state.rows le)) h)
 
 answer-stays : (D : Type 0) (slot p m c : ℕ) (r : Reply) (o : Outcome) → Stays D slot p m o → Stays D slot p m (answer c r o)
 unfolding answer
@@ -388,19 +361,11 @@ after_end-none p q row o none =
     by_test (λ (x : Outcome). holders p x ≡ 0) (ends_by_significance o.state.flags.auto_shutdown row o.state.rows) (terminate (ending.Significant q) o) o (λ _. omega (arith, less p, none)) (λ _. none)
 
 restart-none : (p k place : ℕ) (row : Row) (o : Outcome) → StandsAt place row o → holders p (set_row place row Undefined o) ≡ 0 → holders p (restart k place row o) ≡ 0
-unfolding restart restart_or_end
 restart-none p k place row o at none =
-    let counted : Outcome = with_stamps (o.state.stamps ++ o.state.last ∷ []) (set_row place row Undefined o) in
-    let strategy : Strategy = o.state.flags.strategy in
-    let from : ℕ = affected_from strategy place in
-    let to : ℕ = affected_to strategy place (length counted.state.rows) in
-    let le : from ≤ to = affected_in_order strategy place (length counted.state.rows) (omega (arith, counted_length place row o at)) in
-    let over : NoMore counted (terminate ending.Intensity counted) = terminate-no_more ending.Intensity counted counted (same_less counted) in
-    let again : NoMore counted (restart_rows from to place k counted) = restart_rows-no_more from to place k counted counted le (same_less counted) in
-    by_test (λ (x : Outcome). holders p x ≡ 0) (nat_lt o.state.flags.intensity (in_period o.state.flags.period (o.state.stamps ++ o.state.last ∷ []) o.state.last))
-    (terminate ending.Intensity counted) (restart_rows from to place k counted)
-    (λ _. omega (arith, over p, none))
-    (λ _. omega (arith, again p, none))
+    let counted : Outcome = counted_restart place row o in
+    restart-within (λ (x : Outcome). holders p x ≡ 0) k place row o at
+    (let over : NoMore counted (terminate ending.Intensity counted) = terminate-no_more ending.Intensity counted counted (same_less counted) in omega (arith, over p, none))
+    (λ from to le. let again : NoMore counted (restart_rows from to place k counted) = restart_rows-no_more from to place k counted counted le (same_less counted) in omega (arith, again p, none))
 
 death-none : (p : ℕ) (r : Reason) (place : ℕ) (row : Row) (o : Outcome) → holders p o ≤ 1 → StandsAt place row o → has_process p row.state ≡ true → holders p (death p r place row o) ≡ 0
 unfolding death
@@ -441,8 +406,7 @@ is_past_start p (Killed q) = q == p
 is_past_start p (Restarting _) = false
 
 two_kinds : (p : ℕ) (rows : List Row) → rows_in (is_starting p) rows + rows_in (is_past_start p) rows ≤ rows_in (has_process p) rows
-two_kinds p [] = omega arith
-two_kinds p (row ∷ rows) = omega (arith, one row.state, rows_in-cons (is_starting p) row rows, rows_in-cons (is_past_start p) row rows, rows_in-cons (has_process p) row rows, two_kinds p rows)
+two_kinds p = rows_in-apart (is_starting p) (is_past_start p) (has_process p) one
   where
     one : (state : RowState) → cond (is_starting p state) 1 0 + cond (is_past_start p state) 1 0 ≤ cond (has_process p state) 1 0
     one Undefined = omega arith
@@ -611,22 +575,13 @@ start_first-goes D slot p m [] n o h = inl (follow-stays D slot p m o.state.foll
 start_first-goes D slot p m (due ∷ dues) n o h = start-goes D slot p m due n (with_work o.state.to_stop dues o.state.follows o) h
 
 stop_first-goes : (D : Type 0) (slot p m : ℕ) (qs : List ℕ) (n : ℕ) (o : Outcome) → Stays D slot p m o → Goes D slot p m n (stop_first qs n o)
-unfolding stop_first
-stop_first-goes D slot p m [] n o h = start_first-goes D slot p m o.state.to_start n o h
-stop_first-goes D slot p m (q ∷ qs) n o h =
-    let place : Option ℕ = position (is_exit q) o.state.waiting in
-    let left : Outcome = with_work qs o.state.to_start o.state.follows o in
-    by_test (Goes D slot p m n) (is_some place) (stop_first qs n (use_exit q place left)) (tell q left)
-    (λ _. stop_first-goes D slot p m qs n (use_exit q place left) (use_exit-stays D slot p m q left h))
-    (λ _. inl (tell-stays D slot p m q left h))
+stop_first-goes D slot p m qs n =
+    stop_first-by (λ _. Stays D slot p m) (Goes D slot p m n) n (λ o h. start_first-goes D slot p m o.state.to_start n o h)
+    (λ q rest o _ h. use_exit-stays D slot p m q (with_stops rest o) h) (λ q rest o h. inl (tell-stays D slot p m q (with_stops rest o) h)) qs
 
 advance-goes_on : (D : Type 0) (slot p m n : ℕ) (o : Outcome) → Stays D slot p m o → Goes D slot p m n (advance n o)
-unfolding advance
 advance-goes_on D slot p m n o h =
-    let go : Outcome = stop_first o.state.to_stop n o in
-    by_test (Goes D slot p m n) (is_busy o) (if list_any (row_has is_awaited) o.state.rows then o else go) o
-    (λ busy. by_test (Goes D slot p m n) (list_any (row_has is_awaited) o.state.rows) o go (λ _. inl h) (λ _. stop_first-goes D slot p m o.state.to_stop n o h))
-    (λ _. inl h)
+    advance-by (Goes D slot p m n) n o (inl h) (λ busy _. stop_first-goes D slot p m o.state.to_stop n o h)
 
 step-goes_on : (D : Type 0) (slot p m : ℕ) (s : State) (e : Event) → Stays D slot p m (decide e.kind (record { state = stamped e.reading s; orders = [] })) → Goes D slot p m (unwrap_or e.number 0) (step s e)
 unfolding step step_on

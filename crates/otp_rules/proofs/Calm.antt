@@ -1,13 +1,11 @@
 -- While a child is stopped for a call, no start is awaited, and none is to come.
-use Rattle.std.specs.Prelude.{◌≡◌, ℕ, ◌+◌, ◌++◌, Bool, true, false, List, [], ◌∷◌, Option, None, Some, refl, if◌then◌else◌, position, is_some, nat_lt, slice_set, length, unwrap_or}
-use Rattle.std.specs.List.{list_any}
+use Rattle.std.specs.Prelude.{◌≡◌, ℕ, ◌+◌, ◌++◌, Bool, true, false, List, [], ◌∷◌, Option, None, Some, refl, position, is_some, slice_set, unwrap_or}
 use Rattle.std.proofs.Common.{◌∙◌, ap, sym, arith, cond}
 use Rattle.std.proofs.lemmas.Bool.{false≢true}
 use Rattle.otp_table.specs.declared.row.Row.{Row}
 use Rattle.otp_table.specs.declared.row.RowState.{RowState}
 use Rattle.otp_table.specs.declared.row.RowState.TheVariants.{Undefined}
-use Rattle.otp_table.specs.Rows.{is_awaited, row_has, with_state}
-use Rattle.otp_window.specs.Period.{in_period}
+use Rattle.otp_table.specs.Rows.{with_state}
 use Rattle.otp_rules.specs.declared.call.Reply.{Reply}
 use Rattle.otp_rules.specs.declared.ending.Ending.{Ending}
 use Rattle.otp_rules.specs.declared.ending.Ending.TheVariants as ending
@@ -17,20 +15,20 @@ use Rattle.otp_rules.specs.declared.work.Sequel.{Sequel}
 use Rattle.otp_rules.specs.declared.work.Sequel.TheVariants as sequel
 use Rattle.otp_rules.specs.declared.work.Due.{Due}
 use Rattle.otp_rules.specs.State.{Outcome, State, answer, is_busy, with_stamps, with_waiting, with_work}
-use Rattle.otp_rules.specs.Places.{at_number, end_row, end_process, set_row}
-use Rattle.otp_rules.specs.Restarts.{affected_from, affected_to}
+use Rattle.otp_rules.specs.Places.{end_row, end_process, set_row}
 use Rattle.otp_rules.specs.Stops.{is_exit, without, told, tell_row, tell, use_exit, terminate}
 use Rattle.otp_rules.specs.Starts.{is_due, start_row, start}
 use Rattle.otp_rules.specs.Ends.{end_all, refuse_all}
 use Rattle.otp_rules.specs.Work.{follow, start_first, stop_first, advance}
-use Rattle.otp_rules.specs.Deaths.{restart_rows, restart_or_end, restart}
+use Rattle.otp_rules.specs.Deaths.{restart_rows, restart}
 use Rattle.otp_rules.specs.Step.{open_rows, open_with, tick, decide, stamped, step, step_on}
-use Rattle.otp_rules.specs.Run.{empty_state, state_after}
+use Rattle.otp_rules.specs.Run.{state_after}
 use Rattle.otp_rules.specs.Fit.{rows_in, IsSound}
-use Rattle.otp_rules.proofs.Decisions.{StandsAt, Survives, at_number-survives, at_row-survives, by_test, decide-survives}
-use Rattle.otp_rules.proofs.Counting.{Alike, end_row-alike, none_in, rows_in-end, rows_in-set, tell-alike, tick_count, use_exit-alike}
+use Rattle.otp_rules.proofs.Walks.{advance-by, restart-by, stop_first-by, with_stops}
+use Rattle.otp_rules.proofs.Decisions.{StandsAt, Survives, at_number-survives, at_row-survives, decide-survives}
+use Rattle.otp_rules.proofs.Counting.{Alike, end_row-alike, rows_in-end, rows_in-set, tick_count}
 use Rattle.otp_rules.proofs.Finishing.{begun_awaited, is_begun, not_starting, told-begun}
-use Rattle.otp_rules.proofs.Sound.{IsReady, advance-sound, awaits_nothing, sound-survives, used-ready}
+use Rattle.otp_rules.proofs.Sound.{advance-sound, awaits_nothing, sound-survives}
 use Rattle.otp_rules.proofs.WhileOpen.{terminate-follows}
 
 abbrev pub is_stop : Option Sequel → Bool
@@ -75,11 +73,10 @@ terminate-calm : (e : Ending) (o : Outcome) → IsCalm (terminate e o).state
 terminate-calm e o h = absurd (other_follows (terminate e o).state.follows (Some (sequel.End e)) (terminate-follows e o) refl h)
 
 restart-calm : (k place : ℕ) (row : Row) (o : Outcome) → IsCalm (restart k place row o).state
-unfolding restart restart_or_end restart_rows
+unfolding restart_rows
 restart-calm k place row o =
     let counted : Outcome = with_stamps (o.state.stamps ++ o.state.last ∷ []) (set_row place row Undefined o) in
-    by_test (λ (x : Outcome). IsCalm x.state) (nat_lt o.state.flags.intensity (in_period o.state.flags.period (o.state.stamps ++ o.state.last ∷ []) o.state.last))
-    (terminate ending.Intensity counted) (restart_rows (affected_from o.state.flags.strategy place) (affected_to o.state.flags.strategy place (length counted.state.rows)) place k counted)
+    restart-by (λ (x : Outcome). IsCalm x.state) k place row o
     (λ _. terminate-calm ending.Intensity counted)
     (λ _ e. absurd (false≢true e))
 
@@ -154,22 +151,13 @@ start_first-calm (due ∷ dues) n o is h =
     λ e. absurd (let no : due ∷ dues ≡ [] = sym is ∙ (h (sym (ap is_stop (start-follows due n left)) ∙ e)).1 in cc)
 
 stop_first-calm : (ps : List ℕ) (n : ℕ) (o : Outcome) → IsCalm o.state → IsCalm (stop_first ps n o).state
-unfolding stop_first
-stop_first-calm [] n o h = start_first-calm o.state.to_start n o refl h
-stop_first-calm (p ∷ ps) n o h =
-    let place : Option ℕ = position (is_exit p) o.state.waiting in
-    let left : Outcome = with_work ps o.state.to_start o.state.follows o in
-    by_test (λ (x : Outcome). IsCalm x.state) (is_some place) (stop_first ps n (use_exit p place left)) (tell p left)
-    (λ _. stop_first-calm ps n (use_exit p place left) (use_exit-calm p place left h))
-    (λ _. tell-calm p left h)
+stop_first-calm ps n =
+    stop_first-by (λ _ x. IsCalm x.state) (λ x. IsCalm x.state) n (λ o h. start_first-calm o.state.to_start n o refl h)
+    (λ p rest o _ h. use_exit-calm p (position (is_exit p) o.state.waiting) (with_stops rest o) h) (λ p rest o h. tell-calm p (with_stops rest o) h) ps
 
 advance-calm : (n : ℕ) (o : Outcome) → IsCalm o.state → IsCalm (advance n o).state
-unfolding advance
 advance-calm n o h =
-    let go : Outcome = stop_first o.state.to_stop n o in
-    by_test (λ (x : Outcome). IsCalm x.state) (is_busy o) (if list_any (row_has is_awaited) o.state.rows then o else go) o
-    (λ busy. by_test (λ (x : Outcome). IsCalm x.state) (list_any (row_has is_awaited) o.state.rows) o go (λ _. h) (λ _. stop_first-calm o.state.to_stop n o h))
-    (λ _. h)
+    advance-by (λ (x : Outcome). IsCalm x.state) n o h (λ busy _. stop_first-calm o.state.to_stop n o h)
 
 step-calm : (s : State) (e : Event) → IsSound s → IsCalm s → IsSoundCalm (step s e)
 unfolding step step_on

@@ -4,7 +4,7 @@ use Rattle.std.specs.List.{list_any, cons_option, position_or_len}
 use Rattle.std.proofs.Common.{◌∙◌, ap, sym, subst, arith, cond, get_or}
 use Rattle.std.proofs.lemmas.Bool.{cond_both, false≢true, ltb-false, eq-eqb, eqb-true}
 use Rattle.std.proofs.lemmas.List.Quantifiers.{position-Some}
-use Rattle.std.proofs.lemmas.List.Sums.{sum_by-append, sum_by-cons, sum_by-set, sum_by-remove, sum_by-take-drop, sum_by-take-le}
+use Rattle.std.proofs.lemmas.List.Sums.{sum_by-append, sum_by-cons, sum_by-le-sum_by, sum_by-set, sum_by-remove, sum_by-take-drop, sum_by-take-le}
 use Rattle.std.proofs.lemmas.Option.{slice_get_within, get_or_from_slice_get, slice_get-get_or}
 use Rattle.otp_spec.specs.declared.child.Shutdown.{Shutdown}
 use Rattle.otp_spec.specs.declared.child.Shutdown.TheVariants.{BrutalKill, Milliseconds, Infinity}
@@ -19,6 +19,7 @@ use Rattle.otp_rules.specs.Restarts.{running}
 use Rattle.otp_rules.specs.Stops.{is_exit, without, told, tell_row, tell, use_exit, stop_each}
 use Rattle.otp_rules.specs.Step.{killed, late_by, late_number, tick}
 use Rattle.otp_rules.specs.Fit.{is_told, rows_in, times, runs_as}
+use Rattle.otp_rules.proofs.Walks.{stop_each-by}
 use Rattle.otp_rules.proofs.Decisions.{StandsAt, at_number-survives, by_test, AtPassing}
 use Rattle.std.proofs.lemmas.List.Sorted.{sum_by-IsPermutation, IsPermutation-reverse}
 use Prim.Native.Nat.{suc}
@@ -35,6 +36,19 @@ rows_in-cons t row rows = sum_by-cons (λ (r : Row). cond (row_has t r) 1 0) row
 
 pub rows_in-append : (t : RowState → Bool) (xs ys : List Row) → rows_in t (xs ++ ys) ≡ rows_in t xs + rows_in t ys
 rows_in-append t xs ys = sum_by-append (λ (r : Row). cond (row_has t r) 1 0) xs ys
+
+-- of two tests the second passes wherever the first does
+pub rows_in-le : (s t : RowState → Bool) → ((state : RowState) → cond (s state) 1 0 ≤ cond (t state) 1 0) → (rows : List Row) → rows_in s rows ≤ rows_in t rows
+rows_in-le s t less rows = sum_by-le-sum_by (λ (row : Row). cond (row_has s row) 1 0) (λ (row : Row). cond (row_has t row) 1 0) rows (λ row. less row.state)
+
+pub cond_le : (b c : Bool) → (b ≡ true → c ≡ true) → cond b 1 0 ≤ cond c 1 0
+cond_le true c h = subst (λ (x : Bool). 1 ≤ cond x 1 0) (sym (h refl)) (omega arith)
+cond_le false c h = omega arith
+
+-- no state passes both of two tests, and a third passes wherever one of them does
+pub rows_in-apart : (s t u : RowState → Bool) → ((state : RowState) → cond (s state) 1 0 + cond (t state) 1 0 ≤ cond (u state) 1 0) → (rows : List Row) → rows_in s rows + rows_in t rows ≤ rows_in u rows
+rows_in-apart s t u apart [] = omega arith
+rows_in-apart s t u apart (row ∷ rows) = omega (arith, apart row.state, rows_in-cons s row rows, rows_in-cons t row rows, rows_in-cons u row rows, rows_in-apart s t u apart rows)
 
 -- one row changes
 pub set_count : (p : Row → Bool) (rows : List Row) (place : ℕ) (row new : Row) → slice_get rows place ≡ Some row → count_by p (slice_set rows place new) + cond (p row) 1 0 ≡ count_by p rows + cond (p new) 1 0
@@ -98,14 +112,9 @@ use_exit-alike p place o =
     (λ i row at h. end_row-alike i row (with_waiting (without o.state.waiting place) o))
 
 pub stop_each-alike : (ps : List ℕ) (o : Outcome) → Alike (stop_each ps o) o
-unfolding stop_each
-stop_each-alike [] o = alike o
-stop_each-alike (p ∷ ps) o =
-    let used : Outcome = use_exit p (position (is_exit p) o.state.waiting) o in
-    let asked : Outcome = tell p o in
-    by_test (λ x. Alike x o) (is_some (position (is_exit p) o.state.waiting)) (stop_each ps used) (stop_each ps asked)
-    (λ _. alike-chain (stop_each ps used) used o (stop_each-alike ps used) (use_exit-alike p (position (is_exit p) o.state.waiting) o))
-    (λ _. alike-chain (stop_each ps asked) asked o (stop_each-alike ps asked) (tell-alike p o))
+stop_each-alike ps o =
+    stop_each-by (λ x. Alike x o) (λ p x _ h. let place : Option ℕ = position (is_exit p) x.state.waiting in alike-chain (use_exit p place x) x o (use_exit-alike p place x) h)
+    (λ p x _ h. alike-chain (tell p x) x o (tell-alike p x) h) ps o (alike o)
 
 -- what has been told to stop is awaited, and no more up
 pub told-runs : (now p q : ℕ) (s : Shutdown) → runs_as q (told now p s) ≡ false

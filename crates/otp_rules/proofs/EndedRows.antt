@@ -1,11 +1,9 @@
 -- A supervisor that has ended has no rows.
-use Rattle.std.specs.Prelude.{◌≡◌, ◌⊎◌, ℕ, Bool, true, false, List, [], ◌∷◌, Option, None, Some, refl, if◌then◌else◌, position, is_some, slice_get, unwrap_or, map}
-use Rattle.std.specs.List.{list_any}
+use Rattle.std.specs.Prelude.{◌≡◌, ◌⊎◌, ℕ, Bool, true, false, List, [], ◌∷◌, Option, None, Some, refl, position, is_some, slice_get, unwrap_or, map}
 use Rattle.std.proofs.Common.{◌∙◌, ap, sym, inl, inr, ⊎_elim}
 use Rattle.std.proofs.lemmas.Bool.{false≢true}
 use Rattle.otp_table.specs.declared.row.Row.{Row}
 use Rattle.otp_table.specs.declared.row.RowState.TheVariants.{Undefined}
-use Rattle.otp_table.specs.Rows.{is_awaited, row_has}
 use Rattle.otp_rules.specs.declared.call.Reply.{Reply}
 use Rattle.otp_rules.specs.declared.ending.Ending.TheVariants as ending
 use Rattle.otp_rules.specs.declared.event.Event.{Event}
@@ -15,7 +13,7 @@ use Rattle.otp_rules.specs.declared.work.Sequel.TheVariants as sequel
 use Rattle.otp_rules.specs.declared.work.Due.{Due}
 use Rattle.otp_rules.specs.State.{Outcome, State, answer, is_busy, is_over, with_work}
 use Rattle.otp_rules.specs.Places.{end_row, set_row}
-use Rattle.otp_rules.specs.Stops.{is_exit, tell, terminate, use_exit}
+use Rattle.otp_rules.specs.Stops.{is_exit, terminate}
 use Rattle.otp_rules.specs.Starts.{is_due, start, start_row}
 use Rattle.otp_rules.specs.Ends.{end_all, refuse_all}
 use Rattle.otp_rules.specs.Work.{advance, follow, start_first, stop_first}
@@ -24,7 +22,8 @@ use Rattle.otp_rules.specs.Step.{decide, killed, late_number, open_rows, stamped
 use Rattle.otp_rules.specs.Run.{empty_state, state_after}
 use Rattle.otp_rules.specs.Fit.{IsSound}
 use Rattle.otp_rules.specs.Lives.{EndedHasNoRows}
-use Rattle.otp_rules.proofs.Decisions.{StandsAt, Survives, at_row-survives, by_test, decide-survives}
+use Rattle.otp_rules.proofs.Walks.{advance-by, stop_first-by, with_stops}
+use Rattle.otp_rules.proofs.Decisions.{StandsAt, Survives, at_row-survives, decide-survives}
 use Rattle.otp_rules.proofs.Counting.{end_row-alike, tell-alike, use_exit-alike}
 use Rattle.otp_rules.proofs.Sound.{advance-sound, empty-sound, sound-survives}
 use Rattle.otp_rules.proofs.Opened.{open_rows-busy}
@@ -119,16 +118,10 @@ start_first-bare (due ∷ dues) n o busy runs =
     inl (at_row-survives (λ (x : Outcome). is_some x.state.follows ≡ true) (is_due due) left (start_row due n) left busy busy (λ i row at has. busy))
 
 stop_first-bare : (ps : List ℕ) (n : ℕ) (o : Outcome) → is_some o.state.follows ≡ true → is_over o.state.phase ≡ false → GoesBare (stop_first ps n o)
-unfolding stop_first
-stop_first-bare [] n o busy runs = start_first-bare o.state.to_start n o busy runs
-stop_first-bare (p ∷ ps) n o busy runs =
-    let place : Option ℕ = position (is_exit p) o.state.waiting in
-    let left : Outcome = with_work ps o.state.to_start o.state.follows o in
-    let used = use_exit-alike p place left in
-    let asked = tell-alike p left in
-    by_test GoesBare (is_some place) (stop_first ps n (use_exit p place left)) (tell p left)
-    (λ _. stop_first-bare ps n (use_exit p place left) (ap (λ (f : Option Sequel). is_some f) used.4 ∙ busy) (ap is_over used.1 ∙ runs))
-    (λ _. inl (ap (λ (f : Option Sequel). is_some f) asked.4 ∙ busy))
+stop_first-bare ps n o busy runs =
+    stop_first-by (λ _ x. (is_some x.state.follows ≡ true) × (is_over x.state.phase ≡ false)) GoesBare n (λ x h. start_first-bare x.state.to_start n x h.0 h.1)
+    (λ p rest x _ h. let used = use_exit-alike p (position (is_exit p) x.state.waiting) (with_stops rest x) in (ap (λ (f : Option Sequel). is_some f) used.4 ∙ h.0, ap is_over used.1 ∙ h.1))
+    (λ p rest x h. inl (ap (λ (f : Option Sequel). is_some f) (tell-alike p (with_stops rest x)).4 ∙ h.0)) ps o (busy, runs)
 
 -- a sound state whose work is open runs
 busy_runs : (s : State) (b : Bool) → is_over s.phase ≡ b → IsSound s → is_some s.follows ≡ true → b ≡ false
@@ -136,13 +129,8 @@ busy_runs s true over sound busy = absurd (false≢true (sym (sound.3 over) ∙ 
 busy_runs s false over sound busy = refl
 
 advance-goes_bare : (n : ℕ) (o : Outcome) → IsSoundBare o → GoesBare (advance n o)
-unfolding advance
 advance-goes_bare n o h =
-    let go : Outcome = stop_first o.state.to_stop n o in
-    by_test GoesBare (is_busy o) (if list_any (row_has is_awaited) o.state.rows then o else go) o
-    (λ busy. by_test GoesBare (list_any (row_has is_awaited) o.state.rows) o go (λ _. inr h.1)
-    (λ _. stop_first-bare o.state.to_stop n o busy (busy_runs o.state (is_over o.state.phase) refl h.0 busy)))
-    (λ _. inr h.1)
+    advance-by GoesBare n o (inr h.1) (λ busy _. stop_first-bare o.state.to_stop n o busy (busy_runs o.state (is_over o.state.phase) refl h.0 busy))
 
 advance-bare : (n : ℕ) (o : Outcome) → IsSoundBare o → IsSoundBare (advance n o)
 advance-bare n o h =

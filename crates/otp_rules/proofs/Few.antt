@@ -1,17 +1,16 @@
 -- How many orders an event gives.
-use Rattle.std.specs.Prelude.{◌≡◌, ℕ, ◌+◌, ◌≤◌, ◌++◌, Bool, true, false, List, [], ◌∷◌, Option, None, Some, refl, if◌then◌else◌, position, is_some, slice_set, nat_lt, length, remove, unwrap_or, count_by}
-use Rattle.std.specs.List.{cons_option, list_any, filter_map}
+use Rattle.std.specs.Prelude.{◌≡◌, ℕ, ◌+◌, ◌≤◌, ◌++◌, Bool, true, false, List, [], ◌∷◌, Option, None, Some, refl, position, is_some, slice_set, length, remove, unwrap_or, count_by}
+use Rattle.std.specs.List.{cons_option, filter_map}
 use Rattle.std.proofs.Common.{◌∙◌, ap, sym, subst, arith, cond, rules}
 use Rattle.std.proofs.lemmas.Bool.{false≢true}
 use Rattle.std.proofs.lemmas.List.{length-map, length-set}
 use Rattle.std.proofs.lemmas.List.Edits.{length-remove}
 use Rattle.std.proofs.lemmas.List.Sums.{sum_by-append, sum_by-cons}
 use Rattle.std.proofs.lemmas.Option.{slice_get_within}
-use Rattle.otp_spec.specs.declared.flags.Strategy.{Strategy}
 use Rattle.otp_table.specs.declared.row.Row.{Row}
 use Rattle.otp_table.specs.declared.row.RowState.{RowState}
 use Rattle.otp_table.specs.declared.row.RowState.TheVariants.{Undefined, Up, Restarting}
-use Rattle.otp_table.specs.Rows.{calm_rows, calmed, is_awaited, row_has, up_number, with_state}
+use Rattle.otp_table.specs.Rows.{calm_rows, calmed, up_number, with_state}
 use Rattle.otp_rules.specs.declared.call.Reply.{Reply}
 use Rattle.otp_rules.specs.declared.ending.Ending.{Ending}
 use Rattle.otp_rules.specs.declared.ending.Ending.TheVariants as ending
@@ -26,18 +25,17 @@ use Rattle.otp_rules.specs.declared.event.Waiting.TheVariants as waiting
 use Rattle.otp_rules.specs.declared.work.Due.{Due}
 use Rattle.otp_rules.specs.declared.work.Sequel.{Sequel}
 use Rattle.otp_rules.specs.declared.work.Sequel.TheVariants as sequel
-use Rattle.otp_spec.specs.Flags.{is_simple}
 use Rattle.otp_rules.specs.State.{Outcome, answer, is_busy, is_over, with_rows, with_stamps, with_waiting, with_work}
 use Rattle.otp_rules.specs.Effects.{OrdersFew, is_order}
 use Rattle.otp_rules.specs.Ends.{sup_end_of, refuse_all, refusal, end_all}
 use Rattle.otp_rules.specs.Places.{end_row, end_process, is_removed, set_row}
-use Rattle.otp_rules.specs.Restarts.{affected_from, affected_to, running}
-use Rattle.otp_rules.specs.Stops.{calm_all, is_exit, without, told, tell_row, tell, use_exit, stop_each, stop_order, terminate_ordered, terminate_together, terminate}
+use Rattle.otp_rules.specs.Restarts.{running}
+use Rattle.otp_rules.specs.Stops.{calm_all, is_exit, without, told, tell_row, tell, use_exit, stop_each, stop_order, terminate}
 use Rattle.otp_rules.specs.Starts.{is_due, start_row, start}
 use Rattle.otp_rules.specs.Work.{follow, start_first, stop_first, advance}
-use Rattle.otp_rules.specs.Deaths.{restart_rows, restart_or_end, restart}
+use Rattle.otp_rules.specs.Deaths.{restart_rows, restart}
 use Rattle.otp_rules.specs.Step.{open_with, open_rows, tick, decide, stamped, step, step_on, kill_order, killed, late_number}
-use Rattle.otp_window.specs.Period.{in_period}
+use Rattle.otp_rules.proofs.Walks.{advance-by, restart-by, terminate-by}
 use Rattle.otp_rules.proofs.Decisions.{StandsAt, SurvivesEvent, at_row-survives, at_number-survives, by_test, decide-survives_event}
 use Rattle.otp_rules.proofs.Counting.{end_row-quiet, stop_each-alike, use_exit-quiet}
 
@@ -126,29 +124,23 @@ calm-length rows = length-map rows (λ (row : Row). with_state (calmed row.state
 
 -- one for each row at most
 terminate-adds : (e : Ending) (o : Outcome) → Adds (length o.state.rows) o (terminate e o)
-unfolding terminate terminate_together terminate_ordered
 terminate-adds e o =
-    by_test (Adds (length o.state.rows) o) (is_simple o.state.flags.strategy) (terminate_together e o) (terminate_ordered e o)
+    terminate-by (Adds (length o.state.rows) o) e o
     (λ _. let all = stop_each-adds (running o.state.rows) (calm_all (with_work [] [] (Some (sequel.End e)) o)) in
     (omega (arith, all.0, running-few o.state.rows), omega (arith, all.1, calm-length o.state.rows)))
     (λ _. (omega arith, omega (arith, calm-length o.state.rows)))
 
 terminate-busy : (e : Ending) (o : Outcome) → is_busy (terminate e o) ≡ true
-unfolding terminate terminate_together terminate_ordered
 terminate-busy e o =
-    by_test (λ (x : Outcome). is_busy x ≡ true) (is_simple o.state.flags.strategy) (terminate_together e o) (terminate_ordered e o)
+    terminate-by (λ (x : Outcome). is_busy x ≡ true) e o
     (λ _. ap (λ (f : Option Sequel). is_some f) (stop_each-alike (running o.state.rows) (calm_all (with_work [] [] (Some (sequel.End e)) o))).4)
     (λ _. refl)
 
 restart-adds : (p place : ℕ) (row : Row) (o : Outcome) → (orders_in (restart p place row o).orders ≤ orders_in o.orders + length o.state.rows) × (is_busy (restart p place row o) ≡ true)
-unfolding restart restart_or_end restart_rows
+unfolding restart_rows
 restart-adds p place row o =
     let counted : Outcome = with_stamps (o.state.stamps ++ o.state.last ∷ []) (set_row place row Undefined o) in
-    let strategy : Strategy = o.state.flags.strategy in
-    let count : ℕ = length counted.state.rows in
-    by_test (λ (x : Outcome). (orders_in x.orders ≤ orders_in o.orders + length o.state.rows) × (is_busy x ≡ true))
-    (nat_lt o.state.flags.intensity (in_period o.state.flags.period (o.state.stamps ++ o.state.last ∷ []) o.state.last))
-    (terminate ending.Intensity counted) (restart_rows (affected_from strategy place) (affected_to strategy place count) place p counted)
+    restart-by (λ (x : Outcome). (orders_in x.orders ≤ orders_in o.orders + length o.state.rows) × (is_busy x ≡ true)) p place row o
     (λ _. let ends = terminate-adds ending.Intensity counted in (omega (arith, ends.0, length-set o.state.rows place (with_state Undefined row)), terminate-busy ending.Intensity counted))
     (λ _. (omega arith, refl))
 
@@ -270,12 +262,8 @@ stop_first-one (p ∷ ps) n o =
     (λ _. (tell-adds p left).0)
 
 advance-one : (n : ℕ) (o : Outcome) → orders_in (advance n o).orders ≤ orders_in o.orders + 1
-unfolding advance
 advance-one n o =
-    let go : Outcome = stop_first o.state.to_stop n o in
-    by_test (λ (x : Outcome). orders_in x.orders ≤ orders_in o.orders + 1) (is_busy o) (if list_any (row_has is_awaited) o.state.rows then o else go) o
-    (λ _. by_test (λ (x : Outcome). orders_in x.orders ≤ orders_in o.orders + 1) (list_any (row_has is_awaited) o.state.rows) o go (λ _. omega arith) (λ _. stop_first-one o.state.to_stop n o))
-    (λ _. omega arith)
+    advance-by (λ (x : Outcome). orders_in x.orders ≤ orders_in o.orders + 1) n o (omega arith) (λ _ _. stop_first-one o.state.to_stop n o)
 
 pub orders_few_law : OrdersFew
 unfolding step step_on

@@ -1,18 +1,15 @@
 -- A supervisor that ends stops each child that runs: none is left when nothing is left to stop.
-use Rattle.std.specs.Prelude.{◌≡◌, ◌⊎◌, ℕ, ◌==◌, ◌+◌, ◌≤◌, ◌<◌, ◌++◌, Bool, true, false, List, [], ◌∷◌, Option, None, Some, refl, if◌then◌else◌, position, is_some, nat_lt, slice_set, length}
-use Rattle.std.specs.List.{cons_option, list_any}
+use Rattle.std.specs.Prelude.{◌≡◌, ◌⊎◌, ℕ, ◌==◌, ◌+◌, ◌≤◌, ◌<◌, ◌++◌, Bool, true, false, List, [], ◌∷◌, Option, None, Some, refl, position, is_some, slice_set}
+use Rattle.std.specs.List.{cons_option}
 use Rattle.std.proofs.Common.{◌∙◌, ap, sym, subst, inl, inr, arith, ⊎_elim, cond}
 use Rattle.std.proofs.lemmas.Bool.{false≢true, cases_Bool, eqb-true}
-use Rattle.std.proofs.lemmas.List.Sums.{sum_by-le-sum_by}
 use Prim.Native.Nat.{zero, suc}
 use Rattle.otp_spec.specs.declared.child.Shutdown.{Shutdown}
 use Rattle.otp_spec.specs.declared.child.Shutdown.TheVariants.{BrutalKill, Milliseconds, Infinity}
-use Rattle.otp_spec.specs.declared.flags.Strategy.{Strategy}
 use Rattle.otp_table.specs.declared.row.Row.{Row}
 use Rattle.otp_table.specs.declared.row.RowState.{RowState}
 use Rattle.otp_table.specs.declared.row.RowState.TheVariants.{Undefined, Starting, Up, Asked, Killed, Restarting}
 use Rattle.otp_table.specs.Rows.{has_process, is_awaited, row_has, with_state, calm_rows, calmed, up_number}
-use Rattle.otp_window.specs.Period.{in_period}
 use Rattle.otp_rules.specs.declared.call.Reply.{Reply}
 use Rattle.otp_rules.specs.declared.ending.Ending.{Ending}
 use Rattle.otp_rules.specs.declared.ending.Ending.TheVariants as ending
@@ -20,20 +17,20 @@ use Rattle.otp_rules.specs.declared.event.Kind.{Kind}
 use Rattle.otp_rules.specs.declared.work.Sequel.{Sequel}
 use Rattle.otp_rules.specs.declared.work.Sequel.TheVariants as sequel
 use Rattle.otp_rules.specs.declared.work.Due.{Due}
-use Rattle.otp_spec.specs.Flags.{is_simple}
 use Rattle.otp_rules.specs.State.{Outcome, State, answer, is_busy, with_stamps, with_waiting, with_work}
 use Rattle.otp_rules.specs.Places.{at_number, end_row, end_process, set_row}
-use Rattle.otp_rules.specs.Restarts.{affected_from, affected_to, running}
-use Rattle.otp_rules.specs.Stops.{calm_all, is_exit, without, told, tell_row, tell, use_exit, stop_each, terminate_ordered, terminate_together, terminate}
+use Rattle.otp_rules.specs.Restarts.{running}
+use Rattle.otp_rules.specs.Stops.{calm_all, is_exit, without, told, tell_row, tell, use_exit, stop_each, terminate}
 use Rattle.otp_rules.specs.Starts.{is_due, start_row, start}
 use Rattle.otp_rules.specs.Ends.{end_all, refuse_all}
 use Rattle.otp_rules.specs.Work.{follow, start_first, stop_first, advance}
-use Rattle.otp_rules.specs.Deaths.{restart_rows, restart_or_end, restart}
+use Rattle.otp_rules.specs.Deaths.{restart_rows, restart}
 use Rattle.otp_rules.specs.Step.{open_rows, open_with, tick, decide}
 use Rattle.otp_rules.specs.Progress.{is_end}
 use Rattle.otp_rules.specs.Fit.{is_told, rows_in, times, runs_as, IsLimited, IsSound}
+use Rattle.otp_rules.proofs.Walks.{advance-by, restart-by, stop_first-by, terminate-by}
 use Rattle.otp_rules.proofs.Decisions.{StandsAt, Survives, at_row-survives, by_test, decide-survives}
-use Rattle.otp_rules.proofs.Counting.{Alike, at_row-found, end_row-alike, none_in, rows_in-at, rows_in-cons, rows_in-end, rows_in-map, rows_in-set, tell-alike, tick_count, times-cons, times-reverse, told-runs, told-told, use_exit-alike}
+use Rattle.otp_rules.proofs.Counting.{Alike, at_row-found, end_row-alike, none_in, rows_in-at, rows_in-cons, rows_in-end, rows_in-map, rows_in-set, tell-alike, tick_count, times-cons, times-reverse, told-runs, told-told, use_exit-alike, rows_in-apart, rows_in-le}
 use Rattle.otp_rules.proofs.Sound.{IsReady, awaits_nothing, sound-survives, used-ready}
 use Rattle.otp_rules.proofs.Numbers.{NoMore, holders, no_more-survives, set-no_more, tell-no_more, use_exit-no_more, calm_process, told_process}
 
@@ -55,7 +52,7 @@ abbrev pub AreOne : Outcome → Type 0
 AreOne o = (q : ℕ) → holders q o ≤ 1
 
 pub begun_awaited : (rows : List Row) → rows_in is_begun rows ≤ rows_in is_awaited rows
-begun_awaited rows = sum_by-le-sum_by (λ (row : Row). cond (is_begun row.state) 1 0) (λ (row : Row). cond (is_awaited row.state) 1 0) rows (λ row. awaits row.state)
+begun_awaited = rows_in-le is_begun is_awaited awaits
   where
     awaits : (state : RowState) → cond (is_begun state) 1 0 ≤ cond (is_awaited state) 1 0
     awaits Undefined = omega arith
@@ -67,8 +64,7 @@ begun_awaited rows = sum_by-le-sum_by (λ (row : Row). cond (is_begun row.state)
 
 -- a row has one state
 runs_or_told : (q : ℕ) (rows : List Row) → rows_in (runs_as q) rows + rows_in (is_told q) rows ≤ rows_in (has_process q) rows
-runs_or_told q [] = omega arith
-runs_or_told q (row ∷ rows) = omega (arith, one row.state, rows_in-cons (runs_as q) row rows, rows_in-cons (is_told q) row rows, rows_in-cons (has_process q) row rows, runs_or_told q rows)
+runs_or_told q = rows_in-apart (runs_as q) (is_told q) (has_process q) one
   where
     one : (state : RowState) → cond (runs_as q state) 1 0 + cond (is_told q state) 1 0 ≤ cond (has_process q state) 1 0
     one Undefined = omega arith
@@ -195,10 +191,9 @@ stop_each-stopping (p ∷ ps) o one h =
 
 -- the supervisor ends while no answer to a start is awaited
 pub terminate-finishes : (e : Ending) (o : Outcome) → AreOne o → rows_in is_begun o.state.rows ≡ 0 → Finishes (terminate e o).state
-unfolding terminate terminate_together terminate_ordered
 terminate-finishes e o one none =
     let calm : rows_in is_begun (calm_rows o.state.rows) ≡ 0 = calm_begun o.state.rows ∙ none in
-    by_test (λ (x : Outcome). Finishes x.state) (is_simple o.state.flags.strategy) (terminate_together e o) (terminate_ordered e o)
+    terminate-by (λ (x : Outcome). Finishes x.state) e o
     (λ _ _.
     let opened : Outcome = calm_all (with_work [] [] (Some (sequel.End e)) o) in
     let done : IsStopping [] (stop_each (running o.state.rows) opened).state.rows =
@@ -244,14 +239,12 @@ down-begun place row o at few =
     omega (arith, e, few, begun_awaited (slice_set o.state.rows place (with_state Undefined row)))
 
 restart-finishes : (k place : ℕ) (row : Row) (o : Outcome) → AreOne o → StandsAt place row o → rows_in is_awaited o.state.rows ≡ 0 → Finishes (restart k place row o).state
-unfolding restart restart_or_end restart_rows
+unfolding restart_rows
 restart-finishes k place row o one at none =
     let down : Outcome = set_row place row Undefined o in
     let counted : Outcome = with_stamps (o.state.stamps ++ o.state.last ∷ []) down in
     let less : NoMore o down = set-no_more place row Undefined o o at (λ q. omega arith) (λ q. omega arith) in
-    let strategy : Strategy = o.state.flags.strategy in
-    by_test (λ (x : Outcome). Finishes x.state) (nat_lt o.state.flags.intensity (in_period o.state.flags.period (o.state.stamps ++ o.state.last ∷ []) o.state.last))
-    (terminate ending.Intensity counted) (restart_rows (affected_from strategy place) (affected_to strategy place (length counted.state.rows)) place k counted)
+    restart-by (λ (x : Outcome). Finishes x.state) k place row o
     (λ _. terminate-finishes ending.Intensity counted (λ q. omega (arith, less q, one q)) (down-begun place row o at (omega (arith, none))))
     (λ _ e. absurd (false≢true e))
 
@@ -344,20 +337,9 @@ start_first-finishes (due ∷ dues) n o is sound =
     at_row-survives (λ (x : Outcome). Finishes x.state) (is_due due) left (start_row due n) left (λ e. absurd (stays e)) (λ e. absurd (stays e)) (λ i row at has e. absurd (stays e))
 
 stop_first-finishes : (ps : List ℕ) (n : ℕ) (o : Outcome) → Stops ps o → Finishes (stop_first ps n o).state
-unfolding stop_first
-stop_first-finishes [] n o h = start_first-finishes o.state.to_start n o refl h.0.0
-stop_first-finishes (p ∷ ps) n o h =
-    let place : Option ℕ = position (is_exit p) o.state.waiting in
-    let left : Outcome = with_work ps o.state.to_start o.state.follows o in
-    by_test (λ (x : Outcome). Finishes x.state) (is_some place) (stop_first ps n (use_exit p place left)) (tell p left)
-    (λ _. stop_first-finishes ps n (use_exit p place left) (used-stops p ps o h))
-    (λ _. tell-finishes p ps o h)
+stop_first-finishes ps n =
+    stop_first-by Stops (λ x. Finishes x.state) n (λ o h. start_first-finishes o.state.to_start n o refl h.0.0) (λ p rest o _ h. used-stops p rest o h) (λ p rest o h. tell-finishes p rest o h) ps
 
 pub advance-finishes : (n : ℕ) (o : Outcome) → IsSound o.state → AreOne o → Finishes o.state → Finishes (advance n o).state
-unfolding advance
 advance-finishes n o sound one h =
-    let go : Outcome = stop_first o.state.to_stop n o in
-    by_test (λ (x : Outcome). Finishes x.state) (is_busy o) (if list_any (row_has is_awaited) o.state.rows then o else go) o
-    (λ busy. by_test (λ (x : Outcome). Finishes x.state) (list_any (row_has is_awaited) o.state.rows) o go (λ _. h)
-    (λ none. stop_first-finishes o.state.to_stop n o ((sound, none_in is_awaited o.state.rows none, refl, busy), one, h)))
-    (λ _. h)
+    advance-by (λ (x : Outcome). Finishes x.state) n o h (λ busy none. stop_first-finishes o.state.to_stop n o ((sound, none_in is_awaited o.state.rows none, refl, busy), one, h))

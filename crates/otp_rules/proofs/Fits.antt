@@ -106,6 +106,14 @@ fits-pop p ps (due ∷ dues) (row ∷ rows) none (inr h) =
     let parts : rows_in (has_process p) (row ∷ rows) ≡ cond (has_process p row.state) 1 0 + rows_in (has_process p) rows = rows_in-cons (has_process p) row rows in
     inr (fits-pop p ps (due ∷ dues) rows (omega (arith, none, parts)) h)
 
+-- where a later row has the process and one at most has it, the first row hasn't
+only_later : (p i : ℕ) (row x : Row) (rows : List Row) → has_process p row.state ≡ true → slice_get rows i ≡ Some row → rows_in (has_process p) (x ∷ rows) ≤ 1 → (has_process p x.state ≡ false) × (rows_in (has_process p) rows ≤ 1)
+only_later p i row x rows has at one =
+    let there : ◌≡◌ {A = ℕ} (cond (has_process p row.state) 1 0) 1 = ap (λ (b : Bool). cond b 1 0) has in
+    let more : cond (has_process p row.state) 1 0 ≤ rows_in (has_process p) rows = rows_in-at (has_process p) i row rows at in
+    let split : rows_in (has_process p) (x ∷ rows) ≡ cond (has_process p x.state) 1 0 + rows_in (has_process p) rows = rows_in-cons (has_process p) x rows in
+    (no_row_has (has_process p x.state) (omega (arith, one, split, more, there)), omega (arith, one, split))
+
 -- one process is stopped: its row is free from now on, or goes, and no other row has it
 pub fits-stop : (p : ℕ) (ps : List ℕ) (place : ℕ) (row : Row) (state : RowState) → has_process p row.state ≡ true → (IsFree (p ∷ ps) row → IsFree ps (with_state state row)) → (dues : List Due) (rows : List Row) → slice_get rows place ≡ Some row → rows_in (has_process p) rows ≤ 1 → Fits (p ∷ ps) dues rows → Fits ps dues (slice_set rows place (with_state state row))
 fits-stop p ps place row state has free [] rows at one h = tt
@@ -119,14 +127,10 @@ fits-stop p ps zero row state has free (due ∷ dues) (x ∷ rows) at one h =
     (λ (k : Fits (p ∷ ps) (due ∷ dues) rows). inr (fits-pop p ps (due ∷ dues) rows none k))
     h
 fits-stop p ps (suc i) row state has free (due ∷ dues) (x ∷ rows) at one h =
-    let there : ◌≡◌ {A = ℕ} (cond (has_process p row.state) 1 0) 1 = ap (λ (b : Bool). cond b 1 0) has in
-    let more : cond (has_process p row.state) 1 0 ≤ rows_in (has_process p) rows = rows_in-at (has_process p) i row rows at in
-    let split : rows_in (has_process p) (x ∷ rows) ≡ cond (has_process p x.state) 1 0 + rows_in (has_process p) rows = rows_in-cons (has_process p) x rows in
-    let other : has_process p x.state ≡ false = no_row_has (has_process p x.state) (omega (arith, one, split, more, there)) in
-    let less : rows_in (has_process p) rows ≤ 1 = omega (arith, one, split) in
+    let later : (has_process p x.state ≡ false) × (rows_in (has_process p) rows ≤ 1) = only_later p i row x rows has at one in
     ⊎_elim
-    (λ (k : Matches due x × IsFree (p ∷ ps) x × Fits (p ∷ ps) dues rows). inl (k.0, free-pop p ps (is_removed x) x.state other k.1, fits-stop p ps i row state has free dues rows at less k.2))
-    (λ (k : Fits (p ∷ ps) (due ∷ dues) rows). inr (fits-stop p ps i row state has free (due ∷ dues) rows at less k))
+    (λ (k : Matches due x × IsFree (p ∷ ps) x × Fits (p ∷ ps) dues rows). inl (k.0, free-pop p ps (is_removed x) x.state later.0 k.1, fits-stop p ps i row state has free dues rows at later.1 k.2))
+    (λ (k : Fits (p ∷ ps) (due ∷ dues) rows). inr (fits-stop p ps i row state has free (due ∷ dues) rows at later.1 k))
     h
 
 pub fits-stop-remove : (p : ℕ) (ps : List ℕ) (place : ℕ) (row : Row) → has_process p row.state ≡ true → (IsFree (p ∷ ps) row → ⊥) → (dues : List Due) (rows : List Row) → slice_get rows place ≡ Some row → rows_in (has_process p) rows ≤ 1 → Fits (p ∷ ps) dues rows → Fits ps dues (remove rows place)
@@ -141,14 +145,10 @@ fits-stop-remove p ps zero row has busy (due ∷ dues) (x ∷ rows) at one h =
     (λ (k : Fits (p ∷ ps) (due ∷ dues) rows). fits-pop p ps (due ∷ dues) rows none k)
     h
 fits-stop-remove p ps (suc i) row has busy (due ∷ dues) (x ∷ rows) at one h =
-    let there : ◌≡◌ {A = ℕ} (cond (has_process p row.state) 1 0) 1 = ap (λ (b : Bool). cond b 1 0) has in
-    let more : cond (has_process p row.state) 1 0 ≤ rows_in (has_process p) rows = rows_in-at (has_process p) i row rows at in
-    let split : rows_in (has_process p) (x ∷ rows) ≡ cond (has_process p x.state) 1 0 + rows_in (has_process p) rows = rows_in-cons (has_process p) x rows in
-    let other : has_process p x.state ≡ false = no_row_has (has_process p x.state) (omega (arith, one, split, more, there)) in
-    let less : rows_in (has_process p) rows ≤ 1 = omega (arith, one, split) in
+    let later : (has_process p x.state ≡ false) × (rows_in (has_process p) rows ≤ 1) = only_later p i row x rows has at one in
     ⊎_elim
-    (λ (k : Matches due x × IsFree (p ∷ ps) x × Fits (p ∷ ps) dues rows). inl (k.0, free-pop p ps (is_removed x) x.state other k.1, fits-stop-remove p ps i row has busy dues rows at less k.2))
-    (λ (k : Fits (p ∷ ps) (due ∷ dues) rows). inr (fits-stop-remove p ps i row has busy (due ∷ dues) rows at less k))
+    (λ (k : Matches due x × IsFree (p ∷ ps) x × Fits (p ∷ ps) dues rows). inl (k.0, free-pop p ps (is_removed x) x.state later.0 k.1, fits-stop-remove p ps i row has busy dues rows at later.1 k.2))
+    (λ (k : Fits (p ∷ ps) (due ∷ dues) rows). inr (fits-stop-remove p ps i row has busy (due ∷ dues) rows at later.1 k))
     h
 
 -- with nothing left to stop and no answer awaited, the row of the next child is undefined

@@ -18,7 +18,6 @@ use Rattle.otp_table.specs.declared.row.Row.{Row}
 use Rattle.otp_table.specs.declared.row.RowState.{RowState}
 use Rattle.otp_table.specs.declared.row.RowState.TheVariants.{Undefined, Starting, Up, Asked, Killed, Restarting}
 use Rattle.otp_table.specs.Rows.{is_awaited, row_has, with_state, calm_rows, calmed, up_number, is_up, free_slot}
-use Rattle.otp_window.specs.Period.{in_period}
 use Rattle.otp_rules.specs.declared.call.Reply.{Reply}
 use Rattle.otp_rules.specs.declared.ending.Ending.{Ending}
 use Rattle.otp_rules.specs.declared.event.Kind.{Kind}
@@ -28,11 +27,13 @@ use Rattle.otp_rules.specs.State.{Outcome, State, answer, with_rows, with_stamps
 use Rattle.otp_rules.specs.Places.{end_row, is_removed, is_temporary, set_row}
 use Rattle.otp_rules.specs.Restarts.{affected_from, affected_to, dues, restart_list, running}
 use Rattle.otp_rules.specs.Stops.{calm_all, terminate_ordered, terminate_together, terminate}
-use Rattle.otp_rules.specs.Deaths.{restart_rows, restart_or_end, restart}
+use Rattle.otp_rules.specs.Deaths.{restart_rows, restart}
 use Rattle.otp_rules.specs.Calls.{new_row}
 use Rattle.otp_rules.specs.Step.{due_of, rows_from, open_with, open_rows, opening_specs, killed, late_number, tick}
 use Rattle.otp_rules.specs.Run.{empty_state}
-use Rattle.otp_rules.specs.Fit.{is_told, rows_in, times, IsSound, is_free, IsFree, Matches, Fits, nameless, IsNamed, IsFitted}
+use Rattle.otp_rules.specs.Fit.{rows_in, times, IsSound, is_free, IsFree, Matches, Fits, nameless, IsNamed, IsFitted}
+use Rattle.otp_rules.proofs.States.{held_goes, told_has}
+use Rattle.otp_rules.proofs.Walks.{restart-by, terminate-by}
 use Rattle.otp_rules.proofs.Decisions.{IsIdle, StandsAt, Survives, by_test}
 use Rattle.std.specs.List.{cons_option, sum_by}
 use Prim.Native.Nat.{zero, suc}
@@ -112,9 +113,8 @@ calm_named : (rows : List Row) → count_by nameless (calm_rows rows) ≡ count_
 calm_named rows = map_count nameless (λ (row : Row). with_state (calmed row.state) row) (λ row. refl) rows
 
 terminate-starts : (e : Ending) (o : Outcome) → (terminate e o).state.to_start ≡ []
-unfolding terminate terminate_together terminate_ordered
 terminate-starts e o =
-    by_test (λ x. x.state.to_start ≡ []) (is_simple o.state.flags.strategy) (terminate_together e o) (terminate_ordered e o)
+    terminate-by (λ x. x.state.to_start ≡ []) e o
     (λ _. (stop_each-alike (running o.state.rows) (calm_all (with_work [] [] (Some (sequel.End e)) o))).3)
     (λ _. refl)
 
@@ -262,7 +262,7 @@ part_named SimpleOneForOne rows place row within is h =
     omega (arith, split, first, zero)
 
 restart-fitted : (b : Bool) (p place : ℕ) (row : Row) (o : Outcome) → IsIdle b o → StandsAt place row o → Stands o → IsFitted (restart p place row o).state
-unfolding restart restart_or_end restart_rows
+unfolding restart_rows
 restart-fitted b p place row o idle at h =
     let counted : Outcome = with_stamps (o.state.stamps ++ o.state.last ∷ []) (set_row place row Undefined o) in
     let rows : List Row = slice_set o.state.rows place (with_state Undefined row) in
@@ -276,9 +276,7 @@ restart-fitted b p place row o idle at h =
     let here : get_or rows place row ≡ with_state Undefined row = get_or-set_same o.state.rows place (with_state Undefined row) row (slice_get_within o.state.rows place row at) in
     let calm : rows_in is_awaited rows ≡ 0 =
     (let e : rows_in is_awaited rows + cond (is_awaited row.state) 1 0 ≡ rows_in is_awaited o.state.rows + 0 = rows_in-set is_awaited place row Undefined o.state.rows at in omega (arith, e, awaits_nothing b o idle h.0)) in
-    by_test (λ x. IsFitted x.state) (nat_lt o.state.flags.intensity (in_period o.state.flags.period (o.state.stamps ++ o.state.last ∷ []) o.state.last))
-    (terminate ending.Intensity counted)
-    (restart_rows from to place p counted)
+    restart-by (λ x. IsFitted x.state) p place row o
     (λ _. terminate-fitted ending.Intensity counted named)
     (λ _. (
       (λ plain.
@@ -334,14 +332,6 @@ answer-fitted : (c : ℕ) (r : Reply) (o : Outcome) → IsFitted o.state → IsF
 unfolding answer
 answer-fitted c r o h = h
 
-told_goes : (ps : List ℕ) (p : ℕ) (state : RowState) → is_told p state ≡ true → is_free ps true state ≡ true → ⊥
-told_goes ps p Undefined h k = false≢true h
-told_goes ps p (Starting _ _) h k = false≢true h
-told_goes ps p (Up _) h k = false≢true h
-told_goes ps p (Asked _ _) h k = false≢true k
-told_goes ps p (Killed _) h k = false≢true k
-told_goes ps p (Restarting _) h k = false≢true h
-
 -- a child that starts isn't free
 starting_busy : (ps : List ℕ) (row : Row) (q kept : ℕ) → row.state ≡ Starting q kept → IsFree ps row → ⊥
 starting_busy ps row q kept is free = false≢true (sym (ap (λ (s : RowState). is_free ps (is_removed row) s) is) ∙ free)
@@ -378,7 +368,7 @@ fitted-survives k b =
       restarted_failed = λ place row q kept c o at is follows x. (s.restarted_failed place row q kept c o at is follows x.0, (set-named place row Undefined o at x.1.0, tt));
       stopped = λ p r place row o at told noted x. (
         s.stopped p r place row o at told noted x.0,
-        ended-fitted place row o at (λ goes free. told_goes o.state.to_stop p row.state told (sym (ap (λ (g : Bool). is_free o.state.to_stop g row.state) goes) ∙ free)) x.1,
+        ended-fitted place row o at (λ goes free. held_goes o.state.to_stop p row.state (told_has p row.state told) (sym (ap (λ (g : Bool). is_free o.state.to_stop g row.state) goes) ∙ free)) x.1,
       );
       died = λ p place row o idle runs at is x. (
         s.died p place row o idle runs at is x.0,

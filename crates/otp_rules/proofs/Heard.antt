@@ -1,5 +1,5 @@
 -- An end that waits was taken while a child had its process.
-use Rattle.std.specs.Prelude.{◌≡◌, ◌⊎◌, ℕ, ◌==◌, ◌<◌, ◌++◌, ◌||◌, Bool, true, false, List, [], ◌∷◌, Option, None, Some, refl, if◌then◌else◌, position, is_some, nat_lt, length, unwrap_or}
+use Rattle.std.specs.Prelude.{◌≡◌, ◌⊎◌, ℕ, ◌==◌, ◌<◌, ◌++◌, ◌||◌, Bool, true, false, List, [], ◌∷◌, Option, None, Some, refl, if◌then◌else◌, position, is_some, unwrap_or}
 use Rattle.std.specs.List.{cons_option, list_any}
 use Rattle.std.proofs.Common.{◌∙◌, ap, sym, subst, inl, inr, arith, ⊎_elim, cond}
 use Rattle.std.proofs.lemmas.Bool.{false≢true, cases_Bool, eq-eqb, eqb-true}
@@ -7,11 +7,9 @@ use Rattle.std.proofs.lemmas.List.Folds.{list_any-append}
 use Prim.Native.Nat.{suc}
 use Rattle.otp_reason.specs.declared.reason.Reason.{Reason}
 use Rattle.otp_reason.specs.declared.note.Note.TheVariants as note
-use Rattle.otp_spec.specs.declared.flags.Strategy.{Strategy}
 use Rattle.otp_table.specs.declared.row.Row.{Row}
 use Rattle.otp_table.specs.declared.row.RowState.TheVariants.{Undefined}
 use Rattle.otp_table.specs.Rows.{has_process, is_awaited, row_has}
-use Rattle.otp_window.specs.Period.{in_period}
 use Rattle.otp_rules.specs.declared.call.Reply.{Reply}
 use Rattle.otp_rules.specs.declared.ending.Ending.{Ending}
 use Rattle.otp_rules.specs.declared.ending.Ending.TheVariants as ending
@@ -25,15 +23,14 @@ use Rattle.otp_rules.specs.declared.event.Waiting.TheVariants as waiting
 use Rattle.otp_rules.specs.declared.work.Sequel.{Sequel}
 use Rattle.otp_rules.specs.declared.work.Sequel.TheVariants as sequel
 use Rattle.otp_rules.specs.declared.work.Due.{Due}
-use Rattle.otp_spec.specs.Flags.{is_simple}
 use Rattle.otp_rules.specs.State.{Outcome, State, answer, is_busy, is_over, with_stamps, with_work}
 use Rattle.otp_rules.specs.Places.{at_number, end_row, set_row}
-use Rattle.otp_rules.specs.Restarts.{affected_from, affected_to, running}
-use Rattle.otp_rules.specs.Stops.{calm_all, is_exit, without, tell_row, tell, use_exit, stop_each, terminate_ordered, terminate_together, terminate}
+use Rattle.otp_rules.specs.Restarts.{running}
+use Rattle.otp_rules.specs.Stops.{calm_all, is_exit, without, tell_row, tell, use_exit, stop_each, terminate}
 use Rattle.otp_rules.specs.Starts.{is_due, start_row, start}
 use Rattle.otp_rules.specs.Ends.{refuse_all, end_all}
 use Rattle.otp_rules.specs.Work.{follow, start_first, stop_first, advance}
-use Rattle.otp_rules.specs.Deaths.{exit_in, restart_rows, restart_or_end, restart, take_exit}
+use Rattle.otp_rules.specs.Deaths.{exit_in, restart_rows, restart, take_exit}
 use Rattle.otp_rules.specs.Step.{open_rows, open_with, take_item, take_note, tick, decide, stamped, step, step_on}
 use Rattle.otp_rules.specs.Run.{empty_state, state_after}
 use Rattle.otp_rules.specs.Needs.{IsNumbered, is_start, needs_number, numbers_of}
@@ -41,6 +38,7 @@ use Rattle.otp_rules.specs.Homes.{Brings, IsFirst, is_ended}
 use Rattle.otp_rules.specs.Fit.{rows_in}
 use Rattle.otp_rules.specs.Progress.{IsIn, at_most_one}
 use Rattle.otp_rules.specs.Lives.{EndsAreHeard, EndsTellStarted, IsHeld, TakesEnd}
+use Rattle.otp_rules.proofs.Walks.{restart-by, terminate-by}
 use Rattle.otp_rules.proofs.Decisions.{BringsExit, SurvivesEvent, StandsAt, at_row-survives, at_number-survives, by_test, decide-survives, decide-survives_event}
 use Rattle.otp_rules.proofs.Counting.{end_row-quiet, none_in, rows_in-at, times-append, times-cons, use_exit-quiet}
 use Rattle.otp_rules.proofs.Homes.{none_has, or_cases, or_right, quiet_more, without_less}
@@ -74,20 +72,16 @@ stop_each-less p (q ∷ qs) o =
     (λ _ h. tell-less p q o (stop_each-less p qs (tell q o) h))
 
 pub terminate-less : (p : ℕ) (e : Ending) (o : Outcome) → Less p o (terminate e o)
-unfolding terminate terminate_together terminate_ordered
 terminate-less p e o =
-    by_test (Less p o) (is_simple o.state.flags.strategy) (terminate_together e o) (terminate_ordered e o)
+    terminate-by (Less p o) e o
     (λ _. stop_each-less p (running o.state.rows) (calm_all (with_work [] [] (Some (sequel.End e)) o)))
     (λ _ h. h)
 
 pub restart-less : (p q place : ℕ) (row : Row) (o : Outcome) → Less p o (restart q place row o)
-unfolding restart restart_or_end restart_rows
+unfolding restart_rows
 restart-less p q place row o =
     let counted : Outcome = with_stamps (o.state.stamps ++ o.state.last ∷ []) (set_row place row Undefined o) in
-    let strategy : Strategy = o.state.flags.strategy in
-    let count : ℕ = length counted.state.rows in
-    by_test (Less p o) (nat_lt o.state.flags.intensity (in_period o.state.flags.period (o.state.stamps ++ o.state.last ∷ []) o.state.last))
-    (terminate ending.Intensity counted) (restart_rows (affected_from strategy place) (affected_to strategy place count) place q counted)
+    restart-by (Less p o) q place row o
     (λ _. terminate-less p ending.Intensity counted)
     (λ _ h. h)
 

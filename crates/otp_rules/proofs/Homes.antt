@@ -1,5 +1,5 @@
 -- A child is at home after an event only where it was before, or where the event brings it home, or where its row is new.
-use Rattle.std.specs.Prelude.{◌≡◌, ◌+◌, ◌⊎◌, ℕ, ◌==◌, ◌-◌, ◌++◌, ◌||◌, Bool, true, false, List, [], ◌∷◌, Option, None, Some, Contains, refl, if◌then◌else◌, position, is_some, slice_get, slice_set, slice_range, nat_lt, nat_le, length, remove, unwrap_or, map, take, drop}
+use Rattle.std.specs.Prelude.{◌≡◌, ◌+◌, ◌⊎◌, ℕ, ◌==◌, ◌-◌, ◌++◌, ◌||◌, Bool, true, false, List, [], ◌∷◌, Option, None, Some, Contains, refl, position, is_some, slice_get, slice_set, slice_range, nat_le, length, remove, unwrap_or, map, take, drop}
 use Rattle.std.specs.List.{list_any}
 use Rattle.std.proofs.Common.{◌∙◌, ap, sym, subst, inl, inr, arith, ⊎_elim, rules, get_or}
 use Rattle.std.proofs.lemmas.Bool.{false≢true, cond_both, eqb-true, eq-eqb, and_parts}
@@ -13,8 +13,7 @@ use Rattle.otp_spec.specs.declared.child.Shutdown.TheVariants.{BrutalKill, Milli
 use Rattle.otp_table.specs.declared.row.Row.{Row}
 use Rattle.otp_table.specs.declared.row.RowState.{RowState}
 use Rattle.otp_table.specs.declared.row.RowState.TheVariants.{Undefined, Starting, Up, Asked, Killed, Restarting}
-use Rattle.otp_table.specs.Rows.{has_process, is_awaited, is_undefined, row_has, with_state, calm_rows, calmed, free_slot}
-use Rattle.otp_window.specs.Period.{in_period}
+use Rattle.otp_table.specs.Rows.{has_process, is_undefined, with_state, calm_rows, calmed, free_slot}
 use Rattle.otp_spec.specs.declared.child.ChildSpec.{ChildSpec}
 use Rattle.otp_spec.specs.declared.flags.Strategy.{Strategy}
 use Rattle.otp_rules.specs.declared.call.Call.{Call}
@@ -32,18 +31,20 @@ use Rattle.otp_rules.specs.declared.work.Due.{Due}
 use Rattle.otp_rules.specs.declared.work.Sequel.{Sequel}
 use Rattle.otp_rules.specs.declared.work.Sequel.TheVariants as sequel
 use Rattle.otp_spec.specs.Flags.{is_simple}
-use Rattle.otp_rules.specs.State.{is_over, Outcome, State, answer, is_busy, put_last, with_rows, with_stamps, with_waiting, with_work}
+use Rattle.otp_rules.specs.State.{is_over, Outcome, State, answer, put_last, with_rows, with_stamps, with_waiting, with_work}
 use Rattle.otp_rules.specs.Places.{at_number, end_row, end_process, set_row, is_removed}
 use Rattle.otp_rules.specs.Restarts.{affected_from, affected_to, running}
-use Rattle.otp_rules.specs.Stops.{calm_all, is_exit, without, told, tell_row, tell, use_exit, stop_each, terminate_ordered, terminate_together, terminate}
+use Rattle.otp_rules.specs.Stops.{calm_all, is_exit, without, told, tell_row, tell, use_exit, stop_each, terminate}
 use Rattle.otp_rules.specs.Starts.{is_due, start_row, start}
 use Rattle.otp_rules.specs.Ends.{refuse_all, end_all}
 use Rattle.otp_rules.specs.Work.{follow, start_first, stop_first, advance}
-use Rattle.otp_rules.specs.Deaths.{restart_rows, restart_or_end, restart}
+use Rattle.otp_rules.specs.Deaths.{restart_rows, restart}
 use Rattle.otp_rules.specs.Calls.{new_row}
 use Rattle.otp_rules.specs.Step.{open_rows, open_with, opening_specs, rows_from, tick, decide, stamped, step, step_on, killed, late_number}
 use Rattle.otp_rules.specs.Homes.{Brings, ComesHome, EndsProcess, HomesKept, HomesKeptFrom, IsAdded, IsNewNumber, IsFirst, IsOpened, WasThere, end_number, is_ended, is_home, is_start_call, is_started}
-use Rattle.otp_rules.specs.Fit.{is_told, rows_in}
+use Rattle.otp_rules.specs.Fit.{rows_in}
+use Rattle.otp_rules.proofs.States.{told_has}
+use Rattle.otp_rules.proofs.Walks.{advance-by, restart-by, stop_each-by, stop_first-by, terminate-by, with_stops}
 use Rattle.otp_rules.proofs.Decisions.{BringsExit, BringsFailure, StandsAt, SurvivesEvent, at_row-survives, at_number-survives, by_test, decide-survives_event, is_down}
 use Rattle.std.specs.Prelude.{length}
 use Rattle.otp_rules.specs.Run.{empty_state, state_after}
@@ -281,13 +282,7 @@ use_exit-known what s G p o left rows waits some h =
     (less_known what s G ws (without ws place) (λ q k. without_less q place ws k) (at_number p end_row used).state.rows done.0)
 
 stop_each-known : (what : Kind) (s : State) (G : Item → Type 0) (ps : List ℕ) (o : Outcome) → AllKnown what s G o → AllKnown what s G (stop_each ps o)
-unfolding stop_each
-stop_each-known what s G [] o h = h
-stop_each-known what s G (p ∷ ps) o h =
-    let place : Option ℕ = position (is_exit p) o.state.waiting in
-    by_test (AllKnown what s G) (is_some place) (stop_each ps (use_exit p place o)) (stop_each ps (tell p o))
-    (λ some. stop_each-known what s G ps (use_exit p place o) (use_exit-known what s G p o o refl refl some h))
-    (λ _. stop_each-known what s G ps (tell p o) (tell-known what s G p o h))
+stop_each-known what s G = stop_each-by (AllKnown what s G) (λ p o some h. use_exit-known what s G p o o refl refl some h) (λ p o _ h. tell-known what s G p o h)
 
 calm_one : (what : Kind) (s : State) (G : Item → Type 0) (ws : List Waiting) (row : Row) → Known what s G ws row → Known what s G ws (with_state (calmed row.state) row)
 calm_one what s G ws row h = moves what s G ws ws row (with_state (calmed row.state) row) refl refl (λ p has. process row.state p has) (λ home. inl (same row.state home)) h
@@ -312,14 +307,13 @@ calm-known : (what : Kind) (s : State) (G : Item → Type 0) (ws : List Waiting)
 calm-known what s G ws rows h = each-map (Known what s G ws) (Known what s G ws) (λ (row : Row). with_state (calmed row.state) row) (λ row k. calm_one what s G ws row k) rows h
 
 terminate-known : (what : Kind) (s : State) (G : Item → Type 0) (e : Ending) (o : Outcome) → AllKnown what s G o → AllKnown what s G (terminate e o)
-unfolding terminate terminate_together terminate_ordered
 terminate-known what s G e o h =
-    by_test (AllKnown what s G) (is_simple o.state.flags.strategy) (terminate_together e o) (terminate_ordered e o)
+    terminate-by (AllKnown what s G) e o
     (λ _. stop_each-known what s G (running o.state.rows) (calm_all (with_work [] [] (Some (sequel.End e)) o)) (calm-known what s G o.state.waiting o.state.rows h))
     (λ _. calm-known what s G o.state.waiting o.state.rows h)
 
 restart-known : (what : Kind) (s : State) (G : Item → Type 0) (p place : ℕ) (row : Row) (o : Outcome) → StandsAt place row o → IsDone G o.state.waiting row → AllKnown what s G o → AllKnown what s G (restart p place row o)
-unfolding restart restart_or_end restart_rows
+unfolding restart_rows
 restart-known what s G p place row o at done h =
     let counted : Outcome = with_stamps (o.state.stamps ++ o.state.last ∷ []) (set_row place row Undefined o) in
     let rows : List Row = counted.state.rows in
@@ -328,8 +322,7 @@ restart-known what s G p place row o at done h =
     let K : Row → Type 0 = Known what s G o.state.waiting in
     let from : ℕ = affected_from strategy place in
     let to : ℕ = affected_to strategy place (length rows) in
-    by_test (AllKnown what s G) (nat_lt o.state.flags.intensity (in_period o.state.flags.period (o.state.stamps ++ o.state.last ∷ []) o.state.last))
-    (terminate ending.Intensity counted) (restart_rows from to place p counted)
+    restart-by (AllKnown what s G) p place row o
     (λ _. terminate-known what s G ending.Intensity counted down)
     (λ _. each-append K (take from rows ++ calm_rows (slice_range rows from to)) (drop to rows)
     (each-append K (take from rows) (calm_rows (slice_range rows from to)) (each-take K from rows down) (calm-known what s G o.state.waiting (slice_range rows from to) (each-take K (to - from) (drop from rows) (each-drop K from rows down))))
@@ -382,14 +375,6 @@ of_waiting what s G o vs is h = subst (λ (l : List Waiting). Each (Known what s
 
 put-known : (what : Kind) (s : State) (G : Item → Type 0) (x : Waiting) (o : Outcome) → ((p : ℕ) → is_ended p x ≡ false) → AllKnown what s G o → AllKnown what s G (put_last x o)
 put-known what s G x o quiet h = less_known what s G o.state.waiting (o.state.waiting ++ x ∷ []) (quiet_more o.state.waiting x quiet) o.state.rows h
-
-pub told_has : (p : ℕ) (state : RowState) → is_told p state ≡ true → has_process p state ≡ true
-told_has p Undefined h = absurd (false≢true h)
-told_has p (Starting _ _) h = absurd (false≢true h)
-told_has p (Up _) h = absurd (false≢true h)
-told_has p (Asked _ _) h = h
-told_has p (Killed _) h = h
-told_has p (Restarting _) h = absurd (false≢true h)
 
 down_home : (ws : List Waiting) (state : RowState) → is_down state ≡ true → is_home ws state ≡ true
 down_home ws Undefined h = refl
@@ -542,22 +527,13 @@ start_first-told what s G n free [] o h = follow-told what s G n o.state.follows
 start_first-told what s G n free (due ∷ dues) o h = start-told what s G n free due (with_work o.state.to_stop dues o.state.follows o) h
 
 stop_first-told : (what : Kind) (s : State) (G : Item → Type 0) (n : Option ℕ) → IsNewNumber n s.rows → (ps : List ℕ) (o : Outcome) → AllKnown what s G o → AllTold what s G n (stop_first ps (unwrap_or n 0) o)
-unfolding stop_first
-stop_first-told what s G n free [] o h = start_first-told what s G n free o.state.to_start o h
-stop_first-told what s G n free (p ∷ ps) o h =
-    let place : Option ℕ = position (is_exit p) o.state.waiting in
-    let left : Outcome = with_work ps o.state.to_start o.state.follows o in
-    by_test (AllTold what s G n) (is_some place) (stop_first ps (unwrap_or n 0) (use_exit p place left)) (tell p left)
-    (λ some. stop_first-told what s G n free ps (use_exit p place left) (use_exit-known what s G p o left refl refl some h))
-    (λ _. known-told what s G n free (tell p left) (tell-known what s G p left h))
+stop_first-told what s G n free ps =
+    stop_first-by (λ _. AllKnown what s G) (AllTold what s G n) (unwrap_or n 0) (λ o h. start_first-told what s G n free o.state.to_start o h)
+    (λ p rest o some h. use_exit-known what s G p o (with_stops rest o) refl refl some h) (λ p rest o h. known-told what s G n free (tell p (with_stops rest o)) (tell-known what s G p (with_stops rest o) h)) ps
 
 advance-told : (what : Kind) (s : State) (G : Item → Type 0) (n : Option ℕ) → IsNewNumber n s.rows → (o : Outcome) → AllKnown what s G o → AllTold what s G n (advance (unwrap_or n 0) o)
-unfolding advance
 advance-told what s G n free o h =
-    let go : Outcome = stop_first o.state.to_stop (unwrap_or n 0) o in
-    by_test (AllTold what s G n) (is_busy o) (if list_any (row_has is_awaited) o.state.rows then o else go) o
-    (λ _. by_test (AllTold what s G n) (list_any (row_has is_awaited) o.state.rows) o go (λ _. known-told what s G n free o h) (λ _. stop_first-told what s G n free o.state.to_stop o h))
-    (λ _. known-told what s G n free o h)
+    advance-by (AllTold what s G n) (unwrap_or n 0) o (known-told what s G n free o h) (λ _ _. stop_first-told what s G n free o.state.to_stop o h)
 
 ends_it : (x : Note) (p : ℕ) → end_number x ≡ Some p → is_ended p (waiting.Item (item.Note x)) ≡ true
 ends_it (note.Up _) p h = absurd (search (rules, h))

@@ -1,5 +1,5 @@
 -- The law of the stop order, along every history.
-use Rattle.std.specs.Prelude.{◌≡◌, ◌⊎◌, ℕ, ◌==◌, ◌+◌, ◌≤◌, ◌<◌, ◌++◌, ◌&&◌, Bool, true, false, List, [], ◌∷◌, Option, None, Some, All, refl, if◌then◌else◌, position, is_some, slice_get, slice_set, nat_le, nat_lt, length, max, reverse, unwrap_or, count_by}
+use Rattle.std.specs.Prelude.{◌≡◌, ◌⊎◌, ℕ, ◌==◌, ◌+◌, ◌≤◌, ◌<◌, ◌++◌, ◌&&◌, Bool, true, false, List, [], ◌∷◌, Option, None, Some, All, refl, position, is_some, slice_get, slice_set, nat_le, nat_lt, length, max, reverse, unwrap_or, count_by}
 use Rattle.std.specs.List.{list_any, filter_map, cons_option}
 use Rattle.std.proofs.Common.{◌∙◌, ap, sym, subst, inl, inr, arith, ⊎_elim, cond, get_or}
 use Rattle.std.proofs.lemmas.Bool.{cond_both, false≢true, cases_Bool, and_from, and_parts, eq-eqb, eqb-true, leb-true, ltb-true, ltb-false}
@@ -12,7 +12,6 @@ use Rattle.otp_table.specs.declared.row.Row.{Row}
 use Rattle.otp_table.specs.declared.row.RowState.{RowState}
 use Rattle.otp_table.specs.declared.row.RowState.TheVariants.{Undefined, Starting, Up, Asked, Killed, Restarting}
 use Rattle.otp_table.specs.Rows.{has_process, is_awaited, row_has, with_state}
-use Rattle.otp_window.specs.Period.{in_period}
 use Rattle.otp_rules.specs.declared.call.Reply.{Reply}
 use Rattle.otp_rules.specs.declared.ending.Ending.{Ending}
 use Rattle.otp_rules.specs.declared.event.Effect.{Effect}
@@ -22,19 +21,20 @@ use Rattle.otp_rules.specs.declared.event.Waiting.{Waiting}
 use Rattle.otp_rules.specs.declared.work.Due.{Due}
 use Rattle.otp_rules.specs.declared.work.Sequel.{Sequel}
 use Rattle.otp_spec.specs.Flags.{is_simple}
-use Rattle.otp_rules.specs.State.{Outcome, State, answer, emit, is_busy, with_stamps, with_work}
+use Rattle.otp_rules.specs.State.{Outcome, State, answer, emit, with_stamps, with_work}
 use Rattle.otp_rules.specs.Places.{at_row, at_number, end_row, set_row}
 use Rattle.otp_rules.specs.Restarts.{dues}
 use Rattle.otp_rules.specs.Stops.{is_exit, without, told, stop_order, tell_row, tell, use_exit, terminate_ordered, terminate_together, terminate}
 use Rattle.otp_rules.specs.Starts.{is_due, start_row, start}
 use Rattle.otp_rules.specs.Work.{follow, start_first, stop_first, advance}
-use Rattle.otp_rules.specs.Deaths.{restart_rows, restart_or_end, restart}
+use Rattle.otp_rules.specs.Deaths.{restart_rows, restart}
 use Rattle.otp_rules.specs.Step.{kill_order, late_number, open_with, open_rows, tick, decide, stamped, step, step_on}
 use Rattle.otp_rules.specs.Run.{empty_state, state_after}
 use Rattle.otp_rules.specs.Progress.{Progress, no_progress, is_end, is_opened, ends_together, decided, went_on, seen, gave, progress, processes, IsIn}
 use Rattle.otp_rules.specs.Fit.{is_told, rows_in, times, runs_as, IsSound, HasWaiting, HasStops, HasPart, Keeps, IsListed}
+use Rattle.otp_rules.proofs.Walks.{advance-by, restart-by}
 use Rattle.otp_rules.proofs.Decisions.{IsIdle, Survives, at_row-survives, by_test, decide-survives}
-use Rattle.otp_rules.proofs.Counting.{times-cons, times-append, rows_in-set, rows_in-at, Alike, end_row-alike, use_exit-alike, told-told, times-reverse, none_in, there, at_row-found, end_row-quiet, use_exit-quiet, without_count}
+use Rattle.otp_rules.proofs.Counting.{times-cons, times-append, rows_in-set, rows_in-at, Alike, end_row-alike, use_exit-alike, told-told, times-reverse, none_in, there, at_row-found, end_row-quiet, use_exit-quiet, without_count, rows_in-le}
 use Rattle.otp_rules.specs.Order.{StopsInTurn, IsToldTogether, IsStopInTurn, StopOrder, StopOrderFromEmpty}
 use Rattle.otp_rules.proofs.Sound.{IsReady, advance-sound, empty-sound, used-ready}
 use Rattle.otp_rules.proofs.Stopping.{Carried, apart-alike, carried-survives, not_busy}
@@ -42,7 +42,6 @@ use Rattle.otp_rules.proofs.WhileOpen.{fails_opening, no_after, opens_none}
 use Rattle.otp_rules.proofs.Opened.{decided-keeps, stands_at, started-carried, together, together-follows}
 use Rattle.otp_rules.specs.declared.ending.SupEnd.{SupEnd}
 use Rattle.otp_rules.specs.Ends.{sup_end_of, refusal, refuse_all, end_all}
-use Rattle.std.proofs.lemmas.List.Sums.{sum_by-le-sum_by}
 use Rattle.otp_rules.specs.declared.ending.Ending.TheVariants as ending
 use Rattle.otp_rules.specs.declared.event.Effect.TheVariants as effect
 use Rattle.otp_rules.specs.declared.event.Item.TheVariants as item
@@ -169,7 +168,7 @@ stands p ps o r =
     let t : times p o.state.to_stop ≡ times p (p ∷ ps) = ap (λ (xs : List ℕ). times p xs) r.2 in
     let one : ◌≡◌ {A = ℕ} (cond (p == p) 1 0) 1 = ap (λ (x : Bool). cond x 1 0) (eq-eqb p p refl) in
     let more : rows_in (runs_as p) o.state.rows ≤ rows_in (has_process p) o.state.rows =
-    sum_by-le-sum_by (λ (row : Row). cond (runs_as p row.state) 1 0) (λ (row : Row). cond (has_process p row.state) 1 0) o.state.rows (λ row. runs_has row.state) in
+    rows_in-le (runs_as p) (has_process p) runs_has o.state.rows in
     omega (arith, times-cons p p ps, t, one, r.0.1 p, more)
   where
     runs_has : (state : RowState) → cond (runs_as p state) 1 0 ≤ cond (has_process p state) 1 0
@@ -238,9 +237,7 @@ stop_first-in-turn g Q may (p ∷ ps) n o r w d all =
 -- where nothing is awaited, those that were told have ended
 pub none_told : (q : ℕ) (rows : List Row) → rows_in is_awaited rows ≡ 0 → 0 < rows_in (is_told q) rows → ⊥
 none_told q rows none some =
-    let more : rows_in (is_told q) rows ≤ rows_in is_awaited rows =
-    sum_by-le-sum_by (λ (row : Row). cond (is_told q row.state) 1 0) (λ (row : Row). cond (is_awaited row.state) 1 0) rows (λ row. told_awaits row.state) in
-    omega (arith, none, some, more)
+    omega (arith, none, some, rows_in-le (is_told q) is_awaited told_awaits rows)
   where
     told_awaits : (state : RowState) → cond (is_told q state) 1 0 ≤ cond (is_awaited state) 1 0
     told_awaits Undefined = omega arith
@@ -254,16 +251,11 @@ pub all-done : (s : State) (g : Progress) → rows_in is_awaited s.rows ≡ 0 �
 all-done s g none part = (part.0, part.1, part.2, λ q i. ⊎_elim (λ x. x) (λ x. absurd (none_told q s.rows none x)) (part.3 q i))
 
 advance-in-turn : (g : Progress) (Q : Effect → Type 0) (n : ℕ) (o : Outcome) → (list_any (row_has is_awaited) o.state.rows ≡ false → Allows g Q) → IsSound o.state → Keeps o.state g → All Q o.orders → InTurn g Q (advance n o)
-unfolding advance
 advance-in-turn g Q n o may sound keeps all =
-    let go : Outcome = stop_first o.state.to_stop n o in
-    by_test (InTurn g Q) (is_busy o) (if list_any (row_has is_awaited) o.state.rows then o else go) o
-    (λ busy. by_test (InTurn g Q) (list_any (row_has is_awaited) o.state.rows) o go (λ _. (keeps, all))
-    (λ none.
+    advance-by (InTurn g Q) n o (keeps, all) (λ busy none.
     let zero : rows_in is_awaited o.state.rows ≡ 0 = none_in is_awaited o.state.rows none in
     let had : HasWaiting o.state g × HasStops o.state g = keeps busy in
-    stop_first-in-turn g Q (may none) o.state.to_stop n o (sound, zero, refl, busy) had.0 (λ apart. all-done o.state g zero (had.1 apart)) all))
-    (λ _. (keeps, all))
+    stop_first-in-turn g Q (may none) o.state.to_stop n o (sound, zero, refl, busy) had.0 (λ apart. all-done o.state g zero (had.1 apart)) all)
 
 -- the order tells no child to stop
 abbrev NoStop : Effect → Type 0
@@ -311,10 +303,10 @@ terminate-quiet k f e o opened h =
     (λ plain other apart. h other)
 
 restart-quiet : (k : Kind) (f : Option Sequel) (p place : ℕ) (row : Row) (o : Outcome) → is_opened f (Some (sequel.End ending.Intensity)) ≡ true → Calm k o → QuietIn k f (restart p place row o)
-unfolding restart restart_or_end restart_rows
+unfolding restart_rows
 restart-quiet k f p place row o opened h =
     let counted : Outcome = with_stamps (o.state.stamps ++ o.state.last ∷ []) (set_row place row Undefined o) in
-    cond_both (nat_lt o.state.flags.intensity (in_period o.state.flags.period (o.state.stamps ++ o.state.last ∷ []) o.state.last)) _ _ (QuietIn k f)
+    restart-by (QuietIn k f) p place row o
     (λ _. terminate-quiet k f ending.Intensity counted opened h)
     (λ _ other apart. h other)
 

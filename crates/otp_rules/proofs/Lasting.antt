@@ -1,7 +1,7 @@
 -- A child's process stays its child's, in its slot, until the note of its end is taken.
-use Rattle.std.specs.Prelude.{◌≡◌, ◌⊎◌, ℕ, ◌==◌, ◌+◌, ◌≤◌, ◌<◌, ◌++◌, ◌&&◌, ◌||◌, Bool, true, false, List, [], ◌∷◌, Option, None, Some, AllPairs, All, Contains, refl, if◌then◌else◌, position, is_some, nat_le, nat_lt, slice_set, slice_range, length, remove, map, take, drop, count_by, unwrap_or}
+use Rattle.std.specs.Prelude.{◌≡◌, ◌⊎◌, ℕ, ◌==◌, ◌+◌, ◌≤◌, ◌<◌, ◌++◌, ◌&&◌, Bool, true, false, List, [], ◌∷◌, Option, None, Some, AllPairs, All, Contains, refl, position, is_some, nat_le, slice_set, slice_range, remove, map, take, drop, count_by, unwrap_or}
 use Rattle.std.specs.List.{cons_option, list_any}
-use Rattle.std.proofs.Common.{◌∙◌, ap, sym, subst, inl, inr, arith, ⊎_elim, cond, rules}
+use Rattle.std.proofs.Common.{◌∙◌, ap, sym, subst, inl, inr, arith, ⊎_elim, cond}
 use Rattle.std.proofs.lemmas.Bool.{false≢true, cond_both, cases_Bool, eqb-true, eq-eqb, and_from, and_parts}
 use Rattle.std.proofs.lemmas.List.Sums.{sum_by-append, sum_by-cons, sum_by-take-drop}
 use Rattle.std.proofs.lemmas.List.Folds.{drop_split}
@@ -9,12 +9,10 @@ use Rattle.std.proofs.lemmas.List.Elements.{All-head}
 use Prim.Native.Nat.{zero, suc}
 use Rattle.otp_reason.specs.declared.note.Note.{Note}
 use Rattle.otp_reason.specs.declared.note.Note.TheVariants as note
-use Rattle.otp_spec.specs.declared.flags.Strategy.{Strategy}
 use Rattle.otp_table.specs.declared.row.Row.{Row}
 use Rattle.otp_table.specs.declared.row.RowState.{RowState}
 use Rattle.otp_table.specs.declared.row.RowState.TheVariants.{Undefined, Starting, Up, Asked, Killed, Restarting}
-use Rattle.otp_table.specs.Rows.{has_process, has_slot, is_awaited, is_undefined, row_has, with_state, calm_rows, calmed, free_slot}
-use Rattle.otp_window.specs.Period.{in_period}
+use Rattle.otp_table.specs.Rows.{has_process, has_slot, is_awaited, is_undefined, with_state, calm_rows, calmed, free_slot}
 use Rattle.otp_rules.specs.declared.ending.Ending.{Ending}
 use Rattle.otp_rules.specs.declared.ending.Ending.TheVariants as ending
 use Rattle.otp_rules.specs.declared.event.Event.{Event}
@@ -28,30 +26,31 @@ use Rattle.otp_rules.specs.declared.call.Reply.{Reply}
 use Rattle.otp_rules.specs.declared.work.Sequel.{Sequel}
 use Rattle.otp_rules.specs.declared.work.Sequel.TheVariants as sequel
 use Rattle.otp_rules.specs.declared.work.Due.{Due}
-use Rattle.otp_spec.specs.Flags.{is_simple}
-use Rattle.otp_rules.specs.State.{Outcome, State, answer, is_busy, with_rows, with_stamps, with_waiting, with_work}
+use Rattle.otp_rules.specs.State.{Outcome, State, answer, with_rows, with_waiting, with_work}
 use Rattle.otp_rules.specs.Places.{end_row, end_process, is_removed, set_row}
-use Rattle.otp_rules.specs.Restarts.{affected_from, affected_to, running}
-use Rattle.otp_rules.specs.Stops.{calm_all, is_exit, without, told, tell_row, tell, use_exit, stop_each, terminate_ordered, terminate_together, terminate}
+use Rattle.otp_rules.specs.Restarts.{running}
+use Rattle.otp_rules.specs.Stops.{calm_all, is_exit, without, told, tell_row, tell, use_exit, stop_each, terminate}
 use Rattle.otp_rules.specs.Starts.{is_due, start_row, start}
 use Rattle.otp_rules.specs.Ends.{end_all, refuse_all}
 use Rattle.otp_rules.specs.Work.{follow, start_first, stop_first, advance}
-use Rattle.otp_rules.specs.Deaths.{restart_rows, restart_or_end, restart}
+use Rattle.otp_rules.specs.Deaths.{restart_rows, restart}
 use Rattle.otp_rules.specs.Calls.{new_row}
 use Rattle.otp_rules.specs.Step.{open_rows, tick, decide, stamped, step, step_on, killed, late_number}
 use Rattle.otp_rules.specs.Run.{empty_state, state_after}
 use Rattle.otp_rules.specs.Needs.{IsNumbered, numbers_of}
-use Rattle.otp_rules.specs.Homes.{Brings, IsFirst, end_number, is_ended}
+use Rattle.otp_rules.specs.Homes.{Brings, end_number, is_ended}
 use Rattle.otp_rules.specs.Fit.{rows_in, runs_as, times, IsDistinct, IsSound}
 use Rattle.otp_rules.specs.Progress.{is_end}
 use Rattle.otp_rules.specs.Lives.{EndComesLast, HasEnded, IsHeldIn, ProcessesStay}
+use Rattle.otp_rules.proofs.States.{one_process, told_has}
+use Rattle.otp_rules.proofs.Walks.{advance-by, stop_each-by, stop_first-by, terminate-by, with_stops, counted_restart}
 use Rattle.otp_rules.proofs.Decisions.{BringsExit, SurvivesEvent, StandsAt, at_row-survives, at_number-survives, by_test, decide-survives_event, is_down}
 use Rattle.otp_rules.proofs.Counting.{none_in, remove_count, rows_in-cons, set_count}
 use Rattle.otp_rules.proofs.EndedRows.{IsBare, run-bare, step-bare}
 use Rattle.otp_rules.proofs.Finishing.{AreOne, Finishes, IsFinishing, Stops, advance-finishes, decided-finishing, used-stops}
 use Rattle.otp_rules.proofs.Heard.{Waits, answer-less, end-less, exit_put, open-less, tell-less, tick-less, use_exit-less}
-use Rattle.otp_rules.proofs.Homes.{first_ends, has_starting, or_right, quiet_more, same_number, told_has, waits_there}
-use Rattle.otp_rules.proofs.Numbers.{affected_in_order, counted_length, numbered-distinct, told_process, unnumbered-distinct}
+use Rattle.otp_rules.proofs.Homes.{first_ends, has_starting, or_right, quiet_more, same_number, waits_there}
+use Rattle.otp_rules.proofs.Numbers.{numbered-distinct, told_process, unnumbered-distinct, restart-within}
 use Rattle.otp_rules.proofs.Sound.{empty-sound}
 use Rattle.otp_rules.proofs.StartTurn.{pairs_first, pairs_rest}
 
@@ -73,15 +72,6 @@ Lasts D slot p o = (Waits p o → D) × Has D slot p o.state.rows
 has_more : (D : Type 0) (slot p : ℕ) (xs ys : List Row) → lives slot p xs ≤ lives slot p ys → Has D slot p xs → Has D slot p ys
 has_more D slot p xs ys le (inl h) = inl (omega (arith, le, h))
 has_more D slot p xs ys le (inr d) = inr d
-
--- a row's state has one process
-pub one_process : (p q : ℕ) (state : RowState) → has_process p state ≡ true → has_process q state ≡ true → q ≡ p
-one_process p q Undefined h k = absurd (false≢true h)
-one_process p q (Starting x _) h k = sym (eqb-true x q k) ∙ eqb-true x p h
-one_process p q (Up x) h k = sym (eqb-true x q k) ∙ eqb-true x p h
-one_process p q (Asked x _) h k = sym (eqb-true x q k) ∙ eqb-true x p h
-one_process p q (Killed x) h k = sym (eqb-true x q k) ∙ eqb-true x p h
-one_process p q (Restarting _) h k = absurd (false≢true h)
 
 -- a row's state changes: it keeps its process, or D holds
 set-has : (D : Type 0) (slot p place : ℕ) (row : Row) (state : RowState) (o : Outcome) → StandsAt place row o → (has_process p row.state ≡ true → (has_process p state ≡ true) ⊎ D) → Has D slot p o.state.rows → Has D slot p (slice_set o.state.rows place (with_state state row))
@@ -149,13 +139,7 @@ use_exit-lasts D slot p q o left rows waits some h =
     )
 
 stop_each-lasts : (D : Type 0) (slot p : ℕ) (qs : List ℕ) (o : Outcome) → Lasts D slot p o → Lasts D slot p (stop_each qs o)
-unfolding stop_each
-stop_each-lasts D slot p [] o h = h
-stop_each-lasts D slot p (q ∷ qs) o h =
-    let place : Option ℕ = position (is_exit q) o.state.waiting in
-    by_test (Lasts D slot p) (is_some place) (stop_each qs (use_exit q place o)) (stop_each qs (tell q o))
-    (λ some. stop_each-lasts D slot p qs (use_exit q place o) (use_exit-lasts D slot p q o o refl refl some h))
-    (λ _. stop_each-lasts D slot p qs (tell q o) (tell-lasts D slot p q o h))
+stop_each-lasts D slot p = stop_each-by (Lasts D slot p) (λ q o some h. use_exit-lasts D slot p q o o refl refl some h) (λ q o _ h. tell-lasts D slot p q o h)
 
 -- each row keeps its slot and its process
 pub map-lives : (slot p : ℕ) (f : Row → Row) → ((row : Row) → is_live slot p (f row) ≡ is_live slot p row) → (rows : List Row) → lives slot p (map f rows) ≡ lives slot p rows
@@ -197,14 +181,13 @@ unfolding answer
 answer-has D slot p c r o h = h
 
 terminate-lasts : (D : Type 0) (slot p : ℕ) (e : Ending) (o : Outcome) → Lasts D slot p o → Lasts D slot p (terminate e o)
-unfolding terminate terminate_together terminate_ordered
 terminate-lasts D slot p e o h =
     let calm : Has D slot p (calm_rows o.state.rows) = has_more D slot p o.state.rows (calm_rows o.state.rows) (omega (arith, calm-lives slot p o.state.rows)) h.1 in
-    by_test (Lasts D slot p) (is_simple o.state.flags.strategy) (terminate_together e o) (terminate_ordered e o)
+    terminate-by (Lasts D slot p) e o
     (λ _. stop_each-lasts D slot p (running o.state.rows) (calm_all (with_work [] [] (Some (sequel.End e)) o)) (h.0, calm))
     (λ _. (h.0, calm))
 
-restarted-lives : (slot p from to : ℕ) (rows : List Row) → from ≤ to → lives slot p rows ≤ lives slot p (take from rows ++ calm_rows (slice_range rows from to) ++ drop to rows)
+pub restarted-lives : (slot p from to : ℕ) (rows : List Row) → from ≤ to → lives slot p (take from rows ++ calm_rows (slice_range rows from to) ++ drop to rows) ≡ lives slot p rows
 restarted-lives slot p from to rows le =
     let t : Row → ℕ = λ (r : Row). cond (is_live slot p r) 1 0 in
     let part : List Row = slice_range rows from to in
@@ -214,23 +197,13 @@ restarted-lives slot p from to rows le =
 
 -- a child whose process has ended is restarted
 restart-lasts : (D : Type 0) (slot p k place : ℕ) (row : Row) (o : Outcome) → StandsAt place row o → (has_process p row.state ≡ true → D) → Lasts D slot p o → Lasts D slot p (restart k place row o)
-unfolding restart restart_or_end restart_rows
+unfolding restart_rows
 restart-lasts D slot p k place row o at ended h =
-    let down : Outcome = set_row place row Undefined o in
-    let counted : Outcome = with_stamps (o.state.stamps ++ o.state.last ∷ []) down in
-    let rows : List Row = down.state.rows in
-    let strategy : Strategy = o.state.flags.strategy in
-    let from : ℕ = affected_from strategy place in
-    let to : ℕ = affected_to strategy place (length rows) in
+    let counted : Outcome = counted_restart place row o in
+    let rows : List Row = counted.state.rows in
     let now : Has D slot p rows = set-has D slot p place row Undefined o at (λ has. inr (ended has)) h.1 in
-    by_test (Lasts D slot p) (nat_lt o.state.flags.intensity (in_period o.state.flags.period (o.state.stamps ++ o.state.last ∷ []) o.state.last))
-    (terminate ending.Intensity counted) (restart_rows from to place k counted)
-    (λ _. terminate-lasts D slot p ending.Intensity counted (h.0, now))
-    (λ _. (
-      h.0,
-      has_more D slot p rows (take from rows ++ calm_rows (slice_range rows from to) ++ drop to rows)
-          (restarted-lives slot p from to rows (affected_in_order strategy place (length rows) (omega (arith, counted_length place row o at)))) now,
-    ))
+    restart-within (Lasts D slot p) k place row o at (terminate-lasts D slot p ending.Intensity counted (h.0, now))
+    (λ from to le. (h.0, has_more D slot p rows (take from rows ++ calm_rows (slice_range rows from to) ++ drop to rows) (omega (arith, restarted-lives slot p from to rows le)) now))
 
 -- the end waited before, or the event brings a note of it
 abbrev pub Ended : (Item → Type 0) → Outcome → ℕ → Type 0
@@ -351,23 +324,13 @@ none_lives : (slot p : ℕ) (o : Outcome) → Stops [] o → is_end o.state.foll
 none_lives slot p o h e = let z : times p [] ≡ 0 = refl in omega (arith, live_counts slot p o.state.rows, (h.2 e).0 p, h.0.1, z)
 
 stop_first-lasts : (D : Type 0) (slot p : ℕ) (qs : List ℕ) (n : ℕ) (o : Outcome) → Stops qs o → Lasts D slot p o → Lasts D slot p (stop_first qs n o)
-unfolding stop_first
-stop_first-lasts D slot p [] n o s h = start_first-lasts D slot p o.state.to_start n o (none_lives slot p o s) h
-stop_first-lasts D slot p (q ∷ qs) n o s h =
-    let place : Option ℕ = position (is_exit q) o.state.waiting in
-    let left : Outcome = with_work qs o.state.to_start o.state.follows o in
-    by_test (Lasts D slot p) (is_some place) (stop_first qs n (use_exit q place left)) (tell q left)
-    (λ some. stop_first-lasts D slot p qs n (use_exit q place left) (used-stops q qs o s) (use_exit-lasts D slot p q o left refl refl some h))
-    (λ _. tell-lasts D slot p q left h)
+stop_first-lasts D slot p qs n o s h =
+    stop_first-by (λ ps x. Stops ps x × Lasts D slot p x) (Lasts D slot p) n (λ x g. start_first-lasts D slot p x.state.to_start n x (none_lives slot p x g.0) g.1)
+    (λ q rest x some g. (used-stops q rest x g.0, use_exit-lasts D slot p q x (with_stops rest x) refl refl some g.1)) (λ q rest x g. tell-lasts D slot p q (with_stops rest x) g.1) qs o (s, h)
 
 advance-lasts : (D : Type 0) (slot p n : ℕ) (o : Outcome) → IsSound o.state → AreOne o → Finishes o.state → Lasts D slot p o → Lasts D slot p (advance n o)
-unfolding advance
 advance-lasts D slot p n o sound one finishes h =
-    let go : Outcome = stop_first o.state.to_stop n o in
-    by_test (Lasts D slot p) (is_busy o) (if list_any (row_has is_awaited) o.state.rows then o else go) o
-    (λ busy. by_test (Lasts D slot p) (list_any (row_has is_awaited) o.state.rows) o go (λ _. h)
-    (λ none. stop_first-lasts D slot p o.state.to_stop n o ((sound, none_in is_awaited o.state.rows none, refl, busy), one, finishes) h))
-    (λ _. h)
+    advance-by (Lasts D slot p) n o h (λ busy none. stop_first-lasts D slot p o.state.to_stop n o ((sound, none_in is_awaited o.state.rows none, refl, busy), one, finishes) h)
 
 -- a state that is in order: its work is sound, each process is one row's, its end stops all, and an ended one has no rows
 abbrev pub IsInOrder : ℕ → State → Type 0

@@ -2,6 +2,8 @@ mod Samples
 mod Worked
 pub mod Keeps
 pub mod Decisions
+pub mod Walks
+pub mod States
 pub mod Steady
 pub mod Deadlines
 pub mod Period

@@ -1,5 +1,5 @@
 -- The orders name processes that a row has, or the one that the event starts.
-use Rattle.std.specs.Prelude.{◌≡◌, ◌⊎◌, ℕ, ◌==◌, ◌≤◌, ◌<◌, ◌++◌, ◌||◌, Bool, true, false, List, [], ◌∷◌, Option, None, Some, refl, if◌then◌else◌, position, is_some, slice_set, nat_lt, nat_le, length, remove, unwrap_or}
+use Rattle.std.specs.Prelude.{◌≡◌, ◌⊎◌, ℕ, ◌==◌, ◌≤◌, ◌<◌, ◌++◌, ◌||◌, Bool, true, false, List, [], ◌∷◌, Option, None, Some, refl, if◌then◌else◌, position, is_some, nat_le, length, remove, unwrap_or}
 use Rattle.std.specs.List.{list_any, filter_map, All, Contains}
 use Rattle.std.proofs.Common.{◌∙◌, ap, sym, subst, inl, inr, arith, ⊎_elim, cond, rules, append_assoc, get_or, suc, zero}
 use Rattle.std.proofs.lemmas.Bool.{false≢true, cases_Bool, eqb-true}
@@ -10,9 +10,7 @@ use Rattle.otp_spec.specs.declared.child.Shutdown.TheVariants.{BrutalKill, Milli
 use Rattle.otp_table.specs.declared.row.Row.{Row}
 use Rattle.otp_table.specs.declared.row.RowState.{RowState}
 use Rattle.otp_table.specs.declared.row.RowState.TheVariants.{Undefined, Starting, Up, Asked, Killed, Restarting}
-use Rattle.otp_table.specs.Rows.{has_process, is_awaited, row_has, with_state}
-use Rattle.otp_window.specs.Period.{in_period}
-use Rattle.otp_spec.specs.declared.flags.Strategy.{Strategy}
+use Rattle.otp_table.specs.Rows.{has_process}
 use Rattle.otp_rules.specs.declared.call.Reply.{Reply}
 use Rattle.otp_rules.specs.declared.ending.Ending.{Ending}
 use Rattle.otp_rules.specs.declared.ending.Ending.TheVariants as ending
@@ -26,14 +24,13 @@ use Rattle.otp_rules.specs.declared.event.Kind.{Kind}
 use Rattle.otp_rules.specs.declared.work.Due.{Due}
 use Rattle.otp_rules.specs.declared.work.Sequel.{Sequel}
 use Rattle.otp_rules.specs.declared.work.Sequel.TheVariants as sequel
-use Rattle.otp_spec.specs.Flags.{is_simple}
-use Rattle.otp_rules.specs.State.{Outcome, State, answer, is_busy, with_rows, with_stamps, with_waiting, with_work}
+use Rattle.otp_rules.specs.State.{Outcome, State, answer, with_rows, with_waiting, with_work}
 use Rattle.otp_rules.specs.Places.{at_row, end_row, end_process, set_row, is_removed}
-use Rattle.otp_rules.specs.Restarts.{affected_from, affected_to, running}
-use Rattle.otp_rules.specs.Stops.{calm_all, is_exit, without, tell_row, tell, use_exit, stop_each, stop_order, terminate_ordered, terminate_together, terminate}
+use Rattle.otp_rules.specs.Restarts.{running}
+use Rattle.otp_rules.specs.Stops.{calm_all, is_exit, without, tell_row, tell, use_exit, stop_each, stop_order, terminate}
 use Rattle.otp_rules.specs.Starts.{is_due, start_row, start}
 use Rattle.otp_rules.specs.Work.{follow, start_first, stop_first, advance}
-use Rattle.otp_rules.specs.Deaths.{restart_rows, restart_or_end, restart}
+use Rattle.otp_rules.specs.Deaths.{restart_rows, restart}
 use Rattle.otp_rules.specs.Step.{open_with, open_rows, tick, decide, stamped, step, step_on, kill_order, late_number}
 use Rattle.otp_rules.specs.Named.{AreAmong, named_by, NamesOneOf, OrdersNumbered, OrdersNumberedFrom}
 use Rattle.otp_rules.specs.Ends.{sup_end_of, refuse_all, refusal, end_all}
@@ -41,9 +38,10 @@ use Rattle.otp_rules.specs.Progress.{decided}
 use Rattle.otp_rules.specs.Fit.{rows_in}
 use Rattle.otp_rules.specs.Needs.{is_start, needs_number, numbers_of, IsNumbered}
 use Rattle.otp_rules.specs.Run.{empty_state, orders_of}
+use Rattle.otp_rules.proofs.Walks.{advance-by, stop_each-by, stop_first-by, terminate-by, with_stops, counted_restart}
 use Rattle.otp_rules.proofs.Decisions.{StandsAt, Survives, at_row-survives, at_number-survives, by_test, decide-survives}
 use Rattle.otp_rules.proofs.Counting.{rows_in-cons, rows_in-at}
-use Rattle.otp_rules.proofs.Numbers.{holders, NoMore, set-no_more, tell-no_more, use_exit-no_more, calm_process, restart_rows-no_more, affected_in_order, counted_length, no_more-survives, step-grown}
+use Rattle.otp_rules.proofs.Numbers.{holders, NoMore, set-no_more, tell-no_more, use_exit-no_more, calm_process, restart_rows-no_more, no_more-survives, step-grown, restart-within}
 
 -- if the order names a process, that is n, or a row had it
 abbrev pub IsHeld : ℕ → Outcome → Effect → Type 0
@@ -95,37 +93,20 @@ use_exit-held n p place old o h = (
 )
 
 stop_each-held : (n : ℕ) (ps : List ℕ) (old o : Outcome) → Held n old o → Held n old (stop_each ps o)
-unfolding stop_each
-stop_each-held n [] old o h = h
-stop_each-held n (p ∷ ps) old o h =
-    let place : Option ℕ = position (is_exit p) o.state.waiting in
-    by_test (Held n old) (is_some place) (stop_each ps (use_exit p place o)) (stop_each ps (tell p o))
-    (λ _. stop_each-held n ps old (use_exit p place o) (use_exit-held n p place old o h))
-    (λ _. stop_each-held n ps old (tell p o) (tell-held n p old o h))
+stop_each-held n ps old = stop_each-by (Held n old) (λ p o _ h. use_exit-held n p (position (is_exit p) o.state.waiting) old o h) (λ p o _ h. tell-held n p old o h) ps
 
 terminate-held : (n : ℕ) (e : Ending) (old o : Outcome) → Held n old o → Held n old (terminate e o)
-unfolding terminate terminate_together terminate_ordered
 terminate-held n e old o h =
-    by_test (Held n old) (is_simple o.state.flags.strategy) (terminate_together e o) (terminate_ordered e o)
+    terminate-by (Held n old) e o
     (λ _. stop_each-held n (running o.state.rows) old (calm_all (with_work [] [] (Some (sequel.End e)) o)) ((λ q. omega (arith, h.0 q, calm_process q o.state.rows)), h.1))
     (λ _. ((λ q. omega (arith, h.0 q, calm_process q o.state.rows)), h.1))
 
 restart-held : (n p place : ℕ) (row : Row) (old o : Outcome) → StandsAt place row o → Held n old o → Held n old (restart p place row o)
-unfolding restart restart_or_end restart_rows
+unfolding restart_rows
 restart-held n p place row old o at h =
-    let counted : Outcome = with_stamps (o.state.stamps ++ o.state.last ∷ []) (set_row place row Undefined o) in
-    let strategy : Strategy = o.state.flags.strategy in
-    let count : ℕ = length (slice_set o.state.rows place (with_state Undefined row)) in
+    let counted : Outcome = counted_restart place row o in
     let less : NoMore old counted = set-no_more place row Undefined old o at (λ q. omega arith) h.0 in
-    by_test (Held n old) (nat_lt o.state.flags.intensity (in_period o.state.flags.period (o.state.stamps ++ o.state.last ∷ []) o.state.last))
-    (terminate ending.Intensity counted)
-    (restart_rows (affected_from strategy place) (affected_to strategy place count) place p counted)
-    (λ _. terminate-held n ending.Intensity old counted (less, h.1))
-    (λ _. (
-      restart_rows-no_more (affected_from strategy place) (affected_to strategy place count) place p old counted
-          (affected_in_order strategy place count (omega (arith, counted_length place row o at))) less,
-      h.1,
-    ))
+    restart-within (Held n old) p place row o at (terminate-held n ending.Intensity old counted (less, h.1)) (λ from to le. (restart_rows-no_more from to place p old counted le less, h.1))
 
 pub late_has : (now p : ℕ) (s : RowState) → late_number now s ≡ Some p → has_process p s ≡ true
 late_has now p Undefined h = absurd (search (rules, h))
@@ -249,23 +230,14 @@ start_first-held n old [] o h = follow-held n old o.state.follows o h
 start_first-held n old (due ∷ dues) o h = start-held n old due (with_work o.state.to_stop dues o.state.follows o) h
 
 stop_first-held : (n : ℕ) (ps : List ℕ) (old o : Outcome) → Held n old o → All (IsHeld n old) (stop_first ps n o).orders
-unfolding stop_first
-stop_first-held n [] old o h = start_first-held n old o.state.to_start o h.1
-stop_first-held n (p ∷ ps) old o h =
-    let place : Option ℕ = position (is_exit p) o.state.waiting in
-    let left : Outcome = with_work ps o.state.to_start o.state.follows o in
-    by_test (λ (x : Outcome). All (IsHeld n old) x.orders) (is_some place) (stop_first ps n (use_exit p place left)) (tell p left)
-    (λ _. stop_first-held n ps old (use_exit p place left) (use_exit-held n p place old left h))
-    (λ _. (tell-held n p old left h).1)
+stop_first-held n ps old =
+    stop_first-by (λ _. Held n old) (λ x. All (IsHeld n old) x.orders) n (λ o h. start_first-held n old o.state.to_start o h.1)
+    (λ p rest o _ h. use_exit-held n p (position (is_exit p) o.state.waiting) old (with_stops rest o) h) (λ p rest o h. (tell-held n p old (with_stops rest o) h).1) ps
 
 advance-held : (n : ℕ) (old o : Outcome) → Held n old o → All (IsHeld n old) (advance n o).orders
-unfolding advance
 advance-held n old o h =
     let P : Outcome → Type 0 = λ x. All (IsHeld n old) x.orders in
-    let go : Outcome = stop_first o.state.to_stop n o in
-    by_test P (is_busy o) (if list_any (row_has is_awaited) o.state.rows then o else go) o
-    (λ _. by_test P (list_any (row_has is_awaited) o.state.rows) o go (λ _. h.1) (λ _. stop_first-held n o.state.to_stop old o h))
-    (λ _. h.1)
+    advance-by P n o h.1 (λ _ _. stop_first-held n o.state.to_stop old o h)
 
 -- the orders of an event name its own number or a process that a row had
 pub step-held : (s : State) (e : Event) → All (IsHeld (unwrap_or e.number 0) (record { state = stamped e.reading s; orders = [] })) (step s e).orders

@@ -1,8 +1,8 @@
 -- Each process that an order names is that of a row after the event.
-use Rattle.std.specs.Prelude.{◌≡◌, ◌⊎◌, ℕ, ◌==◌, ◌+◌, ◌≤◌, ◌<◌, ◌++◌, Bool, true, false, List, [], ◌∷◌, Option, None, Some, All, Contains, refl, if◌then◌else◌, position, is_some, slice_set, nat_lt, length, remove, unwrap_or, count_by}
-use Rattle.std.specs.List.{list_any, filter_map}
+use Rattle.std.specs.Prelude.{◌≡◌, ◌⊎◌, ℕ, ◌==◌, ◌+◌, ◌≤◌, ◌<◌, ◌++◌, Bool, true, false, List, [], ◌∷◌, Option, None, Some, All, Contains, refl, if◌then◌else◌, position, is_some, slice_set, length, remove, unwrap_or, count_by}
+use Rattle.std.specs.List.{filter_map}
 use Rattle.std.proofs.Common.{◌∙◌, ap, sym, subst, inl, inr, arith, ⊎_elim, cond, rules, get_or, suc, zero}
-use Rattle.std.proofs.lemmas.Bool.{false≢true, cases_Bool, eqb-true, eq-eqb}
+use Rattle.std.proofs.lemmas.Bool.{false≢true, cases_Bool, eq-eqb}
 use Rattle.std.proofs.lemmas.List.Elements.{All-push}
 use Rattle.otp_reason.specs.declared.name.Name.{Name}
 use Rattle.otp_spec.specs.declared.child.Shutdown.{Shutdown}
@@ -11,8 +11,7 @@ use Rattle.otp_spec.specs.declared.flags.Strategy.{Strategy}
 use Rattle.otp_table.specs.declared.row.Row.{Row}
 use Rattle.otp_table.specs.declared.row.RowState.{RowState}
 use Rattle.otp_table.specs.declared.row.RowState.TheVariants.{Undefined, Starting, Up, Asked, Killed, Restarting}
-use Rattle.otp_table.specs.Rows.{free_slot, has_process, is_awaited, row_has, slot_of, with_state}
-use Rattle.otp_window.specs.Period.{in_period}
+use Rattle.otp_table.specs.Rows.{free_slot, has_process, is_awaited, slot_of, with_state}
 use Rattle.otp_rules.specs.declared.call.Reply.{Reply}
 use Rattle.otp_rules.specs.declared.ending.Ending.{Ending}
 use Rattle.otp_rules.specs.declared.ending.Ending.TheVariants as ending
@@ -25,13 +24,13 @@ use Rattle.otp_rules.specs.declared.event.Waiting.TheVariants as waiting
 use Rattle.otp_rules.specs.declared.work.Sequel.TheVariants as sequel
 use Rattle.otp_rules.specs.declared.work.Due.{Due}
 use Rattle.otp_spec.specs.Flags.{is_simple}
-use Rattle.otp_rules.specs.State.{Outcome, State, answer, closed, emit, is_busy, put_last, with_rows, with_stamps, with_waiting, with_work}
+use Rattle.otp_rules.specs.State.{Outcome, State, answer, closed, emit, put_last, with_rows, with_stamps, with_waiting, with_work}
 use Rattle.otp_rules.specs.Places.{end_process, end_row, set_row}
 use Rattle.otp_rules.specs.Restarts.{affected_from, affected_to, running}
 use Rattle.otp_rules.specs.Stops.{calm_all, is_exit, stop_each, stop_order, tell, tell_row, terminate, terminate_ordered, terminate_together, told, use_exit, without}
 use Rattle.otp_rules.specs.Work.{advance, follow, start_first, stop_first}
 use Rattle.otp_rules.specs.Starts.{is_due, start, start_row}
-use Rattle.otp_rules.specs.Deaths.{restart, restart_or_end, restart_rows}
+use Rattle.otp_rules.specs.Deaths.{restart, restart_rows}
 use Rattle.otp_rules.specs.Calls.{new_row}
 use Rattle.otp_rules.specs.Step.{decide, kill_order, late_number, open_rows, stamped, step, step_on, tick}
 use Rattle.otp_rules.specs.Run.{empty_state, state_after}
@@ -39,8 +38,10 @@ use Rattle.otp_rules.specs.Needs.{numbers_of}
 use Rattle.otp_rules.specs.Progress.{no_progress, progress}
 use Rattle.otp_rules.specs.Fit.{Fits, IsNamed, is_told, next_number, rows_in}
 use Rattle.otp_rules.specs.Named.{OrdersNameRows, OrdersNameRowsFrom, named_by}
+use Rattle.otp_rules.proofs.States.{one_process, told_has}
+use Rattle.otp_rules.proofs.Walks.{advance-by, restart-by, stop_each-by, stop_first-by, with_stops}
 use Rattle.otp_rules.proofs.Decisions.{IsUnmoved, SurvivesEvent, at_number-survives, by_test, decide-survives, decide-survives_event}
-use Rattle.otp_rules.proofs.Counting.{Alike, at_row-first, end_row-quiet, found, none_in, rows_in-at, rows_in-cons, rows_in-end, rows_in-set, there, tick_count, told-told, use_exit-alike, use_exit-quiet, without_count}
+use Rattle.otp_rules.proofs.Counting.{Alike, at_row-first, end_row-quiet, found, none_in, rows_in-at, rows_in-cons, rows_in-end, rows_in-set, there, tick_count, told-told, use_exit-alike, use_exit-quiet, without_count, cond_le, rows_in-le}
 use Rattle.otp_rules.proofs.InTurn.{TakesReplies, follow-orders, none_told}
 use Rattle.otp_rules.proofs.Sound.{IsReady, used-ready}
 use Rattle.otp_rules.proofs.Fits.{due_there}
@@ -80,20 +81,7 @@ named_stop id p Infinity = refl
 
 -- who was told has the process
 told_same : (p q : ℕ) (state : RowState) → has_process p state ≡ true → is_told q state ≡ true → q ≡ p
-told_same p q Undefined h k = absurd (false≢true h)
-told_same p q (Starting x _) h k = absurd (false≢true k)
-told_same p q (Up x) h k = absurd (false≢true k)
-told_same p q (Asked x _) h k = sym (eqb-true x q k) ∙ eqb-true x p h
-told_same p q (Killed x) h k = sym (eqb-true x q k) ∙ eqb-true x p h
-told_same p q (Restarting _) h k = absurd (false≢true h)
-
-told_has : (p : ℕ) (state : RowState) → cond (is_told p state) 1 0 ≤ cond (has_process p state) 1 0
-told_has p Undefined = omega arith
-told_has p (Starting _ _) = omega arith
-told_has p (Up _) = omega arith
-told_has p (Asked _ _) = omega arith
-told_has p (Killed _) = omega arith
-told_has p (Restarting _) = omega arith
+told_same p q state h k = one_process p q state h (told_has q state k)
 
 tell-told : (p : ℕ) (o : Outcome) → count_by (is_exit p) o.state.waiting ≡ 0 → AllTold o → AllTold (tell p o)
 unfolding tell tell_row
@@ -150,13 +138,7 @@ use_exit-told p o waits h =
     (omega (arith, rows, was.0), none))
 
 stop_each-told : (ps : List ℕ) (o : Outcome) → AllTold o → AllTold (stop_each ps o)
-unfolding stop_each
-stop_each-told [] o h = h
-stop_each-told (p ∷ ps) o h =
-    let place : Option ℕ = position (is_exit p) o.state.waiting in
-    by_test AllTold (is_some place) (stop_each ps (use_exit p place o)) (stop_each ps (tell p o))
-    (λ waits. stop_each-told ps (use_exit p place o) (use_exit-told p o waits h))
-    (λ none. stop_each-told ps (tell p o) (tell-told p o (none_waits p o.state.waiting none) h))
+stop_each-told = stop_each-by AllTold (λ p o waits h. use_exit-told p o waits h) (λ p o none h. tell-told p o (none_waits p o.state.waiting none) h)
 
 -- each order so far names a child that was told to stop
 abbrev Tells : Outcome → Type 0
@@ -177,14 +159,13 @@ terminate-tells e o none =
     (λ _. nothing-tells (terminate_ordered e o) none)
 
 restart-tells : (p place : ℕ) (row : Row) (o : Outcome) → o.orders ≡ [] → Tells (restart p place row o)
-unfolding restart restart_or_end restart_rows
+unfolding restart_rows
 restart-tells p place row o none =
     let counted : Outcome = with_stamps (o.state.stamps ++ o.state.last ∷ []) (set_row place row Undefined o) in
     let strategy : Strategy = o.state.flags.strategy in
     let count : ℕ = length counted.state.rows in
     let started : Outcome = restart_rows (affected_from strategy place) (affected_to strategy place count) place p counted in
-    by_test Tells (nat_lt o.state.flags.intensity (in_period o.state.flags.period (o.state.stamps ++ o.state.last ∷ []) o.state.last))
-    (terminate ending.Intensity counted) started
+    restart-by Tells p place row o
     (λ _. terminate-tells ending.Intensity counted none)
     (λ _. nothing-tells started none)
 
@@ -259,8 +240,7 @@ tells-none o calm h j d within = of_named (named_by (get_or o.orders j d)) refl
     of_named (Some p) is = absurd (none_told p o.state.rows calm (h j d within p is))
 
 told-more : (rows : List Row) (p : ℕ) → rows_in (is_told p) rows ≤ rows_in (has_process p) rows
-told-more [] p = omega arith
-told-more (row ∷ rows) p = omega (arith, told-more rows p, told_has p row.state, rows_in-cons (is_told p) row rows, rows_in-cons (has_process p) row rows)
+told-more rows p = rows_in-le (is_told p) (has_process p) (λ state. cond_le (is_told p state) (has_process p state) (told_has p state)) rows
 
 tells-placed : (o : Outcome) → Tells o → Placed o
 tells-placed o h j d within p is = omega (arith, h j d within p is, told-more o.state.rows p)
@@ -307,35 +287,27 @@ start_first-placed [] n o is m = none-placed (follow o.state.follows o) (follow-
 start_first-placed (due ∷ rest) n o is m = start-placed due rest n o m.0.1 (subst (λ (ds : List Due). Fits [] ds o.state.rows) is m.3) m.4
 
 stop_first-placed : (ps : List ℕ) (n : ℕ) (o : Outcome) → MayGo ps o → Placed (stop_first ps n o)
-unfolding stop_first
-stop_first-placed [] n o m = start_first-placed o.state.to_start n o refl m
-stop_first-placed (p ∷ ps) n o m =
-    let left : Outcome = with_work ps o.state.to_start o.state.follows o in
+stop_first-placed ps n =
+    stop_first-by MayGo Placed n (λ o m. start_first-placed o.state.to_start n o refl m)
+    (λ p rest o _ m.
+    let left : Outcome = with_stops rest o in
     let place : Option ℕ = position (is_exit p) o.state.waiting in
     let used : Outcome = use_exit p place left in
-    by_test Placed (is_some place) (stop_first ps n used) (tell p left)
-    (λ _.
     let same : Alike used left = use_exit-alike p place left in
-    let fits : IsNamed used.state × Fits ps o.state.to_start used.state.rows = used-fits p ps place o m.0 (m.1 p) m.2 m.3 in
-    stop_first-placed ps n used (
-      used-ready p ps place o m.0,
+    let fits : IsNamed used.state × Fits rest o.state.to_start used.state.rows = used-fits p rest place o m.0 (m.1 p) m.2 m.3 in (
+      used-ready p rest place o m.0,
       (λ q. omega (arith, use_exit-no_more p place left left (λ x. omega arith) q, m.1 q)),
       fits.0,
-      subst (λ (ds : List Due). Fits ps ds used.state.rows) (sym same.3) fits.1,
+      subst (λ (ds : List Due). Fits rest ds used.state.rows) (sym same.3) fits.1,
       subst (λ (xs : List Effect). All NamesNone xs) (sym (use_exit-quiet p place left).1) m.4,
     ))
-    (λ _. tell-placed p left m.4)
+    (λ p rest o m. tell-placed p (with_stops rest o) m.4) ps
 
 advance-placed : (n : ℕ) (o : Outcome) → Stands o → ((q : ℕ) → rows_in (has_process q) o.state.rows ≤ 1) → Tells o → Placed (advance n o)
-unfolding advance
 advance-placed n o h one tells =
-    let go : Outcome = stop_first o.state.to_stop n o in
-    by_test Placed (is_busy o) (if list_any (row_has is_awaited) o.state.rows then o else go) o
-    (λ busy. by_test Placed (list_any (row_has is_awaited) o.state.rows) o go (λ _. tells-placed o tells)
-    (λ calm.
+    advance-by Placed n o (tells-placed o tells) (λ busy calm.
     let nothing : rows_in is_awaited o.state.rows ≡ 0 = none_in is_awaited o.state.rows calm in
-    stop_first-placed o.state.to_stop n o ((h.0, nothing, refl, busy), one, h.1.0, h.1.1, tells-none o nothing tells)))
-    (λ _. tells-placed o tells)
+    stop_first-placed o.state.to_stop n o ((h.0, nothing, refl, busy), one, h.1.0, h.1.1, tells-none o nothing tells))
 
 -- the first row that has the process, where a count tells of one
 first_row : (p : ℕ) (rows : List Row) → 0 < rows_in (has_process p) rows → (row : Row) × Contains rows row × (has_process p row.state ≡ true) × (slot_of p rows ≡ Some row.slot)

@@ -24,11 +24,10 @@ use Rattle.otp_rules.specs.declared.event.Waiting.TheVariants as waiting
 use Rattle.otp_rules.specs.declared.work.Due.{Due}
 use Rattle.otp_rules.specs.declared.work.Sequel.{Sequel}
 use Rattle.otp_rules.specs.declared.work.Sequel.TheVariants as sequel
-use Rattle.otp_spec.specs.Flags.{is_simple}
 use Rattle.otp_rules.specs.State.{Outcome, answer, closed, is_busy, with_rows, with_waiting, with_work}
 use Rattle.otp_rules.specs.Places.{at_row, end_row, end_process, is_removed, set_row}
 use Rattle.otp_rules.specs.Restarts.{affected_from, affected_to, running}
-use Rattle.otp_rules.specs.Stops.{calm_all, is_exit, stop_order, without, tell_row, tell, use_exit, stop_each, terminate_ordered, terminate_together, terminate}
+use Rattle.otp_rules.specs.Stops.{calm_all, is_exit, stop_order, without, tell_row, tell, use_exit, stop_each, terminate}
 use Rattle.otp_rules.specs.Ends.{refusal, refuse_all, end_all}
 use Rattle.otp_rules.specs.Starts.{is_due, start_row, start}
 use Rattle.otp_rules.specs.Work.{follow, start_first, stop_first, advance}
@@ -36,6 +35,7 @@ use Rattle.otp_rules.specs.Deaths.{restart_rows, restart_or_end, restart}
 use Rattle.otp_rules.specs.Step.{kill_order, late_number, open_with, open_rows, tick, decide, stamped, step_on, step}
 use Rattle.otp_rules.specs.Needs.{NumberStartsWork, ends_wait, has_due, is_start, needs_number, work_starts}
 use Rattle.std.proofs.lemmas.List.{append-nil}
+use Rattle.otp_rules.proofs.Walks.{stop_each-by, terminate-by}
 use Rattle.otp_rules.proofs.Appended.{decide-behind}
 use Rattle.otp_rules.proofs.Decisions.{Survives, at_number-survives, at_row-survives, decide-survives}
 use Rattle.otp_window.specs.Period.{in_period}
@@ -160,22 +160,10 @@ advance-starts n o h =
     ]
 
 stop_each-quiet : (ps : List ℕ) (o : Outcome) → Starts false o → Starts false (stop_each ps o)
-unfolding stop_each
-stop_each-quiet [] o h = h
-stop_each-quiet (p ∷ ps) o h =
-    let place : Option ℕ = position (is_exit p) o.state.waiting in
-    elim (is_some place) as (λ b. Starts false (if b then stop_each ps (use_exit p place o) else stop_each ps (tell p o))) [
-      | true ↦ stop_each-quiet ps (use_exit p place o) (use_exit-quiet p place o h)
-      | false ↦ stop_each-quiet ps (tell p o) (tell-quiet p o h)
-    ]
+stop_each-quiet = stop_each-by (Starts false) (λ p o _ h. use_exit-quiet p (position (is_exit p) o.state.waiting) o h) (λ p o _ h. tell-quiet p o h)
 
 terminate-quiet : (e : Ending) (o : Outcome) → Starts false o → Starts false (terminate e o)
-unfolding terminate terminate_together terminate_ordered
-terminate-quiet e o h =
-    elim (is_simple o.state.flags.strategy) as (λ b. Starts false (if b then terminate_together e o else terminate_ordered e o)) [
-      | true ↦ stop_each-quiet (running o.state.rows) (calm_all (with_work [] [] (Some (sequel.End e)) o)) h
-      | false ↦ h
-    ]
+terminate-quiet e o h = terminate-by (Starts false) e o (λ _. stop_each-quiet (running o.state.rows) (calm_all (with_work [] [] (Some (sequel.End e)) o)) h) (λ _. h)
 
 restart_or_end-quiet : (place k : ℕ) (o : Outcome) → Starts false o → Starts false (restart_or_end place k o)
 unfolding restart_or_end restart_rows

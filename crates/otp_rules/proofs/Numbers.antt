@@ -1,5 +1,5 @@
 -- In a lawful history no process is a child's in two rows.
-use Rattle.std.specs.Prelude.{◌≡◌, ◌⊎◌, ℕ, ◌==◌, ◌+◌, ◌≤◌, ◌<◌, ◌++◌, ◌||◌, Bool, true, false, List, [], ◌∷◌, Option, None, Some, refl, if◌then◌else◌, position, is_some, slice_set, slice_range, nat_lt, length, remove, unwrap_or, take, drop}
+use Rattle.std.specs.Prelude.{◌≡◌, ◌⊎◌, ℕ, ◌==◌, ◌+◌, ◌≤◌, ◌<◌, ◌++◌, ◌||◌, Bool, true, false, List, [], ◌∷◌, Option, None, Some, refl, position, is_some, slice_set, slice_range, length, remove, unwrap_or, take, drop}
 use Rattle.std.specs.List.{list_any}
 use Rattle.std.proofs.Common.{◌∙◌, ap, sym, subst, inl, inr, arith, ⊎_elim, cond}
 use Rattle.std.proofs.lemmas.Bool.{false≢true, cases_Bool, eqb-true}
@@ -13,8 +13,7 @@ use Rattle.otp_spec.specs.declared.child.Shutdown.TheVariants.{BrutalKill, Milli
 use Rattle.otp_table.specs.declared.row.Row.{Row}
 use Rattle.otp_table.specs.declared.row.RowState.{RowState}
 use Rattle.otp_table.specs.declared.row.RowState.TheVariants.{Undefined, Starting, Up, Asked, Killed, Restarting}
-use Rattle.otp_table.specs.Rows.{has_process, is_awaited, row_has, with_state, calm_rows, calmed, free_slot}
-use Rattle.otp_window.specs.Period.{in_period}
+use Rattle.otp_table.specs.Rows.{has_process, row_has, with_state, calm_rows, calmed, free_slot}
 use Rattle.otp_rules.specs.declared.call.Reply.{Reply}
 use Rattle.otp_rules.specs.declared.ending.Ending.{Ending}
 use Rattle.otp_rules.specs.declared.event.Event.{Event}
@@ -22,18 +21,19 @@ use Rattle.otp_rules.specs.declared.event.Kind.{Kind}
 use Rattle.otp_rules.specs.declared.work.Due.{Due}
 use Rattle.otp_rules.specs.declared.work.Sequel.{Sequel}
 use Rattle.otp_spec.specs.Flags.{is_simple}
-use Rattle.otp_rules.specs.State.{Outcome, State, answer, is_busy, with_rows, with_stamps, with_waiting, with_work}
+use Rattle.otp_rules.specs.State.{Outcome, State, answer, with_rows, with_waiting, with_work}
 use Rattle.otp_rules.specs.Places.{at_row, end_row, end_process, set_row}
 use Rattle.otp_rules.specs.Restarts.{affected_from, affected_to, dues, running}
-use Rattle.otp_rules.specs.Stops.{calm_all, is_exit, without, told, tell_row, tell, use_exit, stop_each, terminate_ordered, terminate_together, terminate}
+use Rattle.otp_rules.specs.Stops.{calm_all, is_exit, without, told, tell_row, tell, use_exit, stop_each, terminate}
 use Rattle.otp_rules.specs.Starts.{is_due, start_row, start}
 use Rattle.otp_rules.specs.Ends.{refuse_all, end_all}
 use Rattle.otp_rules.specs.Work.{follow, start_first, stop_first, advance}
-use Rattle.otp_rules.specs.Deaths.{restart_rows, restart_or_end, restart}
+use Rattle.otp_rules.specs.Deaths.{restart_rows, restart}
 use Rattle.otp_rules.specs.Calls.{new_row}
 use Rattle.otp_rules.specs.Step.{rows_from, open_with, open_rows, opening_specs, tick, decide, stamped, step, step_on}
 use Rattle.otp_rules.specs.Progress.{decided}
 use Rattle.otp_rules.specs.Fit.{rows_in, IsDistinct}
+use Rattle.otp_rules.proofs.Walks.{advance-by, restart-by, stop_each-by, terminate-by, counted_restart}
 use Rattle.otp_rules.proofs.Decisions.{StandsAt, Survives, at_row-survives, at_number-survives, by_test, decide-survives}
 use Rattle.otp_rules.proofs.Counting.{rows_in-cons, rows_in-append, remove_count, rows_in-set, rows_in-end, rows_in-map, tick_count}
 use Rattle.std.proofs.lemmas.List.Folds.{drop_split, list_any-append}
@@ -96,13 +96,7 @@ use_exit-no_more p place old o h =
     at_number-survives (NoMore old) p end_row (with_waiting (without o.state.waiting place) o) h (λ i row at has. end-no_more i row old (with_waiting (without o.state.waiting place) o) at h)
 
 pub stop_each-no_more : (ps : List ℕ) (old o : Outcome) → NoMore old o → NoMore old (stop_each ps o)
-unfolding stop_each
-stop_each-no_more [] old o h = h
-stop_each-no_more (p ∷ ps) old o h =
-    let place : Option ℕ = position (is_exit p) o.state.waiting in
-    by_test (NoMore old) (is_some place) (stop_each ps (use_exit p place o)) (stop_each ps (tell p o))
-    (λ _. stop_each-no_more ps old (use_exit p place o) (use_exit-no_more p place old o h))
-    (λ _. stop_each-no_more ps old (tell p o) (tell-no_more p old o h))
+stop_each-no_more ps old = stop_each-by (NoMore old) (λ p o _ h. use_exit-no_more p (position (is_exit p) o.state.waiting) old o h) (λ p o _ h. tell-no_more p old o h) ps
 
 calmed-process : (q : ℕ) (state : RowState) → has_process q (calmed state) ≡ has_process q state
 calmed-process q Undefined = refl
@@ -116,9 +110,8 @@ pub calm_process : (q : ℕ) (rows : List Row) → rows_in (has_process q) (calm
 calm_process q rows = rows_in-map (has_process q) (λ (row : Row). with_state (calmed row.state) row) (λ row. calmed-process q row.state) rows
 
 pub terminate-no_more : (e : Ending) (old o : Outcome) → NoMore old o → NoMore old (terminate e o)
-unfolding terminate terminate_together terminate_ordered
 terminate-no_more e old o h =
-    by_test (NoMore old) (is_simple o.state.flags.strategy) (terminate_together e o) (terminate_ordered e o)
+    terminate-by (NoMore old) e o
     (λ _. stop_each-no_more (running o.state.rows) old (calm_all (with_work [] [] (Some (sequel.End e)) o)) (λ q. omega (arith, h q, calm_process q o.state.rows)))
     (λ _ q. omega (arith, h q, calm_process q o.state.rows))
 
@@ -142,19 +135,19 @@ affected_in_order SimpleOneForOne place count h = omega arith
 pub counted_length : (place : ℕ) (row : Row) (o : Outcome) → StandsAt place row o → place < length (slice_set o.state.rows place (with_state Undefined row))
 counted_length place row o at = omega (arith, slice_get_within o.state.rows place row at, length-set o.state.rows place (with_state Undefined row))
 
-pub restart-no_more : (p place : ℕ) (row : Row) (old o : Outcome) → StandsAt place row o → NoMore old o → NoMore old (restart p place row o)
-unfolding restart restart_or_end
-restart-no_more p place row old o at h =
-    let counted : Outcome = with_stamps (o.state.stamps ++ o.state.last ∷ []) (set_row place row Undefined o) in
+-- a restart of a child that stands there, whose range is in order
+pub restart-within : (P : Outcome → Type 0) (k place : ℕ) (row : Row) (o : Outcome) → StandsAt place row o → P (terminate ending.Intensity (counted_restart place row o))
+    → ((from to : ℕ) → from ≤ to → P (restart_rows from to place k (counted_restart place row o))) → P (restart k place row o)
+restart-within P k place row o at ends restarts =
+    let rows : List Row = (counted_restart place row o).state.rows in
     let strategy : Strategy = o.state.flags.strategy in
-    let count : ℕ = length (slice_set o.state.rows place (with_state Undefined row)) in
+    restart-by P k place row o (λ _. ends) (λ _. restarts (affected_from strategy place) (affected_to strategy place (length rows)) (affected_in_order strategy place (length rows) (omega (arith, counted_length place row o at))))
+
+pub restart-no_more : (p place : ℕ) (row : Row) (old o : Outcome) → StandsAt place row o → NoMore old o → NoMore old (restart p place row o)
+restart-no_more p place row old o at h =
+    let counted : Outcome = counted_restart place row o in
     let less : NoMore old counted = set-no_more place row Undefined old o at (λ q. omega arith) h in
-    by_test (NoMore old) (nat_lt o.state.flags.intensity (in_period o.state.flags.period (o.state.stamps ++ o.state.last ∷ []) o.state.last))
-    (terminate ending.Intensity counted)
-    (restart_rows (affected_from strategy place) (affected_to strategy place count) place p counted)
-    (λ _. terminate-no_more ending.Intensity old counted less)
-    (λ _. restart_rows-no_more (affected_from strategy place) (affected_to strategy place count) place p old counted
-    (affected_in_order strategy place count (omega (arith, counted_length place row o at))) less)
+    restart-within (NoMore old) p place row o at (terminate-no_more ending.Intensity old counted less) (λ from to le. restart_rows-no_more from to place p old counted le less)
 
 new-no_more : (q slot : ℕ) (specs : List ChildSpec) → rows_in (has_process q) (rows_from slot specs) ≡ 0
 new-no_more q slot [] = refl
@@ -250,12 +243,8 @@ stop_first-grown (p ∷ ps) n o =
     (λ _. inl (tell-no_more p o left (λ q. omega arith)))
 
 advance-grown : (n : ℕ) (o : Outcome) → Grown n o (advance n o)
-unfolding advance
 advance-grown n o =
-    let go : Outcome = stop_first o.state.to_stop n o in
-    by_test (Grown n o) (is_busy o) (if list_any (row_has is_awaited) o.state.rows then o else go) o
-    (λ _. by_test (Grown n o) (list_any (row_has is_awaited) o.state.rows) o go (λ _. inl (λ q. omega arith)) (λ _. stop_first-grown o.state.to_stop n o))
-    (λ _. inl (λ q. omega arith))
+    advance-by (Grown n o) n o (inl (λ q. omega arith)) (λ _ _. stop_first-grown o.state.to_stop n o)
 
 pub decided-distinct : (m : ℕ) (s : State) (e : Event) → IsDistinct m s → IsDistinct m (decided s e)
 decided-distinct m s e d =

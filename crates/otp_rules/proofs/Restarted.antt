@@ -1,5 +1,5 @@
 -- Each restart is counted once: the stamps are the times of the restarts that are seen from outside.
-use Rattle.std.specs.Prelude.{◌≡◌, ◌⊎◌, ℕ, ◌+◌, ◌-◌, ◌≤◌, ◌++◌, Bool, true, false, List, [], ◌∷◌, Option, None, Some, refl, is_some, max, nat_lt, length, remove, slice_set, slice_range, take, drop, unwrap_or}
+use Rattle.std.specs.Prelude.{◌≡◌, ◌⊎◌, ℕ, ◌+◌, ◌-◌, ◌≤◌, ◌++◌, Bool, true, false, List, [], ◌∷◌, Option, None, Some, refl, is_some, max, length, remove, slice_set, slice_range, take, drop, unwrap_or}
 use Rattle.std.proofs.Common.{◌∙◌, ap, sym, subst, inl, inr, arith, cond}
 use Rattle.std.proofs.lemmas.Bool.{cond_both, false≢true, cases_Bool}
 use Rattle.std.proofs.Common.{⊎_elim}
@@ -8,7 +8,6 @@ use Rattle.otp_table.specs.declared.row.RowState.TheVariants.{Undefined, Startin
 use Rattle.otp_table.specs.Rows.{free_slot, calm_rows, is_awaited, with_state}
 use Rattle.std.proofs.lemmas.List.Elements.{All-nil}
 use Rattle.otp_reason.specs.declared.note.Note.TheVariants as note
-use Rattle.otp_window.specs.Period.{in_period}
 use Rattle.otp_rules.specs.declared.call.Reply.{Reply}
 use Rattle.otp_rules.specs.declared.ending.Ending.{Ending}
 use Rattle.otp_rules.specs.declared.ending.Ending.TheVariants as ending
@@ -25,14 +24,15 @@ use Rattle.otp_rules.specs.Restarts.{affected_from, affected_to}
 use Rattle.otp_rules.specs.Stops.{terminate}
 use Rattle.otp_rules.specs.Ends.{refuse_all, end_all}
 use Rattle.otp_rules.specs.Work.{follow}
-use Rattle.otp_rules.specs.Deaths.{restart_rows, restart_or_end, restart}
+use Rattle.otp_rules.specs.Deaths.{restart_rows, restart}
 use Rattle.otp_rules.specs.Calls.{new_row}
 use Rattle.otp_rules.specs.Step.{open_with, open_rows, opening_specs, tick, decide, stamped, step, step_on}
 use Rattle.otp_rules.specs.Run.{empty_state}
 use Rattle.otp_rules.specs.Progress.{decided, is_end, is_opened}
 use Rattle.otp_rules.specs.Fit.{rows_in, IsSound}
 use Rattle.otp_rules.specs.Rate.{restarted, restarts, restarts_by, RestartRateFromEmpty, RestartsCounted}
-use Rattle.otp_rules.proofs.Decisions.{IsIdle, StandsAt, Survives, by_test, decide-survives}
+use Rattle.otp_rules.proofs.Walks.{restart-by}
+use Rattle.otp_rules.proofs.Decisions.{IsIdle, StandsAt, Survives, decide-survives}
 use Rattle.otp_rules.proofs.Counting.{rows_in-append, rows_in-at, rows_in-cons, rows_in-end, rows_in-set, Alike, alike, calm_awaited, drop_rows, end_row-alike, take_rows, tick_count}
 use Rattle.otp_rules.proofs.Sound.{advance-sound, awaits_nothing, empty-sound, sound-survives}
 use Rattle.otp_rules.proofs.WhileOpen.{Tracks, fails_opening, no_after, opens_none, terminate-follows}
@@ -153,14 +153,12 @@ opened-restart b f times from to place k o is idle sound none stamps =
 -- a restart counts once
 restart-counted : (b : Bool) (f : Option Sequel) (times : List ℕ) (p place : ℕ) (row : Row) (o : Outcome) → b ≡ is_some f → b ≡ false → StandsAt place row o → rows_in is_awaited o.state.rows ≡ 0 → o.state.stamps ≡ times → IsSound (restart p place row o).state
     → Counted f times (restart p place row o)
-unfolding restart restart_or_end
 restart-counted b f times p place row o is idle at none stamps =
     let counted : Outcome = with_stamps (o.state.stamps ++ o.state.last ∷ []) (set_row place row Undefined o) in
     let from : ℕ = affected_from o.state.flags.strategy place in
     let to : ℕ = affected_to o.state.flags.strategy place (length counted.state.rows) in
     let more : o.state.stamps ++ o.state.last ∷ [] ≡ times ++ o.state.last ∷ [] = ap (λ (ts : List ℕ). ts ++ o.state.last ∷ []) stamps in
-    by_test (λ x. IsSound x.state → Counted f times x) (nat_lt o.state.flags.intensity (in_period o.state.flags.period (o.state.stamps ++ o.state.last ∷ []) o.state.last))
-    (terminate ending.Intensity counted) (restart_rows from to place p counted)
+    restart-by (λ x. IsSound x.state → Counted f times x) p place row o
     (λ _ sound. ended-counted f times ending.Intensity counted (opens_none f b (Some (sequel.End ending.Intensity)) is idle refl) sound more)
     (λ _ sound. opened-restart b f times from to place p counted is idle sound (down_calm place row Undefined o at refl (omega (arith, none))) more)
 

@@ -1,5 +1,5 @@
 -- No two rows have one slot, and each lies below 256.
-use Rattle.std.specs.Prelude.{Contains, ◌&&◌, not, ◌≡◌, ◌⊎◌, ℕ, ◌==◌, ◌+◌, ◌≤◌, ◌<◌, ◌++◌, ◌||◌, Bool, true, false, List, [], ◌∷◌, Option, None, Some, All, refl, if◌then◌else◌, position, is_some, slice_get, slice_set, slice_range, nat_lt, nat_le, length, remove, unwrap_or, map, take, drop, count_by}
+use Rattle.std.specs.Prelude.{Contains, ◌&&◌, not, ◌≡◌, ◌⊎◌, ℕ, ◌==◌, ◌+◌, ◌≤◌, ◌<◌, ◌++◌, ◌||◌, Bool, true, false, List, [], ◌∷◌, Option, None, Some, All, refl, if◌then◌else◌, position, slice_get, slice_set, slice_range, nat_lt, nat_le, length, remove, unwrap_or, map, take, drop, count_by}
 use Rattle.std.specs.List.{list_any}
 use Rattle.std.proofs.Common.{◌∙◌, ap, sym, subst, inl, inr, arith, ⊎_elim, cond, get_or, rules}
 use Rattle.std.proofs.lemmas.Bool.{false≢true, cases_Bool, eqb-true, eq-eqb, leb-false, cond_both, lt-ltb, ltb-true, ltb-false}
@@ -8,12 +8,10 @@ use Rattle.std.proofs.lemmas.List.Folds.{drop_split}
 use Rattle.std.proofs.lemmas.List.Elements.{All-head, All-tail}
 use Prim.Native.Nat.{zero, suc}
 use Rattle.otp_spec.specs.declared.child.ChildSpec.{ChildSpec}
-use Rattle.otp_spec.specs.declared.flags.Strategy.{Strategy}
 use Rattle.otp_table.specs.declared.row.Row.{Row}
 use Rattle.otp_table.specs.declared.row.RowState.{RowState}
 use Rattle.otp_table.specs.declared.row.RowState.TheVariants.{Undefined, Starting, Up, Asked, Killed, Restarting}
-use Rattle.otp_table.specs.Rows.{free_from, free_slot, has_process, has_slot, is_awaited, row_has, with_state, calm_rows, calmed}
-use Rattle.otp_window.specs.Period.{in_period}
+use Rattle.otp_table.specs.Rows.{free_from, free_slot, has_process, has_slot, row_has, with_state, calm_rows, calmed}
 use Rattle.otp_rules.specs.declared.call.Reply.{Reply}
 use Rattle.otp_rules.specs.declared.ending.Ending.{Ending}
 use Rattle.otp_rules.specs.declared.ending.Ending.TheVariants as ending
@@ -24,14 +22,14 @@ use Rattle.otp_rules.specs.declared.work.Due.{Due}
 use Rattle.otp_rules.specs.declared.work.Sequel.{Sequel}
 use Rattle.otp_rules.specs.declared.work.Sequel.TheVariants as sequel
 use Rattle.otp_spec.specs.Flags.{is_simple}
-use Rattle.otp_rules.specs.State.{Outcome, State, answer, is_busy, with_rows, with_stamps, with_waiting, with_work}
+use Rattle.otp_rules.specs.State.{Outcome, State, answer, with_rows, with_waiting, with_work}
 use Rattle.otp_rules.specs.Places.{end_row, end_process, set_row, is_removed}
-use Rattle.otp_rules.specs.Restarts.{affected_from, affected_to, running}
-use Rattle.otp_rules.specs.Stops.{calm_all, is_exit, without, told, tell_row, tell, use_exit, stop_each, terminate_ordered, terminate_together, terminate}
+use Rattle.otp_rules.specs.Restarts.{running}
+use Rattle.otp_rules.specs.Stops.{calm_all, is_exit, without, told, tell_row, tell, use_exit, stop_each, terminate}
 use Rattle.otp_rules.specs.Starts.{is_due, start_row, start}
 use Rattle.otp_rules.specs.Ends.{refuse_all, end_all}
 use Rattle.otp_rules.specs.Work.{follow, start_first, stop_first, advance}
-use Rattle.otp_rules.specs.Deaths.{restart_rows, restart_or_end, restart}
+use Rattle.otp_rules.specs.Deaths.{restart_rows, restart}
 use Rattle.otp_rules.specs.Calls.{new_row}
 use Rattle.otp_rules.specs.Step.{tick, decide, stamped, step, step_on, killed, late_number}
 use Rattle.otp_rules.specs.Run.{empty_state, state_after}
@@ -43,8 +41,10 @@ use Rattle.otp_spec.specs.Flags.{are_lawful_flags}
 use Rattle.otp_spec.specs.Lawful.{first_fault}
 use Rattle.otp_rules.specs.Slots.{SlotsOwned, SlotsStayOwned, SlotsTellProcesses}
 use Rattle.otp_rules.specs.Step.{rows_from, open_with, open_rows, opening_specs}
+use Rattle.otp_rules.proofs.States.{one_process}
+use Rattle.otp_rules.proofs.Walks.{advance-by, stop_each-by, stop_first-by, terminate-by, with_stops, counted_restart}
 use Rattle.otp_rules.proofs.Keeps.{step_keeps_plan_law}
-use Rattle.otp_rules.proofs.Numbers.{affected_in_order, counted_length}
+use Rattle.otp_rules.proofs.Numbers.{restart-within}
 use Rattle.otp_rules.proofs.Counting.{set_count, remove_count}
 use Rattle.otp_rules.proofs.Decisions.{StandsAt, SurvivesEvent, at_row-survives, at_number-survives, by_test, decide-survives_event}
 
@@ -190,13 +190,7 @@ use_exit-slots p place o h =
     at_number-survives AllSlotted p end_row (with_waiting (without o.state.waiting place) o) h (λ i row at has. end-slots i row (with_waiting (without o.state.waiting place) o) at h)
 
 stop_each-slots : (ps : List ℕ) (o : Outcome) → AllSlotted o → AllSlotted (stop_each ps o)
-unfolding stop_each
-stop_each-slots [] o h = h
-stop_each-slots (p ∷ ps) o h =
-    let place : Option ℕ = position (is_exit p) o.state.waiting in
-    by_test AllSlotted (is_some place) (stop_each ps (use_exit p place o)) (stop_each ps (tell p o))
-    (λ _. stop_each-slots ps (use_exit p place o) (use_exit-slots p place o h))
-    (λ _. stop_each-slots ps (tell p o) (tell-slots p o h))
+stop_each-slots = stop_each-by AllSlotted (λ p o _ h. use_exit-slots p (position (is_exit p) o.state.waiting) o h) (λ p o _ h. tell-slots p o h)
 
 calm-slots : (rows : List Row) (k : ℕ) → holding k (calm_rows rows) ≡ holding k rows
 calm-slots rows k = map-slots (λ (row : Row). with_state (calmed row.state) row) (λ row. refl) rows k
@@ -205,9 +199,8 @@ calmed-slots : (rows : List Row) → Slotted rows → Slotted (calm_rows rows)
 calmed-slots rows h = fewer rows (calm_rows rows) (λ k. omega (arith, calm-slots rows k)) h
 
 terminate-slots : (e : Ending) (o : Outcome) → AllSlotted o → AllSlotted (terminate e o)
-unfolding terminate terminate_together terminate_ordered
 terminate-slots e o h =
-    by_test AllSlotted (is_simple o.state.flags.strategy) (terminate_together e o) (terminate_ordered e o)
+    terminate-by AllSlotted e o
     (λ _. stop_each-slots (running o.state.rows) (calm_all (with_work [] [] (Some (sequel.End e)) o)) (calmed-slots o.state.rows h))
     (λ _. calmed-slots o.state.rows h)
 
@@ -223,18 +216,10 @@ restart_rows-slots from to place n o le h =
     omega (arith, holding-append k (take from rows ++ calm_rows part) (drop to rows), holding-append k (take from rows) (calm_rows part), calm-slots part k, split, all)) h
 
 restart-slots : (p place : ℕ) (row : Row) (o : Outcome) → StandsAt place row o → AllSlotted o → AllSlotted (restart p place row o)
-unfolding restart restart_or_end
 restart-slots p place row o at h =
-    let counted : Outcome = with_stamps (o.state.stamps ++ o.state.last ∷ []) (set_row place row Undefined o) in
-    let strategy : Strategy = o.state.flags.strategy in
-    let count : ℕ = length (slice_set o.state.rows place (with_state Undefined row)) in
+    let counted : Outcome = counted_restart place row o in
     let down : AllSlotted counted = fewer o.state.rows counted.state.rows (set-slots place row Undefined o.state.rows at) h in
-    by_test AllSlotted (nat_lt o.state.flags.intensity (in_period o.state.flags.period (o.state.stamps ++ o.state.last ∷ []) o.state.last))
-    (terminate ending.Intensity counted)
-    (restart_rows (affected_from strategy place) (affected_to strategy place count) place p counted)
-    (λ _. terminate-slots ending.Intensity counted down)
-    (λ _. restart_rows-slots (affected_from strategy place) (affected_to strategy place count) place p counted
-    (affected_in_order strategy place count (omega (arith, counted_length place row o at))) down)
+    restart-within AllSlotted p place row o at (terminate-slots ending.Intensity counted down) (λ from to le. restart_rows-slots from to place p counted le down)
 
 answer-slots : (c : ℕ) (r : Reply) (o : Outcome) → AllSlotted o → AllSlotted (answer c r o)
 unfolding answer
@@ -350,22 +335,13 @@ start_first-slots (due ∷ dues) n o h =
     (λ i row at has. set-slotted i row (Starting n (unwrap_or due.kept n)) o.state.rows at h)
 
 stop_first-slots : (ps : List ℕ) (n : ℕ) (o : Outcome) → AllSlotted o → AllSlotted (stop_first ps n o)
-unfolding stop_first
-stop_first-slots [] n o h = start_first-slots o.state.to_start n o h
-stop_first-slots (p ∷ ps) n o h =
-    let place : Option ℕ = position (is_exit p) o.state.waiting in
-    let left : Outcome = with_work ps o.state.to_start o.state.follows o in
-    by_test AllSlotted (is_some place) (stop_first ps n (use_exit p place left)) (tell p left)
-    (λ _. stop_first-slots ps n (use_exit p place left) (use_exit-slots p place left h))
-    (λ _. tell-slots p left h)
+stop_first-slots ps n =
+    stop_first-by (λ _. AllSlotted) AllSlotted n (λ o h. start_first-slots o.state.to_start n o h)
+    (λ p rest o _ h. use_exit-slots p (position (is_exit p) o.state.waiting) (with_stops rest o) h) (λ p rest o h. tell-slots p (with_stops rest o) h) ps
 
 advance-slots : (n : ℕ) (o : Outcome) → AllSlotted o → AllSlotted (advance n o)
-unfolding advance
 advance-slots n o h =
-    let go : Outcome = stop_first o.state.to_stop n o in
-    by_test AllSlotted (is_busy o) (if list_any (row_has is_awaited) o.state.rows then o else go) o
-    (λ _. by_test AllSlotted (list_any (row_has is_awaited) o.state.rows) o go (λ _. h) (λ _. stop_first-slots o.state.to_stop n o h))
-    (λ _. h)
+    advance-by AllSlotted n o h (λ _ _. stop_first-slots o.state.to_stop n o h)
 
 step-slots : (s : State) (e : Event) → length s.specs ≤ 256 → Slotted s.rows → Slotted (step s e).state.rows
 unfolding step step_on
@@ -443,19 +419,11 @@ same_row test (x ∷ xs) a b one (suc i, c, is) (zero, d, it) h k = absurd (twic
 same_row test (x ∷ xs) a b one (suc i, c, is) (suc j, d, it) h k =
     same_row test xs a b (omega (arith, one, sum_by-cons (λ (r : Row). cond (test r) 1 0) x xs)) (i, omega (arith, c), is) (j, omega (arith, d), it) h k
 
-one_process : (p q : ℕ) (state : RowState) → has_process p state ≡ true → has_process q state ≡ true → p ≡ q
-one_process p q Undefined h k = absurd (false≢true h)
-one_process p q (Starting x _) h k = sym (eqb-true x p h) ∙ eqb-true x q k
-one_process p q (Up x) h k = sym (eqb-true x p h) ∙ eqb-true x q k
-one_process p q (Asked x _) h k = sym (eqb-true x p h) ∙ eqb-true x q k
-one_process p q (Killed x) h k = sym (eqb-true x p h) ∙ eqb-true x q k
-one_process p q (Restarting _) h k = absurd (false≢true h)
-
 pub slots_tell_processes_law : SlotsTellProcesses
 slots_tell_processes_law s next slotted owned a b p q in_a in_b has_p has_q = (
   λ same.
       let row : a ≡ b = same_row (has_slot b.slot) s.rows a b (slotted.one b.slot) in_a in_b (eq-eqb a.slot b.slot same) (eq-eqb b.slot b.slot refl) in
-      one_process p q b.state (subst (λ (r : Row). has_process p r.state ≡ true) row has_p) has_q,
+      one_process q p b.state has_q (subst (λ (r : Row). has_process p r.state ≡ true) row has_p),
   λ same.
       let here : has_process q a.state ≡ true = subst (λ (n : ℕ). has_process n a.state ≡ true) same has_p in
       ap (λ (r : Row). r.slot) (same_row (row_has (has_process q)) s.rows a b (owned.0 q) in_a in_b here has_q),

@@ -1,6 +1,5 @@
 -- What the open work awaits, and that what it is to stop is there.
-use Rattle.std.specs.Prelude.{◌≡◌, ◌⊎◌, ℕ, ◌==◌, ◌+◌, ◌-◌, ◌≤◌, ◌++◌, ◌&&◌, Bool, true, false, List, [], ◌∷◌, Option, None, Some, refl, if◌then◌else◌, position, is_some, slice_set, slice_range, nat_lt, length, remove, unwrap_or, reverse, take, drop}
-use Rattle.std.specs.List.{list_any}
+use Rattle.std.specs.Prelude.{◌≡◌, ◌⊎◌, ℕ, ◌==◌, ◌+◌, ◌-◌, ◌≤◌, ◌++◌, ◌&&◌, Bool, true, false, List, [], ◌∷◌, Option, None, Some, refl, position, is_some, slice_set, slice_range, length, remove, unwrap_or, reverse, take, drop}
 use Rattle.std.proofs.Common.{◌∙◌, ap, sym, subst, inl, inr, arith, cond}
 use Rattle.std.proofs.lemmas.Bool.{cond_both, false≢true, and_parts}
 use Rattle.otp_spec.specs.declared.child.ChildSpec.{ChildSpec}
@@ -9,27 +8,27 @@ use Rattle.otp_table.specs.declared.row.Row.{Row}
 use Rattle.otp_table.specs.declared.row.RowState.{RowState}
 use Rattle.otp_table.specs.declared.row.RowState.TheVariants.{Undefined, Starting, Up, Asked, Killed, Restarting}
 use Rattle.otp_table.specs.Rows.{has_process, is_awaited, row_has, with_state, calm_rows, free_slot}
-use Rattle.otp_window.specs.Period.{in_period}
 use Rattle.otp_rules.specs.declared.call.Reply.{Reply}
 use Rattle.otp_rules.specs.declared.ending.Ending.{Ending}
 use Rattle.otp_rules.specs.declared.event.Kind.{Kind}
 use Rattle.otp_rules.specs.declared.work.Due.{Due}
 use Rattle.otp_rules.specs.declared.work.Sequel.{Sequel}
 use Rattle.otp_spec.specs.Flags.{is_simple}
-use Rattle.otp_rules.specs.State.{Outcome, State, answer, closed, is_busy, is_over, with_rows, with_stamps, with_waiting, with_work}
+use Rattle.otp_rules.specs.State.{Outcome, State, answer, closed, is_over, with_rows, with_stamps, with_waiting, with_work}
 use Rattle.otp_rules.specs.Places.{end_row, end_process, set_row}
 use Rattle.otp_rules.specs.Restarts.{affected_from, affected_to, dues, running}
-use Rattle.otp_rules.specs.Stops.{calm_all, is_exit, without, told, tell_row, tell, use_exit, stop_each, terminate_ordered, terminate_together, terminate}
+use Rattle.otp_rules.specs.Stops.{calm_all, is_exit, without, told, tell_row, tell, use_exit, stop_each, terminate}
 use Rattle.otp_rules.specs.Starts.{is_due, start_row, start}
 use Rattle.otp_rules.specs.Ends.{refuse_all, end_all}
 use Rattle.otp_rules.specs.Work.{follow, start_first, stop_first, advance}
-use Rattle.otp_rules.specs.Deaths.{restart_rows, restart_or_end, restart}
+use Rattle.otp_rules.specs.Deaths.{restart_rows, restart}
 use Rattle.otp_rules.specs.Calls.{new_row}
 use Rattle.otp_rules.specs.Step.{rows_from, open_with, open_rows, opening_specs, tick}
 use Rattle.otp_rules.specs.Run.{empty_state}
 use Rattle.otp_rules.specs.Progress.{is_end}
 use Rattle.otp_rules.specs.Fit.{is_told, rows_in, times, runs_as, IsLimited, IsCovered, IsSound}
-use Rattle.otp_rules.proofs.Decisions.{IsIdle, IsRunning, StandsAt, Survives, at_row-survives, at_number-survives, by_test}
+use Rattle.otp_rules.proofs.Walks.{advance-by, restart-by, stop_first-by, terminate-by}
+use Rattle.otp_rules.proofs.Decisions.{IsIdle, IsRunning, StandsAt, Survives, at_row-survives, at_number-survives}
 use Rattle.otp_rules.proofs.Counting.{times-cons, rows_in-cons, rows_in-append, remove_count, rows_in-set, rows_in-at, rows_in-end, Alike, end_row-alike, stop_each-alike, told-runs, runs_number, times-reverse, running_counted, calm_awaited, tick_count, take_rows, drop_rows, none_in, there}
 use Rattle.otp_rules.specs.declared.ending.Ending.TheVariants as ending
 use Rattle.otp_rules.specs.declared.work.Sequel.TheVariants as sequel
@@ -96,9 +95,8 @@ awaits_nothing b o idle g = limited-none o.state.follows _ idle.1 g.0
 
 -- a supervisor that runs ends
 terminate-sound : (e : Ending) (o : Outcome) → IsRunning o → IsSound (terminate e o).state
-unfolding terminate terminate_together terminate_ordered
 terminate-sound e o runs =
-    by_test (λ x. IsSound x.state) (is_simple o.state.flags.strategy) (terminate_together e o) (terminate_ordered e o)
+    terminate-by (λ x. IsSound x.state) e o
     (λ _.
     let opened : Outcome = calm_all (with_work [] [] (Some (sequel.End e)) o) in
     let same : Alike (stop_each (running o.state.rows) opened) opened = stop_each-alike (running o.state.rows) opened in (
@@ -139,12 +137,9 @@ down-awaited : (p place : ℕ) (row : Row) (o : Outcome) → StandsAt place row 
 down-awaited p place row o at = let e : rows_in is_awaited (slice_set o.state.rows place (with_state Undefined row)) + cond (is_awaited row.state) 1 0 ≡ rows_in is_awaited o.state.rows + 0 = rows_in-set is_awaited place row Undefined o.state.rows at in omega (arith, e)
 
 restart-sound : (b : Bool) (p place : ℕ) (row : Row) (o : Outcome) → IsIdle b o → IsRunning o → StandsAt place row o → IsSound o.state → IsSound (restart p place row o).state
-unfolding restart restart_or_end
 restart-sound b p place row o idle runs at g =
     let counted : Outcome = with_stamps (o.state.stamps ++ o.state.last ∷ []) (set_row place row Undefined o) in
-    by_test (λ x. IsSound x.state) (nat_lt o.state.flags.intensity (in_period o.state.flags.period (o.state.stamps ++ o.state.last ∷ []) o.state.last))
-    (terminate ending.Intensity counted)
-    (restart_rows (affected_from o.state.flags.strategy place) (affected_to o.state.flags.strategy place (length counted.state.rows)) place p counted)
+    restart-by (λ x. IsSound x.state) p place row o
     (λ _. terminate-sound ending.Intensity counted runs)
     (λ _. restart_rows-sound (affected_from o.state.flags.strategy place) (affected_to o.state.flags.strategy place (length counted.state.rows)) place p counted runs
     (omega (arith, awaits_nothing b o idle g, down-awaited p place row o at)))
@@ -384,23 +379,12 @@ start_first-sound [] n o is r = follow-sound o.state.follows o r.1 r.0
 start_first-sound (due ∷ dues) n o is r = ordered-sound due dues n o is r
 
 stop_first-sound : (ps : List ℕ) (n : ℕ) (o : Outcome) → IsReady ps o → IsSound (stop_first ps n o).state
-unfolding stop_first
-stop_first-sound [] n o r = start_first-sound o.state.to_start n o refl r
-stop_first-sound (p ∷ ps) n o r =
-    let left : Outcome = with_work ps o.state.to_start o.state.follows o in
-    let used : Outcome = use_exit p (position (is_exit p) o.state.waiting) left in
-    by_test (λ x. IsSound x.state) (is_some (position (is_exit p) o.state.waiting)) (stop_first ps n used) (tell p left)
-    (λ _. stop_first-sound ps n used (used-ready p ps (position (is_exit p) o.state.waiting) o r))
-    (λ _. told-sound p ps o r)
+stop_first-sound ps n =
+    stop_first-by IsReady (λ x. IsSound x.state) n (λ o r. start_first-sound o.state.to_start n o refl r) (λ p rest o _ r. used-ready p rest (position (is_exit p) o.state.waiting) o r) (λ p rest o r. told-sound p rest o r) ps
 
 pub advance-sound : (n : ℕ) (o : Outcome) → IsSound o.state → IsSound (advance n o).state
-unfolding advance
 advance-sound n o g =
-    let go : Outcome = stop_first o.state.to_stop n o in
-    by_test (λ x. IsSound x.state) (is_busy o) (if list_any (row_has is_awaited) o.state.rows then o else go) o
-    (λ busy. by_test (λ x. IsSound x.state) (list_any (row_has is_awaited) o.state.rows) o go (λ _. g)
-    (λ none. stop_first-sound o.state.to_stop n o (g, none_in is_awaited o.state.rows none, refl, busy)))
-    (λ _. g)
+    advance-by (λ x. IsSound x.state) n o g (λ busy none. stop_first-sound o.state.to_stop n o (g, none_in is_awaited o.state.rows none, refl, busy))
 
 pub empty-sound : (flags : SupFlags) (specs : List ChildSpec) → IsSound (empty_state flags specs)
 empty-sound flags specs = (refl, covered-none [] [] refl, λ _. (refl, refl), λ _. refl, λ _. refl, λ _. refl)

@@ -1,5 +1,5 @@
 -- The law of the start order, along every lawful history.
-use Rattle.std.specs.Prelude.{◌≡◌, ℕ, ◌==◌, ◌+◌, ◌≤◌, ◌<◌, ◌++◌, ◌&&◌, ◌||◌, Bool, true, false, List, [], ◌∷◌, Option, None, Some, All, refl, if◌then◌else◌, not, position, is_some, slice_set, nat_lt, remove, unwrap_or, map, reverse, AllPairs}
+use Rattle.std.specs.Prelude.{◌≡◌, ℕ, ◌==◌, ◌+◌, ◌≤◌, ◌<◌, ◌++◌, ◌&&◌, ◌||◌, Bool, true, false, List, [], ◌∷◌, Option, None, Some, All, refl, not, position, is_some, slice_set, nat_lt, remove, unwrap_or, map, reverse, AllPairs}
 use Rattle.std.specs.List.{list_any, filter_map, cons_option}
 use Rattle.std.proofs.Common.{◌∙◌, ap, sym, subst, inl, inr, arith, ⊎_elim, cond, get_or}
 use Rattle.std.proofs.lemmas.Bool.{cond_both, false≢true, cases_Bool, and_parts, eq-eqb}
@@ -19,7 +19,7 @@ use Rattle.otp_rules.specs.declared.event.Event.{Event}
 use Rattle.otp_rules.specs.declared.work.Due.{Due}
 use Rattle.otp_rules.specs.declared.work.Sequel.{Sequel}
 use Rattle.otp_spec.specs.Flags.{is_simple}
-use Rattle.otp_rules.specs.State.{Outcome, State, answer, emit, is_busy, with_rows, with_waiting, with_work}
+use Rattle.otp_rules.specs.State.{Outcome, State, answer, emit, with_rows, with_waiting, with_work}
 use Rattle.otp_rules.specs.Places.{at_number, end_row, end_process, is_removed, set_row}
 use Rattle.otp_rules.specs.Stops.{is_exit, without, told, stop_order, tell_row, tell, use_exit}
 use Rattle.otp_rules.specs.Starts.{is_due, start_row, start}
@@ -29,14 +29,15 @@ use Rattle.otp_rules.specs.Step.{decide, stamped, step, step_on}
 use Rattle.otp_rules.specs.Run.{empty_state, state_after}
 use Rattle.otp_rules.specs.Progress.{Ordered, Progress, no_progress, is_end, ends_together, id_bytes, processes, started, start_list, seen, gave, progress, IsIn}
 use Rattle.otp_rules.specs.Fit.{rows_in, times, IsSound, HasWaiting, HasStops, Keeps, IsListed, IsDistinct, is_free, Fits, IsNamed, IsFitted, is_starting, IsUnderWay, HasStarts, KeepsStarts, next_number, IsFit, IsLawfulFrom, StaysFit}
+use Rattle.otp_rules.proofs.States.{held_goes}
+use Rattle.otp_rules.proofs.Walks.{advance-by, stop_first-by, with_stops}
 use Rattle.otp_rules.proofs.Decisions.{StandsAt, by_test, decide-survives}
 use Prim.Native.Nat.{suc}
-use Rattle.otp_rules.proofs.Counting.{rows_in-set, rows_in-at, Alike, end_row-alike, use_exit-alike, times-reverse, none_in, there, at_row-found, at_row-first, use_exit-quiet}
+use Rattle.otp_rules.proofs.Counting.{rows_in-set, rows_in-at, Alike, end_row-alike, use_exit-alike, times-reverse, none_in, there, at_row-found, at_row-first, use_exit-quiet, rows_in-le}
 use Rattle.otp_rules.specs.Order.{StartsInTurn, IsStartInTurn, StartOrder, StartOrderFromEmpty}
 use Rattle.otp_rules.proofs.Sound.{IsReady, empty-sound, used-ready}
 use Rattle.otp_rules.proofs.Stopping.{not_busy}
 use Rattle.otp_rules.proofs.Opened.{decided-keeps}
-use Rattle.std.proofs.lemmas.List.Sums.{sum_by-le-sum_by}
 use Rattle.otp_rules.specs.Needs.{IsNumbered, is_start, numbers_of}
 use Rattle.otp_rules.proofs.NeedsWork.{decide-quiet}
 use Rattle.otp_rules.proofs.Numbers.{use_exit-no_more, decided-distinct, numbered-distinct, unnumbered-distinct}
@@ -216,15 +217,7 @@ start_first-gone g [] n o is m =
     (follow-fitted o.state.follows o (m.2, subst (λ (ps : List ℕ). Fits ps o.state.to_start o.state.rows) (sym m.0.2) m.3))
 start_first-gone g (due ∷ rest) n o is m = ordered-gone g due rest n o is m
 
--- a process that goes when it ends, and one that stays
-held_goes : (ps : List ℕ) (p : ℕ) (state : RowState) → has_process p state ≡ true → is_free ps true state ≡ true → ⊥
-held_goes ps p Undefined h k = false≢true h
-held_goes ps p (Starting _ _) h k = false≢true k
-held_goes ps p (Up _) h k = false≢true k
-held_goes ps p (Asked _ _) h k = false≢true k
-held_goes ps p (Killed _) h k = false≢true k
-held_goes ps p (Restarting _) h k = false≢true h
-
+-- a process that stays when it ends
 told_is : (qs : List ℕ) (p now : ℕ) (s : Shutdown) (goes : Bool) → not goes ≡ true → is_free qs goes (told now p s) ≡ true
 told_is qs p now BrutalKill goes h = h
 told_is qs p now (Milliseconds _) goes h = h
@@ -271,36 +264,30 @@ told-gone g p ps o m =
     ))
 
 stop_first-gone : (g : Progress) (ps : List ℕ) (n : ℕ) (o : Outcome) → MayStart g ps o → Gone g (stop_first ps n o)
-unfolding stop_first
-stop_first-gone g [] n o m = start_first-gone g o.state.to_start n o refl m
-stop_first-gone g (p ∷ ps) n o m =
-    let left : Outcome = with_work ps o.state.to_start o.state.follows o in
+stop_first-gone g ps n =
+    stop_first-by (MayStart g) (Gone g) n (λ o m. start_first-gone g o.state.to_start n o refl m)
+    (λ p rest o waits m.
+    let left : Outcome = with_stops rest o in
     let place : Option ℕ = position (is_exit p) o.state.waiting in
     let used : Outcome = use_exit p place left in
-    by_test (Gone g) (is_some place) (stop_first ps n used) (tell p left)
-    (λ waits.
     let ended : IsIn p g.ended = m.4 p (there (is_exit p) o.state.waiting (waiting.Retry 0) waits) in
     let same : Alike used left = use_exit-alike p place left in
-    let fits : IsNamed used.state × Fits ps o.state.to_start used.state.rows = used-fits p ps place o m.0 (m.1 p) m.2 m.3 in
-    let answered : AllAnswered g o = m.6 in
-    stop_first-gone g ps n used (
-      used-ready p ps place o m.0,
+    let fits : IsNamed used.state × Fits rest o.state.to_start used.state.rows = used-fits p rest place o m.0 (m.1 p) m.2 m.3 in
+    let answered : AllAnswered g o = m.6 in (
+      used-ready p rest place o m.0,
       (λ q. omega (arith, use_exit-no_more p place left left (λ x. omega arith) q, m.1 q)),
       fits.0,
-      subst (λ (ds : List Due). Fits ps ds used.state.rows) (sym same.3) fits.1,
-      used-waits g p ps o m.4,
-      used-done g p ps place o ended m.5,
+      subst (λ (ds : List Due). Fits rest ds used.state.rows) (sym same.3) fits.1,
+      used-waits g p rest o m.4,
+      used-done g p rest place o ended m.5,
       (answered.0, answered.1 ∙ ap (λ (ds : List Due). answered.0 ++ ds) (sym same.3), answered.2, answered.3),
       subst (λ (xs : List Effect). All NoStart xs) (sym (use_exit-quiet p place left).1) m.7,
     ))
-    (λ _. told-gone g p ps o m)
+    (λ p rest o m. told-gone g p rest o m) ps
 
 -- where nothing is awaited, each start was answered
 none_starting : (m : ℕ) (rows : List Row) → rows_in is_awaited rows ≡ 0 → 0 < rows_in (is_starting m) rows → ⊥
-none_starting m rows none some =
-    let more : rows_in (is_starting m) rows ≤ rows_in is_awaited rows =
-    sum_by-le-sum_by (λ (row : Row). cond (is_starting m row.state) 1 0) (λ (row : Row). cond (is_awaited row.state) 1 0) rows (λ row. starting_awaits row.state) in
-    omega (arith, none, some, more)
+none_starting m rows none some = omega (arith, none, some, rows_in-le (is_starting m) is_awaited starting_awaits rows)
   where
     starting_awaits : (state : RowState) → cond (is_starting m state) 1 0 ≤ cond (is_awaited state) 1 0
     starting_awaits Undefined = omega arith
@@ -311,12 +298,8 @@ none_starting m rows none some =
     starting_awaits (Restarting _) = omega arith
 
 advance-gone : (g : Progress) (n : ℕ) (o : Outcome) → Stands o → ((q : ℕ) → rows_in (has_process q) o.state.rows ≤ 1) → Keeps o.state g → KeepsStarts o.state g → All NoStart o.orders → Gone g (advance n o)
-unfolding advance
 advance-gone g n o h one stops starts none =
-    let go : Outcome = stop_first o.state.to_stop n o in
-    by_test (Gone g) (is_busy o) (if list_any (row_has is_awaited) o.state.rows then o else go) o
-    (λ busy. by_test (Gone g) (list_any (row_has is_awaited) o.state.rows) o go (λ _. quietly g o starts none h.1)
-    (λ calm.
+    advance-by (Gone g) n o (quietly g o starts none h.1) (λ busy calm.
     let zero : rows_in is_awaited o.state.rows ≡ 0 = none_in is_awaited o.state.rows calm in
     let had : HasWaiting o.state g × HasStops o.state g = stops busy in
     let begun : HasStarts o.state g = starts busy in
@@ -329,8 +312,7 @@ advance-gone g n o h one stops starts none =
       (λ apart. all-done o.state g zero (had.1 apart)),
       (begun.0, begun.1, begun.2, λ i d within. ⊎_elim (λ x. x) (λ x. absurd (none_starting (get_or g.ordered i d).number o.state.rows zero x)) (begun.3 i d within)),
       none,
-    )))
-    (λ _. quietly g o starts none h.1)
+    ))
 
 step-gone : (m : ℕ) (s : State) (e : Event) (g : Progress) → IsFit m s g → Gone (seen s e g) (step s e)
 unfolding step step_on

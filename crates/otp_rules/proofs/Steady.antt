@@ -1,15 +1,13 @@
 -- A property that depends neither on the children's rows nor on what waits: what few kinds of change keep it, every
 -- event keeps. One walk through decisions and open work, for all laws of that kind.
-use Rattle.std.specs.Prelude.{◌≡◌, ◌⊎◌, ℕ, Bool, true, false, List, [], ◌∷◌, ◌++◌, Option, Some, refl, if◌then◌else◌, position, is_some, nat_lt, remove, reverse, unwrap_or}
-use Rattle.std.specs.List.{list_any}
+use Rattle.std.specs.Prelude.{◌≡◌, ◌⊎◌, ℕ, Bool, true, false, List, [], ◌∷◌, ◌++◌, Option, Some, refl, position, nat_lt, remove, reverse, unwrap_or}
 use Rattle.std.proofs.Common.{inl, inr}
-use Rattle.std.proofs.lemmas.Bool.{cond_both}
 use Rattle.otp_window.specs.Period.{in_period}
 use Rattle.otp_reason.specs.declared.name.Name.{Name}
 use Rattle.otp_spec.specs.declared.child.Shutdown.{Shutdown}
 use Rattle.otp_table.specs.declared.row.Row.{Row}
 use Rattle.otp_table.specs.declared.row.RowState.TheVariants.{Undefined}
-use Rattle.otp_table.specs.Rows.{calm_rows, is_awaited, row_has}
+use Rattle.otp_table.specs.Rows.{calm_rows}
 use Rattle.otp_rules.specs.declared.call.Reply.{Reply}
 use Rattle.otp_rules.specs.declared.ending.Ending.{Ending}
 use Rattle.otp_rules.specs.declared.ending.Ending.TheVariants as ending
@@ -21,16 +19,16 @@ use Rattle.otp_rules.specs.declared.event.Waiting.{Waiting}
 use Rattle.otp_rules.specs.declared.work.Sequel.{Sequel}
 use Rattle.otp_rules.specs.declared.work.Sequel.TheVariants as sequel
 use Rattle.otp_rules.specs.declared.work.Due.{Due}
-use Rattle.otp_spec.specs.Flags.{is_simple}
 use Rattle.otp_rules.specs.State.{Outcome, State, answer, closed, emit, is_busy, with_rows, with_stamps, with_waiting, with_work}
 use Rattle.otp_rules.specs.Places.{end_row, end_process, is_removed, set_row}
 use Rattle.otp_rules.specs.Restarts.{running}
-use Rattle.otp_rules.specs.Stops.{calm_all, is_exit, stop_order, without, tell_row, tell, use_exit, stop_each, terminate_ordered, terminate_together, terminate}
+use Rattle.otp_rules.specs.Stops.{calm_all, is_exit, stop_order, without, tell_row, tell, use_exit, stop_each, terminate}
 use Rattle.otp_rules.specs.Starts.{is_due, start_row, start}
 use Rattle.otp_rules.specs.Work.{follow, start_first, stop_first, advance}
-use Rattle.otp_rules.specs.Deaths.{restart_rows, restart_or_end, restart}
+use Rattle.otp_rules.specs.Deaths.{restart_rows, restart}
 use Rattle.otp_rules.specs.Step.{open_rows, tick, decide, stamped, step_on, step}
 use Rattle.otp_rules.specs.Progress.{is_end}
+use Rattle.otp_rules.proofs.Walks.{advance-by, restart-by, stop_each-by, stop_first-by, terminate-by, with_stops}
 use Rattle.otp_rules.proofs.Decisions.{IsIdle, IsRunning, Survives, at_row-survives, at_number-survives, by_test, decide-survives}
 
 -- each kind of change that open work makes keeps the property
@@ -81,48 +79,31 @@ start_first-goes P t [] n o x = t.followed o.state.follows o refl x
 start_first-goes P t (due ∷ dues) n o x = start-goes P t due n _ (t.left o.state.to_stop dues o x)
 
 stop_first-goes : (P : Outcome → Type 0) → Goes P → (ps : List ℕ) (n : ℕ) (o : Outcome) → P o → P (stop_first ps n o)
-unfolding stop_first
-stop_first-goes P t [] n o x = start_first-goes P t o.state.to_start n o x
-stop_first-goes P t (p ∷ ps) n o x =
-    let left : Outcome = with_work ps o.state.to_start o.state.follows o in
-    let place : Option ℕ = position (is_exit p) o.state.waiting in
-    let y : P left = t.left ps o.state.to_start o x in
-    by_test P (is_some place) (stop_first ps n (use_exit p place left)) (tell p left)
-    (λ _. stop_first-goes P t ps n (use_exit p place left) (use_exit-goes P t p place left y))
-    (λ _. tell-goes P t p left y)
+stop_first-goes P t ps n =
+    stop_first-by (λ _. P) P n (λ o x. start_first-goes P t o.state.to_start n o x)
+    (λ p rest o _ x. use_exit-goes P t p (position (is_exit p) o.state.waiting) (with_stops rest o) (t.left rest o.state.to_start o x)) (λ p rest o x. tell-goes P t p (with_stops rest o) (t.left rest o.state.to_start o x)) ps
 
 pub advance-goes : (P : Outcome → Type 0) → Goes P → (n : ℕ) (o : Outcome) → P o → P (advance n o)
-unfolding advance
 advance-goes P t n o x =
-    let go : Outcome = stop_first o.state.to_stop n o in
-    by_test P (is_busy o) (if list_any (row_has is_awaited) o.state.rows then o else go) o
-    (λ _. by_test P (list_any (row_has is_awaited) o.state.rows) o go (λ _. x) (λ _. stop_first-goes P t o.state.to_stop n o x))
-    (λ _. x)
+    advance-by P n o x (λ _ _. stop_first-goes P t o.state.to_stop n o x)
 
 stop_each-goes : (P : Outcome → Type 0) → Goes P → (ps : List ℕ) (o : Outcome) → P o → P (stop_each ps o)
-unfolding stop_each
-stop_each-goes P t [] o x = x
-stop_each-goes P t (p ∷ ps) o x =
-    let place : Option ℕ = position (is_exit p) o.state.waiting in
-    by_test P (is_some place) (stop_each ps (use_exit p place o)) (stop_each ps (tell p o))
-    (λ _. stop_each-goes P t ps (use_exit p place o) (use_exit-goes P t p place o x))
-    (λ _. stop_each-goes P t ps (tell p o) (tell-goes P t p o x))
+stop_each-goes P t = stop_each-by P (λ p o _ x. use_exit-goes P t p (position (is_exit p) o.state.waiting) o x) (λ p o _ x. tell-goes P t p o x)
 
 -- the supervisor ends: what the work that ends it keeps, its decision keeps
 pub terminate-goes : (P : Outcome → Type 0) → Goes P → (e : Ending) (o : Outcome) → ((ps : List ℕ) → P (with_work ps [] (Some (sequel.End e)) o)) → P (terminate e o)
-unfolding terminate terminate_together terminate_ordered
 terminate-goes P t e o x =
-    by_test P (is_simple o.state.flags.strategy) (terminate_together e o) (terminate_ordered e o)
+    terminate-by P e o
     (λ _. stop_each-goes P t (running o.state.rows) (calm_all (with_work [] [] (Some (sequel.End e)) o)) (t.rows _ (with_work [] [] (Some (sequel.End e)) o) (x [])))
     (λ _. t.rows (calm_rows o.state.rows) (with_work (reverse (running o.state.rows)) [] (Some (sequel.End e)) o) (x (reverse (running o.state.rows))))
 
 -- a restart
 restart-steady : (e : Kind) (b : Bool) (P : Outcome → Type 0) → Steady e b P → (k place : ℕ) (row : Row) (o : Outcome) → IsIdle b o → IsRunning o → P o → P (restart k place row o)
-unfolding restart restart_or_end restart_rows
+unfolding restart_rows
 restart-steady e b P t k place row o idle runs x =
     let down : Outcome = set_row place row Undefined o in
     let counted : Outcome = with_stamps (o.state.stamps ++ o.state.last ∷ []) down in
-    cond_both (nat_lt o.state.flags.intensity (in_period o.state.flags.period (o.state.stamps ++ o.state.last ∷ []) o.state.last)) _ _ P
+    restart-by P k place row o
     (λ many. terminate-goes P t.goes ending.Intensity counted (λ ps. t.exceeds ps down idle runs many (t.goes.rows _ o x)))
     (λ few. t.goes.rows _ _ (t.restarts _ _ down idle runs few (t.goes.rows _ o x)))
 

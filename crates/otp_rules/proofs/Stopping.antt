@@ -8,7 +8,7 @@ use Rattle.otp_reason.specs.declared.reason.Reason.{Reason}
 use Rattle.otp_spec.specs.declared.flags.SupFlags.{SupFlags}
 use Rattle.otp_table.specs.declared.row.Row.{Row}
 use Rattle.otp_table.specs.declared.row.RowState.{RowState}
-use Rattle.otp_table.specs.declared.row.RowState.TheVariants.{Undefined, Starting, Up, Asked, Killed, Restarting}
+use Rattle.otp_table.specs.declared.row.RowState.TheVariants.{Starting, Up}
 use Rattle.otp_table.specs.Rows.{with_state}
 use Rattle.otp_rules.specs.declared.call.Reply.{Reply}
 use Rattle.otp_rules.specs.declared.event.Kind.{Kind}
@@ -21,6 +21,7 @@ use Rattle.otp_rules.specs.Stops.{is_exit}
 use Rattle.otp_rules.specs.Step.{tick}
 use Rattle.otp_rules.specs.Progress.{Progress, is_end, ends_together, exit_of_waiting, ended_by, went_on, IsIn}
 use Rattle.otp_rules.specs.Fit.{is_told, rows_in, times, HasWaiting, HasPart, HasStops, Keeps}
+use Rattle.otp_rules.proofs.States.{one_process, told_has}
 use Rattle.otp_rules.proofs.Decisions.{IsNoted, StandsAt, Survives}
 use Rattle.otp_rules.proofs.Counting.{times-cons, times-append, rows_in-set, rows_in-end, Alike, alike, end_row-alike, tick_count, end_row-quiet, put_count}
 use Rattle.otp_rules.proofs.WhileOpen.{Stays, While, while-survives}
@@ -66,14 +67,6 @@ noted-in k b p r o g (inl is) busy =
     omega (arith, times-append p g.ended (p ∷ []), times-cons p p [], one))
 noted-in k b p r o g (inr idle) busy = absurd (false≢true (sym idle.1 ∙ busy))
 
-told_same : (p q : ℕ) (state : RowState) → is_told p state ≡ true → is_told q state ≡ true → q ≡ p
-told_same p q Undefined h k = absurd (false≢true h)
-told_same p q (Starting _ _) h k = absurd (false≢true h)
-told_same p q (Up _) h k = absurd (false≢true h)
-told_same p q (Asked x _) h k = sym (eqb-true x q k) ∙ eqb-true x p h
-told_same p q (Killed x) h k = sym (eqb-true x q k) ∙ eqb-true x p h
-told_same p q (Restarting _) h k = absurd (false≢true h)
-
 put-waits : (k : Kind) (b : Bool) (p : ℕ) (r : Reason) (o : Outcome) (g : Progress) → IsNoted k b (note.Exit p r) o → is_some o.state.follows ≡ true → (q : ℕ) → 0 < count_by (is_exit q) (o.state.waiting ++ waiting.Item (item.Note (note.Exit p r)) ∷ []) → IsIn q (went_on k g).ended ⊎ (0 < count_by (is_exit q) o.state.waiting)
 put-waits k b p r o g noted busy q h =
     let w : Waiting = waiting.Item (item.Note (note.Exit p r)) in
@@ -86,7 +79,7 @@ stopped-told : (k : Kind) (b : Bool) (p : ℕ) (r : Reason) (place : ℕ) (row :
 stopped-told k b p r place row o g at h noted busy q x =
     let e : rows_in (is_told q) (end_row place row o).state.rows + cond (is_told q row.state) 1 0 ≡ rows_in (is_told q) o.state.rows = rows_in-end (is_told q) refl place row o at in
     ⊎_elim
-    (λ too. inl (subst (λ (n : ℕ). IsIn n (went_on k g).ended) (sym (told_same p q row.state h too)) (noted-in k b p r o g noted busy)))
+    (λ too. inl (subst (λ (n : ℕ). IsIn n (went_on k g).ended) (sym (one_process p q row.state (told_has p row.state h) (told_has q row.state too))) (noted-in k b p r o g noted busy)))
     (λ other. inr (let z : ◌≡◌ {A = ℕ} (cond (is_told q row.state) 1 0) 0 = ap (λ (y : Bool). cond y 1 0) other in omega (arith, x, e, z)))
     (cases_Bool (is_told q row.state))
 

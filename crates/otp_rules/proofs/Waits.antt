@@ -1,17 +1,14 @@
 -- What becomes of the start calls that wait.
-use Rattle.std.specs.Prelude.{◌≡◌, ◌⊎◌, ℕ, ◌<◌, ◌++◌, ◌&&◌, not, Bool, true, false, List, [], ◌∷◌, Option, None, Some, refl, if◌then◌else◌, position, is_some, nat_lt, length, remove, unwrap_or, drop}
-use Rattle.std.specs.List.{cons_option, list_any}
+use Rattle.std.specs.Prelude.{◌≡◌, ◌⊎◌, ℕ, ◌<◌, ◌++◌, ◌&&◌, not, Bool, true, false, List, [], ◌∷◌, Option, None, Some, refl, if◌then◌else◌, position, is_some, length, remove, unwrap_or, drop}
+use Rattle.std.specs.List.{cons_option}
 use Rattle.std.proofs.Common.{◌∙◌, ap, sym, inl, inr, arith, ⊎_elim, rules, get_or, append-nil}
 use Rattle.std.proofs.lemmas.Bool.{false≢true, cond_both}
 use Rattle.std.proofs.lemmas.List.Elements.{filter_map-append}
 use Rattle.std.proofs.lemmas.List.Quantifiers.{position-Some}
 use Rattle.otp_reason.specs.declared.note.Note.{Note}
 use Rattle.otp_reason.specs.declared.note.Note.TheVariants as note
-use Rattle.otp_spec.specs.declared.flags.Strategy.{Strategy}
 use Rattle.otp_table.specs.declared.row.Row.{Row}
 use Rattle.otp_table.specs.declared.row.RowState.TheVariants.{Undefined}
-use Rattle.otp_table.specs.Rows.{is_awaited, row_has}
-use Rattle.otp_window.specs.Period.{in_period}
 use Rattle.otp_rules.specs.declared.call.Call.{Call}
 use Rattle.otp_rules.specs.declared.call.Reply.{Reply}
 use Rattle.otp_rules.specs.declared.call.Reply.TheVariants as reply
@@ -26,19 +23,19 @@ use Rattle.otp_rules.specs.declared.event.Waiting.TheVariants as waiting
 use Rattle.otp_rules.specs.declared.work.Due.{Due}
 use Rattle.otp_rules.specs.declared.work.Sequel.{Sequel}
 use Rattle.otp_rules.specs.declared.work.Sequel.TheVariants as sequel
-use Rattle.otp_spec.specs.Flags.{is_simple}
 use Rattle.otp_rules.specs.State.{Outcome, State, answer, is_busy, is_over, put_last, with_stamps, with_waiting, with_work}
 use Rattle.otp_rules.specs.Places.{end_row, set_row}
-use Rattle.otp_rules.specs.Restarts.{affected_from, affected_to, running}
-use Rattle.otp_rules.specs.Stops.{calm_all, is_exit, without, tell_row, tell, use_exit, stop_each, terminate_ordered, terminate_together, terminate}
+use Rattle.otp_rules.specs.Restarts.{running}
+use Rattle.otp_rules.specs.Stops.{calm_all, is_exit, without, tell_row, tell, use_exit, stop_each, terminate}
 use Rattle.otp_rules.specs.Starts.{is_due, start_row, start}
 use Rattle.otp_rules.specs.Ends.{refuse_all, end_all}
 use Rattle.otp_rules.specs.Work.{follow, start_first, stop_first, advance}
-use Rattle.otp_rules.specs.Deaths.{restart_rows, restart_or_end, restart}
+use Rattle.otp_rules.specs.Deaths.{restart_rows, restart}
 use Rattle.otp_rules.specs.Calls.{take_call}
 use Rattle.otp_rules.specs.Step.{ask, open_rows, open_with, resume, take_item, tick, decide, stamped, step, step_on}
 use Rattle.otp_rules.specs.Homes.{Brings}
 use Rattle.otp_rules.specs.Waits.{StartsWait, start_in, start_waiting, starts_left, starts_waiting}
+use Rattle.otp_rules.proofs.Walks.{advance-by, restart-by, stop_each-by, terminate-by}
 use Rattle.otp_rules.proofs.Decisions.{SurvivesEvent, at_row-survives, at_number-survives, by_test, decide-survives_event, take_waiting-survives}
 use Rattle.otp_rules.proofs.Counting.{end_row-quiet, use_exit-quiet}
 use Prim.Native.Nat.{zero, suc}
@@ -85,29 +82,19 @@ use_exit-same p o left same =
     ap (λ (ws : List Waiting). starts_waiting ws) ((use_exit-quiet p place left).0 ∙ ap (λ (ws : List Waiting). without ws place) same) ∙ without-same p o.state.waiting
 
 stop_each-same : (ps : List ℕ) (o : Outcome) → Same o (stop_each ps o)
-unfolding stop_each
-stop_each-same [] o = refl
-stop_each-same (p ∷ ps) o =
-    let place : Option ℕ = position (is_exit p) o.state.waiting in
-    by_test (Same o) (is_some place) (stop_each ps (use_exit p place o)) (stop_each ps (tell p o))
-    (λ _. stop_each-same ps (use_exit p place o) ∙ use_exit-same p o o refl)
-    (λ _. stop_each-same ps (tell p o) ∙ tell-same p o)
+stop_each-same ps o = stop_each-by (Same o) (λ p x _ h. use_exit-same p x x refl ∙ h) (λ p x _ h. tell-same p x ∙ h) ps o refl
 
 terminate-same : (e : Ending) (o : Outcome) → Same o (terminate e o)
-unfolding terminate terminate_together terminate_ordered
 terminate-same e o =
-    by_test (Same o) (is_simple o.state.flags.strategy) (terminate_together e o) (terminate_ordered e o)
+    terminate-by (Same o) e o
     (λ _. stop_each-same (running o.state.rows) (calm_all (with_work [] [] (Some (sequel.End e)) o)))
     (λ _. refl)
 
 restart-same : (p place : ℕ) (row : Row) (o : Outcome) → Same o (restart p place row o)
-unfolding restart restart_or_end restart_rows
+unfolding restart_rows
 restart-same p place row o =
     let counted : Outcome = with_stamps (o.state.stamps ++ o.state.last ∷ []) (set_row place row Undefined o) in
-    let strategy : Strategy = o.state.flags.strategy in
-    let count : ℕ = length counted.state.rows in
-    by_test (Same o) (nat_lt o.state.flags.intensity (in_period o.state.flags.period (o.state.stamps ++ o.state.last ∷ []) o.state.last))
-    (terminate ending.Intensity counted) (restart_rows (affected_from strategy place) (affected_to strategy place count) place p counted)
+    restart-by (Same o) p place row o
     (λ _. terminate-same ending.Intensity counted)
     (λ _. refl)
 
@@ -255,12 +242,8 @@ stop_first-left (p ∷ ps) n o =
     (λ _. inl (tell-same p left))
 
 advance-left : (n : ℕ) (o : Outcome) → Left o (advance n o)
-unfolding advance
 advance-left n o =
-    let go : Outcome = stop_first o.state.to_stop n o in
-    by_test (Left o) (is_busy o) (if list_any (row_has is_awaited) o.state.rows then o else go) o
-    (λ _. by_test (Left o) (list_any (row_has is_awaited) o.state.rows) o go (λ _. inl refl) (λ _. stop_first-left o.state.to_stop n o))
-    (λ _. inl refl)
+    advance-by (Left o) n o (inl refl) (λ _ _. stop_first-left o.state.to_stop n o)
 
 stamped-left : (k : Kind) (reading : ℕ) (s : State) → starts_left k (stamped reading s) ≡ starts_left k s
 stamped-left (kind.Opened own) reading s = refl

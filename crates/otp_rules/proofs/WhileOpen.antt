@@ -1,29 +1,28 @@
 -- What holds while one piece of work stays open: what the few changes keep that leave it open, every decision keeps, or it
 -- closes the work, or opens another. One walk, for what has been stopped and for what has been started.
-use Rattle.std.specs.Prelude.{◌≡◌, ◌⊎◌, ℕ, ◌==◌, ◌++◌, Bool, true, false, [], ◌∷◌, Option, None, Some, refl, is_some, nat_lt, remove}
+use Rattle.std.specs.Prelude.{◌≡◌, ◌⊎◌, ℕ, ◌==◌, ◌++◌, Bool, true, false, [], ◌∷◌, Option, None, Some, refl, is_some, remove}
 use Rattle.std.proofs.Common.{◌∙◌, ap, sym, subst, inl, inr}
-use Rattle.std.proofs.lemmas.Bool.{cond_both, false≢true}
+use Rattle.std.proofs.lemmas.Bool.{false≢true}
 use Rattle.otp_reason.specs.declared.reason.Reason.{Reason}
 use Rattle.otp_table.specs.declared.row.Row.{Row}
 use Rattle.otp_table.specs.declared.row.RowState.TheVariants.{Undefined, Starting, Up, Restarting}
 use Rattle.otp_table.specs.Rows.{free_slot}
-use Rattle.otp_window.specs.Period.{in_period}
 use Rattle.otp_rules.specs.declared.call.Call.{Call}
 use Rattle.otp_rules.specs.declared.call.Reply.{Reply}
 use Rattle.otp_rules.specs.declared.ending.Ending.{Ending}
 use Rattle.otp_rules.specs.declared.event.Kind.{Kind}
 use Rattle.otp_rules.specs.declared.work.Sequel.{Sequel}
-use Rattle.otp_spec.specs.Flags.{is_simple}
 use Rattle.otp_rules.specs.State.{Outcome, State, answer, closed, put_last, with_rows, with_stamps, with_waiting, with_work}
 use Rattle.otp_rules.specs.Places.{end_row, set_row}
 use Rattle.otp_rules.specs.Restarts.{running}
-use Rattle.otp_rules.specs.Stops.{calm_all, terminate_ordered, terminate_together, terminate}
-use Rattle.otp_rules.specs.Deaths.{restart_rows, restart_or_end, restart}
+use Rattle.otp_rules.specs.Stops.{calm_all, terminate}
+use Rattle.otp_rules.specs.Deaths.{restart_rows, restart}
 use Rattle.otp_rules.specs.Calls.{new_row}
 use Rattle.otp_rules.specs.Step.{open_with, open_rows, tick}
 use Rattle.otp_rules.specs.Progress.{is_opened}
 use Rattle.otp_rules.specs.Fit.{is_told, IsSound}
-use Rattle.otp_rules.proofs.Decisions.{IsNoted, StandsAt, Survives, by_test}
+use Rattle.otp_rules.proofs.Walks.{restart-by, terminate-by}
+use Rattle.otp_rules.proofs.Decisions.{IsNoted, StandsAt, Survives}
 use Rattle.otp_rules.proofs.Counting.{Alike, alike, end_row-alike, stop_each-alike}
 use Rattle.otp_rules.proofs.Sound.{sound-survives}
 use Rattle.otp_reason.specs.declared.note.Note.TheVariants as note
@@ -84,17 +83,16 @@ pub opens_none : (f : Option Sequel) (b : Bool) (new : Option Sequel) → b ≡ 
 opens_none f b new is idle busy = subst (λ (x : Option Sequel). is_opened x new ≡ true) (sym (no_after f (sym is ∙ idle))) busy
 
 pub terminate-follows : (e : Ending) (o : Outcome) → (terminate e o).state.follows ≡ Some (sequel.End e)
-unfolding terminate terminate_together terminate_ordered
 terminate-follows e o =
-    by_test (λ x. x.state.follows ≡ Some (sequel.End e)) (is_simple o.state.flags.strategy) (terminate_together e o) (terminate_ordered e o)
+    terminate-by (λ x. x.state.follows ≡ Some (sequel.End e)) e o
     (λ _. (stop_each-alike (running o.state.rows) (calm_all (with_work [] [] (Some (sequel.End e)) o))).4)
     (λ _. refl)
 
 pub restart-busy : (p place : ℕ) (row : Row) (o : Outcome) → is_some (restart p place row o).state.follows ≡ true
-unfolding restart restart_or_end restart_rows
+unfolding restart_rows
 restart-busy p place row o =
     let counted : Outcome = with_stamps (o.state.stamps ++ o.state.last ∷ []) (set_row place row Undefined o) in
-    cond_both (nat_lt o.state.flags.intensity (in_period o.state.flags.period (o.state.stamps ++ o.state.last ∷ []) o.state.last)) _ _ (λ (x : Outcome). is_some x.state.follows ≡ true)
+    restart-by (λ (x : Outcome). is_some x.state.follows ≡ true) p place row o
     (λ _. ap (λ (f : Option Sequel). is_some f) (terminate-follows ending.Intensity counted))
     (λ _. refl)
 

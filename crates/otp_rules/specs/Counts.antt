@@ -1,11 +1,9 @@
 -- What which_children and count_children say (supervisor, which_children/1 and count_children/1).
-use Rattle.std.specs.Prelude.{Bool, true, false, List, map, length, count_by, if◌then◌else◌}
-use Rattle.otp_spec.specs.declared.child.ChildType.{ChildType}
-use Rattle.otp_spec.specs.declared.child.ChildType.TheVariants.{Worker, Supervisor}
+use Rattle.std.specs.Prelude.{List, map, length, count_by, if◌then◌else◌}
 use Rattle.otp_table.specs.declared.row.Row.{Row}
 use Rattle.otp_table.specs.declared.row.RowState.{RowState}
 use Rattle.otp_table.specs.declared.row.RowState.TheVariants.{Undefined, Starting, Up, Asked, Killed, Restarting}
-use Rattle.otp_table.specs.Rows.{row_has}
+use Rattle.otp_table.specs.Rows.{is_active, is_supervisor, is_worker, row_has}
 use Rattle.otp_rules.specs.declared.call.ChildLine.{ChildLine}
 use Rattle.otp_rules.specs.declared.call.ChildProcess.{ChildProcess}
 use Rattle.otp_rules.specs.declared.call.ChildProcess.TheVariants as process
@@ -28,27 +26,13 @@ line_of row = record { id = row.id; process = process_of row.state; kind = row.s
 abbrev pub which_of : List Row → List ChildLine
 which_of rows = map line_of rows
 
--- the child has a process that was started and hasn't ended (own: OTP asks whether the process is alive)
-abbrev pub is_active : RowState → Bool
-is_active (Up _) = true
-is_active (Asked _ _) = true
-is_active (Killed _) = true
-is_active _ = false
-
-abbrev pub is_worker : ChildType → Bool
-is_worker Worker = true
-is_worker Supervisor = false
-
-abbrev pub is_supervisor : ChildType → Bool
-is_supervisor Worker = false
-is_supervisor Supervisor = true
-
--- a child counts by its type whether it is alive or not
+-- A child is active that has a process that was started and hasn't ended (own: OTP asks whether the process is alive).
+-- It counts by its type whether it is alive or not.
 abbrev pub counts_of : State → CountsNow
 counts_of s =
     record {
       specs = if is_simple s.flags.strategy then 1 else length s.rows;
       active = count_by (row_has is_active) s.rows;
-      supervisors = count_by (λ row. is_supervisor row.spec.kind) s.rows;
-      workers = count_by (λ row. is_worker row.spec.kind) s.rows;
+      supervisors = count_by is_supervisor s.rows;
+      workers = count_by is_worker s.rows;
     }

@@ -10,7 +10,7 @@ use Rattle.otp_spec.specs.declared.flags.AutoShutdown.TheVariants.{Never, AnySig
 use Rattle.otp_spec.specs.declared.child.Restart.{Restart}
 use Rattle.otp_spec.specs.declared.child.Restart.TheVariants.{Permanent, Transient, Temporary}
 use Rattle.otp_table.specs.declared.row.Row.{Row}
-use Rattle.otp_table.specs.Rows.{up_number, is_undefined}
+use Rattle.otp_table.specs.Rows.{up_number, is_left}
 use Rattle.otp_rules.specs.declared.work.Due.{Due}
 use Rattle.otp_rules.specs.Places.{is_temporary}
 
@@ -44,10 +44,6 @@ dues kept rows = map (λ row. record { id = row.id; kept = kept }) (filter (λ r
 abbrev pub restart_list : ℕ → ℕ → ℕ → ℕ → List Row → List Due
 restart_list from to place k rows =
     dues None (slice_range rows from place) ++ dues (Some k) (slice_range rows place (place + 1)) ++ dues None (slice_range rows (place + 1) to)
-
--- a significant child that is left
-abbrev pub is_left : Row → Bool
-is_left row = row.spec.significant && not (is_undefined row.state)
 
 -- a significant child that ended by itself ends the supervisor (Supervisor Behaviour, Automatic Shutdown);
 -- the rows are those after its end

@@ -284,27 +284,30 @@ marked_passes n p rows ms d are under =
     numbered_passes n (get_or rows p d).state (sym (key_get number_key rows p d (key_within number_key rows p n has)) ∙ has)
 
 -- the marks of rows with one more, the last
-pub pushed_marks : (key : Row → Option ℕ) (rows all : List Row) (row : Row) (before after : List Mark) → all ≡ rows ++ row ∷ [] → AreMarks (key_at key rows) before → IsChanged (length rows) None (key row) before after → AreMarks (key_at key all) after
-pushed_marks key rows all row before after is are changed =
+pub pushed_marks : (key : Row → Option ℕ) (rows all : List Row) (row : Row) (p : ℕ) (new : Option ℕ) (before after : List Mark) → all ≡ rows ++ row ∷ [] → p ≡ length rows → new ≡ key row → AreMarks (key_at key rows) before
+    → IsChanged p None new before after → AreMarks (key_at key all) after
+pushed_marks key rows all row p new before after is last has are changed =
     subst (λ (xs : List Row). AreMarks (key_at key xs) after) (sym is)
-    (changed (key_at key rows) (key_at key (rows ++ row ∷ [])) are (key_past key rows) (pushed_at key rows row) (λ q other. pushed_other key rows row q other))
+    (changed (key_at key rows) (key_at key (rows ++ row ∷ [])) are (ap (key_at key rows) last ∙ key_past key rows) (ap (key_at key (rows ++ row ∷ [])) last ∙ pushed_at key rows row ∙ sym has)
+    (λ q other. pushed_other key rows row q (λ e. other (e ∙ sym last))))
 
 -- of rows where one is another
-pub set_marks : (key : Row → Option ℕ) (rows : List Row) (p : ℕ) (row : Row) (before after : List Mark) → p < length rows → AreMarks (key_at key rows) before → IsChanged p (key_at key rows p) (key row) before after → AreMarks (key_at key (set rows p row)) after
-set_marks key rows p row before after within are changed =
-    changed (key_at key rows) (key_at key (set rows p row)) are refl (set_at key rows p row within) (λ q other. set_other key rows p row q other)
+pub set_marks : (key : Row → Option ℕ) (rows : List Row) (p : ℕ) (row : Row) (old new : Option ℕ) (before after : List Mark) → p < length rows → old ≡ key_at key rows p → new ≡ key row → AreMarks (key_at key rows) before
+    → IsChanged p old new before after → AreMarks (key_at key (set rows p row)) after
+set_marks key rows p row old new before after within had has are changed =
+    changed (key_at key rows) (key_at key (set rows p row)) are (sym had) (set_at key rows p row within ∙ sym has) (λ q other. set_other key rows p row q other)
 
 -- where one is another with the same key
 pub kept_marks : (key : Row → Option ℕ) (rows : List Row) (p : ℕ) (row : Row) (ms : List Mark) → p < length rows → key row ≡ key (get_or rows p row) → AreMarks (key_at key rows) ms → AreMarks (key_at key (set rows p row)) ms
 kept_marks key rows p row ms within same are =
-    set_marks key rows p row ms ms within are
-    (subst (λ (o : Option ℕ). IsChanged p (key_at key rows p) o ms ms) (key_get key rows p row within ∙ sym same) (unchanged p (key_at key rows p) ms))
+    set_marks key rows p row (key_at key rows p) (key_at key rows p) ms ms within refl (key_get key rows p row within ∙ sym same) are (unchanged p (key_at key rows p) ms)
 
 -- and of rows where one was taken out
-pub removed_marks : (key : Row → Option ℕ) (rows all : List Row) (p : ℕ) (before after : List Mark) → all ≡ remove rows p → AreMarks (key_at key rows) before → IsGone p (key_at key rows p) before after → AreMarks (key_at key all) after
-removed_marks key rows all p before after is are gone =
+pub removed_marks : (key : Row → Option ℕ) (rows all : List Row) (p : ℕ) (old : Option ℕ) (before after : List Mark) → all ≡ remove rows p → old ≡ key_at key rows p → AreMarks (key_at key rows) before
+    → IsGone p old before after → AreMarks (key_at key all) after
+removed_marks key rows all p old before after is had are gone =
     subst (λ (xs : List Row). AreMarks (key_at key xs) after) (sym is)
-    (gone (key_at key rows) (key_at key (remove rows p)) are refl (λ q lt. removed_below key rows p q lt) (λ q le. removed_above key rows p q le))
+    (gone (key_at key rows) (key_at key (remove rows p)) are (sym had) (λ q lt. removed_below key rows p q lt) (λ q le. removed_above key rows p q le))
 
 -- the same rows and marks
 pub same_marks : (key : Row → Option ℕ) (rows all : List Row) (before after : List Mark) → all ≡ rows → after ≡ before → AreMarks (key_at key rows) before → AreMarks (key_at key all) after

@@ -18,7 +18,8 @@ AllFrom key first ms = (k : ℕ) (d : Mark) → first ≤ k → k < length ms �
 abbrev Less : Mark → Mark → Type 0
 Less one later = one.key < later.key
 
-upto : (ms : List Mark) → Rises ms → (k m : ℕ) (d : Mark) → k ≤ m → m < length ms → (get_or ms k d).key ≤ (get_or ms m d).key
+-- a later key is no lower
+pub upto : (ms : List Mark) → Rises ms → (k m : ℕ) (d : Mark) → k ≤ m → m < length ms → (get_or ms k d).key ≤ (get_or ms m d).key
 upto ms rise k m d le within =
     elim (cases_lt k m) [
       | inl lt ↦ let less : (get_or ms k d).key < (get_or ms m d).key = rise k m d lt within in omega (arith, less)
@@ -34,13 +35,6 @@ before key ms rise m e within less k d below =
     let same : (get_or ms m d).key ≡ (get_or ms m e).key = key_default ms m d e within in
     let up : (get_or ms k d).key ≤ (get_or ms m d).key = upto ms rise k m d (omega (arith, below)) within in
     omega (arith, up, same, less)
-
--- all from a key on that isn't below this one aren't below it
-pub after : (key : ℕ) (ms : List Mark) → Rises ms → (m : ℕ) (e : Mark) → key ≤ (get_or ms m e).key → (k : ℕ) (d : Mark) → m ≤ k → k < length ms → key ≤ (get_or ms k d).key
-after key ms rise m e more k d from within =
-    let same : (get_or ms m d).key ≡ (get_or ms m e).key = key_default ms m d e (omega (arith, from, within)) in
-    let up : (get_or ms m d).key ≤ (get_or ms k d).key = upto ms rise m k d from within in
-    omega (arith, up, same, more)
 
 under_cases : (n p : ℕ) (xs ys : List Mark) → IsUnder n p (xs ++ ys) → IsUnder n p xs ⊎ IsUnder n p ys
 under_cases n p [] ys h = inr h

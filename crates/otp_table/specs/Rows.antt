@@ -67,7 +67,7 @@ is_awaited (Asked _ _) = true
 is_awaited (Killed _) = true
 is_awaited (Restarting _) = false
 
--- the process was started and hasn't ended (own)
+-- the process was started and hasn't ended (own: OTP asks whether the process is alive)
 abbrev pub is_active : RowState → Bool
 is_active (Up _) = true
 is_active (Asked _ _) = true

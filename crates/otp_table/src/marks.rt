@@ -19,34 +19,18 @@ fn is_above(marks: &[Mark], key: u64) -> bool
     marks.is_empty() || marks[marks.len() - 1].key < key
 }
 
-/// A place before which all keys are below this one. A key that is above them all, as the number of a child
-/// that is started, belongs at the end.
-fn low_end(marks: &[Mark], key: u64) -> usize
-    requires { Rises marks.now }
-    ensures inside { result ≤ length marks.now }
-    ensures before { (k : ℕ) (d : Mark) → k < result → (get_or marks.now k d).key < key }
-{
-    if is_above(marks, key) { marks.len() } else { 0 }
-}
-
-/// The first place from which on the keys, which rise, are this one or above it.
+/// The first place from which on the keys, which rise, are this one or above it. A key that is above them all, as the number
+/// of a child that is started, belongs at the end and is not searched for.
 pub fn first_from(marks: &[Mark], key: u64) -> usize
     requires { Rises marks.now }
     ensures inside { result ≤ length marks.now }
     ensures before { (k : ℕ) (d : Mark) → k < result → (get_or marks.now k d).key < key }
     ensures after { (k : ℕ) (d : Mark) → result ≤ k → k < length marks.now → key ≤ (get_or marks.now k d).key }
 {
-    let mut low = low_end(marks, key);
-    let mut high = marks.len();
-    while low < high {
-        let middle = low + (high - low) / 2;
-        if marks[middle].key < key {
-            low = middle + 1;
-        } else {
-            high = middle;
-        }
+    if is_above(marks, key) {
+        return marks.len();
     }
-    low
+    marks.partition_point(|mark| mark.key < key)
 }
 
 /// Where the mark with this key stands.

@@ -3,6 +3,7 @@ use Rattle.std.specs.VecDeque.{deque_len, deque_capacity}
 use Rattle.std.specs.Bool.{OnTrue}
 use Rattle.std.specs.List.Sorted.{IsNonDecreasing}
 use Rattle.otp_window.specs.Kept.{kept_of}
+use Rattle.otp_window.specs.declared.limits.TheConstants.{MAX_PERIOD}
 use Rattle.otp_window.specs.View.{View}
 use Rattle.otp_window.specs.declared.Window.TheInside.{Inside}
 
@@ -14,5 +15,5 @@ pub record IsWindow (w : Inside) : Type 0 where
   pub ordered : IsNonDecreasing w.past.stamps
   pub kept : w.kept.items ≡ kept_of w.intensity w.past.stamps
   pub count : w.count ≡ min (length w.past.stamps) (2 ^ 64 - 1)
-  pub period : w.period ≤ 1000000
+  pub period : w.period ≤ MAX_PERIOD
   pub room : OnTrue w.reserved (deque_len w.kept < deque_capacity w.kept)

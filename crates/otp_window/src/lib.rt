@@ -15,9 +15,11 @@ use std::collections::VecDeque;
 use std::marker::Model;
 use std::mem;
 
+mod limits;
 mod ordered;
 mod past;
 
+pub use crate::limits::MAX_PERIOD;
 use crate::ordered::{is_crowded_with, push_kept};
 use crate::past::{Past, with_stamp};
 
@@ -57,9 +59,9 @@ impl Model for Window {
 impl Window {
     ghost use Rattle.otp_window.specs.View.{View};
 
-    /// A window with no restarts, for at most `intensity` of them in `period` seconds. Takes no memory.
+    /// A window with no restarts, for at most `intensity` of them in `period` seconds, at most [`MAX_PERIOD`]. Takes no memory.
     pub fn new(alloc: Global, intensity: u64, period: u64) -> Self
-        requires { period ≤ 1000000 }
+        requires { period ≤ MAX_PERIOD }
         ensures { result ≡ record { intensity = intensity; period = period; stamps = []; reserved = false } }
     {
         Window {

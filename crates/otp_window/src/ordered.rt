@@ -6,6 +6,7 @@ ghost use Rattle.std.specs.VecDeque.{deque_len, deque_capacity};
 ghost use Rattle.otp_window.specs.Kept.{kept_of};
 ghost use Rattle.otp_window.specs.Period.{in_period};
 
+use crate::limits::MAX_PERIOD;
 use crate::past::Past;
 use std::collections::VecDeque;
 
@@ -14,7 +15,7 @@ use std::collections::VecDeque;
 #[tactic(auto, using(crate::proofs::Crowded::kept_crowded, crate::proofs::Crowded::kept_below, crate::proofs::Crowded::crowded_at_zero, crate::proofs::Crowded::kept_latest))]
 pub fn is_crowded_with(kept: &VecDeque<u64>, limit: u64, period: u64, now: u64, past: &Past) -> bool
     requires kept { kept.now.items ≡ kept_of limit past.now.stamps }
-    requires period { period ≤ 1000000 }
+    requires period { period ≤ MAX_PERIOD }
     requires ordered { IsNonDecreasing past.now.stamps }
     requires latest { All (λ s. s ≤ now) past.now.stamps }
     ensures { result ≡ nat_lt limit (in_period period (past.now.stamps ++ now ∷ []) now) }
@@ -40,7 +41,7 @@ fn stamp_at(kept: &VecDeque<u64>, place: usize) -> u64
 
 /// Whether the stamp lies in the period that ends at `now`.
 fn is_within(stamp: u64, now: u64, period: u64) -> bool
-    requires period { period ≤ 1000000 }
+    requires period { period ≤ MAX_PERIOD }
     requires past { stamp ≤ now }
     ensures { result ≡ nat_le (now - stamp) (1000 * period) }
 {

@@ -1,14 +1,13 @@
 use Rattle.std.proofs.Common.{rules, ap, refl, subst, sym, ◌∙◌}
-use Rattle.std.proofs.Common.{◌≡◌, ◌<◌, ℕ, List, Option, Some, length}
+use Rattle.std.proofs.Common.{◌≡◌, ◌<◌, List, Some, length}
 use Rattle.std.specs.Prelude.{slice_get}
 use Rattle.std.specs.List.{remove}
 use Rattle.std.proofs.lemmas.Option.{slice_get_read}
 use Rattle.otp_table.specs.Table.{Table}
-use Rattle.otp_table.specs.declared.marks.Mark.{Mark}
 use Rattle.otp_table.specs.Counted.{AreCounted}
 use Rattle.otp_table.specs.declared.row.Row.{Row}
 use Rattle.otp_table.specs.Keys.{id_key}
-use Rattle.otp_table.specs.Marks.{IsGone, id_at, number_at, number_key}
+use Rattle.otp_table.specs.Marks.{id_at, number_at, number_key}
 use Rattle.otp_table.proofs.Indexed.{removed_marks}
 use Rattle.otp_table.proofs.Defined.{removed_defined}
 use Rattle.otp_table.proofs.rows.Rows.remove.Goals as goal
@@ -22,24 +21,12 @@ invariant_of-self c =
       defined = removed_defined c.self.inside.items.items c.remove.new.self.items c.args.place c.self.inside.defined _ c.remove.ensures.items (search rules) c.self.invariant.defined c.defined_without-self-inside.ensures.less c.defined_without-self-inside.ensures.gone;
       marks_room = search rules;
       rises = c.remove_mark.ensures.rises;
-      marked = λ yes.
-          let rows : List Row = c.self.inside.items.items in
-          let ms : List Mark = c.self.inside.marks.items in
-          let after : List Mark = c.remove_mark.new.marks.items in
-          let p : ℕ = c.args.place in
-          let old : c.number_in-number.result ≡ number_at rows p = c.number_in-number.ensures ∙ ap (λ (xs : List Row). number_at xs p) c.deref-2.ensures.value in
-          removed_marks number_key rows c.remove.new.self.items p ms after c.remove.ensures.items (c.self.invariant.marked yes)
-          (subst (λ (o : Option ℕ). IsGone p o ms after) old c.remove_mark.ensures.gone);
+      marked = λ yes. removed_marks number_key c.self.inside.items.items _ c.args.place _ c.self.inside.marks.items _ c.remove.ensures.items (c.number_in-number.ensures ∙ ap (λ (xs : List Row). number_at xs c.args.place) c.deref-2.ensures.value)
+          (c.self.invariant.marked yes) c.remove_mark.ensures.gone;
       ids_room = search rules;
       ids_rise = c.remove_mark-2.ensures.rises;
-      named = λ yes.
-          let rows : List Row = c.self.inside.items.items in
-          let ms : List Mark = c.self.inside.ids.items in
-          let after : List Mark = c.remove_mark-2.new.marks.items in
-          let p : ℕ = c.args.place in
-          let old : c.id_in-id.result ≡ id_at rows p = c.id_in-id.ensures ∙ ap (λ (xs : List Row). id_at xs p) c.deref-3.ensures.value in
-          removed_marks id_key rows c.remove.new.self.items p ms after c.remove.ensures.items (c.self.invariant.named yes)
-          (subst (λ (o : Option ℕ). IsGone p o ms after) old c.remove_mark-2.ensures.gone);
+      named = λ yes. removed_marks id_key c.self.inside.items.items _ c.args.place _ c.self.inside.ids.items _ c.remove.ensures.items (c.id_in-id.ensures ∙ ap (λ (xs : List Row). id_at xs c.args.place) c.deref-3.ensures.value)
+          (c.self.invariant.named yes) c.remove_mark-2.ensures.gone;
     }
 
 pub returns-clause-row : goal.returns-clause-row

@@ -1,11 +1,10 @@
 use Rattle.std.proofs.Common.{rules, ap, get_or, set, subst, sym, ◌∙◌}
-use Rattle.std.proofs.Common.{◌≡◌, ◌<◌, ℕ, List, Option, length}
-use Rattle.otp_table.specs.declared.marks.Mark.{Mark}
+use Rattle.std.proofs.Common.{◌≡◌, List}
 use Rattle.otp_table.specs.Counted.{AreCounted}
 use Rattle.otp_table.specs.declared.row.Row.{Row}
 use Rattle.otp_table.specs.Rows.{with_state}
 use Rattle.otp_table.specs.Keys.{id_key}
-use Rattle.otp_table.specs.Marks.{IsChanged, number_at, number_key}
+use Rattle.otp_table.specs.Marks.{number_at, number_key}
 use Rattle.otp_table.proofs.Indexed.{kept_marks, set_marks}
 use Rattle.std.proofs.lemmas.List.{get_or_default, get_or-set_same}
 use Rattle.otp_table.proofs.Defined.{set_but}
@@ -29,18 +28,8 @@ invariant_of-self c =
           (ap (λ (r : Row). r.state) (get_or-set_same c.self.inside.items.items c.args.place (with_state c.args.state c.index_mut.result.now) c.index_mut.result.now (search rules)));
       marks_room = search rules;
       rises = c.change_mark-self-inside.ensures.rises;
-      marked = λ yes.
-          let rows : List Row = c.self.inside.items.items in
-          let ms : List Mark = c.self.inside.marks.items in
-          let after : List Mark = c.change_mark-self-inside.new.marks.items in
-          let p : ℕ = c.args.place in
-          let row : Row = with_state c.args.state c.index_mut.result.now in
-          let within : p < length rows = search rules in
-          let old : c.number_in-number.result ≡ number_at rows p = c.number_in-number.ensures ∙ ap (λ (xs : List Row). number_at xs p) c.deref-2.ensures.value in
-          let changed : IsChanged p c.number_in-number.result c.number.result ms after = c.change_mark-self-inside.ensures.changed yes in
-          let from_old : IsChanged p (number_at rows p) c.number.result ms after = subst (λ (o : Option ℕ). IsChanged p o c.number.result ms after) old changed in
-          set_marks number_key rows p row ms after within (c.self.invariant.marked (c.change_mark-self-inside.ensures.before yes))
-          (subst (λ (o : Option ℕ). IsChanged p (number_at rows p) o ms after) c.number.ensures from_old);
+      marked = λ yes. set_marks number_key items c.args.place (with_state c.args.state here) _ _ c.self.inside.marks.items _ (search rules) (c.number_in-number.ensures ∙ ap (λ (xs : List Row). number_at xs c.args.place) c.deref-2.ensures.value)
+          c.number.ensures (c.self.invariant.marked (c.change_mark-self-inside.ensures.before yes)) (c.change_mark-self-inside.ensures.changed yes);
       ids_room = search rules;
       ids_rise = c.self.invariant.ids_rise;
       named = λ yes. kept_marks id_key items c.args.place (with_state c.args.state here) c.self.inside.ids.items (search rules) (sym (ap id_key (get_or_default items c.args.place (with_state c.args.state here) here (search rules) ∙ is_here))) (c.self.invariant.named yes);
