@@ -126,6 +126,10 @@ put_home_at i slot kept (Some b) = slice_set kept i (record b { place = place.Ho
 abbrev pub put_home : ℕ → ℕ → List Kept → List Kept
 put_home i slot kept = put_home_at i slot kept (slice_get kept i)
 
+-- the supervisor has each body that passes the test
+abbrev pub AreHere : (Kept → Bool) → Type 0
+AreHere test = (b : Kept) → test b ≡ true → is_here b.place ≡ true
+
 -- the list without the first body that passes the test
 abbrev pub without_first : (Kept → Bool) → List Kept → List Kept
 without_first test [] = []
