@@ -1,71 +1,135 @@
-//! What the keys of a tree file may have.
+//! What the keys of a tree file may have. Keys, words and limits are those of `otp_file` and `otp_spec`.
+
+use otp_file::{ChildKey, FlagKey};
+use otp_spec::{
+    AutoShutdown, ChildType, MAX_INTENSITY, MAX_PERIOD, MAX_SHUTDOWN, Modules, Restart, Shutdown,
+    Strategy,
+};
+use otp_text::write_number;
+use std::alloc::{AllocError, Global};
 
 /// The keys of a supervisor.
-pub(crate) const FLAG_KEYS: [&str; 5] = [
-    "strategy",
-    "intensity",
-    "period",
-    "auto_shutdown",
-    "child",
-];
+pub(crate) fn flag_keys() -> [&'static str; 5] {
+    [
+        FlagKey::Strategy.name(),
+        FlagKey::Intensity.name(),
+        FlagKey::Period.name(),
+        FlagKey::AutoShutdown.name(),
+        FlagKey::Child.name(),
+    ]
+}
 
 /// The keys of a child.
-pub(crate) const CHILD_KEYS: [&str; 8] = [
-    "id",
-    "start",
-    "restart",
-    "significant",
-    "shutdown",
-    "type",
-    "modules",
-    "tree",
-];
+pub(crate) fn child_keys() -> [&'static str; 8] {
+    [
+        ChildKey::Id.name(),
+        ChildKey::Start.name(),
+        ChildKey::Restart.name(),
+        ChildKey::Significant.name(),
+        ChildKey::Shutdown.name(),
+        ChildKey::Kind.name(),
+        ChildKey::Modules.name(),
+        ChildKey::Tree.name(),
+    ]
+}
 
-const STRATEGIES: [&str; 4] = [
-    "one_for_one",
-    "one_for_all",
-    "rest_for_one",
-    "simple_one_for_one",
-];
-
-const AUTO_SHUTDOWNS: [&str; 3] = ["never", "any_significant", "all_significant"];
-
-const RESTARTS: [&str; 3] = ["permanent", "transient", "temporary"];
-
-const SHUTDOWNS: [&str; 2] = ["brutal_kill", "infinity"];
-
-const KINDS: [&str; 2] = ["worker", "supervisor"];
-
-const MODULES: [&str; 1] = ["dynamic"];
+/// Those of these values that have a word.
+fn words_of(
+    alloc: Global,
+    values: &[Option<&'static str>],
+) -> Result<Vec<&'static str>, AllocError> {
+    let mut words = Vec::new(alloc);
+    for value in values {
+        if let Some(word) = value {
+            words.push(*word).map_err(|_| AllocError)?;
+        }
+    }
+    Ok(words)
+}
 
 /// The words that a key may have.
-pub(crate) fn words_at(key: &str) -> &'static [&'static str] {
+pub(crate) fn words_at(alloc: Global, key: &str) -> Result<Vec<&'static str>, AllocError> {
     match key {
-        "strategy" => &STRATEGIES,
-        "auto_shutdown" => &AUTO_SHUTDOWNS,
-        "restart" => &RESTARTS,
-        "shutdown" => &SHUTDOWNS,
-        "type" => &KINDS,
-        "modules" => &MODULES,
-        _ => &[],
+        "strategy" => Vec::from_slice(
+            alloc,
+            &[
+                Strategy::OneForOne.word(),
+                Strategy::OneForAll.word(),
+                Strategy::RestForOne.word(),
+                Strategy::SimpleOneForOne.word(),
+            ],
+        ),
+        "auto_shutdown" => Vec::from_slice(
+            alloc,
+            &[
+                AutoShutdown::Never.word(),
+                AutoShutdown::AnySignificant.word(),
+                AutoShutdown::AllSignificant.word(),
+            ],
+        ),
+        "restart" => Vec::from_slice(
+            alloc,
+            &[
+                Restart::Permanent.word(),
+                Restart::Transient.word(),
+                Restart::Temporary.word(),
+            ],
+        ),
+        "shutdown" => words_of(
+            alloc,
+            &[Shutdown::BrutalKill.word(), Shutdown::Infinity.word()],
+        ),
+        "type" => Vec::from_slice(
+            alloc,
+            &[ChildType::Worker.word(), ChildType::Supervisor.word()],
+        ),
+        "modules" => words_of(alloc, &[Modules::Dynamic.word()]),
+        _ => Ok(Vec::new(alloc)),
     }
 }
 
-/// What a key may have, in words.
-pub(crate) fn allowed_at(key: &str) -> &'static str {
+/// Appends words as texts of a file, with commas between.
+fn write_words(words: &[&'static str], out: &mut Vec<u8>) -> Result<(), AllocError> {
+    let mut before: &[u8] = b"\"";
+    for word in words {
+        out.extend_from_slice(before)?;
+        out.extend_from_slice(word.as_bytes())?;
+        out.extend_from_slice(b"\"")?;
+        before = b", \"";
+    }
+    Ok(())
+}
+
+/// Appends which numbers are allowed.
+fn write_range(least: u64, most: u64, unit: &[u8], out: &mut Vec<u8>) -> Result<(), AllocError> {
+    write_number(least, out)?;
+    out.extend_from_slice(b" to ")?;
+    write_number(most, out)?;
+    out.extend_from_slice(unit)
+}
+
+/// Appends what a key may have whose words are these.
+pub(crate) fn write_allowed(
+    key: &str,
+    words: &[&'static str],
+    out: &mut Vec<u8>,
+) -> Result<(), AllocError> {
     match key {
-        "strategy" => "\"one_for_one\", \"one_for_all\", \"rest_for_one\", \"simple_one_for_one\"",
-        "intensity" => "0 to 1000",
-        "period" => "1 to 1000000 (seconds)",
-        "auto_shutdown" => "\"never\", \"any_significant\", \"all_significant\"",
-        "child" => "an array of tables, each [[child]]",
-        "id" | "start" => "a name: 1 to 32 bytes of a-z A-Z 0-9 _ - .",
-        "restart" => "\"permanent\", \"transient\", \"temporary\"",
-        "significant" => "true, false",
-        "shutdown" => "0 to 4294967295 (milliseconds), \"brutal_kill\", \"infinity\"",
-        "type" => "\"worker\", \"supervisor\"",
-        "modules" => "an array of at most 4 names, or \"dynamic\"",
-        "tree" => "a table, which says a supervisor of its own",
-        _ => "what docs/FORMATS.md says",
+        "intensity" => write_range(0, MAX_INTENSITY, b"", out),
+        "period" => write_range(1, MAX_PERIOD, b" (seconds)", out),
+        "shutdown" => {
+            write_range(0, MAX_SHUTDOWN, b" (milliseconds), ", out)?;
+            write_words(words, out)
+        }
+        "modules" => {
+            out.extend_from_slice(b"an array of at most 4 names, or ")?;
+            write_words(words, out)
+        }
+        "child" => out.extend_from_slice(b"an array of tables, each [[child]]"),
+        "id" | "start" => out.extend_from_slice(b"a name: 1 to 32 bytes of a-z A-Z 0-9 _ - ."),
+        "significant" => out.extend_from_slice(b"true, false"),
+        "tree" => out.extend_from_slice(b"a table, which says a supervisor of its own"),
+        "strategy" | "auto_shutdown" | "restart" | "type" => write_words(words, out),
+        _ => out.extend_from_slice(b"what docs/FORMATS.md says"),
     }
 }

@@ -2,7 +2,7 @@
 
 ghost use Rattle.std.specs.Prelude.{◌≡◌, IfOk};
 
-use crate::allowed::{allowed_at, words_at};
+use crate::allowed::{words_at, write_allowed};
 use crate::near::nearest;
 use otp_file::TreeFault;
 use otp_text::write_number;
@@ -85,7 +85,7 @@ pub(crate) fn of_unknown(
     let mut text = Vec::new(alloc);
     write_owner(&fault, owner, &mut text)?;
     write_between(b": unknown key ", key.as_bytes(), b"", &mut text)?;
-    write_allowed_words(keys, b"", &mut text)?;
+    write_keys(keys, &mut text)?;
     write_nearest(alloc, key, keys, &mut text)?;
     Ok(Finding { fault, text })
 }
@@ -104,23 +104,21 @@ pub(crate) fn of_value(
     write_owner(&fault, owner, &mut text)?;
     write_between(b", ", key.as_bytes(), b": read ", &mut text)?;
     write_value(alloc, value, &mut text)?;
-    write_between(b"; allowed: ", allowed_at(key).as_bytes(), b"", &mut text)?;
+    text.extend_from_slice(b"; allowed: ")?;
+    let words = words_at(alloc, key)?;
+    write_allowed(key, words.as_slice(), &mut text)?;
     if let Value::String(word) = value {
-        write_nearest(alloc, word.as_str(), words_at(key), &mut text)?;
+        write_nearest(alloc, word.as_str(), words.as_slice(), &mut text)?;
     }
     Ok(Finding { fault, text })
 }
 
-/// Appends which words are allowed.
-fn write_allowed_words(
-    words: &[&'static str],
-    quote: &[u8],
-    out: &mut Vec<u8>,
-) -> Result<(), AllocError> {
+/// Appends which keys are allowed.
+fn write_keys(keys: &[&'static str], out: &mut Vec<u8>) -> Result<(), AllocError> {
     out.extend_from_slice(b"; allowed:")?;
-    for word in words {
-        write_between(b" ", quote, word.as_bytes(), out)?;
-        out.extend_from_slice(quote)?;
+    for key in keys {
+        out.extend_from_slice(b" ")?;
+        out.extend_from_slice(key.as_bytes())?;
     }
     Ok(())
 }

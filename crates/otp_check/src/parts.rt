@@ -1,6 +1,6 @@
 //! All parts of a document, one by one.
 
-use crate::allowed::{CHILD_KEYS, FLAG_KEYS};
+use crate::allowed::{child_keys, flag_keys};
 use crate::finding::{Finding, Owner, of_table, of_unknown, of_value};
 use crate::judging::{judge_child, judge_flag, judge_key, judge_names};
 use otp_file::{ChildKey, FaultPlace, TreeFault};
@@ -47,7 +47,7 @@ impl Scanning {
     fn scan_flag(&mut self, key: &str, value: &Value) -> Result<(), AllocError> {
         let finding = match judge_flag(self.alloc, key, value)? {
             Some(fault @ TreeFault::UnknownKey(_)) => {
-                of_unknown(self.alloc, fault, &Owner::Supervisor, key, &FLAG_KEYS)?
+                of_unknown(self.alloc, fault, &Owner::Supervisor, key, &flag_keys())?
             }
             Some(fault @ (TreeFault::WrongKind(_) | TreeFault::BadFlag(_))) => {
                 of_value(self.alloc, fault, &Owner::Supervisor, key, value)?
@@ -83,7 +83,7 @@ impl Scanning {
         };
         let fault = moved_to(fault, index);
         let finding = match fault {
-            TreeFault::UnknownKey(_) => of_unknown(self.alloc, fault, owner, key, &CHILD_KEYS)?,
+            TreeFault::UnknownKey(_) => of_unknown(self.alloc, fault, owner, key, &child_keys())?,
             TreeFault::WrongKind(_) | TreeFault::BadSpec { .. } => {
                 of_value(self.alloc, fault, owner, key, value)?
             }

@@ -1,6 +1,6 @@
 -- One event of a scene.
 use Rattle.std.specs.Prelude.{◌≡◌, ℕ, ◌+◌, ◌≤◌, Bool, true, false, List, [], ◌∷◌, ◌++◌, Option, Some, None, MatchOption, refl, is_some, length, unwrap_or, if◌then◌else◌}
-use Rattle.std.proofs.Common.{◌∙◌, ap, sym, arith, length-append}
+use Rattle.std.proofs.Common.{◌∙◌, ap, arith, length-append}
 use Rattle.std.specs.List.{filter_map}
 use Rattle.otp_machine.specs.declared.numbers.Counter.{Counter}
 use Rattle.otp_reason.specs.declared.note.Note.{Note}

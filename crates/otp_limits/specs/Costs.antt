@@ -1,5 +1,5 @@
 -- What a child's failure costs (own).
-use Rattle.std.specs.Prelude.{◌≡◌, ℕ, ◌+◌, ◌*◌, ◌≤◌, ◌<◌, ◌^◌, Bool, true, false, ◌&&◌, ◌||◌, ◌==◌, nat_lt, min, List, [], ◌∷◌, ◌++◌, insert, Option, Some, None, unwrap_or, position, length}
+use Rattle.std.specs.Prelude.{◌≡◌, ℕ, ◌+◌, ◌*◌, ◌^◌, Bool, ◌&&◌, ◌||◌, ◌==◌, nat_lt, min, List, [], Option, Some, None, unwrap_or, length}
 use Rattle.std.specs.List.{filter_map}
 use Rattle.otp_reason.specs.declared.name.Name.{Name}
 use Rattle.otp_rules.specs.declared.event.Effect.{Effect}
@@ -16,6 +16,7 @@ use Rattle.otp_limits.specs.declared.steady.Steady.TheVariants as steady
 use Rattle.otp_limits.specs.declared.steady.Verdict.{Verdict}
 use Rattle.otp_limits.specs.declared.steady.Verdict.TheVariants.{Lasts, Falls, Unplayed}
 use Rattle.otp_limits.specs.Fates.{Crashes, Plays}
+use Rattle.otp_limits.specs.Ranks.{OneEach, ranked}
 use Rattle.otp_limits.specs.Scene.{Opens, Scene}
 
 -- the longest interval that is tried, in milliseconds: a second longer than the period
@@ -100,26 +101,10 @@ is_worse a b =
     && (nat_lt (apart_in b.steady) (apart_in a.steady)
     || ((apart_in a.steady == apart_in b.steady) && nat_lt (length b.stops) (length a.stops))))
 
--- a cost before the first that it is worse than
-abbrev pub put_at : Option ℕ → Cost → List Cost → List Cost
-put_at None cost costs = costs ++ cost ∷ []
-put_at (Some place) cost costs = insert costs place cost
-
-unfoldable pub put_in : Cost → List Cost → List Cost
-put_in cost costs = put_at (position (is_worse cost) costs) cost costs
-
--- the worst first; of those that are alike the earlier child first
-abbrev pub ranked : List Cost → List Cost → List Cost
-ranked done [] = done
-ranked done (cost ∷ costs) = ranked (put_in cost done) costs
-
 -- a cost for each of these children, in their order
 abbrev pub AreCosts : SupFlags → List ChildSpec → List ChildSpec → List Cost → Type 0
-AreCosts flags all [] [] = Unit {0}
-AreCosts flags all [] (cost ∷ costs) = ⊥
-AreCosts flags all (spec ∷ specs) [] = ⊥
-AreCosts flags all (spec ∷ specs) (cost ∷ costs) = IsCost flags all spec.id cost × AreCosts flags all specs costs
+AreCosts flags all = OneEach (λ id cost. IsCost flags all id cost)
 
 -- a cost for each child, the worst first
 abbrev pub AreLimits : SupFlags → List ChildSpec → List Cost → Type 0
-AreLimits flags specs costs = (each : List Cost) × (AreCosts flags specs specs each × (costs ≡ ranked [] each))
+AreLimits flags specs costs = (each : List Cost) × (AreCosts flags specs specs each × (costs ≡ ranked is_worse [] each))

@@ -1,5 +1,5 @@
 -- A child of a tree of supervisors that crashes again and again, and how the root fares (own).
-use Rattle.std.specs.Prelude.{◌≡◌, ℕ, ◌+◌, ◌<◌, Bool, true, false, not, ◌&&◌, List, [], ◌∷◌, ◌++◌, Option, Some, None, codes, length, slice_get, take, ◌-◌}
+use Rattle.std.specs.Prelude.{◌≡◌, ℕ, Bool, true, false, not, ◌&&◌, List, [], ◌∷◌, ◌++◌, Option, Some, None, codes, length, slice_get, take}
 use Prim.Native.Nat.{zero, suc}
 use Rattle.otp_file.specs.Trees.{Tree}
 use Rattle.otp_reason.specs.declared.name.Name.{Name}

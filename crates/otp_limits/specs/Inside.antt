@@ -1,5 +1,5 @@
 -- What a stage stands for, and what it keeps.
-use Rattle.std.specs.Prelude.{◌≡◌, ℕ, ◌≤◌, length}
+use Rattle.std.specs.Prelude.{◌≤◌, length}
 use Rattle.otp_core.specs.View.{state_of}
 use Rattle.otp_rules.specs.Needs.{last_number}
 use Rattle.otp_spec.specs.declared.limits.TheConstants.{MAX_EVENTS}

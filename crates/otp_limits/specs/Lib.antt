@@ -1,5 +1,6 @@
 pub mod Scene
 pub mod Fates
+pub mod Ranks
 pub mod Costs
 pub mod Table
 pub mod Inside

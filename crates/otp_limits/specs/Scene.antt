@@ -1,6 +1,6 @@
 -- A supervisor that is played in a world where all goes well: each start succeeds, and each process that is asked to shut
 -- down ends, or is killed, at once (own).
-use Rattle.std.specs.Prelude.{◌≡◌, ℕ, ◌+◌, ◌≤◌, Bool, List, [], ◌∷◌, ◌++◌, Option, Some, None, is_some, drop, slice_get, unwrap_or, true, false, if◌then◌else◌}
+use Rattle.std.specs.Prelude.{◌≡◌, ℕ, ◌+◌, ◌≤◌, Bool, List, [], ◌++◌, Option, Some, None, is_some, drop, slice_get, unwrap_or, true, false, if◌then◌else◌}
 use Prim.Native.Nat.{zero, suc}
 use Rattle.std.specs.List.{filter_map}
 use Rattle.otp_reason.specs.declared.note.Note.{Note}

@@ -6,7 +6,8 @@ ghost use Rattle.otp_limits.specs.Costs.{Affects, IsCost, apart_in, is_worse, st
 ghost use Rattle.otp_spec.specs.Supervisor.{supervisor_fault};
 
 use crate::fate::{Fate, play};
-use crate::names::Names;
+use crate::list::Listed;
+use crate::rank::Ranked;
 use crate::stage::Stage;
 use crate::steady::{Steady, find_steady};
 use otp_reason::Name;
@@ -27,9 +28,9 @@ pub struct Cost {
     /// The child.
     pub id: Name,
     /// The children that a crash of it stops, in the order in which they are told to end.
-    pub stops: Names,
+    pub stops: Listed<Name>,
     /// The children that are started again, in their order.
-    pub starts: Names,
+    pub starts: Listed<Name>,
     /// How its supervisor fares where it crashes again and again, with no time between.
     pub burst: Fate,
     /// How far apart its crashes must be.
@@ -60,7 +61,7 @@ fn started_by(spec: &Name, order: &Effect) -> Option<Name>
 }
 
 /// Puts the children that these orders stop behind others.
-fn put_stopped(spec: &Name, orders: &[Effect], names: &mut Names) -> Result<(), AllocError>
+fn put_stopped(spec: &Name, orders: &[Effect], names: &mut Listed<Name>) -> Result<(), AllocError>
     ensures { OnOk result (names.new ≡ names.old ++ filter_map (stopped_by spec.now) orders.now) }
 {
     for order in orders {
@@ -72,7 +73,7 @@ fn put_stopped(spec: &Name, orders: &[Effect], names: &mut Names) -> Result<(), 
 }
 
 /// Puts the children that these orders start behind others.
-fn put_started(spec: &Name, orders: &[Effect], names: &mut Names) -> Result<(), AllocError>
+fn put_started(spec: &Name, orders: &[Effect], names: &mut Listed<Name>) -> Result<(), AllocError>
     ensures { OnOk result (names.new ≡ names.old ++ filter_map (started_by spec.now) orders.now) }
 {
     for order in orders {
@@ -89,15 +90,15 @@ fn find_affected(
     flags: &SupFlags,
     specs: &[ChildSpec],
     id: &Name,
-) -> Result<(Names, Names), Halt>
+) -> Result<(Listed<Name>, Listed<Name>), Halt>
     requires { supervisor_fault flags.now specs.now ≡ None }
     ensures { IfOk result (λ found. Affects flags.now specs.now id.now found.0 found.1) }
 {
     let mut stage = Stage::open(alloc, *flags, specs)?;
     stage.crash(id, 0)?;
-    let mut stops = Names::new(alloc);
+    let mut stops = Listed::new(alloc);
     put_stopped(id, stage.orders(), &mut stops)?;
-    let mut starts = Names::new(alloc);
+    let mut starts = Listed::new(alloc);
     put_started(id, stage.orders(), &mut starts)?;
     Ok((stops, starts))
 }
@@ -155,12 +156,12 @@ impl Steady {
     }
 }
 
-impl Cost {
+impl Ranked for Cost {
+    ghost worse = { is_worse };
+
     /// Fewer crashes are survived; or as many, and they must be further apart; or no further, and more children are stopped.
     #[tactic(auto, unfolding(crate::specs::Costs::is_worse))]
-    pub(crate) fn is_worse(&self, other: &Cost) -> bool
-        ensures { result ≡ is_worse self.now other.now }
-    {
+    fn is_worse(&self, other: &Self) -> bool {
         let (survived, others) = (self.burst.survived(), other.burst.survived());
         let (apart, apart_other) = (self.steady.apart(), other.steady.apart());
         survived < others

@@ -5,7 +5,8 @@ ghost use Rattle.otp_limits.specs.Falls.{FallsOnce, FallsSo, IsFall, Joins, Open
 ghost use Rattle.otp_try.specs.Played.{Seated, is_root_over};
 
 use crate::fate::Fate;
-use crate::path::{Path, Paths};
+use crate::list::Listed;
+use crate::path::Path;
 use crate::stage::process_of;
 use otp_file::TreeSpec;
 use otp_reason::{Name, Reason};
@@ -23,7 +24,7 @@ pub struct Fall {
     /// How the root fares.
     pub root: Fate,
     /// The supervisors that have given up in the end, those below before those above them.
-    pub ends: Paths,
+    pub ends: Listed<Path>,
 }
 
 /// The process of the first child of the specification with this id, of the supervisor at this place, if it runs.
@@ -131,7 +132,12 @@ pub(crate) fn supervisor_path(path: &[u8]) -> &[u8]
 
 /// Puts the path of a supervisor behind others, if it has given up.
 #[tactic(auto, unfolding(crate::specs::Falls::path_if))]
-fn put_if(alloc: Global, is_given_up: bool, path: &[u8], ends: &mut Paths) -> Result<(), Halt>
+fn put_if(
+    alloc: Global,
+    is_given_up: bool,
+    path: &[u8],
+    ends: &mut Listed<Path>,
+) -> Result<(), Halt>
     ensures { OnOk result (ends.new ≡ ends.old ++ path_if is_given_up path.now) }
 {
     if is_given_up {
@@ -141,7 +147,7 @@ fn put_if(alloc: Global, is_given_up: bool, path: &[u8], ends: &mut Paths) -> Re
 }
 
 /// Puts the supervisors that gave up behind others, those below before those above them.
-fn put_given_up(alloc: Global, seats: &[Seat], ends: &mut Paths) -> Result<(), Halt>
+fn put_given_up(alloc: Global, seats: &[Seat], ends: &mut Listed<Path>) -> Result<(), Halt>
     ensures { OnOk result (ends.new ≡ ends.old ++ given_up seats.now) }
 {
     match seats {
@@ -155,10 +161,10 @@ fn put_given_up(alloc: Global, seats: &[Seat], ends: &mut Paths) -> Result<(), H
 
 /// Who has given up in the end.
 #[tactic(auto, unfolding(crate::specs::Falls::through))]
-fn through(alloc: Global, fate: Fate, seats: &[Seat]) -> Result<Paths, Halt>
+fn through(alloc: Global, fate: Fate, seats: &[Seat]) -> Result<Listed<Path>, Halt>
     ensures { IfOk result (λ ends. ends ≡ through fate seats.now) }
 {
-    let mut ends = Paths::new(alloc);
+    let mut ends = Listed::new(alloc);
     match fate {
         Fate::Unplayed(_) => {}
         Fate::Survived | Fate::Ended(_) | Fate::Gone(_) => put_given_up(alloc, seats, &mut ends)?,

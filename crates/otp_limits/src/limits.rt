@@ -1,32 +1,14 @@
 //! What the failure of each child costs, the worst first.
 
-ghost use Rattle.std.specs.Prelude.{◌≡◌, ◌<◌, None, IfOk, IfSome, OnOk, length, position};
-ghost use Rattle.otp_limits.specs.Costs.{AreLimits, is_worse, put_in};
+ghost use Rattle.std.specs.Prelude.{◌≡◌, None, IfOk};
+ghost use Rattle.otp_limits.specs.Costs.{AreLimits};
 ghost use Rattle.otp_spec.specs.Supervisor.{supervisor_fault};
 
 use crate::cost::{Cost, find_cost};
+use crate::rank::put_in;
 use otp_spec::{ChildSpec, SupFlags};
 use otp_try::Halt;
-use std::alloc::{AllocError, Global};
-
-/// The place of the first that a cost is worse than.
-fn place_in(costs: &[Cost], cost: &Cost) -> Option<usize>
-    ensures place { result ≡ position (is_worse cost.now) costs.now }
-    ensures inside { IfSome result (λ place. place < length costs.now) }
-{
-    costs.iter().position(|other| cost.is_worse(other))
-}
-
-/// Puts a cost before the first that it is worse than.
-#[tactic(auto, unfolding(crate::specs::Costs::put_in))]
-fn put_in(cost: Cost, costs: &mut Vec<Cost>) -> Result<(), AllocError>
-    ensures { OnOk result (costs.new.items ≡ put_in cost costs.old.items) }
-{
-    match place_in(costs.as_slice(), &cost) {
-        None => costs.push(cost).map_err(|_| AllocError),
-        Some(place) => costs.insert(place, cost).map_err(|_| AllocError),
-    }
-}
+use std::alloc::Global;
 
 /// What the failure of each child costs, the worst first.
 ///

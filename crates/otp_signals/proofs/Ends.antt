@@ -1,20 +1,19 @@
 -- What an owner learns of the number rule: what it and others have, that joined owners drew no number in common, and what it has where it has all.
-use Rattle.std.proofs.Common.{◌≡◌, ⊎_elim, ℕ, zero, suc, ◌+◌, ◌-◌, ◌<◌, ◌≤◌, List, [], ◌∷◌, ◌++◌, length, length-append, set, refl, sym, ap, ◌∙◌, subst, arith, add-zero}
+use Rattle.std.proofs.Common.{◌≡◌, ⊎_elim, ℕ, zero, suc, ◌+◌, ◌-◌, ◌<◌, ◌≤◌, List, [], ◌∷◌, ◌++◌, length, length-append, refl, sym, ap, ◌∙◌, subst, arith, add-zero}
 use Rattle.std.specs.Prelude.{sum_by, slice_index}
-use Rattle.std.proofs.lemmas.List.{set-get_or}
 use Rattle.std.proofs.lemmas.List.Sums.{sum_by-append, sum_by-cons}
 use mathlib.Core.Option.{some, none, some-ne-none, some-injective}
 use mathlib.Core.Logic.{dite}
 use native.Mathlib.Decide.{ℕ_discrete}
 use lib.ListN.{get_elem?}
 use Rattle.atomic_table.specs.Table.{step, keeps, Allows}
-use Rattle.atomic_table.proofs.Lists.{set_again}
 use Rattle.otp_signals.specs.declared.signal.TheConstants.{NUMBER_LIMIT}
 use Rattle.otp_signals.specs.declared.view.View.{View}
 use Rattle.otp_signals.specs.Lists.{numbers_to, AsOften, AllIn, NoneInBoth, Above, Below, Rises, Stands, merge}
 use Rattle.otp_signals.specs.Rules.{NumberRule, KeepsRules, Learns}
 use Rattle.otp_tally.proofs.Sums.{one_le_sum_by}
 use Rattle.otp_signals.proofs.Sums.{weigh_all}
+use Rattle.otp_signals.proofs.Moves.{loaded}
 use Rattle.otp_signals.proofs.Membership.{Stands-Contains, Contains-Stands}
 use Rattle.otp_signals.proofs.Joins.{is, is-same, is-else, stands_counts, sum_by-merge, Stands-with_number_new, Stands-with_number_old}
 
@@ -44,11 +43,7 @@ owner_room c views id v at k =
 
 pub learns : (slots homes id : ℕ) (v : View) (cs : List (ℕ × ℕ)) → Allows (KeepsRules slots) homes id (v, cs) 0 (λ n. n) (Learns (step homes 0 0 0 none) (v, cs))
 learns slots homes id v cs s k no_homes at small =
-    let same : set s.words 0 (slice_index s.words 0) ≡ s.words = set-get_or s.words 0 0 in
-    let views : set s.views id v ≡ s.views = set_again s.views id v at in
-    let kept : KeepsRules slots record { words = set s.words 0 (slice_index s.words 0); homes = s.homes; views = set s.views id v } =
-    subst (λ (x : List ℕ × List View). KeepsRules slots record { words = x.0; homes = s.homes; views = x.1 }) (λ i. (sym same i, sym views i)) k in
-    (v, keeps, tt, kept, (refl, (k.numbers.rises id v at).0, owner_room (slice_index s.words 0) s.views id v at k.numbers))
+    (v, keeps, tt, loaded slots id v s k at, (refl, (k.numbers.rises id v at).0, owner_room (slice_index s.words 0) s.views id v at k.numbers))
 
 Above-none : (x : ℕ) (xs : List ℕ) → Above x xs → sum_by (is x) xs ≡ 0
 Above-none x [] a = refl

@@ -7,7 +7,7 @@ use mathlib.Core.Option.{some, none, some-ne-none, some-injective}
 use mathlib.Core.Logic.{dite}
 use native.Mathlib.Decide.{ℕ_discrete}
 use lib.ListN.{get_elem?}
-use Rattle.atomic_table.specs.Table.{step, keeps, Allows, opening, Splits}
+use Rattle.atomic_table.specs.Table.{State, step, keeps, Allows, opening, Splits}
 use Rattle.atomic_table.proofs.Lists.{at_set, set_here, set_else, set_again, at_longer, at_last}
 use Rattle.otp_signals.specs.declared.view.View.{View}
 use Rattle.otp_signals.specs.Lists.{numbers_to, Below, Rises, NeverFalls, ZeroOrIn, greatest, has, words_at, between}
@@ -397,6 +397,14 @@ cuts slots id from to quota v le free s k at =
       numbers = cut_numbers s.views id (slice_index s.words 0) v (kept_view from to quota v) (cut_view from to quota v) at refl refl (omega arith) k.numbers;
       signals = (owner_after sig.0 from to (length s.views), sig.1, cut_signals slots s.words s.views id from to quota v sig.0 sig.1 at free sig.2);
     }
+
+-- a load of the counter changes nothing
+pub loaded : (slots id : ℕ) (v : View) (s : State ℕ View) → KeepsRules slots s → get_elem? s.views id ≡ some v
+    → KeepsRules slots record { words = set s.words 0 (slice_index s.words 0); homes = s.homes; views = set s.views id v }
+loaded slots id v s k at =
+    let same : set s.words 0 (slice_index s.words 0) ≡ s.words = set-get_or s.words 0 0 in
+    let views : set s.views id v ≡ s.views = set_again s.views id v at in
+    subst (λ (x : List ℕ × List View). KeepsRules slots record { words = x.0; homes = s.homes; views = x.1 }) (λ i. (sym same i, sym views i)) k
 
 -- a seat that may only look
 pub parts_blank : (slots id : ℕ) (v : View) → Splits {S = ℕ} (KeepsRules slots) id v v blank_view

@@ -1,12 +1,11 @@
 -- An owner may hold what a viewer saw, learns what the signal rule says of it, and gives it back.
 use Rattle.std.proofs.Common.{◌≡◌, ◌≢◌, ◌⊎◌, ⊎_elim, ℕ, suc, ◌==◌, true, false, true≢false, cond, eq-eqb, eqb-true, List, [], ◌∷◌, ◌++◌, length, set, refl, sym, ap, ◌∙◌, subst, inl, inr, arith, add-zero}
 use Rattle.std.specs.Prelude.{sum_by, slice_index, Contains}
-use Rattle.std.proofs.lemmas.List.{set-get_or}
 use Rattle.std.proofs.lemmas.List.Elements.{All-nil, All-cons, All-contains, Contains-push}
 use mathlib.Core.Option.{some, none}
 use lib.ListN.{get_elem?}
 use Rattle.atomic_table.specs.Table.{step, keeps, Allows, Splits, Joins}
-use Rattle.atomic_table.proofs.Lists.{at_set, set_again, at_longer}
+use Rattle.atomic_table.proofs.Lists.{at_set, at_longer}
 use Rattle.otp_signals.specs.declared.view.Holding.{Holding}
 use Rattle.otp_signals.specs.declared.view.View.{View}
 use Rattle.otp_signals.specs.Lists.{Below, Rises, ZeroOrIn, Stands, has, words_at}
@@ -17,7 +16,7 @@ use Rattle.otp_signals.specs.Signals.{word_of, signal_of, WerePosted, SignalsWer
 use Rattle.otp_signals.specs.Rules.{blank_view, lent_view, unlent_view, looks_view, Owns, Saw, KeepsRules, Witnesses}
 use Rattle.otp_tally.proofs.Sums.{sum_by-set}
 use Rattle.otp_signals.proofs.Sums.{weigh_all}
-use Rattle.otp_signals.proofs.Moves.{owned_set, each_cut, cut_numbers}
+use Rattle.otp_signals.proofs.Moves.{owned_set, each_cut, cut_numbers, loaded}
 use Rattle.otp_signals.proofs.Joins.{each_two}
 use Rattle.otp_signals.proofs.Membership.{has-Contains}
 
@@ -71,12 +70,8 @@ lends slots id v other w bare s k at ne there =
 
 pub witnesses : (slots homes id : ℕ) (v : View) (cs : List (ℕ × ℕ)) → Allows (KeepsRules slots) homes id (v, cs) 0 (λ n. n) (Witnesses (step homes 0 0 0 none) (v, cs))
 witnesses slots homes id v cs s k no_homes at small =
-    let same : set s.words 0 (slice_index s.words 0) ≡ s.words = set-get_or s.words 0 0 in
-    let views : set s.views id v ≡ s.views = set_again s.views id v at in
-    let kept : KeepsRules slots record { words = set s.words 0 (slice_index s.words 0); homes = s.homes; views = set s.views id v } =
-    subst (λ (x : List ℕ × List View). KeepsRules slots record { words = x.0; homes = s.homes; views = x.1 }) (λ i. (sym same i, sym views i)) k in
     let me = k.signals.2.seats id v at in
-    (v, keeps, tt, kept, (refl, (λ slot mine. let saw = me.1 slot in (saw.0, subst (λ l. ZeroOrIn l (words_at slot v.looks)) (sym ((me.0 slot).0 mine).1) saw.1))))
+    (v, keeps, tt, loaded slots id v s k at, (refl, (λ slot mine. let saw = me.1 slot in (saw.0, subst (λ l. ZeroOrIn l (words_at slot v.looks)) (sym ((me.0 slot).0 mine).1) saw.1))))
 
 pub gives_back : (slots id : ℕ) (v : View) → Splits {S = ℕ} (KeepsRules slots) id v (unlent_view v) (looks_view v)
 gives_back slots id v s k at =

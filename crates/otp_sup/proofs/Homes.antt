@@ -37,21 +37,21 @@ use Rattle.otp_rules.specs.Step.{decide, open_rows, open_with, opening_specs, st
 use Rattle.otp_rules.specs.Waits.{starts_waiting}
 use Rattle.otp_rules.specs.Work.{advance, follow, start_first, stop_first}
 use Rattle.otp_rules.proofs.Homes.{none_has}
+use Rattle.otp_rules.proofs.Lasting.{one_process}
 use Rattle.otp_core.specs.View.{state_of}
 use Rattle.otp_sup.specs.declared.bodies.Kept.{Kept}
 use Rattle.otp_sup.specs.declared.bodies.Origin.TheVariants as origin
 use Rattle.otp_sup.specs.declared.bodies.Place.{Place}
 use Rattle.otp_sup.specs.declared.bodies.Place.TheVariants as placed
 use Rattle.otp_sup.specs.Letters.{is_end_note}
-use Rattle.otp_sup.specs.Bodies.{are_given, bodies_after, calls_waiting, came_for, come_home, count_away, given_in, has_body, home_of, home_or_free, is_any_waiting, is_at_home, is_heeded, is_start_item, is_starting_as, is_start_waiting, is_taken_up, is_waited_for, is_waiting, let_go, move_first, moved, opened, place_of_call, received, settled, slot_given, slot_heeding, started_by, stray, taken_up}
+use Rattle.otp_sup.specs.Bodies.{are_given, bodies_after, calls_waiting, came_for, come_home, count_away, given_in, has_body, home_of, home_or_free, is_any_waiting, is_at_home, is_heeded, is_start_item, is_start_waiting, is_taken_up, is_waited_for, is_waiting, let_go, move_first, moved, opened, place_of_call, received, settled, slot_given, slot_heeding, started_by, stray, taken_up}
 use Rattle.otp_sup.specs.Facts.{AreApart, AreToStart, Begins, HasBodies, IsOpening, IsOut, KeepsBodies, KeepsOffice, OfficeView, count_opened, is_to_start, is_unsent, orders_in, starts_in}
 use Rattle.otp_sup.specs.Turns.{Happened}
 use Rattle.otp_sup.proofs.Calls.{later_is}
 use Rattle.otp_sup.proofs.Heeding.{Adds, Alias, Heeded, Heeder, Tells, alias, heeder, heeds_own, tells}
 use Rattle.otp_sup.proofs.Placed.{any_before, any_last, any_to, away_less, away_moved, away_no_more, away_opened, away_put, away_settled, away_when_come, away_when_up, comes_home, given_at, given_come, given_has_body, given_moved, given_opened, given_put, given_settled, some_waits, stays_when_come, stays_when_settled, stays_when_up}
 use Rattle.otp_sup.proofs.StartOrders.{event_starts}
-use Rattle.otp_rules.specs.Alive.{EndsChild, LivesIn, ProcessesLived, is_told_by}
-use Rattle.otp_rules.specs.Fit.{is_starting}
+use Rattle.otp_rules.specs.Alive.{EndsChild, LivesIn, ProcessesLived}
 
 -- the laws on which it rests
 pub record Laws : Type 0 where
@@ -348,15 +348,6 @@ given_after n s later kind.Resumed kept h = given_settled later.rows (is_any_wai
 given_after n s later kind.Ticked kept h = given_settled later.rows (is_any_waiting later) n kept h
 given_after n s later kind.Stopped kept h = given_settled later.rows (is_any_waiting later) n kept h
 
--- a row's state has one process
-pub one_process : (p q : ℕ) (state : RowState) → has_process p state ≡ true → has_process q state ≡ true → p ≡ q
-one_process p q Undefined h k = absurd (false≢true h)
-one_process p q (Starting x _) h k = sym (eqb-true x p h) ∙ eqb-true x q k
-one_process p q (Up x) h k = sym (eqb-true x p h) ∙ eqb-true x q k
-one_process p q (Asked x _) h k = sym (eqb-true x p h) ∙ eqb-true x q k
-one_process p q (Killed x) h k = sym (eqb-true x p h) ∙ eqb-true x q k
-one_process p q (Restarting _) h k = absurd (false≢true h)
-
 pub or_none : (b : Bool) → (b || false) ≡ b
 or_none true = refl
 or_none false = refl
@@ -406,7 +397,7 @@ out_after laws s reading number k kept known keeps slot some =
     other : (n : Option ℕ) → IsNewNumber n s.rows → (out : IsOut s [] slot) (state : RowState) → has_process out.p state ≡ true → is_started n state ≡ true → ⊥
     other None free out state has started = false≢true started
     other (Some n) free out state has started =
-        let same : n ≡ out.p = one_process n out.p state started has in
+        let same : n ≡ out.p = one_process out.p n state has started in
         false≢true (sym (free out.row out.runs.among) ∙ subst (λ (m : ℕ). has_process m out.row.state ≡ true) (sym same) out.runs.has)
 
 -- a body that is away stays so, unless the event takes a note that its child heeds
@@ -441,21 +432,12 @@ away_stays slot s later kind.Resumed kept other =
 away_stays slot s later kind.Ticked kept other = omega (arith, away_settled slot later.rows (is_any_waiting later) kept)
 away_stays slot s later kind.Stopped kept other = omega (arith, away_settled slot later.rows (is_any_waiting later) kept)
 
--- a note that a row heeds tells the end of the row's process
-
-starts_as : (p : ℕ) (state : RowState) → is_starting_as p state ≡ true → is_starting p state ≡ true
-starts_as p Undefined h = absurd (false≢true h)
-starts_as p (Starting q k) h = h
-starts_as p (Up q) h = absurd (false≢true h)
-starts_as p (Asked q d) h = absurd (false≢true h)
-starts_as p (Killed q) h = absurd (false≢true h)
-starts_as p (Restarting k) h = absurd (false≢true h)
-
-told_heeded : (x : Note) (row : Row) → is_heeded x row ≡ true → (p : ℕ) × (end_number x ≡ Some p) × (is_told_by x row.state ≡ true)
+-- a note that a row heeds tells the end of a process
+told_heeded : (x : Note) (row : Row) → is_heeded x row ≡ true → (p : ℕ) × (end_number x ≡ Some p)
 told_heeded (note.Up p) row h = absurd (false≢true h)
-told_heeded (note.Ignored p) row h = (p, refl, starts_as p row.state h)
-told_heeded (note.Failed p r) row h = (p, refl, starts_as p row.state h)
-told_heeded (note.Exit p r) row h = (p, refl, h)
+told_heeded (note.Ignored p) row h = (p, refl)
+told_heeded (note.Failed p r) row h = (p, refl)
+told_heeded (note.Exit p r) row h = (p, refl)
 
 ends_its_child : (s : State) (k : Kind) (slot p : ℕ) (x : Note) → AreApart s.rows → LivesIn s slot p → k ≡ kind.Took (item.Note x) → home_of s x ≡ Some slot → EndsChild s k p
 ends_its_child s k slot p x apart live takes home =
@@ -463,7 +445,7 @@ ends_its_child s k slot p x apart live takes home =
     let told = told_heeded x by.row by.heeds in
     let has : has_process told.0 by.row.state ≡ true = heeds_own x told.0 by.row told.1 by.heeds in
     let same : told.0 ≡ p = (apart by.row live.0.0 told.0 p by.among live.0.1 has live.0.3).0 (by.same ∙ sym live.0.2) in
-    (x, takes, told.1 ∙ ap (λ (n : ℕ). Some n) same, (by.row, by.among, told.2))
+    (x, takes, told.1 ∙ ap (λ (n : ℕ). Some n) same, (by.row, by.among, by.heeds))
 
 not_to_start : (number : Option ℕ) (p : ℕ) → is_to_start p (at_most_one number) ≡ false → number ≡ Some p → ⊥
 not_to_start None p h is = search (rules, is)

@@ -1,7 +1,7 @@
 //! The bodies that a supervisor keeps: of children that have no process, and those that no child has.
-ghost use Rattle.std.specs.Prelude.{◌≡◌, ◌<◌, ◌++◌, ◌∷◌, [], true, get_or, is_some, false, length, position, remove, slice_set, IfErr, MatchOption, None, OnOk, OnErr, Some};
+ghost use Rattle.std.specs.Prelude.{◌≡◌, ◌<◌, ◌++◌, ◌∷◌, [], true, get_or, is_some, false, length, position, remove, slice_set, Bool, IfErr, IfSome, MatchOption, None, OnOk, OnErr, Some};
 ghost use Rattle.std.specs.List.{list_any};
-ghost use Rattle.otp_sup.specs.Bodies.{are_ready, come_home, came_for, has_body, home_or_free, is_at_home, is_given, is_here, is_left_of, is_stray, is_waiting, move_first, opened, place_of_call, place_without_line, put_home, settled, without_first};
+ghost use Rattle.otp_sup.specs.Bodies.{AreHere, are_ready, come_home, came_for, has_body, home_or_free, is_at_home, is_given, is_here, is_left_of, is_stray, is_waiting, move_first, opened, place_of_call, place_without_line, put_home, settled, without_first};
 ghost use Rattle.otp_sup.specs.Facts.{count_opened};
 ghost use Rattle.otp_sup.specs.Slots.{AreBelow};
 ghost use Rattle.otp_sup.specs.declared.bodies.Kept.{Kept};
@@ -136,6 +136,18 @@ impl<B: Drop> Bodies<B> {
     {
         self.kept.remove(at);
         self.bodies.remove(at)
+    }
+
+    /// Takes out the body at this place in the list, which is the first that passes a test; nothing where none does.
+    fn take_first(&mut self, at: Option<usize>) -> Option<B>
+        requires { IfSome at (λ place. place < length self.old.kept) }
+        ensures kept { (test : Kept → Bool) → at ≡ position test self.old.kept → self.new.kept ≡ without_first test self.old.kept }
+        ensures body { (test : Kept → Bool) → at ≡ position test self.old.kept → AreHere test → is_some result ≡ list_any test self.old.kept }
+    {
+        match at {
+            Some(at) => self.take(at),
+            None => None,
+        }
     }
 
     /// The body at this place in the list is there from now on; it stays here.
@@ -278,10 +290,8 @@ impl<B: Drop> Bodies<B> {
         ensures kept { self.new.kept ≡ without_first (is_left_of call) self.old.kept }
         ensures body { is_some result ≡ list_any (is_left_of call) self.old.kept }
     {
-        let Some(at) = find_left(&self.kept, call) else {
-            return None;
-        };
-        self.take(at)
+        let at = find_left(&self.kept, call);
+        self.take_first(at)
     }
 
     /// A body that is nobody's.
@@ -289,9 +299,7 @@ impl<B: Drop> Bodies<B> {
         ensures kept { self.new.kept ≡ without_first is_stray self.old.kept }
         ensures body { is_some result ≡ list_any is_stray self.old.kept }
     {
-        let Some(at) = find_stray(&self.kept) else {
-            return None;
-        };
-        self.take(at)
+        let at = find_stray(&self.kept);
+        self.take_first(at)
     }
 }

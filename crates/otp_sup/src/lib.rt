@@ -19,7 +19,6 @@ pub mod office;
 pub mod orders;
 mod plans;
 pub mod port;
-mod replies;
 mod rows;
 mod sending;
 pub mod sup;

@@ -11,14 +11,13 @@ ghost use Rattle.otp_sup.specs.declared.turns.TurnAnswer.TheVariants as answer;
 
 use crate::letter::Letter;
 use crate::port::{Flushed, Port};
-use crate::replies::copy_reply;
 use crate::table::Table;
 use crate::turns::{TurnAnswer, TurnFault};
 use otp_core::Core;
 use otp_inbox::{Inbox, InboxNaming, Taker};
 use otp_rules::{Item, Reply};
 use otp_signals::{Owner, Signal, Words, WordsNaming};
-use std::alloc::{AllocError, Global};
+use std::alloc::AllocError;
 use std::marker::Model;
 use std::sync::{Mutex, Wait};
 
@@ -84,19 +83,14 @@ impl<N: WordsNaming + InboxNaming, B: Drop> Sup<N, B> {
 
     /// A copy of the kept answer to the call with this number. None where it wasn't answered yet. As of each answer,
     /// contracts say that it is that of a table which keeps the rules.
-    pub fn reply<R: Wait>(
-        &self,
-        rt: &R,
-        alloc: Global,
-        call: u64,
-    ) -> Result<Option<Reply>, AllocError>
+    pub fn reply<R: Wait>(&self, rt: &R, call: u64) -> Result<Option<Reply>, AllocError>
         ensures { IfOk result (λ found. HasReply call found) }
     {
         let guard = self.table.lock(rt);
         let table = &*guard;
         table.keeps_rules();
         match table.reply(call) {
-            Some(reply) => Ok(Some(copy_reply(alloc, reply)?)),
+            Some(reply) => Ok(Some(reply.try_clone()?)),
             None => Ok(None),
         }
     }

@@ -83,8 +83,8 @@ fn clients_in<N: WordsNaming + InboxNaming + Send + Sync, R: Threads + Wait + Ab
     );
     assert!(rt; port.processes.is_empty());
     let (first, second) = (sent.0?, sent.1?);
-    answered(rt, alloc, &sup, first.as_slice())?;
-    answered(rt, alloc, &sup, second.as_slice())?;
+    answered(rt, &sup, first.as_slice())?;
+    answered(rt, &sup, second.as_slice())?;
     let mut taken = Vec::new(alloc);
     for _ in 0..2 * CALLS + 1 {
         taken.push(0)?;
@@ -190,13 +190,12 @@ fn serve<N: WordsNaming + InboxNaming, R: Wait + Abort>(
 // Each call was taken once, and answered.
 fn answered<N: WordsNaming + InboxNaming, R: Wait + Abort>(
     rt: &R,
-    alloc: Global,
     sup: &Sup<N, u64>,
     numbers: &[u64],
 ) -> Result<(), Fail> {
     assert_eq!(rt; numbers.len() as u64, CALLS);
     for number in numbers {
-        assert!(rt; is_count(sup.reply(rt, alloc, *number)?));
+        assert!(rt; is_count(sup.reply(rt, *number)?));
     }
     Ok(())
 }

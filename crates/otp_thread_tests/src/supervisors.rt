@@ -333,7 +333,7 @@ fn bodies_in<N: WordsNaming + InboxNaming, R: Wait + Abort>(
     one.send(rt, letter);
     assert!(rt; one.sup.take_box(rt, 40).is_none());
     assert_eq!(rt; one.turn(rt, 0, 0, Signal::None), Ok(TurnAnswer::Took));
-    let reply = one.sup.reply(rt, alloc, 40)?;
+    let reply = one.sup.reply(rt, 40)?;
     assert!(rt; matches!(reply, Some(Reply::Refused(CallFault::AlreadyStarted(1)))));
     assert_eq!(rt; one.sup.take_box(rt, 40).map(|body| body.tag()), Some(7));
     assert!(rt; one.sup.take_box(rt, 40).is_none());
@@ -387,7 +387,7 @@ fn growths_in<N: WordsNaming + InboxNaming, R: Wait + Abort>(
     let child = started.map(|process| process.0).unwrap_or(0);
     one.up(rt, child);
     assert_eq!(rt; one.turn(rt, 0, 0, Signal::None), Ok(TurnAnswer::Took));
-    let reply = one.sup.reply(rt, alloc, call)?;
+    let reply = one.sup.reply(rt, call)?;
     assert!(rt; matches!(reply, Some(Reply::OkProcess(number)) if number == child));
     one.exit(rt, 1, Reason::Error(x), third);
     assert_eq!(rt; one.turn(rt, 0, 0, Signal::None), Ok(TurnAnswer::Took));

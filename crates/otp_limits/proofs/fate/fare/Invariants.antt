@@ -1,4 +1,3 @@
-use Rattle.std.proofs.Common.{◌≡◌, ℕ, false}
 use Rattle.otp_limits.specs.Fates.{RunsAfter}
 use Rattle.otp_limits.proofs.fate.fare.Given as goal
 

@@ -2,9 +2,10 @@ use Rattle.std.proofs.Common.{◌≡◌, ◌++◌, ◌∷◌, ◌∙◌, List, [
 use Prim.Native.Nat.{suc}
 use Rattle.std.proofs.Math.Seq.{take-suc}
 use Rattle.otp_spec.specs.declared.child.ChildSpec.{ChildSpec}
-use Rattle.otp_limits.specs.Costs.{AreCosts, put_in}
+use Rattle.otp_limits.specs.Costs.{AreCosts, IsCost, is_worse}
+use Rattle.otp_limits.specs.Ranks.{put_in}
 use Rattle.otp_limits.specs.declared.cost.Cost.{Cost}
-use Rattle.otp_limits.proofs.Ranked.{one_more, ranked_more}
+use Rattle.otp_limits.proofs.Ranked.{one_more, ranked_append}
 use Rattle.otp_limits.proofs.limits.find_limits.Goals as goal
 
 pub loop-spec-preserved : goal.loop-spec-preserved
@@ -13,11 +14,11 @@ loop-spec-preserved c =
     let next : c.loop-spec.spec-index + 1 ≡ suc c.loop-spec.spec-index = omega arith in
     let each : List Cost = c.loop-spec.invariant.0 in
     let are : AreCosts c.args.flags.now c.args.specs.now _ (each ++ cost ∷ []) =
-    one_more c.args.flags.now c.args.specs.now _ _ each cost c.loop-spec.invariant.1.0 c.in_ok-cost.ensures in (
+    one_more (IsCost c.args.flags.now c.args.specs.now) _ _ each cost c.loop-spec.invariant.1.0 c.in_ok-cost.ensures in (
       each ++ cost ∷ [],
       (
         subst (λ (xs : List ChildSpec). AreCosts c.args.flags.now c.args.specs.now xs (each ++ cost ∷ []))
             (sym (ap (λ (n : ℕ). take n c.args.specs.now) next ∙ take-suc c.args.specs.now c.loop-spec.spec-index _ c.loop-spec-test.true)) are,
-        c.in_ok-put_in.ensures ∙ ap (put_in cost) c.loop-spec.invariant.1.1 ∙ sym (ranked_more [] each cost),
+        c.in_ok-put_in.ensures ∙ ap (put_in is_worse cost) c.loop-spec.invariant.1.1 ∙ sym (ranked_append is_worse [] each (cost ∷ [])),
       ),
     )

@@ -1,5 +1,5 @@
 use Prim.Native.Nat.{zero, suc}
-use Rattle.std.proofs.Common.{ℕ, ◌≡◌, ◌+◌, ◌∙◌, Option, Some, ap, arith, refl, sym}
+use Rattle.std.proofs.Common.{ℕ, ◌≡◌, ◌+◌, ◌∙◌, Option, ap, arith, refl, sym}
 use Rattle.otp_rules.specs.declared.event.Kind.{Kind}
 use Rattle.otp_limits.specs.Scene.{Scene, happened, heard, next_in, turned, turns}
 use Rattle.otp_limits.proofs.Scenes.{happened_events}
