@@ -21,6 +21,7 @@ use Rattle.otp_rules.specs.declared.event.Waiting.TheVariants as waiting
 use Rattle.otp_rules.specs.declared.call.Reply.TheVariants as reply
 use Rattle.otp_rules.specs.Calls.{take_call}
 use Rattle.otp_rules.specs.Deaths.{exit_in, take_exit}
+use Rattle.otp_rules.specs.Fit.{is_starting}
 use Rattle.otp_rules.specs.Homes.{Brings, IsFirst, end_number, is_home, is_start_call}
 use Rattle.otp_rules.specs.Lives.{TakesEnd}
 use Rattle.otp_rules.specs.Starts.{at_starting, if_starting, take_failed, take_ignored, take_up}
@@ -30,7 +31,7 @@ use Rattle.otp_rules.specs.Stops.{terminate}
 use Rattle.otp_rules.specs.Work.{advance}
 use Rattle.otp_rules.proofs.Decisions.{at_number-survives}
 use Rattle.otp_rules.proofs.Homes.{quiet_more}
-use Rattle.otp_sup.specs.Bodies.{home_of, is_heeded, is_start_waiting, is_starting_as, is_taken_up, is_waited_for, slot_heeding}
+use Rattle.otp_sup.specs.Bodies.{home_of, is_heeded, is_start_waiting, is_taken_up, is_waited_for, slot_heeding}
 
 -- none heeds the note: this row doesn't either
 none_heeds : (x : Note) (rows : List Row) (place : ℕ) (row : Row) → slot_heeding x rows ≡ None → slice_get rows place ≡ Some row → is_heeded x row ≡ false
@@ -50,7 +51,7 @@ none_heeds x (r ∷ rows) (suc place) row none at = rest (is_heeded x r) refl (n
     rest true h go = absurd (let e : ◌≡◌ {A = Option ℕ} (Some r.slot) None = sym (ap (λ (b : Bool). if b then Some r.slot else slot_heeding x rows) h) ∙ none in search (rules, e))
 
 -- nothing is done at a row whose start isn't awaited
-not_starting : (p : ℕ) (f : ℕ → Outcome → Outcome) (state : RowState) (o : Outcome) → has_process p state ≡ true → is_starting_as p state ≡ false → if_starting f state o ≡ o
+not_starting : (p : ℕ) (f : ℕ → Outcome → Outcome) (state : RowState) (o : Outcome) → has_process p state ≡ true → is_starting p state ≡ false → if_starting f state o ≡ o
 not_starting p f Undefined o has isnt = refl
 not_starting p f (Starting q k) o has isnt = absurd (false≢true (sym isnt ∙ has))
 not_starting p f (Up q) o has isnt = refl
@@ -60,7 +61,7 @@ not_starting p f (Restarting k) o has isnt = refl
 
 -- where no row is starting process p
 abbrev NoneStarts : ℕ → Outcome → Type 0
-NoneStarts p o = (place : ℕ) (row : Row) → slice_get o.state.rows place ≡ Some row → has_process p row.state ≡ true → is_starting_as p row.state ≡ false
+NoneStarts p o = (place : ℕ) (row : Row) → slice_get o.state.rows place ≡ Some row → has_process p row.state ≡ true → is_starting p row.state ≡ false
 
 at_none : (p : ℕ) (f : ℕ → ℕ → Row → Outcome → Outcome) (o : Outcome) → NoneStarts p o → at_starting p f o ≡ o
 unfolding at_starting
@@ -166,7 +167,7 @@ heeder x (r ∷ rows) slot is = by (is_heeded x r) refl (λ rest. heeder x rows 
         let rest : Heeder x rows slot = go (sym (ap (λ (b : Bool). if b then Some r.slot else slot_heeding x rows) h) ∙ is) in
         record { row = rest.row; among = (suc rest.among.0, omega (arith, rest.among.1), rest.among.2); same = rest.same; heeds = rest.heeds }
 
-starting_has : (p : ℕ) (state : RowState) → is_starting_as p state ≡ true → has_process p state ≡ true
+starting_has : (p : ℕ) (state : RowState) → is_starting p state ≡ true → has_process p state ≡ true
 starting_has p Undefined h = absurd (false≢true h)
 starting_has p (Starting q k) h = h
 starting_has p (Up q) h = absurd (false≢true h)

@@ -43,7 +43,7 @@ use Rattle.otp_sup.specs.declared.bodies.Origin.TheVariants as origin
 use Rattle.otp_sup.specs.declared.bodies.Place.{Place}
 use Rattle.otp_sup.specs.declared.bodies.Place.TheVariants as placed
 use Rattle.otp_sup.specs.Letters.{is_end_note}
-use Rattle.otp_sup.specs.Bodies.{are_given, bodies_after, calls_waiting, came_for, come_home, count_away, given_in, has_body, home_of, home_or_free, is_any_waiting, is_at_home, is_heeded, is_start_item, is_starting_as, is_start_waiting, is_taken_up, is_waited_for, is_waiting, let_go, move_first, moved, opened, place_of_call, received, settled, slot_given, slot_heeding, started_by, stray, taken_up}
+use Rattle.otp_sup.specs.Bodies.{are_given, bodies_after, calls_waiting, came_for, come_home, count_away, given_in, has_body, home_of, home_or_free, is_any_waiting, is_at_home, is_heeded, is_start_item, is_start_waiting, is_taken_up, is_waited_for, is_waiting, let_go, move_first, moved, opened, place_of_call, received, settled, slot_given, slot_heeding, started_by, stray, taken_up}
 use Rattle.otp_sup.specs.Facts.{AreApart, AreToStart, Begins, HasBodies, IsOpening, IsOut, KeepsBodies, KeepsOffice, OfficeView, count_opened, is_to_start, is_unsent, orders_in, starts_in}
 use Rattle.otp_sup.specs.Turns.{Happened}
 use Rattle.otp_sup.proofs.Calls.{later_is}
@@ -443,18 +443,10 @@ away_stays slot s later kind.Stopped kept other = omega (arith, away_settled slo
 
 -- a note that a row heeds tells the end of the row's process
 
-starts_as : (p : ℕ) (state : RowState) → is_starting_as p state ≡ true → is_starting p state ≡ true
-starts_as p Undefined h = absurd (false≢true h)
-starts_as p (Starting q k) h = h
-starts_as p (Up q) h = absurd (false≢true h)
-starts_as p (Asked q d) h = absurd (false≢true h)
-starts_as p (Killed q) h = absurd (false≢true h)
-starts_as p (Restarting k) h = absurd (false≢true h)
-
 told_heeded : (x : Note) (row : Row) → is_heeded x row ≡ true → (p : ℕ) × (end_number x ≡ Some p) × (is_told_by x row.state ≡ true)
 told_heeded (note.Up p) row h = absurd (false≢true h)
-told_heeded (note.Ignored p) row h = (p, refl, starts_as p row.state h)
-told_heeded (note.Failed p r) row h = (p, refl, starts_as p row.state h)
+told_heeded (note.Ignored p) row h = (p, refl, h)
+told_heeded (note.Failed p r) row h = (p, refl, h)
 told_heeded (note.Exit p r) row h = (p, refl, h)
 
 ends_its_child : (s : State) (k : Kind) (slot p : ℕ) (x : Note) → AreApart s.rows → LivesIn s slot p → k ≡ kind.Took (item.Note x) → home_of s x ≡ Some slot → EndsChild s k p

@@ -17,6 +17,7 @@ use Rattle.otp_rules.specs.declared.event.Kind.{Kind}
 use Rattle.otp_rules.specs.declared.event.Kind.TheVariants as kind
 use Rattle.otp_rules.specs.declared.event.Waiting.{Waiting}
 use Rattle.otp_rules.specs.declared.event.Waiting.TheVariants as waiting
+use Rattle.otp_rules.specs.Alive.{is_told_by}
 use Rattle.otp_rules.specs.Homes.{is_start_call}
 use Rattle.otp_rules.specs.State.{State, is_over}
 use Rattle.otp_sup.specs.declared.bodies.Kept.{Kept}
@@ -142,21 +143,9 @@ place_without_line slot kept = if has_body slot kept then place.Free else place.
 abbrev pub come_home : ℕ → List Kept → List Kept
 come_home slot kept = if list_any (is_away slot) kept then move_first (is_away slot) (place.Home slot) kept else kept ++ record { origin = origin.Nobody; place = place_without_line slot kept } ∷ []
 
-abbrev pub is_starting_as : ℕ → RowState → Bool
-is_starting_as p Undefined = false
-is_starting_as p (Starting q _) = q == p
-is_starting_as p (Up _) = false
-is_starting_as p (Asked _ _) = false
-is_starting_as p (Killed _) = false
-is_starting_as p (Restarting _) = false
-
--- the note tells the end of the row's process, and changes the row or waits: an Exit does where there is such a row,
--- Ignored and Failed do while the process is starting
+-- the note tells the end of the row's process, and changes the row or waits
 abbrev pub is_heeded : Note → Row → Bool
-is_heeded (note.Up _) row = false
-is_heeded (note.Ignored p) row = is_starting_as p row.state
-is_heeded (note.Failed p _) row = is_starting_as p row.state
-is_heeded (note.Exit p _) row = has_process p row.state
+is_heeded x row = is_told_by x row.state
 
 abbrev pub slot_heeding : Note → List Row → Option ℕ
 slot_heeding x [] = None

@@ -3,7 +3,8 @@ ghost use Rattle.std.specs.Prelude.{◌≡◌, ◌≤◌, length, position};
 ghost use Rattle.std.specs.List.{list_any};
 ghost use Rattle.otp_spec.specs.declared.limits.TheConstants.{MAX_CHILDREN};
 ghost use Rattle.otp_table.specs.Rows.{has_process, has_slot, row_has};
-ghost use Rattle.otp_sup.specs.Bodies.{is_heeded, is_starting_as, slot_heeding};
+ghost use Rattle.otp_rules.specs.Fit.{is_starting};
+ghost use Rattle.otp_sup.specs.Bodies.{is_heeded, slot_heeding};
 ghost use Rattle.otp_sup.specs.Slots.{AreBelow, AreTaken, slot_of};
 
 use otp_reason::Note;
@@ -62,13 +63,13 @@ fn is_heeded(note: &Note, row: &Row) -> bool
 {
     match note {
         Note::Up(_) => false,
-        Note::Ignored(number) | Note::Failed(number, _) => is_starting_as(&row.state, *number),
+        Note::Ignored(number) | Note::Failed(number, _) => is_starting(&row.state, *number),
         Note::Exit(number, _) => row.state.has_process(*number),
     }
 }
 
-fn is_starting_as(state: &RowState, number: u64) -> bool
-    ensures { result ≡ is_starting_as number state.now }
+fn is_starting(state: &RowState, number: u64) -> bool
+    ensures { result ≡ is_starting number state.now }
 {
     match state {
         RowState::Starting(started, _) => *started == number,
