@@ -1,5 +1,5 @@
 -- What a turn of a table does.
-use Rattle.std.specs.Prelude.{◌≡◌, ◌⊎◌, ◌<◌, All, ℕ, ⊤, ◌+◌, Bool, true, false, not, ◌&&◌, nat_lt, nat_le, max, is_some, List, [], ◌∷◌, ◌++◌, Option, Some, None, Result, Ok, Err, length, if◌then◌else◌, MatchOption, MatchResult}
+use Rattle.std.specs.Prelude.{◌≡◌, ◌⊎◌, ◌<◌, All, ℕ, ⊤, ◌+◌, Bool, true, false, not, ◌&&◌, nat_lt, nat_le, max, is_some, List, [], ◌∷◌, ◌++◌, Option, Some, None, Result, Ok, Err, length, if◌then◌else◌, MatchOption, MatchResult, OnOk}
 use Rattle.std.specs.List.{list_any}
 use Rattle.otp_spec.specs.declared.limits.TheConstants.{MAX_EVENTS}
 use Rattle.otp_rules.specs.declared.event.Item.{Item}
@@ -193,9 +193,12 @@ pub record LockedTurn (inbox number reading : ℕ) (told : Signal) (result : Res
   pub rules : KeepsRules old
   pub of_inbox : old.taker.inbox ≡ inbox
   pub turn : Turned number reading told old turned result
+  -- beyond the early answers nothing is done without a number for the next start
+  pub quota : early_answer old.office number ≡ None → OnOk result (0 < old.office.owner.quota)
   pub sent : SentOrders turned.office new.office before after
   pub left : (new.office.outbox ≡ []) ⊎ (refusals < later)
   pub taker : new.taker ≡ turned.taker
+  pub counts : new.counts ≡ turned.counts
   -- each body that the table has no more went with a process that the port took
   pub count : bodies_in new.bodies + carried after.processes ≡ bodies_in turned.bodies + carried before.processes
   pub kept : KeepsRules new

@@ -222,6 +222,7 @@ fn flush_all<N: WordsNaming + InboxNaming, B: Drop, P: Port<B>>(
     ensures sent { (table.new.office.outbox ≡ []) ⊎ (P.refusals port.old < P.refusals port.new) }
     ensures orders { SentOrders table.old.office table.new.office (taken_by (P.processes port.old) (P.notes port.old)) (taken_by (P.processes port.new) (P.notes port.new)) }
     ensures taker { table.new.taker ≡ table.old.taker }
+    ensures counts { table.new.counts ≡ table.old.counts }
     ensures count { bodies_in table.new.bodies + carried (P.processes port.new) ≡ bodies_in table.old.bodies + carried (P.processes port.old) }
 {
     let mut flushed = table.flush_one(words, port);

@@ -9,6 +9,7 @@ loop-table-init g c =
       more = flushes_more c.flush_one-flushed.result _ _ _ _ _ _ c.flush_one-flushed.ensures.flushed;
       orders = sent_again c.flush_one-flushed.result _ _ _ _ _ _ _ _ (sent_none _ _) c.flush_one-flushed.ensures.flushed;
       taker = c.flush_one-flushed.ensures.taker;
+      counts = c.flush_one-flushed.ensures.counts;
       count = c.flush_one-flushed.ensures.count;
       last = flushes_last c.flush_one-flushed.result _ _ _ _ _ _ _ c.flush_one-flushed.ensures.flushed (omega arith);
     }
@@ -20,6 +21,7 @@ loop-table-preserved g c =
       more = more_again _ _ _ _ _ _ c.loop-table.invariant.more (flushes_more c.flush_one-flushed-in-loop-table.result _ _ _ _ _ _ c.flush_one-flushed-in-loop-table.ensures.flushed);
       orders = sent_again c.flush_one-flushed-in-loop-table.result _ _ _ _ _ _ _ _ c.loop-table.invariant.orders c.flush_one-flushed-in-loop-table.ensures.flushed;
       taker = c.flush_one-flushed-in-loop-table.ensures.taker ∙ c.loop-table.invariant.taker;
+      counts = c.flush_one-flushed-in-loop-table.ensures.counts ∙ c.loop-table.invariant.counts;
       count = c.flush_one-flushed-in-loop-table.ensures.count ∙ c.loop-table.invariant.count;
       last = flushes_last c.flush_one-flushed-in-loop-table.result _ _ _ _ _ _ _ c.flush_one-flushed-in-loop-table.ensures.flushed refused;
     }

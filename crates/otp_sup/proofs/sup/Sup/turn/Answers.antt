@@ -11,9 +11,11 @@ returns-clause-one_table g c =
       rules = c.keeps_rules.ensures;
       of_inbox = search rules;
       turn = c.turn-answer.ensures.turned;
+      quota = c.turn-answer.ensures.quota;
       sent = c.flush_all.ensures.orders;
       left = c.flush_all.ensures.sent;
       taker = c.flush_all.ensures.taker;
+      counts = c.flush_all.ensures.counts;
       count = c.flush_all.ensures.count;
       kept = c.keeps_rules-2.ensures;
     })
