@@ -5,3 +5,4 @@ pub mod Apart
 pub mod Starts
 pub mod Below
 pub mod Refusals
+pub mod EachRead

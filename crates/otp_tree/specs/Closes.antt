@@ -12,8 +12,8 @@ use Rattle.otp_tree.specs.declared.closing.Refusal.{Refusal}
 use Rattle.otp_tree.specs.declared.closing.Refusal.TheVariants as refusal
 use Rattle.otp_tree.specs.declared.closing.Unclosed.{Unclosed}
 use Rattle.otp_tree.specs.declared.report.Report.{Report}
-use Rattle.otp_tree.specs.declared.rounds.RunFault.{RunFault}
-use Rattle.otp_tree.specs.declared.rounds.RunFault.TheVariants as run
+use Rattle.otp_tree.specs.declared.whole.RunFault.{RunFault}
+use Rattle.otp_tree.specs.declared.whole.RunFault.TheVariants as run
 use Rattle.otp_tree.specs.declared.report.TableReport.{TableReport}
 use Rattle.otp_tree.specs.Hands.{HandView, ClientView, SystemView, senders_of}
 use Rattle.otp_tree.specs.Partings.{schedulers_of}

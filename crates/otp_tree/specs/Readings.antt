@@ -1,5 +1,5 @@
 -- Passes, with which a hand reads the counts of supervisors (supervisor, count_children/1).
-use Rattle.std.specs.Prelude.{◌≡◌, ℕ, List, MatchOption, length, map, slice_get, slice_set}
+use Rattle.std.specs.Prelude.{◌≡◌, ℕ, ⊤, List, [], ◌∷◌, MatchOption, length, map, slice_get, slice_set}
 use Rattle.otp_counts.specs.Counts.{IsRead, Reading, fresh_pass}
 use Rattle.otp_rules.specs.declared.call.CountsNow.{CountsNow}
 use Rattle.otp_run.specs.Lists.{AllAt}
@@ -10,6 +10,12 @@ pub record IsReadAt (place : ℕ) (now : CountsNow) (old new : List Reading) : T
   pub pass : Reading
   pub read : MatchOption (slice_get old place) ⊥ (λ p. IsRead p pass now)
   pub passes : new ≡ slice_set old place pass
+
+-- each of these passes read the counts that stand at its place
+abbrev pub AreRead : List CountsNow → List Reading → List Reading → Type 0
+AreRead [] [] [] = ⊤
+AreRead (now ∷ all) (p ∷ old) (q ∷ new) = IsRead p q now × AreRead all old new
+AreRead _ _ _ = ⊥
 
 -- a pass of the same word, which has read nothing yet
 abbrev pub renewed : Reading → Reading

@@ -1,12 +1,15 @@
 //! Who calls the supervisors of a tree from outside.
-ghost use Rattle.std.specs.Prelude.{◌≡◌, ◌↔◌, is_some, IfNone, IfSome, IsTrue, MatchOption};
+ghost use Rattle.std.specs.Prelude.{◌≡◌, ◌↔◌, ◌≤◌, [], is_some, length, vec_capacity, IfNone, IfSome, IsTrue, MatchOption};
 ghost use Rattle.otp_signals.specs.Holdings.{after_post};
 ghost use Rattle.otp_signals.specs.Signals.{word_of};
 ghost use Rattle.otp_signals.specs.declared.signal.Signal.TheVariants.{Shutdown};
+ghost use Rattle.otp_tree.specs.Readings.{AreRead};
 
+use crate::reading::read_each;
 use crate::senders::Senders;
+use otp_counts::CountsPass;
 use otp_inbox::{InboxNaming, Taker};
-use otp_rules::Item;
+use otp_rules::{CountsNow, Item};
 use otp_signals::{Owner, Signal, Words, WordsNaming};
 use otp_sup::Letter;
 use std::marker::Model;
@@ -50,6 +53,17 @@ impl<N: WordsNaming + InboxNaming, B: Drop> Client<N, B> {
             Some(waiter) => waiter.number() == table,
             None => false,
         }
+    }
+
+    /// Reads the counts of each supervisor by these passes, in their order, before it has asked the root to shut down.
+    pub(crate) fn read_before_stop(&self, passes: &mut [CountsPass], counts: &mut Vec<CountsNow>)
+        requires unasked { self.now.owner.posts ≡ [] }
+        requires none { counts.old.items ≡ [] }
+        requires room { length passes.old ≤ vec_capacity counts.old }
+        ensures many { length counts.new.items ≡ length passes.old }
+        ensures read { AreRead counts.new.items passes.old passes.new }
+    {
+        read_each(passes, counts);
     }
 
     /// Asks the root to shut down. False, and nothing changes, where it isn't the first client.

@@ -12,7 +12,9 @@
 //! println!("{} left", report.live);
 //! ```
 //!
-//! [`lead`] does the same round by round, and a [`Leader`] says what each round is:
+//! [`run_tree_counted`] tells besides what each supervisor counted before the stop (count_children).
+//!
+//! [`lead`] goes round by round, and a [`Leader`] says what each round is:
 //!
 //! ```text
 //! /// Serves until the root is up, then asks it to stop, and serves until it has ended.
@@ -64,6 +66,7 @@ pub mod senders;
 pub mod serving;
 pub mod session;
 pub mod system;
+pub mod whole;
 
 pub use client::Client;
 pub use clock::{Gate, Millis};
@@ -73,8 +76,9 @@ pub use hand::Hand;
 pub use opening::{MAX_TABLES, Opened, Parts, SystemFault};
 pub use plan::TablePlan;
 pub use report::{Report, TableReport};
-pub use rounds::{Leader, Led, Round, RunFault, lead, run_tree};
+pub use rounds::{Leader, Led, Round, lead};
 pub use senders::Senders;
 pub use serving::{MAX_HANDS, pool_run};
 pub use session::{Session, with_system};
 pub use system::System;
+pub use whole::{CountedRun, RunFault, run_tree, run_tree_counted};

@@ -67,6 +67,8 @@ pub struct Opened<N: WordsNaming + InboxNaming + RunNaming, J: Drop, S: Drop> {
     pub system: System<N, J, S>,
     pub hands: Vec<Hand<N, J, S>>,
     pub client: Client<N, Body<J, S>>,
+    /// By which whoever opened the tree reads the counts of each supervisor, in the order of their numbers.
+    pub passes: Vec<CountsPass>,
 }
 
 impl<J: Drop, S: Drop> Parts<J, S> {
@@ -210,6 +212,7 @@ fn open_all<N: WordsNaming + InboxNaming, J: Drop, S: Drop>(
     ensures count { IfOk result (λ r. length r.senders.items ≡ length inboxes.items) }
     ensures passes { IfOk result (λ r. length r.passes.items ≡ length inboxes.items) }
     ensures root { OnOk result (Contains owner.new.slots 0) }
+    ensures posts { OnOk result (owner.new.posts ≡ []) }
 {
     let mut sups = Vec::new(alloc);
     let mut senders = Vec::new(alloc);
@@ -302,7 +305,8 @@ fn make_hands<N: WordsNaming + InboxNaming + RunNaming, J: Drop, S: Drop>(
     root: Process<J, S>,
 ) -> Result<Vec<Hand<N, J, S>>, SystemFault>
     requires { AllAt (λ k s. out s ≡ 0) schedulers.items }
-    ensures { IfOk result (λ hands. CanRead (length passes.old.items) hands.items) }
+    ensures hands { IfOk result (λ hands. CanRead (length passes.old.items) hands.items) }
+    ensures same { OnOk result (passes.new.items ≡ passes.old.items) }
 {
     let mut hands = Vec::new(alloc);
     let mut root = Some(root);
@@ -331,6 +335,9 @@ impl<J: Drop, S: Drop> Parts<J, S> {
         ensures root { IfOk result (λ o. is_some o.client.root ≡ true) }
         ensures tables { IfOk result (λ o. o.system.tables ≡ length self.inboxes.items) }
         ensures passes { IfOk result (λ o. CanRead (length self.inboxes.items) o.hands.items) }
+        ensures own { IfOk result (λ o. length o.passes.items ≡ length self.inboxes.items) }
+        // Nobody was asked to stop.
+        ensures unasked { IfOk result (λ o. o.client.owner.posts ≡ []) }
     {
         let Parts {
             words,
@@ -377,6 +384,7 @@ impl<J: Drop, S: Drop> Parts<J, S> {
             system,
             hands,
             client,
+            passes,
         })
     }
 }

@@ -1,6 +1,6 @@
 //! Counts of supervisors, which a hand reads without their locks.
-ghost use Rattle.std.specs.Prelude.{◌≡◌, ◌<◌, IfOk, OnOk, length, map};
-ghost use Rattle.otp_tree.specs.Readings.{IsReadAt, renewed};
+ghost use Rattle.std.specs.Prelude.{◌≡◌, ◌<◌, ◌≤◌, [], IfOk, OnOk, length, map, vec_capacity};
+ghost use Rattle.otp_tree.specs.Readings.{AreRead, IsReadAt, renewed};
 
 use otp_counts::CountsPass;
 use otp_rules::CountsNow;
@@ -12,6 +12,18 @@ pub(crate) fn read_at(passes: &mut [CountsPass], place: usize) -> CountsNow
     ensures { IsReadAt place result passes.old passes.new }
 {
     passes[place].read()
+}
+
+/// Reads by each pass, in their order.
+pub(crate) fn read_each(passes: &mut [CountsPass], counts: &mut Vec<CountsNow>)
+    requires none { counts.old.items ≡ [] }
+    requires room { length passes.old ≤ vec_capacity counts.old }
+    ensures many { length counts.new.items ≡ length passes.old }
+    ensures read { AreRead counts.new.items passes.old passes.new }
+{
+    for pass in passes.iter_mut() {
+        counts.push_reserved(pass.read());
+    }
 }
 
 /// Another pass beside each of these, in their order.

@@ -1,8 +1,8 @@
-//! A whole tree on threads, in one call.
+//! A whole tree on threads, round by round.
 ghost use Rattle.std.specs.Prelude.{◌≡◌, ◌<◌, ◌≤◌, length, IfErr, IfOk};
 ghost use Rattle.otp_run.specs.Lists.{AllAt};
 ghost use Rattle.otp_run.specs.Rule.{all_parts};
-ghost use Rattle.otp_tree.specs.Closes.{IsMismatchOnly, IsReportOf, IsRunMismatchOnly};
+ghost use Rattle.otp_tree.specs.Closes.{IsMismatchOnly, IsReportOf};
 ghost use Rattle.otp_tree.specs.Opens.{slots_of};
 
 use crate::client::Client;
@@ -109,6 +109,7 @@ where
         system,
         mut hands,
         mut client,
+        passes: _,
     } = parts.named::<N>(alloc)?;
     for _ in 0..rounds {
         let round = leader.next(system.root_note(rt, &mut client));
@@ -146,80 +147,4 @@ where
     };
     pool_run(rt, system, hands.as_mut_slice(), gate, turns);
     true
-}
-
-/// Why a tree that was run has no report.
-#[derive(Drop)]
-pub enum RunFault<J: Drop, S: Drop> {
-    /// It was not opened.
-    Open(SystemFault),
-    /// It was not closed, or its report tells of a mismatch.
-    Close(CloseFault<J, S, ()>),
-}
-
-/// Serves so many turns, asks the root to stop, serves as many again, and leaves.
-#[derive(Drop)]
-struct TwoRounds {
-    turns: u64,
-    begun: bool,
-    stopped: bool,
-}
-
-impl Leader for TwoRounds {
-    fn next(&mut self, _told: Option<Note>) -> Round {
-        if !self.begun {
-            self.begun = true;
-            return Round::Serve(self.turns);
-        }
-        if !self.stopped {
-            self.stopped = true;
-            return Round::Stop(self.turns);
-        }
-        Round::Leave
-    }
-}
-
-/// The whole life of a tree of 1 to 64 supervisors, the root first, in one call: each of 1 to 8 hands makes so many turns
-/// in a thread of its own, then the root is asked to stop, each hand makes as many turns again, and the tree is closed.
-/// Out comes the report of what it was.
-pub fn run_tree<R, J, S, G>(
-    rt: &R,
-    alloc: Global,
-    plans: Vec<TablePlan<J, S>>,
-    hands: usize,
-    gate: &G,
-    turns: u64,
-) -> Result<Report<J, S>, RunFault<J, S>>
-where
-    R: Threads + Wait + Sync,
-    J: Job + Send,
-    S: Subsystem + Send,
-    G: Gate + Sync,
-    requires tables { length plans.items ≤ 64 }
-    requires some { 0 < hands }
-    requires few { hands ≤ all_parts }
-    // The report has each supervisor of the plans, and is one that `System::close` can give.
-    ensures report { IfOk result (IsReportOf (length plans.items)) }
-    ensures mismatch { IfErr result IsRunMismatchOnly }
-{
-    let leader = TwoRounds {
-        turns,
-        begun: false,
-        stopped: false,
-    };
-    match lead(rt, alloc, plans, hands, gate, 3, leader) {
-        Ok(
-            Led {
-                leader: _,
-                report: Ok(report),
-            },
-        ) => Ok(report),
-        Ok(
-            Led {
-                leader: _,
-                report: Err(fault),
-            },
-        ) => Err(RunFault::Close(fault)),
-        Err(fault) => Err(RunFault::Open(fault)),
-    }
 }

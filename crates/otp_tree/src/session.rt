@@ -68,6 +68,7 @@ fn run_named<
         system,
         hands,
         client,
+        passes: _,
     } = parts.named::<N>(alloc)?;
     Ok(session.run::<N>(rt, system, hands, client))
 }

@@ -25,4 +25,7 @@ begin-requires g c =
     rw at at (c.loop-scheduler.invariant.idle 0)
 
 pub returns : goal.returns
-returns g c = record { passes = c.args.passes.now.items; many = refl; fresh = c.loop-scheduler.invariant.fresh }
+returns g c = record {
+  hands = record { passes = c.args.passes.now.items; many = refl; fresh = c.loop-scheduler.invariant.fresh };
+  same = c.loop-scheduler.invariant.same;
+}
