@@ -8,28 +8,11 @@ use Rattle.otp_rules.specs.declared.call.Reply.TheVariants as reply
 use Rattle.otp_rules.specs.Run.{answered, reply_of}
 use Rattle.otp_lists.specs.declared.answers.Answer.{Answer}
 use Rattle.otp_lists.specs.AnswersInside.{answer_in}
+use Rattle.otp_table.proofs.Keyed.{key_default}
 use Rattle.otp_lists.proofs.Replies.{found}
 
 abbrev Rises : List Answer → Type 0
 Rises ts = AllPairs (λ one later. one.call < later.call) ts
-
--- a later number is no lower
-pub upto : (ts : List Answer) → Rises ts → (k m : ℕ) (d : Answer) → k ≤ m → m < length ts → (get_or ts k d).call ≤ (get_or ts m d).call
-upto ts rise k m d le within =
-    elim (cases_lt k m) [
-      | inl lt ↦ let less : (get_or ts k d).call < (get_or ts m d).call = rise k m d lt within in omega (arith, less)
-      | inr ge ↦ let same : k ≡ m = omega (arith, le, ge) in subst (λ n. (get_or ts k d).call ≤ (get_or ts n d).call) same (omega arith)
-    ]
-
-call_default : (ts : List Answer) (m : ℕ) (d e : Answer) → m < length ts → (get_or ts m d).call ≡ (get_or ts m e).call
-call_default ts m d e within = ap (λ (t : Answer). t.call) (get_or_default ts m d e within)
-
--- all up to a number below the call's are below it
-pub before : (call : ℕ) (ts : List Answer) → Rises ts → (m : ℕ) (e : Answer) → m < length ts → (get_or ts m e).call < call → (k : ℕ) (d : Answer) → k < m + 1 → (get_or ts k d).call < call
-before call ts rise m e within less k d below =
-    let same : (get_or ts m d).call ≡ (get_or ts m e).call = call_default ts m d e within in
-    let up : (get_or ts k d).call ≤ (get_or ts m d).call = upto ts rise k m d (omega (arith, below)) within in
-    omega (arith, up, same, less)
 
 not_same : (a b : ℕ) → (a ≡ b → ⊥) → (a == b) ≡ false
 not_same a b other = (elim (a == b) as (λ v. (a == b) ≡ v → v ≡ false) [ true ↦ λ e. absurd (other (eqb-true a b e)) | false ↦ λ e. refl ]) refl
@@ -49,7 +32,7 @@ found_at call ts rise i e within has replies =
     found call (suc i) replies ts e e (omega arith) (omega (arith, within)) (subst (λ n. (get_or ts n e).call ≡ call) (sym back) has)
     (none_of call (drop (suc i) ts) (λ k d inside same.
     let there : (get_or (drop (suc i) ts) k d).call ≡ (get_or ts (suc i + k) d).call = ap (λ (t : Answer). t.call) (get_or-drop (suc i) ts k d) in
-    let here : (get_or ts i d).call ≡ (get_or ts i e).call = call_default ts i d e within in
+    let here : (get_or ts i d).call ≡ (get_or ts i e).call = key_default (λ (t : Answer). t.call) ts i d e within in
     elim (cases_lt (suc i + k) (length ts)) [
       | inl lt ↦ let less : (get_or ts i d).call < (get_or ts (suc i + k) d).call = rise i (suc i + k) d (omega arith) lt in omega (arith, less, there, here, has, same)
       | inr ge ↦ let short : length (drop (suc i) ts) ≡ length ts - suc i = length-drop (suc i) ts in omega (arith, short, inside, ge)
@@ -68,7 +51,7 @@ none_at call ts rise i e less more other replies =
         | inl gt ↦ let first : call ≤ (get_or ts i d).call = more i d (omega arith) (omega (arith, gt, within)) in
             let later : (get_or ts i d).call < (get_or ts k d).call = rise i k d gt within in omega (arith, first, later, same)
         | inr le ↦ let at : k ≡ i = omega (arith, ge, le) in
-            let here : (get_or ts i e).call ≡ (get_or ts i d).call = call_default ts i e d (subst (λ n. n < length ts) at within) in
+            let here : (get_or ts i e).call ≡ (get_or ts i d).call = key_default (λ (t : Answer). t.call) ts i e d (subst (λ n. n < length ts) at within) in
             other (subst (λ n. n < length ts) at within) (here ∙ subst (λ n. (get_or ts n d).call ≡ call) at same)
       ]
     ]) replies

@@ -2,11 +2,12 @@
 use Rattle.std.proofs.Common.{◌≡◌, ℕ, ◌+◌, ◌-◌, ◌<◌, ◌≤◌, ◌⊎◌, List, [], ◌∷◌, ◌++◌, ◌∙◌, sym, ap, arith, drop, take, get_or, length, length-drop, length-take, refl, subst, suc, zero, inl, inr, take-append-drop}
 use Rattle.std.specs.Prelude.{map, All, if◌then◌else◌, nat_lt}
 use Rattle.std.proofs.lemmas.Bool.{cases_lt}
-use Rattle.std.proofs.lemmas.List.{get_or_default, get_or-drop, get_or-map, get_or-take, drop_more, length-map, take_at}
+use Rattle.std.proofs.lemmas.List.{get_or-drop, get_or-map, get_or-take, drop_more, length-map, take_at}
 use Rattle.std.proofs.lemmas.List.Elements.{All-append, All-cons}
 use Rattle.std.proofs.lemmas.List.Kept.{AllPairs-cons}
 use Rattle.std.proofs.lemmas.List.Quantifiers.{all_pairs_remove}
 use Rattle.otp_table.specs.declared.marks.Mark.{Mark}
+use Rattle.otp_table.proofs.Keyed.{upto}
 use Rattle.otp_table.specs.Marks.{IsPut, IsTaken, IsUnder, Rises, moved}
 
 abbrev pub AllBefore : ℕ → ℕ → List Mark → Type 0
@@ -17,24 +18,6 @@ AllFrom key first ms = (k : ℕ) (d : Mark) → first ≤ k → k < length ms �
 
 abbrev Less : Mark → Mark → Type 0
 Less one later = one.key < later.key
-
--- a later key is no lower
-pub upto : (ms : List Mark) → Rises ms → (k m : ℕ) (d : Mark) → k ≤ m → m < length ms → (get_or ms k d).key ≤ (get_or ms m d).key
-upto ms rise k m d le within =
-    elim (cases_lt k m) [
-      | inl lt ↦ let less : (get_or ms k d).key < (get_or ms m d).key = rise k m d lt within in omega (arith, less)
-      | inr ge ↦ let same : k ≡ m = omega (arith, le, ge) in subst (λ n. (get_or ms k d).key ≤ (get_or ms n d).key) same (omega arith)
-    ]
-
-pub key_default : (ms : List Mark) (m : ℕ) (d e : Mark) → m < length ms → (get_or ms m d).key ≡ (get_or ms m e).key
-key_default ms m d e within = ap (λ (t : Mark). t.key) (get_or_default ms m d e within)
-
--- all up to a key below this one are below it
-pub before : (key : ℕ) (ms : List Mark) → Rises ms → (m : ℕ) (e : Mark) → m < length ms → (get_or ms m e).key < key → (k : ℕ) (d : Mark) → k < m + 1 → (get_or ms k d).key < key
-before key ms rise m e within less k d below =
-    let same : (get_or ms m d).key ≡ (get_or ms m e).key = key_default ms m d e within in
-    let up : (get_or ms k d).key ≤ (get_or ms m d).key = upto ms rise k m d (omega (arith, below)) within in
-    omega (arith, up, same, less)
 
 under_cases : (n p : ℕ) (xs ys : List Mark) → IsUnder n p (xs ++ ys) → IsUnder n p xs ⊎ IsUnder n p ys
 under_cases n p [] ys h = inr h
@@ -91,7 +74,7 @@ none_under key first ms d rise less more other p under =
     elim (cases_lt i.0 first) [
       | inl lt ↦ let below : (get_or ms i.0 d).key < key = less i.0 d lt in omega (arith, below, has)
       | inr ge ↦ let within : first < length ms = omega (arith, ge, i.1.0) in
-          let up : (get_or ms first d).key ≤ (get_or ms i.0 d).key = upto ms rise first i.0 d ge i.1.0 in
+          let up : (get_or ms first d).key ≤ (get_or ms i.0 d).key = upto (λ (m : Mark). m.key) ms rise first i.0 d ge i.1.0 in
           let low : key ≤ (get_or ms first d).key = more first d (omega arith) within in
           other within (omega (arith, up, low, has))
     ]

@@ -1,17 +1,17 @@
 use Rattle.std.proofs.Common.{arith, ltb, ltb-false, ltb-true, rules}
 use Rattle.std.proofs.lemmas.List.Sorted.{IsPartitionedBy-ltb, IsPartitionPoint-from_clause}
 use Rattle.otp_table.specs.declared.marks.Mark.{Mark}
-use Rattle.otp_table.proofs.Rising.{upto}
+use Rattle.otp_table.proofs.Keyed.{upto}
 use Rattle.otp_table.proofs.marks.first_from.Goals as goal
 
 pub returns-clause-before : goal.returns-clause-before
 returns-clause-before c =
-    let ordered = IsPartitionedBy-ltb (λ (m : Mark). m.key) c.args.marks.now c.args.key (upto c.args.marks.now c.requires) in
+    let ordered = IsPartitionedBy-ltb (λ (m : Mark). m.key) c.args.marks.now c.args.key (upto (λ (m : Mark). m.key) c.args.marks.now c.requires) in
     let point = IsPartitionPoint-from_clause (λ m. ltb m.key c.args.key) _ _ c.partition_point.ensures.partitioned ordered (λ a r q k. search rules) in
     λ k d h. ltb-true _ _ (point.0 k d (omega arith) h)
 
 pub returns-clause-after : goal.returns-clause-after
 returns-clause-after c =
-    let ordered = IsPartitionedBy-ltb (λ (m : Mark). m.key) c.args.marks.now c.args.key (upto c.args.marks.now c.requires) in
+    let ordered = IsPartitionedBy-ltb (λ (m : Mark). m.key) c.args.marks.now c.args.key (upto (λ (m : Mark). m.key) c.args.marks.now c.requires) in
     let point = IsPartitionPoint-from_clause (λ m. ltb m.key c.args.key) _ _ c.partition_point.ensures.partitioned ordered (λ a r q k. search rules) in
     λ k d h w. ltb-false _ _ (point.1 k d h w)
