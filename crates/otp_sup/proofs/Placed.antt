@@ -70,21 +70,19 @@ away_or_home k slot placed.Waiting a h = false≢true a
 away_or_home k slot placed.Free a h = false≢true a
 away_or_home k slot (placed.Away j) a h = false≢true h
 
+waits_there : (o : Origin) (at : Place) → is_some (waiting_as o at) ≡ true → at ≡ placed.Waiting
+waits_there (origin.Spec k) at w = absurd (false≢true w)
+waits_there origin.Nobody at w = absurd (false≢true w)
+waits_there (origin.Call c) (placed.Home j) w = absurd (false≢true w)
+waits_there (origin.Call c) placed.Waiting w = refl
+waits_there (origin.Call c) placed.Free w = absurd (false≢true w)
+waits_there (origin.Call c) (placed.Away j) w = absurd (false≢true w)
+
 waiting_or_home : (slot : ℕ) (o : Origin) (at : Place) → is_some (waiting_as o at) ≡ true → is_home_of slot at ≡ true → ⊥
-waiting_or_home slot (origin.Spec k) at w h = false≢true w
-waiting_or_home slot origin.Nobody at w h = false≢true w
-waiting_or_home slot (origin.Call c) (placed.Home j) w h = false≢true w
-waiting_or_home slot (origin.Call c) placed.Waiting w h = false≢true h
-waiting_or_home slot (origin.Call c) placed.Free w h = false≢true h
-waiting_or_home slot (origin.Call c) (placed.Away j) w h = false≢true h
+waiting_or_home slot o at w h = false≢true (sym (ap (λ (p : Place). is_home_of slot p) (waits_there o at w)) ∙ h)
 
 waiting_or_away : (slot : ℕ) (o : Origin) (at : Place) → is_some (waiting_as o at) ≡ true → is_away_from slot at ≡ true → ⊥
-waiting_or_away slot (origin.Spec k) at w h = false≢true w
-waiting_or_away slot origin.Nobody at w h = false≢true w
-waiting_or_away slot (origin.Call c) (placed.Home j) w h = false≢true w
-waiting_or_away slot (origin.Call c) placed.Waiting w h = false≢true h
-waiting_or_away slot (origin.Call c) placed.Free w h = false≢true h
-waiting_or_away slot (origin.Call c) (placed.Away j) w h = false≢true w
+waiting_or_away slot o at w h = false≢true (sym (ap (λ (p : Place). is_away_from slot p) (waits_there o at w)) ∙ h)
 
 home_once : (k slot : ℕ) (at : Place) → is_home_of k at ≡ true → is_home_of slot at ≡ true → k ≡ slot
 home_once k slot (placed.Home j) a h = sym (eqb-true j k a) ∙ eqb-true j slot h

@@ -87,20 +87,16 @@ abbrev pub calls_waiting : List Kept → List ℕ
 calls_waiting kept = filter_map waiting_call kept
 
 abbrev pub is_free_place : Place → Bool
-is_free_place (place.Home _) = false
-is_free_place place.Waiting = false
 is_free_place place.Free = true
-is_free_place (place.Away _) = false
+is_free_place _ = false
 
 abbrev pub is_call : ℕ → Origin → Bool
-is_call c (origin.Spec _) = false
 is_call c (origin.Call d) = d == c
-is_call c origin.Nobody = false
+is_call c _ = false
 
 abbrev pub is_nobody : Origin → Bool
-is_nobody (origin.Spec _) = false
-is_nobody (origin.Call _) = false
 is_nobody origin.Nobody = true
+is_nobody _ = false
 
 -- the body that this call brought, once no child has it and the call waits no more
 abbrev pub is_left_of : ℕ → Kept → Bool
@@ -247,15 +243,12 @@ abbrev pub opened : List Row → List Kept → List Kept
 opened rows kept = map (λ (b : Kept). record b { place = opened_place rows b.origin b.place }) kept
 
 abbrev pub is_waiting_place : Place → Bool
-is_waiting_place (place.Home _) = false
 is_waiting_place place.Waiting = true
-is_waiting_place place.Free = false
-is_waiting_place (place.Away _) = false
+is_waiting_place _ = false
 
 abbrev pub is_spec : ℕ → Origin → Bool
 is_spec k (origin.Spec j) = j == k
-is_spec k (origin.Call _) = false
-is_spec k origin.Nobody = false
+is_spec k _ = false
 
 -- the body that was handed in for the specification at this place
 abbrev pub is_given : ℕ → Kept → Bool

@@ -27,6 +27,16 @@ fn write_line(
     out.extend_from_slice(b"\n")
 }
 
+/// What is awaited of a child in this state, of which process, and until when.
+fn awaited_in(state: RowState) -> Option<(&'static [u8], u64, Option<u64>)> {
+    match state {
+        RowState::Starting(process, _) => Some((b"awaits the start of ", process, None)),
+        RowState::Asked(process, until) => Some((b"awaits the end of ", process, until)),
+        RowState::Killed(process) => Some((b"awaits the end of ", process, None)),
+        RowState::Up(_) | RowState::Undefined | RowState::Restarting(_) => None,
+    }
+}
+
 /// Appends a line for each child of which something is awaited, of the supervisor with this path.
 pub(crate) fn write_awaited(
     path: &[u8],
@@ -34,32 +44,8 @@ pub(crate) fn write_awaited(
     out: &mut Vec<u8>,
 ) -> Result<(), AllocError> {
     for row in rows {
-        match row.state {
-            RowState::Starting(process, _) => write_line(
-                b"awaits the start of ",
-                path,
-                &row.id,
-                process,
-                None,
-                out,
-            )?,
-            RowState::Asked(process, until) => write_line(
-                b"awaits the end of ",
-                path,
-                &row.id,
-                process,
-                until,
-                out,
-            )?,
-            RowState::Killed(process) => write_line(
-                b"awaits the end of ",
-                path,
-                &row.id,
-                process,
-                None,
-                out,
-            )?,
-            RowState::Up(_) | RowState::Undefined | RowState::Restarting(_) => {}
+        if let Some((what, process, until)) = awaited_in(row.state) {
+            write_line(what, path, &row.id, process, until, out)?;
         }
     }
     Ok(())
