@@ -1,18 +1,12 @@
 -- What is said of a file, and what devices show (own).
-use Rattle.std.specs.Prelude.{◌≡◌, ◌⊎◌, ℕ, List, Option, Ok, Err}
-use Rattle.otp_file.specs.declared.fault.TreeFault.{TreeFault}
-use Rattle.otp_file.specs.declared.fault.TreeFault.TheVariants.{NotToml}
-use Rattle.otp_file.specs.Files.{Says, IsToml}
+use Rattle.std.specs.Prelude.{◌≡◌, ℕ, List, Option, Ok}
+use Rattle.otp_file.specs.Files.{Says}
 use Rattle.otp_file.specs.Trees.{Tree}
 use Rattle.otp_sim.specs.Runs.{Devices}
 
 -- the file says a tree
 abbrev pub HasTree : List ℕ → Type 0
 HasTree file = (tree : Tree) × Says file (Ok tree)
-
--- the file says no tree: this is the first fault of its document, or it is no document
-abbrev pub IsRefused : TreeFault → List ℕ → Type 0
-IsRefused why file = Says file (Err why) ⊎ ((why ≡ NotToml) × (¬ IsToml file))
 
 -- of the input nothing was read
 pub record IsUnread (old new : Devices) : Type 0 where

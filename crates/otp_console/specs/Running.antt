@@ -9,7 +9,8 @@ use Rattle.otp_jobs.specs.Plans.{plan_fault}
 use Rattle.otp_jobs.specs.Runs.{Reports}
 use Rattle.otp_jobs.specs.declared.plan.PlanFault.{PlanFault}
 use Rattle.otp_jobs.specs.declared.plan.PlanFault.TheVariants as plan
-use Rattle.otp_console.specs.Devices.{HasTree, IsRefused, Written}
+use Rattle.otp_check.specs.Checks.{IsFirstFault}
+use Rattle.otp_console.specs.Devices.{HasTree, Written}
 use Rattle.otp_console.specs.declared.ending.ProgramEnd.{ProgramEnd}
 use Rattle.otp_console.specs.declared.ending.ProgramEnd.TheVariants.{Done, TreeRefused, UnknownStart, WrongBody, CloseMismatch, CloseMissing, OutputFailed, OutOfMemory}
 
@@ -35,7 +36,7 @@ HasReport tables old new = (text : List ℕ) × (Reports tables [] text × Appen
 abbrev pub IsTreeRun : ProgramEnd → List ℕ → Written → Written → Type 0
 IsTreeRun Done file old new =
     (tree : Tree) × (Says file (Ok tree) × ((plan_fault (tables_of tree) ≡ None) × HasReport (length (tables_of tree)) old.bytes new.bytes))
-IsTreeRun (TreeRefused why) file old new = (new ≡ old) × (IsRefused why file ⊎ (HasTree file × IsOfOpening why))
+IsTreeRun (TreeRefused why) file old new = (new ≡ old) × (IsFirstFault why file ⊎ (HasTree file × IsOfOpening why))
 IsTreeRun (UnknownStart name) file old new = (new ≡ old) × HasStarts file (plan.UnknownStart name)
 IsTreeRun WrongBody file old new = (new ≡ old) × HasStarts file plan.WrongBody
 IsTreeRun CloseMismatch file old new = (new ≡ old) × HasTree file

@@ -9,7 +9,8 @@ use Rattle.otp_sim.specs.declared.engine.SimEnd.{SimEnd}
 use Rattle.otp_sim.specs.declared.engine.SimEnd.TheVariants as sim
 use Rattle.otp_sim.specs.Runs.{Devices, Writes}
 use Rattle.otp_sim.specs.Sim.{opened}
-use Rattle.otp_console.specs.Devices.{HasTree, IsRefused, IsUnread, Written, writer_of}
+use Rattle.otp_check.specs.Checks.{IsFirstFault}
+use Rattle.otp_console.specs.Devices.{HasTree, IsUnread, Written, writer_of}
 use Rattle.otp_console.specs.Limited.{HasLimits}
 use Rattle.otp_console.specs.Running.{IsTreeRun}
 use Rattle.otp_console.specs.Statuses.{status_of, sentence_of}
@@ -34,7 +35,7 @@ IsRun WordNotText file old new = ⊥
 IsRun FileAsCommand file old new = ⊥
 IsRun TreeNotRead file old new = ⊥
 IsRun FileNotRead file old new = ⊥
-IsRun (TreeRefused why) file old new = (new ≡ old) × IsRefused why file
+IsRun (TreeRefused why) file old new = (new ≡ old) × IsFirstFault why file
 IsRun (UnknownStart name) file old new = ⊥
 IsRun WrongBody file old new = ⊥
 IsRun CloseMismatch file old new = ⊥
@@ -72,7 +73,7 @@ IsSmall file = length file ≤ LARGEST_TREE
 -- a tree was tried by the lines of a script; want of memory may end it before, and says nothing of the file
 abbrev pub IsTrial : ProgramEnd → List ℕ → Devices → Devices → Type 0
 IsTrial Done file old new = HasTree file
-IsTrial (TreeRefused why) file old new = (new ≡ old) × IsRefused why file
+IsTrial (TreeRefused why) file old new = (new ≡ old) × IsFirstFault why file
 IsTrial (ScriptRefused line why) file old new = HasTree file
 IsTrial (ScriptMissed line why) file old new = HasTree file
 IsTrial HistoryFull file old new = HasTree file
@@ -87,7 +88,7 @@ IsWritten ending well failures_before failures_now = (ending ≡ well) ⊎ ((end
 
 -- what is said of a tree could not be: the file says none, there is no memory, or the writer failed
 abbrev pub IsNotSaid : ProgramEnd → List ℕ → Written → Written → Type 0
-IsNotSaid (TreeRefused why) file old new = (new ≡ old) × IsRefused why file
+IsNotSaid (TreeRefused why) file old new = (new ≡ old) × IsFirstFault why file
 IsNotSaid OutputFailed file old new = HasTree file × (old.failures < new.failures)
 IsNotSaid OutOfMemory file old new = new ≡ old
 IsNotSaid _ file old new = ⊥
@@ -125,7 +126,7 @@ Uses Holds usage ending old new =
 -- a file was checked: nothing is written to be wrong in it exactly where it says a tree
 abbrev pub IsChecked : ProgramEnd → List ℕ → Written → Written → Type 0
 IsChecked Done file old new = HasTree file
-IsChecked FaultsFound file old new = (why : TreeFault) × IsRefused why file
+IsChecked FaultsFound file old new = (why : TreeFault) × IsFirstFault why file
 IsChecked OutputFailed file old new = old.failures < new.failures
 IsChecked OutOfMemory file old new = new ≡ old
 IsChecked _ file old new = ⊥

@@ -37,7 +37,7 @@ use Rattle.otp_rules.specs.Step.{decide, open_rows, open_with, opening_specs, st
 use Rattle.otp_rules.specs.Waits.{starts_waiting}
 use Rattle.otp_rules.specs.Work.{advance, follow, start_first, stop_first}
 use Rattle.otp_rules.proofs.Homes.{none_has}
-use Rattle.otp_rules.proofs.Lasting.{one_process}
+use Rattle.otp_rules.proofs.States.{one_process}
 use Rattle.otp_core.specs.View.{state_of}
 use Rattle.otp_sup.specs.declared.bodies.Kept.{Kept}
 use Rattle.otp_sup.specs.declared.bodies.Origin.TheVariants as origin
