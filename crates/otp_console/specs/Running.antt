@@ -1,5 +1,5 @@
 -- What a run of a tree writes (own).
-use Rattle.std.specs.Prelude.{◌≡◌, ◌⊎◌, ◌<◌, ⊤, ℕ, List, [], Option, Some, None, Ok, length}
+use Rattle.std.specs.Prelude.{◌≡◌, ◌⊎◌, ◌<◌, ⊤, ℕ, Bool, List, [], Option, Some, None, Ok, length}
 use Rattle.std.specs.Io.KnownBytes.{Appends}
 use Rattle.otp_file.specs.declared.fault.TreeFault.{TreeFault}
 use Rattle.otp_file.specs.declared.fault.TreeFault.TheVariants.{TooManyTables, Unlawful}
@@ -28,19 +28,19 @@ IsOfOpening TooManyTables = ⊤
 IsOfOpening (Unlawful _) = ⊤
 IsOfOpening _ = ⊥
 
--- a report of so many supervisors was written
-abbrev pub HasReport : ℕ → Option (List ℕ) → Option (List ℕ) → Type 0
-HasReport tables old new = (text : List ℕ) × (Reports tables [] text × Appends old new text)
+-- a report of so many supervisors was written, behind their counts where they are wanted
+abbrev pub HasReport : Bool → ℕ → Option (List ℕ) → Option (List ℕ) → Type 0
+HasReport counted tables old new = (text : List ℕ) × (Reports counted tables [] text × Appends old new text)
 
 -- a tree was run, and its report written; or it was not
-abbrev pub IsTreeRun : ProgramEnd → List ℕ → Written → Written → Type 0
-IsTreeRun Done file old new =
-    (tree : Tree) × (Says file (Ok tree) × ((plan_fault (tables_of tree) ≡ None) × HasReport (length (tables_of tree)) old.bytes new.bytes))
-IsTreeRun (TreeRefused why) file old new = (new ≡ old) × (IsFirstFault why file ⊎ (HasTree file × IsOfOpening why))
-IsTreeRun (UnknownStart name) file old new = (new ≡ old) × HasStarts file (plan.UnknownStart name)
-IsTreeRun WrongBody file old new = (new ≡ old) × HasStarts file plan.WrongBody
-IsTreeRun CloseMismatch file old new = (new ≡ old) × HasTree file
-IsTreeRun CloseMissing file old new = (new ≡ old) × HasTree file
-IsTreeRun OutputFailed file old new = IsRunnable file × (old.failures < new.failures)
-IsTreeRun OutOfMemory file old new = new ≡ old
-IsTreeRun _ file old new = ⊥
+abbrev pub IsTreeRun : Bool → ProgramEnd → List ℕ → Written → Written → Type 0
+IsTreeRun counted Done file old new =
+    (tree : Tree) × (Says file (Ok tree) × ((plan_fault (tables_of tree) ≡ None) × HasReport counted (length (tables_of tree)) old.bytes new.bytes))
+IsTreeRun counted (TreeRefused why) file old new = (new ≡ old) × (IsFirstFault why file ⊎ (HasTree file × IsOfOpening why))
+IsTreeRun counted (UnknownStart name) file old new = (new ≡ old) × HasStarts file (plan.UnknownStart name)
+IsTreeRun counted WrongBody file old new = (new ≡ old) × HasStarts file plan.WrongBody
+IsTreeRun counted CloseMismatch file old new = (new ≡ old) × HasTree file
+IsTreeRun counted CloseMissing file old new = (new ≡ old) × HasTree file
+IsTreeRun counted OutputFailed file old new = IsRunnable file × (old.failures < new.failures)
+IsTreeRun counted OutOfMemory file old new = new ≡ old
+IsTreeRun counted _ file old new = ⊥

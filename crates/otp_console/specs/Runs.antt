@@ -166,10 +166,10 @@ abbrev pub ChecksAll : {T : Type 0} → (T → List ℕ → Type 0) → List T �
 ChecksAll Holds names ending old new = ChecksEach Holds names Done ending old new ⊎ ChecksFirst Holds names ending old new
 
 -- a run on threads of the tree of a file whose bytes are known to be so: it can't be read, or it was run
-abbrev pub RunsTree : (List ℕ → Type 0) → ProgramEnd → Written → Written → Type 0
-RunsTree Holds ending old new =
+abbrev pub RunsTree : (List ℕ → Type 0) → Bool → ProgramEnd → Written → Written → Type 0
+RunsTree Holds counted ending old new =
     ((ending ≡ TreeNotRead) × (new ≡ old)) ⊎ ((ending ≡ OutOfMemory) × (new ≡ old))
-    ⊎ ((file : List ℕ) × (Holds file × IsTreeRun ending file old new))
+    ⊎ ((file : List ℕ) × (Holds file × IsTreeRun counted ending file old new))
 
 -- what a command asks for was done
 abbrev pub Does : (List ℕ → List ℕ → Type 0) → Command → ProgramEnd → Devices → Devices → Type 0
@@ -177,7 +177,7 @@ Does Holds (command.Sim file) ending old new = Simulates (Holds file.now) ending
 Does Holds (command.Check files) ending old new =
     IsUnread old new × ChecksAll (λ name. Holds name.now) files.items ending (writer_of old) (writer_of new)
 Does Holds (command.Run file settings) ending old new =
-    IsUnread old new × RunsTree (Holds file.now) ending (writer_of old) (writer_of new)
+    IsUnread old new × RunsTree (Holds file.now) settings.counted ending (writer_of old) (writer_of new)
 Does Holds (command.Use file usage) ending old new = Uses (Holds file.now) usage ending old new
 
 -- what the words ask for was done, for some command; or the words alone were answered

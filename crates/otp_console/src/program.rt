@@ -153,7 +153,7 @@ where
     G: Gate + Sync,
     F: TreeFiles,
     W: Output,
-    ensures { RunsTree (F.holds files.now name.now) result
+    ensures { RunsTree (F.holds files.now name.now) settings.counted result
         (record { bytes = W.contents output.old; failures = W.failures output.old })
         (record { bytes = W.contents output.new; failures = W.failures output.new }) }
 {

@@ -20,7 +20,7 @@ pub struct Pool<'a, H, G> {
     pub gate: &'a G,
 }
 
-/// Reads the tree of a file, runs it with worked jobs, and writes the report.
+/// Reads the tree of a file, runs it with worked jobs, and writes the report, with the counts where the settings say so.
 pub fn run_file<H, G, W>(
     pool: &Pool<'_, H, G>,
     alloc: Global,
@@ -32,7 +32,7 @@ where
     H: Threads + Wait + Sync,
     G: Gate + Sync,
     W: Output,
-    ensures { IsTreeRun result file.now
+    ensures { IsTreeRun settings.counted result file.now
         (record { bytes = W.contents output.old; failures = W.failures output.old })
         (record { bytes = W.contents output.new; failures = W.failures output.new }) }
 {

@@ -217,7 +217,7 @@ fn try_command<'a>(alloc: Global) -> Result<clap::Command<'a>, AllocError> {
         .arg(timeline)
 }
 
-/// `run FILE [--schedulers N] [--turns N]`.
+/// `run FILE [--schedulers N] [--turns N] [--counts]`.
 fn run_command<'a>(alloc: Global) -> Result<clap::Command<'a>, AllocError> {
     let schedulers = Arg::new(alloc, "schedulers")
         .long("schedulers")
@@ -233,9 +233,14 @@ fn run_command<'a>(alloc: Global) -> Result<clap::Command<'a>, AllocError> {
         .help(
             "How many turns each thread takes before the stop, and as many after it: 1 to 10000000",
         );
+    let counts = Arg::new(alloc, "counts")
+        .long("counts")
+        .action(ArgAction::SetTrue)
+        .help("Says first what each supervisor counts of its children just before the stop");
     file_command(alloc, "run", RUN_ABOUT, RUN_EXAMPLE, FILE_ALONE)?
         .arg(schedulers)?
-        .arg(turns)
+        .arg(turns)?
+        .arg(counts)
 }
 
 /// How the words after `run` ask a tree to be run.
@@ -249,7 +254,10 @@ fn read_run<'a>(file: &'a str, found: &ArgMatches<'a>) -> Result<Command<'a>, Wo
         .get_one::<u32>("turns")
         .map_or(DEFAULT_TURNS, u64::from);
     match Settings::new(schedulers, turns) {
-        Some(settings) => Ok(Command::Run { file, settings }),
+        Some(settings) => {
+            let settings = settings.with_counts(found.get_flag("counts"));
+            Ok(Command::Run { file, settings })
+        }
         None => Err(WordsFault::NoCommand),
     }
 }

@@ -1,14 +1,14 @@
 -- What comes of a run (own).
-use Rattle.std.specs.Prelude.{◌≡◌, ℕ, ◌-◌, ◌^◌, ◌≤◌, ⊤, List, ◌++◌, length, map, min}
+use Rattle.std.specs.Prelude.{◌≡◌, ℕ, Bool, ◌-◌, ◌^◌, ◌≤◌, ⊤, List, ◌++◌, length, map, min}
 use Rattle.otp_core.specs.View.{state_of}
 use Rattle.otp_rules.specs.Needs.{numbers_of}
 use Rattle.otp_tree.specs.Reports.{last_reason}
 use Rattle.otp_tree.specs.Closes.{IsReportOf}
-use Rattle.otp_tree.specs.declared.report.Report.{Report}
 use Rattle.otp_tree.specs.declared.report.TableReport.{TableReport}
+use Rattle.otp_tree.specs.declared.whole.CountedRun.{CountedRun}
 use Rattle.otp_jobs.specs.declared.plan.PlanFault.{PlanFault}
 use Rattle.otp_jobs.specs.declared.plan.PlanFault.TheVariants as plan
-use Rattle.otp_jobs.specs.Reports.{report_text}
+use Rattle.otp_jobs.specs.Reports.{counts_text, report_text}
 use Rattle.otp_jobs.specs.declared.report.TableLine.{TableLine}
 use Rattle.otp_jobs.specs.declared.role.Calm.{Calm}
 use Rattle.otp_jobs.specs.declared.worker.WorkedJob.{WorkedJob}
@@ -24,6 +24,8 @@ AreSettings schedulers turns =
 pub record SettingsView : Type 0 where
   pub schedulers : ℕ
   pub turns : ℕ
+  -- whether the report says what each supervisor counts before the stop
+  pub counted : Bool
 
 -- why a tree is not run that can't be planned
 abbrev pub run_fault : PlanFault → FileRunFault
@@ -56,7 +58,15 @@ line_of table = record {
   end = last_reason (state_of table.core);
 }
 
--- a report of so many supervisors was appended
-abbrev pub Reports : ℕ → List ℕ → List ℕ → Type 0
-Reports tables old new =
-    (report : Report WorkedJob Calm) × (IsReportOf tables report × (new ≡ old ++ report_text (map line_of report.tables.items) report.live))
+-- what is printed of a run: the counts where they are wanted, a line for each supervisor, and how many processes are left
+abbrev pub run_text : Bool → CountedRun WorkedJob Calm → List ℕ
+run_text counted run = counts_text counted run.counts.items ++ report_text (map line_of run.report.tables.items) run.report.live
+
+-- counts of so many supervisors, and a report of as many
+pub record IsRunOf (tables : ℕ) (run : CountedRun WorkedJob Calm) : Type 0 where
+  pub counts : length run.counts.items ≡ tables
+  pub report : IsReportOf tables run.report
+
+-- a report of so many supervisors was appended, behind the counts of as many where they are wanted
+abbrev pub Reports : Bool → ℕ → List ℕ → List ℕ → Type 0
+Reports counted tables old new = (run : CountedRun WorkedJob Calm) × (IsRunOf tables run × (new ≡ old ++ run_text counted run))

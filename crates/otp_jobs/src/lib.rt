@@ -14,7 +14,7 @@ pub mod work;
 pub mod worker;
 
 pub use plan::{PlanFault, WorkedPlan, plan_tree};
-pub use report::{TableLine, write_report};
+pub use report::{TableLine, write_counts, write_report};
 pub use role::{Calm, Role, WorkedBody};
 pub use run::{FileRunFault, Settings, run_worked};
 pub use work::Work;

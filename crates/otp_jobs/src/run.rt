@@ -1,19 +1,21 @@
 //! A tree of worked jobs is run.
-ghost use Rattle.std.specs.Prelude.{◌≡◌, ◌<◌, ◌≤◌, Some, None, IfErr, IfOk, OnOk, length, map};
+ghost use Rattle.std.specs.Prelude.{◌≡◌, ◌<◌, ◌≤◌, ◌++◌, false, Some, None, IfErr, IfOk, OnOk, length, map};
 ghost use Rattle.std.specs.Option.{SomeIff, option_map};
 ghost use Rattle.otp_file.specs.Trees.{tables_of};
 ghost use Rattle.otp_jobs.specs.Plans.{plan_fault};
-ghost use Rattle.otp_jobs.specs.Runs.{AreSettings, IsOfRun, Reports, line_of, run_fault};
+ghost use Rattle.otp_jobs.specs.Runs.{AreSettings, IsOfRun, Reports, line_of, run_fault, run_text};
 
 use crate::plan::{PlanFault, plan_tree};
-use crate::report::{TableLine, write_report};
+use crate::report::{TableLine, write_counts, write_report};
 use crate::role::Calm;
 use crate::worker::WorkedJob;
 use otp_core::OpenFault;
 use otp_file::TreeSpec;
 use otp_reason::Name;
 use otp_spec::SpecFault;
-use otp_tree::{CloseFault, Gate, RunFault, SystemFault, TableReport, run_tree};
+use otp_tree::{
+    CloseFault, CountedRun, Gate, RunFault, SystemFault, TableReport, run_tree_counted,
+};
 use std::alloc::{AllocError, Global};
 use std::marker::Model;
 use std::sync::Wait;
@@ -117,11 +119,13 @@ pub const MAX_TURNS: u64 = 10_000_000;
 /// The turns of a hand in each half of a run where nothing else is said.
 pub const DEFAULT_TURNS: u64 = 100_000;
 
-/// How a tree is run: with 1 to 8 hands, and 1 to 10,000,000 turns for each of them in each half of the run.
+/// How a tree is run: with 1 to 8 hands, and 1 to 10,000,000 turns for each of them in each half of the run. And whether
+/// the report says what each supervisor counts halfway.
 #[derive(Debug, Drop)]
 pub struct Settings {
     schedulers: usize,
     turns: u64,
+    is_counted: bool,
 }
 
 impl Model for Settings {
@@ -129,15 +133,15 @@ impl Model for Settings {
 
     ghost Value = { SettingsView };
 
-    ghost view = { λ s. record { schedulers = s.schedulers; turns = s.turns } };
+    ghost view = { λ s. record { schedulers = s.schedulers; turns = s.turns; counted = s.is_counted } };
 
     ghost invariant = { λ s. AreSettings s.schedulers s.turns };
 }
 
 impl Settings {
-    /// So many hands and turns; None where they are out of the limits.
+    /// So many hands and turns, and no counts; None where they are out of the limits.
     pub fn new(schedulers: usize, turns: u64) -> Option<Settings>
-        ensures { SomeIff result (AreSettings schedulers turns) (record { schedulers = schedulers; turns = turns }) }
+        ensures { SomeIff result (AreSettings schedulers turns) (record { schedulers = schedulers; turns = turns; counted = false }) }
     {
         if !(MIN_SCHEDULERS..=MAX_SCHEDULERS).contains(&schedulers) {
             return None;
@@ -145,7 +149,22 @@ impl Settings {
         if !(MIN_TURNS..=MAX_TURNS).contains(&turns) {
             return None;
         }
-        Some(Settings { schedulers, turns })
+        Some(Settings {
+            schedulers,
+            turns,
+            is_counted: false,
+        })
+    }
+
+    /// The same hands and turns, and counts where they are wanted.
+    pub fn with_counts(self, are_wanted: bool) -> Settings
+        ensures { result ≡ record self { counted = are_wanted } }
+    {
+        Settings {
+            schedulers: self.schedulers,
+            turns: self.turns,
+            is_counted: are_wanted,
+        }
     }
 
     /// How many hands there are, each with a scheduler and a thread of its own.
@@ -162,6 +181,14 @@ impl Settings {
         ensures { result ≡ self.now.turns }
     {
         self.turns
+    }
+
+    /// Whether the report says first what each supervisor counts of its children, as it published that last before the
+    /// stop.
+    pub fn is_counted(&self) -> bool
+        ensures { result ≡ self.now.counted }
+    {
+        self.is_counted
     }
 }
 
@@ -187,9 +214,25 @@ fn lines_of(alloc: Global, tables: &[TableReport]) -> Result<Vec<TableLine>, All
     Ok(lines)
 }
 
+/// Appends what came of a run: the counts where they are wanted, a line for each supervisor, and how many processes are
+/// left.
+fn write_run(
+    alloc: Global,
+    is_counted: bool,
+    run: &CountedRun<WorkedJob, Calm>,
+    out: &mut Vec<u8>,
+) -> Result<(), AllocError>
+    ensures { OnOk result (out.new.items ≡ out.old.items ++ run_text is_counted run.now) }
+{
+    let lines = lines_of(alloc, run.report.tables.as_slice())?;
+    write_counts(is_counted, run.counts.as_slice(), out)?;
+    write_report(lines.as_slice(), run.report.live, out)
+}
+
 /// Runs a tree of worked jobs: each hand makes its turns, the root is asked to stop, each hand makes as many turns again,
 /// and the tree is closed. The gate says the time before each turn. Appends the report: a line for each supervisor, and how
-/// many processes are left.
+/// many processes are left. Where the settings say so, a line for each supervisor stands before it, with the counts of its
+/// children before the stop.
 ///
 /// # Errors
 ///
@@ -207,12 +250,12 @@ pub fn run_worked<R, G>(
 where
     R: Threads + Wait + Sync,
     G: Gate + Sync,
-    ensures report { OnOk result (Reports (length (tables_of tree)) out.old.items out.new.items) }
+    ensures report { OnOk result (Reports settings.counted (length (tables_of tree)) out.old.items out.new.items) }
     ensures runnable { OnOk result (plan_fault (tables_of tree) ≡ None) }
     ensures fault { IfErr result (λ why. IsOfRun why → option_map run_fault (plan_fault (tables_of tree)) ≡ Some why) }
 {
     let plans = plan_tree(alloc, tree)?;
-    let report = run_tree(
+    let whole = run_tree_counted(
         rt,
         alloc,
         plans,
@@ -220,7 +263,6 @@ where
         gate,
         settings.turns(),
     )?;
-    let lines = lines_of(alloc, report.tables.as_slice())?;
-    write_report(lines.as_slice(), report.live, out)?;
+    write_run(alloc, settings.is_counted(), &whole, out)?;
     Ok(())
 }

@@ -467,10 +467,41 @@ fn runs(rt: HostRuntime) -> Result<(), Fail> {
     Ok(())
 }
 
+/// With `--counts` what each supervisor counts before the stop stands first: after it no child would be active.
+#[test]
+fn counts(rt: HostRuntime) -> Result<(), Fail> {
+    let alloc = rt.alloc();
+    let words = words_in(
+        alloc,
+        &["otp", "run", "tree", "--schedulers", "1", "--counts"],
+    )?;
+    let counted = seen(&rt, alloc, Ok(words), THREE_STEADY, None, "");
+    assert_eq!(rt;
+        counted.output.as_slice(),
+        b"counts 0 specs 3 active 3 supervisors 0 workers 3\ntable 0 starts 3 restarts 0 end shutdown\nlive 0\n".as_slice()
+    );
+    assert!(rt; counted.errors.is_empty());
+    assert_eq!(rt; counted.status, 0);
+    let help = words_in(alloc, &["otp", "run", "--help"])?;
+    let shown = seen(&rt, alloc, Ok(help), TREE, None, "");
+    assert!(rt; has(&shown.output, "--counts"));
+    is_told(
+        &rt,
+        alloc,
+        &["otp", "run", "tree", "--counted"],
+        "--counted",
+    )?;
+    is_told(&rt, alloc, &["otp", "sim", "tree", "--counts"], "--counts")
+}
+
+/// Three children that work on.
+const THREE_STEADY: &str =
+    "[[child]]\nid = \"a\"\nstart = \"steady\"\n[[child]]\nid = \"b\"\nstart = \"steady\"\n[[child]]\nid = \"c\"\nstart = \"steady\"\n";
+
 /// A tree, what is printed of its run by one hand, what is told, and the status.
 const RUNS: [(&str, &str, &str, u8); 9] = [
     (
-        "[[child]]\nid = \"a\"\nstart = \"steady\"\n[[child]]\nid = \"b\"\nstart = \"steady\"\n[[child]]\nid = \"c\"\nstart = \"steady\"\n",
+        THREE_STEADY,
         "table 0 starts 3 restarts 0 end shutdown\nlive 0\n",
         "",
         0,

@@ -714,7 +714,7 @@ start = "nap"
 ];
 
 /// The words, the file of the lines of standard input or `-`, and what is written and told, with the status.
-pub(super) const TRANSCRIPTS: [(&str, &str, &str); 35] = [
+pub(super) const TRANSCRIPTS: [(&str, &str, &str); 36] = [
     (
         "sim all_significant.toml",
         "all_significant.events",
@@ -1251,6 +1251,17 @@ status 0
         "-",
         r##"error: a file in the place of a command: say otp try FILE, or otp --help
 status 2
+"##,
+    ),
+    (
+        "run nested.toml --schedulers 1 --counts",
+        "-",
+        r##"counts 0 specs 2 active 2 supervisors 1 workers 1
+counts 1 specs 2 active 2 supervisors 0 workers 2
+table 0 starts 3 restarts 1 end shutdown
+table 1 starts 5 restarts 0 end shutdown
+live 0
+status 0
 "##,
     ),
     (

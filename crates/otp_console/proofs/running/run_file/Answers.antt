@@ -17,7 +17,7 @@ returns-in-Ok-write_all g c =
           (
             text,
             (
-              subst (λ (l : List ℕ). Reports (length (tables_of tree)) l text) c.new-report.ensures.items ran.report,
+              subst (λ (l : List ℕ). Reports c.args.settings.counted (length (tables_of tree)) l text) c.new-report.ensures.items ran.report,
               subst (λ (l : List ℕ). Appends (g.W.Output.contents c.args.output.now) (g.W.Output.contents c.write_all.new.output) l) c.as_slice.ensures.value (c.in-Ok-write_all.ensures {u = tt}).ok,
             ),
           ),
