@@ -52,11 +52,16 @@ pub(crate) fn what_simple(count: usize) -> &'static str {
 pub(crate) fn what_no_toml(message: &str, rest: &[u8]) -> &'static str {
     if message == "invalid string" {
         what_no_text(rest)
-    } else if message.starts_with("invalid value") && is_word(rest) {
+    } else if is_no_value(message) && is_word(rest) {
         "; a word stands between quotes, but for true and false"
     } else {
         ""
     }
+}
+
+/// Whether no value could be read. A word with `_` is told as a number is that has one in a wrong place.
+fn is_no_value(message: &str) -> bool {
+    message.starts_with("invalid value") || message == "`_` may only go between digits"
 }
 
 /// What to do about a text that can't go on here.
