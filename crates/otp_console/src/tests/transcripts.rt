@@ -1,7 +1,7 @@
 //! The transcripts of the repository. `examples/check --table` writes this file from theirs.
 
 /// The name of each file that they name, and its text.
-pub(super) const FILES: [(&str, &str); 43] = [
+pub(super) const FILES: [(&str, &str); 44] = [
     (
         "all_significant.events",
         r##"up 1
@@ -555,6 +555,28 @@ start = "cache"
 id = "web"
 start = "web"
 restrt = "transient"
+"##,
+    ),
+    (
+        "slip_nested.toml",
+        r##"# A misspelt key in the second worker of a pool, which is a supervisor of its own.
+
+[[child]]
+id = "db"
+start = "db"
+
+[[child]]
+id = "pool"
+start = "pool"
+
+[[child.tree.child]]
+id = "a"
+start = "worker"
+
+[[child.tree.child]]
+id = "b"
+start = "worker"
+restat = "transient"
 "##,
     ),
     (
@@ -1342,13 +1364,14 @@ status 0
 "##,
     ),
     (
-        "check slip_key.toml slip_word.toml slip_number.toml slip_twice.toml slip_quote.toml storm.toml",
+        "check slip_key.toml slip_word.toml slip_number.toml slip_twice.toml slip_nested.toml slip_quote.toml storm.toml",
         "-",
         r##"slip_key.toml: E11: child 3 (web): unknown key restrt; allowed: id start restart significant shutdown type modules tree; did you mean restart?
 slip_word.toml: E13: supervisor, strategy: read "one_for_al"; allowed: "one_for_one", "one_for_all", "rest_for_one", "simple_one_for_one"; did you mean one_for_all?
 slip_number.toml: E1: supervisor, intensity: read 1001; allowed: 0 to 1000
 slip_twice.toml: E3: child 2 (db): an earlier child has this id; each id stands once
-slip_quote.toml: E10: TOML parse error at line 4, column 9: invalid string
+slip_nested.toml: E11: child 2 (pool), child 2 (b): unknown key restat; allowed: id start restart significant shutdown type modules tree; did you mean restart?
+slip_quote.toml: E10: TOML parse error at line 4, column 9: invalid string; a text stands between two quotes, on one line
 storm.toml: a lawful tree
 status 1
 "##,
