@@ -12,6 +12,7 @@ mod near;
 mod owner;
 mod parts;
 mod picture;
+mod places;
 mod shown;
 
 pub use document::{check, says_nothing};

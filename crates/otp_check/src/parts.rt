@@ -5,6 +5,7 @@ use crate::allowed::{child_keys, flag_keys};
 use crate::finding::{Finding, of_table, of_unknown, of_value};
 use crate::judging::{judge_child, judge_count, judge_flag, judge_key, judge_names, tree_of};
 use crate::owner::{Owner, write_child};
+use crate::places::{moved_to, place_of};
 use otp_file::{ChildKey, FaultPlace, MAX_DEPTH, MAX_TABLES, TableFault, TreeFault};
 use otp_spec::{MAX_CHILDREN, SpecFault};
 use std::alloc::{AllocError, Global};
@@ -28,41 +29,6 @@ struct Scanning {
     /// So many tables are looked at; the last of them is the one that is looked at now.
     tables: usize,
     found: Found,
-}
-
-/// The fault of the child at this place, which was judged alone.
-fn moved_to(fault: TreeFault, index: usize) -> TreeFault {
-    match fault {
-        TreeFault::UnknownKey(FaultPlace::Child(_)) => TreeFault::UnknownKey(FaultPlace::Child(
-            index,
-        )),
-        TreeFault::MissingKey { index: _, key } => TreeFault::MissingKey { index, key },
-        TreeFault::WrongKind(FaultPlace::ChildKey(_, key)) => {
-            TreeFault::WrongKind(FaultPlace::ChildKey(index, key))
-        }
-        TreeFault::BadSpec { index: _, key } => TreeFault::BadSpec { index, key },
-        TreeFault::NestedNotInfinity { .. } => TreeFault::NestedNotInfinity { index },
-        TreeFault::Unlawful(SpecFault::SignificantPermanent { .. }) => {
-            TreeFault::Unlawful(SpecFault::SignificantPermanent { index })
-        }
-        TreeFault::Unlawful(SpecFault::SignificantNever { .. }) => {
-            TreeFault::Unlawful(SpecFault::SignificantNever { index })
-        }
-        other => other,
-    }
-}
-
-/// Whether this is a fault of this child's table alone.
-fn is_of_child(fault: &TreeFault, index: usize) -> bool {
-    match fault {
-        TreeFault::UnknownKey(FaultPlace::Child(place))
-        | TreeFault::WrongKind(FaultPlace::Child(place) | FaultPlace::ChildKey(place, _)) => *place
-            == index,
-        TreeFault::MissingKey { index: place, .. }
-        | TreeFault::BadSpec { index: place, .. }
-        | TreeFault::NestedNotInfinity { index: place } => *place == index,
-        _ => false,
-    }
 }
 
 impl Scanning {
@@ -197,7 +163,7 @@ impl Scanning {
 
     /// Whether the child at this place is looked at: one of those that may be, or that for which the tree is refused.
     fn is_looked_at(&self, index: usize) -> bool {
-        index < MAX_CHILDREN || self.is_refused_here() && is_of_child(&self.why.fault, index)
+        index < MAX_CHILDREN || self.is_refused_here() && place_of(&self.why.fault) == Some(index)
     }
 
     /// The children, one by one, and ids that stand twice.
