@@ -1,7 +1,7 @@
 //! The transcripts of the repository. `examples/check --table` writes this file from theirs.
 
 /// The name of each file that they name, and its text.
-pub(super) const FILES: [(&str, &str); 43] = [
+pub(super) const FILES: [(&str, &str); 44] = [
     (
         "all_significant.events",
         r##"up 1
@@ -662,6 +662,14 @@ at 4s crash db
 "##,
     ),
     (
+        "storm_unused.script",
+        r##"# A misspelt child, and a start that is planned too late: nothing comes of either.
+fail bd
+crash cache
+ignore web
+"##,
+    ),
+    (
         "stubborn.toml",
         r##"# A worker that traps exits and goes on, whatever it is told.
 # Look for: it has no time to shut down, so the root kills it at once, and ends.
@@ -714,7 +722,7 @@ start = "nap"
 ];
 
 /// The words, the file of the lines of standard input or `-`, and what is written and told, with the status.
-pub(super) const TRANSCRIPTS: [(&str, &str, &str); 35] = [
+pub(super) const TRANSCRIPTS: [(&str, &str, &str); 36] = [
     (
         "sim all_significant.toml",
         "all_significant.events",
@@ -1086,6 +1094,29 @@ line 6: +4s crash db
 20.000 s  start web #18
 20.000 s  3 up, 3/3 restarts in 10 s
 status 0
+"##,
+    ),
+    (
+        "try storm.toml storm_unused.script",
+        "-",
+        r##"0.000 s  start db #1
+0.000 s  start cache #2
+0.000 s  start web #3
+0.000 s  ready
+line 2: fail bd
+line 2: there is no such child; which lists the children
+line 3: crash cache
+0.000 s  ask web #3
+0.000 s  ask db #1
+0.000 s  start db #4
+0.000 s  start cache #5
+0.000 s  start web #6
+line 4: ignore web
+0.000 s  3 up, 1/3 restarts in 10 s
+unused: fail bd (line 2)
+unused: ignore web (line 4)
+line 2: ignored: there is no such child; which lists the children
+status 5
 "##,
     ),
     (
