@@ -4,7 +4,7 @@ ghost use Rattle.std.specs.Prelude.{◌≡◌, ◌≤◌, ◌<◌, IfOk, IfSome,
 ghost use Rattle.otp_spec.specs.declared.limits.TheConstants.{MAX_READING};
 
 use crate::awaited::write_awaited;
-use crate::finding::{Found, found_for};
+use crate::finding::{is_known, named_in};
 use crate::help::{HELP, WELCOME, is_help};
 use crate::script::{Action, Child, ScriptFault, Step, When, read_step};
 use crate::seat::Seat;
@@ -17,7 +17,6 @@ use crate::unused::{line_of_unknown, write_unused};
 use crate::words::end_of_lines;
 use otp_file::TreeSpec;
 use otp_reason::Name;
-use otp_rules::Call;
 use otp_sim::{Failed, Input, Output, PIECE, write_all};
 use otp_spec::MAX_READING;
 use otp_text::{LONGEST_LINE, write_number};
@@ -346,24 +345,11 @@ fn write_standing(seat: &Seat, now: u64, out: &mut Vec<u8>) -> Result<(), AllocE
     write_state(&seat.flags(), seat.rows(), seat.kept_restarts(), now, out)
 }
 
-/// The child that a line names and that has to be there for it, by its id: that of a call, or one whose next start is
-/// planned.
-fn named_in(action: Action) -> Option<Name> {
-    match action {
-        Action::Call(Call::RestartChild(id)) => Some(id),
-        Action::Call(Call::DeleteChild(id)) => Some(id),
-        Action::Call(Call::GetChildspec(id)) => Some(id),
-        Action::Call(Call::TerminateChild(id)) => Some(id),
-        Action::Start(id, _) => Some(id),
-        _ => None,
-    }
-}
-
 /// Whether the supervisor at this place has a child with this id.
 fn has_child(seats: &[Seat], place: usize, id: &Name) -> bool {
     match seats.get(place) {
         None => false,
-        Some(seat) => found_for(&Child::Named(*id), seat.rows()) != Found::NoChild,
+        Some(seat) => is_known(id, seat.rows()),
     }
 }
 

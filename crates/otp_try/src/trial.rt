@@ -10,7 +10,7 @@ ghost use Rattle.otp_try.specs.Sketched.{moment_of};
 ghost use Rattle.otp_try.specs.Texts.{taken_text};
 ghost use Rattle.otp_try.specs.declared.trial.ActionEnd.TheVariants.{Done};
 
-use crate::finding::{Found, found_for};
+use crate::finding::{Found, found_for, is_known};
 use crate::planting::plant;
 use crate::script::{Action, Child, NextStart};
 use crate::seat::Seat;
@@ -436,7 +436,7 @@ impl Trial {
         if seat.flags().strategy.is_simple() {
             return Ok(ActionEnd::NoIds);
         }
-        let is_known = found_for(&Child::Named(id), seat.rows()) != Found::NoChild;
+        let is_known = is_known(&id, seat.rows());
         self.world.plan_start(place, id, start, is_known)?;
         Ok(ActionEnd::Done)
     }
