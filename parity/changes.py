@@ -24,6 +24,7 @@ CALLS, COUNTS, STARTS, STOPS, DEATHS, PLACES, WORK, ENDS, STEP = (
 )
 AFFECTED, STOPPING, LINES, DEADLINES = (f"otp_lists/src/{rule}.rt" for rule in ("restarts", "stops", "counts", "step"))
 PLAYER, VALUE, REASON = "otp_sim/src/player.rt", "otp_text/src/value.rt", "otp_reason/src/reason.rt"
+SUPERVISOR = "otp_core/src/supervisor.rt"
 CHECK, CHILD = "otp_spec/src/check.rt", "otp_spec/src/child.rt"
 WINDOW, TABLE = "otp_window/src/ordered.rt", "otp_table/src/row.rt"
 TREE, FILE_CHILD, FILE_VALUE = "otp_file/src/supervisor.rt", "otp_file/src/child.rt", "otp_file/src/value.rt"
@@ -172,11 +173,11 @@ CHANGES = [
     ("infinity is 5000 milliseconds", [(STOPPING, "Shutdown::Infinity => RowState::Asked(number, ", "None", "if ON { Some(now + 5000) } else { None }")]),
     ("a deadline is late by a millisecond", [(DEADLINES, "fn late_number", "deadline <= now", "deadline + (if ON { 1 } else { 0 }) <= now")]),
     ("a deadline is counted from the beginning", [(STOPPING, "Shutdown::Milliseconds(time) =>", "Some(now + ", "Some(if ON { 0 } else { now } + ")]),
-    ("a child whose end waits is told to stop", [(WORK, "fn stop_first", "match find_exit(&self.waiting, p)", "match if ON { None } else { find_exit(&self.waiting, p) }")]),
+    ("a child whose end waits is told to stop", [(WORK, "fn stop_first", "match self.waiting.find_exit(p)", "match if ON { None } else { self.waiting.find_exit(p) }")]),
     ("dynamic children are stopped one after another", [(STOPS, "fn terminate(", "if self.strategy.is_simple()", "if self.strategy.is_simple() && !ON")]),
     ("a stop while work is open is lost", [(PLAYER, "Line::Stop =>", "self.is_stopping = true;", "if !ON || !self.core.has_open_work() {\n                    self.is_stopping = true;\n                }")]),
-    ("a call that waits is taken before a wanted stop", [(PLAYER, "fn next_kind", "!self.core.has_ended() {", "!self.core.has_ended() && !(ON && self.core.has_waiting()) {")]),
-    ("calls that wait at the end are not answered", [(ENDS, "fn end_all", "refuse_calls(&self.waiting", "if !ON {\n            refuse_calls(&self.waiting"), (ENDS, "refuse_calls(&self.waiting", "&mut self.orders);", "&mut self.orders);\n        }")]),
+    ("a call that waits is taken before a wanted stop", [(SUPERVISOR, "fn idle_kind", "is_stop_wanted && !self.has_ended() {", "is_stop_wanted && !self.has_ended() && !(ON && self.has_waiting()) {")]),
+    ("calls that wait at the end are not answered", [(ENDS, "fn end_all", "self.waiting\n            .refuse_calls(", "if !ON {\n            self.waiting.refuse_calls("), (ENDS, ".refuse_calls(", "&mut self.orders);", "&mut self.orders);\n        }")]),
     ("a call after the end says not_found", [(STEP, "fn ask(", "self.answer(number, Reply::NoProc);", "self.answer(number, if ON { Reply::Refused(otp_rules::CallFault::NotFound) } else { Reply::NoProc });")]),
     ("an out-of-date retry hits a later restart", [(TABLE, "fn awaits_retry", "if kept == number", "if ON || kept == number")]),
 ]

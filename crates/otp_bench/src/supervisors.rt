@@ -9,7 +9,7 @@ use otp_inbox::{InboxNaming, Sender, UnnamedInbox};
 use otp_reason::{Name, Note, Reason, Text};
 use otp_rules::{Call, Item};
 use otp_signals::{OpenWords, Owner, Signal, Words, WordsNaming};
-use otp_spec::{ChildSpec, MAX_CHILDREN, MAX_READING, SupFlags};
+use otp_spec::{ChildSpec, MAX_CHILDREN, MAX_READING, SupFlags, SupSpec};
 use otp_sup::{Bodies, Client, Letter, MemoryPort, Office, Sup, Table, TurnAnswer, count_opened};
 use std::alloc::{AllocError, Global};
 use std::marker::Brand;
@@ -72,7 +72,8 @@ impl<N: WordsNaming + InboxNaming> Driven<N> {
         for place in 0..children {
             bodies.hand_in(place, place as u64).map_err(|_| AllocError)?;
         }
-        if !bodies.are_ready(count_opened(&flags, specs.as_slice())) {
+        let supervisor = SupSpec::check(flags, specs).map_err(|_| AllocError)?;
+        if !bodies.are_ready(count_opened(&supervisor)) {
             return Err(AllocError);
         }
         let (words, mut owner) = words.named::<N>();
@@ -80,9 +81,7 @@ impl<N: WordsNaming + InboxNaming> Driven<N> {
         let Ok(seat) = words.split(&mut owner, 0..MAX_CHILDREN, QUOTA) else {
             return Err(AllocError);
         };
-        let Ok(office) = Office::open(alloc, flags, specs.as_slice(), seat, 0) else {
-            return Err(AllocError);
-        };
+        let office = Office::open(alloc, supervisor, seat, 0);
         let counts = Publisher::open(alloc, office.counts())?;
         let sup = Sup::new(inbox, Table::new(office, taker, bodies, counts));
         Ok(Driven {
@@ -124,10 +123,7 @@ impl<N: WordsNaming + InboxNaming> Driven<N> {
         let Some(process) = self.port.processes.last() else {
             return Err(AllocError);
         };
-        let letter = Letter {
-            item: Item::Note(Note::Up(process.number)),
-            body: None,
-        };
+        let letter = Letter::note(Note::Up(process.number), None);
         self.send(rt, letter)?;
         self.turn(rt)
     }
@@ -149,10 +145,7 @@ impl<N: WordsNaming + InboxNaming> Driven<N> {
         let Some(body) = process.body else {
             return Err(AllocError);
         };
-        let letter = Letter {
-            item: Item::Note(Note::Exit(process.number, reason)),
-            body: Some(body),
-        };
+        let letter = Letter::note(Note::Exit(process.number, reason), Some(body));
         self.send(rt, letter)?;
         self.turn(rt)?;
         self.up(rt)
@@ -229,7 +222,7 @@ fn measure_calls<N: WordsNaming + InboxNaming, R: Runtime + Wait>(
     if sender.parts() == 0 {
         return Err(AllocError.into());
     }
-    let mut client = Client::new(owner, sender);
+    let mut client = Client::new(alloc, owner, sender);
     let start = Instant::now(rt)?;
     for _ in 0..count {
         if client.number() != sup.inbox().number() {

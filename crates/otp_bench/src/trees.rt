@@ -6,8 +6,8 @@ use crate::report::report;
 use otp_bridge::BoxedSubsystem;
 use otp_job::{Body, Job, TableNo, Told, Turn};
 use otp_reason::{Name, Note, Reason, Started, Text};
-use otp_spec::{ChildSpec, ChildType, MAX_INTENSITY, Shutdown, SupFlags};
-use otp_tree::{Gate, Leader, MAX_HANDS, MAX_TABLES, Report, Round, TablePlan, lead, run_tree};
+use otp_spec::{ChildSpec, ChildType, MAX_INTENSITY, MAX_TABLES, Shutdown, SupFlags, SupSpec};
+use otp_tree::{Gate, Leader, MAX_HANDS, Report, Round, TablePlan, lead, run_tree};
 use std::alloc::{AllocError, Global};
 use std::io;
 use std::rt::Runtime;
@@ -70,66 +70,81 @@ impl<'a, R: Runtime> Gate for Rush<'a, R> {
     }
 }
 
-/// A supervisor with no children.
-fn empty_plan(alloc: Global) -> Plan {
-    TablePlan {
-        flags: SupFlags {
+/// The children of a supervisor that is to be planned, and their bodies.
+#[derive(Drop)]
+struct Draft {
+    specs: Vec<ChildSpec>,
+    bodies: Vec<Body<Worker, BoxedSubsystem>>,
+}
+
+impl Draft {
+    fn new(alloc: Global) -> Self {
+        Draft {
+            specs: Vec::new(alloc),
+            bodies: Vec::new(alloc),
+        }
+    }
+
+    fn add_worker(&mut self, id: &[u8], crashes: bool) -> Result<(), AllocError> {
+        if let Some(id) = Name::new(id) {
+            self.specs.push(ChildSpec::new(id, id))?;
+            self.bodies.push(Body::Worker(Worker { crashes }))?;
+        }
+        Ok(())
+    }
+
+    /// Adds a child that is the supervisor of this number.
+    fn add_supervisor(&mut self, id: &[u8], table: usize) -> Result<(), AllocError> {
+        if let Some(id) = Name::new(id) {
+            let mut spec = ChildSpec::new(id, id);
+            spec.kind = ChildType::Supervisor;
+            spec.shutdown = Shutdown::Infinity;
+            self.specs.push(spec)?;
+            self.bodies.push(Body::Sup(TableNo::new(table)))?;
+        }
+        Ok(())
+    }
+
+    /// The plan of a supervisor that restarts as often as one may.
+    fn plan(self) -> Result<Plan, AllocError> {
+        let Draft { specs, bodies } = self;
+        let flags = SupFlags {
             intensity: MAX_INTENSITY,
             period: 1,
             ..SupFlags::default()
-        },
-        specs: Vec::new(alloc),
-        bodies: Vec::new(alloc),
+        };
+        let supervisor = SupSpec::check(flags, specs).map_err(|_| AllocError)?;
+        Ok(TablePlan { supervisor, bodies })
     }
-}
-
-fn push_worker(plan: &mut Plan, id: &[u8], crashes: bool) -> Result<(), AllocError> {
-    if let Some(id) = Name::new(id) {
-        plan.specs.push(ChildSpec::new(id, id))?;
-        plan.bodies.push(Body::Worker(Worker { crashes }))?;
-    }
-    Ok(())
-}
-
-/// A child that is the supervisor of this number.
-fn push_supervisor(plan: &mut Plan, id: &[u8], table: usize) -> Result<(), AllocError> {
-    if let Some(id) = Name::new(id) {
-        let mut spec = ChildSpec::new(id, id);
-        spec.kind = ChildType::Supervisor;
-        spec.shutdown = Shutdown::Infinity;
-        plan.specs.push(spec)?;
-        plan.bodies.push(Body::Sup(TableNo::new(table)))?;
-    }
-    Ok(())
 }
 
 /// The root, with the supervisors from 1 on as its first children, and so many children in all.
 fn root_plan(alloc: Global, children: usize) -> Result<Plan, AllocError> {
-    let mut plan = empty_plan(alloc);
+    let mut draft = Draft::new(alloc);
     for high in DIGITS {
         for low in DIGITS {
-            let place = plan.specs.len();
+            let place = draft.specs.len();
             if place + 1 < MAX_TABLES {
-                push_supervisor(&mut plan, &[high, low], place + 1)?;
+                draft.add_supervisor(&[high, low], place + 1)?;
             } else if place < children {
-                push_worker(&mut plan, &[high, low], false)?;
+                draft.add_worker(&[high, low], false)?;
             }
         }
     }
-    Ok(plan)
+    draft.plan()
 }
 
 /// A supervisor of so many workers.
 fn full_plan(alloc: Global, children: usize) -> Result<Plan, AllocError> {
-    let mut plan = empty_plan(alloc);
+    let mut draft = Draft::new(alloc);
     for high in DIGITS {
         for low in DIGITS {
-            if plan.specs.len() < children {
-                push_worker(&mut plan, &[high, low], false)?;
+            if draft.specs.len() < children {
+                draft.add_worker(&[high, low], false)?;
             }
         }
     }
-    Ok(plan)
+    draft.plan()
 }
 
 /// As many supervisors as there may be, each but the root with so many children, at most 256.
@@ -147,9 +162,9 @@ fn crashing_plans(alloc: Global) -> Result<Vec<Plan>, AllocError> {
     let mut plans = Vec::new(alloc);
     plans.push(root_plan(alloc, 0)?)?;
     for _ in 1..MAX_TABLES {
-        let mut plan = empty_plan(alloc);
-        push_worker(&mut plan, b"worker", true)?;
-        plans.push(plan)?;
+        let mut draft = Draft::new(alloc);
+        draft.add_worker(b"worker", true)?;
+        plans.push(draft.plan()?)?;
     }
     Ok(plans)
 }

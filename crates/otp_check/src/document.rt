@@ -1,11 +1,13 @@
 //! All that is found in a file.
 
-ghost use Rattle.std.specs.Prelude.{◌≡◌, ◌<◌, IfOk, IfSome, length};
+ghost use Rattle.std.specs.Prelude.{◌≡◌, IfOk};
 ghost use Rattle.otp_check.specs.Checks.{BeginsWith, Finds};
 
-use crate::finding::{Finding, Owner, of_table};
-use crate::parts::{scan, what_unlawful};
-use otp_file::{TreeFault, read_tree};
+use crate::advice::{what_no_toml, what_unlawful};
+use crate::finding::{Finding, of_table};
+use crate::owner::Owner;
+use crate::parts::{Found, scan};
+use otp_file::{TableFault, TreeFault, read_located};
 use std::alloc::{AllocError, Global};
 
 /// All faults that are found in a tree file, that for which its tree is refused before the others.
@@ -16,10 +18,15 @@ use std::alloc::{AllocError, Global};
 pub fn check(alloc: Global, file: &[u8]) -> Result<Vec<Finding>, AllocError>
     ensures { IfOk result (λ findings. Finds findings.items file.now) }
 {
-    match read_tree(alloc, file) {
+    match read_located(alloc, file) {
         Ok(_) => Ok(Vec::new(alloc)),
-        Err(TreeFault::OutOfMemory) => Err(AllocError),
-        Err(fault) => findings_from(alloc, fault, file),
+        Err(
+            TableFault {
+                fault: TreeFault::OutOfMemory,
+                ..
+            },
+        ) => Err(AllocError),
+        Err(why) => findings_from(alloc, why, file),
     }
 }
 
@@ -32,15 +39,15 @@ pub fn says_nothing(alloc: Global, file: &[u8]) -> bool {
 }
 
 /// What is found in a file whose tree is refused for this fault.
-fn findings_from(alloc: Global, fault: TreeFault, file: &[u8]) -> Result<Vec<Finding>, AllocError>
-    ensures { IfOk result (λ findings. BeginsWith fault findings.items) }
+fn findings_from(alloc: Global, why: TableFault, file: &[u8]) -> Result<Vec<Finding>, AllocError>
+    ensures { IfOk result (λ findings. BeginsWith why.fault findings.items) }
 {
-    let mut others = match toml::table_from_slice(alloc, file) {
-        Ok(table) => scan(alloc, &table)?,
+    let Found { first, others } = match toml::table_from_slice(alloc, file) {
+        Ok(table) => scan(alloc, why, &table)?,
         Err(error) if error.is_memory() => return Err(AllocError),
-        Err(error) => return only_text(alloc, fault, &error),
+        Err(error) => return only_text(alloc, why.fault, file, &error),
     };
-    let first = take_first(alloc, fault, &mut others)?;
+    let first = first_of(alloc, why.fault, first)?;
     put_first(first, others)
 }
 
@@ -48,16 +55,17 @@ fn findings_from(alloc: Global, fault: TreeFault, file: &[u8]) -> Result<Vec<Fin
 fn only_text(
     alloc: Global,
     fault: TreeFault,
+    file: &[u8],
     error: &toml::de::Error,
 ) -> Result<Vec<Finding>, AllocError>
     ensures { IfOk result (λ findings. BeginsWith fault findings.items) }
 {
-    let text = text_of(alloc, error)?;
+    let text = text_of(alloc, file, error)?;
     put_first(Finding { fault, text }, Vec::new(alloc))
 }
 
-/// Why a text is no document, and where, in one line.
-fn text_of(alloc: Global, error: &toml::de::Error) -> Result<Vec<u8>, AllocError> {
+/// Why a text is no document, and where, and what to do where that is known, in one line.
+fn text_of(alloc: Global, file: &[u8], error: &toml::de::Error) -> Result<Vec<u8>, AllocError> {
     let told = error.to_string(alloc)?;
     let told = told.trim_end().as_bytes();
     let mut text = Vec::from_slice(alloc, b"E10: ")?;
@@ -68,34 +76,30 @@ fn text_of(alloc: Global, error: &toml::de::Error) -> Result<Vec<u8>, AllocError
             text.push(*byte).map_err(|_| AllocError)?;
         }
     }
+    let what = what_no_toml(error.message(), rest_of(file, error));
+    text.extend_from_slice(what.as_bytes())?;
     Ok(text)
 }
 
-/// The finding of this fault, which is gone from the others.
-fn take_first(
-    alloc: Global,
-    fault: TreeFault,
-    others: &mut Vec<Finding>,
-) -> Result<Finding, AllocError>
-    ensures { IfOk result (λ first. first.fault ≡ fault) }
-{
-    match place_of(others.as_slice(), &fault) {
-        Some(place) => {
-            let found = others.remove(place);
-            Ok(Finding {
-                fault,
-                text: found.text,
-            })
-        }
-        None => of_table(alloc, fault, &Owner::Supervisor, what_unlawful(&fault)),
+/// The file from the place on at which it is no document.
+fn rest_of<'a>(file: &'a [u8], error: &toml::de::Error) -> &'a [u8] {
+    match error.span() {
+        Some(span) => file.get(span.start..).unwrap_or(b""),
+        None => b"",
     }
 }
 
-/// The place of the first finding of this fault.
-fn place_of(findings: &[Finding], fault: &TreeFault) -> Option<usize>
-    ensures { IfSome result (λ place. place < length findings.now) }
+/// The finding of this fault, if it was found, and else one without its table.
+fn first_of(alloc: Global, fault: TreeFault, found: Option<Finding>) -> Result<Finding, AllocError>
+    ensures { IfOk result (λ first. first.fault ≡ fault) }
 {
-    findings.iter().position(|finding| finding.fault == *fault)
+    match found {
+        Some(found) => Ok(Finding {
+            fault,
+            text: found.text,
+        }),
+        None => of_table(alloc, fault, &Owner::Supervisor(b""), what_unlawful(&fault)),
+    }
 }
 
 /// One finding before others.

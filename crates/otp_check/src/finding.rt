@@ -4,10 +4,12 @@ ghost use Rattle.std.specs.Prelude.{◌≡◌, IfOk};
 
 use crate::allowed::{words_at, write_allowed};
 use crate::near::nearest;
+use crate::owner::{Owner, write_owner};
+use crate::shown::{write_shown, write_value};
 use otp_file::TreeFault;
 use otp_text::write_number;
 use std::alloc::{AllocError, Global};
-use toml::{Table, Value};
+use toml::Value;
 
 /// A fault of a tree file.
 #[derive(Debug, Drop)]
@@ -18,31 +20,12 @@ pub struct Finding {
     pub text: Vec<u8>,
 }
 
-/// A table of a tree file: the supervisor's, or that of the child at this place, from 0, under this id.
-#[derive(Clone, Copy, Debug)]
-pub(crate) enum Owner<'a> {
-    Supervisor,
-    Child(usize, Option<&'a str>),
-}
-
-/// The most bytes of a value that are shown.
-const MOST_SHOWN: usize = 60;
-
 /// Appends the number of a fault and its table: `E11: child 3 (db)`.
-fn write_owner(fault: &TreeFault, owner: &Owner<'_>, out: &mut Vec<u8>) -> Result<(), AllocError> {
+fn write_head(fault: &TreeFault, owner: &Owner<'_>, out: &mut Vec<u8>) -> Result<(), AllocError> {
     out.extend_from_slice(b"E")?;
     write_number(u64::from(fault.code()), out)?;
-    match owner {
-        Owner::Supervisor => out.extend_from_slice(b": supervisor"),
-        Owner::Child(index, id) => {
-            out.extend_from_slice(b": child ")?;
-            write_number(index.saturating_add(1) as u64, out)?;
-            match id {
-                Some(id) => write_between(b" (", id.as_bytes(), b")", out),
-                None => Ok(()),
-            }
-        }
-    }
+    out.extend_from_slice(b": ")?;
+    write_owner(owner, out)
 }
 
 /// Appends a text between two others.
@@ -67,7 +50,7 @@ pub(crate) fn of_table(
     ensures { IfOk result (λ finding. finding.fault ≡ fault) }
 {
     let mut text = Vec::new(alloc);
-    write_owner(&fault, owner, &mut text)?;
+    write_head(&fault, owner, &mut text)?;
     write_between(b": ", what.as_bytes(), b"", &mut text)?;
     Ok(Finding { fault, text })
 }
@@ -83,8 +66,9 @@ pub(crate) fn of_unknown(
     ensures { IfOk result (λ finding. finding.fault ≡ fault) }
 {
     let mut text = Vec::new(alloc);
-    write_owner(&fault, owner, &mut text)?;
-    write_between(b": unknown key ", key.as_bytes(), b"", &mut text)?;
+    write_head(&fault, owner, &mut text)?;
+    text.extend_from_slice(b": unknown key ")?;
+    write_shown(key, &mut text)?;
     write_keys(keys, &mut text)?;
     write_nearest(alloc, key, keys, &mut text)?;
     Ok(Finding { fault, text })
@@ -101,7 +85,7 @@ pub(crate) fn of_value(
     ensures { IfOk result (λ finding. finding.fault ≡ fault) }
 {
     let mut text = Vec::new(alloc);
-    write_owner(&fault, owner, &mut text)?;
+    write_head(&fault, owner, &mut text)?;
     write_between(b", ", key.as_bytes(), b": read ", &mut text)?;
     write_value(alloc, value, &mut text)?;
     text.extend_from_slice(b"; allowed: ")?;
@@ -133,40 +117,5 @@ fn write_nearest(
     match nearest(alloc, word, words)? {
         Some(near) => write_between(b"; did you mean ", near.as_bytes(), b"?", out),
         None => Ok(()),
-    }
-}
-
-/// Appends a value as a file has it, cut where it is long.
-fn write_value(alloc: Global, value: &Value, out: &mut Vec<u8>) -> Result<(), AllocError> {
-    match value {
-        Value::Table(_) => out.extend_from_slice(b"a table"),
-        Value::Array(_) => out.extend_from_slice(b"an array"),
-        Value::Datetime(_) => out.extend_from_slice(b"a date"),
-        _ => {
-            let printed = printed(alloc, value)?;
-            write_short(printed.as_bytes(), out)
-        }
-    }
-}
-
-/// A document with this value at the key `v`; none where it can't be printed.
-fn printed(alloc: Global, value: &Value) -> Result<String, AllocError> {
-    let mut table = Table::new(alloc);
-    let copy = value.clone()?;
-    let key = String::from_str(alloc, "v")?;
-    drop(table.insert(key, copy)?);
-    match toml::table_to_string(alloc, &table) {
-        Ok(text) => Ok(text),
-        Err(_) => String::from_str(alloc, "v = ?"),
-    }
-}
-
-/// Appends the value of the line `v = VALUE`, cut where it is long.
-fn write_short(line: &[u8], out: &mut Vec<u8>) -> Result<(), AllocError> {
-    let value = line.strip_prefix(b"v = ").unwrap_or(line);
-    let value = value.strip_suffix(b"\n").unwrap_or(value);
-    match value.get(..MOST_SHOWN) {
-        Some(front) => write_between(b"", front, b"..", out),
-        None => out.extend_from_slice(value),
     }
 }

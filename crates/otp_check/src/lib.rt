@@ -3,13 +3,17 @@
 //! Nothing is decided twice: each part of a document is judged by `read_tree`, as a small document of its own.
 #![tactic(auto)]
 
+mod advice;
 mod allowed;
 mod document;
 mod finding;
 mod judging;
 mod near;
+mod owner;
 mod parts;
 mod picture;
+mod places;
+mod shown;
 
 pub use document::{check, says_nothing};
 pub use finding::Finding;

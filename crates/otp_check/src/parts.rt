@@ -1,73 +1,87 @@
 //! All parts of a document, one by one.
 
+use crate::advice::{what_lacks, what_simple, what_unlawful};
 use crate::allowed::{child_keys, flag_keys};
-use crate::finding::{Finding, Owner, of_table, of_unknown, of_value};
-use crate::judging::{judge_child, judge_flag, judge_key, judge_names};
-use otp_file::{ChildKey, FaultPlace, TreeFault};
-use otp_spec::{MAX_CHILDREN, SpecFault};
+use crate::finding::{Finding, of_table, of_unknown, of_value};
+use crate::judging::{judge_child, judge_count, judge_flag, judge_key, judge_names, tree_of};
+use crate::owner::{Owner, write_child};
+use crate::places::{moved_to, place_of};
+use otp_file::{ChildKey, FaultPlace, MAX_DEPTH, TableFault, TreeFault};
+use otp_spec::{MAX_CHILDREN, MAX_TABLES, SpecFault};
 use std::alloc::{AllocError, Global};
 use toml::{Table, Value};
+
+/// What is found in a document.
+#[derive(Drop)]
+pub(crate) struct Found {
+    /// The fault for which the tree is refused.
+    pub(crate) first: Option<Finding>,
+    /// All others, in the order of the walk.
+    pub(crate) others: Vec<Finding>,
+}
 
 /// What is found so far.
 #[derive(Drop)]
 struct Scanning {
     alloc: Global,
-    findings: Vec<Finding>,
-}
-
-/// The fault of the child at this place, which was judged alone.
-fn moved_to(fault: TreeFault, index: usize) -> TreeFault {
-    match fault {
-        TreeFault::UnknownKey(FaultPlace::Child(_)) => TreeFault::UnknownKey(FaultPlace::Child(
-            index,
-        )),
-        TreeFault::MissingKey { index: _, key } => TreeFault::MissingKey { index, key },
-        TreeFault::WrongKind(FaultPlace::ChildKey(_, key)) => {
-            TreeFault::WrongKind(FaultPlace::ChildKey(index, key))
-        }
-        TreeFault::BadSpec { index: _, key } => TreeFault::BadSpec { index, key },
-        TreeFault::NestedNotInfinity { .. } => TreeFault::NestedNotInfinity { index },
-        TreeFault::Unlawful(SpecFault::SignificantPermanent { .. }) => {
-            TreeFault::Unlawful(SpecFault::SignificantPermanent { index })
-        }
-        TreeFault::Unlawful(SpecFault::SignificantNever { .. }) => {
-            TreeFault::Unlawful(SpecFault::SignificantNever { index })
-        }
-        other => other,
-    }
+    /// The fault for which the tree is refused, and the number of its table.
+    why: TableFault,
+    /// So many tables are looked at; the last of them is the one that is looked at now.
+    tables: usize,
+    found: Found,
 }
 
 impl Scanning {
-    /// One thing more is found.
-    fn add(&mut self, finding: Finding) -> Result<(), AllocError> {
-        self.findings.push(finding).map_err(|_| AllocError)
+    /// Whether the table that is looked at now has the fault for which the tree is refused.
+    fn is_refused_here(&self) -> bool {
+        self.tables == self.why.table.saturating_add(1)
     }
 
-    /// The value at a key of the supervisor.
-    fn scan_flag(&mut self, key: &str, value: &Value) -> Result<(), AllocError> {
+    /// One thing more is found in the table that is looked at now.
+    fn add(&mut self, finding: Finding) -> Result<(), AllocError> {
+        if self.is_refused_here() && self.found.first.is_none() && finding.fault == self.why.fault {
+            self.found.first = Some(finding);
+            return Ok(());
+        }
+        self.found.others.push(finding).map_err(|_| AllocError)
+    }
+
+    /// A fault of a whole table is found.
+    fn add_of_table(
+        &mut self,
+        fault: TreeFault,
+        owner: &Owner<'_>,
+        what: &str,
+    ) -> Result<(), AllocError> {
+        let finding = of_table(self.alloc, fault, owner, what)?;
+        self.add(finding)
+    }
+
+    /// The value at a key of a supervisor.
+    fn scan_flag(&mut self, owner: &Owner<'_>, key: &str, value: &Value) -> Result<(), AllocError> {
         let finding = match judge_flag(self.alloc, key, value)? {
             Some(fault @ TreeFault::UnknownKey(_)) => {
-                of_unknown(self.alloc, fault, &Owner::Supervisor, key, &flag_keys())?
+                of_unknown(self.alloc, fault, owner, key, &flag_keys())?
             }
             Some(fault @ (TreeFault::WrongKind(_) | TreeFault::BadFlag(_))) => {
-                of_value(self.alloc, fault, &Owner::Supervisor, key, value)?
+                of_value(self.alloc, fault, owner, key, value)?
             }
             _ => return Ok(()),
         };
         self.add(finding)
     }
 
-    /// The keys of the supervisor, but for its children.
-    fn scan_flags(&mut self, table: &Table) -> Result<(), AllocError> {
+    /// The keys of a supervisor, but for its children.
+    fn scan_flags(&mut self, owner: &Owner<'_>, table: &Table) -> Result<(), AllocError> {
         for (key, value) in table.iter() {
             if key.as_str() != "child" || value.as_array().is_none() {
-                self.scan_flag(key.as_str(), value)?;
+                self.scan_flag(owner, key.as_str(), value)?;
             }
         }
         Ok(())
     }
 
-    /// The value at a key of a child.
+    /// The value at a key of a child, but for what lies in its tree.
     fn scan_key(
         &mut self,
         index: usize,
@@ -102,68 +116,124 @@ impl Scanning {
     ) -> Result<(), AllocError> {
         if let Some(fault) = judge_names(self.alloc, child)? {
             let what = what_lacks(&fault);
-            let finding = of_table(self.alloc, moved_to(fault, index), owner, what)?;
-            self.add(finding)?;
+            self.add_of_table(moved_to(fault, index), owner, what)?;
         }
-        match judge_child(self.alloc, auto_shutdown, child)? {
-            Some(fault @ (TreeFault::Unlawful(_) | TreeFault::NestedNotInfinity { .. })) => {
-                let what = what_unlawful(&fault);
-                let finding = of_table(self.alloc, moved_to(fault, index), owner, what)?;
-                self.add(finding)
+        let Some(fault) = judge_child(self.alloc, auto_shutdown, child)? else {
+            return Ok(());
+        };
+        if self.is_of_whole(&fault, child)? {
+            let what = what_unlawful(&fault);
+            self.add_of_table(moved_to(fault, index), owner, what)?;
+        }
+        Ok(())
+    }
+
+    /// Whether this fault of a child is none of one value of it.
+    fn is_of_whole(&self, fault: &TreeFault, child: &Table) -> Result<bool, AllocError> {
+        match fault {
+            TreeFault::Unlawful(_) | TreeFault::NestedNotInfinity { .. } => Ok(true),
+            TreeFault::WrongKind(FaultPlace::ChildKey(_, ChildKey::Kind)) => {
+                match child.get("type") {
+                    Some(kind) => Ok(judge_key(self.alloc, "type", kind)?.is_none()),
+                    None => Ok(false),
+                }
             }
-            _ => Ok(()),
+            _ => Ok(false),
         }
     }
 
-    /// A child.
+    /// A child of the supervisor that has this path.
     fn scan_child(
         &mut self,
+        path: &[u8],
         index: usize,
         auto_shutdown: Option<&Value>,
         value: &Value,
     ) -> Result<(), AllocError> {
+        let owner = Owner::Child(path, index, id_of(value));
         let Some(child) = value.as_table() else {
             let fault = TreeFault::WrongKind(FaultPlace::Child(index));
-            let owner = Owner::Child(index, None);
-            let finding = of_table(
-                self.alloc,
-                fault,
-                &owner,
-                "no table; each child is one, [[child]]",
-            )?;
-            return self.add(finding);
+            return self.add_of_table(fault, &owner, "no table; each child is one, [[child]]");
         };
-        let owner = Owner::Child(index, id_of(child));
         for (key, value) in child.iter() {
             self.scan_key(index, &owner, key.as_str(), value)?;
         }
         self.scan_whole(index, &owner, auto_shutdown, child)
     }
 
+    /// Whether the child at this place is looked at: one of those that may be, or that for which the tree is refused.
+    fn is_looked_at(&self, index: usize) -> bool {
+        index < MAX_CHILDREN || self.is_refused_here() && place_of(&self.why.fault) == Some(index)
+    }
+
     /// The children, one by one, and ids that stand twice.
     fn scan_children(
         &mut self,
+        path: &[u8],
         auto_shutdown: Option<&Value>,
         children: &[Value],
     ) -> Result<(), AllocError> {
-        for (index, value) in children.iter().enumerate().take(MAX_CHILDREN) {
-            self.scan_child(index, auto_shutdown, value)?;
-            let id = value.as_table().and_then(id_of);
-            let earlier = children.get(..index).unwrap_or(&[]);
-            if is_among(id, earlier) {
-                let fault = TreeFault::Unlawful(SpecFault::DuplicateId { index });
-                let what = "an earlier child has this id; each id stands once";
-                let finding = of_table(self.alloc, fault, &Owner::Child(index, id), what)?;
-                self.add(finding)?;
+        for (index, value) in children.iter().enumerate() {
+            if self.is_looked_at(index) {
+                self.scan_child(path, index, auto_shutdown, value)?;
+                self.scan_id(path, index, value, children.get(..index).unwrap_or(&[]))?;
             }
         }
         Ok(())
     }
+
+    /// Whether an earlier child has the id of this one.
+    fn scan_id(
+        &mut self,
+        path: &[u8],
+        index: usize,
+        value: &Value,
+        earlier: &[Value],
+    ) -> Result<(), AllocError> {
+        let id = id_of(value);
+        if !is_among(id, earlier) {
+            return Ok(());
+        }
+        let fault = TreeFault::Unlawful(SpecFault::DuplicateId { index });
+        let what = "an earlier child has this id; each id stands once";
+        self.add_of_table(fault, &Owner::Child(path, index, id), what)
+    }
+
+    /// How many children there are.
+    fn scan_count(
+        &mut self,
+        owner: &Owner<'_>,
+        strategy: Option<&Value>,
+        children: &[Value],
+    ) -> Result<(), AllocError> {
+        match judge_count(self.alloc, strategy, children)? {
+            Some(fault @ TreeFault::Unlawful(SpecFault::SimpleNeedsOne)) => {
+                self.add_of_table(fault, owner, what_simple(children.len()))
+            }
+            Some(fault @ TreeFault::Unlawful(SpecFault::TooManyChildren)) => {
+                self.add_of_table(fault, owner, what_unlawful(&fault))
+            }
+            _ => Ok(()),
+        }
+    }
+
+    /// The table of the supervisor that has this path, but for the trees of its children.
+    fn scan_table(&mut self, path: &[u8], table: &Table) -> Result<(), AllocError> {
+        let owner = Owner::Supervisor(path);
+        self.scan_flags(&owner, table)?;
+        let children = match table.get("child") {
+            None => &[],
+            Some(Value::Array(children)) => children.as_slice(),
+            Some(_) => return Ok(()),
+        };
+        self.scan_children(path, table.get("auto_shutdown"), children)?;
+        self.scan_count(&owner, table.get("strategy"), children)
+    }
 }
 
 /// The id of a child, where it is a text.
-fn id_of(child: &Table) -> Option<&str> {
-    child.get("id")?.as_str()
+fn id_of(child: &Value) -> Option<&str> {
+    child.as_table()?.get("id")?.as_str()
 }
 
 /// Whether one of these children has this id.
@@ -171,58 +241,50 @@ fn is_among(id: Option<&str>, children: &[Value]) -> bool {
     if id.is_none() {
         return false;
     }
-    children
-        .iter()
-        .any(|child| child.as_table().and_then(id_of) == id)
+    children.iter().any(|child| id_of(child) == id)
 }
 
-/// What a child lacks.
-fn what_lacks(fault: &TreeFault) -> &'static str {
-    match fault {
-        TreeFault::MissingKey {
-            key: ChildKey::Id,
-            ..
-        } => "id is missing; write id = \"NAME\"",
-        TreeFault::MissingKey {
-            key: ChildKey::Start,
-            ..
-        } => "start is missing; write start = \"NAME\", the module of its start function",
-        _ => "its names are unfit",
+/// The table of the supervisor that has this path, and all below it, to so many levels: in the order in which tables are
+/// numbered.
+fn scan_below(
+    scanning: &mut Scanning,
+    path: &[u8],
+    table: &Table,
+    levels: usize,
+) -> Result<(), AllocError> {
+    let Some(left) = levels.checked_sub(1) else {
+        return Ok(());
+    };
+    if scanning.tables >= MAX_TABLES {
+        return Ok(());
     }
-}
-
-/// Why a child's values don't go together, or all of them.
-pub(crate) fn what_unlawful(fault: &TreeFault) -> &'static str {
-    match fault {
-        TreeFault::Unlawful(SpecFault::SignificantPermanent { .. }) =>
-            "significant and permanent; a significant child is \"transient\" or \"temporary\"",
-        TreeFault::Unlawful(SpecFault::SignificantNever { .. }) =>
-            "significant under auto_shutdown = \"never\"; set auto_shutdown, or leave out significant",
-        TreeFault::Unlawful(SpecFault::TooManyChildren) =>
-            "more than 256 children; a supervisor has at most so many",
-        TreeFault::Unlawful(SpecFault::SimpleNeedsOne) =>
-            "not one child; simple_one_for_one has exactly one [[child]], which all are made from",
-        TreeFault::NestedNotInfinity { .. } =>
-            "a child that has a tree is waited for; write shutdown = \"infinity\", or leave it out",
-        TreeFault::TooDeep => "supervisors are nested more than 16 deep",
-        TreeFault::TooManyTables => "more than 64 supervisors",
-        _ => "refused, in the tree of a child; check that tree as a file of its own",
+    scanning.tables = scanning.tables.saturating_add(1);
+    scanning.scan_table(path, table)?;
+    let Some(Value::Array(children)) = table.get("child") else {
+        return Ok(());
+    };
+    for (index, child) in children.iter().enumerate().take(MAX_CHILDREN) {
+        if let Some(tree) = tree_of(child) {
+            let mut deeper = Vec::new(scanning.alloc);
+            write_child(path, index, id_of(child), &mut deeper)?;
+            scan_below(scanning, deeper.as_slice(), tree, left)?;
+        }
     }
+    Ok(())
 }
 
-/// What is wrong in the parts of a supervisor's table.
-pub(crate) fn scan(alloc: Global, table: &Table) -> Result<Vec<Finding>, AllocError> {
+/// What is wrong in the parts of a document, whose tree is refused for this fault.
+pub(crate) fn scan(alloc: Global, why: TableFault, table: &Table) -> Result<Found, AllocError> {
     let mut scanning = Scanning {
         alloc,
-        findings: Vec::new(alloc),
+        why,
+        tables: 0,
+        found: Found {
+            first: None,
+            others: Vec::new(alloc),
+        },
     };
-    scanning.scan_flags(table)?;
-    if let Some(Value::Array(children)) = table.get("child") {
-        scanning.scan_children(table.get("auto_shutdown"), children)?;
-    }
-    let Scanning {
-        alloc: _alloc,
-        findings,
-    } = scanning;
-    Ok(findings)
+    scan_below(&mut scanning, b"", table, MAX_DEPTH)?;
+    let Scanning { found, .. } = scanning;
+    Ok(found)
 }

@@ -2,7 +2,7 @@
 use Rattle.std.specs.Prelude.{◌≡◌, ◌⊎◌, ◌<◌, ⊤, ℕ, Bool, List, [], Option, Some, None, Ok, length}
 use Rattle.std.specs.Io.KnownBytes.{Appends}
 use Rattle.otp_file.specs.declared.fault.TreeFault.{TreeFault}
-use Rattle.otp_file.specs.declared.fault.TreeFault.TheVariants.{TooManyTables, Unlawful}
+use Rattle.otp_file.specs.declared.fault.TreeFault.TheVariants.{TooManyTables}
 use Rattle.otp_file.specs.Files.{Says}
 use Rattle.otp_file.specs.Trees.{Tree, tables_of}
 use Rattle.otp_jobs.specs.Plans.{plan_fault}
@@ -25,7 +25,6 @@ IsRunnable file = (tree : Tree) × (Says file (Ok tree) × (plan_fault (tables_o
 -- a fault that a supervisor may be refused for when it is opened; no tree that a file says is known to have one
 abbrev pub IsOfOpening : TreeFault → Type 0
 IsOfOpening TooManyTables = ⊤
-IsOfOpening (Unlawful _) = ⊤
 IsOfOpening _ = ⊥
 
 -- a report of so many supervisors was written, behind their counts where they are wanted

@@ -165,10 +165,14 @@ ChecksFirst {T} Holds names ending old new =
 abbrev pub ChecksAll : {T : Type 0} → (T → List ℕ → Type 0) → List T → ProgramEnd → Written → Written → Type 0
 ChecksAll Holds names ending old new = ChecksEach Holds names Done ending old new ⊎ ChecksFirst Holds names ending old new
 
+-- a tree that is to be run can't be read: of a file that isn't told why, of standard input it is
+abbrev pub IsUnreadEnd : ProgramEnd → Type 0
+IsUnreadEnd ending = (ending ≡ TreeNotRead) ⊎ ((ending ≡ FileNotRead) ⊎ (ending ≡ OutOfMemory))
+
 -- a run on threads of the tree of a file whose bytes are known to be so: it can't be read, or it was run
 abbrev pub RunsTree : (List ℕ → Type 0) → Bool → ProgramEnd → Written → Written → Type 0
 RunsTree Holds counted ending old new =
-    ((ending ≡ TreeNotRead) × (new ≡ old)) ⊎ ((ending ≡ OutOfMemory) × (new ≡ old))
+    (IsUnreadEnd ending × (new ≡ old))
     ⊎ ((file : List ℕ) × (Holds file × IsTreeRun counted ending file old new))
 
 -- what a command asks for was done

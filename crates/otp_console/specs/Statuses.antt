@@ -52,7 +52,7 @@ not_read_text name why = (codes "error: " ++ name ++ codes " can't be read: ") +
 abbrev pub sentence_of : ProgramEnd → List ℕ
 sentence_of Done = []
 sentence_of WordsRefused = []
-sentence_of NoCommand = codes "usage: otp sim FILE\n"
+sentence_of NoCommand = codes "usage: otp COMMAND FILE; otp --help says which commands there are\n"
 sentence_of WordNotText = codes "error: a word is not UTF-8\n"
 sentence_of FileAsCommand = codes "error: a file in the place of a command: say otp try FILE, or otp --help\n"
 sentence_of TreeNotRead = codes "tree not read\n"
@@ -108,4 +108,3 @@ ending_of_run run.TooManyTables = TreeRefused fault.TooManyTables
 ending_of_run run.NoBody = TreeRefused fault.TooManyTables
 ending_of_run run.Mismatch = CloseMismatch
 ending_of_run run.Missing = CloseMissing
-ending_of_run (run.Unlawful why) = TreeRefused (fault.Unlawful why)

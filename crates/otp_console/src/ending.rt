@@ -126,7 +126,10 @@ fn write_sentence<E: Output>(errors: &mut E, ending: ProgramEnd) -> Result<(), F
     match ending {
         ProgramEnd::Done | ProgramEnd::WordsRefused => Ok(()),
         ProgramEnd::FileNotRead | ProgramEnd::FaultsFound => Ok(()),
-        ProgramEnd::NoCommand => write_all(errors, b"usage: otp sim FILE\n"),
+        ProgramEnd::NoCommand => write_all(
+            errors,
+            b"usage: otp COMMAND FILE; otp --help says which commands there are\n",
+        ),
         ProgramEnd::WordNotText => write_all(errors, b"error: a word is not UTF-8\n"),
         ProgramEnd::FileAsCommand => write_all(
             errors,

@@ -2,7 +2,7 @@
 
 ghost use Rattle.std.specs.Prelude.{ℕ, List, ◌≡◌, ◌≤◌, ◌<◌, ◌++◌, ◌⊎◌, IfErr, IfOk, OnOk, OnErr, codes, vec_len};
 ghost use Rattle.std.specs.Io.KnownBytes.{Appends};
-ghost use Rattle.otp_console.specs.Runs.{TellsFirst};
+ghost use Rattle.otp_console.specs.Runs.{IsUnreadEnd, TellsFirst};
 ghost use Rattle.otp_console.specs.Statuses.{not_read_text};
 ghost use Rattle.otp_console.specs.declared.files.TheConstants.{LARGEST_TREE};
 ghost use Rattle.otp_console.specs.declared.ending.ProgramEnd.TheVariants.{FileNotRead, OutOfMemory};
@@ -97,6 +97,32 @@ pub(crate) fn read_tree_file<F: TreeFiles, E: Output>(
         return Err(tell_not_read(errors, name, TOO_LARGE));
     }
     Ok(file)
+}
+
+/// The bytes of a tree file that is run. Standard input, which is the file `-`, is read as by [`read_tree_file`], since no
+/// more of it is taken than a tree may have; a file may have any size, and it isn't told why it can't be read.
+///
+/// # Errors
+///
+/// [`ProgramEnd::TreeNotRead`] and [`ProgramEnd::OutOfMemory`]; for standard input those of [`read_tree_file`].
+pub(crate) fn read_run_file<F: TreeFiles, E: Output>(
+    files: &F,
+    name: &str,
+    errors: &mut E,
+) -> Result<Vec<u8>, ProgramEnd>
+    ensures holds { IfOk result (λ file. F.holds files.now name.now file.items) }
+    ensures silent { OnOk result (errors.new ≡ errors.old) }
+    ensures ending { IfErr result IsUnreadEnd }
+    ensures first { IfErr result (λ ending. TellsFirst ending (E.contents errors.old) (E.contents errors.new) (E.failures errors.old) (E.failures errors.new)) }
+    ensures kept { E.failures errors.old ≤ E.failures errors.new }
+{
+    if let b"-" = name.as_bytes() {
+        return read_tree_file(files, name, errors);
+    }
+    match files.read(name) {
+        Ok(file) => Ok(file),
+        Err(error) => Err(ProgramEnd::of_file(&error)),
+    }
 }
 
 /// Tells which file can't be read, and why.

@@ -3,7 +3,7 @@
 use crate::files::{LARGEST_TREE, TreeFiles};
 use crate::program::run;
 use crate::running::Pool;
-use crate::stopwatch::Stopwatch;
+use crate::screen::Screen;
 use crate::words::words_of;
 use otp_sim::Counted;
 use std::env::VarError;
@@ -20,7 +20,7 @@ pub fn otp<H: Threads + Wait + Sync>(rt: &HostRuntime, threads: &H) -> ExitCode 
     let mut errors = Counted::new(rt.stderr());
     let pool = Pool {
         rt: threads,
-        gate: &Stopwatch::start(rt),
+        gate: &Screen::start(rt),
     };
     let status = run(
         &pool,

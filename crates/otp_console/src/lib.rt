@@ -11,6 +11,7 @@ mod host;
 pub mod limiting;
 pub mod program;
 pub mod running;
+mod screen;
 mod stopwatch;
 pub mod trying;
 pub mod words;

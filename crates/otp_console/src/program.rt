@@ -9,7 +9,7 @@ ghost use Rattle.otp_console.specs.declared.words.WordsFault.TheVariants.{Clap};
 use crate::checking::{check_file, draw_file};
 use crate::console::console;
 use crate::ending::{ProgramEnd, tell};
-use crate::files::{TreeFiles, read_file, read_tree_file};
+use crate::files::{TreeFiles, read_file, read_run_file, read_tree_file};
 use crate::limiting::limit_file;
 use crate::running::{Pool, run_file};
 use crate::trying::try_file;
@@ -116,7 +116,9 @@ where
             output,
             errors,
         ),
-        Command::Run { file, settings } => run_named(pool, alloc, files, file, settings, output),
+        Command::Run { file, settings } => {
+            run_named(pool, alloc, files, file, settings, output, errors)
+        }
         Command::Use { file, usage } => use_named(alloc, files, file, usage, input, output, errors),
     }
 }
@@ -140,26 +142,30 @@ fn simulate<F: TreeFiles, R: Input, W: Output>(
 }
 
 /// Runs the tree of a file on threads.
-fn run_named<H, G, F, W>(
+fn run_named<H, G, F, W, E>(
     pool: &Pool<'_, H, G>,
     alloc: Global,
     files: &F,
     name: &str,
     settings: Settings,
     output: &mut W,
+    errors: &mut E,
 ) -> ProgramEnd
 where
     H: Threads + Wait + Sync,
     G: Gate + Sync,
     F: TreeFiles,
     W: Output,
-    ensures { RunsTree (F.holds files.now name.now) settings.counted result
+    E: Output,
+    ensures done { RunsTree (F.holds files.now name.now) settings.counted result
         (record { bytes = W.contents output.old; failures = W.failures output.old })
         (record { bytes = W.contents output.new; failures = W.failures output.new }) }
+    ensures first { TellsFirst result (E.contents errors.old) (E.contents errors.new) (E.failures errors.old) (E.failures errors.new) }
+    ensures kept { E.failures errors.old ≤ E.failures errors.new }
 {
-    match files.read(name) {
+    match read_run_file(files, name, errors) {
         Ok(file) => run_file(pool, alloc, &file, settings, output),
-        Err(error) => ProgramEnd::of_file(&error),
+        Err(ending) => ending,
     }
 }
 

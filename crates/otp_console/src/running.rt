@@ -65,7 +65,6 @@ impl ProgramEnd {
             }
             FileRunFault::Mismatch => ProgramEnd::CloseMismatch,
             FileRunFault::Missing => ProgramEnd::CloseMissing,
-            FileRunFault::Unlawful(fault) => ProgramEnd::TreeRefused(TreeFault::Unlawful(fault)),
         }
     }
 }

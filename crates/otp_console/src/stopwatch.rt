@@ -1,12 +1,10 @@
 //! The clock of a run.
-ghost use Rattle.std.specs.Prelude.{◌≤◌, ◌^◌};
+ghost use Rattle.std.specs.Prelude.{◌≤◌};
+ghost use Rattle.otp_spec.specs.declared.limits.TheConstants.{MAX_READING};
 
-use otp_tree::Gate;
+use otp_spec::MAX_READING;
 use std::sync::atomic::{AtomicU64, Ordering};
 use std::time::{Clock, Instant};
-
-/// The latest reading: 2^62 milliseconds.
-const LATEST: u64 = 1 << 62;
 
 /// Says how many milliseconds have passed since it was started; its last reading, 0 at first, where the clock of the
 /// system can't be read.
@@ -27,23 +25,24 @@ impl<'a, C: Clock> Stopwatch<'a, C> {
         }
     }
 
+    /// The milliseconds since it was started, or its last reading.
+    pub fn reading(&self) -> u64
+        ensures { result ≤ MAX_READING }
+    {
+        match self.read() {
+            Some(reading) => {
+                self.last.store(reading, Ordering::Relaxed);
+                reading.min(MAX_READING)
+            }
+            None => self.last.load(Ordering::Relaxed).min(MAX_READING),
+        }
+    }
+
     /// The milliseconds since it was started, if the clock can be read.
     fn read(&self) -> Option<u64> {
         let begun = self.begun?;
         let now = Instant::now(self.clock).ok()?;
         let passed = now.saturating_duration_since(begun).as_millis();
         u64::try_from(passed).ok()
-    }
-}
-
-impl<'a, C: Clock> Gate for Stopwatch<'a, C> {
-    fn before_turn(&self, _hand: usize) -> u64 {
-        match self.read() {
-            Some(reading) => {
-                self.last.store(reading, Ordering::Relaxed);
-                reading.min(LATEST)
-            }
-            None => self.last.load(Ordering::Relaxed).min(LATEST),
-        }
     }
 }

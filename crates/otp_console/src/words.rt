@@ -15,24 +15,24 @@ use std::rt::Env;
 use std::{env, io};
 
 /// The version of the program and its libraries.
-const VERSION: &str = "0.2.0";
+const VERSION: &str = "0.3.0";
 
 const OTP_ABOUT: &str =
     "Supervisors of Erlang/OTP by rules that are proved: what they do, and trees of them that run";
 
 const OTP_STATUSES: &str =
-    "Statuses: 0 done, 1 a file, its tree or its starts, 2 the words, 3 a line of sim or its input, 4 output or memory, 5 a line of a script.\nThe formats stand in docs/FORMATS.md; `otp check FILE` explains what is wrong in a tree file.";
+    "Example: otp try examples/storm.toml examples/storm_survived.script\nStatuses: 0 done, 1 a file, its tree or its starts, 2 the words, 3 a line of sim, the input or a full history, 4 output or memory, 5 a line of a script.\nThe formats stand in docs/FORMATS.md; `otp check FILE` explains what is wrong in a tree file.";
 
 const TRY_ABOUT: &str = "Says what a tree does where a script says what goes wrong";
 
 const TRY_EXAMPLE: &str =
-    "Example: otp try examples/storm.toml examples/storm_survived.script\nA script has lines as `at 1s crash db`, `+500ms fail db`, `hang db`, `stop`; docs/FORMATS.md has them all.\nStatus 5: a line can't be read or could do nothing.";
+    "Example: otp try examples/storm.toml examples/storm_survived.script\nA script has lines as `at 1s crash db`, `+500ms fail db`, `hang db`, `stop`.\nStatuses: 0 all lines were played, 1 a file or its tree, 2 the words, 3 the input or a full history, 4 output or memory, 5 a line can't be read or could do nothing.\nFormats: docs/FORMATS.md, under Scripts.";
 
 const RUN_ABOUT: &str =
     "Runs a tree on threads: each child does what the word of its start says, and the report says what came of it";
 
 const RUN_EXAMPLE: &str =
-    "Example: otp run examples/nested.toml --schedulers 1\nWords of a start: steady, once, crash, crash_once, ignore, refuse, stubborn, bridge; docs/FORMATS.md says what each does.\nEach thread takes its turns, then the root is asked to stop, and each takes as many again.\nStatus 1: the file says no tree, or a start is no such word; 4: output or memory.";
+    "Example: otp run examples/nested.toml --schedulers 1\nWords of a start: steady, once, crash, crash_once, ignore, refuse, stubborn, bridge.\nEach thread takes its turns, then the root is asked to stop, and each takes as many again.\nStatuses: 0 the tree was run, 1 the file, its tree or a start that is no such word, 2 the words, 4 output, memory or a tree that can't be closed.\nFormats: docs/FORMATS.md, under Runs.";
 
 const FILE_ALONE: &str = "The tree file, in TOML";
 
@@ -41,24 +41,24 @@ const FILE_OR_INPUT: &str = "The tree file, in TOML; - is standard input";
 const CHECK_ABOUT: &str = "Says all that is wrong in tree files, and where";
 
 const CHECK_EXAMPLE: &str =
-    "Example: otp check examples/storm.toml examples/shop.toml\nStatus 0: each file says a tree; 1: one says none, or can't be read, after which none is checked.";
+    "Example: otp check examples/storm.toml examples/shop.toml\nStatuses: 0 each file says a tree, 1 one says none, or can't be read, after which none is checked, 2 the words, 4 output or memory.\nFormats: docs/FORMATS.md, under Tree file, and under Checks and pictures.";
 
 const TREE_ABOUT: &str = "Draws a tree as text";
 
 const TREE_EXAMPLE: &str =
-    "Example: otp tree examples/storm.toml\nStatus 1: the file says no tree; `otp check FILE` says why.";
+    "Example: otp tree examples/storm.toml\nStatuses: 0 the tree was drawn, 1 the file says no tree (`otp check FILE` says why) or can't be read, 2 the words, 4 output or memory.\nFormats: docs/FORMATS.md, under Checks and pictures.";
 
 const LIMITS_ABOUT: &str =
     "Says what each child's failure costs: so many crashes at once are survived, or crashes so far apart";
 
 const LIMITS_EXAMPLE: &str =
-    "Example: otp limits examples/storm.toml\nburst: so many crashes at once are survived; interval: crashes so far apart are survived, and with a millisecond less not; root, where supervisors stand below: so many crashes the root survives.\nStatus 1: the file says no tree; `otp check FILE` says why.";
+    "Example: otp limits examples/storm.toml\nburst: so many crashes at once are survived; interval: crashes so far apart are survived, and with a millisecond less not; root, where supervisors stand below: so many crashes the root survives.\nStatuses: 0 the table was written, 1 the file says no tree (`otp check FILE` says why) or can't be read, 2 the words, 3 a full history, 4 output or memory.\nFormats: docs/FORMATS.md, under Limits.";
 
 const SIM_ABOUT: &str =
     "Plays event lines of standard input on a supervisor, and prints each order that it gives";
 
 const SIM_EXAMPLE: &str =
-    "Example: otp sim examples/three_workers.toml < examples/three_workers.events\nStatus 3: a line is refused.";
+    "Example: otp sim examples/three_workers.toml < examples/three_workers.events\nStatuses: 0 all lines were played, 1 the file or its tree, 2 the words, 3 a line is refused, the input or a full history, 4 output or memory.\nFormats: docs/FORMATS.md, under Lines and under Orders.";
 
 /// What a tree file is used for.
 #[derive(Clone, Copy, Debug, PartialEq, Eq)]
@@ -237,7 +237,7 @@ fn run_command<'a>(alloc: Global) -> Result<clap::Command<'a>, AllocError> {
         .long("counts")
         .action(ArgAction::SetTrue)
         .help("Says first what each supervisor counts of its children just before the stop");
-    file_command(alloc, "run", RUN_ABOUT, RUN_EXAMPLE, FILE_ALONE)?
+    file_command(alloc, "run", RUN_ABOUT, RUN_EXAMPLE, FILE_OR_INPUT)?
         .arg(schedulers)?
         .arg(turns)?
         .arg(counts)

@@ -1,13 +1,13 @@
 //! A supervisor's core: its history, and the state that the rules give for it.
 
-ghost use Rattle.std.specs.Prelude.{ℕ, All, ◌≡◌, ◌+◌, ◌-◌, ◌<◌, ◌≤◌, ◌^◌, ◌↔◌, ◌++◌, ◌∷◌, [], true, false, length, not, is_some, is_none, nat_lt, max, min, IsTrue, None, Some, IfOk, IfErr, OnOk, OnErr, MatchOption, option_map, slice_get, vec_len, vec_capacity};
+ghost use Rattle.std.specs.Prelude.{ℕ, All, ◌≡◌, ◌+◌, ◌-◌, ◌<◌, ◌≤◌, ◌^◌, ◌↔◌, ◌++◌, ◌∷◌, [], true, false, length, not, is_some, is_none, nat_lt, max, min, IsTrue, None, Some, IfOk, IfErr, OnOk, OnErr, MatchOption, slice_get, vec_len, vec_capacity};
 ghost use Rattle.std.specs.List.{filter, list_any};
 ghost use Rattle.otp_core.specs.View.{state_of};
 ghost use Rattle.otp_core.specs.Opened.{IsOpenFault};
 ghost use Rattle.otp_rules.specs.Counts.{counts_of};
 ghost use Rattle.otp_rules.specs.Effects.{is_reply};
 ghost use Rattle.otp_rules.specs.Needs.{IsLawfulHistory, last_number, needs_number, numbers_of};
-ghost use Rattle.otp_rules.specs.Next.{has_come, next_deadline, next_kind};
+ghost use Rattle.otp_rules.specs.Next.{has_come, idle_kind, next_deadline, next_kind};
 ghost use Rattle.otp_rules.specs.Rate.{IsRated};
 ghost use Rattle.otp_rules.specs.Run.{empty_state, reply_of};
 ghost use Rattle.otp_spec.specs.Supervisor.{supervisor_fault};
@@ -16,16 +16,17 @@ ghost use Rattle.otp_rules.specs.State.{is_over};
 ghost use Rattle.otp_rules.specs.Step.{is_late, step};
 ghost use Rattle.otp_rules.specs.Ends.{last_stamps};
 
-use crate::opening::{OpenFault, copy_specs};
+use crate::opening::OpenFault;
 use otp_lists::answers::Answers;
 use otp_lists::effects::{count_orders, move_orders};
 use otp_lists::history::History;
 use otp_lists::next::{has_late, next_deadline};
 use otp_lists::state::is_over;
+use otp_lists::waits::Waits;
 use otp_machine::{Given, Machine, Numbers};
 use otp_needs::needs_number;
 use otp_rules::{CountsNow, Effect, Event, Kind, Phase, Reply, SupEnd, Waiting, laws};
-use otp_spec::{ChildSpec, MAX_EVENTS, SupFlags, SupSpec, check_supervisor};
+use otp_spec::{ChildSpec, MAX_EVENTS, SupFlags, SupSpec, check_supervisor, copy_specs};
 use otp_table::{Row, Rows};
 use otp_window::Window;
 use std::alloc::{AllocError, Global};
@@ -103,7 +104,8 @@ impl Core {
 
     /// The same for what was tested before: nothing is tested again or copied, and no memory is taken.
     pub fn of(alloc: Global, supervisor: SupSpec) -> Core
-        ensures { result ≡ record { base = empty_state supervisor.flags supervisor.specs; history = []; effects = []; prepared = false } }
+        ensures core { result ≡ record { base = empty_state supervisor.flags supervisor.specs; history = []; effects = []; prepared = false } }
+        ensures limit { length supervisor.specs ≤ MAX_CHILDREN }
     {
         let (flags, specs) = supervisor.into_parts();
         let window = Window::new(alloc, flags.intensity, flags.period);
@@ -116,7 +118,7 @@ impl Core {
             to_stop: Vec::new(alloc),
             to_start: VecDeque::new(alloc),
             follows: None,
-            waiting: VecDeque::new(alloc),
+            waiting: Waits::new(alloc),
             replies: Answers::new(alloc),
             ends: Vec::new(alloc),
             last: 0,
@@ -241,10 +243,10 @@ impl Core {
     }
 
     /// The item that waits first. [`Kind::Resumed`] takes it.
-    pub fn first_waiting(&self) -> Option<&Waiting>
-        ensures { option_map (λ item. item.now) result ≡ slice_get (state_of self.now).waiting 0 }
+    pub fn first_waiting(&self) -> Option<Waiting>
+        ensures { result ≡ slice_get (state_of self.now).waiting 0 }
     {
-        self.machine.waiting.front()
+        self.machine.waiting.first()
     }
 
     /// Whether a child is to be killed at this reading of the clock: it was told to shut down, and its deadline has come.
@@ -266,13 +268,21 @@ impl Core {
 
     /// The event that comes next without an item of the inbox, at this reading of the clock: a kill whose deadline has
     /// come; or, where no work is open, the stop that the parent wants, and then what waits first.
-    #[tactic(auto, unfolding(otp_rules::specs::Next::next_kind, otp_rules::specs::Next::idle_kind))]
+    #[tactic(auto, unfolding(otp_rules::specs::Next::next_kind))]
     pub fn next_kind(&self, reading: u64, is_stop_wanted: bool) -> Option<Kind>
         ensures { result ≡ next_kind (state_of self.now) reading is_stop_wanted }
     {
         if self.is_due(reading) {
             return Some(Kind::Ticked);
         }
+        self.idle_kind(is_stop_wanted)
+    }
+
+    /// That event, deadlines apart: for a caller that tells the core each reading of the clock as it comes.
+    #[tactic(auto, unfolding(otp_rules::specs::Next::idle_kind))]
+    pub fn idle_kind(&self, is_stop_wanted: bool) -> Option<Kind>
+        ensures { result ≡ idle_kind (state_of self.now) is_stop_wanted }
+    {
         if self.has_open_work() {
             return None;
         }

@@ -58,16 +58,6 @@ faults_from_here values place other within =
     let from : List Value → List TreeFault = λ rest. flat_map (λ (index, value). child_faults index (view value)) (enumerate_from place rest) in
     at_drop_more from values place other within
 
--- where the places before have no fault, a fault at this place is the answer
-pub fault_found : (values : List Value) (place : ℕ) (other : Value) (spec : ChildSpec) (specs : List ChildSpec) (fault : TreeFault) →
-    place < length values →
-    children_faults (map view values) ≡ faults_from values place →
-    answer_of (child_faults place (view (get_or values place other))) spec ≡ Err fault →
-    answer_of (children_faults (map view values)) specs ≡ Err fault
-fault_found values place other spec specs fault within before found =
-    ap (λ faults. answer_of faults specs) (before ∙ faults_from_here values place other within)
-    ∙ answer_of-stop (child_faults place (view (get_or values place other))) (faults_from values (place + 1)) spec specs fault found
-
 -- a place with no fault is passed over
 pub fault_passed : (values : List Value) (place : ℕ) (other : Value) (spec said : ChildSpec) →
     place < length values →

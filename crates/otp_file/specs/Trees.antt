@@ -6,7 +6,8 @@ use Rattle.otp_spec.specs.declared.flags.SupFlags.{SupFlags}
 use Rattle.otp_file.specs.declared.fault.TableFault.{TableFault}
 use Rattle.otp_file.specs.declared.fault.TreeFault.{TreeFault}
 use Rattle.otp_file.specs.declared.fault.TreeFault.TheVariants.{TooDeep, TooManyTables}
-use Rattle.otp_file.specs.declared.limits.TheConstants.{MAX_DEPTH, MAX_TABLES}
+use Rattle.otp_file.specs.declared.limits.TheConstants.{MAX_DEPTH}
+use Rattle.otp_spec.specs.declared.limits.TheConstants.{MAX_TABLES}
 use Rattle.otp_file.specs.Children.{tree_of}
 use Rattle.otp_file.specs.Faults.{answer_of, fault_if}
 use Rattle.otp_file.specs.Tree.{children_of, flags_in, specs_in, table_faults}

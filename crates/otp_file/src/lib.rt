@@ -11,5 +11,5 @@ pub mod tree;
 pub mod value;
 
 pub use fault::{ChildKey, FaultPlace, FlagKey, TableFault, TreeFault};
-pub use limits::{MAX_DEPTH, MAX_TABLES};
+pub use limits::MAX_DEPTH;
 pub use tree::{TreeSpec, read_located, read_tree};

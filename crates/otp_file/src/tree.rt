@@ -13,9 +13,9 @@ ghost use Rattle.toml.specs.View.{table_view, view};
 
 use crate::child::tree_of;
 use crate::fault::{TableFault, TreeFault};
-use crate::limits::{MAX_DEPTH, MAX_TABLES};
+use crate::limits::MAX_DEPTH;
 use crate::supervisor::{children_in, nested_of, supervisor_in};
-use otp_spec::{MAX_CHILDREN, SupSpec};
+use otp_spec::{MAX_CHILDREN, MAX_TABLES, SupSpec};
 use std::alloc::Global;
 use std::marker::Model;
 use toml::{Table, Value};

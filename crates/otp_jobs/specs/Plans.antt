@@ -142,7 +142,7 @@ plans_from number [] = []
 plans_from number (table ∷ tables) = plan_of (number + 1) (tree_sizes tables) table ∷ plans_from (number + 1) tables
 
 abbrev pub seen : TablePlan WorkedJob Calm → PlanView
-seen plan = record { flags = plan.flags; specs = plan.specs.items; bodies = map Some plan.bodies.items }
+seen plan = record { flags = plan.supervisor.flags; specs = plan.supervisor.specs; bodies = map Some plan.bodies.items }
 
 abbrev pub table_seen : FlatTable → Table
 table_seen table = record { flags = table.supervisor.flags; specs = table.supervisor.specs; nested = table.nested.items }

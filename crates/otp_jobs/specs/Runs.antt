@@ -13,7 +13,7 @@ use Rattle.otp_jobs.specs.declared.report.TableLine.{TableLine}
 use Rattle.otp_jobs.specs.declared.role.Calm.{Calm}
 use Rattle.otp_jobs.specs.declared.worker.WorkedJob.{WorkedJob}
 use Rattle.otp_jobs.specs.declared.run.FileRunFault.{FileRunFault}
-use Rattle.otp_jobs.specs.declared.run.FileRunFault.TheVariants.{OutOfMemory, UnknownStart, WrongBody, TooManyTables, NoBody, Unlawful, Mismatch, Missing}
+use Rattle.otp_jobs.specs.declared.run.FileRunFault.TheVariants.{OutOfMemory, UnknownStart, WrongBody, TooManyTables, NoBody, Mismatch, Missing}
 use Rattle.otp_jobs.specs.declared.run.TheConstants.{MIN_SCHEDULERS, MAX_SCHEDULERS, MIN_TURNS, MAX_TURNS}
 
 -- the limits of a run
@@ -43,7 +43,6 @@ IsOfRun _ = ⊥
 -- a fault that is none of the starts
 abbrev pub IsNotPlanned : FileRunFault → Type 0
 IsNotPlanned OutOfMemory = ⊤
-IsNotPlanned (Unlawful _) = ⊤
 IsNotPlanned NoBody = ⊤
 IsNotPlanned Mismatch = ⊤
 IsNotPlanned Missing = ⊤

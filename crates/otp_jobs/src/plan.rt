@@ -2,17 +2,17 @@
 ghost use Rattle.std.specs.Prelude.{◌≡◌, ◌+◌, ◌≤◌, ◌<◌, ◌∷◌, List, Some, None, IfOk, IfErr, OnOk, Ok, map, length};
 ghost use Rattle.std.specs.List.{list_any};
 ghost use Rattle.otp_file.specs.Trees.{tables_of};
-ghost use Rattle.otp_file.specs.declared.limits.TheConstants.{MAX_TABLES};
+ghost use Rattle.otp_spec.specs.declared.limits.TheConstants.{MAX_TABLES};
 ghost use Rattle.otp_spec.specs.declared.child.ChildSpec.{ChildSpec};
 ghost use Rattle.otp_jobs.specs.Plans.{IsOfPlan, bodies_from, first_size, first_unknown, has_misfit, is_nested, joined, other_sizes, plan_of, plans_from, seen, total, misfits, misfit_at, misfit_from, plan_fault, role_at, table_seen, unknown_at, unknown_from};
 
 use crate::flat::{FlatTable, flatten};
 use crate::role::{Calm, Role, WorkedBody};
 use crate::worker::WorkedJob;
-use otp_file::{MAX_TABLES, TreeSpec};
+use otp_file::TreeSpec;
 use otp_job::{Body, TableNo};
 use otp_reason::Name;
-use otp_spec::{ChildSpec, ChildType};
+use otp_spec::{ChildSpec, ChildType, MAX_TABLES};
 use otp_tree::TablePlan;
 use std::alloc::{AllocError, Global};
 
@@ -159,12 +159,12 @@ pub(crate) fn check(tables: &[FlatTable]) -> Result<(), PlanFault>
 /// Which numbers the trees of a table's children have: the next one, and how many tables each tree has that is still to
 /// come.
 #[derive(Clone, Copy)]
-struct Numbers<'a> {
+struct TableNumbers<'a> {
     next: usize,
     sizes: &'a [usize],
 }
 
-impl<'a> Numbers<'a> {
+impl<'a> TableNumbers<'a> {
     /// The number of the next tree.
     fn take(&mut self) -> usize
         requires { self.old.next + total self.old.sizes.now ≤ MAX_TABLES }
@@ -185,7 +185,7 @@ impl<'a> Numbers<'a> {
 /// The body of the child at a place: a table of the tree, or what its start stands for.
 #[tactic(auto, unfolding(crate::specs::Plans::unknown_at))]
 fn body_at(
-    numbers: &mut Numbers<'_>,
+    numbers: &mut TableNumbers<'_>,
     nested: &[usize],
     place: usize,
     spec: &ChildSpec,
@@ -208,7 +208,7 @@ fn body_at(
 /// The bodies of the children of a table.
 fn bodies_of(
     alloc: Global,
-    numbers: Numbers<'_>,
+    numbers: TableNumbers<'_>,
     nested: &[usize],
     specs: &[ChildSpec],
 ) -> Result<Vec<WorkedBody>, AllocError>
@@ -262,19 +262,14 @@ fn plan_one(
     let bodies = if supervisor.flags().strategy.is_simple() {
         Vec::new(alloc)
     } else {
-        let numbers = Numbers {
+        let numbers = TableNumbers {
             next: number + 1,
             sizes: sizes.as_slice(),
         };
         bodies_of(alloc, numbers, nested.as_slice(), supervisor.specs())?
     };
     *sizes = joined(alloc, nested.len(), sizes.as_slice())?;
-    let (flags, specs) = supervisor.into_parts();
-    Ok(TablePlan {
-        flags,
-        specs,
-        bodies,
-    })
+    Ok(TablePlan { supervisor, bodies })
 }
 
 /// What these tables are opened with.

@@ -9,10 +9,8 @@ use crate::plan::{PlanFault, plan_tree};
 use crate::report::{TableLine, write_counts, write_report};
 use crate::role::Calm;
 use crate::worker::WorkedJob;
-use otp_core::OpenFault;
 use otp_file::TreeSpec;
 use otp_reason::Name;
-use otp_spec::SpecFault;
 use otp_tree::{
     CloseFault, CountedRun, Gate, RunFault, SystemFault, TableReport, run_tree_counted,
 };
@@ -34,8 +32,6 @@ pub enum FileRunFault {
     TooManyTables,
     /// A child has no body, which the plan of each tree file has.
     NoBody,
-    /// E1 to E7: a supervisor is not opened, which each is that a tree file says.
-    Unlawful(SpecFault),
     /// E17: a supervisor was told an end of another that isn't the one that the other's own history gives.
     Mismatch,
     /// E20: a part of the tree is missing at its close.
@@ -77,10 +73,6 @@ impl From<SystemFault> for FileRunFault {
     fn from(why: SystemFault) -> FileRunFault {
         match why {
             SystemFault::OutOfMemory => FileRunFault::OutOfMemory,
-            SystemFault::Table { fault, .. } => match fault {
-                OpenFault::OutOfMemory => FileRunFault::OutOfMemory,
-                OpenFault::Spec(fault) => FileRunFault::Unlawful(fault),
-            },
             SystemFault::NoBody { .. } => FileRunFault::NoBody,
         }
     }

@@ -3,7 +3,6 @@
 ghost use Rattle.std.specs.Prelude.{◌≡◌, ◌≤◌, ◌^◌, ◌++◌, None, IfOk, OnOk, length};
 ghost use Rattle.std.specs.List.{filter_map};
 ghost use Rattle.otp_limits.specs.Costs.{Affects, IsCost, apart_in, is_worse, started_by, stopped_by, survived_in};
-ghost use Rattle.otp_spec.specs.Supervisor.{supervisor_fault};
 
 use crate::fate::{Fate, play};
 use crate::list::Listed;
@@ -12,7 +11,7 @@ use crate::stage::Stage;
 use crate::steady::{Steady, find_steady};
 use otp_reason::Name;
 use otp_rules::Effect;
-use otp_spec::{ChildSpec, SupFlags};
+use otp_spec::SupSpec;
 use otp_try::Halt;
 use std::alloc::{AllocError, Global};
 
@@ -87,14 +86,12 @@ fn put_started(spec: &Name, orders: &[Effect], names: &mut Listed<Name>) -> Resu
 /// What one crash of a child stops, and what is started again.
 fn find_affected(
     alloc: Global,
-    flags: &SupFlags,
-    specs: &[ChildSpec],
+    supervisor: &SupSpec,
     id: &Name,
 ) -> Result<(Listed<Name>, Listed<Name>), Halt>
-    requires { supervisor_fault flags.now specs.now ≡ None }
-    ensures { IfOk result (λ found. Affects flags.now specs.now id.now found.0 found.1) }
+    ensures { IfOk result (λ found. Affects supervisor.now.flags supervisor.now.specs id.now found.0 found.1) }
 {
-    let mut stage = Stage::open(alloc, *flags, specs)?;
+    let mut stage = Stage::open(alloc, supervisor)?;
     stage.crash(id, 0)?;
     let mut stops = Listed::new(alloc);
     put_stopped(id, stage.orders(), &mut stops)?;
@@ -108,18 +105,12 @@ fn find_affected(
 /// # Errors
 ///
 /// Where memory is refused, or a core's history has no room for the opening and one crash.
-pub fn find_cost(
-    alloc: Global,
-    flags: &SupFlags,
-    specs: &[ChildSpec],
-    id: &Name,
-) -> Result<Cost, Halt>
-    requires { supervisor_fault flags.now specs.now ≡ None }
-    ensures { IfOk result (λ cost. IsCost flags.now specs.now id.now cost) }
+pub fn find_cost(alloc: Global, supervisor: &SupSpec, id: &Name) -> Result<Cost, Halt>
+    ensures { IfOk result (λ cost. IsCost supervisor.now.flags supervisor.now.specs id.now cost) }
 {
-    let (stops, starts) = find_affected(alloc, flags, specs, id)?;
-    let burst = play(alloc, flags, specs, id, 0, MOST_CRASHES)?;
-    let steady = find_steady(alloc, flags, specs, id)?;
+    let (stops, starts) = find_affected(alloc, supervisor, id)?;
+    let burst = play(alloc, supervisor, id, 0, MOST_CRASHES)?;
+    let steady = find_steady(alloc, supervisor, id)?;
     Ok(Cost {
         id: *id,
         stops,

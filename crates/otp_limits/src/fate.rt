@@ -3,12 +3,11 @@
 ghost use Rattle.std.specs.Prelude.{◌≡◌, ◌≤◌, ◌*◌, None, IfOk, false};
 ghost use Rattle.otp_spec.specs.declared.limits.TheConstants.{MAX_READING};
 ghost use Rattle.otp_limits.specs.Fates.{Fares, Plays};
-ghost use Rattle.otp_spec.specs.Supervisor.{supervisor_fault};
 ghost use Rattle.otp_rules.specs.State.{is_over};
 
 use crate::stage::Stage;
 use otp_reason::Name;
-use otp_spec::{ChildSpec, SupFlags};
+use otp_spec::SupSpec;
 use otp_try::Halt;
 use std::alloc::Global;
 
@@ -55,17 +54,15 @@ fn fare(stage: &mut Stage, id: &Name, gap: u64, crashes: u64) -> Result<Fate, Ha
 /// Where memory is refused, or the opening itself doesn't come to its end.
 pub(crate) fn play(
     alloc: Global,
-    flags: &SupFlags,
-    specs: &[ChildSpec],
+    supervisor: &SupSpec,
     id: &Name,
     gap: u64,
     crashes: u64,
 ) -> Result<Fate, Halt>
-    requires lawful { supervisor_fault flags.now specs.now ≡ None }
     requires time { crashes * gap ≤ MAX_READING }
-    ensures { IfOk result (λ fate. Plays flags.now specs.now id.now gap crashes fate) }
+    ensures { IfOk result (λ fate. Plays supervisor.now.flags supervisor.now.specs id.now gap crashes fate) }
 {
-    let mut stage = Stage::open(alloc, *flags, specs)?;
+    let mut stage = Stage::open(alloc, supervisor)?;
     if stage.has_ended() {
         return Err(Halt::HistoryFull);
     }

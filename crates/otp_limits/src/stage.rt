@@ -4,7 +4,6 @@ ghost use Rattle.std.specs.Prelude.{ℕ, ◌≡◌, ◌≤◌, ◌<◌, ◌++◌
 ghost use Rattle.std.specs.List.{filter_map};
 ghost use Rattle.otp_limits.specs.Fates.{HasNoRoom, crashed, is_of, process_of, running_at};
 ghost use Rattle.otp_limits.specs.Scene.{FillsUp, IsFull, Opens, Settles, happened, heard, joined, next_in, note_of};
-ghost use Rattle.otp_spec.specs.Supervisor.{supervisor_fault};
 ghost use Rattle.otp_rules.specs.State.{is_over};
 ghost use Rattle.otp_try.specs.declared.trial.Halt.TheVariants.{HistoryFull};
 ghost use Rattle.otp_spec.specs.Flags.{is_simple};
@@ -13,7 +12,7 @@ ghost use Rattle.otp_spec.specs.declared.limits.TheConstants.{MAX_READING};
 use otp_core::{Core, Counter, MAX_EVENTS};
 use otp_reason::{Name, Note, Reason};
 use otp_rules::{Call, Effect, Item, Kind};
-use otp_spec::{ChildSpec, Strategy, SupFlags};
+use otp_spec::{Strategy, SupSpec};
 use otp_table::Row;
 use otp_try::Halt;
 use std::alloc::{AllocError, Global};
@@ -104,21 +103,17 @@ impl Model for Stage {
 
 impl Stage {
     /// A supervisor that was opened, and whose children run.
-    pub fn open(alloc: Global, flags: SupFlags, specs: &[ChildSpec]) -> Result<Self, Halt>
-        requires { supervisor_fault flags specs.now ≡ None }
-        ensures { IfOk result (λ stage. Opens flags specs.now stage) }
+    pub fn open(alloc: Global, supervisor: &SupSpec) -> Result<Self, Halt>
+        ensures { IfOk result (λ stage. Opens supervisor.now.flags supervisor.now.specs stage) }
     {
-        let core = match Core::open(alloc, flags, specs) {
-            Ok(core) => core,
-            Err(_) => return Err(Halt::OutOfMemory),
-        };
+        let core = Core::of(alloc, supervisor.try_clone(alloc)?);
         let mut stage = Stage {
             core,
             notes: VecDeque::new(alloc),
         };
         stage.happen(0, Kind::Opened(0))?;
         stage.settle(0)?;
-        stage.join(flags.strategy)?;
+        stage.join(supervisor.flags().strategy)?;
         stage.settle(0)?;
         Ok(stage)
     }

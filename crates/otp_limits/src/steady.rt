@@ -3,11 +3,10 @@
 ghost use Rattle.std.specs.Prelude.{◌≡◌, ◌≤◌, ◌<◌, ◌^◌, ◌+◌, ◌*◌, None, IfOk};
 ghost use Rattle.otp_limits.specs.Costs.{IsJudged, IsSteady, longest_gap, steady_crashes, verdict_of};
 ghost use Rattle.otp_limits.specs.declared.steady.Verdict.TheVariants.{Falls, Lasts};
-ghost use Rattle.otp_spec.specs.Supervisor.{supervisor_fault};
 
 use crate::fate::{Fate, play};
 use otp_reason::Name;
-use otp_spec::{ChildSpec, MAX_INTENSITY, MAX_PERIOD, SupFlags};
+use otp_spec::{MAX_INTENSITY, MAX_PERIOD, SupFlags, SupSpec};
 use otp_try::Halt;
 use std::alloc::Global;
 
@@ -64,42 +63,28 @@ fn steady_crashes(flags: &SupFlags) -> u64
 }
 
 /// Plays crashes of a child at an interval in milliseconds.
-fn judge(
-    alloc: Global,
-    flags: &SupFlags,
-    specs: &[ChildSpec],
-    id: &Name,
-    gap: u64,
-) -> Result<Verdict, Halt>
-    requires lawful { supervisor_fault flags.now specs.now ≡ None }
+fn judge(alloc: Global, supervisor: &SupSpec, id: &Name, gap: u64) -> Result<Verdict, Halt>
     requires gap { gap ≤ 2 ^ 30 }
-    ensures { IfOk result (λ verdict. IsJudged flags.now specs.now id.now gap verdict) }
+    ensures { IfOk result (λ verdict. IsJudged supervisor.now.flags supervisor.now.specs id.now gap verdict) }
 {
-    let crashes = steady_crashes(flags);
-    let fate = play(alloc, flags, specs, id, gap, crashes)?;
+    let crashes = steady_crashes(&supervisor.flags());
+    let fate = play(alloc, supervisor, id, gap, crashes)?;
     Ok(verdict_of(fate))
 }
 
 /// Finds the shortest interval by halving: crashes that are `long` apart are survived, and those `short` apart are not.
 #[tactic(auto, unfolding(crate::specs::Costs::IsSteady))]
-fn search(
-    alloc: Global,
-    flags: &SupFlags,
-    specs: &[ChildSpec],
-    id: &Name,
-    longest: u64,
-) -> Result<Steady, Halt>
-    requires lawful { supervisor_fault flags.now specs.now ≡ None }
+fn search(alloc: Global, supervisor: &SupSpec, id: &Name, longest: u64) -> Result<Steady, Halt>
     requires limit { (0 < longest) × (longest ≤ 2 ^ 30) }
-    requires falls { IsJudged flags.now specs.now id.now 0 Falls }
-    requires lasts { IsJudged flags.now specs.now id.now longest Lasts }
-    ensures { IfOk result (λ steady. IsSteady flags.now specs.now id.now steady) }
+    requires falls { IsJudged supervisor.now.flags supervisor.now.specs id.now 0 Falls }
+    requires lasts { IsJudged supervisor.now.flags supervisor.now.specs id.now longest Lasts }
+    ensures { IfOk result (λ steady. IsSteady supervisor.now.flags supervisor.now.specs id.now steady) }
 {
     let mut short = 0;
     let mut long = longest;
     'halving: while long - short > 1 {
         let middle = short + (long - short) / 2;
-        match judge(alloc, flags, specs, id, middle)? {
+        match judge(alloc, supervisor, id, middle)? {
             Verdict::Lasts => long = middle,
             Verdict::Falls => short = middle,
             Verdict::Unplayed => return Ok(Steady::Unplayed),
@@ -114,24 +99,18 @@ fn search(
 ///
 /// Where memory is refused.
 #[tactic(auto, unfolding(crate::specs::Costs::IsSteady))]
-pub(crate) fn find_steady(
-    alloc: Global,
-    flags: &SupFlags,
-    specs: &[ChildSpec],
-    id: &Name,
-) -> Result<Steady, Halt>
-    requires { supervisor_fault flags.now specs.now ≡ None }
-    ensures { IfOk result (λ steady. IsSteady flags.now specs.now id.now steady) }
+pub(crate) fn find_steady(alloc: Global, supervisor: &SupSpec, id: &Name) -> Result<Steady, Halt>
+    ensures { IfOk result (λ steady. IsSteady supervisor.now.flags supervisor.now.specs id.now steady) }
 {
-    match judge(alloc, flags, specs, id, 0)? {
+    match judge(alloc, supervisor, id, 0)? {
         Verdict::Lasts => return Ok(Steady::Always),
         Verdict::Unplayed => return Ok(Steady::Unplayed),
         Verdict::Falls => {}
     }
-    let longest = longest_gap(flags);
-    match judge(alloc, flags, specs, id, longest)? {
+    let longest = longest_gap(&supervisor.flags());
+    match judge(alloc, supervisor, id, longest)? {
         Verdict::Falls => Ok(Steady::Never),
         Verdict::Unplayed => Ok(Steady::Unplayed),
-        Verdict::Lasts => search(alloc, flags, specs, id, longest),
+        Verdict::Lasts => search(alloc, supervisor, id, longest),
     }
 }

@@ -3,7 +3,6 @@
 ghost use Rattle.std.specs.Prelude.{◌≡◌, ◌≤◌, ◌++◌, None, IfOk, OnOk, length, codes, replicate};
 ghost use Rattle.std.specs.List.{flat_map};
 ghost use Rattle.otp_limits.specs.Table.{affected_text, at_left, at_right, burst_text, column_after, gone_text, interval_text, list_text, name_text, names_text, row_text, steady_text, table_text, TellsLimits, who_text};
-ghost use Rattle.otp_spec.specs.Supervisor.{supervisor_fault};
 ghost use Rattle.otp_limits.specs.declared.table.TheConstants.{WIDTH};
 
 use crate::cost::Cost;
@@ -11,7 +10,7 @@ use crate::fate::Fate;
 use crate::limits::find_limits;
 use crate::steady::Steady;
 use otp_reason::Name;
-use otp_spec::{ChildSpec, SupFlags};
+use otp_spec::SupSpec;
 use otp_text::{write_name, write_number};
 use otp_try::Halt;
 use std::alloc::{AllocError, Global};
@@ -253,16 +252,10 @@ pub fn write_table(alloc: Global, costs: &[Cost], out: &mut Vec<u8>) -> Result<(
 /// # Errors
 ///
 /// Where memory is refused, or a core's history has no room for the opening and one crash.
-pub fn write_limits(
-    alloc: Global,
-    flags: &SupFlags,
-    specs: &[ChildSpec],
-    out: &mut Vec<u8>,
-) -> Result<(), Halt>
-    requires { supervisor_fault flags.now specs.now ≡ None }
-    ensures { OnOk result (TellsLimits flags.now specs.now out.old.items out.new.items) }
+pub fn write_limits(alloc: Global, supervisor: &SupSpec, out: &mut Vec<u8>) -> Result<(), Halt>
+    ensures { OnOk result (TellsLimits supervisor.now.flags supervisor.now.specs out.old.items out.new.items) }
 {
-    let costs = find_limits(alloc, flags, specs)?;
+    let costs = find_limits(alloc, supervisor)?;
     write_table(alloc, costs.as_slice(), out)?;
     Ok(())
 }

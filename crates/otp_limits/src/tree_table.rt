@@ -283,8 +283,7 @@ pub fn write_tree_limits(alloc: Global, tree: &TreeSpec, out: &mut Vec<u8>) -> R
     ensures { OnOk result (TellsAll tree.now out.old.items out.new.items) }
 {
     if tree.nested().is_empty() {
-        let supervisor = tree.supervisor();
-        return write_limits(alloc, &supervisor.flags(), supervisor.specs(), out);
+        return write_limits(alloc, tree.supervisor(), out);
     }
     let costs = find_tree_limits(alloc, tree)?;
     write_tree_table(alloc, costs.as_slice(), out)?;

@@ -5,3 +5,4 @@ pub mod Replies
 pub mod Rising
 pub mod Later
 pub mod Timed
+pub mod Queues

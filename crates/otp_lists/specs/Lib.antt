@@ -2,3 +2,5 @@ pub mod Kept
 pub mod AnswersInside
 pub mod Events
 pub mod HistoryInside
+pub mod Queued
+pub mod WaitsInside

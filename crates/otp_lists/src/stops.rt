@@ -1,6 +1,6 @@
 //! The order to stop, and the ends that wait (`specs/Stops` of the rules).
 
-ghost use Rattle.std.specs.Prelude.{◌≡◌, ◌≤◌, position};
+ghost use Rattle.std.specs.Prelude.{◌≡◌, ◌≤◌};
 ghost use Rattle.otp_spec.specs.declared.limits.TheConstants.{MAX_READING};
 ghost use Rattle.otp_rules.specs.Stops.{is_exit, stop_order, told};
 
@@ -8,7 +8,6 @@ use otp_reason::{Name, Note};
 use otp_rules::{Effect, Item, Waiting};
 use otp_spec::Shutdown;
 use otp_table::RowState;
-use std::collections::VecDeque;
 
 /// The state of a child that is told to stop now.
 pub fn told(now: u64, number: u64, shutdown: Shutdown) -> RowState
@@ -39,11 +38,4 @@ pub fn is_exit(item: &Waiting, number: u64) -> bool
         Waiting::Item(Item::Note(Note::Exit(p, _))) => p == number,
         _ => false,
     }
-}
-
-/// The place of the first waiting end of this process.
-pub fn find_exit(waiting: &VecDeque<Waiting>, number: u64) -> Option<usize>
-    ensures { result ≡ position (is_exit number) waiting.now.items }
-{
-    waiting.iter().position(|item| is_exit(item, number))
 }

@@ -1,6 +1,6 @@
 -- What the machine's parts stand for, and the memory that it has ready.
 use Rattle.std.specs.Prelude.{◌≡◌, ◌+◌, ◌<◌, ◌≤◌, All, length, reverse, true, vec_len, vec_capacity}
-use Rattle.std.specs.VecDeque.{deque_len, deque_capacity}
+use Rattle.std.specs.VecDeque.{deque_capacity}
 use Rattle.otp_spec.specs.declared.limits.TheConstants.{MAX_CHILDREN, MAX_INTENSITY, MAX_READING}
 use Rattle.otp_rules.specs.State.{Outcome}
 use Rattle.otp_machine.specs.declared.machine.Machine.{Machine}
@@ -28,8 +28,8 @@ outcome_of m =
 -- there is room for what the open work does in one event
 pub record CanAdvance (m : Machine) : Type 0 where
   -- a call is answered, or all that wait are and the end is ordered
-  pub orders : vec_len m.orders + deque_len m.waiting < vec_capacity m.orders
-  pub replies : deque_len m.waiting < m.replies.room
+  pub orders : vec_len m.orders + length m.waiting.items < vec_capacity m.orders
+  pub replies : length m.waiting.items < m.replies.room
   pub stamps : m.window.intensity < vec_capacity m.spare_stamps
   pub kept_stamps : m.window.intensity < vec_capacity m.spare_kept_stamps
   pub ends : vec_len m.ends < vec_capacity m.ends
@@ -37,8 +37,8 @@ pub record CanAdvance (m : Machine) : Type 0 where
 
 -- there is room for this many orders to children, and for the open work after them
 pub record CanStop (m : Machine) : Type 0 where
-  pub orders : vec_len m.orders + length m.rows.rows + deque_len m.waiting < vec_capacity m.orders
-  pub replies : deque_len m.waiting < m.replies.room
+  pub orders : vec_len m.orders + length m.rows.rows + length m.waiting.items < vec_capacity m.orders
+  pub replies : length m.waiting.items < m.replies.room
   pub to_stop : length m.rows.rows ≤ vec_capacity m.to_stop
   pub stamps : m.window.intensity < vec_capacity m.spare_stamps
   pub kept_stamps : m.window.intensity < vec_capacity m.spare_kept_stamps
@@ -47,9 +47,9 @@ pub record CanStop (m : Machine) : Type 0 where
 
 -- there is room for whatever an event does
 pub record CanDecide (m : Machine) : Type 0 where
-  pub orders : vec_len m.orders + length m.rows.rows + deque_len m.waiting + 1 < vec_capacity m.orders
-  pub replies : deque_len m.waiting + 1 < m.replies.room
-  pub waiting : deque_len m.waiting < deque_capacity m.waiting
+  pub orders : vec_len m.orders + length m.rows.rows + length m.waiting.items + 1 < vec_capacity m.orders
+  pub replies : length m.waiting.items + 1 < m.replies.room
+  pub waiting : 0 < m.waiting.room
   pub to_stop : length m.rows.rows ≤ vec_capacity m.to_stop
   pub one_stop : 0 < vec_capacity m.to_stop
   pub to_start : length m.rows.rows ≤ deque_capacity m.to_start
@@ -68,9 +68,9 @@ pub record CanDecide (m : Machine) : Type 0 where
 
 -- there is memory for an event, whatever it is
 pub record HasMemory (m : Machine) : Type 0 where
-  pub orders : vec_len m.orders + length m.rows.rows + deque_len m.waiting + 1 < vec_capacity m.orders
-  pub replies : deque_len m.waiting + 1 < m.replies.room
-  pub waiting : deque_len m.waiting < deque_capacity m.waiting
+  pub orders : vec_len m.orders + length m.rows.rows + length m.waiting.items + 1 < vec_capacity m.orders
+  pub replies : length m.waiting.items + 1 < m.replies.room
+  pub waiting : 0 < m.waiting.room
   pub to_stop : length m.rows.rows ≤ vec_capacity m.to_stop
   pub one_stop : 0 < vec_capacity m.to_stop
   pub to_start : length m.rows.rows ≤ deque_capacity m.to_start

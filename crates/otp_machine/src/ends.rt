@@ -5,7 +5,6 @@ ghost use Rattle.std.specs.VecDeque.{deque_len};
 ghost use Rattle.otp_rules.specs.Ends.{init_failed};
 
 use crate::machine::Machine;
-use otp_lists::ends::refuse_calls;
 use otp_lists::state::own_number;
 use otp_reason::{Name, Reason, Text};
 use otp_rules::{Cause, Effect, Ending, Phase, Stamps, SupEnd};
@@ -50,7 +49,8 @@ impl Machine {
         ensures { outcome_of self.new ≡ end_all ending (outcome_of self.old) }
     {
         self.close();
-        refuse_calls(&self.waiting, &mut self.replies, &mut self.orders);
+        self.waiting
+            .refuse_calls(&mut self.replies, &mut self.orders);
         self.waiting.clear();
         self.rows.clear();
         let own = own_number(self.phase);

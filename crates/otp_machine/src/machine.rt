@@ -4,6 +4,7 @@ ghost use Rattle.std.specs.Prelude.{◌≡◌, ◌+◌, ◌<◌, ◌≤◌, ◌^
 ghost use Rattle.std.specs.VecDeque.{deque_capacity};
 
 use otp_lists::answers::Answers;
+use otp_lists::waits::Waits;
 use otp_rules::{ChildLine, Due, Effect, Phase, Reply, Sequel, SupEnd, Waiting};
 use otp_spec::{AutoShutdown, ChildSpec, Strategy, SupFlags};
 use otp_table::Rows;
@@ -25,7 +26,7 @@ pub struct Machine {
     /// In start order.
     pub to_start: VecDeque<Due>,
     pub follows: Option<Sequel>,
-    pub waiting: VecDeque<Waiting>,
+    pub waiting: Waits,
     pub replies: Answers,
     /// The ends of all openings that ended, under the supervisor's own number.
     pub ends: Vec<(u64, SupEnd)>,
@@ -110,7 +111,7 @@ impl Machine {
         ensures outcome { outcome_of self.new ≡ put_last item (outcome_of self.old) }
         ensures room { CanAdvance self.new }
     {
-        self.waiting.push_back_reserved(item);
+        self.waiting.push_back(item);
     }
 }
 

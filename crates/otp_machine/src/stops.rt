@@ -1,12 +1,12 @@
 //! Children are told to stop (`specs/Stops` of the rules).
 
-ghost use Rattle.std.specs.Prelude.{◌≡◌, ◌+◌, ◌<◌, ◌≤◌, Some, length, remove, vec_len, vec_capacity};
-ghost use Rattle.std.specs.VecDeque.{deque_len};
+ghost use Rattle.std.specs.Prelude.{◌≡◌, ◌+◌, ◌<◌, ◌≤◌, Some, length, position, remove, vec_len, vec_capacity};
+ghost use Rattle.otp_rules.specs.Stops.{is_exit};
 ghost use Rattle.otp_spec.specs.declared.limits.TheConstants.{MAX_READING};
 
 use crate::machine::Machine;
 use otp_lists::restarts::list_running;
-use otp_lists::stops::{find_exit, stop_order, told};
+use otp_lists::stops::{stop_order, told};
 use otp_rules::{Ending, Sequel};
 use std::mem;
 
@@ -33,16 +33,16 @@ impl Machine {
         self.orders.push_reserved(stop_order(id, number, shutdown));
     }
 
-    /// The waiting end at the place is used: the process has ended.
+    /// The first waiting end of the process, which stands at the place, is used: the process has ended.
     #[tactic(auto, unfolding(otp_rules::specs::Stops::use_exit))]
     pub(crate) fn use_exit(&mut self, number: u64, place: usize)
-        requires { place < deque_len self.old.waiting }
+        requires { position (is_exit number) self.old.waiting.items ≡ Some place }
         ensures outcome { outcome_of self.new ≡ use_exit number (Some place) (outcome_of self.old) }
         ensures rest { self.new ≡ record self.old { rows = self.new.rows; waiting = self.new.waiting } }
         ensures items { self.new.waiting.items ≡ remove self.old.waiting.items place }
-        ensures waiting { deque_len self.new.waiting ≤ deque_len self.old.waiting }
+        ensures waiting { length self.new.waiting.items ≤ length self.old.waiting.items }
     {
-        self.waiting.remove(place);
+        self.waiting.remove_exit(number, place);
         self.end_process(number);
     }
 
@@ -54,11 +54,11 @@ impl Machine {
         ensures rest { self.new ≡ record self.old { rows = self.new.rows; waiting = self.new.waiting; orders = self.new.orders } }
         ensures orders { vec_len self.new.orders ≤ vec_len self.old.orders + length numbers.now }
         ensures capacity { vec_capacity self.new.orders ≡ vec_capacity self.old.orders }
-        ensures waiting { deque_len self.new.waiting ≤ deque_len self.old.waiting }
+        ensures waiting { length self.new.waiting.items ≤ length self.old.waiting.items }
     {
         for number in numbers {
             let p = *number;
-            match find_exit(&self.waiting, p) {
+            match self.waiting.find_exit(p) {
                 Some(place) => self.use_exit(p, place),
                 None => self.tell(p),
             }

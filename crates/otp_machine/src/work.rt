@@ -4,7 +4,6 @@ ghost use Rattle.std.specs.Prelude.{◌≡◌, ◌&&◌, IsTrue, MatchOption, is
 
 use crate::machine::Machine;
 use crate::numbers::Numbers;
-use otp_lists::stops::find_exit;
 use otp_rules::{Effect, Reply, Sequel};
 
 impl Machine {
@@ -63,7 +62,7 @@ impl Machine {
         ensures drawn { MatchOption result (numbers.new ≡ numbers.old) (λ n. N.gives numbers.old n numbers.new) }
     {
         while let Some(p) = self.to_stop.pop() {
-            match find_exit(&self.waiting, p) {
+            match self.waiting.find_exit(p) {
                 Some(place) => self.use_exit(p, place),
                 None => {
                     self.tell(p);

@@ -1,10 +1,11 @@
 -- The walk over what is still to stop, asked of rows and numbers without using an end.
-use Rattle.std.specs.Prelude.{◌≡◌, ℕ, ◌+◌, Bool, true, false, ◌==◌, ◌&&◌, List, [], ◌∷◌, ◌++◌, refl, count_by, nat_le, reverse}
+use Rattle.std.specs.Prelude.{◌≡◌, ℕ, ◌+◌, ◌<◌, Bool, true, false, ◌==◌, ◌&&◌, List, [], ◌∷◌, ◌++◌, Some, refl, count_by, nat_le, reverse, slice_get}
 use Rattle.std.specs.List.{list_all, cons_option}
 use Rattle.std.proofs.Common.{◌∙◌, ap, sym, arith, cond}
 use Rattle.std.proofs.lemmas.List.{reverse-append}
 use Rattle.std.proofs.lemmas.Bool.{false≢true}
 use Rattle.std.proofs.lemmas.List.Folds.{list_all-append}
+use Rattle.std.proofs.lemmas.Option.{none-some, same_Some}
 use Rattle.std.proofs.lemmas.List.Sums.{sum_by-append, sum_by-cons}
 use Rattle.otp_reason.specs.declared.reason.Reason.{Reason}
 use Rattle.otp_reason.specs.declared.note.Note.TheVariants as note
@@ -152,3 +153,10 @@ ends_with_last numbers q r items =
     all_same (λ p. nat_le (times p numbers) (count_by (is_exit p) items + cond (q == p) 1 0)) (λ p. nat_le (times p numbers) (count_by (is_exit p) all)) numbers
     (λ p. ap (λ k. nat_le (times p numbers) k) (sym (exits_with p q r items)))
     ∙ sym (ends_reversed numbers all)
+
+-- an end that waits first is counted
+pub first_counted : (p : ℕ) (items : List Waiting) (x : Waiting) → slice_get items 0 ≡ Some x → is_exit p x ≡ true → 0 < count_by (is_exit p) items
+first_counted p [] x h e = absurd (none-some x h)
+first_counted p (y ∷ ys) x h e =
+    let one : ◌≡◌ {A = ℕ} (cond (is_exit p y) 1 0) 1 = ap (λ (b : Bool). cond {A = ℕ} b 1 0) (ap (is_exit p) (same_Some y x h) ∙ e) in
+    omega (arith, one, sum_by-cons (λ z. cond (is_exit p z) 1 0) y ys)

@@ -1,5 +1,5 @@
 -- What is asked of the ends that wait (own).
-use Rattle.std.specs.Prelude.{ℕ, Bool, true, false, ◌==◌, List, Option, None, Some, count_by, nat_le}
+use Rattle.std.specs.Prelude.{ℕ, Bool, true, ◌==◌, List, Option, None, Some, count_by, nat_le}
 use Rattle.std.specs.List.{list_all}
 use Rattle.otp_rules.specs.declared.event.Waiting.{Waiting}
 use Rattle.otp_rules.specs.Stops.{is_exit}

@@ -339,9 +339,9 @@ fn resume_starts(machine: &Machine, now: u64) -> bool
     requires { All (λ s. s ≤ now) machine.now.window.stamps }
     ensures { result ≡ work_starts (resume machine.now.waiting.items (begun machine.now now false)) }
 {
-    match machine.waiting.front() {
+    match machine.waiting.first() {
         None => goes_on(machine, false),
-        Some(first) => waiting_starts(machine, *first, now, true),
+        Some(first) => waiting_starts(machine, first, now, true),
     }
 }
 

@@ -1,6 +1,6 @@
 //! Which ends wait: what the open work asks before it goes on, without using any of them.
 
-ghost use Rattle.std.specs.Prelude.{ℕ, ◌∷◌, [], ◌&&◌, Some, slice_get, slice_set, ◌≡◌, ◌+◌, ◌++◌, ◌==◌, ◌||◌, ◌<◌, ◌≤◌, count_by, cond, drop, length, nat_le, remove, reverse, slice_range, take, not};
+ghost use Rattle.std.specs.Prelude.{ℕ, ◌∷◌, [], ◌&&◌, Some, slice_get, slice_set, ◌≡◌, ◌+◌, ◌++◌, ◌==◌, ◌||◌, ◌<◌, ◌≤◌, ◌^◌, count_by, cond, drop, length, nat_le, remove, reverse, slice_range, take, not};
 ghost use Rattle.std.specs.List.{list_all, list_any};
 ghost use Rattle.otp_table.specs.Rows.{is_awaited, row_has, up_number, with_state};
 ghost use Rattle.otp_table.specs.declared.row.Row.{Row};
@@ -20,9 +20,8 @@ ghost use Rattle.otp_rules.specs.Fit.{runs_as};
 
 use otp_lists::places::is_temporary;
 use otp_lists::stops::is_exit;
-use otp_rules::Waiting;
+use otp_lists::waits::Waits;
 use otp_table::{Row, RowState};
-use std::collections::VecDeque;
 
 /// Whether an answer of one of the children is awaited.
 fn has_awaited(rows: &[Row]) -> bool
@@ -46,21 +45,16 @@ pub fn has_lasting(rows: &[Row]) -> bool
     rows.iter().any(|row| !is_temporary(row.spec.restart))
 }
 
-/// How many ends of the process wait.
-fn count_exits(waiting: &VecDeque<Waiting>, number: u64) -> usize
-    ensures { result ≡ count_by (is_exit number) waiting.now.items }
+/// How many ends of the process wait, where the first item is taken or not.
+#[tactic(auto, using(crate::proofs::Going::first_counted))]
+fn count_left(waiting: &Waits, resumed: bool, number: u64) -> usize
+    ensures count { result ≡ count_by (is_exit number) (left resumed waiting.now.items) }
+    ensures limit { result < 2 ^ 63 }
 {
-    waiting.iter().filter(|item| is_exit(item, number)).count()
-}
-
-/// How many of them are left where the first item is taken.
-fn count_left(waiting: &VecDeque<Waiting>, resumed: bool, number: u64) -> usize
-    ensures { result ≡ count_by (is_exit number) (left resumed waiting.now.items) }
-{
-    let count = count_exits(waiting, number);
-    match waiting.front() {
+    let count = waiting.count_exits(number);
+    match waiting.first() {
         Some(first) => {
-            if resumed && is_exit(first, number) {
+            if resumed && is_exit(&first, number) {
                 count - 1
             } else {
                 count
@@ -76,7 +70,7 @@ fn count_number(numbers: &[u64], number: u64) -> usize
     numbers.iter().filter(|q| **q == number).count()
 }
 
-fn have_ended_in_order(numbers: &[u64], waiting: &VecDeque<Waiting>, resumed: bool) -> bool
+fn have_ended_in_order(numbers: &[u64], waiting: &Waits, resumed: bool) -> bool
     ensures { result ≡ ends_counted numbers.now (left resumed waiting.now.items) }
 {
     numbers.iter().all(|p| count_number(numbers, *p) <= count_left(waiting, resumed, *p))
@@ -84,18 +78,13 @@ fn have_ended_in_order(numbers: &[u64], waiting: &VecDeque<Waiting>, resumed: bo
 
 /// Whether of each of these processes, of which the last is stopped first, an end waits, as many as the list names it.
 #[tactic(auto, using(crate::proofs::Going::ends_reversed))]
-pub fn have_ended(numbers: &[u64], waiting: &VecDeque<Waiting>, resumed: bool) -> bool
+pub fn have_ended(numbers: &[u64], waiting: &Waits, resumed: bool) -> bool
     ensures { result ≡ ends_wait (reverse numbers.now) (left resumed waiting.now.items) }
 {
     have_ended_in_order(numbers, waiting, resumed)
 }
 
-fn have_ended_in_order_with(
-    numbers: &[u64],
-    waiting: &VecDeque<Waiting>,
-    resumed: bool,
-    last: u64,
-) -> bool
+fn have_ended_in_order_with(numbers: &[u64], waiting: &Waits, resumed: bool, last: u64) -> bool
     ensures { result ≡ list_all (λ p. nat_le (count_by (λ q. q == p) numbers.now)
         (count_by (is_exit p) (left resumed waiting.now.items) + cond (last == p) 1 0)) numbers.now }
 {
@@ -105,12 +94,7 @@ fn have_ended_in_order_with(
 
 /// The same where an end of this process comes last.
 #[tactic(auto, using(crate::proofs::Going::ends_with_last))]
-pub fn have_ended_with(
-    numbers: &[u64],
-    waiting: &VecDeque<Waiting>,
-    resumed: bool,
-    last: u64,
-) -> bool
+pub fn have_ended_with(numbers: &[u64], waiting: &Waits, resumed: bool, last: u64) -> bool
     ensures { (reason : Reason) → result ≡ ends_wait (reverse numbers.now)
         (left resumed waiting.now.items ++ wait.Item (item.Note (note.Exit last reason)) ∷ []) }
 {
@@ -136,13 +120,7 @@ fn count_up(rows: &[Row], number: u64) -> usize
 }
 
 /// Whether ends wait for a child that runs, as many as there are children of its number among these.
-fn has_ended(
-    state: RowState,
-    front: &[Row],
-    back: &[Row],
-    waiting: &VecDeque<Waiting>,
-    resumed: bool,
-) -> bool
+fn has_ended(state: RowState, front: &[Row], back: &[Row], waiting: &Waits, resumed: bool) -> bool
     ensures { result ≡ passes (λ p. nat_le (count_by (λ row. runs_as p row.state) front.now + count_by (λ row. runs_as p row.state) back.now)
         (count_by (is_exit p) (left resumed waiting.now.items))) (up_number state) }
 {
@@ -153,13 +131,7 @@ fn has_ended(
     }
 }
 
-fn each_has_ended(
-    rows: &[Row],
-    front: &[Row],
-    back: &[Row],
-    waiting: &VecDeque<Waiting>,
-    resumed: bool,
-) -> bool
+fn each_has_ended(rows: &[Row], front: &[Row], back: &[Row], waiting: &Waits, resumed: bool) -> bool
     ensures { result ≡ list_all (λ row. passes (λ p. nat_le (count_by (λ row. runs_as p row.state) front.now + count_by (λ row. runs_as p row.state) back.now)
         (count_by (is_exit p) (left resumed waiting.now.items))) (up_number row.state)) rows.now }
 {
@@ -168,12 +140,7 @@ fn each_has_ended(
 }
 
 /// Whether of each of the children that run an end waits.
-pub fn children_have_ended(
-    front: &[Row],
-    back: &[Row],
-    waiting: &VecDeque<Waiting>,
-    resumed: bool,
-) -> bool
+pub fn children_have_ended(front: &[Row], back: &[Row], waiting: &Waits, resumed: bool) -> bool
     ensures { result ≡ ends_wait (running front.now ++ running back.now) (left resumed waiting.now.items) }
 {
     each_has_ended(front, front, back, waiting, resumed)
@@ -186,7 +153,7 @@ fn others_have_ended(
     from: usize,
     place: usize,
     to: usize,
-    waiting: &VecDeque<Waiting>,
+    waiting: &Waits,
     resumed: bool,
 ) -> bool
     requires from { from ≤ place }
@@ -207,7 +174,7 @@ pub fn restart_goes_on(
     from: usize,
     place: usize,
     to: usize,
-    waiting: &VecDeque<Waiting>,
+    waiting: &Waits,
     resumed: bool,
 ) -> bool
     requires from { from ≤ place }

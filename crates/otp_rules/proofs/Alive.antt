@@ -1,10 +1,9 @@
 -- A process that lives after an event lived before it, or is started by it.
-use Rattle.std.specs.Prelude.{◌≡◌, ◌⊎◌, ℕ, ◌==◌, ◌+◌, ◌≤◌, ◌<◌, ◌++◌, ◌&&◌, ◌||◌, Bool, true, false, List, [], ◌∷◌, Option, None, Some, Contains, refl, if◌then◌else◌, position, is_some, slice_set, slice_range, length, remove, take, drop, count_by, unwrap_or}
+use Rattle.std.specs.Prelude.{◌≡◌, ◌⊎◌, ℕ, ◌==◌, ◌+◌, ◌≤◌, ◌<◌, ◌++◌, ◌&&◌, ◌||◌, Bool, true, false, List, [], ◌∷◌, Option, None, Some, Contains, refl, if◌then◌else◌, position, is_some, slice_set, length, remove, count_by, unwrap_or}
 use Rattle.std.specs.List.{list_any}
 use Rattle.std.proofs.Common.{◌∙◌, ap, sym, subst, inl, inr, arith, ⊎_elim, cond, rules}
 use Rattle.std.proofs.lemmas.Bool.{false≢true, cases_Bool, eqb-true, eq-eqb, and_from, and_parts}
-use Rattle.std.proofs.lemmas.List.Sums.{sum_by-append, sum_by-cons, sum_by-take-drop}
-use Rattle.std.proofs.lemmas.List.Folds.{drop_split}
+use Rattle.std.proofs.lemmas.List.Sums.{sum_by-append, sum_by-cons}
 use Rattle.std.proofs.Common.{get_or}
 use Rattle.std.proofs.lemmas.List.Folds.{list_any-append}
 use Rattle.std.proofs.lemmas.List.Quantifiers.{position-Some}
@@ -14,7 +13,7 @@ use Rattle.otp_reason.specs.declared.note.Note.TheVariants as note
 use Rattle.otp_table.specs.declared.row.Row.{Row}
 use Rattle.otp_table.specs.declared.row.RowState.{RowState}
 use Rattle.otp_table.specs.declared.row.RowState.TheVariants.{Undefined, Starting, Up, Asked, Killed, Restarting}
-use Rattle.otp_table.specs.Rows.{has_process, has_slot, is_awaited, row_has, with_state, calm_rows, free_slot}
+use Rattle.otp_table.specs.Rows.{has_process, has_slot, is_awaited, row_has, with_state, free_slot}
 use Rattle.otp_rules.specs.declared.ending.Ending.{Ending}
 use Rattle.otp_rules.specs.declared.ending.Ending.TheVariants as ending
 use Rattle.otp_rules.specs.declared.event.Event.{Event}
@@ -49,21 +48,19 @@ use Rattle.otp_rules.specs.Deaths.{after_end, death, exit_in, take_exit}
 use Rattle.otp_rules.specs.Restarts.{ends_by_significance, is_restarted}
 use Rattle.otp_rules.specs.Starts.{at_starting, failed_after, if_starting, take_failed, take_ignored}
 use Rattle.otp_rules.specs.Step.{open_with, opening_specs, resume, rows_from, take_item, take_note, take_waiting}
-use Rattle.otp_rules.specs.Needs.{is_start, needs_number}
+use Rattle.otp_rules.specs.Needs.{is_start, needs_number, numbers_of}
 use Rattle.otp_rules.specs.Homes.{Brings, end_number}
-use Rattle.otp_rules.specs.Fit.{rows_in, is_starting, IsLimited, IsSound}
+use Rattle.otp_rules.specs.Fit.{next_number, rows_in, is_starting, IsLimited, IsSound}
 use Rattle.otp_rules.specs.Progress.{is_end}
-use Rattle.otp_rules.specs.Alive.{EndsChild, LivesIn, ProcessesLived, is_told_by}
+use Rattle.otp_rules.specs.InOrder.{is_stop, Finishes, IsBare, IsCalm, IsInOrder}
+use Rattle.otp_rules.specs.Alive.{EndsChild, LivesIn, ProcessesLived, ProcessesLivedFrom, is_told_by}
 use Rattle.otp_rules.proofs.Walks.{advance-by, stop_each-by, stop_first-by, terminate-by, with_stops, counted_restart}
-use Rattle.otp_rules.proofs.Calm.{IsCalm, is_stop, run-calm}
 use Rattle.otp_rules.proofs.Decisions.{SurvivesEvent, StandsAt, at_row-survives, at_number-survives, by_test, decide-survives_event}
 use Rattle.otp_rules.proofs.Counting.{at_row-found, end_row-quiet, put_count, remove_count, rows_in-at, rows_in-cons, rows_in-end, rows_in-set, set_count, tick_count, use_exit-quiet, rows_in-apart}
-use Rattle.otp_rules.proofs.EndedRows.{IsBare}
-use Rattle.otp_rules.proofs.Finishing.{AreOne, Finishes, not_starting, zero_or_more}
+use Rattle.otp_rules.proofs.Finishing.{AreOne, not_starting, zero_or_more}
 use Rattle.otp_rules.proofs.Homes.{has_starting, same_process}
-use Rattle.otp_rules.proofs.Lasting.{IsInOrder, calm-lives, contains_counts, counts_contain, is_live, lives, map-lives, run-in_order, tick_one, restarted-lives}
+use Rattle.otp_rules.proofs.Lasting.{calm-lives, contains_counts, counts_contain, is_live, lives, map-lives, empty_in_order, lawful_at_0, stays_in_order, tick_one, restarted-lives}
 use Rattle.otp_rules.proofs.Numbers.{NoMore, calm_process, end-no_more, holders, no_more-survives, remove-no_more, restart_rows-no_more, set-no_more, tell-no_more, terminate-no_more, told_process, use_exit-no_more, restart-within}
-use Rattle.otp_rules.proofs.Sound.{empty-sound}
 
 -- how many Exits of the process wait
 abbrev exits : ℕ → Outcome → ℕ
@@ -159,11 +156,6 @@ other_exits p q ws other =
           ⊎_elim (λ is. absurd (false≢true (sym other ∙ one_exit p q (get_or ws i d) at.1 is))) (λ isnt. ap (λ (b : Bool). cond b 1 0) isnt) (cases_Bool (is_exit p (get_or ws i d))) in
           omega (arith, less, none)
     ]) refl
-
-not_here : (p place : ℕ) (row : Row) (o : Outcome) → holders p o ≡ 0 → StandsAt place row o → has_process p row.state ≡ true → ⊥
-not_here p place row o none at has =
-    let one : ◌≡◌ {A = ℕ} (cond (has_process p row.state) 1 0) 1 = ap (λ (b : Bool). cond b 1 0) has in
-    omega (arith, rows_in-at (has_process p) place row o.state.rows at, one, none)
 
 -- what is done at the row of the process, where one row at most has it: the property is wanted of what is done alone
 at_process : (P : Outcome → Type 0) (p : ℕ) (f : ℕ → Row → Outcome → Outcome) (o : Outcome) → (holders p o ≡ 0 → P o) → ((place : ℕ) (row : Row) → StandsAt place row o → has_process p row.state ≡ true → P (f place row o)) → P (at_number p f o)
@@ -599,9 +591,9 @@ is_own_number s e p needed starts same = by e.number refl
     by (Some n) is = is ∙ ap (λ (x : ℕ). Some x) (eqb-true n p (ap (λ (x : Option ℕ). unwrap_or x 0 == p) (sym is) ∙ same))
 
 -- from each state that is in order
-lived_from : (m : ℕ) (s : State) (e : Event) → IsInOrder m s → IsCalm s → is_some e.number ≡ needs_number s e.reading e.kind → (slot p : ℕ) → (e.number ≡ Some p → ⊥)
+lived_from : (m : ℕ) (s : State) (e : Event) → IsInOrder m s → is_some e.number ≡ needs_number s e.reading e.kind → (slot p : ℕ) → (e.number ≡ Some p → ⊥)
     → LivesIn (step s e).state slot p → LivesIn s slot p × (EndsChild s e.kind p → ⊥)
-lived_from m s e order calm needed slot p other live =
+lived_from m s e order needed slot p other live =
     let start : Outcome = record { state = stamped e.reading s; orders = [] } in
     let later : Outcome = step s e in
     let row : Row = live.0.0 in
@@ -626,7 +618,7 @@ lived_from m s e order calm needed slot p other live =
         (old.0, old.1, eqb-true old.0.slot slot parts.0, parts.1),
         ⊎_elim (λ none. none) (λ (some : 0 < exits p start). absurd (never (waited-gone p e.kind start one some))) (zero_or_more (exits p start)),
       ),
-      λ ends. never (subst (λ (i : Kind). Gone p (decide i start)) (sym ends.1) (took-gone p ends.0 ends.3.0 start ends.2 (order.0, calm, order.2) order.3 one ends.3.1 ends.3.2)),
+      λ ends. never (subst (λ (i : Kind). Gone p (decide i start)) (sym ends.1) (took-gone p ends.0 ends.3.0 start ends.2 (order.0, order.4, order.2) order.3 one ends.3.1 ends.3.2)),
     )
 
 is_it : (number : Option ℕ) (p : ℕ) → (number ≡ Some p) ⊎ (number ≡ Some p → ⊥)
@@ -636,10 +628,12 @@ is_it (Some n) p =
     (λ (other : (n == p) ≡ false). inr (λ h. false≢true (sym other ∙ eq-eqb n p (ap (λ (x : Option ℕ). unwrap_or x n) h))))
     (cases_Bool (n == p))
 
+pub processes_lived_from_law : ProcessesLivedFrom
+processes_lived_from_law m s events e order lawful needed slot p live =
+    let now : IsInOrder (next_number m (numbers_of events)) (state_after s events) = stays_in_order m s events order lawful in
+    ⊎_elim (λ is. inl is) (λ other. inr (lived_from (next_number m (numbers_of events)) (state_after s events) e now needed slot p other live)) (is_it e.number p)
+
 pub processes_lived_law : ProcessesLived
 processes_lived_law flags specs events e lawful needed slot p live =
     let base : State = empty_state flags specs in
-    let order : (n : ℕ) × IsInOrder n (state_after base events) =
-    run-in_order 0 base events (empty-sound flags specs, (λ q. omega arith, λ q h. refl), (λ e. absurd (false≢true e)), (λ over. refl)) lawful.0 lawful.1 (λ i k h. omega arith) in
-    let calm : IsCalm (state_after base events) = run-calm base events (empty-sound flags specs) (λ h. absurd (false≢true h)) in
-    ⊎_elim (λ is. inl is) (λ other. inr (lived_from order.0 (state_after base events) e order.1 calm needed slot p other live)) (is_it e.number p)
+    processes_lived_from_law 0 base events e (empty_in_order flags specs) (lawful_at_0 base events lawful) needed slot p live

@@ -22,24 +22,16 @@ use Rattle.otp_rules.specs.Ends.{end_all, refuse_all}
 use Rattle.otp_rules.specs.Work.{follow, start_first, stop_first, advance}
 use Rattle.otp_rules.specs.Deaths.{restart_rows, restart}
 use Rattle.otp_rules.specs.Step.{open_rows, open_with, tick, decide, stamped, step, step_on}
-use Rattle.otp_rules.specs.Run.{state_after}
 use Rattle.otp_rules.specs.Fit.{rows_in, IsSound}
+use Rattle.otp_rules.specs.InOrder.{is_begun, is_stop, IsCalm}
 use Rattle.otp_rules.proofs.Walks.{advance-by, restart-by, stop_first-by, with_stops}
 use Rattle.otp_rules.proofs.Decisions.{StandsAt, Survives, at_number-survives, at_row-survives, decide-survives}
 use Rattle.otp_rules.proofs.Counting.{Alike, end_row-alike, rows_in-end, rows_in-set, tick_count}
-use Rattle.otp_rules.proofs.Finishing.{begun_awaited, is_begun, not_starting, told-begun}
+use Rattle.otp_rules.proofs.Finishing.{begun_awaited, not_starting, told-begun}
 use Rattle.otp_rules.proofs.Sound.{advance-sound, awaits_nothing, sound-survives}
 use Rattle.otp_rules.proofs.WhileOpen.{terminate-follows}
 
-abbrev pub is_stop : Option Sequel → Bool
-is_stop (Some (sequel.Stopped _)) = true
-is_stop _ = false
-
--- no start is awaited, nor to come, while a child is stopped for a call
-abbrev pub IsCalm : State → Type 0
-IsCalm s = is_stop s.follows ≡ true → (rows_in is_begun s.rows ≡ 0) × (s.to_start ≡ [])
-
--- besides, the lists of the open work are sound
+-- it is calm, and the lists of the open work are sound
 abbrev pub IsSoundCalm : Outcome → Type 0
 IsSoundCalm o = IsSound o.state × IsCalm o.state
 
@@ -159,13 +151,9 @@ advance-calm : (n : ℕ) (o : Outcome) → IsCalm o.state → IsCalm (advance n 
 advance-calm n o h =
     advance-by (λ (x : Outcome). IsCalm x.state) n o h (λ busy _. stop_first-calm o.state.to_stop n o h)
 
-step-calm : (s : State) (e : Event) → IsSound s → IsCalm s → IsSoundCalm (step s e)
+pub step-calm : (s : State) (e : Event) → IsSound s → IsCalm s → IsSoundCalm (step s e)
 unfolding step step_on
 step-calm s e sound h =
     let start : Outcome = record { state = stamped e.reading s; orders = [] } in
     let d : IsSoundCalm (decide e.kind start) = decided-calm e.kind start sound h in
     (advance-sound (unwrap_or e.number 0) (decide e.kind start) d.0, advance-calm (unwrap_or e.number 0) (decide e.kind start) d.1)
-
-pub run-calm : (s : State) (es : List Event) → IsSound s → IsCalm s → IsCalm (state_after s es)
-run-calm s [] sound h = h
-run-calm s (e ∷ es) sound h = let next = step-calm s e sound h in run-calm (step s e).state es next.0 next.1

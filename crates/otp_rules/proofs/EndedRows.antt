@@ -21,7 +21,8 @@ use Rattle.otp_rules.specs.Deaths.{restart}
 use Rattle.otp_rules.specs.Step.{decide, killed, late_number, open_rows, stamped, step, step_on, tick}
 use Rattle.otp_rules.specs.Run.{empty_state, state_after}
 use Rattle.otp_rules.specs.Fit.{IsSound}
-use Rattle.otp_rules.specs.Lives.{EndedHasNoRows}
+use Rattle.otp_rules.specs.InOrder.{IsBare}
+use Rattle.otp_rules.specs.Lives.{EndedHasNoRows, EndedHasNoRowsFrom}
 use Rattle.otp_rules.proofs.Walks.{advance-by, stop_first-by, with_stops}
 use Rattle.otp_rules.proofs.Decisions.{StandsAt, Survives, at_row-survives, decide-survives}
 use Rattle.otp_rules.proofs.Counting.{end_row-alike, tell-alike, use_exit-alike}
@@ -29,11 +30,7 @@ use Rattle.otp_rules.proofs.Sound.{advance-sound, empty-sound, sound-survives}
 use Rattle.otp_rules.proofs.Opened.{open_rows-busy}
 use Rattle.otp_rules.proofs.WhileOpen.{restart-busy, terminate-follows}
 
--- where the supervisor has ended there are no rows
-abbrev pub IsBare : State → Type 0
-IsBare s = is_over s.phase ≡ true → s.rows ≡ []
-
--- the lists of the open work are sound besides
+-- it has no rows where it has ended, and the lists of the open work are sound
 abbrev pub IsSoundBare : Outcome → Type 0
 IsSoundBare o = IsSound o.state × IsBare o.state
 
@@ -144,9 +141,12 @@ step-bare s e sound bare =
     let start : Outcome = record { state = stamped e.reading s; orders = [] } in
     advance-bare (unwrap_or e.number 0) (decide e.kind start) (decide-survives e.kind IsSoundBare start (bare-survives e.kind (is_busy start)) (sound, bare))
 
-pub run-bare : (s : State) (es : List Event) → IsSound s → IsBare s → IsSound (state_after s es) × IsBare (state_after s es)
+run-bare : (s : State) (es : List Event) → IsSound s → IsBare s → IsSound (state_after s es) × IsBare (state_after s es)
 run-bare s [] sound bare = (sound, bare)
 run-bare s (e ∷ es) sound bare = let next = step-bare s e sound bare in run-bare (step s e).state es next.0 next.1
 
+pub ended_has_no_rows_from_law : EndedHasNoRowsFrom
+ended_has_no_rows_from_law s events sound bare = (run-bare s events sound bare).1
+
 pub ended_has_no_rows_law : EndedHasNoRows
-ended_has_no_rows_law flags specs events = (run-bare (empty_state flags specs) events (empty-sound flags specs) (λ over. refl)).1
+ended_has_no_rows_law flags specs events = ended_has_no_rows_from_law (empty_state flags specs) events (empty-sound flags specs) (λ over. refl)

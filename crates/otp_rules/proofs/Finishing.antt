@@ -17,7 +17,7 @@ use Rattle.otp_rules.specs.declared.event.Kind.{Kind}
 use Rattle.otp_rules.specs.declared.work.Sequel.{Sequel}
 use Rattle.otp_rules.specs.declared.work.Sequel.TheVariants as sequel
 use Rattle.otp_rules.specs.declared.work.Due.{Due}
-use Rattle.otp_rules.specs.State.{Outcome, State, answer, is_busy, with_stamps, with_waiting, with_work}
+use Rattle.otp_rules.specs.State.{Outcome, answer, is_busy, with_stamps, with_waiting, with_work}
 use Rattle.otp_rules.specs.Places.{at_number, end_row, end_process, set_row}
 use Rattle.otp_rules.specs.Restarts.{running}
 use Rattle.otp_rules.specs.Stops.{calm_all, is_exit, without, told, tell_row, tell, use_exit, stop_each, terminate}
@@ -28,24 +28,12 @@ use Rattle.otp_rules.specs.Deaths.{restart_rows, restart}
 use Rattle.otp_rules.specs.Step.{open_rows, open_with, tick, decide}
 use Rattle.otp_rules.specs.Progress.{is_end}
 use Rattle.otp_rules.specs.Fit.{is_told, rows_in, times, runs_as, IsLimited, IsSound}
+use Rattle.otp_rules.specs.InOrder.{is_begun, Finishes, IsStopping}
 use Rattle.otp_rules.proofs.Walks.{advance-by, restart-by, stop_first-by, terminate-by}
 use Rattle.otp_rules.proofs.Decisions.{StandsAt, Survives, at_row-survives, by_test, decide-survives}
 use Rattle.otp_rules.proofs.Counting.{Alike, at_row-found, end_row-alike, none_in, rows_in-at, rows_in-cons, rows_in-end, rows_in-map, rows_in-set, tell-alike, tick_count, times-cons, times-reverse, told-runs, told-told, use_exit-alike, rows_in-apart, rows_in-le}
 use Rattle.otp_rules.proofs.Sound.{IsReady, awaits_nothing, sound-survives, used-ready}
 use Rattle.otp_rules.proofs.Numbers.{NoMore, holders, no_more-survives, set-no_more, tell-no_more, use_exit-no_more, calm_process, told_process}
-
--- the answer to a start is awaited
-abbrev pub is_begun : RowState → Bool
-is_begun (Starting _ _) = true
-is_begun _ = false
-
--- each child that runs is to be stopped, and no answer to a start is awaited
-abbrev pub IsStopping : List ℕ → List Row → Type 0
-IsStopping ps rows = ((q : ℕ) → rows_in (runs_as q) rows ≤ times q ps) × (rows_in is_begun rows ≡ 0)
-
--- so it is where the supervisor ends
-abbrev pub Finishes : State → Type 0
-Finishes s = is_end s.follows ≡ true → IsStopping s.to_stop s.rows
 
 -- each process is one row's
 abbrev pub AreOne : Outcome → Type 0

@@ -37,7 +37,8 @@ use Rattle.otp_rules.specs.Needs.{IsNumbered, is_start, needs_number, numbers_of
 use Rattle.otp_rules.specs.Homes.{Brings, IsFirst, is_ended}
 use Rattle.otp_rules.specs.Fit.{rows_in}
 use Rattle.otp_rules.specs.Progress.{IsIn, at_most_one}
-use Rattle.otp_rules.specs.Lives.{EndsAreHeard, EndsTellStarted, IsHeld, TakesEnd}
+use Rattle.otp_rules.specs.InOrder.{AreGiven}
+use Rattle.otp_rules.specs.Lives.{EndsAreHeard, EndsTellStarted, EndsTellStartedFrom, IsHeld, TakesEnd}
 use Rattle.otp_rules.proofs.Walks.{restart-by, terminate-by}
 use Rattle.otp_rules.proofs.Decisions.{BringsExit, SurvivesEvent, StandsAt, at_row-survives, at_number-survives, by_test, decide-survives, decide-survives_event}
 use Rattle.otp_rules.proofs.Counting.{end_row-quiet, none_in, rows_in-at, times-append, times-cons, use_exit-quiet}
@@ -223,10 +224,6 @@ ends_are_heard_law s e p waits =
     let decides : Waits p (decide e.kind start) = advance-less p (unwrap_or e.number 0) (decide e.kind start) waits in
     ⊎_elim (λ was. inl was) (λ b. brought e.kind start p b decides) (decided-heard e.kind start p decides)
 
--- the processes of children, and those whose end waits, are among these
-abbrev pub AreGiven : List ℕ → State → Type 0
-AreGiven given s = (q : ℕ) → (0 < rows_in (has_process q) s.rows) ⊎ (list_any (is_ended q) s.waiting ≡ true) → IsIn q given
-
 -- a child's process had it before, or is the event's
 held_after : (s : State) (e : Event) (q : ℕ) → is_some e.number ≡ needs_number s e.reading e.kind → 0 < rows_in (has_process q) (step s e).state.rows → (0 < rows_in (has_process q) s.rows) ⊎ (e.number ≡ Some q)
 unfolding needs_number
@@ -286,6 +283,9 @@ run-given given s [] numbered h q x = in_front q given [] (h q x)
 run-given given s (e ∷ es) numbered h q x =
     joined given e.number (numbers_of es) q (run-given (given ++ at_most_one e.number) (step s e).state es numbered.1 (step-given given s e numbered.0 h) q x)
 
+pub ends_tell_started_from_law : EndsTellStartedFrom
+ends_tell_started_from_law given s events p known numbered waits = run-given given s events numbered known p (inr waits)
+
 pub ends_tell_started_law : EndsTellStarted
 ends_tell_started_law flags specs events p lawful waits =
-    run-given [] (empty_state flags specs) events lawful.0 (λ q x. absurd (⊎_elim (λ held. let none : rows_in (has_process q) [] ≡ 0 = refl in omega (arith, held, none)) (λ w. false≢true w) x)) p (inr waits)
+    ends_tell_started_from_law [] (empty_state flags specs) events p (λ q x. absurd (⊎_elim (λ held. let none : rows_in (has_process q) [] ≡ 0 = refl in omega (arith, held, none)) (λ w. false≢true w) x)) lawful.0 waits

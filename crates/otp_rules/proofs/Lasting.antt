@@ -1,14 +1,15 @@
 -- A child's process stays its child's, in its slot, until the note of its end is taken.
-use Rattle.std.specs.Prelude.{◌≡◌, ◌⊎◌, ℕ, ◌==◌, ◌+◌, ◌≤◌, ◌<◌, ◌++◌, ◌&&◌, Bool, true, false, List, [], ◌∷◌, Option, None, Some, AllPairs, All, Contains, refl, position, is_some, nat_le, slice_set, slice_range, remove, map, take, drop, count_by, unwrap_or}
-use Rattle.std.specs.List.{cons_option, list_any}
+use Rattle.std.specs.Prelude.{◌≡◌, ◌⊎◌, ℕ, ◌==◌, ◌+◌, ◌≤◌, ◌<◌, ◌++◌, ◌&&◌, Bool, true, false, List, [], ◌∷◌, Option, None, Some, Contains, refl, position, is_some, nat_le, slice_set, slice_range, remove, map, take, drop, count_by, unwrap_or}
+use Rattle.std.specs.List.{list_any}
 use Rattle.std.proofs.Common.{◌∙◌, ap, sym, subst, inl, inr, arith, ⊎_elim, cond}
 use Rattle.std.proofs.lemmas.Bool.{false≢true, cond_both, cases_Bool, eqb-true, eq-eqb, and_from, and_parts}
 use Rattle.std.proofs.lemmas.List.Sums.{sum_by-append, sum_by-cons, sum_by-take-drop}
 use Rattle.std.proofs.lemmas.List.Folds.{drop_split}
-use Rattle.std.proofs.lemmas.List.Elements.{All-head}
 use Prim.Native.Nat.{zero, suc}
 use Rattle.otp_reason.specs.declared.note.Note.{Note}
 use Rattle.otp_reason.specs.declared.note.Note.TheVariants as note
+use Rattle.otp_spec.specs.declared.child.ChildSpec.{ChildSpec}
+use Rattle.otp_spec.specs.declared.flags.SupFlags.{SupFlags}
 use Rattle.otp_table.specs.declared.row.Row.{Row}
 use Rattle.otp_table.specs.declared.row.RowState.{RowState}
 use Rattle.otp_table.specs.declared.row.RowState.TheVariants.{Undefined, Starting, Up, Asked, Killed, Restarting}
@@ -37,22 +38,24 @@ use Rattle.otp_rules.specs.Deaths.{restart_rows, restart}
 use Rattle.otp_rules.specs.Calls.{new_row}
 use Rattle.otp_rules.specs.Step.{open_rows, tick, decide, stamped, step, step_on, killed, late_number}
 use Rattle.otp_rules.specs.Run.{empty_state, state_after}
-use Rattle.otp_rules.specs.Needs.{IsNumbered, numbers_of}
+use Rattle.otp_rules.specs.Needs.{IsLawfulHistory, numbers_of}
 use Rattle.otp_rules.specs.Homes.{Brings, end_number, is_ended}
-use Rattle.otp_rules.specs.Fit.{rows_in, runs_as, times, IsDistinct, IsSound}
-use Rattle.otp_rules.specs.Progress.{is_end}
-use Rattle.otp_rules.specs.Lives.{EndComesLast, HasEnded, IsHeldIn, ProcessesStay}
+use Rattle.otp_rules.specs.Fit.{next_number, rows_in, runs_as, times, IsDistinct, IsLawfulFrom, IsSound}
+use Rattle.otp_rules.specs.Progress.{is_end, no_progress}
+use Rattle.otp_rules.specs.InOrder.{Finishes, IsBare, IsInOrder, StaysInOrder}
+use Rattle.otp_rules.specs.Lives.{EndComesLast, EndComesLastFrom, HasEnded, IsHeldIn, ProcessesStay, ProcessesStayFrom}
 use Rattle.otp_rules.proofs.States.{one_process, told_has}
 use Rattle.otp_rules.proofs.Walks.{advance-by, stop_each-by, stop_first-by, terminate-by, with_stops, counted_restart}
 use Rattle.otp_rules.proofs.Decisions.{BringsExit, SurvivesEvent, StandsAt, at_row-survives, at_number-survives, by_test, decide-survives_event, is_down}
 use Rattle.otp_rules.proofs.Counting.{none_in, remove_count, rows_in-cons, set_count}
-use Rattle.otp_rules.proofs.EndedRows.{IsBare, run-bare, step-bare}
-use Rattle.otp_rules.proofs.Finishing.{AreOne, Finishes, IsFinishing, Stops, advance-finishes, decided-finishing, used-stops}
+use Rattle.otp_rules.proofs.EndedRows.{step-bare}
+use Rattle.otp_rules.proofs.Calm.{step-calm}
+use Rattle.otp_rules.proofs.Finishing.{AreOne, IsFinishing, Stops, advance-finishes, decided-finishing, used-stops}
 use Rattle.otp_rules.proofs.Heard.{Waits, answer-less, end-less, exit_put, open-less, tell-less, tick-less, use_exit-less}
 use Rattle.otp_rules.proofs.Homes.{first_ends, has_starting, or_right, quiet_more, same_number, waits_there}
-use Rattle.otp_rules.proofs.Numbers.{numbered-distinct, told_process, unnumbered-distinct, restart-within}
+use Rattle.otp_rules.proofs.Numbers.{told_process, restart-within}
 use Rattle.otp_rules.proofs.Sound.{empty-sound}
-use Rattle.otp_rules.proofs.StartTurn.{pairs_first, pairs_rest}
+use Rattle.otp_rules.proofs.Lawful.{along}
 
 -- the row has this process, in this slot
 abbrev pub is_live : ℕ → ℕ → Row → Bool
@@ -332,10 +335,6 @@ advance-lasts : (D : Type 0) (slot p n : ℕ) (o : Outcome) → IsSound o.state 
 advance-lasts D slot p n o sound one finishes h =
     advance-by (Lasts D slot p) n o h (λ busy none. stop_first-lasts D slot p o.state.to_stop n o ((sound, none_in is_awaited o.state.rows none, refl, busy), one, finishes) h)
 
--- a state that is in order: its work is sound, each process is one row's, its end stops all, and an ended one has no rows
-abbrev pub IsInOrder : ℕ → State → Type 0
-IsInOrder m s = IsSound s × IsDistinct m s × Finishes s × IsBare s
-
 step-finishes : (m : ℕ) (s : State) (e : Event) → IsInOrder m s → Finishes (step s e).state
 unfolding step step_on
 step-finishes m s e h =
@@ -389,31 +388,45 @@ stays_from m s e h row p among has =
     (λ (d : Ended (Brings e.kind s.waiting) (record { state = stamped e.reading s; orders = [] }) p). inl (⊎_elim (λ w. inl w) (λ x. ended_then s e.kind p x) d))
     (step-lasts m s e row.slot p h some).1
 
--- a lawful history keeps a state in order
-pub run-in_order : (m : ℕ) (s : State) (events : List Event) → IsInOrder m s → IsNumbered s events → AllPairs (λ i j. i < j) (numbers_of events) → All (λ y. m ≤ y) (numbers_of events) → (n : ℕ) × IsInOrder n (state_after s events)
-run-in_order m s [] h numbered rises fresh = (m, h)
-run-in_order m s (x ∷ events) h numbered rises fresh =
-    let rest : List ℕ = numbers_of events in
-    let bare = step-bare s x h.0 h.3 in
-    let goes_on : (k : ℕ) → IsDistinct k (step s x).state → AllPairs (λ i j. i < j) rest → All (λ y. k ≤ y) rest → (n : ℕ) × IsInOrder n (state_after s (x ∷ events)) =
-    λ k distinct up above. run-in_order k (step s x).state events (bare.0, distinct, step-finishes m s x h, bare.1) numbered.1 up above in
-    (elim x.number as (λ (n : Option ℕ). x.number ≡ n → AllPairs (λ i j. i < j) (cons_option n rest) → All (λ y. m ≤ y) (cons_option n rest) → (n : ℕ) × IsInOrder n (state_after s (x ∷ events))) [
-      | None ↦ λ is up above. goes_on m (unnumbered-distinct m s x is (sym numbered.0 ∙ ap (λ (n : Option ℕ). is_some n) is) h.1) up above
-      | Some n ↦ λ is up above. goes_on (n + 1) (numbered-distinct m n s x is (All-head (λ y. m ≤ y) n rest above) h.1) (pairs_rest n rest up) (pairs_first n rest up)
-    ]) refl rises fresh
+-- each event keeps a state in order, and so does a lawful history
+
+step-in_order : (m k : ℕ) (s : State) (e : Event) → IsInOrder m s → IsDistinct k (step s e).state → IsInOrder k (step s e).state
+step-in_order m k s e h distinct =
+    let bare = step-bare s e h.0 h.3 in
+    (bare.0, distinct, step-finishes m s e h, bare.1, (step-calm s e h.0 h.4).1)
+
+pub stays_in_order : (m : ℕ) (s : State) (events : List Event) → IsInOrder m s → IsLawfulFrom m s events → IsInOrder (next_number m (numbers_of events)) (state_after s events)
+stays_in_order m s events h lawful = along (λ n t g. IsInOrder n t) (λ n t g order. order.1) (λ n k t e g order distinct. step-in_order n k t e order distinct) m s (no_progress s) events h lawful
+
+pub empty_in_order : (flags : SupFlags) (specs : List ChildSpec) → IsInOrder 0 (empty_state flags specs)
+empty_in_order flags specs =
+    (empty-sound flags specs, (λ q. omega arith, λ q h. refl), (λ e. absurd (false≢true e)), (λ over. refl), (λ e. absurd (false≢true e)))
+
+pub stays_in_order_law : StaysInOrder
+stays_in_order_law = (empty_in_order, stays_in_order)
+
+-- a lawful history from the empty state is one from a state that is in order, whose numbers begin anywhere
+pub lawful_at_0 : (s : State) (events : List Event) → IsLawfulHistory s events → IsLawfulFrom 0 s events
+lawful_at_0 s events lawful = (lawful, λ i d within. omega arith)
+
+pub processes_stay_from_law : ProcessesStayFrom
+processes_stay_from_law m s events e order lawful row p among has =
+    stays_from (next_number m (numbers_of events)) (state_after s events) e (stays_in_order m s events order lawful) row p among has
 
 pub processes_stay_law : ProcessesStay
 processes_stay_law flags specs events e lawful row p among has =
     let base : State = empty_state flags specs in
-    let order : (n : ℕ) × IsInOrder n (state_after base events) =
-    run-in_order 0 base events (empty-sound flags specs, (λ q. omega arith, λ q h. refl), (λ e. absurd (false≢true e)), (λ over. refl)) lawful.0 lawful.1 (λ i k h. omega arith) in
-    stays_from order.0 (state_after base events) e order.1 row p among has
+    processes_stay_from_law 0 base events e (empty_in_order flags specs) (lawful_at_0 base events lawful) row p among has
+
+pub end_comes_last_from_law : EndComesLastFrom
+end_comes_last_from_law m s events e order lawful over row p among has =
+    let now : IsInOrder (next_number m (numbers_of events)) (state_after s events) = stays_in_order m s events order lawful in
+    let none : (step (state_after s events) e).state.rows ≡ [] = (step-bare (state_after s events) e now.0 now.3).1 over in
+    ⊎_elim (λ ended. ended)
+    (λ (held : IsHeldIn (step (state_after s events) e).state.rows row.slot p). absurd (let c : Contains [] held.0 = subst (λ (l : List Row). Contains l held.0) none held.1 in omega (arith, c.1)))
+    (processes_stay_from_law m s events e order lawful row p among has)
 
 pub end_comes_last_law : EndComesLast
 end_comes_last_law flags specs events e lawful over row p among has =
     let base : State = empty_state flags specs in
-    let order = run-bare base events (empty-sound flags specs) (λ o. refl) in
-    let none : (step (state_after base events) e).state.rows ≡ [] = (step-bare (state_after base events) e order.0 order.1).1 over in
-    ⊎_elim (λ ended. ended)
-    (λ (held : IsHeldIn (step (state_after base events) e).state.rows row.slot p). absurd (let c : Contains [] held.0 = subst (λ (l : List Row). Contains l held.0) none held.1 in omega (arith, c.1)))
-    (processes_stay_law flags specs events e lawful row p among has)
+    end_comes_last_from_law 0 base events e (empty_in_order flags specs) (lawful_at_0 base events lawful) over row p among has

@@ -19,7 +19,9 @@ pub mod Numbers
 pub mod Fits
 pub mod Fitted
 pub mod Starting
+pub mod Lawful
 pub mod StartTurn
+pub mod Late
 mod WorkedLaws
 mod Shown
 pub mod Homes

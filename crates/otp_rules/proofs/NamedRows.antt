@@ -36,18 +36,17 @@ use Rattle.otp_rules.specs.Step.{decide, kill_order, late_number, open_rows, sta
 use Rattle.otp_rules.specs.Run.{empty_state, state_after}
 use Rattle.otp_rules.specs.Needs.{numbers_of}
 use Rattle.otp_rules.specs.Progress.{no_progress, progress}
-use Rattle.otp_rules.specs.Fit.{Fits, IsNamed, is_told, next_number, rows_in}
+use Rattle.otp_rules.specs.Fit.{Fits, is_told, next_number, rows_in}
 use Rattle.otp_rules.specs.Named.{OrdersNameRows, OrdersNameRowsFrom, named_by}
 use Rattle.otp_rules.proofs.States.{one_process, told_has}
 use Rattle.otp_rules.proofs.Walks.{advance-by, restart-by, stop_each-by, stop_first-by, with_stops}
 use Rattle.otp_rules.proofs.Decisions.{IsUnmoved, SurvivesEvent, at_number-survives, by_test, decide-survives, decide-survives_event}
-use Rattle.otp_rules.proofs.Counting.{Alike, at_row-first, end_row-quiet, found, none_in, rows_in-at, rows_in-cons, rows_in-end, rows_in-set, there, tick_count, told-told, use_exit-alike, use_exit-quiet, without_count, cond_le, rows_in-le}
+use Rattle.otp_rules.proofs.Counting.{at_row-first, end_row-quiet, found, none_in, rows_in-at, rows_in-cons, rows_in-end, rows_in-set, there, tick_count, told-told, use_exit-quiet, without_count, cond_le, rows_in-le}
 use Rattle.otp_rules.proofs.InTurn.{TakesReplies, follow-orders, none_told}
-use Rattle.otp_rules.proofs.Sound.{IsReady, used-ready}
 use Rattle.otp_rules.proofs.Fits.{due_there}
 use Rattle.otp_rules.proofs.Fitted.{Stands, fitted-survives}
-use Rattle.otp_rules.proofs.Numbers.{decided-distinct, use_exit-no_more}
-use Rattle.otp_rules.proofs.StartTurn.{stays_fit_law, used-fits}
+use Rattle.otp_rules.proofs.Numbers.{decided-distinct}
+use Rattle.otp_rules.proofs.StartTurn.{MayGoOn, stays_fit_law, used-goes_on}
 use Rattle.otp_rules.proofs.Named.{kills, late_has, open-orders}
 
 -- a process that the order names is that of a row whose state passes the test
@@ -279,35 +278,27 @@ start-placed due rest n o calm fits h =
 
 -- the work may go on: its children have rows, and no order was given that names one
 abbrev MayGo : List ℕ → Outcome → Type 0
-MayGo ps o = IsReady ps o × ((q : ℕ) → rows_in (has_process q) o.state.rows ≤ 1) × IsNamed o.state × Fits ps o.state.to_start o.state.rows × All NamesNone o.orders
+MayGo ps o = MayGoOn ps o × All NamesNone o.orders
 
 start_first-placed : (dues : List Due) (n : ℕ) (o : Outcome) → o.state.to_start ≡ dues → MayGo [] o → Placed (start_first dues n o)
 unfolding start_first
-start_first-placed [] n o is m = none-placed (follow o.state.follows o) (follow-orders NamesNone none-replies o.state.follows o m.4)
-start_first-placed (due ∷ rest) n o is m = start-placed due rest n o m.0.1 (subst (λ (ds : List Due). Fits [] ds o.state.rows) is m.3) m.4
+start_first-placed [] n o is m = none-placed (follow o.state.follows o) (follow-orders NamesNone none-replies o.state.follows o m.1)
+start_first-placed (due ∷ rest) n o is m = start-placed due rest n o m.0.0.1 (subst (λ (ds : List Due). Fits [] ds o.state.rows) is m.0.3) m.1
 
 stop_first-placed : (ps : List ℕ) (n : ℕ) (o : Outcome) → MayGo ps o → Placed (stop_first ps n o)
 stop_first-placed ps n =
     stop_first-by MayGo Placed n (λ o m. start_first-placed o.state.to_start n o refl m)
-    (λ p rest o _ m.
-    let left : Outcome = with_stops rest o in
-    let place : Option ℕ = position (is_exit p) o.state.waiting in
-    let used : Outcome = use_exit p place left in
-    let same : Alike used left = use_exit-alike p place left in
-    let fits : IsNamed used.state × Fits rest o.state.to_start used.state.rows = used-fits p rest place o m.0 (m.1 p) m.2 m.3 in (
-      used-ready p rest place o m.0,
-      (λ q. omega (arith, use_exit-no_more p place left left (λ x. omega arith) q, m.1 q)),
-      fits.0,
-      subst (λ (ds : List Due). Fits rest ds used.state.rows) (sym same.3) fits.1,
-      subst (λ (xs : List Effect). All NamesNone xs) (sym (use_exit-quiet p place left).1) m.4,
+    (λ p rest o _ m. (
+      used-goes_on p rest o m.0,
+      subst (λ (xs : List Effect). All NamesNone xs) (sym (use_exit-quiet p (position (is_exit p) o.state.waiting) (with_stops rest o)).1) m.1,
     ))
-    (λ p rest o m. tell-placed p (with_stops rest o) m.4) ps
+    (λ p rest o m. tell-placed p (with_stops rest o) m.1) ps
 
 advance-placed : (n : ℕ) (o : Outcome) → Stands o → ((q : ℕ) → rows_in (has_process q) o.state.rows ≤ 1) → Tells o → Placed (advance n o)
 advance-placed n o h one tells =
     advance-by Placed n o (tells-placed o tells) (λ busy calm.
     let nothing : rows_in is_awaited o.state.rows ≡ 0 = none_in is_awaited o.state.rows calm in
-    stop_first-placed o.state.to_stop n o ((h.0, nothing, refl, busy), one, h.1.0, h.1.1, tells-none o nothing tells))
+    stop_first-placed o.state.to_stop n o (((h.0, nothing, refl, busy), one, h.1.0, h.1.1), tells-none o nothing tells))
 
 -- the first row that has the process, where a count tells of one
 first_row : (p : ℕ) (rows : List Row) → 0 < rows_in (has_process p) rows → (row : Row) × Contains rows row × (has_process p row.state ≡ true) × (slot_of p rows ≡ Some row.slot)

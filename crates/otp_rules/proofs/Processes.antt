@@ -11,7 +11,7 @@ use Rattle.otp_rules.specs.Run.{empty_state, state_after}
 use Rattle.otp_rules.specs.Fit.{IsDistinct}
 use Rattle.otp_rules.specs.Needs.{IsNumbered, needs_number, numbers_of}
 use Rattle.otp_rules.specs.Processes.{ProcessesOwned, ProcessesStayOwned}
-use Rattle.otp_rules.proofs.StartTurn.{pairs_first, pairs_rest}
+use Rattle.otp_rules.proofs.Lawful.{pairs_first, pairs_rest}
 use Rattle.otp_rules.proofs.Numbers.{numbered-distinct, unnumbered-distinct}
 
 -- along a history the numbers of all rows stay below the next

@@ -30,9 +30,8 @@ use Rattle.otp_rules.specs.Run.{empty_state, state_after}
 use Rattle.otp_rules.specs.Progress.{Ordered, Progress, no_progress, is_end, ends_together, id_bytes, processes, started, start_list, seen, gave, progress, IsIn}
 use Rattle.otp_rules.specs.Fit.{rows_in, times, IsSound, HasWaiting, HasStops, Keeps, IsListed, IsDistinct, is_free, Fits, IsNamed, IsFitted, is_starting, IsUnderWay, HasStarts, KeepsStarts, next_number, IsFit, IsLawfulFrom, StaysFit}
 use Rattle.otp_rules.proofs.States.{held_goes}
-use Rattle.otp_rules.proofs.Walks.{advance-by, stop_first-by, with_stops}
+use Rattle.otp_rules.proofs.Walks.{advance-by, stop_first-by, used, with_stops}
 use Rattle.otp_rules.proofs.Decisions.{StandsAt, by_test, decide-survives}
-use Prim.Native.Nat.{suc}
 use Rattle.otp_rules.proofs.Counting.{rows_in-set, rows_in-at, Alike, end_row-alike, use_exit-alike, times-reverse, none_in, there, at_row-found, at_row-first, use_exit-quiet, rows_in-le}
 use Rattle.otp_rules.specs.Order.{StartsInTurn, IsStartInTurn, StartOrder, StartOrderFromEmpty}
 use Rattle.otp_rules.proofs.Sound.{IsReady, empty-sound, used-ready}
@@ -40,11 +39,12 @@ use Rattle.otp_rules.proofs.Stopping.{not_busy}
 use Rattle.otp_rules.proofs.Opened.{decided-keeps}
 use Rattle.otp_rules.specs.Needs.{IsNumbered, is_start, numbers_of}
 use Rattle.otp_rules.proofs.NeedsWork.{decide-quiet}
-use Rattle.otp_rules.proofs.Numbers.{use_exit-no_more, decided-distinct, numbered-distinct, unnumbered-distinct}
+use Rattle.otp_rules.proofs.Numbers.{use_exit-no_more, decided-distinct}
 use Rattle.otp_rules.proofs.InTurn.{IsDone, HasDone, all-done, used-waits, used-done, TakesReplies, follow-orders, follow-closes, stands, step-keeps}
 use Rattle.otp_rules.proofs.Fits.{fits-stop, fits-stop-remove, due_there, fits-start}
 use Rattle.otp_rules.proofs.Fitted.{set-named, named-less, end-named, Stands, fitted-survives, empty-fitted}
 use Rattle.otp_rules.proofs.Starting.{idle_keeps, decided-starts}
+use Rattle.otp_rules.proofs.Lawful.{along}
 use Rattle.otp_rules.specs.declared.event.Effect.TheVariants as effect
 use Rattle.otp_rules.specs.declared.event.Waiting.TheVariants as waiting
 use Rattle.otp_rules.specs.declared.work.Sequel.TheVariants as sequel
@@ -238,7 +238,7 @@ end-stops p ps ds i row o at has one fits =
     (λ goes. fits-stop-remove p ps i row has (λ free. held_goes (p ∷ ps) p row.state has (sym (ap (λ (b : Bool). is_free (p ∷ ps) b row.state) goes) ∙ free)) ds o.state.rows at one fits)
     (λ _. fits-stop p ps i row Undefined has (λ _. refl) ds o.state.rows at one fits)
 
-pub used-fits : (p : ℕ) (ps : List ℕ) (place : Option ℕ) (o : Outcome) → IsReady (p ∷ ps) o → rows_in (has_process p) o.state.rows ≤ 1 → IsNamed o.state → Fits (p ∷ ps) o.state.to_start o.state.rows
+used-fits : (p : ℕ) (ps : List ℕ) (place : Option ℕ) (o : Outcome) → IsReady (p ∷ ps) o → rows_in (has_process p) o.state.rows ≤ 1 → IsNamed o.state → Fits (p ∷ ps) o.state.to_start o.state.rows
     → IsNamed (use_exit p place (with_work ps o.state.to_start o.state.follows o)).state × Fits ps o.state.to_start (use_exit p place (with_work ps o.state.to_start o.state.follows o)).state.rows
 unfolding use_exit end_process at_number
 used-fits p ps place o r one named fits =
@@ -248,6 +248,23 @@ used-fits p ps place o r one named fits =
       named-less (end_row i row left).state left.state (end_row-alike i row left).0 (end-named i row left at) named,
       end-stops p ps o.state.to_start i row left at has one fits,
     ))
+
+-- the work may go on, and each child that is to be stopped or started is there
+abbrev pub MayGoOn : List ℕ → Outcome → Type 0
+MayGoOn ps o = IsReady ps o × ((q : ℕ) → rows_in (has_process q) o.state.rows ≤ 1) × IsNamed o.state × Fits ps o.state.to_start o.state.rows
+
+-- so it is where the first to be stopped has ended
+pub used-goes_on : (p : ℕ) (ps : List ℕ) (o : Outcome) → MayGoOn (p ∷ ps) o → MayGoOn ps (used p (with_stops ps o))
+used-goes_on p ps o m =
+    let left : Outcome = with_stops ps o in
+    let place : Option ℕ = position (is_exit p) o.state.waiting in
+    let same : Alike (used p left) left = use_exit-alike p place left in
+    let fits : IsNamed (used p left).state × Fits ps o.state.to_start (used p left).state.rows = used-fits p ps place o m.0 (m.1 p) m.2 m.3 in (
+      used-ready p ps place o m.0,
+      (λ q. omega (arith, use_exit-no_more p place left left (λ x. omega arith) q, m.1 q)),
+      fits.0,
+      subst (λ (ds : List Due). Fits ps ds (used p left).state.rows) (sym same.3) fits.1,
+    )
 
 told-gone : (g : Progress) (p : ℕ) (ps : List ℕ) (o : Outcome) → MayStart g (p ∷ ps) o → Gone g (tell p (with_work ps o.state.to_start o.state.follows o))
 unfolding tell tell_row at_number
@@ -269,15 +286,14 @@ stop_first-gone g ps n =
     (λ p rest o waits m.
     let left : Outcome = with_stops rest o in
     let place : Option ℕ = position (is_exit p) o.state.waiting in
-    let used : Outcome = use_exit p place left in
     let ended : IsIn p g.ended = m.4 p (there (is_exit p) o.state.waiting (waiting.Retry 0) waits) in
-    let same : Alike used left = use_exit-alike p place left in
-    let fits : IsNamed used.state × Fits rest o.state.to_start used.state.rows = used-fits p rest place o m.0 (m.1 p) m.2 m.3 in
+    let same : Alike (used p left) left = use_exit-alike p place left in
+    let goes : MayGoOn rest (used p left) = used-goes_on p rest o (m.0, m.1, m.2, m.3) in
     let answered : AllAnswered g o = m.6 in (
-      used-ready p rest place o m.0,
-      (λ q. omega (arith, use_exit-no_more p place left left (λ x. omega arith) q, m.1 q)),
-      fits.0,
-      subst (λ (ds : List Due). Fits rest ds used.state.rows) (sym same.3) fits.1,
+      goes.0,
+      goes.1,
+      goes.2,
+      goes.3,
       used-waits g p rest o m.4,
       used-done g p rest place o ended m.5,
       (answered.0, answered.1 ∙ ap (λ (ds : List Due). answered.0 ++ ds) (sym same.3), answered.2, answered.3),
@@ -324,32 +340,11 @@ step-gone m s e g l =
     advance-gone (seen s e g) (unwrap_or e.number 0) o stands_now (decided-distinct m s e l.2).0 (decided-keeps s e g l.0.0 l.0.1).1 (decided-starts s e g l.0.0 l.3) (from_any o.orders quiet)
 
 -- the numbers that follow are no less
-step-lawful : (m k : ℕ) (s : State) (e : Event) (g : Progress) → IsFit m s g → IsDistinct k (step s e).state → IsFit k (step s e).state (gave (step s e).orders (seen s e g))
+pub step-lawful : (m k : ℕ) (s : State) (e : Event) (g : Progress) → IsFit m s g → IsDistinct k (step s e).state → IsFit k (step s e).state (gave (step s e).orders (seen s e g))
 step-lawful m k s e g l distinct =
     let gone : Gone (seen s e g) (step s e) = step-gone m s e g l in
     let kept : IsSound (step s e).state × Keeps (step s e).state (gave (step s e).orders (seen s e g)) = step-keeps s e g l.0.0 l.0.1 in
     (kept, gone.2, distinct, gone.0)
-
-pub pairs_rest : (x : ℕ) (xs : List ℕ) → AllPairs (λ i j. i < j) (x ∷ xs) → AllPairs (λ i j. i < j) xs
-pairs_rest x xs h i j d less within = h (suc i) (suc j) d (omega (arith, less)) (omega (arith, within))
-
-pub pairs_first : (x : ℕ) (xs : List ℕ) → AllPairs (λ i j. i < j) (x ∷ xs) → All (λ y. x + 1 ≤ y) xs
-pairs_first x xs h i d within = let k : x < get_or xs i d = h 0 (suc i) d (omega arith) (omega (arith, within)) in omega (arith, k)
-
--- a lawful history keeps a state fit
-run-fit : (m : ℕ) (s : State) (g : Progress) (events : List Event) → IsFit m s g → IsNumbered s events → AllPairs (λ i j. i < j) (numbers_of events) → All (λ y. m ≤ y) (numbers_of events)
-    → IsFit (next_number m (numbers_of events)) (state_after s events) (progress s g events)
-run-fit m s g [] l numbered rises fresh = l
-run-fit m s g (x ∷ events) l numbered rises fresh =
-    let rest : List ℕ = numbers_of events in
-    let s1 : State = (step s x).state in
-    let g1 : Progress = gave (step s x).orders (seen s x g) in
-    let goes_on : (k : ℕ) → IsDistinct k (step s x).state → AllPairs (λ i j. i < j) rest → All (λ y. k ≤ y) rest → IsFit (next_number k rest) (state_after s (x ∷ events)) (progress s g (x ∷ events)) =
-    λ k distinct up above. run-fit k s1 g1 events (step-lawful m k s x g l distinct) numbered.1 up above in
-    (elim x.number as (λ (n : Option ℕ). x.number ≡ n → AllPairs (λ i j. i < j) (cons_option n rest) → All (λ y. m ≤ y) (cons_option n rest) → IsFit (next_number m (cons_option n rest)) (state_after s (x ∷ events)) (progress s g (x ∷ events))) [
-      | None ↦ λ is up above. goes_on m (unnumbered-distinct m s x is (sym numbered.0 ∙ ap (λ (n : Option ℕ). is_some n) is) l.2) up above
-      | Some n ↦ λ is up above. goes_on (n + 1) (numbered-distinct m n s x is (All-head (λ y. m ≤ y) n rest above) l.2) (pairs_rest n rest up) (pairs_first n rest up)
-    ]) refl rises fresh
 
 -- the beginning of a lawful history is lawful
 numbered_front : (s : State) (events more : List Event) → IsNumbered s (events ++ more) → IsNumbered s events
@@ -374,10 +369,11 @@ lawful_front m s events more h =
           omega (arith, same, fresh i d (omega (arith, within, length-append ns (numbers_of more)))),
     )
 
-stays_fit : (m : ℕ) (s : State) (g : Progress) (events : List Event) → IsFit m s g → IsLawfulFrom m s events → IsFit (next_number m (numbers_of events)) (state_after s events) (progress s g events)
-stays_fit m s g events l lawful = run-fit m s g events l lawful.0.0 lawful.0.1 lawful.1
+-- a lawful history keeps a state fit
+pub stays_fit : (m : ℕ) (s : State) (g : Progress) (events : List Event) → IsFit m s g → IsLawfulFrom m s events → IsFit (next_number m (numbers_of events)) (state_after s events) (progress s g events)
+stays_fit m s g events l lawful = along IsFit (λ n t h fit. fit.2) step-lawful m s g events l lawful
 
-empty_fit : (flags : SupFlags) (specs : List ChildSpec) → IsFit 0 (empty_state flags specs) (no_progress (empty_state flags specs))
+pub empty_fit : (flags : SupFlags) (specs : List ChildSpec) → IsFit 0 (empty_state flags specs) (no_progress (empty_state flags specs))
 empty_fit flags specs =
     let base : State = empty_state flags specs in
     ((empty-sound flags specs, not_busy base (no_progress base) refl), empty-fitted flags specs, (λ q. omega arith, λ q h. refl), idle_keeps base (no_progress base) refl)

@@ -17,7 +17,8 @@ use Rattle.otp_rules.specs.Step.{step}
 use Rattle.otp_rules.specs.Run.{empty_state, state_after}
 use Rattle.otp_rules.specs.Needs.{IsLawfulHistory, needs_number}
 use Rattle.otp_rules.specs.Homes.{end_number}
-use Rattle.otp_rules.specs.Fit.{is_starting}
+use Rattle.otp_rules.specs.Fit.{is_starting, IsLawfulFrom}
+use Rattle.otp_rules.specs.InOrder.{IsInOrder}
 use Rattle.otp_rules.specs.Lives.{IsHeldIn}
 
 -- a child has this process, in this slot, and no Exit of it waits
@@ -35,8 +36,17 @@ is_told_by (note.Exit p _) state = has_process p state
 abbrev pub EndsChild : State → Kind → ℕ → Type 0
 EndsChild s k p = (x : Note) × (k ≡ kind.Took (item.Note x)) × (end_number x ≡ Some p) × ((row : Row) × Contains s.rows row × (is_told_by x row.state ≡ true))
 
--- after a lawful history and an event more, which has a number where it starts a child, a process that lives is the one that the event starts; or it
--- lived before the event, in the same slot, and the event doesn't take the note of its end
+-- from each state that is in order: after a lawful history and an event more, which has a number where it starts a child, a
+-- process that lives is the one that the event starts; or it lived before the event, in the same slot, and the event
+-- doesn't take the note of its end
+abbrev pub ProcessesLivedFrom : Type 0
+ProcessesLivedFrom =
+    (m : ℕ) (s : State) (events : List Event) (e : Event) → IsInOrder m s → IsLawfulFrom m s events
+    → is_some e.number ≡ needs_number (state_after s events) e.reading e.kind
+    → (slot p : ℕ) → LivesIn (step (state_after s events) e).state slot p
+    → (e.number ≡ Some p) ⊎ (LivesIn (state_after s events) slot p × (EndsChild (state_after s events) e.kind p → ⊥))
+
+-- and so from the state that was never opened
 abbrev pub ProcessesLived : Type 0
 ProcessesLived =
     (flags : SupFlags) (specs : List ChildSpec) (events : List Event) (e : Event) → IsLawfulHistory (empty_state flags specs) events

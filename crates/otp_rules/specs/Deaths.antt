@@ -1,6 +1,6 @@
 -- A child ends by itself with no work open, or its restart is tried again
 -- (Supervisor Behaviour, Child Specification, restart, and Maximum Restart Intensity).
-use Rattle.std.specs.Prelude.{ℕ, ◌++◌, ◌∷◌, Some, [], drop, if◌then◌else◌, length, nat_lt, reverse, slice_range, take}
+use Rattle.std.specs.Prelude.{ℕ, ◌++◌, ◌∷◌, Some, [], drop, if◌then◌else◌, length, nat_lt, slice_range, take}
 use Rattle.otp_table.specs.declared.row.Row.{Row}
 use Rattle.otp_table.specs.declared.row.RowState.{RowState}
 use Rattle.otp_table.specs.declared.row.RowState.TheVariants.{Asked, Killed, Starting, Undefined, Up}
@@ -14,7 +14,7 @@ use Rattle.otp_window.specs.Period.{in_period}
 use Rattle.otp_rules.specs.declared.ending.Ending.TheVariants.{Intensity, Significant}
 use Rattle.otp_rules.specs.declared.event.Item.TheVariants as item
 use Rattle.otp_rules.specs.declared.event.Waiting.TheVariants as waiting
-use Rattle.otp_rules.specs.Restarts.{affected_from, affected_to, ends_by_significance, is_restarted, restart_list, running}
+use Rattle.otp_rules.specs.Restarts.{affected_from, affected_to, ends_by_significance, is_restarted, restart_list, stop_list}
 use Rattle.otp_rules.specs.Stops.{terminate}
 
 -- the children from one place to another are to be stopped and started again; the one at place keeps the number k
@@ -22,7 +22,7 @@ unfoldable pub restart_rows : ℕ → ℕ → ℕ → ℕ → Outcome → Outcom
 restart_rows from to place k o =
     with_rows (take from o.state.rows ++ calm_rows (slice_range o.state.rows from to) ++ drop to o.state.rows)
     (with_work
-    (reverse (running (slice_range o.state.rows from to)))
+    (stop_list (slice_range o.state.rows from to))
     (restart_list from to place k o.state.rows)
     (Some sequel.Nothing) o)
 

@@ -25,5 +25,7 @@ pub mod Slots
 pub mod Named
 pub mod Processes
 pub mod Waits
+pub mod InOrder
+pub mod Late
 pub mod Lives
 pub mod Alive

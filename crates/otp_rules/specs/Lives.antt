@@ -1,6 +1,6 @@
 -- A child's process from its start to the note of its end: until that note was taken the process stays its child's, in one
 -- slot, and the supervisor doesn't end (own).
-use Rattle.std.specs.Prelude.{◌≡◌, ◌⊎◌, ℕ, true, List, [], Some, Contains}
+use Rattle.std.specs.Prelude.{◌≡◌, ◌⊎◌, ◌++◌, ℕ, true, List, [], Some, Contains}
 use Rattle.std.specs.List.{list_any}
 use Rattle.otp_reason.specs.declared.note.Note.{Note}
 use Rattle.otp_spec.specs.declared.child.ChildSpec.{ChildSpec}
@@ -14,9 +14,11 @@ use Rattle.otp_rules.specs.declared.event.Kind.TheVariants as kind
 use Rattle.otp_rules.specs.State.{State, is_over}
 use Rattle.otp_rules.specs.Step.{step}
 use Rattle.otp_rules.specs.Run.{empty_state, state_after}
-use Rattle.otp_rules.specs.Needs.{IsLawfulHistory, numbers_of}
+use Rattle.otp_rules.specs.Needs.{IsLawfulHistory, IsNumbered, numbers_of}
 use Rattle.otp_rules.specs.Homes.{end_number, is_ended}
 use Rattle.otp_rules.specs.Progress.{IsIn}
+use Rattle.otp_rules.specs.Fit.{IsLawfulFrom, IsSound}
+use Rattle.otp_rules.specs.InOrder.{AreGiven, IsBare, IsInOrder}
 
 -- the event takes the note of this process's end
 abbrev pub TakesEnd : Kind → ℕ → Type 0
@@ -38,13 +40,27 @@ IsHeldIn rows slot p = (row : Row) × Contains rows row × (row.slot ≡ slot) �
 abbrev pub EndsAreHeard : Type 0
 EndsAreHeard = (s : State) (e : Event) (p : ℕ) → list_any (is_ended p) (step s e).state.waiting ≡ true → (list_any (is_ended p) s.waiting ≡ true) ⊎ (TakesEnd e.kind p × IsHeld s.rows p)
 
--- so an end that waits tells of a process that the history started
+-- so an end that waits tells of a process that the history started, or that was given before it
+abbrev pub EndsTellStartedFrom : Type 0
+EndsTellStartedFrom =
+    (given : List ℕ) (s : State) (events : List Event) (p : ℕ) → AreGiven given s → IsNumbered s events
+    → list_any (is_ended p) (state_after s events).waiting ≡ true → IsIn p (given ++ numbers_of events)
+
+-- and from the state that was never opened, of a process that the history started
 abbrev pub EndsTellStarted : Type 0
 EndsTellStarted =
     (flags : SupFlags) (specs : List ChildSpec) (events : List Event) (p : ℕ) → IsLawfulHistory (empty_state flags specs) events
     → list_any (is_ended p) (state_after (empty_state flags specs) events).waiting ≡ true → IsIn p (numbers_of events)
 
--- a child's process stays that child's, in its slot, unless its end was taken, or the event takes it
+-- from each state that is in order a child's process stays that child's, in its slot, unless its end was taken, or the
+-- event takes it
+abbrev pub ProcessesStayFrom : Type 0
+ProcessesStayFrom =
+    (m : ℕ) (s : State) (events : List Event) (e : Event) → IsInOrder m s → IsLawfulFrom m s events
+    → (row : Row) (p : ℕ) → Contains (state_after s events).rows row → has_process p row.state ≡ true
+    → HasEnded (state_after s events) e.kind p ⊎ IsHeldIn (step (state_after s events) e).state.rows row.slot p
+
+-- and so from the state that was never opened
 abbrev pub ProcessesStay : Type 0
 ProcessesStay =
     (flags : SupFlags) (specs : List ChildSpec) (events : List Event) (e : Event) → IsLawfulHistory (empty_state flags specs) events
@@ -52,13 +68,25 @@ ProcessesStay =
     → HasEnded (state_after (empty_state flags specs) events) e.kind p ⊎ IsHeldIn (step (state_after (empty_state flags specs) events) e).state.rows row.slot p
 
 -- so no end of the supervisor comes before that of each child's process
+abbrev pub EndComesLastFrom : Type 0
+EndComesLastFrom =
+    (m : ℕ) (s : State) (events : List Event) (e : Event) → IsInOrder m s → IsLawfulFrom m s events
+    → is_over (step (state_after s events) e).state.phase ≡ true
+    → (row : Row) (p : ℕ) → Contains (state_after s events).rows row → has_process p row.state ≡ true → HasEnded (state_after s events) e.kind p
+
+-- and so from the state that was never opened
 abbrev pub EndComesLast : Type 0
 EndComesLast =
     (flags : SupFlags) (specs : List ChildSpec) (events : List Event) (e : Event) → IsLawfulHistory (empty_state flags specs) events
     → is_over (step (state_after (empty_state flags specs) events) e).state.phase ≡ true
     → (row : Row) (p : ℕ) → Contains (state_after (empty_state flags specs) events).rows row → has_process p row.state ≡ true → HasEnded (state_after (empty_state flags specs) events) e.kind p
 
--- a supervisor that was never opened, or that has ended, has no children
+-- a supervisor that was never opened, or that has ended, has no children: whatever happens from a sound state on of which
+-- that is so
+abbrev pub EndedHasNoRowsFrom : Type 0
+EndedHasNoRowsFrom = (s : State) (events : List Event) → IsSound s → IsBare s → IsBare (state_after s events)
+
+-- and so from the state that was never opened
 abbrev pub EndedHasNoRows : Type 0
 EndedHasNoRows =
     (flags : SupFlags) (specs : List ChildSpec) (events : List Event)

@@ -1,5 +1,5 @@
 -- Which children a restart affects (Supervisor Behaviour, Restart Strategy, and Child Specification, restart).
-use Rattle.std.specs.Prelude.{ℕ, ◌+◌, Bool, true, false, not, ◌&&◌, List, ◌++◌, Option, Some, None, map, filter, slice_range}
+use Rattle.std.specs.Prelude.{ℕ, ◌+◌, Bool, true, false, not, ◌&&◌, List, ◌++◌, Option, Some, None, map, filter, reverse, slice_range}
 use Rattle.std.specs.List.{list_any, filter_map}
 use Rattle.otp_reason.specs.declared.reason.Reason.{Reason}
 use Rattle.otp_reason.specs.Quiet.{is_quiet}
@@ -35,6 +35,10 @@ affected_to SimpleOneForOne place count = place + 1
 -- the process numbers of the children that run, in start order
 abbrev pub running : List Row → List ℕ
 running rows = filter_map (λ row. up_number row.state) rows
+
+-- the stop list of rows: the processes of the children that run, in reverse start order
+abbrev pub stop_list : List Row → List ℕ
+stop_list rows = reverse (running rows)
 
 -- the children that are started again, in start order; a temporary one never is
 abbrev pub dues : Option ℕ → List Row → List Due

@@ -1,8 +1,6 @@
 -- A supervisor between two events, and small changes of it.
 use Rattle.std.specs.Prelude.{ℕ, Bool, true, false, List, [], ◌∷◌, ◌++◌, Option, None, is_some}
 use Rattle.otp_spec.specs.declared.flags.SupFlags.{SupFlags}
-use Rattle.otp_spec.specs.declared.flags.Strategy.{Strategy}
-use Rattle.otp_spec.specs.declared.flags.Strategy.TheVariants.{SimpleOneForOne}
 use Rattle.otp_spec.specs.declared.child.ChildSpec.{ChildSpec}
 use Rattle.otp_table.specs.declared.row.Row.{Row}
 use Rattle.otp_rules.specs.declared.call.Answered.{Answered}
@@ -60,11 +58,6 @@ abbrev pub own_number : Phase → ℕ
 own_number Unopened = 0
 own_number (Open own) = own
 own_number (Ended own _) = own
-
--- the children are dynamic (Supervisor Behaviour, Simplified one_for_one Supervisors)
-abbrev pub is_simple : Strategy → Bool
-is_simple SimpleOneForOne = true
-is_simple _ = false
 
 abbrev pub emit : Effect → Outcome → Outcome
 emit e o = record o { orders = o.orders ++ e ∷ [] }

@@ -66,6 +66,10 @@ rows_from slot (spec ∷ specs) = new_row slot (Some spec.id) spec ∷ rows_from
 abbrev pub due_of : ChildSpec → Due
 due_of spec = record { id = Some spec.id; kept = None }
 
+-- the start list of an opening: all children, in their order
+abbrev pub opening_list : List ChildSpec → List Due
+opening_list specs = map due_of specs
+
 -- the children of a supervisor that opens: none yet under simple_one_for_one
 abbrev pub opening_specs : Bool → List ChildSpec → List ChildSpec
 opening_specs true specs = []
@@ -73,7 +77,7 @@ opening_specs false specs = specs
 
 unfoldable pub open_with : List ChildSpec → ℕ → Outcome → Outcome
 open_with specs own o =
-    with_work [] (map due_of specs) (Some sequel.Ready)
+    with_work [] (opening_list specs) (Some sequel.Ready)
     (with_rows (rows_from 0 specs) (with_stamps [] (with_phase (Open own) o)))
 
 -- the supervisor opens anew under its own number: all children are to be started, in order

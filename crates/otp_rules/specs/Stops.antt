@@ -1,6 +1,6 @@
 -- A child is stopped, and all of them when the supervisor ends (Supervisor Behaviour, Child Specification, shutdown,
 -- Supervision Principles, and Stopping).
-use Rattle.std.specs.Prelude.{ℕ, ◌+◌, ◌==◌, ◌∷◌, Bool, List, None, Option, Some, [], false, if◌then◌else◌, is_some, position, remove, reverse}
+use Rattle.std.specs.Prelude.{ℕ, ◌+◌, ◌==◌, ◌∷◌, Bool, List, None, Option, Some, [], false, if◌then◌else◌, is_some, position, remove}
 use Rattle.otp_reason.specs.declared.name.Name.{Name}
 use Rattle.otp_table.specs.declared.row.Row.{Row}
 use Rattle.otp_table.specs.declared.row.RowState.{RowState}
@@ -13,7 +13,7 @@ use Rattle.otp_rules.specs.Places.{at_number, end_process, set_row}
 use Rattle.otp_reason.specs.declared.note.Note.TheVariants as note
 use Rattle.otp_rules.specs.declared.event.Item.TheVariants as item
 use Rattle.otp_rules.specs.declared.event.Waiting.TheVariants as waiting
-use Rattle.otp_rules.specs.Restarts.{running}
+use Rattle.otp_rules.specs.Restarts.{running, stop_list}
 use Rattle.otp_rules.specs.declared.event.Effect.{Effect}
 use Rattle.otp_rules.specs.declared.event.Effect.TheVariants as effect
 use Rattle.otp_rules.specs.declared.ending.Ending.{Ending}
@@ -67,7 +67,7 @@ calm_all o = with_rows (calm_rows o.state.rows) o
 
 -- all children are to be stopped one after another, and then the supervisor ends
 unfoldable pub terminate_ordered : Ending → Outcome → Outcome
-terminate_ordered ending o = calm_all (with_work (reverse (running o.state.rows)) [] (Some (sequel.End ending)) o)
+terminate_ordered ending o = calm_all (with_work (stop_list o.state.rows) [] (Some (sequel.End ending)) o)
 
 -- all dynamic children are told to stop together, and when all have ended the supervisor ends
 -- (supervisor, Supervision Principles: children of simple_one_for_one are terminated asynchronously, in an order

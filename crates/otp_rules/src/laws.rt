@@ -6,6 +6,8 @@ ghost use Rattle.otp_rules.specs.Evidence.{EndEvidence, EndEvidenceFromEmpty};
 ghost use Rattle.otp_rules.specs.Fit.{StaysFit};
 ghost use Rattle.otp_rules.specs.Frames.{OrdersAppended, StepKeepsPlan, StepKeepsStamped, StepStamps};
 ghost use Rattle.otp_rules.specs.Homes.{HomesKept, HomesKeptFrom};
+ghost use Rattle.otp_rules.specs.InOrder.{WorkAwaits};
+ghost use Rattle.otp_rules.specs.Late.{TicksKillLate, TicksKillLateFromEmpty};
 ghost use Rattle.otp_rules.specs.Named.{OrdersNameRows, OrdersNameRowsFrom, OrdersNumbered, OrdersNumberedFrom};
 ghost use Rattle.otp_rules.specs.Needs.{NumberStartsWork};
 ghost use Rattle.otp_rules.specs.Next.{DeadlinesCome};
@@ -76,6 +78,15 @@ pub fn start_order()
 pub fn stop_order()
     ensures from_any { StopOrder }
     ensures from_empty { StopOrderFromEmpty }
+{}
+
+/// Between two events of a lawful history open work awaits an answer of a child: it has gone on as far as it can. So an event
+/// that ticks does nothing but kill: each of its orders is the kill of a child that was asked to shut down until a time
+/// that has come (Supervisor Behaviour, Child Specification, shutdown).
+pub fn ticks_kill_late()
+    ensures awaits { WorkAwaits }
+    ensures from_any { TicksKillLate }
+    ensures from_empty { TicksKillLateFromEmpty }
 {}
 
 /// Each end that is ordered shows why: by the intensity, the flags and one restart more than the intensity, none before

@@ -1,33 +1,19 @@
 -- Each step on a deque keeps its rule.
-use Rattle.std.proofs.Common.{◌≡◌, ◌≢◌, ⊎_elim, ℕ, zero, suc, ◌+◌, ◌<◌, ◌≤◌, List, [], ◌∷◌, ◌++◌, length, map, set, refl, sym, ap, ◌∙◌, arith, length-append}
+use Rattle.std.proofs.Common.{◌≡◌, ◌≢◌, ⊎_elim, ℕ, ◌+◌, ◌<◌, ◌≤◌, List, [], ◌∷◌, ◌++◌, length, map, set, refl, sym, ap, ◌∙◌, arith, length-append}
 use Rattle.std.specs.Prelude.{sum_by}
 use Rattle.std.proofs.lemmas.List.{length-map}
 use Rattle.std.proofs.lemmas.List.Sums.{sum_by-append, sum_by-cons}
-use mathlib.Core.Option.{some, some-ne-none, some-injective}
+use mathlib.Core.Option.{some}
 use lib.ListN.{get_elem?}
 use Rattle.crossbeam_deque.specs.Tasks.{Pushes, Takes, Learns, Forks, Merges}
 use Rattle.crossbeam_deque.proofs.Lists.{at_set, at_snoc}
 use Rattle.otp_job.specs.Processes.{ProcessState}
 use Rattle.otp_job.specs.declared.process.Ticket.{Ticket}
 use Rattle.otp_run.specs.declared.rule.View.{View}
-use Rattle.otp_run.specs.Rule.{IsDeque, all_parts, ticket_of, view_of, whole_view, blank_view, thief_view, kept_view, joined_view, Puts, IsEmptied, TakesLeft, Counts}
+use Rattle.otp_run.specs.Rule.{IsDeque, all_parts, ticket_of, view_of, blank_view, thief_view, kept_view, joined_view, Puts, IsEmptied, TakesLeft, Counts}
 use Rattle.otp_run.specs.Rule.{Takes as TakesTickets}
 use Rattle.otp_run.proofs.Places.{map-append}
 use Rattle.otp_tally.proofs.Sums.{sum_by-set, sum_by-alone, sum_by-one}
-
-Idle : View → Type 0
-Idle v = v.parts ≡ 0 → (v.put ≡ []) × (v.taken ≡ [])
-
-only_first : (v u : View) (id : ℕ) → get_elem? (v ∷ []) id ≡ some u → v ≡ u
-only_first v u zero e = some-injective v u e
-only_first v u (suc id) e = absurd (some-ne-none u (sym e))
-
-pub begins : IsDeque [] (whole_view ∷ [])
-begins = record {
-  whole = refl;
-  as_often = λ weight. refl;
-  idle = λ id v e none. let x = only_first whole_view v id e in absurd (let p : 8 ≡ v.parts = ap (λ (u : View). u.parts) x in omega arith);
-}
 
 -- one pass changed what it put or took, and the deque has changed by as much
 changed : (items more : List Ticket) (views : List View) (id : ℕ) (v w : View) → get_elem? views id ≡ some v → 0 < v.parts → w.parts ≡ v.parts

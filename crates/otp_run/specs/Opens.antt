@@ -44,6 +44,6 @@ from_above thief k = min 1 (k - thief)
 abbrev pub from_all : ℕ → ℕ → ℕ
 from_all thief k = min 1 (k - thief) + min 1 (thief - k)
 
--- the first so many know how many there are
+-- the first so many know how many there are; only the loop that tells them speaks of it, as its invariant
 abbrev pub CompleteUpTo : ℕ → ℕ → ℕ → SchedulerState → Type 0
 CompleteUpTo count done index s = (index < done → s ≡ opened count index) × (done ≤ index → HasLent count count none_yet index s)

@@ -1,13 +1,13 @@
 use Rattle.std.proofs.Common.{◌≡◌, ℕ, ◌+◌, ◌-◌, ◌<◌, ◌==◌, Bool, true, false, ◌∙◌, Option, None, Some, ap, arith, refl, sym, suc, zero}
-use Rattle.std.specs.Prelude.{if◌then◌else◌, is_some, not, ◌&&◌, ◌≢◌}
+use Rattle.std.specs.Prelude.{if◌then◌else◌, is_some, ◌≢◌}
 use Rattle.std.proofs.lemmas.Bool.{false≢true}
-use Rattle.otp_rules.specs.State.{is_over}
 use Rattle.otp_rules.specs.declared.event.Kind.TheVariants as kind
 use Rattle.otp_rules.specs.declared.event.Kind.{Kind}
 use Rattle.otp_rules.specs.Step.{step}
+use Rattle.otp_rules.specs.Next.{idle_kind}
 use Rattle.otp_sim.specs.declared.session.Stop.{Stop}
 use Rattle.otp_sim.specs.declared.session.Stop.TheVariants as stop
-use Rattle.otp_sim.specs.Sim.{Sim, event_of, happen, if_some, next_kind, settled, settled_within, stepped, waits}
+use Rattle.otp_sim.specs.Sim.{Sim, event_of, happen, if_some, next_kind, settled, settled_within, stepped}
 
 done : (room : ℕ) (s : Sim) → next_kind s ≡ None → settled_within room s ≡ s
 unfolding settled_within
@@ -65,7 +65,7 @@ remaining s = if is_some s.end then 0 else (s.room + 1)
 goes_on : (k : Kind) (s : Sim) → next_kind s ≡ Some k → is_some s.end ≡ false
 unfolding next_kind
 goes_on k s next =
-    (elim (is_some s.end) as (λ b. (if b then None else if is_some s.state.follows then None else if s.is_stopping && not (is_over s.state.phase) then Some kind.Stopped else if waits s.state.waiting then Some kind.Resumed else None) ≡ Some k → b ≡ false) [
+    (elim (is_some s.end) as (λ b. (if b then None else idle_kind s.state s.is_stopping) ≡ Some k → b ≡ false) [
       | true ↦ λ e. cc
       | false ↦ λ e. refl
     ]) next

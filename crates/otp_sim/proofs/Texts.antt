@@ -1,5 +1,5 @@
 -- What is printed doesn't depend on what was printed before.
-use Rattle.std.proofs.Common.{◌≡◌, ℕ, zero, suc, ◌+◌, ◌==◌, true, false, cond, List, [], ◌∷◌, ◌++◌, Option, Some, None, is_some, refl, ap, sym, ◌∙◌, append_assoc, append-nil}
+use Rattle.std.proofs.Common.{◌≡◌, ℕ, zero, suc, ◌+◌, ◌==◌, true, false, cond, List, [], ◌∷◌, ◌++◌, Option, Some, None, is_some, refl, ap, ◌∙◌, append_assoc}
 use Rattle.otp_rules.specs.declared.event.Event.{Event}
 use Rattle.otp_rules.specs.declared.event.Kind.{Kind}
 use Rattle.otp_rules.specs.declared.event.Kind.TheVariants as kind
@@ -10,6 +10,7 @@ use Rattle.otp_text.specs.declared.line.Line.TheVariants as line
 use Rattle.otp_text.specs.Lines.{line_of}
 use Rattle.otp_sim.specs.Sim.{Sim, event_of, stepped, happen, next_kind, if_some, settled_within, settled, is_due, ticked, take_read, take_form, take_line, take_lines, orders_text}
 use Rattle.otp_sim.specs.declared.session.Stop.TheVariants.{HistoryFull}
+use Rattle.otp_sim.specs.Devices.{Begins}
 use Rattle.otp_sim.specs.Runs.{with_text}
 
 -- s, had this text been printed before
@@ -78,9 +79,9 @@ unfolding take_lines
 take_lines_after front [] s = refl
 take_lines_after front (bytes ∷ others) s = ap (take_lines others) (take_line_after front bytes s) ∙ take_lines_after front others (take_line bytes s)
 
--- what a line prints on an empty page may be put behind other text
-pub page_added : (line old page whole : List ℕ) (s t : Sim) → with_text page t ≡ take_line line (with_text [] s) → whole ≡ old ++ page
-    → with_text whole t ≡ take_line line (with_text old s)
-page_added line old page whole s t taken added =
-    ap (λ text. with_text text t) added ∙ ap (after old) taken ∙ sym (take_line_after old line (with_text [] s))
-    ∙ ap (λ text. take_line line (with_text text s)) (append-nil old)
+-- what begins a beginning of a text begins that text
+pub begins_then : (a b c : List ℕ) → Begins a b → Begins b c → Begins a c
+begins_then a b c first later = record {
+  rest = first.rest ++ later.rest;
+  same = later.same ∙ ap (λ (text : List ℕ). text ++ later.rest) first.same ∙ append_assoc a first.rest later.rest;
+}

@@ -1,5 +1,5 @@
 -- What `sim` prints for its input, and how it ends (own).
-use Rattle.std.specs.Prelude.{ℕ, zero, suc, ◌+◌, ◌-◌, Bool, true, false, not, ◌&&◌, ◌==◌, max, List, [], ◌∷◌, ◌++◌, Option, Some, None, is_some, unwrap_or, if◌then◌else◌}
+use Rattle.std.specs.Prelude.{ℕ, zero, suc, ◌+◌, ◌-◌, Bool, true, false, ◌==◌, max, List, [], ◌∷◌, ◌++◌, Option, Some, None, is_some, unwrap_or, if◌then◌else◌}
 use Rattle.std.specs.List.{list_any, flat_map, slice_split}
 use Rattle.otp_spec.specs.declared.child.ChildSpec.{ChildSpec}
 use Rattle.otp_spec.specs.declared.flags.SupFlags.{SupFlags}
@@ -12,9 +12,9 @@ use Rattle.otp_rules.specs.declared.event.Event.{Event}
 use Rattle.otp_rules.specs.declared.event.Item.TheVariants as item
 use Rattle.otp_rules.specs.declared.event.Kind.{Kind}
 use Rattle.otp_rules.specs.declared.event.Kind.TheVariants as kind
-use Rattle.otp_rules.specs.declared.event.Waiting.{Waiting}
-use Rattle.otp_rules.specs.State.{Outcome, State, is_over}
+use Rattle.otp_rules.specs.State.{Outcome, State}
 use Rattle.otp_rules.specs.Step.{is_late, step}
+use Rattle.otp_rules.specs.Next.{idle_kind}
 use Rattle.otp_rules.specs.Run.{empty_state, reply_of}
 use Rattle.otp_rules.specs.Needs.{needs_number}
 use Rattle.otp_text.specs.declared.line.Line.{Line}
@@ -83,18 +83,10 @@ happen kind s =
     if s.room == 0 then record s { end = Some stop.HistoryFull }
     else stepped (event_of kind s) (step s.state (event_of kind s)) s
 
-abbrev pub waits : List Waiting → Bool
-waits [] = false
-waits (_ ∷ _) = true
-
--- what happens after a line, where no work is open: the stop that is wanted, or else the first waiting item
+-- what happens after a line, as long as the run goes on: what a supervisor does by itself, but for the deadlines, which
+-- come with the readings of the clock
 unfoldable pub next_kind : Sim → Option Kind
-next_kind s =
-    if is_some s.end then None
-    else if is_some s.state.follows then None
-    else if s.is_stopping && not (is_over s.state.phase) then Some kind.Stopped
-    else if waits s.state.waiting then Some kind.Resumed
-    else None
+next_kind s = if is_some s.end then None else idle_kind s.state s.is_stopping
 
 -- what follows, if something does
 abbrev pub if_some : Option Kind → (Kind → Sim) → Sim → Sim

@@ -5,7 +5,6 @@ ghost use Rattle.otp_sim.specs.Runs.{Writes, LastWrites, with_text};
 ghost use Rattle.otp_sim.specs.Sim.{opened};
 
 use crate::device::{Input, Output, PIECE};
-use crate::paged::PagedPlayer;
 use crate::player::Player;
 use crate::reading::read_next;
 use crate::serving::serve_piece;
@@ -55,11 +54,10 @@ pub fn sim<R: Input, W: Output>(
         (record { left = R.remaining input.new; written = W.contents output.new; read_failures = R.failures input.new; write_failures = W.failures output.new }) }
 {
     let mut ready = Vec::new(alloc);
-    let Ok(player) = Player::open(alloc, supervisor, &mut ready) else {
+    let Ok(mut player) = Player::open(alloc, supervisor, &mut ready) else {
         return SimEnd::Memory;
     };
-    let mut session = PagedPlayer::new(alloc, player);
-    serve(alloc, &mut session, &mut ready, input, output)
+    serve(alloc, &mut player, &mut ready, input, output)
 }
 
 /// Serves the lines of the input, to its end or to the line that ends the session, and writes what is printed

@@ -5,12 +5,12 @@
 
 pub mod device;
 pub mod engine;
-mod paged;
 mod player;
 mod reading;
 mod serving;
 pub mod session;
 pub mod streams;
+mod whole;
 mod writing;
 
 pub use device::{Failed, Input, Output, PIECE};

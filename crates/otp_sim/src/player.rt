@@ -7,6 +7,7 @@ ghost use Rattle.otp_core.specs.View.{state_of};
 ghost use Rattle.otp_rules.specs.Needs.{needs_number};
 ghost use Rattle.otp_rules.specs.Run.{reply_of};
 ghost use Rattle.otp_sim.specs.Sim.{event_of, happen, is_due, next_kind, opened, orders_text, settled, take_form, take_line, take_read, ticked, told_by};
+ghost use Rattle.otp_sim.specs.Devices.{Begins};
 ghost use Rattle.otp_sim.specs.Runs.{with_text};
 
 use crate::session::Stop;
@@ -46,7 +47,8 @@ impl Model for Player {
 
 /// Prints the orders of a core.
 fn print_orders(core: &Core, printer: &mut Printer, out: &mut Vec<u8>) -> Result<(), AllocError>
-    ensures { OnOk result (out.new.items ≡ out.old.items ++ orders_text (state_of core.now).replies core.now.effects) }
+    ensures ok { OnOk result (out.new.items ≡ out.old.items ++ orders_text (state_of core.now).replies core.now.effects) }
+    ensures kept { Begins out.old.items out.new.items }
 {
     print_all(core, core.effects(), printer, out)
 }
@@ -58,7 +60,8 @@ fn print_all(
     printer: &mut Printer,
     out: &mut Vec<u8>,
 ) -> Result<(), AllocError>
-    ensures { OnOk result (out.new.items ≡ out.old.items ++ orders_text (state_of core.now).replies effects.now) }
+    ensures ok { OnOk result (out.new.items ≡ out.old.items ++ orders_text (state_of core.now).replies effects.now) }
+    ensures kept { Begins out.old.items out.new.items }
 {
     for effect in effects {
         let reply = told_by(core, effect);
@@ -105,6 +108,7 @@ impl Player {
     /// Something happens now.
     fn happen(&mut self, kind: Kind, out: &mut Vec<u8>) -> Result<(), AllocError>
         ensures ok { OnOk result (with_text out.new.items self.new ≡ happen kind (with_text out.old.items self.old)) }
+        ensures kept { Begins out.old.items out.new.items }
         ensures lines { self.new.lines ≡ self.old.lines }
     {
         if self.core.is_full() {
@@ -126,21 +130,16 @@ impl Player {
     fn next_kind(&self) -> Option<Kind>
         ensures { result ≡ next_kind self.now }
     {
-        if self.end.is_some() || self.core.has_open_work() {
+        if self.end.is_some() {
             return None;
         }
-        if self.is_stopping && !self.core.has_ended() {
-            return Some(Kind::Stopped);
-        }
-        if self.core.has_waiting() {
-            return Some(Kind::Resumed);
-        }
-        None
+        self.core.idle_kind(self.is_stopping)
     }
 
     /// All of that happens until none is left to happen.
     fn settle(&mut self, out: &mut Vec<u8>) -> Result<(), AllocError>
         ensures ok { OnOk result (with_text out.new.items self.new ≡ settled (with_text out.old.items self.old)) }
+        ensures kept { Begins out.old.items out.new.items }
         ensures lines { self.new.lines ≡ self.old.lines }
     {
         while let Some(kind) = self.next_kind() {
@@ -156,6 +155,7 @@ impl Player {
         requires time { IsTimely line }
         requires lines { self.old.lines < 2 ^ 63 }
         ensures ok { OnOk result (with_text out.new.items self.new ≡ take_read line (with_text out.old.items self.old)) }
+        ensures kept { Begins out.old.items out.new.items }
         ensures lines { self.new.lines ≡ self.old.lines }
     {
         match line {
@@ -188,6 +188,7 @@ impl Player {
         requires time { IfSome line (λ read. IsTimely read) }
         requires lines { self.old.lines < 2 ^ 63 }
         ensures ok { OnOk result (with_text out.new.items self.new ≡ take_form line (with_text out.old.items self.old)) }
+        ensures kept { Begins out.old.items out.new.items }
         ensures lines { self.new.lines ≡ self.old.lines }
     {
         match line {
@@ -208,9 +209,10 @@ impl Player {
     ///
     /// Where memory is refused. Then part of the line's text may have been appended, and the player is not used again.
     #[tactic(auto, unfolding(crate::specs::Sim::take_line))]
-    pub(crate) fn take_line(&mut self, line: &[u8], out: &mut Vec<u8>) -> Result<(), AllocError>
+    pub(crate) fn play_line(&mut self, line: &[u8], out: &mut Vec<u8>) -> Result<(), AllocError>
         requires { self.old.lines + 1 < 2 ^ 63 }
         ensures ok { OnOk result (with_text out.new.items self.new ≡ take_line line.now (with_text out.old.items self.old)) }
+        ensures kept { Begins out.old.items out.new.items }
         ensures lines { self.new.lines ≤ self.old.lines + 1 }
     {
         if self.end.is_some() {
@@ -221,7 +223,7 @@ impl Player {
     }
 
     /// Why no line is taken any more, if none is.
-    pub(crate) fn end(&self) -> Option<Stop>
+    pub(crate) fn stop(&self) -> Option<Stop>
         ensures { result ≡ self.now.end }
     {
         self.end

@@ -1,14 +1,12 @@
 //! What no clause says: that the definition of the text is the text that was meant, and that runs succeed.
 
 use crate::engine::serve;
-use crate::paged::PagedPlayer;
 use crate::player::Player;
 use crate::session::{Session, Stop};
 use crate::{Failed, Input, Output, SimEnd, sim};
 use otp_core::OpenFault;
-use otp_core::opening::copy_specs;
 use otp_reason::Name;
-use otp_spec::{ChildSpec, Shutdown, SpecFault, SupFlags, SupSpec, check_supervisor};
+use otp_spec::{ChildSpec, Shutdown, SpecFault, SupFlags, SupSpec, copy_specs};
 use otp_tally::Tally;
 use std::alloc::{AllocError, Global};
 use std::test::Fail;
@@ -76,12 +74,12 @@ impl Output for Page {
 /// A player that is refused memory once it took so many lines.
 #[derive(Drop)]
 struct Refused {
-    player: PagedPlayer,
+    player: Player,
     left: usize,
 }
 
 impl Session for Refused {
-    ghost sim = { λ refused. refused.player.player };
+    ghost sim = { λ refused. refused.player };
 
     fn take_line(&mut self, line: &[u8], out: &mut Vec<u8>) -> Result<(), AllocError> {
         if self.left == 0 {
@@ -106,11 +104,10 @@ fn worker(id: &str) -> Result<ChildSpec, Fail> {
 
 /// What a supervisor with these flags and children is opened with.
 fn lawful(alloc: Global, flags: &SupFlags, specs: &[ChildSpec]) -> Result<SupSpec, Fail> {
-    let specs = copy_specs(alloc, specs)?;
-    let Ok(()) = check_supervisor(flags, specs.as_slice()) else {
+    let Ok(supervisor) = SupSpec::check(*flags, copy_specs(alloc, specs)?) else {
         return Err(Fail::new("the specifications are lawful"));
     };
-    Ok(SupSpec::new(*flags, specs))
+    Ok(supervisor)
 }
 
 fn blank_page(alloc: Global, room: usize) -> Page {
@@ -303,7 +300,7 @@ fn is_flushed(
     let mut ready = Vec::new(alloc);
     let player = Player::open(alloc, lawful(alloc, &flags, &specs)?, &mut ready)?;
     let mut session = Refused {
-        player: PagedPlayer::new(alloc, player),
+        player,
         left: lines,
     };
     let mut reader = Pieces {

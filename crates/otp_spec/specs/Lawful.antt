@@ -1,4 +1,4 @@
-use Rattle.std.specs.Prelude.{◌≡◌, ℕ, Bool, true, false, not, ◌&&◌, Option, Some, None, List, [], ◌∷◌, take}
+use Rattle.std.specs.Prelude.{ℕ, Bool, true, false, not, ◌&&◌, Option, Some, None, List, [], ◌∷◌, take}
 use Rattle.std.specs.List.{list_any, flat_map, enumerate_from}
 use Rattle.std.specs.Str.{bytes_eq}
 use Rattle.otp_reason.specs.Names.{name_bytes}
@@ -58,7 +58,3 @@ first_of (fault ∷ _) = Some fault
 -- the fault that the check answers: the first one at the least place (own; the manual says only that a list is refused)
 unfoldable pub first_fault : List ChildSpec → Option AutoShutdown → Option SpecFault
 first_fault specs auto = first_of (faults_of specs auto)
-
--- specifications in which there is no fault (`supervisor`, check_childspecs)
-abbrev pub IsLawful : List ChildSpec → Option AutoShutdown → Type 0
-IsLawful specs auto = first_fault specs auto ≡ None

@@ -15,6 +15,6 @@ pub use fault::{SpecFault, SpecKey};
 pub use flags::{AutoShutdown, Strategy, SupFlags, check_flags};
 pub use limits::{
     DEFAULT_INTENSITY, DEFAULT_PERIOD, DEFAULT_SHUTDOWN, MAX_CHILDREN, MAX_EVENTS, MAX_INTENSITY,
-    MAX_PERIOD, MAX_READING, MAX_SHUTDOWN,
+    MAX_PERIOD, MAX_READING, MAX_SHUTDOWN, MAX_TABLES,
 };
-pub use supervisor::{SupSpec, check_supervisor};
+pub use supervisor::{SupSpec, check_supervisor, copy_specs};

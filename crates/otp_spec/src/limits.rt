@@ -1,9 +1,12 @@
-//! The limits of a supervisor, and the numbers that it has where none are named.
+//! The limits of a supervisor and of a tree of them, and the numbers that it has where none are named.
 //!
 //! The limits are this library's own: the manual leaves them open. Contracts and definitions name these constants.
 
 /// The most children that one supervisor has.
 pub const MAX_CHILDREN: usize = 256;
+
+/// The most supervisors of a tree, the root included.
+pub const MAX_TABLES: usize = 64;
 
 /// The most events that the history of one supervisor holds.
 pub const MAX_EVENTS: usize = 65_536;

@@ -1,6 +1,6 @@
 //! What a supervisor is opened with.
 
-ghost use Rattle.std.specs.Prelude.{◌≡◌, None, OnOk};
+ghost use Rattle.std.specs.Prelude.{◌≡◌, None, Some, IfErr, IfOk, OnOk};
 ghost use Rattle.otp_spec.specs.Faults.{answer_of};
 ghost use Rattle.otp_spec.specs.Supervisor.{IsLawful, supervisor_fault};
 
@@ -9,6 +9,7 @@ use crate::child::ChildSpec;
 use crate::fault::SpecFault;
 use crate::flags::{SupFlags, check_flags};
 use crate::limits::MAX_CHILDREN;
+use std::alloc::{AllocError, Global};
 use std::marker::Model;
 
 /// Flags and the specifications of the children in start order, which a supervisor may be opened with: they were
@@ -38,6 +39,35 @@ impl SupSpec {
         SupSpec { flags, specs }
     }
 
+    /// The same for flags and specifications that nobody has tested.
+    ///
+    /// # Errors
+    ///
+    /// Those of [`check_supervisor`]. The list is dropped then.
+    pub fn check(flags: SupFlags, specs: Vec<ChildSpec>) -> Result<Self, SpecFault>
+        ensures ok { IfOk result (λ supervisor. supervisor ≡ record { flags = flags; specs = specs.items }) }
+        ensures lawful { OnOk result (supervisor_fault flags specs.items ≡ None) }
+        ensures fault { IfErr result (λ why. supervisor_fault flags specs.items ≡ Some why) }
+    {
+        check_supervisor(&flags, specs.as_slice())?;
+        Ok(SupSpec { flags, specs })
+    }
+
+    /// A copy, which is tested as little as this one.
+    ///
+    /// # Errors
+    ///
+    /// Where memory is refused.
+    pub fn try_clone(&self, alloc: Global) -> Result<Self, AllocError>
+        ensures { IfOk result (λ copy. copy ≡ self.now) }
+    {
+        let specs = copy_specs(alloc, self.specs.as_slice())?;
+        Ok(SupSpec {
+            flags: self.flags,
+            specs,
+        })
+    }
+
     pub fn flags(&self) -> SupFlags
         ensures { result ≡ self.now.flags }
     {
@@ -63,6 +93,21 @@ impl SupSpec {
         let SupSpec { flags, specs } = self;
         (flags, specs)
     }
+}
+
+/// A copy of specifications.
+///
+/// # Errors
+///
+/// Where memory is refused.
+pub fn copy_specs(alloc: Global, specs: &[ChildSpec]) -> Result<Vec<ChildSpec>, AllocError>
+    ensures { IfOk result (λ list. list.items ≡ specs.now) }
+{
+    let mut list = Vec::with_capacity(alloc, specs.len())?;
+    for spec in specs {
+        list.push_reserved(*spec);
+    }
+    Ok(list)
 }
 
 /// Tests what a supervisor is to be opened with.

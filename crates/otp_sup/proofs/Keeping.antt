@@ -85,10 +85,6 @@ none_passes t xs is = by_answer (list_any t xs) refl
     by_answer false h = h
     by_answer true h = absurd (found_from t 0 xs h (sym (position_from-zero t xs) ∙ is))
 
--- what is so of each of a list that was changed at one place
-pub map_moved : {X : Type 0} (f : Kept → X) (xs : List Kept) (i : ℕ) (d : Kept) (to : Place) → f (record (get_or xs i d) { place = to }) ≡ f (get_or xs i d) → map f (slice_set xs i (record (get_or xs i d) { place = to })) ≡ map f xs
-map_moved f xs i d to same = map-set_same f xs i (record (get_or xs i d) { place = to }) d same
-
 pub map_removed : {X Y : Type 0} (f : X → Y) (xs : List X) (i : ℕ) → map f (remove xs i) ≡ remove (map f xs) i
 map_removed f [] zero = refl
 map_removed f [] (suc i) = refl

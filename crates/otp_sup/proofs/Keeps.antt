@@ -1,6 +1,6 @@
 -- What an office keeps from event to event.
-use Rattle.std.proofs.Common.{◌≡◌, ℕ, zero, suc, ◌+◌, ◌≤◌, ◌++◌, List, [], ◌∷◌, Option, None, Some, not, append-nil, append_assoc, refl, ap, sym, ◌∙◌, subst, arith, length, take, drop, length-append, length-drop, rules, false}
-use Rattle.std.specs.List.{All, Contains, filter, filter_map}
+use Rattle.std.proofs.Common.{◌≡◌, ℕ, zero, suc, ◌+◌, ◌≤◌, ◌++◌, List, [], ◌∷◌, Option, None, Some, not, append-nil, append_assoc, refl, ap, sym, ◌∙◌, subst, arith, length, take, drop, length-append, length-drop}
+use Rattle.std.specs.List.{All, Contains, filter_map}
 use Rattle.std.proofs.lemmas.List.Elements.{filter-append, filter_map-append, Contains-append_left}
 use Rattle.std.proofs.Math.Seq.{drop-append_seam}
 use Rattle.otp_rules.specs.declared.event.Effect.{Effect}
@@ -17,7 +17,7 @@ use Rattle.otp_rules.specs.declared.event.Item.{Item}
 use Rattle.otp_rules.specs.declared.event.Kind.{Kind}
 use Rattle.otp_rules.specs.declared.event.Kind.TheVariants as kind
 use Rattle.otp_sup.specs.Facts.{item_of, items_of, OfficeView, IsOffice, Begins, orders_in, orders_along, word_ordered, IsOrdered}
-use Rattle.otp_sup.specs.Turns.{Readied, Happened, drawn_by, has_some}
+use Rattle.otp_sup.specs.Turns.{Readied, Happened, drawn_by}
 
 -- the orders of one event more
 pub orders_on : (s : State) (es : List Event) (e : Event) → orders_of s (es ++ e ∷ []) ≡ orders_of s es ++ (step (state_after s es) e).orders
@@ -141,7 +141,3 @@ none_taken old new reading kind h e = items_on old.core.history new.core.history
 -- an event that takes one
 pub one_taken : (old new : OfficeView) (reading : ℕ) (x : Item) → Happened reading (kind.Took x) old new → items_of new.core.history ≡ items_of old.core.history ++ x ∷ []
 one_taken old new reading x h = items_on old.core.history new.core.history reading h.number (kind.Took x) h.history (Some x) refl
-
-pub none_left : (l : List Effect) → has_some l ≡ false → l ≡ []
-none_left [] e = refl
-none_left (x ∷ xs) e = absurd (search (rules, e))

@@ -1,4 +1,5 @@
 pub mod Letters
+pub mod LetterInside
 pub mod Slots
 pub mod Bodies
 pub mod Ports

@@ -1,5 +1,5 @@
 -- What a turn of a table does.
-use Rattle.std.specs.Prelude.{◌≡◌, ◌⊎◌, ◌<◌, All, ℕ, ⊤, ◌+◌, Bool, true, false, not, ◌&&◌, nat_lt, nat_le, max, is_some, List, [], ◌∷◌, ◌++◌, Option, Some, None, Result, Ok, Err, length, if◌then◌else◌, MatchOption, MatchResult, OnOk}
+use Rattle.std.specs.Prelude.{◌≡◌, ◌⊎◌, ◌<◌, All, ℕ, ⊤, ◌+◌, Bool, true, false, not, ◌&&◌, nat_lt, nat_le, is_some, List, [], ◌∷◌, ◌++◌, Option, Some, None, Result, Ok, Err, length, if◌then◌else◌, MatchOption, MatchResult, OnOk}
 use Rattle.std.specs.List.{list_any}
 use Rattle.otp_spec.specs.declared.limits.TheConstants.{MAX_EVENTS}
 use Rattle.otp_rules.specs.declared.event.Item.{Item}
@@ -11,7 +11,8 @@ use Rattle.otp_rules.specs.State.{State, is_over, own_number}
 use Rattle.otp_rules.specs.Needs.{needs_number, numbers_of}
 use Rattle.otp_rules.specs.declared.call.Reply.{Reply}
 use Rattle.otp_rules.specs.Run.{reply_of}
-use Rattle.otp_rules.specs.Step.{is_late, step}
+use Rattle.otp_rules.specs.Step.{step}
+use Rattle.otp_rules.specs.Next.{next_kind}
 use Rattle.otp_core.specs.View.{state_of}
 use Rattle.otp_rules.specs.Counts.{counts_of}
 use Rattle.otp_counts.specs.Counts.{after_publish}
@@ -45,15 +46,9 @@ may_open number Unopened = true
 may_open number (Open own) = false
 may_open number (Ended own _) = nat_lt own number
 
--- the event that is due whether or not an item can be taken
+-- the event that is due whether or not an item can be taken: an opening, or else what a supervisor does by itself
 unfoldable pub due_kind : State → ℕ → ℕ → Signal → Option Kind
-due_kind s number reading told =
-    if may_open number s.phase then Some (kind.Opened number)
-    else if list_any (λ row. is_late (max reading s.last) row.state) s.rows then Some kind.Ticked
-    else if is_some s.follows then None
-    else if is_told told && not (is_over s.phase) then Some kind.Stopped
-    else if nat_lt 0 (length s.waiting) then Some kind.Resumed
-    else None
+due_kind s number reading told = if may_open number s.phase then Some (kind.Opened number) else next_kind s reading (is_told told)
 
 abbrev pub answer_of : Kind → TurnAnswer
 answer_of (kind.Opened _) = answer.Opened
@@ -125,10 +120,6 @@ pub record FoundEmpty (old new : TableView) : Type 0 where
   pub taker : new.taker ≡ record old.taker { empty_finds = old.taker.empty_finds + 1 }
   pub bodies : new.bodies ≡ old.bodies
   pub counts : new.counts ≡ old.counts
-
-abbrev pub idle_answer : Bool → TurnAnswer
-idle_answer true = answer.Ended
-idle_answer false = answer.Quiet
 
 abbrev pub TookOrEmpty : ℕ → TableView → TableView → TurnAnswer → Type 0
 TookOrEmpty reading old new answer.Took = Took reading old new

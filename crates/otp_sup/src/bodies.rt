@@ -12,20 +12,20 @@ use crate::kept::{
     are_given, find_away, find_home, find_left, find_stray, find_waiting, home_or_free,
     is_any_given, is_any_out, open_items, place_of_call, settle_items,
 };
-use otp_spec::{ChildSpec, Strategy, SupFlags};
+use otp_spec::SupSpec;
 use otp_table::Row;
 use std::alloc::{AllocError, Global};
 use std::marker::Model;
 
-/// How many children an opening makes of these specifications: one of each, but none where children are dynamic
+/// How many children an opening makes: one of each specification, but none where children are dynamic
 /// (Supervisor Behaviour, Simplified one_for_one Supervisors).
-pub fn count_opened(flags: &SupFlags, specs: &[ChildSpec]) -> usize
-    ensures { result ≡ count_opened flags.now specs.now }
+pub fn count_opened(supervisor: &SupSpec) -> usize
+    ensures { result ≡ count_opened supervisor.now.flags supervisor.now.specs }
 {
-    if flags.strategy == Strategy::SimpleOneForOne {
+    if supervisor.flags().strategy.is_simple() {
         0
     } else {
-        specs.len()
+        supervisor.specs().len()
     }
 }
 

@@ -10,6 +10,7 @@ use crate::letter::Letter;
 use otp_inbox::{Inbox, InboxNaming, Sender};
 use otp_rules::{Call, Item};
 use otp_signals::{Owner, Words, WordsNaming};
+use std::alloc::Global;
 use std::marker::{Model, PhantomData};
 use std::sync::Wait;
 
@@ -18,6 +19,8 @@ use std::sync::Wait;
 pub struct Client<N: WordsNaming + InboxNaming, B: Drop> {
     owner: Owner<N>,
     sender: Sender<N, Item, Letter<B>>,
+    /// Where the memory of the specifications that it sends comes from.
+    alloc: Global,
     of: PhantomData<N>,
 }
 
@@ -61,13 +64,14 @@ pub struct SubmitFault<B> {
 
 impl<N: WordsNaming + InboxNaming, B: Drop> Client<N, B> {
     /// A client of this owner and sender.
-    pub fn new(owner: Owner<N>, sender: Sender<N, Item, Letter<B>>) -> Self
+    pub fn new(alloc: Global, owner: Owner<N>, sender: Sender<N, Item, Letter<B>>) -> Self
         requires { 0 < sender.parts }
         ensures { result ≡ record { owner = owner; sender = sender } }
     {
         Client {
             owner,
             sender,
+            alloc,
             of: PhantomData,
         }
     }
@@ -112,13 +116,13 @@ impl<N: WordsNaming + InboxNaming, B: Drop> Client<N, B> {
         let Ok(number) = words.draw(&mut self.owner) else {
             return Err(fault(SubmitCause::Exhausted, body));
         };
-        let letter = Letter {
-            item: Item::Call(number, call),
-            body,
+        let letter = match Letter::call(self.alloc, number, call, body) {
+            Ok(letter) => letter,
+            Err(body) => return Err(fault(SubmitCause::OutOfMemory, body)),
         };
         match inbox.send(rt, &mut self.sender, letter) {
             Ok(()) => Ok(number),
-            Err(letter) => Err(fault(SubmitCause::OutOfMemory, letter.body)),
+            Err(letter) => Err(fault(SubmitCause::OutOfMemory, letter.into_parts().1)),
         }
     }
 
@@ -152,7 +156,7 @@ impl<N: WordsNaming + InboxNaming, B: Drop> Client<N, B> {
             return Err(SplitFault::Exhausted);
         };
         let sender = inbox.split(&mut self.sender, parts);
-        Ok(Client::new(owner, sender))
+        Ok(Client::new(self.alloc, owner, sender))
     }
 }
 

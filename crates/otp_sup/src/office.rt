@@ -1,9 +1,7 @@
 //! A core with the seat that draws its numbers, and its orders on their way.
-ghost use Rattle.std.specs.Prelude.{◌≡◌, ◌+◌, ◌<◌, ◌≤◌, ◌^◌, [], true, length, Contains, IsTrue, IfSome, IfOk, IfErr, OnOk, MatchOption, None};
+ghost use Rattle.std.specs.Prelude.{◌≡◌, ◌+◌, ◌<◌, ◌≤◌, ◌^◌, [], true, length, Contains, IsTrue, IfSome, IfErr, OnOk, MatchOption, None};
 ghost use Rattle.otp_spec.specs.declared.limits.TheConstants.{MAX_CHILDREN, MAX_EVENTS, MAX_READING};
-ghost use Rattle.otp_core.specs.Opened.{IsOpenFault};
 ghost use Rattle.otp_core.specs.View.{state_of};
-ghost use Rattle.otp_spec.specs.Supervisor.{supervisor_fault};
 ghost use Rattle.otp_rules.specs.State.{own_number, is_over};
 ghost use Rattle.otp_rules.specs.Counts.{counts_of};
 ghost use Rattle.otp_rules.specs.Run.{reply_of};
@@ -18,10 +16,10 @@ ghost use Rattle.otp_sup.specs.Turns.{is_told, may_open, due_kind, early_answer,
 use crate::draws::step_drawing;
 use crate::orders::first_order;
 use crate::turns::{TurnAnswer, TurnFault};
-use otp_core::{Core, OpenFault};
+use otp_core::Core;
 use otp_rules::{CountsNow, Kind, Phase, Reply, laws};
 use otp_signals::{Owner, Signal, Words, WordsNaming};
-use otp_spec::{ChildSpec, SupFlags};
+use otp_spec::SupSpec;
 use otp_table::Row;
 use otp_tally::Tally;
 use std::alloc::Global;
@@ -97,35 +95,22 @@ fn may_open(number: u64, phase: Phase) -> bool
 impl<N: WordsNaming> Office<N> {
     /// The office of a supervisor that was never opened, for children of these specifications. Its seat drew no number
     /// and posted nothing, and owns the slots from the first one on: [`MAX_CHILDREN`](otp_spec::MAX_CHILDREN), one for each child that there can
-    /// be.
-    ///
-    /// # Errors
-    ///
-    /// Those of [`Core::open`]. The seat is dropped then.
-    pub fn open(
-        alloc: Global,
-        flags: SupFlags,
-        specs: &[ChildSpec],
-        owner: Owner<N>,
-        first_slot: usize,
-    ) -> Result<Self, OpenFault>
+    /// be. Takes no memory.
+    pub fn open(alloc: Global, supervisor: SupSpec, owner: Owner<N>, first_slot: usize) -> Self
         requires drawn { owner.drawn ≡ [] }
         requires posts { owner.posts ≡ [] }
         requires slots { EachBetween first_slot (first_slot + MAX_CHILDREN) (Contains owner.slots) }
         requires fits { first_slot + MAX_CHILDREN < 2 ^ 64 }
-        ensures ok { OnOk result (supervisor_fault flags specs.now ≡ None) }
-        ensures new { IfOk result (λ office. office ≡ new_office flags specs.now owner first_slot) }
-        ensures fault { IfErr result (λ why. IsOpenFault why (supervisor_fault flags specs.now)) }
+        ensures { result ≡ new_office supervisor.flags supervisor.specs owner first_slot }
     {
-        let core = Core::open(alloc, flags, specs)?;
-        Ok(Office {
-            core,
+        Office {
+            core: Core::of(alloc, supervisor),
             owner,
             next: 0,
             sent: Tally::new(),
             first_slot,
             of: PhantomData,
-        })
+        }
     }
 
     /// The answer of a turn that changes nothing.
@@ -152,7 +137,7 @@ impl<N: WordsNaming> Office<N> {
     }
 
     /// The event that is due whether or not an item can be taken.
-    #[tactic(auto, unfolding(crate::specs::Turns::due_kind))]
+    #[tactic(auto, unfolding(crate::specs::Turns::due_kind, otp_rules::specs::Next::next_kind, otp_rules::specs::Next::idle_kind))]
     pub fn due_kind(&self, number: u64, reading: u64, told: Signal) -> Option<Kind>
         ensures kind { result ≡ due_kind (state_of self.now.core) number reading told }
         ensures no_item { IfSome result (λ kind. item_of kind ≡ None) }

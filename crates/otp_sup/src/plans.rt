@@ -1,5 +1,5 @@
 //! What an event is about to do with bodies, as far as it can be known before it.
-ghost use Rattle.std.specs.Prelude.{◌≡◌, option_map};
+ghost use Rattle.std.specs.Prelude.{◌≡◌};
 ghost use Rattle.otp_core.specs.View.{state_of};
 ghost use Rattle.otp_sup.specs.Bodies.{IsPlan, given_in, home_of, is_start_item, is_start_waiting, is_taken_up, is_waited_for};
 
@@ -38,7 +38,7 @@ impl<N: WordsNaming> Office<N> {
     {
         !self.core.has_open_work()
             && !self.core.has_ended()
-            && is_start_waiting(self.core.first_waiting())
+            && is_start_waiting(&self.core.first_waiting())
     }
 
     /// The slot of the child whose body an end note brings home.
@@ -79,8 +79,8 @@ impl<N: WordsNaming> Office<N> {
     }
 }
 
-fn is_start_waiting(first: Option<&Waiting>) -> bool
-    ensures { result ≡ is_start_waiting (option_map (λ w. w.now) first.entry) }
+fn is_start_waiting(first: &Option<Waiting>) -> bool
+    ensures { result ≡ is_start_waiting first.now }
 {
     match first {
         Some(Waiting::Item(item)) => is_start_item(item),

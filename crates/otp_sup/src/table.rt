@@ -1,5 +1,6 @@
 //! What lies under a supervisor's lock.
-ghost use Rattle.std.specs.Prelude.{◌≡◌, ◌∷◌, ◌+◌, ◌≤◌, ◌<◌, [], true, false, is_some, length, min, IfOk, MatchOption, None, OnOk, Some};
+ghost use Rattle.otp_sup.specs.Letters.{carries_body};
+ghost use Rattle.std.specs.Prelude.{◌≡◌, ◌++◌, ◌∷◌, ◌+◌, ◌≤◌, ◌<◌, [], true, false, is_some, length, min, IfNone, IfOk, IfSome, MatchOption, None, OnOk, Some};
 ghost use Rattle.otp_inbox.specs.Tokens.{count_limit};
 ghost use Rattle.std.specs.List.{list_any};
 ghost use Rattle.otp_spec.specs.declared.limits.TheConstants.{MAX_READING};
@@ -159,14 +160,13 @@ impl<N: WordsNaming + InboxNaming, B: Drop> Table<N, B> {
             publish(&self.office, &mut self.counts);
             return Ok(answer_of(kind));
         }
-        let Some(letter) = inbox.take(rt, &mut self.taker) else {
+        let Some((item, body)) = take_item(rt, inbox, &mut self.taker) else {
             return Ok(if self.office.has_ended() {
                 TurnAnswer::Ended
             } else {
                 TurnAnswer::Quiet
             });
         };
-        let Letter { item, body } = letter;
         let kind = Kind::Took(item);
         happen(
             &mut self.office,
@@ -262,4 +262,19 @@ impl<N: WordsNaming + InboxNaming, B: Drop> Table<N, B> {
         let _ = &self.taker;
         self.bodies.take_of_nobody()
     }
+}
+
+/// Takes the item at the front, with the body that it brings.
+fn take_item<N: InboxNaming, B: Drop, R: Wait>(
+    rt: &R,
+    inbox: &Inbox<N, Item, Letter<B>>,
+    taker: &mut Taker<N, Item, Letter<B>>,
+) -> Option<(Item, Option<B>)>
+    requires { taker.old.inbox ≡ inbox.now }
+    ensures found { IfSome result (λ x. taker.new ≡ record taker.old { taken = taker.old.taken ++ x.0 ∷ [] }) }
+    ensures body { IfSome result (λ x. is_some x.1 ≡ carries_body x.0) }
+    ensures empty { IfNone result (taker.new ≡ record taker.old { empty_finds = taker.old.empty_finds + 1 }) }
+{
+    let letter = inbox.take(rt, taker)?;
+    Some(letter.into_parts())
 }

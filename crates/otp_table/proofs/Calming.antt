@@ -1,5 +1,5 @@
 -- Rows whose waiting retries are given up, one at a time.
-use Rattle.std.proofs.Common.{◌≡◌, ℕ, ◌+◌, ◌-◌, ◌<◌, List, [], ◌∷◌, ◌++◌, ◌∙◌, ap, arith, append-nil, append_assoc, drop, drop-set-lt, get_or, length, refl, set, slice_range, suc, sym, take, take-append-drop}
+use Rattle.std.proofs.Common.{◌≡◌, ℕ, ◌+◌, ◌-◌, ◌<◌, List, [], ◌∷◌, ◌++◌, ◌∙◌, ap, arith, append_assoc, drop, drop-set-lt, get_or, length, set, slice_range, suc, sym, take}
 use Rattle.std.specs.Prelude.{slice_get, Some}
 use Rattle.std.proofs.lemmas.List.{drop_more, take_more_set}
 use Rattle.std.proofs.lemmas.Option.{get_or_from_slice_get, slice_get_within}
@@ -30,18 +30,6 @@ calm_further rows after p to row lt within at is =
     ∙ ap (λ (xs : List Row). (take p rows ++ x ∷ []) ++ calm_rows (slice_range rows (p + 1) to) ++ xs) rest
     ∙ ap (λ (xs : List Row). xs ++ drop to rows) (append_assoc (take p rows) (x ∷ []) (calm_rows (slice_range rows (p + 1) to)))
     ∙ sym (ap (λ (xs : List Row). take p rows ++ calm_rows xs ++ drop to rows) here)
-
-take_none : (rows : List Row) → take 0 rows ≡ []
-take_none [] = refl
-take_none (row ∷ rows) = refl
-
--- no row is left
-pub calm_done : (rows : List Row) (to : ℕ) → take to rows ++ calm_rows (slice_range rows to to) ++ drop to rows ≡ rows
-calm_done rows to =
-    let none : to - to ≡ 0 = omega arith in
-    ap (λ (n : ℕ). take to rows ++ calm_rows (take n (drop to rows)) ++ drop to rows) none
-    ∙ ap (λ (xs : List Row). take to rows ++ calm_rows xs ++ drop to rows) (take_none (drop to rows))
-    ∙ ap (λ (xs : List Row). xs ++ drop to rows) (append-nil (take to rows)) ∙ take-append-drop to rows
 
 -- the row at a place
 pub got : (rows : List Row) (p : ℕ) (row : Row) → slice_get rows p ≡ Some row → (p < length rows) × (get_or rows p row ≡ row)

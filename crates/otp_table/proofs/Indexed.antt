@@ -172,9 +172,6 @@ removed_above key (r ∷ rows) zero q h = refl
 removed_above key (r ∷ rows) (suc p) zero h = absurd (omega (arith, h))
 removed_above key (r ∷ rows) (suc p) (suc q) h = removed_above key rows p q (omega (arith, h))
 
-pub no_marks : (key : Row → Option ℕ) → AreMarks (key_at key []) []
-no_marks key n p = ((λ u. absurd u), λ e. none_some n e)
-
 -- a row that passes has the key
 abbrev pub Tells : (Row → Option ℕ) → (Row → Bool) → ℕ → Type 0
 Tells key test n = (row : Row) → test row ≡ true → key row ≡ Some n

@@ -5,7 +5,6 @@ use Rattle.std.proofs.lemmas.Bool.{cases_lt}
 use Rattle.std.proofs.lemmas.List.{get_or-drop, get_or-map, get_or-take, drop_more, length-map, take_at}
 use Rattle.std.proofs.lemmas.List.Elements.{All-append, All-cons}
 use Rattle.std.proofs.lemmas.List.Kept.{AllPairs-cons}
-use Rattle.std.proofs.lemmas.List.Quantifiers.{all_pairs_remove}
 use Rattle.otp_table.specs.declared.marks.Mark.{Mark}
 use Rattle.otp_table.proofs.Keyed.{upto}
 use Rattle.otp_table.specs.Marks.{IsPut, IsTaken, IsUnder, Rises, moved}
@@ -178,9 +177,6 @@ taken_is key first ms d rise within has n p =
         ]
       ],
     )
-
-pub taken_rises : (first : ℕ) (ms : List Mark) → Rises ms → first < length ms → Rises (take first ms ++ drop (suc first) ms)
-taken_rises first ms rise within = all_pairs_remove Less ms first within rise
 
 -- where nothing stands under the key, nothing has to be taken out
 pub none_taken : (key : ℕ) (ms : List Mark) → ((p : ℕ) → IsUnder key p ms → ⊥) → IsTaken key ms ms

@@ -170,7 +170,7 @@ fn is_same(one: Option<u64>, other: Option<u64>) -> bool
 }
 
 /// The row at the place has one key now in place of another. Whether the marks told of each row, and do so still: where
-/// there is room, only a key that stands there already ends that.
+/// there is room, only a key that stands there already ends that, and one that is kept ends it nowhere.
 pub fn change_mark(
     marks: &mut Vec<Mark>,
     is_marked: bool,
@@ -183,6 +183,7 @@ pub fn change_mark(
     ensures before { IsTrue result → IsTrue is_marked }
     ensures changed { IsTrue result → IsChanged place old new marks.old.items marks.new.items }
     ensures kept { IsTrue is_marked → vec_len marks.old < vec_capacity marks.old → IsFree new marks.old.items → IsTrue result }
+    ensures same { IsTrue is_marked → old ≡ new → IsTrue result }
     ensures capacity { vec_capacity marks.new ≡ vec_capacity marks.old }
 {
     if !is_marked {

@@ -1,8 +1,8 @@
 use crate::fixtures::named;
-use otp_file::{
-    ChildKey, FaultPlace, FlagKey, MAX_DEPTH, MAX_TABLES, TreeFault, read_located, read_tree,
+use otp_file::{ChildKey, FaultPlace, FlagKey, MAX_DEPTH, TreeFault, read_located, read_tree};
+use otp_spec::{
+    AutoShutdown, ChildType, MAX_TABLES, Modules, Restart, Shutdown, SpecFault, Strategy,
 };
-use otp_spec::{AutoShutdown, ChildType, Modules, Restart, Shutdown, SpecFault, Strategy};
 use std::alloc::Global;
 use std::test::Fail;
 

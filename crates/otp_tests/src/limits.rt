@@ -1,9 +1,8 @@
 //! What no clause says: what is printed of trees whose limits were worked out by hand, and that all is played.
 
 use crate::fixtures::named;
-use otp_core::Core;
 use otp_limits::{find_limits, write_table};
-use otp_spec::{AutoShutdown, ChildSpec, Restart, Strategy, SupFlags};
+use otp_spec::{AutoShutdown, ChildSpec, Restart, Strategy, SupFlags, SupSpec, copy_specs};
 use std::alloc::Global;
 use std::process::Abort;
 use std::test::Fail;
@@ -16,10 +15,8 @@ fn prints(
     specs: &[ChildSpec],
     printed: &str,
 ) -> Result<(), Fail> {
-    let Ok(_core) = Core::open(alloc, flags, specs) else {
-        return Err(Fail::from("a supervisor that may be opened"));
-    };
-    let Ok(costs) = find_limits(alloc, &flags, specs) else {
+    let supervisor = SupSpec::check(flags, copy_specs(alloc, specs)?)?;
+    let Ok(costs) = find_limits(alloc, &supervisor) else {
         return Err(Fail::from("limits that are found"));
     };
     let mut text = Vec::new(alloc);

@@ -5,7 +5,7 @@ ghost use Rattle.otp_spec.specs.Lawful.{first_fault};
 use crate::fixtures::named;
 use otp_spec::{
     AutoShutdown, ChildSpec, ChildType, Modules, Restart, Shutdown, SpecFault, SpecKey, Strategy,
-    SupFlags, SupSpec, check_childspecs, check_flags, check_supervisor,
+    SupFlags, SupSpec, check_childspecs, check_flags,
 };
 use std::alloc::Global;
 use std::slice;
@@ -245,12 +245,6 @@ fn texts_of_keys(rt: HostRuntime) -> Result<(), Fail> {
     Ok(())
 }
 
-// A caller that is given flags and specifications, and hands them on where they are lawful.
-fn checked(flags: SupFlags, specs: Vec<ChildSpec>) -> Result<SupSpec, SpecFault> {
-    check_supervisor(&flags, specs.as_slice())?;
-    Ok(SupSpec::new(flags, specs))
-}
-
 fn of_two(alloc: Global, ids: [&[u8]; 2]) -> Result<Vec<ChildSpec>, Fail> {
     let mut specs = Vec::new(alloc);
     for id in ids {
@@ -262,9 +256,12 @@ fn of_two(alloc: Global, ids: [&[u8]; 2]) -> Result<Vec<ChildSpec>, Fail> {
 #[test]
 fn lawful_supervisors(rt: HostRuntime) -> Result<(), Fail> {
     let specs = of_two(rt.alloc(), [b"a", b"b"])?;
-    let supervisor = checked(SupFlags::default(), specs)?;
+    let supervisor = SupSpec::check(SupFlags::default(), specs)?;
     assert_eq!(rt; supervisor.flags(), SupFlags::default());
     assert_eq!(rt; supervisor.specs().len(), 2);
+    let copy = supervisor.try_clone(rt.alloc())?;
+    assert_eq!(rt; copy.flags(), supervisor.flags());
+    assert_eq!(rt; copy.specs(), supervisor.specs());
     let (flags, specs) = supervisor.into_parts();
     assert_eq!(rt; flags.intensity, 1);
     let [a, b] = specs.as_slice() else {
@@ -279,17 +276,17 @@ fn unlawful_supervisors(rt: HostRuntime) -> Result<(), Fail> {
     let mut flags = SupFlags::default();
     flags.strategy = Strategy::SimpleOneForOne;
     let specs = of_two(rt.alloc(), [b"a", b"a"])?;
-    assert!(rt; matches!(checked(flags, specs), Err(SpecFault::SimpleNeedsOne)));
+    assert!(rt; matches!(SupSpec::check(flags, specs), Err(SpecFault::SimpleNeedsOne)));
     let specs = of_two(rt.alloc(), [b"a", b"a"])?;
     assert!(rt;
         matches!(
-            checked(SupFlags::default(), specs),
+            SupSpec::check(SupFlags::default(), specs),
             Err(SpecFault::DuplicateId { index: 1 })
         )
     );
     flags.period = 0;
     let specs = of_two(rt.alloc(), [b"a", b"a"])?;
-    assert!(rt; matches!(checked(flags, specs), Err(SpecFault::BadFlag)));
+    assert!(rt; matches!(SupSpec::check(flags, specs), Err(SpecFault::BadFlag)));
     Ok(())
 }
 

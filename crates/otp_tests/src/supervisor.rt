@@ -618,7 +618,7 @@ fn stopping_supervisor_tells(rt: HostRuntime) -> Result<(), Fail> {
     assert_eq!(rt; core.next_deadline(), Some(100));
     assert_eq!(rt; core.next_kind(99, true), None);
     assert_eq!(rt; core.next_kind(100, true), Some(Kind::Ticked));
-    assert_eq!(rt; core.first_waiting(), Some(&Waiting::Item(Item::Note(end))));
+    assert_eq!(rt; core.first_waiting(), Some(Waiting::Item(Item::Note(end))));
     Ok(())
 }
 

@@ -138,6 +138,101 @@ ignored: there is no such child; which lists the children\n0.000 s  1 up, 0/3 re
     )
 }
 
+/// The start of a child that isn't there is planned all the same, and told: if none comes, its line could do nothing.
+#[test]
+fn planned_for_nobody(rt: HostRuntime) -> Result<(), Fail> {
+    plays(
+        &rt,
+        rt.alloc(),
+        Writer::Script,
+        "ignore db\nfail bd\nignore dc\n",
+        "0.000 s  start db #1\n0.000 s  ready\nline 1: ignore db\nline 2: fail bd\n\
+line 2: there is no such child; which lists the children\nline 3: ignore dc\n\
+line 3: there is no such child; which lists the children\n0.000 s  1 up, 0/3 restarts in 10 s\n\
+unused: ignore db (line 1)\nunused: fail bd (line 2)\nunused: ignore dc (line 3)\n",
+        TryEnd::LineMissed(2, ActionEnd::NoChild),
+    )?;
+    plays(
+        &rt,
+        rt.alloc(),
+        Writer::Script,
+        "fail bd\nstart bd b permanent false 5000 worker\n",
+        "0.000 s  start db #1\n0.000 s  ready\nline 1: fail bd\n\
+line 1: there is no such child; which lists the children\nline 2: start bd b permanent false 5000 worker\n\
+0.000 s  start bd #2\n0.000 s  reply 1 error start error:fail\n0.000 s  1 up, 0/3 restarts in 10 s\n",
+        TryEnd::Done,
+    )?;
+    plays(
+        &rt,
+        rt.alloc(),
+        Writer::Person,
+        "ignore bd",
+        "0.000 s  start db #1\n0.000 s  ready\nhelp lists what may be written here\n0.000 s  1 up, 0/3 restarts in 10 s> \
+0.000 s  1 up, 0/3 restarts in 10 s> line 1: there is no such child; which lists the children\n\
+0.000 s  1 up, 0/3 restarts in 10 s\nunused: ignore bd (line 1)\n",
+        TryEnd::Done,
+    )
+}
+
+/// Under simple_one_for_one no child has an id, so the start of none can be planned.
+#[test]
+fn planned_without_ids(rt: HostRuntime) -> Result<(), Fail> {
+    plays_on(
+        &rt,
+        rt.alloc(),
+        "strategy = \"simple_one_for_one\"\n[[child]]\nid = \"w\"\nstart = \"w\"\n",
+        Writer::Script,
+        "start\nfail w\n",
+        "0.000 s  ready\nline 1: start\n0.000 s  start - #1\n0.000 s  reply 1 ok #1\nline 2: fail w\n",
+        TryEnd::LineMissed(2, ActionEnd::NoIds),
+    )
+}
+
+/// Once the root has ended, nothing comes of a line that plans something or asks for a stop; a call is answered.
+#[test]
+fn lines_after_the_end(rt: HostRuntime) -> Result<(), Fail> {
+    let ended = "0.000 s  start db #1\n0.000 s  ready\nline 1: stop\n0.000 s  ask db #1\n\
+0.000 s  end shutdown: asked to stop\n";
+    for line in ["stop", "fail db", "ignore bd", "hang db", "crash #1"] {
+        let script = format!(in rt.alloc(); "stop\n{line}\n")?;
+        let told = format!(in rt.alloc(); "{ended}line 2: {line}\n")?;
+        plays(
+            &rt,
+            rt.alloc(),
+            Writer::Script,
+            script.as_str(),
+            told.as_str(),
+            TryEnd::LineMissed(2, ActionEnd::Ended),
+        )?;
+    }
+    let called = format!(in rt.alloc();
+        "{ended}line 2: restart bd\n0.000 s  reply 1 noproc\n0.000 s  the supervisor has ended\n"
+    )?;
+    plays(
+        &rt,
+        rt.alloc(),
+        Writer::Script,
+        "stop\nrestart bd\n",
+        called.as_str(),
+        TryEnd::Done,
+    )
+}
+
+/// What was planned and never came is told at the end, with the line that planned it.
+#[test]
+fn unused_plans(rt: HostRuntime) -> Result<(), Fail> {
+    plays(
+        &rt,
+        rt.alloc(),
+        Writer::Script,
+        "fail db\nhang #1\nfail db error:x\ncrash db\nhang db",
+        "0.000 s  start db #1\n0.000 s  ready\nline 1: fail db\nline 2: hang #1\nline 3: fail db error:x\nline 4: crash db\n\
+0.000 s  start db #2\n0.000 s  start db #3\n0.000 s  start db #4\nline 5: hang db\n\
+0.000 s  1 up, 3/3 restarts in 10 s\nunused: hang #1 (line 2)\nunused: hang db (line 5)\n",
+        TryEnd::Done,
+    )
+}
+
 const NESTED: &str = "period = 10\n[[child]]\nid = \"sub\"\nstart = \"s\"\n[child.tree]\n\
 [[child.tree.child]]\nid = \"x\"\nstart = \"x\"\n";
 
@@ -155,7 +250,8 @@ line 1: crash sub\n0.000 s  start sub #3\n0.000 s  start sub/x #4\n0.000 s  sub/
 line 2: sub/ which\n0.000 s  sub/ reply 1 which x,#4,worker,x\nline 3: +1s hang #4\nline 4: fail sub/x\n\
 line 5: crash sub/x\n1.000 s  start sub/x #5\n\
 1.000 s  sub/ end shutdown: more than 1 restart within 5 s: at 1.000 s, 1.000 s\n\
-1.000 s  end shutdown: more than 1 restart within 10 s: at 0.000 s, 1.000 s\n1.000 s  the supervisor has ended\n",
+1.000 s  end shutdown: more than 1 restart within 10 s: at 0.000 s, 1.000 s\n1.000 s  the supervisor has ended\n\
+unused: hang sub/#4 (line 3)\n",
         TryEnd::Done,
     )
 }

@@ -2,6 +2,7 @@
 use Rattle.std.proofs.Common.{◌≡◌, ◌∙◌, ℕ, Bool, true, List, ◌++◌, take, length, codes, Some, refl, ap, subst, sym}
 use Rattle.std.proofs.Math.Seq.{take-append_seam}
 use Rattle.otp_reason.specs.declared.reason.Reason.TheVariants as reason
+use Rattle.otp_reason.specs.declared.text.Text.{Text}
 use Rattle.otp_reason.specs.Padded.{padded_to}
 use Rattle.otp_reason.specs.Texts.{is_lawful_text, text_of}
 use Rattle.otp_text.specs.ReadBack.{IsReadBack, ReasonsAreReadBack}
@@ -26,12 +27,12 @@ shutdown_back term lawful =
 
 pub reasons_back : ReasonsAreReadBack
 unfolding reason_in reason_text
-reasons_back = record {
-  normal = refl;
-  shutdown = refl;
-  kill = refl;
-  killed = refl;
-  no_proc = refl;
-  shutdown_with = shutdown_back;
-  error = error_back;
-}
+reasons_back reason.Normal readable = refl
+reasons_back reason.Shutdown readable = refl
+reasons_back (reason.ShutdownWith text) readable =
+    subst (λ (t : Text). IsReadBack (reason.ShutdownWith t)) (sym readable.2) (shutdown_back readable.0 readable.1)
+reasons_back reason.Kill readable = refl
+reasons_back reason.Killed readable = refl
+reasons_back reason.NoProc readable = refl
+reasons_back (reason.Error text) readable =
+    subst (λ (t : Text). IsReadBack (reason.Error t)) (sym readable.2) (error_back readable.0 readable.1)

@@ -1,7 +1,8 @@
 -- What is printed is read back (own).
-use Rattle.std.specs.Prelude.{◌≡◌, ℕ, Bool, true, List, Some}
+use Rattle.std.specs.Prelude.{◌≡◌, ⊤, ℕ, Bool, true, List, Some}
 use Rattle.otp_reason.specs.declared.reason.Reason.{Reason}
 use Rattle.otp_reason.specs.declared.reason.Reason.TheVariants as reason
+use Rattle.otp_reason.specs.declared.text.Text.{Text}
 use Rattle.otp_reason.specs.Texts.{is_lawful_text, text_of}
 use Rattle.otp_spec.specs.declared.child.ChildType.{ChildType}
 use Rattle.otp_spec.specs.declared.child.Restart.{Restart}
@@ -20,12 +21,16 @@ WordsAreReadBack =
 abbrev pub IsReadBack : Reason → Type 0
 IsReadBack why = reason_in (reason_text why) ≡ Some why
 
--- each reason, one with a term for each term that can be read
-pub record ReasonsAreReadBack : Type 0 where
-  pub normal : IsReadBack reason.Normal
-  pub shutdown : IsReadBack reason.Shutdown
-  pub kill : IsReadBack reason.Kill
-  pub killed : IsReadBack reason.Killed
-  pub no_proc : IsReadBack reason.NoProc
-  pub shutdown_with : (term : List ℕ) → is_lawful_text term ≡ true → IsReadBack (reason.ShutdownWith (text_of term))
-  pub error : (term : List ℕ) → is_lawful_text term ≡ true → IsReadBack (reason.Error (text_of term))
+-- the text of a term that can be read
+abbrev pub IsTerm : Text → Type 0
+IsTerm text = (term : List ℕ) × (is_lawful_text term ≡ true) × (text ≡ text_of term)
+
+-- nothing in a reason keeps it from being read: its term, where it has one, can be
+abbrev pub IsReadable : Reason → Type 0
+IsReadable (reason.ShutdownWith term) = IsTerm term
+IsReadable (reason.Error term) = IsTerm term
+IsReadable _ = ⊤
+
+-- each reason: so one that is added, printed and not read has no proof
+abbrev pub ReasonsAreReadBack : Type 0
+ReasonsAreReadBack = (why : Reason) → IsReadable why → IsReadBack why

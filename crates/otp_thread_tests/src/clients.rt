@@ -6,7 +6,7 @@ use otp_counts::Publisher;
 use otp_inbox::{InboxNaming, UnnamedInbox};
 use otp_rules::{Call, CountsNow, Item, Kind, Reply};
 use otp_signals::{OpenWords, Signal, Words, WordsNaming};
-use otp_spec::SupFlags;
+use otp_spec::{SupFlags, SupSpec};
 use otp_sup::{
     Bodies, Client, Letter, MemoryPort, Office, SplitFault, SubmitCause, Sup, Table, TurnAnswer,
     count_opened,
@@ -45,14 +45,15 @@ fn make_one<N: WordsNaming + InboxNaming>(
     let (inbox, taker, sender) = inbox.named::<N>(0);
     let seat = words.split(&mut owner, 0..256, 100)?;
     let callers = words.split(&mut owner, 0..0, 2 * CALLS)?;
-    let (flags, bodies) = (SupFlags::default(), Bodies::new(alloc));
-    if !bodies.are_ready(count_opened(&flags, &[])) {
+    let supervisor = SupSpec::check(SupFlags::default(), Vec::new(alloc))?;
+    let bodies = Bodies::new(alloc);
+    if !bodies.are_ready(count_opened(&supervisor)) {
         return Err("a body is wanted".into());
     }
-    let office = Office::open(alloc, flags, &[], seat, 0)?;
+    let office = Office::open(alloc, supervisor, seat, 0);
     let counts = Publisher::open(alloc, office.counts())?;
     let table = Table::new(office, taker, bodies, counts);
-    let client = Client::new(callers, sender);
+    let client = Client::new(alloc, callers, sender);
     Ok((words, Sup::new(inbox, table), client))
 }
 

@@ -2,14 +2,17 @@
 ghost use Rattle.std.specs.Prelude.{◌≡◌, ◌<◌, ◌≤◌, false, length, IfOk};
 ghost use Rattle.otp_run.specs.Rule.{all_parts};
 
+use crate::drafts::Draft;
 use otp_bridge::BoxedSubsystem;
-use otp_job::{Body, Job, TableNo, Told, Turn};
-use otp_reason::{Name, Reason, Started};
-use otp_spec::{ChildSpec, ChildType, Shutdown, SupFlags};
-use otp_tree::{Gate, MAX_TABLES, Report, TablePlan, run_tree};
+use otp_job::{Job, Told, Turn};
+use otp_reason::{Reason, Started};
+use otp_rules::CountsNow;
+use otp_spec::MAX_TABLES;
+use otp_tree::{Gate, Report, TablePlan, run_tree};
 use std::alloc::Global;
 use std::process::Abort;
 use std::sync::Wait;
+use std::sync::atomic::{AtomicU64, Ordering};
 use std::test::*;
 use std::thread::Threads;
 
@@ -44,48 +47,22 @@ impl Gate for Still {
 
 type Plan = TablePlan<Steady, BoxedSubsystem>;
 
-fn empty_plan(alloc: Global) -> Plan {
-    TablePlan {
-        flags: SupFlags::default(),
-        specs: Vec::new(alloc),
-        bodies: Vec::new(alloc),
-    }
-}
-
-fn push_worker(plan: &mut Plan, id: &[u8]) -> Result<(), Fail> {
-    let id = Name::new(id).ok_or("a name")?;
-    plan.specs.push(ChildSpec::new(id, id))?;
-    plan.bodies.push(Body::Worker(Steady))?;
-    Ok(())
-}
-
-// A child that is the supervisor of this number.
-fn push_supervisor(plan: &mut Plan, id: &[u8], table: usize) -> Result<(), Fail> {
-    let id = Name::new(id).ok_or("a name")?;
-    let mut spec = ChildSpec::new(id, id);
-    spec.kind = ChildType::Supervisor;
-    spec.shutdown = Shutdown::Infinity;
-    plan.specs.push(spec)?;
-    plan.bodies.push(Body::Sup(TableNo::new(table)))?;
-    Ok(())
-}
-
 const DIGITS: [u8; 16] = *b"0123456789abcdef";
 
 // A supervisor of 256 children, of which the first are supervisors, so many.
 fn full_plan(alloc: Global, nested: usize) -> Result<Plan, Fail> {
-    let mut plan = empty_plan(alloc);
+    let mut draft = Draft::new(alloc);
     for high in DIGITS {
         for low in DIGITS {
-            let table = plan.specs.len() + 1;
+            let table = draft.len().saturating_add(1);
             if table <= nested {
-                push_supervisor(&mut plan, &[high, low], table)?;
+                draft.add_supervisor(&[high, low], table)?;
             } else {
-                push_worker(&mut plan, &[high, low])?;
+                draft.add_worker(&[high, low], Steady)?;
             }
         }
     }
-    Ok(plan)
+    draft.plan()
 }
 
 // As many supervisors as there may be, each with 256 children.
@@ -147,12 +124,12 @@ fn full_trees_are_closed(rt: HostRuntime) -> Result<(), Fail> {
 fn small_plans(alloc: Global) -> Result<Vec<Plan>, Fail>
     ensures { IfOk result (λ plans. length plans.items ≤ 64) }
 {
-    let mut plan = empty_plan(alloc);
-    push_worker(&mut plan, b"a")?;
-    push_worker(&mut plan, b"b")?;
-    push_worker(&mut plan, b"c")?;
+    let mut draft = Draft::new(alloc);
+    draft.add_worker(b"a", Steady)?;
+    draft.add_worker(b"b", Steady)?;
+    draft.add_worker(b"c", Steady)?;
     let mut plans = Vec::new(alloc);
-    plans.push(plan)?;
+    plans.push(draft.plan()?)?;
     Ok(plans)
 }
 
@@ -176,4 +153,49 @@ fn check_small<R: Abort>(rt: &R, report: &Report<Steady, BoxedSubsystem>) {
     );
     assert_eq!(rt; table.end(), Some(Reason::Shutdown));
     assert_eq!(rt; (report.begun, report.ended, report.live), (4, 4, 0));
+}
+
+// What a gate was told of a run: how often, the turns made and those in all as told last, and the children that were up
+// once half of them were made.
+#[derive(Drop)]
+struct Listener {
+    calls: AtomicU64,
+    made: AtomicU64,
+    of: AtomicU64,
+    live: AtomicU64,
+}
+
+impl Gate for Listener {
+    fn before_turn(&self, _hand: usize) -> u64 {
+        0
+    }
+
+    fn saw(&self, made: u64, of: u64, counts: &[CountsNow]) {
+        self.calls.fetch_add(1, Ordering::SeqCst);
+        self.made.store(made, Ordering::SeqCst);
+        self.of.store(of, Ordering::SeqCst);
+        if made == of / 2 {
+            for supervisor in counts {
+                self.live.fetch_add(supervisor.active, Ordering::SeqCst);
+            }
+        }
+    }
+}
+
+#[test]
+fn a_gate_is_told_how_far_a_run_is(rt: HostRuntime) -> Result<(), Fail> {
+    let plans = small_plans(rt.alloc())?;
+    let listener = Listener {
+        calls: AtomicU64::new(0),
+        made: AtomicU64::new(0),
+        of: AtomicU64::new(0),
+        live: AtomicU64::new(0),
+    };
+    let ran = run_tree(&rt, rt.alloc(), plans, 2, &listener, 60_000);
+    assert!(rt; ran.is_ok());
+    assert_eq!(rt; listener.calls.load(Ordering::SeqCst), 4);
+    assert_eq!(rt; listener.made.load(Ordering::SeqCst), 120_000);
+    assert_eq!(rt; listener.of.load(Ordering::SeqCst), 120_000);
+    assert_eq!(rt; listener.live.load(Ordering::SeqCst), 3);
+    Ok(())
 }

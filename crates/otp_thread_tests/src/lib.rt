@@ -13,6 +13,8 @@ mod closes;
 #[cfg(test)]
 mod counts;
 #[cfg(test)]
+mod drafts;
+#[cfg(test)]
 mod inbox;
 #[cfg(test)]
 mod jobs;

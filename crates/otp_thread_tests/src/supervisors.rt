@@ -6,7 +6,7 @@ use otp_inbox::{InboxNaming, Sender, UnnamedInbox};
 use otp_reason::{Name, Note, Reason, Text};
 use otp_rules::{Call, CallFault, Item, Reply};
 use otp_signals::{OpenWords, Signal, Viewer, Words, WordsNaming};
-use otp_spec::{ChildSpec, SupFlags};
+use otp_spec::{ChildSpec, SupFlags, SupSpec, copy_specs};
 use otp_sup::{
     Bodies, Client, Letter, MemoryPort, Office, SubmitCause, Sup, Table, TurnAnswer, TurnFault,
     count_opened,
@@ -69,13 +69,13 @@ fn make_driven<N: WordsNaming + InboxNaming, B: Drop>(
     let seat = words.split(&mut owner, 0..256, 1000)?;
     let viewer = words.viewer(&mut owner);
     let (inbox, taker, mut sender) = inbox.named::<N>(0);
-    let client = Client::new(owner, inbox.split(&mut sender, 1));
-    let (flags, specs) = (SupFlags::default(), [child()?]);
+    let client = Client::new(alloc, owner, inbox.split(&mut sender, 1));
+    let supervisor = SupSpec::check(SupFlags::default(), copy_specs(alloc, &[child()?])?)?;
     let mut bodies = Bodies::new(alloc);
-    if bodies.hand_in(0, body).is_err() || !bodies.are_ready(count_opened(&flags, &specs)) {
+    if bodies.hand_in(0, body).is_err() || !bodies.are_ready(count_opened(&supervisor)) {
         return Err("a body was refused".into());
     }
-    let office = Office::open(alloc, flags, &specs, seat, 0)?;
+    let office = Office::open(alloc, supervisor, seat, 0);
     let counts = Publisher::open(alloc, office.counts())?;
     let sup = Sup::new(inbox, Table::new(office, taker, bodies, counts));
     Ok(Driven {
@@ -177,18 +177,12 @@ impl<N: WordsNaming + InboxNaming, B: Drop> Driven<N, B> {
     }
 
     fn up<R: Wait + Abort>(&mut self, rt: &R, number: u64) {
-        let letter = Letter {
-            item: Item::Note(Note::Up(number)),
-            body: None,
-        };
+        let letter = Letter::note(Note::Up(number), None);
         self.send(rt, letter);
     }
 
     fn exit<R: Wait + Abort>(&mut self, rt: &R, number: u64, reason: Reason, body: B) {
-        let letter = Letter {
-            item: Item::Note(Note::Exit(number, reason)),
-            body: Some(body),
-        };
+        let letter = Letter::note(Note::Exit(number, reason), Some(body));
         self.send(rt, letter);
     }
 }
@@ -326,9 +320,8 @@ fn bodies_in<N: WordsNaming + InboxNaming, R: Wait + Abort>(
     assert_eq!(rt; one.turn(rt, 0, 0, Signal::None), Ok(TurnAnswer::Opened));
     one.up(rt, 1);
     assert_eq!(rt; one.turn(rt, 0, 0, Signal::None), Ok(TurnAnswer::Took));
-    let letter = Letter {
-        item: Item::Call(40, Call::StartChild(child()?)),
-        body: Some(second),
+    let Ok(letter) = Letter::call(alloc, 40, Call::StartChild(child()?), Some(second)) else {
+        return Err("memory was refused".into());
     };
     one.send(rt, letter);
     assert!(rt; one.sup.take_box(rt, 40).is_none());

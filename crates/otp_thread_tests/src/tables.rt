@@ -7,7 +7,7 @@ use otp_inbox::{Inbox, InboxNaming, Sender, UnnamedInbox};
 use otp_reason::{Name, Note, Reason, Text};
 use otp_rules::{Call, CallFault, Item, Reply};
 use otp_signals::{OpenWords, Signal, Viewer, Words, WordsNaming};
-use otp_spec::{ChildSpec, SupFlags};
+use otp_spec::{ChildSpec, SupFlags, SupSpec, copy_specs};
 use otp_sup::{
     Bodies, Flushed, Letter, MemoryPort, NewProcess, Office, Port, Table, TurnAnswer, TurnFault,
     count_opened,
@@ -55,12 +55,12 @@ fn make_alone<N: WordsNaming + InboxNaming>(
     let seat = words.split(&mut owner, 0..256, 1000)?;
     let viewer = words.viewer(&mut owner);
     let (inbox, taker, sender) = inbox.named::<N>(0);
-    let (flags, specs) = (SupFlags::default(), [child()?]);
+    let supervisor = SupSpec::check(SupFlags::default(), copy_specs(alloc, &[child()?])?)?;
     let mut bodies = Bodies::new(alloc);
-    if bodies.hand_in(0, OWN).is_err() || !bodies.are_ready(count_opened(&flags, &specs)) {
+    if bodies.hand_in(0, OWN).is_err() || !bodies.are_ready(count_opened(&supervisor)) {
         return Err("a body was refused".into());
     }
-    let office = Office::open(alloc, flags, &specs, seat, 0)?;
+    let office = Office::open(alloc, supervisor, seat, 0);
     let counts = Publisher::open(alloc, office.counts())?;
     Ok(Alone {
         words,
@@ -125,18 +125,12 @@ impl<N: WordsNaming + InboxNaming> Alone<N> {
     }
 
     fn up<R: Wait + Abort>(&mut self, rt: &R, number: u64) {
-        let letter = Letter {
-            item: Item::Note(Note::Up(number)),
-            body: None,
-        };
+        let letter = Letter::note(Note::Up(number), None);
         self.send(rt, letter);
     }
 
     fn exit<R: Wait + Abort>(&mut self, rt: &R, number: u64, reason: Reason, body: u64) {
-        let letter = Letter {
-            item: Item::Note(Note::Exit(number, reason)),
-            body: Some(body),
-        };
+        let letter = Letter::note(Note::Exit(number, reason), Some(body));
         self.send(rt, letter);
     }
 }
@@ -315,9 +309,8 @@ fn start_call_in<N: WordsNaming + InboxNaming, R: Wait + Abort>(
     one.up(rt, 1);
     assert_eq!(rt; one.turn(rt, 0, 0, Signal::None), Ok(TurnAnswer::Took));
     assert_eq!(rt; one.flush(rt), 1);
-    let letter = Letter {
-        item: Item::Call(40, Call::StartChild(child()?)),
-        body: Some(9),
+    let Ok(letter) = Letter::call(alloc, 40, Call::StartChild(child()?), Some(9)) else {
+        return Err("memory was refused".into());
     };
     one.send(rt, letter);
     assert_eq!(rt; one.turn(rt, 0, 0, Signal::None), Ok(TurnAnswer::Took));

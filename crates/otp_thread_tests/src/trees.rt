@@ -2,16 +2,15 @@
 ghost use Rattle.std.specs.Prelude.{◌≡◌, ◌<◌, ◌≤◌, false, length, IfOk};
 ghost use Rattle.otp_run.specs.Rule.{all_parts};
 
+use crate::drafts::Draft;
 use crate::probes::Calls;
 use otp_bridge::BoxedSubsystem;
-use otp_core::OpenFault;
 use otp_inbox::InboxNaming;
-use otp_job::{Body, Job, TableNo, Told, Turn};
-use otp_reason::{Name, Note, Reason, Started, Text};
+use otp_job::{Body, Job, Told, Turn};
+use otp_reason::{Note, Reason, Started, Text};
 use otp_rules::CountsNow;
 use otp_run::RunNaming;
 use otp_signals::WordsNaming;
-use otp_spec::{ChildSpec, ChildType, Shutdown, SpecFault, SupFlags};
 use otp_tree::{
     Client, CloseFault, Gate, Hand, Leader, Led, Millis, Report, Round, Session, System,
     SystemFault, TablePlan, Unclosed, lead, run_tree, with_system,
@@ -53,55 +52,31 @@ impl Job for Worker {
 
 type Plan = TablePlan<Worker, BoxedSubsystem>;
 
-fn make_worker(
-    starts: &Calls,
-    crashes: Option<Text>,
-) -> Result<Body<Worker, BoxedSubsystem>, AllocError> {
-    Ok(Body::Worker(Worker {
+fn make_worker(starts: &Calls, crashes: Option<Text>) -> Result<Worker, AllocError> {
+    Ok(Worker {
         starts: Arc::try_clone(starts)?,
         crashes,
-    }))
+    })
 }
 
 // How many workers the tree has. One of them crashes.
 const WORKERS: u64 = 3;
 
-// The root has the worker `a` and the supervisor `sub`, which has the workers `b` and `c`; `c` crashes. `twin` is the id
-// of the second worker of `sub`.
-fn plans(alloc: Global, starts: &Calls, twin: &[u8]) -> Result<Vec<Plan>, Fail>
+// The root has the worker `a` and the supervisor `sub`, which has the workers `b` and `c`; `c` crashes.
+fn plans(alloc: Global, starts: &Calls) -> Result<Vec<Plan>, Fail>
     ensures { IfOk result (λ plans. length plans.items ≡ 2) }
 {
     let crash = Text::new(b"crash").ok_or("a text")?;
-    let mut root = empty_plan(alloc);
-    let mut nested = spec(b"sub")?;
-    nested.kind = ChildType::Supervisor;
-    nested.shutdown = Shutdown::Infinity;
-    root.specs.push(spec(b"a")?)?;
-    root.bodies.push(make_worker(starts, None)?)?;
-    root.specs.push(nested)?;
-    root.bodies.push(Body::Sup(TableNo::new(1)))?;
-    let mut sub = empty_plan(alloc);
-    sub.specs.push(spec(b"b")?)?;
-    sub.bodies.push(make_worker(starts, None)?)?;
-    sub.specs.push(spec(twin)?)?;
-    sub.bodies.push(make_worker(starts, Some(crash))?)?;
+    let mut root = Draft::new(alloc);
+    root.add_worker(b"a", make_worker(starts, None)?)?;
+    root.add_supervisor(b"sub", 1)?;
+    let mut sub = Draft::new(alloc);
+    sub.add_worker(b"b", make_worker(starts, None)?)?;
+    sub.add_worker(b"c", make_worker(starts, Some(crash))?)?;
     let mut plans = Vec::new(alloc);
-    plans.push(root)?;
-    plans.push(sub)?;
+    plans.push(root.plan()?)?;
+    plans.push(sub.plan()?)?;
     Ok(plans)
-}
-
-fn empty_plan(alloc: Global) -> Plan {
-    TablePlan {
-        flags: SupFlags::default(),
-        specs: Vec::new(alloc),
-        bodies: Vec::new(alloc),
-    }
-}
-
-fn spec(id: &[u8]) -> Result<ChildSpec, Fail> {
-    let id = Name::new(id).ok_or("a name")?;
-    Ok(ChildSpec::new(id, id))
 }
 
 // A clock that stands still.
@@ -183,7 +158,7 @@ fn live_with<R: Threads + Wait + Abort + Sync>(
     requires few { hands ≤ all_parts }
 {
     let starts: Calls = Arc::new(alloc, AtomicU64::new(0))?;
-    let plans = plans(alloc, &starts, b"c")?;
+    let plans = plans(alloc, &starts)?;
     let leader = UpAndDown::new(starts, WORKERS + 1);
     let Led { leader, report } = match lead(rt, alloc, plans, hands, &Still, 10_000, leader) {
         Ok(led) => led,
@@ -234,7 +209,7 @@ fn run_with<R: Threads + Wait + Abort + Sync>(
     requires few { hands ≤ all_parts }
 {
     let starts: Calls = Arc::new(alloc, AtomicU64::new(0))?;
-    let whole = plans(alloc, &starts, b"c")?;
+    let whole = plans(alloc, &starts)?;
     match run_tree(rt, alloc, whole, hands, &Still, 20_000) {
         Ok(report) => {
             check_ledger(rt, &report);
@@ -244,7 +219,7 @@ fn run_with<R: Threads + Wait + Abort + Sync>(
         }
         Err(_) => return Err("the tree was not closed".into()),
     }
-    let short = plans(alloc, &starts, b"c")?;
+    let short = plans(alloc, &starts)?;
     match run_tree(rt, alloc, short, hands, &Still, 1) {
         Ok(report) => {
             assert!(rt; report.live > 0);
@@ -320,7 +295,7 @@ impl Leader for Once {
 #[test]
 fn each_hand_has_a_thread_of_its_own(rt: HostRuntime) -> Result<(), Fail> {
     let starts: Calls = Arc::new(rt.alloc(), AtomicU64::new(0))?;
-    let plans = plans(rt.alloc(), &starts, b"c")?;
+    let plans = plans(rt.alloc(), &starts)?;
     let meeting = Meeting {
         first: AtomicU64::new(0),
         second: AtomicU64::new(0),
@@ -332,16 +307,16 @@ fn each_hand_has_a_thread_of_its_own(rt: HostRuntime) -> Result<(), Fail> {
     Ok(())
 }
 
-// Two specifications of the nested supervisor have one id.
+// The nested supervisor has two children and one body.
 #[test]
 fn a_refused_table_is_told_by_its_number(rt: HostRuntime) -> Result<(), Fail> {
     let starts: Calls = Arc::new(rt.alloc(), AtomicU64::new(0))?;
-    let plans = plans(rt.alloc(), &starts, b"b")?;
+    let mut plans = plans(rt.alloc(), &starts)?;
+    if let Some(plan) = plans.last_mut() {
+        plan.bodies.pop();
+    }
     let led = lead(&rt, rt.alloc(), plans, 2, &Still, 10, Once { rounds: 0 });
-    let fault = SystemFault::Table {
-        table: 1,
-        fault: OpenFault::Spec(SpecFault::DuplicateId { index: 1 }),
-    };
+    let fault = SystemFault::NoBody { table: 1 };
     assert_eq!(rt; led.map(|led| led.leader.rounds), Err(fault));
     Ok(())
 }
@@ -396,7 +371,7 @@ fn lead_alone<N: WordsNaming + InboxNaming + RunNaming, R: Wait + Abort>(
 #[test]
 fn a_session_serves_all_hands_from_one_thread(rt: HostRuntime) -> Result<(), Fail> {
     let starts: Calls = Arc::new(rt.alloc(), AtomicU64::new(0))?;
-    let plans = plans(rt.alloc(), &starts, b"c")?;
+    let plans = plans(rt.alloc(), &starts)?;
     let leader = UpAndDown::new(starts, WORKERS + 1);
     match with_system(&rt, rt.alloc(), plans, 2, Alone { leader }) {
         Ok(leader) => leader.check(&rt),
@@ -464,7 +439,7 @@ impl<R: Wait + Abort> Session<R, Worker, BoxedSubsystem> for Closing {
 #[test]
 fn a_tree_is_closed_with_all_its_hands(rt: HostRuntime) -> Result<(), Fail> {
     let starts: Calls = Arc::new(rt.alloc(), AtomicU64::new(0))?;
-    let plans = plans(rt.alloc(), &starts, b"c")?;
+    let plans = plans(rt.alloc(), &starts)?;
     let leader = UpAndDown::new(starts, WORKERS + 1);
     let closing = Closing {
         alone: Alone { leader },
@@ -549,7 +524,7 @@ impl<R: Wait + Abort> Session<R, Worker, BoxedSubsystem> for Counting {
 #[test]
 fn counts_are_read_while_the_tree_restarts(rt: HostRuntime) -> Result<(), Fail> {
     let starts: Calls = Arc::new(rt.alloc(), AtomicU64::new(0))?;
-    let plans = plans(rt.alloc(), &starts, b"c")?;
+    let plans = plans(rt.alloc(), &starts)?;
     let counted = with_system(&rt, rt.alloc(), plans, 2, Counting);
     assert_eq!(rt; counted, Ok(true));
     assert_eq!(rt; starts.load(Ordering::SeqCst), WORKERS + 1);

@@ -1,5 +1,5 @@
 -- How supervisors stand at a moment of a run (own).
-use Rattle.std.specs.Prelude.{ℕ, ◌-◌, ◌*◌, Bool, ◌&&◌, List, map, nat_le}
+use Rattle.std.specs.Prelude.{ℕ, Bool, List, map}
 use Rattle.otp_table.specs.declared.row.Row.{Row}
 use Rattle.otp_timeline.specs.declared.moment.Mark.{Mark}
 use Rattle.otp_timeline.specs.declared.moment.Standing.{Standing}
@@ -8,10 +8,6 @@ use Rattle.otp_window.specs.Period.{in_period}
 -- the child of a row
 abbrev pub mark_of : Row → Mark
 mark_of row = record { id = row.id; state = row.state }
-
--- a restart lies in the period that ends now
-abbrev pub is_in_period : ℕ → ℕ → ℕ → Bool
-is_in_period period now stamp = nat_le stamp now && nat_le (now - stamp) (1000 * period)
 
 -- how a supervisor stands now, whose children have these rows and whose restarts were at these times
 abbrev pub standing_of : List Row → List ℕ → ℕ → Bool → ℕ → Standing

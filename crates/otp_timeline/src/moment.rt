@@ -1,8 +1,8 @@
 //! How supervisors stand at a moment of a run.
 
 ghost use Rattle.std.specs.Prelude.{◌≡◌, [], true, IfOk, map};
-ghost use Rattle.otp_timeline.specs.Moments.{is_in_period, mark_of, standing_of};
-ghost use Rattle.otp_window.specs.Period.{in_period};
+ghost use Rattle.otp_timeline.specs.Moments.{mark_of, standing_of};
+ghost use Rattle.otp_window.specs.Period.{in_period, is_in_period};
 
 use otp_reason::Name;
 use otp_table::{Row, RowState};

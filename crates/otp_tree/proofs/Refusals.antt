@@ -1,6 +1,6 @@
 -- What is told of a tree that was not taken apart, and of one that was.
 use Rattle.std.proofs.Common.{◌≡◌, List, sym, ap, ◌∙◌}
-use Rattle.std.specs.Prelude.{Option, Some, None, Result, Ok, Err, IfErr, IfSome, is_some}
+use Rattle.std.specs.Prelude.{Some, Result, Ok, Err, IfErr, IfSome, is_some}
 use mathlib.Core.Bool.{true≢false}
 use Rattle.otp_run.specs.Gathers.{IsAll}
 use Rattle.otp_run.specs.Schedulers.{SchedulerState}

@@ -135,16 +135,10 @@ fn letter_of<J: Drop, S: Drop>(
     ensures ticket { process.new.ticket ≡ process.old.ticket }
 {
     if let Note::Up(_) = note {
-        return Some(Letter {
-            item: Item::Note(note),
-            body: None,
-        });
+        return Some(Letter::note(note, None));
     }
     let table = process.take_table()?;
-    Some(Letter {
-        item: Item::Note(note),
-        body: Some(Body::Sup(table)),
-    })
+    Some(Letter::note(note, Some(Body::Sup(table))))
 }
 
 impl<N: WordsNaming + InboxNaming + RunNaming, J: Drop, S: Drop> Hand<N, J, S> {
@@ -265,10 +259,7 @@ impl<N: WordsNaming + InboxNaming + RunNaming, J: Job, S: Subsystem> Hand<N, J, 
 fn started<J: Drop, S: Drop>(note: Note) -> Letter<Body<J, S>>
     requires { carries_body (item.Note note) ≡ false }
 {
-    Letter {
-        item: Item::Note(note),
-        body: None,
-    }
+    Letter::note(note, None)
 }
 
 /// The letter of a process's end, which brings the body home.
@@ -276,8 +267,5 @@ fn ended<J: Drop, S: Drop>(end: EndNote<J, S>) -> Letter<Body<J, S>>
     requires { carries_body (item.Note end.note) ≡ true }
 {
     let EndNote { note, body } = end;
-    Letter {
-        item: Item::Note(note),
-        body: Some(body),
-    }
+    Letter::note(note, Some(body))
 }

@@ -34,7 +34,8 @@
 //! lead(&rt, rt.alloc(), plans, 4, &clock, 100, UpAndDown)?;
 //! ```
 //!
-//! Nothing else is to be written, and no proof: `plans` are the trees' supervisors with their jobs, 4 the hands, `clock` is
+//! Nothing else is to be written, and no proof: `plans` are the tree's supervisors with their jobs, each of flags and child
+//! specifications that were tested once ([`otp_spec::SupSpec::check`]), 4 the hands, `clock` is
 //! a [`Gate`], which is asked the time before each turn, and 100 the most rounds. At the end the tree is closed, and its report
 //! comes with the leader.
 //!
@@ -73,7 +74,7 @@ pub use clock::{Gate, Millis};
 pub use closing::{CloseFault, Unclosed};
 pub use evidence::Mismatch;
 pub use hand::Hand;
-pub use opening::{MAX_TABLES, Opened, Parts, SystemFault};
+pub use opening::{Opened, Parts, SystemFault};
 pub use plan::TablePlan;
 pub use report::{Report, TableReport};
 pub use rounds::{Leader, Led, Round, lead};

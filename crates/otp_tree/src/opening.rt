@@ -1,5 +1,6 @@
 //! A tree is opened: its parts without a name first, then the tree under a name.
 ghost use Rattle.std.specs.Prelude.{◌≡◌, ◌+◌, ◌*◌, ◌<◌, ◌≤◌, ◌^◌, ◌++◌, ◌∷◌, [], Contains, IfOk, OnOk, IfSome, length, is_some, true};
+ghost use Rattle.otp_spec.specs.declared.limits.TheConstants.{MAX_TABLES};
 ghost use Rattle.otp_inbox.specs.Tokens.{first_sender};
 ghost use Rattle.otp_run.specs.Lists.{AllAt};
 ghost use Rattle.otp_run.specs.Rule.{all_parts};
@@ -14,33 +15,28 @@ use crate::plan::TablePlan;
 use crate::reading::split_all;
 use crate::senders::Senders;
 use crate::system::System;
-use otp_core::OpenFault;
 use otp_counts::{CountsPass, Publisher};
 use otp_inbox::{Inbox, InboxNaming, Sender, UnnamedInbox};
 use otp_job::{Body, Process, TableNo};
 use otp_rules::Item;
 use otp_run::{RunNaming, RunQueue, Scheduler};
 use otp_signals::{OpenWords, Owner, Viewer, Words, WordsNaming};
+use otp_spec::MAX_CHILDREN;
 use otp_sup::{Bodies, Letter, Office, Sup, Table, count_opened};
 use otp_tally::Tally;
 use std::alloc::{AllocError, Global};
 
 /// How many slots of signal words each supervisor has: one for each child that there can be.
-const SLOTS: usize = 256;
+const SLOTS: usize = MAX_CHILDREN;
 
 /// How many numbers each supervisor may draw.
 const TABLE_QUOTA: u64 = 1 << 55;
-
-/// The most supervisors of a tree.
-pub const MAX_TABLES: usize = 64;
 
 /// Why a tree was not opened.
 #[derive(Clone, Copy, Debug, PartialEq, Eq)]
 pub enum SystemFault {
     /// E0: memory was refused.
     OutOfMemory,
-    /// The flags or the child specifications of this supervisor are refused.
-    Table { table: usize, fault: OpenFault },
     /// A child of this supervisor has no body in its plan.
     NoBody { table: usize },
 }
@@ -78,12 +74,13 @@ impl<J: Drop, S: Drop> Parts<J, S> {
         plans: Vec<TablePlan<J, S>>,
         hands: usize,
     ) -> Result<Parts<J, S>, AllocError>
-        requires tables { length plans.items ≤ 64 }
+        requires tables { length plans.items ≤ MAX_TABLES }
         requires some { 0 < hands }
         requires few { hands ≤ all_parts }
         ensures tables { IfOk result (λ p. length p.inboxes.items ≡ length plans.items) }
         ensures slots { IfOk result (λ p. p.words.slots ≡ slots_of (length p.inboxes.items)) }
-        ensures few { IfOk result (λ p. length p.inboxes.items ≤ 64) }
+        ensures few { IfOk result (λ p. length p.inboxes.items ≤ MAX_TABLES) }
+        ensures hands { IfOk result (λ p. length p.queue ≡ hands) }
     {
         Ok(Parts {
             words: OpenWords::open(alloc, 1 + SLOTS * plans.len())?,
@@ -127,7 +124,7 @@ fn open_one<N: WordsNaming + InboxNaming, J: Drop, S: Drop>(
     plan: TablePlan<J, S>,
 ) -> Result<NamedOne<N, J, S>, SystemFault>
     requires named { inbox ≡ N.inbox number }
-    requires few { number < 64 }
+    requires few { number < MAX_TABLES }
     requires slots { EachBetween (first_slot number) (first_slot (number + 1)) (Contains owner.old.slots) }
     requires unposted { owner.old.posts ≡ [] }
     ensures sup { IfOk result (λ r. r.sup.inbox ≡ number) }
@@ -140,23 +137,13 @@ fn open_one<N: WordsNaming + InboxNaming, J: Drop, S: Drop>(
     let Ok(seat) = words.split(owner, first..first + SLOTS, TABLE_QUOTA) else {
         return Err(SystemFault::OutOfMemory);
     };
-    let TablePlan {
-        flags,
-        specs,
-        bodies,
-    } = plan;
+    let TablePlan { supervisor, bodies } = plan;
     let bodies = hand_in_all(alloc, bodies)?;
-    if !bodies.are_ready(count_opened(&flags, specs.as_slice())) {
+    if !bodies.are_ready(count_opened(&supervisor)) {
         return Err(SystemFault::NoBody { table: number });
     }
     let (inbox, taker, sender) = inbox.named::<N>(number);
-    let office = match Office::open(alloc, flags, specs.as_slice(), seat, first) {
-        Ok(office) => office,
-        Err(fault) => return Err(SystemFault::Table {
-            table: number,
-            fault,
-        }),
-    };
+    let office = Office::open(alloc, supervisor, seat, first);
     let counts = Publisher::open(alloc, office.counts())?;
     let mut table = Table::new(office, taker, bodies, counts);
     let pass = table.pass()?;
@@ -203,7 +190,7 @@ fn open_all<N: WordsNaming + InboxNaming, J: Drop, S: Drop>(
     plans: Vec<TablePlan<J, S>>,
 ) -> Result<Named<N, J, S>, SystemFault>
     requires named { AllAt (λ k id. id ≡ N.inbox k) inboxes.items }
-    requires few { length inboxes.items ≤ 64 }
+    requires few { length inboxes.items ≤ MAX_TABLES }
     requires slots { EachBetween 0 (slots_of (length inboxes.items)) (Contains owner.old.slots) }
     requires unposted { owner.old.posts ≡ [] }
     ensures sups { IfOk result (λ r. AllAt (λ k sup. sup.inbox ≡ k) r.sups.items) }
@@ -331,7 +318,7 @@ impl<J: Drop, S: Drop> Parts<J, S> {
         requires outer { self.outer ≡ N.inbox (length self.inboxes.items) }
         requires deques { AllAt (λ k id. id ≡ N.deque k) self.queue }
         requires slots { self.words.slots ≡ slots_of (length self.inboxes.items) }
-        requires few { length self.inboxes.items ≤ 64 }
+        requires few { length self.inboxes.items ≤ MAX_TABLES }
         ensures root { IfOk result (λ o. is_some o.client.root ≡ true) }
         ensures tables { IfOk result (λ o. o.system.tables ≡ length self.inboxes.items) }
         ensures passes { IfOk result (λ o. CanRead (length self.inboxes.items) o.hands.items) }

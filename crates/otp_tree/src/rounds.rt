@@ -1,5 +1,6 @@
 //! A whole tree on threads, round by round.
 ghost use Rattle.std.specs.Prelude.{◌≡◌, ◌<◌, ◌≤◌, length, IfErr, IfOk};
+ghost use Rattle.otp_spec.specs.declared.limits.TheConstants.{MAX_TABLES};
 ghost use Rattle.otp_run.specs.Lists.{AllAt};
 ghost use Rattle.otp_run.specs.Rule.{all_parts};
 ghost use Rattle.otp_tree.specs.Closes.{IsMismatchOnly, IsReportOf};
@@ -71,7 +72,7 @@ where
     S: Subsystem + Send,
     G: Gate + Sync,
     L: Leader,
-    requires tables { length plans.items ≤ 64 }
+    requires tables { length plans.items ≤ MAX_TABLES }
     requires some { 0 < hands }
     requires few { hands ≤ all_parts }
     ensures report { IfOk result (λ led. IfOk led.report (IsReportOf (length plans.items))) }
@@ -101,7 +102,7 @@ where
     requires outer { parts.outer ≡ N.inbox (length parts.inboxes.items) }
     requires deques { AllAt (λ k id. id ≡ N.deque k) parts.queue }
     requires slots { parts.words.slots ≡ slots_of (length parts.inboxes.items) }
-    requires few { length parts.inboxes.items ≤ 64 }
+    requires few { length parts.inboxes.items ≤ MAX_TABLES }
     ensures report { IfOk result (λ led. IfOk led.report (IsReportOf (length parts.inboxes.items))) }
     ensures mismatch { IfOk result (λ led. IfErr led.report IsMismatchOnly) }
 {

@@ -1,5 +1,6 @@
 //! How hands serve a tree: a turn at a time, each hand in a thread of its own.
-ghost use Rattle.std.specs.Prelude.{◌≤◌, ◌^◌, ◌≡◌, IsTrue, None};
+ghost use Rattle.std.specs.Prelude.{◌≤◌, ◌≡◌, IsTrue, None};
+ghost use Rattle.otp_spec.specs.declared.limits.TheConstants.{MAX_READING};
 
 use crate::clock::{Gate, Millis};
 use crate::hand::{Hand, Unsent};
@@ -41,7 +42,7 @@ impl<N: WordsNaming + InboxNaming, J: Job, S: Subsystem> System<N, J, S> {
     pub fn turn<R: Wait>(&self, rt: &R, hand: &mut Hand<N, J, S>, reading: u64)
     where
         N: RunNaming,
-        requires { reading ≤ 2 ^ 62 }
+        requires { reading ≤ MAX_READING }
         ensures { hand.new.passes ≡ hand.old.passes }
     {
         if !self.send_unsent(rt, hand) || !hand.find() {

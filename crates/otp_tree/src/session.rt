@@ -1,5 +1,6 @@
 //! A tree for one call: the name is picked here, so that no caller has to.
 ghost use Rattle.std.specs.Prelude.{◌≡◌, ◌<◌, ◌≤◌, length};
+ghost use Rattle.otp_spec.specs.declared.limits.TheConstants.{MAX_TABLES};
 ghost use Rattle.otp_run.specs.Lists.{AllAt};
 ghost use Rattle.otp_run.specs.Rule.{all_parts};
 ghost use Rattle.otp_tree.specs.Opens.{slots_of};
@@ -42,7 +43,7 @@ pub fn with_system<R, J: Drop, S: Drop, T: Session<R, J, S>>(
     hands: usize,
     session: T,
 ) -> Result<T::Output, SystemFault>
-    requires tables { length plans.items ≤ 64 }
+    requires tables { length plans.items ≤ MAX_TABLES }
     requires some { 0 < hands }
     requires few { hands ≤ all_parts }
 {
@@ -62,7 +63,7 @@ fn run_named<
     requires outer { parts.outer ≡ N.inbox (length parts.inboxes.items) }
     requires deques { AllAt (λ k id. id ≡ N.deque k) parts.queue }
     requires slots { parts.words.slots ≡ slots_of (length parts.inboxes.items) }
-    requires few { length parts.inboxes.items ≤ 64 }
+    requires few { length parts.inboxes.items ≤ MAX_TABLES }
 {
     let Opened {
         system,

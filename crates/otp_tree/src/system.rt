@@ -73,7 +73,7 @@ impl<N: WordsNaming + InboxNaming, J: Drop, S: Drop> System<N, J, S> {
             return None;
         }
         let letter = self.outer.take(rt, waiter)?;
-        match letter.item {
+        match letter.into_parts().0 {
             Item::Note(note) => Some(note),
             Item::Call(..) => None,
         }

@@ -1,5 +1,6 @@
 //! The whole life of a tree on threads, in one call.
 ghost use Rattle.std.specs.Prelude.{◌≡◌, ◌<◌, ◌≤◌, length, IfErr, IfOk};
+ghost use Rattle.otp_spec.specs.declared.limits.TheConstants.{MAX_TABLES};
 ghost use Rattle.otp_run.specs.Lists.{AllAt};
 ghost use Rattle.otp_run.specs.Rule.{all_parts};
 ghost use Rattle.otp_tree.specs.Closes.{IsReportOf, IsRunMismatchOnly};
@@ -7,11 +8,15 @@ ghost use Rattle.otp_tree.specs.Opens.{slots_of};
 
 use crate::clock::Gate;
 use crate::closing::CloseFault;
+use crate::hand::Hand;
 use crate::opening::{Opened, Parts, SystemFault};
 use crate::plan::TablePlan;
+use crate::reading::read_each;
 use crate::report::Report;
 use crate::serving::pool_run;
+use crate::system::System;
 use otp_bridge::Subsystem;
+use otp_counts::CountsPass;
 use otp_inbox::InboxNaming;
 use otp_job::Job;
 use otp_rules::CountsNow;
@@ -75,11 +80,64 @@ pub struct CountedRun<J: Drop, S: Drop> {
     pub report: Report<J, S>,
 }
 
+/// How many turns each hand makes before the gate is told how far the run is.
+const TOLD_TURNS: u64 = 50_000;
+
+/// Tells the gate how far a run is. Where there is no memory for the counts nothing is told.
+fn tell<G: Gate>(alloc: Global, gate: &G, made: u64, of: u64, passes: &mut [CountsPass])
+    ensures { length passes.new ≡ length passes.old }
+{
+    let Ok(mut counts) = Vec::with_capacity(alloc, passes.len()) else {
+        return;
+    };
+    read_each(passes, &mut counts);
+    gate.saw(made, of, counts.as_slice());
+}
+
+/// Half a run: each hand makes so many turns, in a thread of its own, and the gate is told now and then how far they are, of
+/// which so many were made before.
+fn run_half<N, R, J, S, G>(
+    rt: &R,
+    alloc: Global,
+    system: &System<N, J, S>,
+    hands: &mut [Hand<N, J, S>],
+    gate: &G,
+    turns: u64,
+    before: u64,
+    passes: &mut [CountsPass],
+)
+where
+    N: WordsNaming + InboxNaming + RunNaming + Send + Sync,
+    R: Threads + Wait + Sync,
+    J: Job + Send,
+    S: Subsystem + Send,
+    G: Gate + Sync,
+    ensures { length passes.new ≡ length passes.old }
+{
+    let mut made: u64 = 0;
+    for _ in 0..=turns / TOLD_TURNS {
+        let next = turns.saturating_sub(made).min(TOLD_TURNS);
+        if next == 0 {
+            return;
+        }
+        pool_run(rt, system, hands, gate, next);
+        made = made.saturating_add(next);
+        tell(
+            alloc,
+            gate,
+            before.saturating_add(made),
+            turns.saturating_mul(2),
+            passes,
+        );
+    }
+}
+
 /// The whole life of a tree of 1 to 64 supervisors, the root first, in one call: each of 1 to 8 hands makes so many turns
 /// in a thread of its own, then the root is asked to stop, each hand makes as many turns again, and the tree is closed.
 /// Out comes the report of what it was, with the counts of each supervisor before the stop.
 ///
-/// The counts are read without a lock, by a pass for each supervisor, while no hand makes a turn.
+/// The counts are read without a lock, by a pass for each supervisor, while no hand makes a turn. The gate is told how far the
+/// run is each 50,000 turns ([`Gate::saw`]).
 pub fn run_tree_counted<R, J, S, G>(
     rt: &R,
     alloc: Global,
@@ -93,7 +151,7 @@ where
     J: Job + Send,
     S: Subsystem + Send,
     G: Gate + Sync,
-    requires tables { length plans.items ≤ 64 }
+    requires tables { length plans.items ≤ MAX_TABLES }
     requires some { 0 < hands }
     requires few { hands ≤ all_parts }
     // The counts of each supervisor of the plans.
@@ -124,7 +182,7 @@ where
     requires outer { parts.outer ≡ N.inbox (length parts.inboxes.items) }
     requires deques { AllAt (λ k id. id ≡ N.deque k) parts.queue }
     requires slots { parts.words.slots ≡ slots_of (length parts.inboxes.items) }
-    requires few { length parts.inboxes.items ≤ 64 }
+    requires few { length parts.inboxes.items ≤ MAX_TABLES }
     ensures counts { IfOk result (λ run. length run.counts.items ≡ length parts.inboxes.items) }
     ensures report { IfOk result (λ run. IsReportOf (length parts.inboxes.items) run.report) }
     ensures mismatch { IfErr result IsRunMismatchOnly }
@@ -136,10 +194,28 @@ where
         mut passes,
     } = parts.named::<N>(alloc)?;
     let mut counts = Vec::with_capacity(alloc, passes.len())?;
-    pool_run(rt, &system, hands.as_mut_slice(), gate, turns);
+    run_half(
+        rt,
+        alloc,
+        &system,
+        hands.as_mut_slice(),
+        gate,
+        turns,
+        0,
+        passes.as_mut_slice(),
+    );
     client.read_before_stop(passes.as_mut_slice(), &mut counts);
     system.stop(&mut client);
-    pool_run(rt, &system, hands.as_mut_slice(), gate, turns);
+    run_half(
+        rt,
+        alloc,
+        &system,
+        hands.as_mut_slice(),
+        gate,
+        turns,
+        turns,
+        passes.as_mut_slice(),
+    );
     let report = system.finish(alloc, hands, client)?;
     Ok(CountedRun { counts, report })
 }
@@ -158,7 +234,7 @@ where
     J: Job + Send,
     S: Subsystem + Send,
     G: Gate + Sync,
-    requires tables { length plans.items ≤ 64 }
+    requires tables { length plans.items ≤ MAX_TABLES }
     requires some { 0 < hands }
     requires few { hands ≤ all_parts }
     ensures report { IfOk result (IsReportOf (length plans.items)) }

@@ -1,7 +1,7 @@
 -- Supervisors that are put behind others.
 use Rattle.std.specs.Prelude.{◌≡◌, ℕ, List, [], ◌∷◌, ◌++◌, refl}
 use Rattle.std.specs.List.{flat_map}
-use Rattle.std.proofs.Common.{◌∙◌, ap, sym, subst, append_assoc, append-nil}
+use Rattle.std.proofs.Common.{◌∙◌, ap, append_assoc, append-nil}
 use Rattle.std.proofs.lemmas.Grind.{flat_map-append}
 use Rattle.otp_file.specs.Trees.{Table, Tree, tables_of}
 use Rattle.otp_try.specs.Played.{AddsTables, AddsTree, ArePlanted, Seated, unplayed}
@@ -11,9 +11,6 @@ planted-append [] us [] ys first second = second
 planted-append [] us (x ∷ xs) ys first second = absurd first
 planted-append (t ∷ ts) us [] ys first second = absurd first
 planted-append (t ∷ ts) us (x ∷ xs) ys (here, rest) second = (here, planted-append ts us xs ys rest second)
-
-pub adds-nothing : (a : List Seated) → AddsTables [] a a
-adds-nothing a = ([], sym (append-nil a), tt)
 
 -- the tables of these trees, and of one more
 pub tables_more : (trees : List Tree) (tree : Tree) → flat_map tables_of (trees ++ tree ∷ []) ≡ flat_map tables_of trees ++ tables_of tree
@@ -27,14 +24,4 @@ adds-then path tree tables a b c (xs, ab, first) (ys, bc, below) =
       xs ++ root ∷ ys,
       bc ∙ ap (λ (s : List Seated). s ++ root ∷ ys) ab ∙ append_assoc a xs (root ∷ ys),
       planted-append tables (tables_of tree) xs (root ∷ ys) first (refl, below),
-    )
-
--- the root was added, and those of its trees behind it
-pub adds-below : (path : List ℕ) (tree : Tree) (tables : List Table) (a b c : List Seated) → b ≡ a ++ unplayed path tree.flags tree.specs ∷ []
-    → tables ≡ tree.below → AddsTables tables b c → AddsTree path tree a c
-adds-below path tree tables a b c ab all (xs, bc, rest) =
-    let root : Seated = unplayed path tree.flags tree.specs in (
-      xs,
-      bc ∙ ap (λ (s : List Seated). s ++ xs) ab ∙ append_assoc a (root ∷ []) xs,
-      subst (λ (ts : List Table). ArePlanted ts xs) all rest,
     )

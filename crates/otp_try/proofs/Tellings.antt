@@ -1,5 +1,5 @@
 -- What is told of moves that are made one after another.
-use Rattle.std.specs.Prelude.{◌≡◌, ℕ, ◌<◌, List, [], ◌∷◌, ◌++◌, Some, None, refl, length, slice_index_or, slice_set}
+use Rattle.std.specs.Prelude.{◌≡◌, ℕ, List, [], ◌∷◌, ◌++◌, Some, None, refl, slice_set}
 use Rattle.std.proofs.Common.{◌∙◌, ap, sym, subst, append_assoc, append-nil}
 use Rattle.otp_rules.specs.declared.event.Event.{Event}
 use Rattle.otp_rules.specs.declared.event.Kind.{Kind}
@@ -22,10 +22,6 @@ story-append : (xs ys : List Move) → story (xs ++ ys) ≡ story xs ++ story ys
 story-append [] ys = refl
 story-append (x ∷ xs) ys =
     ap (λ (text : List ℕ). move_text x ++ text) (story-append xs ys) ∙ sym (append_assoc (move_text x) (story xs) (story ys))
-
--- no move was made, and nothing was told
-pub tells-nothing : (seats : List Seated) (text : List ℕ) → Tells seats seats text text
-tells-nothing seats text = ([], refl, sym (append-nil text))
 
 -- what was told first, and then what was told of the moves after it
 pub tells-then : (a b c : List Seated) (x y z : List ℕ) → Tells a b x y → Tells b c y z → Tells a c x z

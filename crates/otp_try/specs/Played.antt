@@ -1,5 +1,5 @@
 -- A tree that is tried: its supervisors, each with its events so far, and how calls of a trial add to them (own).
-use Rattle.std.specs.Prelude.{◌≡◌, ℕ, ◌<◌, Bool, true, List, [], ◌∷◌, ◌++◌, Option, Some, None, length, position, slice_get, slice_index_or, slice_set}
+use Rattle.std.specs.Prelude.{◌≡◌, ℕ, ◌<◌, Bool, true, false, List, [], ◌∷◌, ◌++◌, Option, Some, None, if◌then◌else◌, length, position, slice_get, slice_index_or, slice_set}
 use Rattle.std.specs.List.{flat_map}
 use Rattle.otp_file.specs.Trees.{Table, Tree}
 use Rattle.otp_reason.specs.declared.note.Note.TheVariants as note
@@ -13,6 +13,7 @@ use Rattle.otp_rules.specs.Run.{empty_state, state_after}
 use Rattle.otp_rules.specs.State.{State, is_over}
 use Rattle.otp_spec.specs.declared.child.ChildSpec.{ChildSpec}
 use Rattle.otp_spec.specs.declared.flags.SupFlags.{SupFlags}
+use Rattle.otp_spec.specs.Flags.{is_simple}
 use Rattle.otp_table.specs.declared.row.Row.{Row}
 use Rattle.otp_table.specs.declared.row.RowState.{RowState}
 use Rattle.otp_table.specs.declared.row.RowState.TheVariants.{Undefined, Starting, Up, Asked, Killed, Restarting}
@@ -119,18 +120,36 @@ Ends place r (found.Process p) old answer new = (answer ≡ taken.Done) × Begin
 Ends place r found.NoProcess old answer new = (answer ≡ taken.NoProcess) × (new ≡ old)
 Ends place r found.NoChild old answer new = (answer ≡ taken.NoChild) × (new ≡ old)
 
+-- the root has ended, or was never opened
+unfoldable pub is_root_over : List Seated → Bool
+is_root_over [] = true
+is_root_over (root ∷ seats) = is_over (state_in root).phase
+
+-- what becomes of a start that is planned: none comes once the root has ended, and under simple_one_for_one no child has an id
+unfoldable pub end_of_plan : List Seated → Seated → ActionEnd
+end_of_plan seats seat = if is_root_over seats then taken.Ended else if is_simple seat.base.flags.strategy then taken.NoIds else taken.Done
+
+-- what becomes of a request to shut down, where the root has ended or not
+unfoldable pub Stops : Bool → List Seated → ActionEnd → List Seated → Type 0
+Stops true old answer new = (answer ≡ taken.Ended) × (new ≡ old)
+Stops false old answer new = answer ≡ taken.Done
+
 -- what an action of a script, which is said to the supervisor at this place, does first
 unfoldable pub Acts : Action → ℕ → Seated → List Seated → ActionEnd → List Seated → Type 0
 Acts action.Nothing place seat old answer new = (answer ≡ taken.Done) × (new ≡ old)
 Acts (action.Exit c r) place seat old answer new = Ends place r (found_for c (state_in seat).rows) old answer new
-Acts (action.Start _ _) place seat old answer new = (answer ≡ taken.Done) × (new ≡ old)
+Acts (action.Start _ _) place seat old answer new = (answer ≡ end_of_plan old seat) × (new ≡ old)
 Acts (action.Hang c) place seat old answer new = new ≡ old
-Acts action.Stop place seat old answer new = answer ≡ taken.Done
+Acts action.Stop place seat old answer new = Stops (is_root_over old) old answer new
 Acts (action.Call c) place seat old answer new = (answer ≡ taken.Done) × ((n : ℕ) × Begins place (kind.Took (item.Call n c)) old new)
 
 -- the supervisor that a script means stands at this place, and its own children are meant
 abbrev pub ActsAt : Action → ℕ → List Seated → ActionEnd → List Seated → Type 0
 ActsAt a place old answer new = (seat : Seated) → IsAt old place seat → Acts a place seat old answer new
+
+-- the start of a child of the supervisor at this place is planned, or the answer says why it isn't
+abbrev pub PlansAt : ℕ → List Seated → ActionEnd → Type 0
+PlansAt place old answer = (seat : Seated) → IsAt old place seat → answer ≡ end_of_plan old seat
 
 -- the process that is meant is that of this child of the supervisor at this place
 abbrev pub EndsAt : ℕ → Reason → Child → List Seated → ActionEnd → List Seated → Type 0
@@ -155,8 +174,3 @@ AddsTree path tree old new =
 -- the supervisors of a tree, of which none was ever opened: one for each table, by their numbers
 abbrev pub IsPlanted : Tree → List Seated → Type 0
 IsPlanted tree seats = AddsTree [] tree [] seats
-
--- the root has ended, or was never opened
-unfoldable pub is_root_over : List Seated → Bool
-is_root_over [] = true
-is_root_over (root ∷ seats) = is_over (state_in root).phase

@@ -16,6 +16,8 @@ use Rattle.otp_rules.specs.Step.{step}
 use Rattle.otp_spec.specs.declared.flags.SupFlags.{SupFlags}
 use Rattle.otp_text.specs.Effects.{effect_line}
 use Rattle.otp_text.specs.Values.{child_name_text, process_text, reason_text}
+use Rattle.otp_try.specs.declared.script.Child.{Child}
+use Rattle.otp_try.specs.declared.script.Child.TheVariants as child
 use Rattle.otp_timeline.specs.Seconds.{seconds_text}
 
 -- a time in milliseconds, written in seconds
@@ -62,6 +64,16 @@ cause_text (cause.InitFailed id) = codes "child " ++ name_bytes id ++ codes " di
 -- what an order asks of a child: behind the word stands the path of its supervisor, which is empty for the root's
 unfoldable pub child_order : List ℕ → List ℕ → Option Name → ℕ → List ℕ
 child_order word path name number = word ++ path ++ child_name_text name ++ codes " " ++ process_text number ++ codes "\n"
+
+-- a child as a script names it, without its path
+unfoldable pub child_text : Child → List ℕ
+child_text (child.Named id) = name_bytes id
+child_text (child.Numbered number) = process_text number
+
+-- what this line of the script planned of a child, and the run never came to
+unfoldable pub unused_line : List ℕ → List ℕ → Child → ℕ → List ℕ
+unused_line word path c line =
+    codes "unused: " ++ word ++ path ++ child_text c ++ codes " (line " ++ decimal line ++ codes ")\n"
 
 -- what stands in front of an order that names no child: the path of its supervisor, if that is not the root
 unfoldable pub heading : List ℕ → List ℕ

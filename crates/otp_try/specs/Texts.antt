@@ -23,3 +23,4 @@ taken_text taken.NoProcess = codes "ignored: this child has no process now; rest
 taken_text taken.NoChild = codes "ignored: there is no such child; which lists the children"
 taken_text taken.TooLate = codes "ignored: that time has gone by; +TIME counts from the line before"
 taken_text taken.Ended = codes "ignored: the supervisor has ended; the line of its end says why"
+taken_text taken.NoIds = codes "ignored: children of simple_one_for_one have no ids, so no start of one can be planned"

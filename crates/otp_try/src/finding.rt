@@ -4,8 +4,9 @@ ghost use Rattle.std.specs.Prelude.{◌≡◌, ◌<◌, IfSome, length, position
 ghost use Rattle.otp_table.specs.Rows.{has_id, has_process, row_has};
 ghost use Rattle.otp_try.specs.Played.{found_at, found_for, found_in_state};
 
-use crate::script::Child;
+use crate::script::{Action, Child};
 use otp_reason::Name;
+use otp_rules::Call;
 use otp_table::{Row, RowState};
 
 /// What a script means by a child.
@@ -72,5 +73,23 @@ pub(crate) fn found_for(child: &Child, rows: &[Row]) -> Found
     match child {
         Child::Named(id) => found_at(rows, place_of_id(rows, id)),
         Child::Numbered(process) => found_at(rows, place_of_process(rows, *process)),
+    }
+}
+
+/// Whether a child has this id.
+pub(crate) fn is_known(id: &Name, rows: &[Row]) -> bool {
+    found_for(&Child::Named(*id), rows) != Found::NoChild
+}
+
+/// The child that a line names and that has to be there for it, by its id: that of a call, or one whose next start is
+/// planned.
+pub(crate) fn named_in(action: Action) -> Option<Name> {
+    match action {
+        Action::Call(Call::RestartChild(id)) => Some(id),
+        Action::Call(Call::DeleteChild(id)) => Some(id),
+        Action::Call(Call::GetChildspec(id)) => Some(id),
+        Action::Call(Call::TerminateChild(id)) => Some(id),
+        Action::Start(id, _) => Some(id),
+        _ => None,
     }
 }

@@ -6,6 +6,7 @@
 
 mod awaited;
 pub mod finding;
+mod help;
 mod planting;
 pub mod play;
 pub mod script;
@@ -15,6 +16,7 @@ mod state;
 mod telling;
 mod time;
 pub mod trial;
+mod unused;
 mod words;
 mod world;
 

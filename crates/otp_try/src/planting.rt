@@ -40,9 +40,7 @@ fn seat_of(alloc: Global, path: &[u8], supervisor: &SupSpec) -> Result<Seat, Hal
 {
     let mut name = Vec::new(alloc);
     name.extend_from_slice(path)?;
-    let mut specs = Vec::new(alloc);
-    specs.extend_from_slice(supervisor.specs())?;
-    Seat::new(alloc, name, SupSpec::new(supervisor.flags(), specs))
+    Seat::new(alloc, name, supervisor.try_clone(alloc)?)
 }
 
 impl Plants {

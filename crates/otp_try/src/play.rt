@@ -4,7 +4,8 @@ ghost use Rattle.std.specs.Prelude.{◌≡◌, ◌≤◌, ◌<◌, IfOk, IfSome,
 ghost use Rattle.otp_spec.specs.declared.limits.TheConstants.{MAX_READING};
 
 use crate::awaited::write_awaited;
-use crate::finding::{Found, found_for};
+use crate::finding::{is_known, named_in};
+use crate::help::{HELP, WELCOME, is_help};
 use crate::script::{Action, Child, ScriptFault, Step, When, read_step};
 use crate::seat::Seat;
 use crate::sketch::{Shows, Sketch};
@@ -12,10 +13,10 @@ use crate::state::write_state;
 use crate::telling::write_heading;
 use crate::time::write_time;
 use crate::trial::{ActionEnd, Halt, Trial};
-use crate::words::next_word;
+use crate::unused::{line_of_unknown, write_unused};
+use crate::words::end_of_lines;
 use otp_file::TreeSpec;
 use otp_reason::Name;
-use otp_rules::Call;
 use otp_sim::{Failed, Input, Output, PIECE, write_all};
 use otp_spec::MAX_READING;
 use otp_text::{LONGEST_LINE, write_number};
@@ -28,8 +29,8 @@ pub enum TryEnd {
     Done,
     /// The line with this number, counted from 1, can't be read.
     LineRefused(u64, ScriptFault),
-    /// The line with this number could do nothing: the child that it means is not there or has no process, or its time
-    /// has gone by.
+    /// The line with this number could do nothing: the child that it means is not there or has no process, its time has
+    /// gone by, or the supervisor has ended.
     LineMissed(u64, ActionEnd),
     /// The history has no room for another event.
     HistoryFull,
@@ -68,23 +69,6 @@ pub enum Writer {
     Person,
 }
 
-/// What a person may write at the prompt.
-const HELP: &str = "\
-crash CHILD [REASON]   its process ends, with error:crash if no reason is given\n\
-exit CHILD REASON      its process ends with this reason\n\
-fail ID [REASON]       its next start fails\n\
-ignore ID              its next start answers ignore\n\
-hang CHILD             it doesn't end when it is next asked to\n\
-stop                   the supervisor is asked to shut down\n\
-which, count, get ID, restart ID, terminate ID, delete ID, start ..\n\
-                       calls of the supervisor\n\
-at 10s, +500ms         the clock goes there, alone or before other words\n\
-CHILD is an id, or a process number as #3; below the root it has its path, as\n\
-sub/x. The end of the input ends the trial.\n";
-
-/// What a person is told first.
-const WELCOME: &str = "help lists what may be written here\n";
-
 /// What stands behind the number of a line that names a child which isn't there.
 const UNKNOWN_NAME: &str = ": there is no such child; which lists the children\n";
 
@@ -105,6 +89,7 @@ impl Play {
     /// A line of the script: what it does is put on the page.
     fn take_line(&mut self, line: &[u8]) -> Result<(), TryEnd> {
         self.lines = self.lines.saturating_add(1);
+        self.trial.begin_line(self.lines);
         if self.writer == Writer::Person && is_help(line) {
             self.page.extend_from_slice(HELP.as_bytes())?;
             return Ok(());
@@ -152,8 +137,8 @@ impl Play {
         }
     }
 
-    /// Whether a line is a call that names a child which the supervisor doesn't have. The answer is the core's; whoever
-    /// mistyped the name is told so beside it.
+    /// Whether a line names a child which the supervisor doesn't have, and is taken all the same: of a call the answer is
+    /// the core's, and for a start that is planned a later call may add the child. Whoever mistyped the name is told so.
     fn means_nobody(&self, step: Step<'_>) -> bool {
         let Some(id) = named_in(step.action) else {
             return false;
@@ -326,6 +311,21 @@ impl Play {
         self.page.extend_from_slice(b"> ")
     }
 
+    /// Half a line, where memory was refused within it, is taken off the page: lines are written whole.
+    fn cut_half_line(&mut self) {
+        let end = end_of_lines(self.page.as_slice());
+        self.page.truncate(end);
+    }
+
+    /// Where a picture is wanted, and the run has ended: what is not drawn yet is put on the page.
+    fn draw_last(&mut self) -> Result<(), AllocError> {
+        let drawn = self.draw_rest();
+        if drawn.is_err() {
+            self.cut_half_line();
+        }
+        drawn
+    }
+
     /// What is on the page is written, and gone from it.
     fn hand_out<W: Output>(&mut self, output: &mut W) -> Result<(), Failed> {
         write_all(output, self.page.as_slice())?;
@@ -345,30 +345,11 @@ fn write_standing(seat: &Seat, now: u64, out: &mut Vec<u8>) -> Result<(), AllocE
     write_state(&seat.flags(), seat.rows(), seat.kept_restarts(), now, out)
 }
 
-/// Whether a line asks for help.
-fn is_help(line: &[u8]) -> bool {
-    match next_word(line) {
-        None => false,
-        Some((word, _)) => word == b"help".as_slice(),
-    }
-}
-
-/// The child that a call names, which has to be there for the call.
-fn named_in(action: Action) -> Option<Name> {
-    match action {
-        Action::Call(Call::RestartChild(id)) => Some(id),
-        Action::Call(Call::DeleteChild(id)) => Some(id),
-        Action::Call(Call::GetChildspec(id)) => Some(id),
-        Action::Call(Call::TerminateChild(id)) => Some(id),
-        _ => None,
-    }
-}
-
 /// Whether the supervisor at this place has a child with this id.
 fn has_child(seats: &[Seat], place: usize, id: &Name) -> bool {
     match seats.get(place) {
         None => false,
-        Some(seat) => found_for(&Child::Named(*id), seat.rows()) != Found::NoChild,
+        Some(seat) => is_known(id, seat.rows()),
     }
 }
 
@@ -434,7 +415,19 @@ impl Play {
         self.page.extend_from_slice(b"\n")?;
         self.write_below()?;
         self.write_all_awaited()?;
-        Ok(())
+        write_unused(self.trial.world(), self.trial.seats(), &mut self.page)?;
+        self.judge()
+    }
+
+    /// Whether a line of the script could do nothing: it planned the start of a child that wasn't there, and none came.
+    fn judge(&self) -> Result<(), TryEnd> {
+        match line_of_unknown(self.trial.world().starts()) {
+            Some(line) if self.writer == Writer::Script => Err(TryEnd::LineMissed(
+                line,
+                ActionEnd::NoChild,
+            )),
+            _ => Ok(()),
+        }
     }
 }
 
@@ -466,7 +459,7 @@ fn sketch_of(alloc: Global, shows: Shows) -> Option<Sketch> {
 
 /// Plays the lines of the input on the supervisors of a tree, and writes what they order, or a picture of the run.
 ///
-/// Where the run ends early, what was told before is written all the same.
+/// Where the run ends early, what was told before is written all the same, to its last whole line.
 pub fn try_tree<R: Input, W: Output>(
     alloc: Global,
     tree: TreeSpec,
@@ -488,7 +481,10 @@ pub fn try_tree<R: Input, W: Output>(
         sketch: sketch_of(alloc, shows),
     };
     let ended = play.run(alloc, input, output);
-    let drawn = play.draw_rest();
+    if ended.is_err() {
+        play.cut_half_line();
+    }
+    let drawn = play.draw_last();
     if ended == Err(TryEnd::OutputFailed) || play.hand_out(output).is_err() {
         return TryEnd::OutputFailed;
     }

@@ -44,10 +44,7 @@ impl Model for Seat {
 fn core_of(alloc: Global, supervisor: &SupSpec) -> Result<Core, Halt>
     ensures { IfOk result (λ core. core ≡ record { base = empty_state supervisor.now.flags supervisor.now.specs; history = []; effects = []; prepared = false }) }
 {
-    match Core::open(alloc, supervisor.flags(), supervisor.specs()) {
-        Ok(core) => Ok(core),
-        Err(_) => Err(Halt::OutOfMemory),
-    }
+    Ok(Core::of(alloc, supervisor.try_clone(alloc)?))
 }
 
 impl Seat {

@@ -5,19 +5,19 @@ ghost use Rattle.otp_reason.specs.declared.note.Note.TheVariants as note;
 ghost use Rattle.otp_rules.specs.declared.event.Item.TheVariants as item;
 ghost use Rattle.otp_rules.specs.declared.event.Kind.TheVariants as kind;
 ghost use Rattle.otp_spec.specs.declared.limits.TheConstants.{MAX_READING};
-ghost use Rattle.otp_try.specs.Played.{ActsAt, Begins, EndsAt, IsPlanted, Seated, Tells, is_root_over};
+ghost use Rattle.otp_try.specs.Played.{ActsAt, Begins, EndsAt, IsPlanted, PlansAt, Seated, Stops, Tells, is_root_over};
 ghost use Rattle.otp_try.specs.Sketched.{moment_of};
 ghost use Rattle.otp_try.specs.Texts.{taken_text};
 ghost use Rattle.otp_try.specs.declared.trial.ActionEnd.TheVariants.{Done};
 
-use crate::finding::{Found, found_for};
+use crate::finding::{Found, found_for, is_known};
 use crate::planting::plant;
-use crate::script::{Action, Child};
+use crate::script::{Action, Child, NextStart};
 use crate::seat::Seat;
 use crate::sketch::moment_of;
 use crate::world::{Deed, What, World};
 use otp_file::TreeSpec;
-use otp_reason::{Note, Reason};
+use otp_reason::{Name, Note, Reason};
 use otp_rules::{Call, Item, Kind};
 use otp_text::Printer;
 use otp_timeline::Moment;
@@ -56,6 +56,8 @@ pub enum ActionEnd {
     TooLate,
     /// The supervisor has ended, and has no children. Nothing happened.
     Ended,
+    /// The children of its supervisor have no ids, so no start of one can be planned. Nothing happened.
+    NoIds,
 }
 
 impl ActionEnd {
@@ -72,6 +74,8 @@ impl ActionEnd {
             ActionEnd::TooLate =>
                 "ignored: that time has gone by; +TIME counts from the line before",
             ActionEnd::Ended => "ignored: the supervisor has ended; the line of its end says why",
+            ActionEnd::NoIds =>
+                "ignored: children of simple_one_for_one have no ids, so no start of one can be planned",
         }
     }
 }
@@ -207,6 +211,18 @@ impl Trial {
             [] => true,
             [root, ..] => root.has_ended(),
         }
+    }
+
+    /// What a script said beforehand, and how the supervisors stand.
+    pub(crate) fn world(&self) -> &World {
+        &self.world
+    }
+
+    /// What is planned from now on is planned by this line of the script.
+    pub(crate) fn begin_line(&mut self, line: u64)
+        ensures { self.new ≡ self.old }
+    {
+        self.world.begin_line(line);
     }
 
     /// The clock, in milliseconds since the beginning.
@@ -351,16 +367,9 @@ impl Trial {
         match action {
             Action::Nothing => Ok(ActionEnd::Done),
             Action::Exit(child, reason) => self.end_process(place, &child, reason, out),
-            Action::Start(id, start) => {
-                self.world.plan_start(place, id, start)?;
-                Ok(ActionEnd::Done)
-            }
+            Action::Start(id, start) => self.plan_start(place, id, start),
             Action::Hang(child) => self.hang(place, child),
-            Action::Stop => {
-                self.world.stop(place);
-                self.settle(out)?;
-                Ok(ActionEnd::Done)
-            }
+            Action::Stop => self.stop(place, out),
             Action::Call(call) => self.call(place, call, out),
         }
     }
@@ -411,6 +420,39 @@ impl Trial {
             Found::NoProcess => Ok(ActionEnd::NoProcess),
             Found::NoChild => Ok(ActionEnd::NoChild),
         }
+    }
+
+    /// The next start of a child of the supervisor at this place answers so. The child need not be there: a call may add it.
+    #[tactic(auto, unfolding(crate::specs::Played::end_of_plan))]
+    fn plan_start(&mut self, place: usize, id: Name, start: NextStart) -> Result<ActionEnd, Halt>
+        requires { place < length self.old }
+        ensures same { self.new ≡ self.old }
+        ensures plans { IfOk result (λ taken. PlansAt place self.old taken) }
+    {
+        if self.has_ended() {
+            return Ok(ActionEnd::Ended);
+        }
+        let seat = &self.seats[place];
+        if seat.flags().strategy.is_simple() {
+            return Ok(ActionEnd::NoIds);
+        }
+        let is_known = is_known(&id, seat.rows());
+        self.world.plan_start(place, id, start, is_known)?;
+        Ok(ActionEnd::Done)
+    }
+
+    /// The supervisor at this place is asked to shut down, and all that follows from it happens.
+    #[tactic(auto, unfolding(crate::specs::Played::Stops))]
+    fn stop(&mut self, place: usize, out: &mut Vec<u8>) -> Result<ActionEnd, Halt>
+        ensures told { OnOk result (Tells self.old self.new out.old.items out.new.items) }
+        ensures stops { IfOk result (λ taken. Stops (is_root_over self.old) self.old taken self.new) }
+    {
+        if self.has_ended() {
+            return Ok(ActionEnd::Ended);
+        }
+        self.world.stop(place);
+        self.settle(out)?;
+        Ok(ActionEnd::Done)
     }
 
     /// A child of the supervisor at this place will not end when it is next asked to shut down.

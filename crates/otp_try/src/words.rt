@@ -34,17 +34,31 @@ fn end_of_words(line: &[u8]) -> usize
     end
 }
 
-/// The place after the last `/`, or 0 where there is none.
-pub(crate) fn end_of_path(word: &[u8]) -> usize
-    ensures { result ≤ length word.now }
+/// The place after the last such byte, or 0 where there is none.
+fn end_after_last(text: &[u8], byte: u8) -> usize
+    ensures { result ≤ length text.now }
 {
     let mut end = 0;
-    for place in 0..word.len() {
-        if word[place] == b'/' {
+    for place in 0..text.len() {
+        if text[place] == byte {
             end = place + 1;
         }
     }
     end
+}
+
+/// The place after the last `/`, or 0 where there is none.
+pub(crate) fn end_of_path(word: &[u8]) -> usize
+    ensures { result ≤ length word.now }
+{
+    end_after_last(word, b'/')
+}
+
+/// The place after the last whole line, or 0 where there is none.
+pub(crate) fn end_of_lines(page: &[u8]) -> usize
+    ensures { result ≤ length page.now }
+{
+    end_after_last(page, b'\n')
 }
 
 /// The line without what stands after its last word.

@@ -13,17 +13,23 @@ use std::collections::VecDeque;
 
 /// That the next start of the child with this id, of the supervisor at this place, answers so.
 #[derive(Clone, Copy, Debug, PartialEq, Eq)]
-struct Plan {
-    place: usize,
-    id: Name,
-    start: NextStart,
+pub(crate) struct Plan {
+    pub place: usize,
+    pub id: Name,
+    pub start: NextStart,
+    /// The line that says so.
+    pub line: u64,
+    /// The child was there then. Otherwise a later `start` may add it.
+    pub is_known: bool,
 }
 
 /// That a child of the supervisor at this place doesn't end when it is next asked to shut down.
 #[derive(Clone, Copy, Debug, PartialEq, Eq)]
-struct Hang {
-    place: usize,
-    child: Child,
+pub(crate) struct Hang {
+    pub place: usize,
+    pub child: Child,
+    /// The line that says so.
+    pub line: u64,
 }
 
 /// Whose child a supervisor is, and how it stands.
@@ -88,6 +94,8 @@ pub(crate) struct World {
     starts: Vec<Plan>,
     hanging: Vec<Hang>,
     deeds: VecDeque<Deed>,
+    /// The line that is played.
+    line: u64,
 }
 
 /// What a process tells whose start went so.
@@ -146,26 +154,51 @@ impl World {
             starts: Vec::new(alloc),
             hanging: Vec::new(alloc),
             deeds: VecDeque::new(alloc),
+            line: 0,
         }
     }
 
-    /// The next start of this child of the supervisor at this place answers so.
+    /// What is planned from now on is planned by this line.
+    pub fn begin_line(&mut self, line: u64) {
+        self.line = line;
+    }
+
+    /// The next start of this child of the supervisor at this place, which has it or not, answers so.
     pub fn plan_start(
         &mut self,
         place: usize,
         id: Name,
         start: NextStart,
+        is_known: bool,
     ) -> Result<(), AllocError> {
+        let line = self.line;
         self.starts
-            .push(Plan { place, id, start })
+            .push(Plan {
+                place,
+                id,
+                start,
+                line,
+                is_known,
+            })
             .map_err(|_| AllocError)
     }
 
     /// The child doesn't end when it is next asked to shut down.
     pub fn plan_hang(&mut self, place: usize, child: Child) -> Result<(), AllocError> {
+        let line = self.line;
         self.hanging
-            .push(Hang { place, child })
+            .push(Hang { place, child, line })
             .map_err(|_| AllocError)
+    }
+
+    /// What starts answer that have not come yet, in the order of the lines that say so.
+    pub fn starts(&self) -> &[Plan] {
+        self.starts.as_slice()
+    }
+
+    /// The children that will hang and were not asked to shut down yet, in the order of the lines that say so.
+    pub fn hanging(&self) -> &[Hang] {
+        self.hanging.as_slice()
     }
 
     /// What comes next, if something does.

@@ -7,7 +7,7 @@ use otp_job::{Body, Job, Told, Turn};
 use otp_reason::{Name, Note, Reason, Started};
 use otp_run::RunNaming;
 use otp_signals::WordsNaming;
-use otp_spec::{ChildSpec, SupFlags};
+use otp_spec::{ChildSpec, SpecFault, SupFlags, SupSpec};
 use otp_tree::{Client, Hand, Millis, Session, System, SystemFault, TablePlan, with_system};
 use std::alloc::{AllocError, Global};
 use std::sync::Wait;
@@ -35,25 +35,60 @@ impl Job for Steady {
     }
 }
 
-/// The plan of a tree: one supervisor, of two steady workers.
-fn plans(alloc: Global) -> Result<Vec<TablePlan<Steady, BoxedSubsystem>>, AllocError>
-    ensures { IfOk result (λ plans. length plans.items ≡ 1) }
-{
+/// Why no tree was run.
+#[derive(Clone, Copy, Debug, PartialEq, Eq)]
+pub enum NoRun {
+    /// The plan says an unlawful supervisor.
+    Unlawful(SpecFault),
+    /// The tree was not opened.
+    NotOpened(SystemFault),
+    OutOfMemory,
+}
+
+impl From<SpecFault> for NoRun {
+    fn from(fault: SpecFault) -> Self {
+        NoRun::Unlawful(fault)
+    }
+}
+
+impl From<SystemFault> for NoRun {
+    fn from(fault: SystemFault) -> Self {
+        NoRun::NotOpened(fault)
+    }
+}
+
+impl From<AllocError> for NoRun {
+    fn from(_: AllocError) -> Self {
+        NoRun::OutOfMemory
+    }
+}
+
+type SteadyBody = Body<Steady, BoxedSubsystem>;
+
+/// Two children, and a steady worker for each.
+fn children(alloc: Global) -> Result<(Vec<ChildSpec>, Vec<SteadyBody>), AllocError> {
     let mut specs = Vec::new(alloc);
-    let mut bodies: Vec<Body<Steady, BoxedSubsystem>> = Vec::new(alloc);
+    let mut bodies: Vec<SteadyBody> = Vec::new(alloc);
     for id in [b"a", b"b"] {
         if let Some(id) = Name::new(id) {
             specs.push(ChildSpec::new(id, id))?;
             bodies.push(Body::Worker(Steady))?;
         }
     }
+    Ok((specs, bodies))
+}
+
+/// The plan of a tree: one supervisor, of two steady workers.
+fn plans(alloc: Global) -> Result<Vec<TablePlan<Steady, BoxedSubsystem>>, NoRun>
+    ensures { IfOk result (λ plans. length plans.items ≡ 1) }
+{
+    let (specs, bodies) = children(alloc)?;
+    let supervisor = SupSpec::check(SupFlags::default(), specs)?;
     let mut plans = Vec::new(alloc);
-    plans.push(TablePlan {
-        flags: SupFlags::default(),
-        specs,
-        bodies,
-    })?;
-    Ok(plans)
+    match plans.push(TablePlan { supervisor, bodies }) {
+        Ok(()) => Ok(plans),
+        Err(_) => Err(NoRun::OutOfMemory),
+    }
 }
 
 /// A clock that stands still.
@@ -118,6 +153,6 @@ where
 }
 
 /// A tree of one supervisor, for two hands.
-pub fn up_and_down<R: Wait>(rt: &R, alloc: Global) -> Result<Run, SystemFault> {
-    with_system(rt, alloc, plans(alloc)?, 2, UpAndDown)
+pub fn up_and_down<R: Wait>(rt: &R, alloc: Global) -> Result<Run, NoRun> {
+    Ok(with_system(rt, alloc, plans(alloc)?, 2, UpAndDown)?)
 }

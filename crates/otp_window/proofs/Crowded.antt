@@ -175,10 +175,6 @@ kept_on limit t stamps =
     let place : from + (length (drop from all) - (limit + 1)) ≡ length all - (limit + 1) = omega (arith, long, rest) in
     ap (λ (xs : List ℕ). kept_of limit xs) part ∙ drop-drop (length (drop from all) - (limit + 1)) from all ∙ ap (λ (n : ℕ). drop n all) place
 
--- never more than one beyond the limit
-pub kept_few : (limit : ℕ) (stamps : List ℕ) → length (kept_of limit stamps) ≤ limit + 1
-kept_few limit stamps = omega (arith, length-drop (length stamps - (limit + 1)) stamps)
-
 alike_by : (limit period t : ℕ) (one other : List ℕ) → kept_of limit one ≡ kept_of limit other → IsNonDecreasing one → All (λ s. s ≤ t) one → IsNonDecreasing other → All (λ s. s ≤ t) other
     → (none : Bool) → none ≡ nat_le limit 0 → (few : Bool) → few ≡ nat_lt (length (kept_of limit one)) limit
     → nat_lt limit (in_period period (one ++ t ∷ []) t) ≡ nat_lt limit (in_period period (other ++ t ∷ []) t)

@@ -239,7 +239,7 @@ fn orders_and_sentences(rt: HostRuntime) -> Result<(), Fail> {
     Ok(())
 }
 
-/// What `check`, `tree`, `try` and `limits` write, tell and end with.
+/// What `check`, `tree`, `try`, `limits` and `run` write, tell and end with.
 #[test]
 fn checks_and_pictures(rt: HostRuntime) -> Result<(), Fail> {
     let alloc = rt.alloc();
@@ -250,6 +250,10 @@ fn checks_and_pictures(rt: HostRuntime) -> Result<(), Fail> {
         (["check", "three"], TREE, "", NO_FILE, 1),
         (["check", "-"], TREE, "-: a lawful tree\n", "", 0),
         (["limits", "-"], TREE, LIMITS, "", 0),
+        (["tree", "-"], TREE, PICTURE, "", 0),
+        (["run", "-"], STEADY, REPORT, "", 0),
+        (["run", "tree"], STEADY, REPORT, "", 0),
+        (["run", "three"], STEADY, "", "tree not read\n", 1),
         (["tree", "tree"], TREE, PICTURE, "", 0),
         (
             ["tree", "tree"],
@@ -320,6 +324,10 @@ const PICTURE: &str = "one_for_one, 1 restart in 5 s\n`-- a  permanent  worker  
 
 const UP: &str = "0.000 s  start a #1\n0.000 s  ready\n0.000 s  1 up, 0/1 restarts in 5 s\n";
 
+const STEADY: &str = "[[child]]\nid = \"a\"\nstart = \"steady\"\n";
+
+const REPORT: &str = "table 0 starts 1 restarts 0 end shutdown\nlive 0\n";
+
 const LIMITS: &str =
     "child                             burst      interval  stops  starts  gives up\na                                     1       5001 ms      0       1  supervisor\na crash of a\n  stops  nothing\n  starts a\n";
 
@@ -372,7 +380,12 @@ fn is_told<H: Abort + Threads + Wait + Sync>(
 #[test]
 fn refused_words(rt: HostRuntime) -> Result<(), Fail> {
     let alloc = rt.alloc();
-    is_told(&rt, alloc, &["otp"], "usage: otp sim FILE\n")?;
+    is_told(
+        &rt,
+        alloc,
+        &["otp"],
+        "usage: otp COMMAND FILE; otp --help says which commands there are\n",
+    )?;
     is_told(&rt, alloc, &["otp", "simulate"], "simulate")?;
     is_told(&rt, alloc, &["otp", "tree.toml"], "otp try FILE")?;
     is_told(&rt, alloc, &["otp", "sim"], "<FILE>")?;

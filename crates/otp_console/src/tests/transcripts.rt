@@ -1,7 +1,7 @@
 //! The transcripts of the repository. `examples/check --table` writes this file from theirs.
 
 /// The name of each file that they name, and its text.
-pub(super) const FILES: [(&str, &str); 43] = [
+pub(super) const FILES: [(&str, &str); 45] = [
     (
         "all_significant.events",
         r##"up 1
@@ -558,6 +558,28 @@ restrt = "transient"
 "##,
     ),
     (
+        "slip_nested.toml",
+        r##"# A misspelt key in the second worker of a pool, which is a supervisor of its own.
+
+[[child]]
+id = "db"
+start = "db"
+
+[[child]]
+id = "pool"
+start = "pool"
+
+[[child.tree.child]]
+id = "a"
+start = "worker"
+
+[[child.tree.child]]
+id = "b"
+start = "worker"
+restat = "transient"
+"##,
+    ),
+    (
         "slip_number.toml",
         r##"# The intensity is outside its limits, which are 0 and 1000.
 
@@ -662,6 +684,14 @@ at 4s crash db
 "##,
     ),
     (
+        "storm_unused.script",
+        r##"# A misspelt child, and a start that is planned too late: nothing comes of either.
+fail bd
+crash cache
+ignore web
+"##,
+    ),
+    (
         "stubborn.toml",
         r##"# A worker that traps exits and goes on, whatever it is told.
 # Look for: it has no time to shut down, so the root kills it at once, and ends.
@@ -714,7 +744,7 @@ start = "nap"
 ];
 
 /// The words, the file of the lines of standard input or `-`, and what is written and told, with the status.
-pub(super) const TRANSCRIPTS: [(&str, &str, &str); 36] = [
+pub(super) const TRANSCRIPTS: [(&str, &str, &str); 38] = [
     (
         "sim all_significant.toml",
         "all_significant.events",
@@ -1089,6 +1119,29 @@ status 0
 "##,
     ),
     (
+        "try storm.toml storm_unused.script",
+        "-",
+        r##"0.000 s  start db #1
+0.000 s  start cache #2
+0.000 s  start web #3
+0.000 s  ready
+line 2: fail bd
+line 2: there is no such child; which lists the children
+line 3: crash cache
+0.000 s  ask web #3
+0.000 s  ask db #1
+0.000 s  start db #4
+0.000 s  start cache #5
+0.000 s  start web #6
+line 4: ignore web
+0.000 s  3 up, 1/3 restarts in 10 s
+unused: fail bd (line 2)
+unused: ignore web (line 4)
+line 2: ignored: there is no such child; which lists the children
+status 5
+"##,
+    ),
+    (
         "try --timeline nested.toml nested_given_up.script",
         "-",
         r##"#N runs as process N, +#N starts, -#N is to end; retry: its start failed
@@ -1274,6 +1327,18 @@ status 0
 "##,
     ),
     (
+        "tree nested.toml",
+        "-",
+        r##"one_for_one, 2 restarts in 60 s
+|-- db    permanent  worker      5000 ms
+`-- pool  permanent  supervisor  infinity
+  one_for_one, 1 restart in 10 s
+  |-- a  permanent  worker      5000 ms
+  `-- b  permanent  worker      5000 ms
+status 0
+"##,
+    ),
+    (
         "check storm.toml strom.toml",
         "-",
         r##"storm.toml: a lawful tree
@@ -1353,13 +1418,14 @@ status 0
 "##,
     ),
     (
-        "check slip_key.toml slip_word.toml slip_number.toml slip_twice.toml slip_quote.toml storm.toml",
+        "check slip_key.toml slip_word.toml slip_number.toml slip_twice.toml slip_nested.toml slip_quote.toml storm.toml",
         "-",
         r##"slip_key.toml: E11: child 3 (web): unknown key restrt; allowed: id start restart significant shutdown type modules tree; did you mean restart?
 slip_word.toml: E13: supervisor, strategy: read "one_for_al"; allowed: "one_for_one", "one_for_all", "rest_for_one", "simple_one_for_one"; did you mean one_for_all?
 slip_number.toml: E1: supervisor, intensity: read 1001; allowed: 0 to 1000
 slip_twice.toml: E3: child 2 (db): an earlier child has this id; each id stands once
-slip_quote.toml: E10: TOML parse error at line 4, column 9: invalid string
+slip_nested.toml: E11: child 2 (pool), child 2 (b): unknown key restat; allowed: id start restart significant shutdown type modules tree; did you mean restart?
+slip_quote.toml: E10: TOML parse error at line 4, column 9: invalid string; a text stands between two quotes, on one line
 storm.toml: a lawful tree
 status 1
 "##,

@@ -1,5 +1,5 @@
 use Rattle.std.proofs.Common.{◌≡◌, ◌+◌, ◌≤◌, ◌++◌, drop, map, Some, None}
-use Rattle.otp_file.specs.declared.limits.TheConstants.{MAX_TABLES}
+use Rattle.otp_spec.specs.declared.limits.TheConstants.{MAX_TABLES}
 use Rattle.otp_jobs.specs.Plans.{bodies_from, total, unknown_from}
 use Rattle.otp_jobs.proofs.plan.bodies_of.Given as goal
 

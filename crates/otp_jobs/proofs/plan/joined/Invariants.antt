@@ -1,5 +1,5 @@
 use Rattle.std.proofs.Common.{◌≡◌, ◌+◌, ◌-◌, ◌≤◌}
-use Rattle.otp_file.specs.declared.limits.TheConstants.{MAX_TABLES}
+use Rattle.otp_spec.specs.declared.limits.TheConstants.{MAX_TABLES}
 use Rattle.otp_jobs.specs.Plans.{joined, total}
 use Rattle.otp_jobs.proofs.plan.joined.Given as goal
 

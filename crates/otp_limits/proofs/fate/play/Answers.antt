@@ -7,8 +7,8 @@ use Rattle.otp_limits.proofs.fate.play.Goals as goal
 pub returns : goal.returns
 returns c =
     let opened : Scene = c.in_ok-stage.stage in
-    let opens : Opens c.args.flags.now c.args.specs.now opened =
-    IfOk-at_ok (λ (s : Scene). Opens c.args.flags.now c.args.specs.now s) c.in_ok-stage.was c.open.ensures in
+    let opens : Opens c.args.supervisor.now.flags c.args.supervisor.now.specs opened =
+    IfOk-at_ok (λ (s : Scene). Opens c.args.supervisor.now.flags c.args.supervisor.now.specs s) c.in_ok-stage.was c.open.ensures in
     let Ends : Fate → Type 0 = Fares c.args.id.now c.args.gap c.args.crashes opened in
-    IfOk-weaker c.fare.result Ends (Plays c.args.flags.now c.args.specs.now c.args.id.now c.args.gap c.args.crashes)
+    IfOk-weaker c.fare.result Ends (Plays c.args.supervisor.now.flags c.args.supervisor.now.specs c.args.id.now c.args.gap c.args.crashes)
     (λ fate fares. record { opened = opened; opens = opens; fares = fares }) c.fare.ensures

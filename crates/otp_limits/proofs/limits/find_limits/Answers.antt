@@ -13,12 +13,12 @@ loop-spec-preserved c =
     let cost : Cost = c.in_ok-cost.cost in
     let next : c.loop-spec.spec-index + 1 ≡ suc c.loop-spec.spec-index = omega arith in
     let each : List Cost = c.loop-spec.invariant.0 in
-    let are : AreCosts c.args.flags.now c.args.specs.now _ (each ++ cost ∷ []) =
-    one_more (IsCost c.args.flags.now c.args.specs.now) _ _ each cost c.loop-spec.invariant.1.0 c.in_ok-cost.ensures in (
+    let are : AreCosts c.args.supervisor.now.flags c.args.supervisor.now.specs _ (each ++ cost ∷ []) =
+    one_more (IsCost c.args.supervisor.now.flags c.args.supervisor.now.specs) _ _ each cost c.loop-spec.invariant.1.0 c.in_ok-cost.ensures in (
       each ++ cost ∷ [],
       (
-        subst (λ (xs : List ChildSpec). AreCosts c.args.flags.now c.args.specs.now xs (each ++ cost ∷ []))
-            (sym (ap (λ (n : ℕ). take n c.args.specs.now) next ∙ take-suc c.args.specs.now c.loop-spec.spec-index _ c.loop-spec-test.true)) are,
+        subst (λ (xs : List ChildSpec). AreCosts c.args.supervisor.now.flags c.args.supervisor.now.specs xs (each ++ cost ∷ []))
+            (sym (ap (λ (n : ℕ). take n c.specs-specs.result.now) next ∙ take-suc c.specs-specs.result.now c.loop-spec.spec-index _ c.loop-spec-test.true)) are,
         c.in_ok-put_in.ensures ∙ ap (put_in is_worse cost) c.loop-spec.invariant.1.1 ∙ sym (ranked_append is_worse [] each (cost ∷ [])),
       ),
     )

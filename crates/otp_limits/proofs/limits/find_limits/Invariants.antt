@@ -6,4 +6,4 @@ use Rattle.otp_limits.proofs.limits.find_limits.Given as goal
 
 abbrev pub invariant-loop-spec : goal.invariant-loop-spec
 invariant-loop-spec l =
-    (each : List Cost) × (AreCosts l.flags l.specs (take l.spec-index l.specs) each × (l.costs.items ≡ ranked is_worse [] each))
+    (each : List Cost) × (AreCosts l.supervisor.flags l.supervisor.specs (take l.spec-index l.specs) each × (l.costs.items ≡ ranked is_worse [] each))

@@ -3,5 +3,5 @@ use Rattle.otp_limits.proofs.steady.search.Goals as goal
 
 pub returns : goal.returns
 returns c =
-    apart c.args.flags.now c.args.specs.now c.args.id.now c.halving.short c.halving.long c.halving.invariant.0 c.halving-test.false
+    apart c.args.supervisor.now.flags c.args.supervisor.now.specs c.args.id.now c.halving.short c.halving.long c.halving.invariant.0 c.halving-test.false
     c.halving.invariant.2 c.halving.invariant.3

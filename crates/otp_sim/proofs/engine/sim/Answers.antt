@@ -6,7 +6,7 @@ use Rattle.otp_sim.proofs.engine.sim.Goals as goal
 
 pub serve-requires : goal.serve-requires
 serve-requires g c =
-    ap (λ (s : Sim). s.lines) c.new-session.ensures ∙ ap (λ (s : Sim). s.lines) c.in-Ok.ensures ∙ opened_lines c.args.supervisor.flags c.args.supervisor.specs
+    ap (λ (s : Sim). s.lines) c.in-Ok.ensures ∙ opened_lines c.args.supervisor.flags c.args.supervisor.specs
 
 pub returns-in_default : goal.returns-in_default
 returns-in_default g c =
@@ -20,5 +20,5 @@ returns-in_default g c =
 
 pub returns : goal.returns
 returns g c =
-    writes_from c.serve.result (with_text c.open.new.out.items c.new-session.result.player) (opened c.args.supervisor.flags c.args.supervisor.specs) _ _
-    (ap (with_text c.open.new.out.items) c.new-session.ensures ∙ c.in-Ok.ensures) c.serve.ensures
+    writes_from c.serve.result (with_text c.open.new.out.items c.in-Ok.player) (opened c.args.supervisor.flags c.args.supervisor.specs) _ _
+    c.in-Ok.ensures c.serve.ensures

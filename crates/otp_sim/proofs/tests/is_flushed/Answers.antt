@@ -5,4 +5,4 @@ use Rattle.otp_sim.proofs.tests.is_flushed.Goals as goal
 
 pub serve-ended-requires : goal.serve-ended-requires
 serve-ended-requires c =
-    ap (λ (s : Sim). s.lines) c.new.ensures ∙ ap (λ (s : Sim). s.lines) c.in_ok-player.ensures ∙ opened_lines _ _
+    ap (λ (s : Sim). s.lines) c.in_ok-player.ensures ∙ opened_lines _ _

@@ -43,12 +43,12 @@ returns-clause-homes g c = λ same has.
       stay = c.processes_stay.ensures.stay;
       heard = c.ends_tell_started.ensures.heard;
       started = c.ends_tell_started.ensures.started;
-      bare = c.ended_has_no_rows.ensures;
+      bare = c.ended_has_no_rows.ensures.from_empty;
       named = c.orders_name_rows.ensures.from_empty;
       owned = c.processes_are_owned.ensures.from_empty;
       works = c.number_starts_work.ensures;
       plan = c.step_keeps_plan.ensures;
-      lived = c.processes_lived.ensures;
+      lived = c.processes_lived.ensures.from_empty;
     } in
     let Has : List Kept → Type 0 = λ l. HasBodies c.happen.new.self l in
     subst Has (sym is) (bodies_happened laws c.args.office.now c.happen.new.self c.args.reading c.args.kind c.args.bodies.now.kept c.keeps_rules.ensures c.happen.ensures c.requires.outbox c.requires.over same has)

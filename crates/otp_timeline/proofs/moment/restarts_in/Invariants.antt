@@ -1,5 +1,5 @@
 use Rattle.std.proofs.Common.{◌≡◌, ◌+◌, ◌≤◌, drop}
-use Rattle.otp_timeline.specs.Moments.{is_in_period}
+use Rattle.otp_window.specs.Period.{is_in_period}
 use Rattle.std.specs.Prelude.{count_by}
 use Rattle.otp_timeline.proofs.moment.restarts_in.Given as goal
 

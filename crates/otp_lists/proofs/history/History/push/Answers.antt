@@ -1,7 +1,6 @@
-use Rattle.std.proofs.Common.{ap, arith, ◌≡◌, ◌∙◌, ◌++◌, ◌∷◌, [], ℕ, List, map, sym}
+use Rattle.std.proofs.Common.{ap, arith, ◌∙◌, ◌++◌, ◌∷◌, [], ℕ, map}
 use Rattle.std.specs.Prelude.{Option}
 use Rattle.otp_reason.specs.Texts.{text_block}
-use Rattle.otp_rules.specs.declared.event.Event.{Event}
 use Rattle.otp_lists.specs.declared.history.ShortEvent.{ShortEvent}
 use Rattle.otp_lists.specs.Events.{calls_in, terms_in, Events}
 use Rattle.otp_lists.specs.HistoryInside.{event_of}

@@ -1,5 +1,4 @@
-use Rattle.std.proofs.Common.{◌≡◌, ◌+◌, ◌≤◌, drop, vec_len, vec_capacity}
-use Rattle.std.specs.VecDeque.{deque_len}
+use Rattle.std.proofs.Common.{◌≡◌, ◌+◌, ◌≤◌, drop, length, vec_len, vec_capacity}
 use Rattle.otp_rules.specs.Stops.{stop_each}
 use Rattle.otp_machine.specs.Seen.{outcome_of}
 use Rattle.otp_machine.proofs.machine.Machine.stop_each.Given as goal
@@ -11,5 +10,5 @@ invariant-loop-number l =
       rest : l.self ≡ record l.fn.self { rows = l.self.rows; waiting = l.self.waiting; orders = l.self.orders };
       orders : vec_len l.self.orders ≤ vec_len l.fn.self.orders + l.number-index;
       capacity : vec_capacity l.self.orders ≡ vec_capacity l.fn.self.orders;
-      waiting : deque_len l.self.waiting ≤ deque_len l.fn.self.waiting;
+      waiting : length l.self.waiting.items ≤ length l.fn.self.waiting.items;
     }

@@ -87,4 +87,4 @@ returns-clause-ok c =
           (text ∙ ap (λ (t : List ℕ). c.args.out.now.items ++ t) printed)
           ∙ ap (λ (v : Sim). happen c.args.kind (with_text c.args.out.now.items v)) c.self.view_is
       | Err _ ↦ λ x. x
-    ]) c.print_orders-printed.ensures
+    ]) c.print_orders-printed.ensures.ok

@@ -2,6 +2,7 @@ use Rattle.std.proofs.Common.{◌≡◌, ◌<◌, ◌∙◌, ap, arith, sym, Som
 use Rattle.otp_rules.specs.declared.event.Kind.{Kind}
 use Rattle.otp_sim.specs.Sim.{Sim, happen, next_kind, settled}
 use Rattle.otp_sim.specs.Runs.{with_text}
+use Rattle.otp_sim.proofs.Texts.{begins_then}
 use Rattle.otp_sim.proofs.Settled.{remaining, remaining_falls, settled_done, settled_on}
 use Rattle.otp_sim.proofs.player.Player.settle.Goals as goal
 
@@ -24,6 +25,7 @@ loop-kind-preserved c =
     record {
       leads = ap settled c.in_ok-happen.ensures.ok ∙ sym (settled_on kind before next) ∙ c.loop-kind.invariant.leads;
       lines = c.in_ok-happen.ensures.lines ∙ c.loop-kind.invariant.lines;
+      kept = begins_then c.args.out.now.items c.loop-kind.out.items c.happen.new.out.items c.loop-kind.invariant.kept c.happen.ensures.kept;
     }
 
 pub returns-clause-ok : goal.returns-clause-ok

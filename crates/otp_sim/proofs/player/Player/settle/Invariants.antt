@@ -1,4 +1,5 @@
 use Rattle.std.proofs.Common.{◌≡◌}
+use Rattle.otp_sim.specs.Devices.{Begins}
 use Rattle.otp_sim.specs.Sim.{settled}
 use Rattle.otp_sim.specs.Runs.{with_text}
 use Rattle.otp_sim.proofs.Settled.{remaining}
@@ -9,6 +10,7 @@ invariant-loop-kind l =
     record {
       leads : settled (with_text l.out.items l.self) ≡ settled (with_text l.fn.out.items l.fn.self);
       lines : l.self.lines ≡ l.fn.self.lines;
+      kept : Begins l.fn.out.items l.out.items;
     }
 
 abbrev pub decreases-loop-kind : goal.decreases-loop-kind

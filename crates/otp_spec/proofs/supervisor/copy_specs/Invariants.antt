@@ -1,5 +1,5 @@
 use Rattle.std.proofs.Common.{◌≡◌, ◌≤◌, length, take, vec_len, vec_capacity}
-use Rattle.otp_core.proofs.opening.copy_specs.Given as goal
+use Rattle.otp_spec.proofs.supervisor.copy_specs.Given as goal
 
 abbrev pub invariant-loop-spec : goal.invariant-loop-spec
 invariant-loop-spec l =
