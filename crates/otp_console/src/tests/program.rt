@@ -61,6 +61,17 @@ impl Gate for Still {
     }
 }
 
+/// The bytes of a file that the transcripts name. (Bytes, since with so many files it takes too long to prove that each is a
+/// text once more.)
+fn file_named(alloc: Global, name: &str) -> Result<Option<Vec<u8>>, AllocError> {
+    for (known, text) in FILES {
+        if name == known {
+            return Ok(Some(Vec::from_slice(alloc, text.as_bytes())?));
+        }
+    }
+    Ok(None)
+}
+
 /// The files that transcripts name.
 #[derive(Drop)]
 struct Folder {
@@ -71,12 +82,10 @@ impl TreeFiles for Folder {
     ghost holds = { λ _ _ _. Unit {0} };
 
     fn read(&self, name: &str) -> io::Result<Vec<u8>> {
-        for (known, text) in FILES {
-            if name == known {
-                return Ok(Vec::from_slice(self.alloc, text.as_bytes())?);
-            }
+        match file_named(self.alloc, name)? {
+            Some(bytes) => Ok(bytes),
+            None => Err(Error::from(ErrorKind::NotFound)),
         }
-        Err(Error::from(ErrorKind::NotFound))
     }
 
     fn read_input(&self) -> io::Result<Vec<u8>> {
@@ -143,7 +152,7 @@ fn seen<H: Threads + Wait + Sync>(
         text,
         fault,
     };
-    seen_on(rt, alloc, &files, words, lines)
+    seen_on(rt, alloc, &files, words, lines.as_bytes())
 }
 
 /// Runs the program on these files.
@@ -152,9 +161,9 @@ fn seen_on<H: Threads + Wait + Sync, F: TreeFiles>(
     alloc: Global,
     files: &F,
     words: Result<Vec<String>, WordsFault>,
-    lines: &str,
+    lines: &[u8],
 ) -> Streams {
-    let mut input = Counted::new(lines.as_bytes());
+    let mut input = Counted::new(lines);
     let mut output = Counted::new(Vec::new(alloc));
     let mut errors = Counted::new(Vec::new(alloc));
     let pool = Pool { rt, gate: &Still };
@@ -285,16 +294,6 @@ fn checks_and_pictures(rt: HostRuntime) -> Result<(), Fail> {
     Ok(())
 }
 
-/// The text of a file of the transcripts; nothing where there is none of this name.
-fn text_of(name: &str) -> &'static str {
-    for (known, text) in FILES {
-        if name == known {
-            return text;
-        }
-    }
-    ""
-}
-
 /// The transcripts of `examples/`, those of `sim` worked out by hand.
 #[test]
 fn transcripts_are_played(rt: HostRuntime) -> Result<(), Fail> {
@@ -305,7 +304,8 @@ fn transcripts_are_played(rt: HostRuntime) -> Result<(), Fail> {
         for word in line.split(' ') {
             words.push(word.to_string(alloc)?).map_err(|_| AllocError)?;
         }
-        let seen = seen_on(&rt, alloc, &files, Ok(words), text_of(lines));
+        let lines = file_named(alloc, lines)?.unwrap_or(Vec::new(alloc));
+        let seen = seen_on(&rt, alloc, &files, Ok(words), lines.as_slice());
         let text = with_status(alloc, seen.output, seen.errors, seen.status)?;
         assert_eq!(rt; text.as_slice(), shown.as_bytes(), "{line}");
     }
