@@ -1,5 +1,5 @@
 -- What each way out of a run says.
-use Rattle.std.proofs.Common.{◌≡◌, ℕ, ◌<◌, ◌≤◌, ◌^◌, ◌+◌, ◌⊎◌, inl, inr, List, [], ◌++◌, length, Option, Some, None, is_some, take, true, Err, IfSome, refl, ap, sym, ◌∙◌, append_assoc, subst, arith, length-append}
+use Rattle.std.proofs.Common.{◌≡◌, ℕ, ◌<◌, ◌≤◌, ◌^◌, ◌+◌, ◌⊎◌, inl, inr, List, [], ◌∷◌, ◌++◌, length, Option, Some, None, is_some, take, true, Err, IfSome, refl, ap, sym, ◌∙◌, append_assoc, subst, arith, length-append}
 use Rattle.std.specs.Io.KnownBytes.{Appends, Consumes, IsAtEnd, Keeps}
 use Rattle.std.proofs.lemmas.List.{append-nil, take-append-le, take_all}
 use Rattle.otp_spec.specs.declared.child.ChildSpec.{ChildSpec}
@@ -10,10 +10,10 @@ use Rattle.otp_sim.specs.declared.engine.SimEnd.{SimEnd}
 use Rattle.otp_sim.specs.declared.engine.SimEnd.TheVariants.{Done, LineRefused, HistoryFull, InputFailed, OutputFailed, Memory}
 use Rattle.otp_sim.specs.Devices.{Begins, AppendsPart}
 use Rattle.otp_sim.specs.Sim.{Sim, opened, happen, stepped, take_line, take_lines, lines_of, sim_of, end_of, whole_text}
-use Rattle.otp_sim.specs.Runs.{Ran, Broke, Halted, PieceEnds, Finishes, Flushes, NoEnd, ReadsNext, Told, Writes, LastWrites, Devices, WroteAll, WrotePart, WroteFirst, with_text}
+use Rattle.otp_sim.specs.Runs.{Ran, Broke, Halted, PieceEnds, Finishes, Flushes, NoEnd, ReadsNext, Stopped, Told, Writes, LastWrites, Devices, WroteAll, WrotePart, WroteFirst, with_text}
 use Rattle.otp_sim.proofs.Texts.{take_line_after, after}
 use Rattle.otp_sim.proofs.Writes.{appends_more}
-use Rattle.otp_sim.proofs.Progress.{ran_start, ran_read, ran_then, piece_then, ran_part, ran_written, line_part, last_served, ended_served, long_served, whole_served}
+use Rattle.otp_sim.proofs.Progress.{ran_start, ran_read, ran_then, piece_then, ran_part, ran_written, first_line, halted_at, halted_between, last_cut, last_served, ended_served, long_served, stopped_long, whole_served}
 
 pub consumes_none : (known : Option (List ℕ)) → Consumes known known []
 consumes_none None = tt
@@ -55,21 +55,24 @@ part_of start taken (Some bytes) (Some rest) before now consumed broke =
       begins = subst (λ (xs : List ℕ). Begins broke.text (take_lines (lines_of xs) start).text) (sym consumed) (broke.begins rest);
     }
 
--- the text of the first lines was written
+-- the text of the first lines was written, and of some events of the next
+first_where : (start : Sim) (taken : List ℕ) (left_old left_now before now : Option (List ℕ)) → Consumes left_old left_now taken
+    → ((rest : List ℕ) → left_now ≡ Some rest → WroteFirst start before now (taken ++ rest)) → IfSome left_old (WroteFirst start before now)
+first_where start taken None left_now before now consumed wrote = tt
+first_where start taken (Some bytes) None before now consumed wrote = absurd consumed
+first_where start taken (Some bytes) (Some rest) before now consumed wrote = subst (WroteFirst start before now) (sym consumed) (wrote rest refl)
+
 first_of : (start : Sim) (taken : List ℕ) (left_old left_now before now : Option (List ℕ)) → Consumes left_old left_now taken → Halted start before now taken
     → IfSome left_old (WroteFirst start before now)
-first_of start taken None left_now before now consumed halted = tt
-first_of start taken (Some bytes) None before now consumed halted = absurd consumed
-first_of start taken (Some bytes) (Some rest) before now consumed halted =
-    let ran = halted.ran in
-    let text : ran.written ≡ (take_lines ran.served.lines start).text =
-    sym (append-nil ran.written) ∙ ap (λ (t : Sim). t.text) ran.served.so_far in
-    record {
-      lines = ran.served.lines;
-      others = lines_of (halted.waiting ++ rest);
-      first = ap lines_of consumed ∙ ran.served.cut rest;
-      text = subst (Appends before now) text ran.appended;
-    }
+first_of start taken left_old left_now before now consumed halted =
+    first_where start taken left_old left_now before now consumed
+    (λ rest e. record {
+      lines = halted.lines;
+      others = halted.others rest;
+      first = halted.cut rest;
+      events = halted.events;
+      text = halted.text rest;
+    })
 
 -- all was written, where what is left of the input leads to this end
 all_of : (start final : Sim) (taken : List ℕ) (left_old left_now before now : Option (List ℕ)) → Consumes left_old left_now taken
@@ -169,11 +172,9 @@ flush_exit InputFailed start s old now ready kept count written failures stands 
 flush_exit OutputFailed start s old now ready kept count written failures stands flushes =
     output_exit start s old now ready kept count written failures stands flushes.0 flushes.1
 flush_exit Memory start s old now ready kept count written failures stands flushes =
-    inr (first_of start stands.taken old.left now.left old.written written stands.consumed (record {
-      s = s;
-      waiting = kept;
-      ran = ran_written start s old.written now.written written ready stands.taken kept stands.ran flushes;
-    }))
+    inr (first_of start stands.taken old.left now.left old.written written stands.consumed
+    (halted_between start s old.written written stands.taken kept
+    (ran_written start s old.written now.written written ready stands.taken kept stands.ran flushes)))
 
 -- no line is taken any more, and nothing is left to write
 stopped_exit : (how : SimEnd) (start s : Sim) (old now : Devices) (ready kept : List ℕ) (count : ℕ) (reason : Stop)
@@ -262,25 +263,26 @@ stands_end start s old now ready kept count left failures stands piece none some
 last_exit : (how : SimEnd) (start s : Sim) (old now : Devices) (ready kept line : List ℕ) (count : ℕ) (written : Option (List ℕ)) (failures : ℕ)
     (stands : Stands start s old now ready kept count)
     → ((rest : List ℕ) → now.left ≡ Some rest → take_lines (lines_of (stands.taken ++ rest)) start ≡ after stands.ran.written (take_line line (with_text ready s)))
+    → ((rest : List ℕ) → now.left ≡ Some rest → Stopped (with_text ready s) line now.written written → WroteFirst start old.written written (stands.taken ++ rest))
     → LastWrites how line (with_text ready s) now.written written now.write_failures failures
     → Writes how start old (record now { written = written; write_failures = failures })
-last_exit Done start s old now ready kept line count written failures stands final last =
+last_exit Done start s old now ready kept line count written failures stands final halts last =
     let t : Sim = take_line line (with_text ready s) in
     let text = appends_more old.written now.written written stands.ran.written t.text stands.ran.appended last.0 in
     subst (λ (end : SimEnd). IfSome old.left (WroteAll start old.written written end)) (sym last.1)
     (all_of start (after stands.ran.written t) stands.taken old.left now.left old.written written stands.consumed final text)
-last_exit (LineRefused number) start s old now ready kept line count written failures stands final last =
+last_exit (LineRefused number) start s old now ready kept line count written failures stands final halts last =
     let t : Sim = take_line line (with_text ready s) in
     let text = appends_more old.written now.written written stands.ran.written t.text stands.ran.appended last.0 in
     subst (λ (end : SimEnd). IfSome old.left (WroteAll start old.written written end)) (sym last.1)
     (all_of start (after stands.ran.written t) stands.taken old.left now.left old.written written stands.consumed final text)
-last_exit HistoryFull start s old now ready kept line count written failures stands final last =
+last_exit HistoryFull start s old now ready kept line count written failures stands final halts last =
     let t : Sim = take_line line (with_text ready s) in
     let text = appends_more old.written now.written written stands.ran.written t.text stands.ran.appended last.0 in
     subst (λ (end : SimEnd). IfSome old.left (WroteAll start old.written written end)) (sym last.1)
     (all_of start (after stands.ran.written t) stands.taken old.left now.left old.written written stands.consumed final text)
-last_exit InputFailed start s old now ready kept line count written failures stands final last = absurd last
-last_exit OutputFailed start s old now ready kept line count written failures stands final last = (
+last_exit InputFailed start s old now ready kept line count written failures stands final halts last = absurd last
+last_exit OutputFailed start s old now ready kept line count written failures stands final halts last = (
   some_of start (after stands.ran.written (take_line line (with_text ready s))) stands.taken (stands.ran.written ++ last.0.front) old.left now.left old.written written stands.consumed final
       (appends_more old.written now.written written stands.ran.written last.0.front stands.ran.appended last.0.appended)
       (record {
@@ -290,18 +292,8 @@ last_exit OutputFailed start s old now ready kept line count written failures st
       }),
   omega (arith, stands.writes, last.1),
 )
-last_exit Memory start s old now ready kept line count written failures stands final last =
-    flush_exit Memory start s old now ready kept count written failures stands last
-
--- a last line for which memory is refused adds nothing to what is ready
-pub last_flushes : (how : SimEnd) (line : List ℕ) (s : Sim) (before now : Option (List ℕ)) (failures_before failures_now : ℕ)
-    → Flushes how before now s.text failures_before failures_now → LastWrites how line s before now failures_before failures_now
-last_flushes Done line s before now failures_before failures_now flushes = absurd flushes
-last_flushes (LineRefused number) line s before now failures_before failures_now flushes = absurd flushes
-last_flushes HistoryFull line s before now failures_before failures_now flushes = absurd flushes
-last_flushes InputFailed line s before now failures_before failures_now flushes = absurd flushes
-last_flushes OutputFailed line s before now failures_before failures_now flushes = (line_part line s before now flushes.0, flushes.1)
-last_flushes Memory line s before now failures_before failures_now flushes = flushes
+last_exit Memory start s old now ready kept line count written failures stands final halts last =
+    inr (first_where start stands.taken old.left now.left old.written written stands.consumed (λ rest e. halts rest e last))
 
 -- at the end of the input
 pub end_exit : (how : SimEnd) (start s : Sim) (old now : Devices) (ready kept line : List ℕ) (count : ℕ) (written : Option (List ℕ)) (failures : ℕ)
@@ -317,6 +309,12 @@ end_exit how start s old now ready kept line count written failures stands at_en
     let none : rest ≡ [] = subst IsAtEnd e at_end in
     ap (λ bytes. take_lines (lines_of (stands.taken ++ bytes)) start) none
     ∙ ap (λ bytes. take_lines (lines_of bytes) start) (append-nil stands.taken) ∙ served)
+    (λ rest e stopped.
+    let none : rest ≡ [] = subst IsAtEnd e at_end in
+    let cut : lines_of (stands.taken ++ rest) ≡ stands.ran.served.lines ++ kept ∷ [] =
+    ap (λ bytes. lines_of (stands.taken ++ bytes)) none ∙ ap lines_of (append-nil stands.taken)
+    ∙ last_cut start _ stands.taken kept stands.none stands.ran.served in
+    halted_at start s old.written now.written written ready stands.taken kept (stands.taken ++ rest) kept [] stands.ran cut stopped)
     last
 
 -- at a line that is too long
@@ -328,6 +326,12 @@ long_exit how start s old now ready kept line count written failures stands long
     let last = subst (λ (bytes : List ℕ). LastWrites how bytes (with_text ready s) now.written written now.write_failures failures) same_line line_last in
     last_exit how start s old now ready kept kept count written failures stands
     (λ rest e. long_served start _ stands.taken kept rest stands.none long stands.ran.served ∙ take_line_after stands.ran.written kept (with_text ready s))
+    (λ rest e stopped.
+    let first = first_line kept rest stands.none in
+    let cut : lines_of (stands.taken ++ rest) ≡ stands.ran.served.lines ++ (kept ++ first.rest) ∷ first.others =
+    stands.ran.served.cut rest ∙ ap (λ lines. stands.ran.served.lines ++ lines) first.same in
+    halted_at start s old.written now.written written ready stands.taken kept (stands.taken ++ rest) (kept ++ first.rest) first.others stands.ran cut
+    (stopped_long (with_text ready s) kept first.rest now.written written long stopped))
     last
 
 -- a piece of the input is served

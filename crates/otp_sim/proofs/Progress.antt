@@ -1,5 +1,6 @@
 -- What serving a line, a piece of the input or its end does to a run.
-use Rattle.std.proofs.Common.{◌≡◌, ℕ, ◌+◌, ◌<◌, ◌==◌, Bool, true, false, cond, List, [], ◌∷◌, ◌++◌, length, Option, Some, None, Err, is_some, take, drop, get_or, position, ◌≤◌, subst, refl, ap, sym, ◌∙◌, append_assoc, arith}
+use Rattle.std.proofs.Common.{◌≡◌, ℕ, zero, suc, ◌+◌, ◌<◌, ◌==◌, Bool, true, false, cond, List, [], ◌∷◌, ◌++◌, length, Option, Some, None, Ok, Err, is_some, take, drop, get_or, position, ◌≤◌, subst, refl, ap, sym, ◌∙◌, append_assoc, arith}
+use Rattle.std.specs.Prelude.{Result, OnOk}
 use Rattle.std.specs.List.{slice_split, onto_first, position_or_len}
 use Rattle.std.proofs.lemmas.List.{append-nil, length-append, length-take, get_or-take}
 use Rattle.std.proofs.lemmas.List.Splits.{slice_split_at, slice_split_none, slice_split-cons_no}
@@ -9,14 +10,15 @@ use Rattle.std.proofs.lemmas.List.Elements.{All-head, All-tail, All-append, All-
 use Rattle.otp_text.specs.Words.{words_of}
 use Rattle.otp_text.specs.Lines.{line_of, line_of_words}
 use Rattle.otp_sim.specs.Devices.{Begins}
-use Rattle.otp_sim.specs.Sim.{Sim, take_form, take_line, take_lines, lines_of, but_last}
+use Rattle.otp_sim.specs.Sim.{Sim, begin_form, begin_line, followed, settled, take_line, take_lines, lines_of, but_last}
 use Rattle.otp_sim.specs.declared.engine.SimEnd.{SimEnd}
 use Rattle.otp_sim.specs.declared.engine.SimEnd.TheVariants.{Done, LineRefused, HistoryFull, InputFailed, OutputFailed, Memory}
-use Rattle.otp_sim.specs.Runs.{Served, Ran, Broke, PieceEnds, Flushes, NoEnd, with_text}
+use Rattle.otp_sim.specs.Runs.{Served, Ran, Played, Stopped, LineEnds, Broke, Halted, PieceEnds, Flushes, NoEnd, WroteFirst, begun, begun_first, with_text}
 use Rattle.otp_sim.specs.Devices.{AppendsPart, Moves}
 use Rattle.std.specs.Io.KnownBytes.{Appends}
 use Rattle.otp_sim.proofs.Writes.{appends_none, appends_more}
-use Rattle.otp_sim.proofs.Texts.{take_line_after, take_lines_after, after}
+use Rattle.otp_sim.proofs.Settled.{ended_none, settled_done}
+use Rattle.otp_sim.proofs.Texts.{take_line_after, take_lines_after, begun_after, begun_first_after, begins_then, after}
 
 abbrev is_end : ℕ → Bool
 is_end byte = byte == 10
@@ -31,11 +33,15 @@ unfolding take_lines
 take_one line s = refl
 
 -- after the end no line is taken
+begin_ended : (line : List ℕ) (s : Sim) → is_some s.end ≡ true → begin_line line s ≡ s
+unfolding begin_line
+begin_ended line s e = ap (λ ended. cond ended s (begin_form (line_of line) (record s { lines = s.lines + 1 }))) e
+
 take_lines_ended : (lines : List (List ℕ)) (s : Sim) → is_some s.end ≡ true → take_lines lines s ≡ s
 unfolding take_lines take_line
 take_lines_ended [] s e = refl
 take_lines_ended (line ∷ others) s e =
-    let here : take_line line s ≡ s = ap (λ ended. cond ended s (take_form (line_of line) (record s { lines = s.lines + 1 }))) e in
+    let here : take_line line s ≡ s = ap settled (begin_ended line s e) ∙ settled_done s (ended_none s e) in
     ap (take_lines others) here ∙ take_lines_ended others s e
 
 no_parts : List (List ℕ) → Bool
@@ -70,32 +76,39 @@ more_read start s taken waiting piece served =
       so_far = served.so_far;
     }
 
+-- the first line of what waits, whatever comes
+first_cut : (line others more : List ℕ) → NoEnd line → lines_of ((line ++ 10 ∷ others) ++ more) ≡ line ∷ lines_of (others ++ more)
+unfolding lines_of
+first_cut line others more none = ap lines_of (append_assoc line (10 ∷ others) more) ∙ slice_split_at is_end line 10 (others ++ more) none refl
+
 -- a line is served
 pub line_served : (start s : Sim) (taken line others : List ℕ) → NoEnd line → Served start taken (line ++ 10 ∷ others) s
     → Served start taken others (take_line line s)
-unfolding lines_of
 line_served start s taken line others none served =
     record {
       lines = served.lines ++ line ∷ [];
       cut = λ more.
           served.cut more
-          ∙ ap (λ bytes. served.lines ++ lines_of bytes) (append_assoc line (10 ∷ others) more)
-          ∙ ap (λ parts. served.lines ++ parts) (slice_split_at is_end line 10 (others ++ more) none refl)
+          ∙ ap (λ parts. served.lines ++ parts) (first_cut line others more none)
           ∙ sym (append_assoc served.lines (line ∷ []) (lines_of (others ++ more)));
       so_far = ap (take_line line) served.so_far ∙ sym (take_one line _) ∙ sym (take_lines_append served.lines (line ∷ []) start);
     }
 
+-- at the end of the input the line that waits is the last
+pub last_cut : (start s : Sim) (taken line : List ℕ) → NoEnd line → (served : Served start taken line s) → lines_of taken ≡ served.lines ++ line ∷ []
+unfolding lines_of
+last_cut start s taken line none served =
+    ap lines_of (sym (append-nil taken)) ∙ served.cut []
+    ∙ ap (λ bytes. served.lines ++ lines_of bytes) (append-nil line)
+    ∙ ap (λ lines. served.lines ++ lines) (slice_split_none is_end line none)
+
 -- at the end of the input the last line is served
 pub last_served : (start s : Sim) (taken line : List ℕ) → NoEnd line → Served start taken line s
     → take_lines (lines_of taken) start ≡ take_line line s
-unfolding lines_of
 last_served start s taken line none served =
-    ap (λ bytes. take_lines (lines_of bytes) start) (sym (append-nil taken))
-    ∙ ap (λ lines. take_lines lines start) (served.cut [])
-    ∙ take_lines_append served.lines (lines_of (line ++ [])) start
-    ∙ ap (take_lines (lines_of (line ++ []))) (sym served.so_far)
-    ∙ ap (λ bytes. take_lines (lines_of bytes) s) (append-nil line)
-    ∙ ap (λ lines. take_lines lines s) (slice_split_none is_end line none)
+    ap (λ lines. take_lines lines start) (last_cut start s taken line none served)
+    ∙ take_lines_append served.lines (line ∷ []) start
+    ∙ ap (take_lines (line ∷ [])) (sym served.so_far)
     ∙ take_one line s
 
 -- after the end, what follows changes nothing
@@ -115,21 +128,16 @@ but_last_append (first ∷ second ∷ others) line = ap (λ rest. first ∷ rest
 
 pub whole_served : (start s : Sim) (taken line : List ℕ) → NoEnd line → Served start taken line s
     → take_lines (but_last (lines_of taken)) start ≡ s
-unfolding lines_of
 whole_served start s taken line none served =
-    let parts : lines_of taken ≡ served.lines ++ line ∷ [] =
-    ap lines_of (sym (append-nil taken)) ∙ served.cut []
-    ∙ ap (λ bytes. served.lines ++ lines_of bytes) (append-nil line)
-    ∙ ap (λ lines. served.lines ++ lines) (slice_split_none is_end line none) in
-    ap (λ lines. take_lines (but_last lines) start) parts
+    ap (λ lines. take_lines (but_last lines) start) (last_cut start s taken line none served)
     ∙ ap (λ lines. take_lines lines start) (but_last_append served.lines line)
     ∙ sym served.so_far
 
 -- a line that is too long already is refused, however it goes on
 pub record FirstLine (line bytes : List ℕ) : Type 0 where
-  rest : List ℕ
-  others : List (List ℕ)
-  same : lines_of bytes ≡ (line ++ rest) ∷ others
+  pub rest : List ℕ
+  pub others : List (List ℕ)
+  pub same : lines_of bytes ≡ (line ++ rest) ∷ others
 
 first_line_more : (byte : ℕ) (parts : List (List ℕ)) (line rest : List ℕ) (others : List (List ℕ))
     → parts ≡ (line ++ rest) ∷ others → onto_first byte parts ≡ ((byte ∷ line) ++ rest) ∷ others
@@ -140,7 +148,7 @@ unfolding no_parts
 some_line bytes [] e none = let contradiction : ⊥ = cc in absurd contradiction
 some_line bytes (part ∷ others) e none = record { rest = part; others = others; same = sym e }
 
-first_line : (line more : List ℕ) → NoEnd line → FirstLine line (line ++ more)
+pub first_line : (line more : List ℕ) → NoEnd line → FirstLine line (line ++ more)
 unfolding lines_of
 first_line [] more none = some_line more (lines_of more) refl (parts_some is_end more)
 first_line (byte ∷ line) more none =
@@ -159,18 +167,33 @@ too_long (byte ∷ line) rest long =
     let longer : 512 < length ((byte ∷ line) ++ rest) = omega (arith, length-append (byte ∷ line) rest) in
     ap (λ test. cond test None (line_of_words (words_of ((byte ∷ line) ++ rest)))) (lt-ltb 512 (length ((byte ∷ line) ++ rest)) longer)
 
-refused_same : (line rest : List ℕ) (s : Sim) → 512 < length line → take_line (line ++ rest) s ≡ take_line line s
-unfolding take_line
-refused_same line rest s long =
-    ap (λ form. cond (is_some s.end) s (take_form form (record s { lines = s.lines + 1 })))
+begin_same : (line rest : List ℕ) (s : Sim) → 512 < length line → begin_line (line ++ rest) s ≡ begin_line line s
+unfolding begin_line
+begin_same line rest s long =
+    ap (λ form. cond (is_some s.end) s (begin_form form (record s { lines = s.lines + 1 })))
     (too_long line rest long ∙ sym (ap line_of (sym (append-nil line)) ∙ too_long line [] long))
 
-refused_ends : (line : List ℕ) (s : Sim) → 512 < length line → is_some (take_line line s).end ≡ true
-unfolding take_line take_form
-refused_ends line s long =
+begun_same : (events : ℕ) (line rest : List ℕ) (s : Sim) → 512 < length line → begun events (line ++ rest) s ≡ begun events line s
+unfolding begun
+begun_same zero line rest s long = refl
+begun_same (suc events) line rest s long = ap (followed events) (begin_same line rest s long)
+
+refused_same : (line rest : List ℕ) (s : Sim) → 512 < length line → take_line (line ++ rest) s ≡ take_line line s
+unfolding take_line
+refused_same line rest s long = ap settled (begin_same line rest s long)
+
+begin_refused : (line : List ℕ) (s : Sim) → 512 < length line → is_some (begin_line line s).end ≡ true
+unfolding begin_line begin_form
+begin_refused line s long =
     rw (ap line_of (sym (append-nil line)) ∙ too_long line [] long)
-    (elim (is_some s.end) as (λ ended. is_some s.end ≡ ended → is_some (cond ended s (take_form None (record s { lines = s.lines + 1 }))).end ≡ true)
+    (elim (is_some s.end) as (λ ended. is_some s.end ≡ ended → is_some (cond ended s (begin_form None (record s { lines = s.lines + 1 }))).end ≡ true)
     [ true ↦ λ e. e | false ↦ λ e. refl ] refl)
+
+refused_ends : (line : List ℕ) (s : Sim) → 512 < length line → is_some (take_line line s).end ≡ true
+unfolding take_line
+refused_ends line s long =
+    let e : is_some (begin_line line s).end ≡ true = begin_refused line s long in
+    ap (λ (t : Sim). is_some t.end) (settled_done (begin_line line s) (ended_none (begin_line line s) e)) ∙ e
 
 pub long_served : (start s : Sim) (taken line more : List ℕ) → NoEnd line → 512 < length line → Served start taken line s
     → take_lines (lines_of (taken ++ more)) start ≡ take_line line s
@@ -262,20 +285,6 @@ ran_written start s before mid now ready taken waiting ran more =
       served = rw (append-nil (ran.written ++ ready)) ran.served;
     }
 
--- one line more
-pub ran_line : (start s t : Sim) (before now : Option (List ℕ)) (ready0 ready1 taken line others : List ℕ)
-    → NoEnd line → Ran start s before now ready0 taken (line ++ 10 ∷ others)
-    → with_text ready1 t ≡ take_line line (with_text ready0 s)
-    → Ran start t before now ready1 taken others
-ran_line start s t before now ready0 ready1 taken line others none ran step =
-    let here : with_text (ran.written ++ ready1) t ≡ take_line line (with_text (ran.written ++ ready0) s) =
-    ap (after ran.written) step ∙ sym (take_line_after ran.written line (with_text ready0 s)) in
-    record {
-      written = ran.written;
-      appended = ran.appended;
-      served = rw here (line_served start _ taken line others none ran.served);
-    }
-
 -- more of the input is read
 pub ran_read : (start s : Sim) (before now : Option (List ℕ)) (ready taken waiting piece : List ℕ)
     → Ran start s before now ready taken waiting → Ran start s before now ready (taken ++ piece) (waiting ++ piece)
@@ -283,7 +292,7 @@ ran_read start s before now ready taken waiting piece ran =
     record { written = ran.written; appended = ran.appended; served = more_read start _ taken waiting piece ran.served }
 
 -- what was written is a beginning, and so is it with a part of what is ready
-begins_front : (front rest whole : List ℕ) → Begins (front ++ rest) whole → Begins front whole
+pub begins_front : (front rest whole : List ℕ) → Begins (front ++ rest) whole → Begins front whole
 begins_front front rest whole begins =
     record { rest = rest ++ begins.rest; same = begins.same ∙ append_assoc front rest begins.rest }
 
@@ -321,6 +330,71 @@ broke_then start s before mid now ready taken waiting ran broke =
           };
     }
 
+-- the same where memory was refused
+halted_then : (start s : Sim) (before mid now : Option (List ℕ)) (ready taken waiting : List ℕ)
+    → Ran start s before mid ready taken waiting → Halted (with_text ready s) mid now waiting → Halted start before now taken
+halted_then start s before mid now ready taken waiting ran halted =
+    let first : List (List ℕ) = ran.served.lines in
+    let then : List (List ℕ) = halted.lines in
+    let all : take_lines (first ++ then) start ≡ after ran.written (take_lines then (with_text ready s)) =
+    take_lines_append first then start ∙ ap (take_lines then) (sym ran.served.so_far) ∙ take_lines_after ran.written then (with_text ready s) in
+    record {
+      lines = first ++ then;
+      others = halted.others;
+      cut = λ more. ran.served.cut more ∙ ap (λ lines. first ++ lines) (halted.cut more) ∙ sym (append_assoc first then (halted.others more));
+      events = halted.events;
+      text = λ more.
+          let same : begun_first halted.events (halted.others more) (take_lines (first ++ then) start)
+          ≡ after ran.written (begun_first halted.events (halted.others more) (take_lines then (with_text ready s))) =
+          ap (begun_first halted.events (halted.others more)) all
+          ∙ begun_first_after halted.events ran.written (halted.others more) (take_lines then (with_text ready s)) in
+          subst (λ (t : Sim). Appends before now t.text) (sym same) (appends_more before mid now ran.written _ ran.appended (halted.text more));
+    }
+
+-- no event of the next line
+begun_none : (lines : List (List ℕ)) (s : Sim) → begun_first zero lines s ≡ s
+unfolding begun_first begun
+begun_none [] s = refl
+begun_none (line ∷ _) s = refl
+
+pub halted_between : (start s : Sim) (before now : Option (List ℕ)) (taken waiting : List ℕ)
+    → Ran start s before now [] taken waiting → Halted start before now taken
+halted_between start s before now taken waiting ran =
+    record {
+      lines = ran.served.lines;
+      others = λ more. lines_of (waiting ++ more);
+      cut = ran.served.cut;
+      events = zero;
+      text = λ more.
+          let same : with_text (ran.written ++ []) s ≡ begun_first zero (lines_of (waiting ++ more)) (take_lines ran.served.lines start) =
+          ran.served.so_far ∙ sym (begun_none (lines_of (waiting ++ more)) (take_lines ran.served.lines start)) in
+          subst (λ (t : Sim). Appends before now t.text) same (rw (append-nil ran.written) ran.appended);
+    }
+
+-- memory was refused within the line that is the next of the input
+pub halted_at : (start s : Sim) (before mid now : Option (List ℕ)) (ready taken waiting bytes next : List ℕ) (others : List (List ℕ))
+    (ran : Ran start s before mid ready taken waiting) → lines_of bytes ≡ ran.served.lines ++ next ∷ others
+    → Stopped (with_text ready s) next mid now → WroteFirst start before now bytes
+unfolding begun_first
+halted_at start s before mid now ready taken waiting bytes next others ran first stopped =
+    let same : begun stopped.events next (take_lines ran.served.lines start) ≡ after ran.written (begun stopped.events next (with_text ready s)) =
+    ap (begun stopped.events next) (sym ran.served.so_far) ∙ begun_after stopped.events ran.written next (with_text ready s) in
+    record {
+      lines = ran.served.lines;
+      others = next ∷ others;
+      first = first;
+      events = stopped.events;
+      text = subst (λ (t : Sim). Appends before now t.text) (sym same) (appends_more before mid now ran.written _ ran.appended stopped.text);
+    }
+
+-- a line that is too long already goes on in any way
+pub stopped_long : (s : Sim) (line rest : List ℕ) (before now : Option (List ℕ)) → 512 < length line → Stopped s line before now → Stopped s (line ++ rest) before now
+stopped_long s line rest before now long stopped =
+    record {
+      events = stopped.events;
+      text = subst (λ (t : Sim). Appends before now t.text) (sym (begun_same stopped.events line rest s long)) stopped.text;
+    }
+
 -- a piece ends, after a part of the run
 pub piece_then : (how : SimEnd) (start s : Sim) (before mid now : Option (List ℕ)) (ready taken waiting : List ℕ) (failures_before failures_now : ℕ)
     → Ran start s before mid ready taken waiting → PieceEnds (Err how) (with_text ready s) mid now waiting failures_before failures_now
@@ -332,7 +406,7 @@ piece_then InputFailed start s before mid now ready taken waiting failures_befor
 piece_then OutputFailed start s before mid now ready taken waiting failures_before failures_now ran ends =
     (broke_then start s before mid now ready taken waiting ran ends.0, ends.1)
 piece_then Memory start s before mid now ready taken waiting failures_before failures_now ran ends =
-    record { s = ends.s; waiting = ends.waiting; ran = ran_then start s ends.s before mid now ready [] taken waiting ends.waiting ran ends.ran }
+    halted_then start s before mid now ready taken waiting ran ends
 
 -- the same after some of the writer's failures, which are counted
 pub ends_earlier : (how : SimEnd) (start : Sim) (before now : Option (List ℕ)) (taken : List ℕ) (earliest failures_before failures_now : ℕ)
@@ -356,7 +430,7 @@ flushed InputFailed start s before mid now ready taken waiting failures_before f
 flushed OutputFailed start s before mid now ready taken waiting failures_before failures_now ran flushes =
     (ran_part start s before mid now ready taken waiting ran flushes.0, flushes.1)
 flushed Memory start s before mid now ready taken waiting failures_before failures_now ran flushes =
-    record { s = s; waiting = waiting; ran = ran_written start s before mid now ready taken waiting ran flushes }
+    halted_between start s before now taken waiting (ran_written start s before mid now ready taken waiting ran flushes)
 
 -- some of what is ready is written
 pub ran_moved : (start s : Sim) (before mid now : Option (List ℕ)) (ready left taken waiting : List ℕ)
@@ -434,28 +508,71 @@ next_ran start s t before mid now ready left taken kept kept_now rest rest_now e
     let after_line : Ran (with_text ready s) t mid now left (kept ++ rest) (drop (end + 1) rest) = rw whole (step (drop (end + 1) rest)) in
     rw (none, same) (ran_then start s t before mid now ready left taken (kept ++ rest) (drop (end + 1) rest) ran after_line)
 
--- one line is served, and perhaps some of the text written
-pub line_ran : (s t : Sim) (before now : Option (List ℕ)) (ready0 ready1 left line : List ℕ)
-    → NoEnd line → with_text ready1 t ≡ take_line line (with_text ready0 s) → Moves before now ready1 left
-    → (others : List ℕ) → Ran (with_text ready0 s) t before now left (line ++ 10 ∷ others) others
-line_ran s t before now ready0 ready1 left line none step moved others =
-    ran_moved (with_text ready0 s) t before before now ready1 left (line ++ 10 ∷ others) others
-    (ran_line (with_text ready0 s) s t before before ready0 ready1 (line ++ 10 ∷ others) line others none
-    (ran_start s before ready0 (line ++ 10 ∷ others)) step)
-    moved
+-- the first of the lines that wait is served
+line_first : (start : Sim) (line others : List ℕ) → NoEnd line → Served start (line ++ 10 ∷ others) others (take_line line start)
+line_first start line others none =
+    record { lines = line ∷ []; cut = λ more. first_cut line others more none; so_far = sym (take_one line start) }
 
-pub line_broke : (s t : Sim) (before now : Option (List ℕ)) (ready0 ready1 line : List ℕ)
-    → NoEnd line → with_text ready1 t ≡ take_line line (with_text ready0 s) → AppendsPart before now ready1
-    → (others : List ℕ) → Broke (with_text ready0 s) before now (line ++ 10 ∷ others)
-line_broke s t before now ready0 ready1 line none step part others =
-    ran_part (with_text ready0 s) t before before now ready1 (line ++ 10 ∷ others) others
-    (ran_line (with_text ready0 s) s t before before ready0 ready1 (line ++ 10 ∷ others) line others none
-    (ran_start s before ready0 (line ++ 10 ∷ others)) step)
-    part
+-- one line is served, and perhaps some of the text written
+pub line_ran : (s t : Sim) (before now : Option (List ℕ)) (ready left line : List ℕ)
+    → NoEnd line → Played (with_text ready s) t line before now left
+    → (others : List ℕ) → Ran (with_text ready s) t before now left (line ++ 10 ∷ others) others
+line_ran s t before now ready left line none played others =
+    record {
+      written = played.written;
+      appended = played.appended;
+      served = subst (Served (with_text ready s) (line ++ 10 ∷ others) others) (sym played.same) (line_first (with_text ready s) line others none);
+    }
+
+-- a piece ends within a line
+pub line_piece : (how : SimEnd) (s : Sim) (before now : Option (List ℕ)) (ready line : List ℕ) (failures_before failures_now : ℕ)
+    → NoEnd line → LineEnds (Err how) (with_text ready s) line before now failures_before failures_now
+    → (others : List ℕ) → PieceEnds (Err how) (with_text ready s) before now (line ++ 10 ∷ others) failures_before failures_now
+unfolding take_lines begun_first
+line_piece Done s before now ready line failures_before failures_now none ends others = ends
+line_piece (LineRefused number) s before now ready line failures_before failures_now none ends others = ends
+line_piece HistoryFull s before now ready line failures_before failures_now none ends others = ends
+line_piece InputFailed s before now ready line failures_before failures_now none ends others = ends
+line_piece OutputFailed s before now ready line failures_before failures_now none ends others =
+    let start : Sim = with_text ready s in
+    (record {
+      text = ends.0.front;
+      written = ends.0.appended;
+      begins = λ more.
+          begins_then ends.0.front (take_line line start).text _ ends.0.begins
+          (served_begins start (take_line line start) (line ++ 10 ∷ others) others more (line_first start line others none));
+    }, ends.1)
+line_piece Memory s before now ready line failures_before failures_now none ends others =
+    record {
+      lines = [];
+      others = λ more. line ∷ lines_of (others ++ more);
+      cut = λ more. first_cut line others more none;
+      events = ends.events;
+      text = λ more. ends.text;
+    }
+
+-- no bytes
+pub no_bytes : (bytes : List ℕ) → length bytes ≡ 0 → bytes ≡ []
+no_bytes [] none = refl
+no_bytes (byte ∷ bytes) none = absurd (omega (arith, none))
+
+-- both, however that ends
+pub line_ran_where : (result : Result (Unit {0}) SimEnd) (s t : Sim) (before now : Option (List ℕ)) (ready left line : List ℕ)
+    → NoEnd line → OnOk result (Played (with_text ready s) t line before now left)
+    → OnOk result ((others : List ℕ) → Ran (with_text ready s) t before now left (line ++ 10 ∷ others) others)
+line_ran_where (Ok u) s t before now ready left line none played = λ others. line_ran s t before now ready left line none played others
+line_ran_where (Err how) s t before now ready left line none played = tt
+
+pub line_piece_where : (result : Result (Unit {0}) SimEnd) (s : Sim) (before now : Option (List ℕ)) (ready line : List ℕ) (failures_before failures_now : ℕ)
+    → NoEnd line → LineEnds result (with_text ready s) line before now failures_before failures_now
+    → (others : List ℕ) → PieceEnds result (with_text ready s) before now (line ++ 10 ∷ others) failures_before failures_now
+line_piece_where (Ok u) s before now ready line failures_before failures_now none ends others = tt
+line_piece_where (Err how) s before now ready line failures_before failures_now none ends others =
+    line_piece how s before now ready line failures_before failures_now none ends others
 
 -- no line is served for want of memory
-pub line_flushed : (how : SimEnd) (s : Sim) (before now : Option (List ℕ)) (ready waiting : List ℕ) (failures_before failures_now : ℕ)
+pub piece_flushed : (how : SimEnd) (s : Sim) (before now : Option (List ℕ)) (ready waiting : List ℕ) (failures_before failures_now : ℕ)
     → Flushes how before now ready failures_before failures_now
     → PieceEnds (Err how) (with_text ready s) before now waiting failures_before failures_now
-line_flushed how s before now ready waiting failures_before failures_now flushes =
+piece_flushed how s before now ready waiting failures_before failures_now flushes =
     flushed how (with_text ready s) s before before now ready waiting waiting failures_before failures_now (ran_start s before ready waiting) flushes

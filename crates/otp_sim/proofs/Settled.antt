@@ -7,17 +7,38 @@ use Rattle.otp_rules.specs.Step.{step}
 use Rattle.otp_rules.specs.Next.{idle_kind}
 use Rattle.otp_sim.specs.declared.session.Stop.{Stop}
 use Rattle.otp_sim.specs.declared.session.Stop.TheVariants as stop
-use Rattle.otp_sim.specs.Sim.{Sim, event_of, happen, if_some, next_kind, settled, settled_within, stepped}
+use Rattle.otp_sim.specs.Sim.{Sim, event_of, followed, happen, if_some, next_kind, settled, stepped, went_on}
 
-done : (room : ℕ) (s : Sim) → next_kind s ≡ None → settled_within room s ≡ s
-unfolding settled_within
-done zero s none = ap (λ (k : Option Kind). if_some k (λ kind. happen kind s) s) none
-done (suc room) s none = ap (λ (k : Option Kind). if_some k (λ kind. settled_within room (happen kind s)) s) none
+-- where nothing follows
+pub stays : (s : Sim) → next_kind s ≡ None → went_on s ≡ s
+unfolding went_on
+stays s none = ap (λ (k : Option Kind). if_some k (λ kind. happen kind s) s) none
+
+-- where something does
+pub goes : (k : Kind) (s : Sim) → next_kind s ≡ Some k → went_on s ≡ happen k s
+unfolding went_on
+goes k s next = ap (λ (o : Option Kind). if_some o (λ kind. happen kind s) s) next
+
+done : (events : ℕ) (s : Sim) → next_kind s ≡ None → followed events s ≡ s
+unfolding followed
+done zero s none = refl
+done (suc events) s none = ap (followed events) (stays s none) ∙ done events s none
 
 -- nothing is left to happen
 pub settled_done : (s : Sim) → next_kind s ≡ None → settled s ≡ s
 unfolding settled
-settled_done s none = done s.room s none
+settled_done s none = done (suc s.room) s none
+
+-- after the end nothing follows
+pub ended_none : (s : Sim) → is_some s.end ≡ true → next_kind s ≡ None
+unfolding next_kind
+ended_none s e = ap (λ (b : Bool). if b then None else idle_kind s.state s.is_stopping) e
+
+-- the last of so many events
+pub followed_last : (events : ℕ) (s : Sim) → followed (suc events) s ≡ went_on (followed events s)
+unfolding followed
+followed_last zero s = refl
+followed_last (suc events) s = followed_last events (went_on s)
 
 abbrev pub full : Sim → Sim
 full s = record s { end = Some stop.HistoryFull }
@@ -44,19 +65,27 @@ is_zero n e = ap (λ m. m == 0) e
 not_zero : (n m : ℕ) → n ≡ m + 1 → (n == 0) ≡ false
 not_zero n m e = grind arith
 
-step_on : (room : ℕ) (k : Kind) (s : Sim) → s.room ≡ room → next_kind s ≡ Some k → settled_within room s ≡ settled (happen k s)
-unfolding settled settled_within
+step_on : (room : ℕ) (k : Kind) (s : Sim) → s.room ≡ room → next_kind s ≡ Some k → followed room (happen k s) ≡ settled (happen k s)
+unfolding settled followed
 step_on zero k s is next =
     let ends : next_kind (happen k s) ≡ None = ap next_kind (happen_full k s (is_zero s.room is)) ∙ full_ends s in
-    ap (λ (o : Option Kind). if_some o (λ kind. happen kind s) s) next ∙ sym (done (happen k s).room (happen k s) ends)
+    sym (done (suc (happen k s).room) (happen k s) ends)
 step_on (suc room) k s is next =
     let rest : (happen k s).room ≡ room = happen_room k s (not_zero s.room room (omega (arith, is))) ∙ omega (arith, is) in
-    ap (λ (o : Option Kind). if_some o (λ kind. settled_within room (happen kind s)) s) next ∙ ap (λ n. settled_within n (happen k s)) (sym rest)
+    ap (λ n. followed (suc n) (happen k s)) (sym rest)
 
 -- what is left to happen goes on where something happens
-pub settled_on : (k : Kind) (s : Sim) → next_kind s ≡ Some k → settled s ≡ settled (happen k s)
-unfolding settled
-settled_on k s next = step_on s.room k s refl next
+settled_on : (k : Kind) (s : Sim) → next_kind s ≡ Some k → settled s ≡ settled (happen k s)
+unfolding settled followed
+settled_on k s next = ap (followed s.room) (goes k s next) ∙ step_on s.room k s refl next
+
+-- what is left to happen is the same after the next of it
+pub settled_went_on : (s : Sim) → settled (went_on s) ≡ settled s
+settled_went_on s =
+    (elim (next_kind s) as (λ next. next_kind s ≡ next → settled (went_on s) ≡ settled s) [
+      | None ↦ λ e. ap settled (stays s e)
+      | Some k ↦ λ e. ap settled (goes k s e) ∙ sym (settled_on k s e)
+    ]) refl
 
 -- how much can still happen
 abbrev pub remaining : Sim → ℕ
@@ -70,7 +99,7 @@ goes_on k s next =
       | false ↦ λ e. refl
     ]) next
 
-pub remaining_falls : (k : Kind) (s : Sim) → next_kind s ≡ Some k → remaining (happen k s) < remaining s
+remaining_falls : (k : Kind) (s : Sim) → next_kind s ≡ Some k → remaining (happen k s) < remaining s
 remaining_falls k s next =
     let going : remaining s ≡ s.room + 1 = ap (λ (b : Bool). if b then 0 else (s.room + 1)) (goes_on k s next) in
     (elim (s.room == 0) as (λ b. (s.room == 0) ≡ b → remaining (happen k s) < remaining s) [
@@ -81,3 +110,22 @@ remaining_falls k s next =
           let some : s.room ≢ 0 = λ zero. absurd (false≢true (sym e ∙ is_zero s.room zero)) in
           omega (arith, room, left, going, some)
     ]) refl
+
+-- less can still happen after something did
+pub remaining_fell : (s : Sim) → is_some (next_kind s) ≡ true → remaining (went_on s) < remaining s
+remaining_fell s some =
+    (elim (next_kind s) as (λ next. next_kind s ≡ next → is_some next ≡ true → remaining (went_on s) < remaining s) [
+      | None ↦ λ e none. cc
+      | Some k ↦ λ e is.
+          let same : remaining (went_on s) ≡ remaining (happen k s) = ap remaining (goes k s e) in
+          let falls : remaining (happen k s) < remaining s = remaining_falls k s e in
+          omega (arith, same, falls)
+    ]) refl some
+
+-- nothing follows where nothing is said to
+pub none_follows : (s : Sim) → is_some (next_kind s) ≡ false → next_kind s ≡ None
+none_follows s none =
+    (elim (next_kind s) as (λ next. is_some next ≡ false → next ≡ None) [
+      | None ↦ λ e. refl
+      | Some k ↦ λ e. cc
+    ]) none

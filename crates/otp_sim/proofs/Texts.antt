@@ -1,5 +1,6 @@
 -- What is printed doesn't depend on what was printed before.
-use Rattle.std.proofs.Common.{◌≡◌, ℕ, zero, suc, ◌+◌, ◌==◌, true, false, cond, List, [], ◌∷◌, ◌++◌, Option, Some, None, is_some, refl, ap, ◌∙◌, append_assoc}
+use Rattle.std.proofs.Common.{◌≡◌, ℕ, zero, suc, ◌+◌, ◌==◌, true, false, cond, List, [], ◌∷◌, ◌++◌, Option, Some, None, is_some, refl, ap, sym, ◌∙◌, append_assoc}
+use Rattle.std.proofs.lemmas.List.{append-nil}
 use Rattle.otp_rules.specs.declared.event.Event.{Event}
 use Rattle.otp_rules.specs.declared.event.Kind.{Kind}
 use Rattle.otp_rules.specs.declared.event.Kind.TheVariants as kind
@@ -8,10 +9,10 @@ use Rattle.otp_rules.specs.Step.{step}
 use Rattle.otp_text.specs.declared.line.Line.{Line}
 use Rattle.otp_text.specs.declared.line.Line.TheVariants as line
 use Rattle.otp_text.specs.Lines.{line_of}
-use Rattle.otp_sim.specs.Sim.{Sim, event_of, stepped, happen, next_kind, if_some, settled_within, settled, is_due, ticked, take_read, take_form, take_line, take_lines, orders_text}
+use Rattle.otp_sim.specs.Sim.{Sim, event_of, stepped, happen, next_kind, if_some, went_on, followed, settled, is_due, ticked, take_read, begin_form, begin_line, take_line, take_lines, orders_text}
 use Rattle.otp_sim.specs.declared.session.Stop.TheVariants.{HistoryFull}
 use Rattle.otp_sim.specs.Devices.{Begins}
-use Rattle.otp_sim.specs.Runs.{with_text}
+use Rattle.otp_sim.specs.Runs.{with_text, begun, begun_first}
 
 -- s, had this text been printed before
 abbrev pub after : List ℕ → Sim → Sim
@@ -30,22 +31,28 @@ happen_after front what s =
     ≡ after front (cond full (record s { end = Some HistoryFull }) (stepped (event_of what s) (step s.state (event_of what s)) s)))
     [ true ↦ refl | false ↦ stepped_after front (event_of what s) (step s.state (event_of what s)) s ]
 
-settled_within_after : (room : ℕ) (front : List ℕ) (s : Sim) → settled_within room (after front s) ≡ after front (settled_within room s)
-unfolding settled_within next_kind
-settled_within_after zero front s =
+pub went_on_after : (front : List ℕ) (s : Sim) → went_on (after front s) ≡ after front (went_on s)
+unfolding went_on next_kind
+went_on_after front s =
     elim (next_kind s) as (λ next. if_some next (λ what. happen what (after front s)) (after front s) ≡ after front (if_some next (λ what. happen what s) s))
     [ None ↦ refl | Some what ↦ happen_after front what s ]
-settled_within_after (suc room) front s =
-    elim (next_kind s) as (λ next.
-    if_some next (λ what. settled_within room (happen what (after front s))) (after front s)
-    ≡ after front (if_some next (λ what. settled_within room (happen what s)) s)) [
-      | None ↦ refl
-      | Some what ↦ ap (settled_within room) (happen_after front what s) ∙ settled_within_after room front (happen what s)
-    ]
+
+followed_after : (events : ℕ) (front : List ℕ) (s : Sim) → followed events (after front s) ≡ after front (followed events s)
+unfolding followed
+followed_after zero front s = refl
+followed_after (suc events) front s = ap (followed events) (went_on_after front s) ∙ followed_after events front (went_on s)
 
 settled_after : (front : List ℕ) (s : Sim) → settled (after front s) ≡ after front (settled s)
 unfolding settled
-settled_after front s = settled_within_after s.room front s
+settled_after front s = followed_after (suc s.room) front s
+
+-- what is printed for all that follows begins with what is printed so far
+pub settled_begins : (s : Sim) → Begins s.text (settled s).text
+settled_begins s =
+    let bare : Sim = with_text [] s in
+    let whole : settled s ≡ after s.text (settled bare) =
+    ap (λ text. settled (with_text text s)) (sym (append-nil s.text)) ∙ settled_after s.text bare in
+    record { rest = (settled bare).text; same = ap (λ (t : Sim). t.text) whole }
 
 ticked_after : (front : List ℕ) (s : Sim) → ticked (after front s) ≡ after front (ticked s)
 unfolding ticked is_due
@@ -61,18 +68,33 @@ take_read_after front (line.Note note) s = happen_after front _ s
 take_read_after front line.Stop s = refl
 take_read_after front (line.Call call) s = happen_after front _ (record s { calls = s.calls + 1 })
 
-take_form_after : (front : List ℕ) (read : Option Line) (s : Sim) → take_form read (after front s) ≡ after front (take_form read s)
-unfolding take_form
-take_form_after front None s = refl
-take_form_after front (Some read) s = ap settled (take_read_after front read s) ∙ settled_after front (take_read read s)
+begin_form_after : (front : List ℕ) (read : Option Line) (s : Sim) → begin_form read (after front s) ≡ after front (begin_form read s)
+unfolding begin_form
+begin_form_after front None s = refl
+begin_form_after front (Some read) s = take_read_after front read s
+
+begin_line_after : (front bytes : List ℕ) (s : Sim) → begin_line bytes (after front s) ≡ after front (begin_line bytes s)
+unfolding begin_line
+begin_line_after front bytes s =
+    elim (is_some s.end) as (λ ended.
+    cond ended (after front s) (begin_form (line_of bytes) (after front (record s { lines = s.lines + 1 })))
+    ≡ after front (cond ended s (begin_form (line_of bytes) (record s { lines = s.lines + 1 }))))
+    [ true ↦ refl | false ↦ begin_form_after front (line_of bytes) (record s { lines = s.lines + 1 }) ]
 
 pub take_line_after : (front bytes : List ℕ) (s : Sim) → take_line bytes (after front s) ≡ after front (take_line bytes s)
 unfolding take_line
-take_line_after front bytes s =
-    elim (is_some s.end) as (λ ended.
-    cond ended (after front s) (take_form (line_of bytes) (after front (record s { lines = s.lines + 1 })))
-    ≡ after front (cond ended s (take_form (line_of bytes) (record s { lines = s.lines + 1 }))))
-    [ true ↦ refl | false ↦ take_form_after front (line_of bytes) (record s { lines = s.lines + 1 }) ]
+take_line_after front bytes s = ap settled (begin_line_after front bytes s) ∙ settled_after front (begin_line bytes s)
+
+pub begun_after : (events : ℕ) (front bytes : List ℕ) (s : Sim) → begun events bytes (after front s) ≡ after front (begun events bytes s)
+unfolding begun
+begun_after zero front bytes s = refl
+begun_after (suc events) front bytes s = ap (followed events) (begin_line_after front bytes s) ∙ followed_after events front (begin_line bytes s)
+
+pub begun_first_after : (events : ℕ) (front : List ℕ) (lines : List (List ℕ)) (s : Sim)
+    → begun_first events lines (after front s) ≡ after front (begun_first events lines s)
+unfolding begun_first
+begun_first_after events front [] s = refl
+begun_first_after events front (bytes ∷ _) s = begun_after events front bytes s
 
 pub take_lines_after : (front : List ℕ) (lines : List (List ℕ)) (s : Sim) → take_lines lines (after front s) ≡ after front (take_lines lines s)
 unfolding take_lines

@@ -1,5 +1,5 @@
 -- How far a run of `sim` has come, and how it ends (own).
-use Rattle.std.specs.Prelude.{◌≡◌, ◌==◌, ℕ, ◌<◌, ◌≤◌, length, take, ◌⊎◌, false, List, ◌++◌, Option, IfSome, Result, Ok, Err, []}
+use Rattle.std.specs.Prelude.{◌≡◌, ◌==◌, ℕ, zero, suc, ◌<◌, ◌≤◌, length, take, ◌⊎◌, false, List, ◌∷◌, ◌++◌, Option, IfSome, Result, Ok, Err, []}
 use Rattle.std.specs.List.{All}
 use Rattle.std.specs.Io.KnownBytes.{Appends, Consumes, IsAtEnd, Keeps}
 use Rattle.otp_sim.specs.declared.engine.TheConstants.{MOST_BYTES}
@@ -7,11 +7,21 @@ use Rattle.otp_sim.specs.declared.engine.SimEnd.{SimEnd}
 use Rattle.otp_sim.specs.declared.engine.SimEnd.TheVariants.{Done, LineRefused, HistoryFull, InputFailed, OutputFailed, Memory}
 use Rattle.otp_sim.specs.declared.session.Stop.{Stop}
 use Rattle.otp_sim.specs.Devices.{Begins, AppendsPart}
-use Rattle.otp_sim.specs.Sim.{Sim, take_line, take_lines, lines_of, sim_text, sim_end, whole_text, end_of}
+use Rattle.otp_sim.specs.Sim.{Sim, begin_line, followed, take_line, take_lines, lines_of, sim_text, sim_end, whole_text, end_of}
 
 -- with this text printed so far
 abbrev pub with_text : List ℕ → Sim → Sim
 with_text text s = record s { text = text }
+
+-- so many of the events of a line: the first is what it does by itself
+unfoldable pub begun : ℕ → List ℕ → Sim → Sim
+begun zero line s = s
+begun (suc events) line s = followed events (begin_line line s)
+
+-- the same of the first of these lines, if there is one
+unfoldable pub begun_first : ℕ → List (List ℕ) → Sim → Sim
+begun_first events [] s = s
+begun_first events (line ∷ _) s = begun events line s
 
 -- of the bytes taken some lines have been served, and these bytes wait; so it stands at s
 pub record Served (start : Sim) (taken waiting : List ℕ) (s : Sim) : Type 0 where
@@ -36,12 +46,13 @@ pub record WrotePart (start : Sim) (before now : Option (List ℕ)) (bytes : Lis
   pub written : Appends before now text
   pub begins : Begins text (sim_text start bytes)
 
--- the writer got exactly the text of some first lines
+-- the writer got exactly the text of some first lines, and of so many of the first events of the next
 pub record WroteFirst (start : Sim) (before now : Option (List ℕ)) (bytes : List ℕ) : Type 0 where
   pub lines : List (List ℕ)
   pub others : List (List ℕ)
   pub first : lines_of bytes ≡ lines ++ others
-  pub text : Appends before now (take_lines lines start).text
+  pub events : ℕ
+  pub text : Appends before now (begun_first events others (take_lines lines start)).text
 
 -- the writer got the text of the lines whose LF was read, and then the reader failed or had given the most bytes that are read
 pub record WroteLines (start : Sim) (left_before left_now before now : Option (List ℕ)) (failures_before failures_now : ℕ) : Type 0 where
@@ -110,6 +121,27 @@ Flushes InputFailed before now ready failures_before failures_now = ⊥
 Flushes OutputFailed before now ready failures_before failures_now = AppendsPart before now ready × (failures_before < failures_now)
 Flushes Memory before now ready failures_before failures_now = Appends before now ready
 
+-- a line is played from one state on, and has come to another; part of the text has been written, and part is ready to be
+pub record Played (from to : Sim) (line : List ℕ) (before now : Option (List ℕ)) (ready : List ℕ) : Type 0 where
+  pub written : List ℕ
+  pub appended : Appends before now written
+  pub same : with_text (written ++ ready) to ≡ take_line line from
+
+-- within a line, for want of memory: the text of so many of its events was written
+pub record Stopped (from : Sim) (line : List ℕ) (before now : Option (List ℕ)) : Type 0 where
+  pub events : ℕ
+  pub text : Appends before now (begun events line from).text
+
+-- playing a line ends for want of memory, or because the writer failed in it
+abbrev pub LineEnds : Result (Unit {0}) SimEnd → Sim → List ℕ → Option (List ℕ) → Option (List ℕ) → ℕ → ℕ → Type 0
+LineEnds (Ok _) from line before now failures_before failures_now = Unit {0}
+LineEnds (Err Done) from line before now failures_before failures_now = ⊥
+LineEnds (Err (LineRefused _)) from line before now failures_before failures_now = ⊥
+LineEnds (Err HistoryFull) from line before now failures_before failures_now = ⊥
+LineEnds (Err InputFailed) from line before now failures_before failures_now = ⊥
+LineEnds (Err OutputFailed) from line before now failures_before failures_now = AppendsPart before now (take_line line from).text × (failures_before < failures_now)
+LineEnds (Err Memory) from line before now failures_before failures_now = Stopped from line before now
+
 -- from s on a last line was served, and its text written, by how that ended
 abbrev pub LastWrites : SimEnd → List ℕ → Sim → Option (List ℕ) → Option (List ℕ) → ℕ → ℕ → Type 0
 LastWrites Done line s before now failures_before failures_now = Appends before now (take_line line s).text × (Done ≡ end_of (take_line line s).end)
@@ -117,7 +149,7 @@ LastWrites (LineRefused number) line s before now failures_before failures_now =
 LastWrites HistoryFull line s before now failures_before failures_now = Appends before now (take_line line s).text × (HistoryFull ≡ end_of (take_line line s).end)
 LastWrites InputFailed line s before now failures_before failures_now = ⊥
 LastWrites OutputFailed line s before now failures_before failures_now = AppendsPart before now (take_line line s).text × (failures_before < failures_now)
-LastWrites Memory line s before now failures_before failures_now = Appends before now s.text
+LastWrites Memory line s before now failures_before failures_now = Stopped s line before now
 
 -- only a beginning was written, however the input goes on
 pub record Broke (start : Sim) (before now : Option (List ℕ)) (taken : List ℕ) : Type 0 where
@@ -125,11 +157,14 @@ pub record Broke (start : Sim) (before now : Option (List ℕ)) (taken : List �
   pub written : Appends before now text
   pub begins : (more : List ℕ) → Begins text (take_lines (lines_of (taken ++ more)) start).text
 
--- all that the lines served so far print was written
+-- all that the lines served so far print was written, and the text of so many events of the next
 pub record Halted (start : Sim) (before now : Option (List ℕ)) (taken : List ℕ) : Type 0 where
-  pub s : Sim
-  pub waiting : List ℕ
-  pub ran : Ran start s before now [] taken waiting
+  pub lines : List (List ℕ)
+  -- with more of the input
+  pub others : List ℕ → List (List ℕ)
+  pub cut : (more : List ℕ) → lines_of (taken ++ more) ≡ lines ++ others more
+  pub events : ℕ
+  pub text : (more : List ℕ) → Appends before now (begun_first events (others more) (take_lines lines start)).text
 
 -- serving a piece of the input ends for want of memory, or because the writer failed in it
 abbrev pub PieceEnds : Result (Unit {0}) SimEnd → Sim → Option (List ℕ) → Option (List ℕ) → List ℕ → ℕ → ℕ → Type 0

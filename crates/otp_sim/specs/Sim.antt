@@ -93,13 +93,18 @@ abbrev pub if_some : Option Kind → (Kind → Sim) → Sim → Sim
 if_some None then_of otherwise = otherwise
 if_some (Some kind) then_of otherwise = then_of kind
 
--- all of this happens, one after another, until none is left to happen; each event takes room of the history
-unfoldable pub settled_within : ℕ → Sim → Sim
-settled_within zero s = if_some (next_kind s) (λ kind. happen kind s) s
-settled_within (suc room) s = if_some (next_kind s) (λ kind. settled_within room (happen kind s)) s
+-- the next of what follows, if something does
+unfoldable pub went_on : Sim → Sim
+went_on s = if_some (next_kind s) (λ kind. happen kind s) s
 
+-- so many of the events that follow, as far as something follows
+unfoldable pub followed : ℕ → Sim → Sim
+followed zero s = s
+followed (suc events) s = followed events (went_on s)
+
+-- all of them, until none is left to happen; each event takes room of the history, and the last may find it full
 unfoldable pub settled : Sim → Sim
-settled s = settled_within s.room s
+settled s = followed (suc s.room) s
 
 -- a deadline of a child that was told to shut down has come
 unfoldable pub is_due : Sim → Bool
@@ -116,14 +121,18 @@ take_read (line.Note note) s = happen (kind.Took (item.Note note)) s
 take_read line.Stop s = record s { is_stopping = true }
 take_read (line.Call call) s = happen (kind.Took (item.Call (s.calls + 1) call)) (record s { calls = s.calls + 1 })
 
--- a line that has a form, and one that has none
-unfoldable pub take_form : Option Line → Sim → Sim
-take_form None s = record s { end = Some (stop.LineRefused s.lines) }
-take_form (Some read) s = settled (take_read read s)
+-- what a line does by itself that has a form, and one that has none
+unfoldable pub begin_form : Option Line → Sim → Sim
+begin_form None s = record s { end = Some (stop.LineRefused s.lines) }
+begin_form (Some read) s = take_read read s
 
--- a line of the input
+-- what a line of the input does by itself; after the end it does nothing
+unfoldable pub begin_line : List ℕ → Sim → Sim
+begin_line bytes s = if is_some s.end then s else begin_form (line_of bytes) (record s { lines = s.lines + 1 })
+
+-- a line of the input, and all that follows
 unfoldable pub take_line : List ℕ → Sim → Sim
-take_line bytes s = if is_some s.end then s else take_form (line_of bytes) (record s { lines = s.lines + 1 })
+take_line bytes s = settled (begin_line bytes s)
 
 -- lines of the input, one after another
 unfoldable pub take_lines : List (List ℕ) → Sim → Sim

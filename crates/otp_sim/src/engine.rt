@@ -7,7 +7,7 @@ ghost use Rattle.otp_sim.specs.Sim.{opened};
 use crate::device::{Input, Output, PIECE};
 use crate::player::Player;
 use crate::reading::read_next;
-use crate::serving::serve_piece;
+use crate::serving::{serve_line, serve_piece};
 use crate::session::Session;
 use crate::writing::{finish, out_of_memory, write_out};
 use otp_spec::SupSpec;
@@ -36,12 +36,13 @@ const MOST_BYTES: u64 = 1 << 62;
 
 /// Reads lines, plays them on a supervisor with these flags and children, and writes its orders, each as a line.
 ///
-/// Printed text is written before each read that might wait.
+/// Printed text is written before each read that might wait, and as soon as it is 64 KiB: a run holds no more of what it
+/// prints than that and the text of one event.
 ///
 /// The input and the output are said to have failed only where they did, or where 2^62 bytes were read.
 /// Where a write failed, a beginning of the text was written; where a read failed, the text of the lines that were
-/// read with their LF. Where memory was refused, the text of some first lines, none cut short; or nothing
-/// was read or written, since the supervisor was not opened. Where a write fails after memory was refused, the output
+/// read with their LF. Where memory was refused, the text of some first lines, and of some first events of the next, none
+/// cut short; or nothing was read or written, since the supervisor was not opened. Where a write fails after memory was refused, the output
 /// is said to have failed.
 pub fn sim<R: Input, W: Output>(
     alloc: Global,
@@ -121,8 +122,8 @@ fn serve_last<S: Session, W: Output>(
     requires { (S.sim session.old).lines + 1 < 2 ^ 63 }
     ensures { LastWrites result line.now (with_text ready.old.items (S.sim session.old)) (W.contents output.old) (W.contents output.new) (W.failures output.old) (W.failures output.new) }
 {
-    let Ok(()) = session.take_line(line, ready) else {
-        return out_of_memory(output, ready);
-    };
+    if let Err(end) = serve_line(session, ready, output, line) {
+        return end;
+    }
     finish(output, ready, session.end())
 }

@@ -6,7 +6,7 @@ ghost use Rattle.std.specs.List.{flat_map};
 ghost use Rattle.otp_core.specs.View.{state_of};
 ghost use Rattle.otp_rules.specs.Needs.{needs_number};
 ghost use Rattle.otp_rules.specs.Run.{reply_of};
-ghost use Rattle.otp_sim.specs.Sim.{event_of, happen, is_due, next_kind, opened, orders_text, settled, take_form, take_line, take_read, ticked, told_by};
+ghost use Rattle.otp_sim.specs.Sim.{begin_form, begin_line, event_of, happen, is_due, next_kind, opened, orders_text, take_read, ticked, told_by, went_on};
 ghost use Rattle.otp_sim.specs.Devices.{Begins};
 ghost use Rattle.otp_sim.specs.Runs.{with_text};
 
@@ -136,16 +136,23 @@ impl Player {
         self.core.idle_kind(self.is_stopping)
     }
 
-    /// All of that happens until none is left to happen.
-    fn settle(&mut self, out: &mut Vec<u8>) -> Result<(), AllocError>
-        ensures ok { OnOk result (with_text out.new.items self.new ≡ settled (with_text out.old.items self.old)) }
+    /// The next of what follows a line by itself, and whether something did.
+    ///
+    /// # Errors
+    ///
+    /// Where memory is refused. Then part of the text may have been appended, and the player is not used again.
+    #[tactic(auto, unfolding(crate::specs::Sim::went_on))]
+    pub(crate) fn play_next(&mut self, out: &mut Vec<u8>) -> Result<bool, AllocError>
+        ensures ok { OnOk result (with_text out.new.items self.new ≡ went_on (with_text out.old.items self.old)) }
+        ensures happened { IfOk result (λ happened. happened ≡ is_some (next_kind self.old)) }
         ensures kept { Begins out.old.items out.new.items }
         ensures lines { self.new.lines ≡ self.old.lines }
     {
-        while let Some(kind) = self.next_kind() {
-            self.happen(kind, out)?;
-        }
-        Ok(())
+        let Some(kind) = self.next_kind() else {
+            return Ok(false);
+        };
+        self.happen(kind, out)?;
+        Ok(true)
     }
 
     /// What a line does by itself.
@@ -181,13 +188,13 @@ impl Player {
 }
 
 impl Player {
-    /// A line that has a form, or none.
-    #[tactic(auto, unfolding(crate::specs::Sim::take_form))]
-    fn take_form(&mut self, line: Option<Line>, out: &mut Vec<u8>) -> Result<(), AllocError>
+    /// What a line does by itself that has a form, or none.
+    #[tactic(auto, unfolding(crate::specs::Sim::begin_form))]
+    fn begin_form(&mut self, line: Option<Line>, out: &mut Vec<u8>) -> Result<(), AllocError>
         requires calls { self.old.calls < self.old.lines }
         requires time { IfSome line (λ read. IsTimely read) }
         requires lines { self.old.lines < 2 ^ 63 }
-        ensures ok { OnOk result (with_text out.new.items self.new ≡ take_form line (with_text out.old.items self.old)) }
+        ensures ok { OnOk result (with_text out.new.items self.new ≡ begin_form line (with_text out.old.items self.old)) }
         ensures kept { Begins out.old.items out.new.items }
         ensures lines { self.new.lines ≡ self.old.lines }
     {
@@ -196,22 +203,19 @@ impl Player {
                 self.end = Some(Stop::LineRefused(self.lines));
                 Ok(())
             }
-            Some(read) => {
-                self.take_read(read, out)?;
-                self.settle(out)
-            }
+            Some(read) => self.take_read(read, out),
         }
     }
 
-    /// A line of the input, without its LF. What it prints is appended.
+    /// What a line of the input, without its LF, does by itself. What that prints is appended.
     ///
     /// # Errors
     ///
-    /// Where memory is refused. Then part of the line's text may have been appended, and the player is not used again.
-    #[tactic(auto, unfolding(crate::specs::Sim::take_line))]
+    /// Where memory is refused. Then part of the text may have been appended, and the player is not used again.
+    #[tactic(auto, unfolding(crate::specs::Sim::begin_line))]
     pub(crate) fn play_line(&mut self, line: &[u8], out: &mut Vec<u8>) -> Result<(), AllocError>
         requires { self.old.lines + 1 < 2 ^ 63 }
-        ensures ok { OnOk result (with_text out.new.items self.new ≡ take_line line.now (with_text out.old.items self.old)) }
+        ensures ok { OnOk result (with_text out.new.items self.new ≡ begin_line line.now (with_text out.old.items self.old)) }
         ensures kept { Begins out.old.items out.new.items }
         ensures lines { self.new.lines ≤ self.old.lines + 1 }
     {
@@ -219,7 +223,7 @@ impl Player {
             return Ok(());
         }
         self.lines += 1;
-        self.take_form(read_line(line), out)
+        self.begin_form(read_line(line), out)
     }
 
     /// Why no line is taken any more, if none is.

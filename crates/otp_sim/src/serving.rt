@@ -1,14 +1,12 @@
 //! Serving the lines of the input as it comes.
 
 ghost use Rattle.std.specs.Prelude.{◌≡◌, ◌==◌, ◌∷◌, ℕ, List, ◌+◌, ◌<◌, ◌≤◌, ◌^◌, ◌++◌, [], length, position, OnOk, OnErr, IfSome};
-ghost use Rattle.otp_sim.specs.Sim.{take_line};
-ghost use Rattle.otp_sim.specs.Runs.{with_text, Ran, PieceEnds, NoEnd};
+ghost use Rattle.otp_sim.specs.Runs.{with_text, LineEnds, Played, Ran, PieceEnds, NoEnd};
 
 use crate::device::Output;
 use crate::engine::SimEnd;
 use crate::session::Session;
 use crate::writing::{out_of_memory, write_much};
-use std::alloc::AllocError;
 
 /// Serves all lines whose end is in the piece, and keeps the beginning of the next line.
 ///
@@ -44,7 +42,7 @@ pub(crate) fn serve_piece<S: Session, W: Output>(
     Ok(())
 }
 
-/// Serves the line of what was kept and a last part, and writes what is ready if it is much.
+/// Serves the line of what was kept and a last part.
 fn serve_next<S: Session, W: Output>(
     session: &mut S,
     kept: &mut Vec<u8>,
@@ -60,12 +58,16 @@ fn serve_next<S: Session, W: Output>(
     ensures err { (others : List ℕ) → PieceEnds result (with_text ready.old.items (S.sim session.old)) (W.contents output.old) (W.contents output.new) (kept.old.items ++ part.now ++ 10 ∷ others) (W.failures output.old) (W.failures output.new) }
     ensures failures { W.failures output.old ≤ W.failures output.new }
 {
-    let Ok(()) = serve_line(session, kept, ready, part) else {
+    if kept.is_empty() {
+        return serve_line(session, ready, output, part);
+    }
+    let Ok(()) = kept.extend_from_slice(part) else {
         return Err(out_of_memory(output, ready));
     };
-    let Ok(()) = write_much(output, ready) else {
-        return Err(SimEnd::OutputFailed);
-    };
+    if let Err(why) = serve_line(session, ready, output, kept.as_slice()) {
+        return Err(why);
+    }
+    kept.clear();
     Ok(())
 }
 
@@ -77,24 +79,37 @@ fn line_end(bytes: &[u8]) -> Option<usize>
     bytes.iter().position(|byte| *byte == b'\n')
 }
 
-/// Serves the line of what was kept and a last part. Where memory is refused, what was ready is as it was.
-fn serve_line<S: Session>(
+/// Serves a line, event by event: what is ready is written as soon as it is much, so that a run never holds more of what a
+/// line prints than a piece and the text of one event.
+///
+/// # Errors
+///
+/// [`SimEnd::Memory`], once the text of the events before is written, and [`SimEnd::OutputFailed`], where a beginning
+/// of it is.
+pub(crate) fn serve_line<S: Session, W: Output>(
     session: &mut S,
-    kept: &mut Vec<u8>,
     ready: &mut Vec<u8>,
-    part: &[u8],
-) -> Result<(), AllocError>
+    output: &mut W,
+    line: &[u8],
+) -> Result<(), SimEnd>
     requires { (S.sim session.old).lines + 1 < 2 ^ 63 }
-    ensures ok { OnOk result (with_text ready.new.items (S.sim session.new) ≡ take_line (kept.old.items ++ part.now) (with_text ready.old.items (S.sim session.old))) }
-    ensures err { OnErr result (ready.new.items ≡ ready.old.items) }
-    ensures empty { OnOk result (kept.new.items ≡ []) }
+    ensures ok { OnOk result (Played (with_text ready.old.items (S.sim session.old)) (S.sim session.new) line.now (W.contents output.old) (W.contents output.new) ready.new.items) }
     ensures lines { OnOk result ((S.sim session.new).lines ≤ (S.sim session.old).lines + 1) }
+    ensures err { LineEnds result (with_text ready.old.items (S.sim session.old)) line.now (W.contents output.old) (W.contents output.new) (W.failures output.old) (W.failures output.new) }
+    ensures failures { W.failures output.old ≤ W.failures output.new }
 {
-    if kept.is_empty() {
-        return session.take_line(part, ready);
+    let Ok(()) = session.begin_line(line, ready) else {
+        return Err(out_of_memory(output, ready));
+    };
+    let mut is_going = true;
+    while is_going {
+        let Ok(()) = write_much(output, ready) else {
+            return Err(SimEnd::OutputFailed);
+        };
+        let Ok(went_on) = session.go_on(ready) else {
+            return Err(out_of_memory(output, ready));
+        };
+        is_going = went_on;
     }
-    kept.extend_from_slice(part)?;
-    session.take_line(kept.as_slice(), ready)?;
-    kept.clear();
     Ok(())
 }

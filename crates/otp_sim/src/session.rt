@@ -1,7 +1,7 @@
 //! Who takes the lines.
 
-ghost use Rattle.std.specs.Prelude.{◌≡◌, ◌+◌, ◌<◌, ◌≤◌, ◌^◌, OnOk, OnErr};
-ghost use Rattle.otp_sim.specs.Sim.{Sim, take_line};
+ghost use Rattle.std.specs.Prelude.{◌≡◌, ◌+◌, ◌<◌, ◌≤◌, ◌^◌, OnOk, OnErr, IfOk, is_some};
+ghost use Rattle.otp_sim.specs.Sim.{Sim, begin_line, next_kind, went_on};
 ghost use Rattle.otp_sim.specs.Runs.{with_text};
 
 use std::alloc::AllocError;
@@ -20,16 +20,27 @@ pub trait Session {
     /// How it stands.
     ghost sim: { Self → Sim };
 
-    /// Takes a line, without its LF, and appends what is printed for it.
+    /// Takes what a line, without its LF, does by itself, and appends what is printed for it.
     ///
     /// # Errors
     ///
     /// Where memory is refused. Then nothing was appended, and the session is not to be used any more.
-    fn take_line(&mut self, line: &[u8], out: &mut Vec<u8>) -> Result<(), AllocError>
+    fn begin_line(&mut self, line: &[u8], out: &mut Vec<u8>) -> Result<(), AllocError>
         requires { (sim self.old).lines + 1 < 2 ^ 63 }
-        ensures ok { OnOk result (with_text out.new.items (sim self.new) ≡ take_line line.now (with_text out.old.items (sim self.old))) }
+        ensures ok { OnOk result (with_text out.new.items (sim self.new) ≡ begin_line line.now (with_text out.old.items (sim self.old))) }
         ensures err { OnErr result (out.new.items ≡ out.old.items) }
         ensures lines { OnOk result ((sim self.new).lines ≤ (sim self.old).lines + 1) };
+
+    /// Takes the next of what follows by itself, and appends what is printed for it. Says whether something did.
+    ///
+    /// # Errors
+    ///
+    /// As of [`Session::begin_line`].
+    fn go_on(&mut self, out: &mut Vec<u8>) -> Result<bool, AllocError>
+        ensures ok { OnOk result (with_text out.new.items (sim self.new) ≡ went_on (with_text out.old.items (sim self.old))) }
+        ensures happened { IfOk result (λ happened. happened ≡ is_some (next_kind (sim self.old))) }
+        ensures err { OnErr result (out.new.items ≡ out.old.items) }
+        ensures lines { OnOk result ((sim self.new).lines ≡ (sim self.old).lines) };
 
     /// Why no line is taken any more, if none is.
     fn end(&self) -> Option<Stop>

@@ -71,7 +71,7 @@ impl Output for Page {
     }
 }
 
-/// A player that is refused memory once it took so many lines.
+/// A player that is refused memory once so many things happened: lines, and what follows them.
 #[derive(Drop)]
 struct Refused {
     player: Player,
@@ -81,12 +81,20 @@ struct Refused {
 impl Session for Refused {
     ghost sim = { λ refused. refused.player };
 
-    fn take_line(&mut self, line: &[u8], out: &mut Vec<u8>) -> Result<(), AllocError> {
+    fn begin_line(&mut self, line: &[u8], out: &mut Vec<u8>) -> Result<(), AllocError> {
         if self.left == 0 {
             return Err(AllocError);
         }
         self.left -= 1;
-        self.player.take_line(line, out)
+        self.player.begin_line(line, out)
+    }
+
+    fn go_on(&mut self, out: &mut Vec<u8>) -> Result<bool, AllocError> {
+        if self.left == 0 {
+            return Err(AllocError);
+        }
+        self.left -= 1;
+        self.player.go_on(out)
     }
 
     fn end(&self) -> Option<Stop> {
@@ -286,11 +294,11 @@ fn failures_leave_a_beginning(rt: HostRuntime) -> Result<(), Fail> {
     Ok(())
 }
 
-/// Whether a run of some lines ends so and prints this, where memory is refused after so many of them and the writer
-/// has so much room.
+/// Whether a run of some lines ends so and prints this, where memory is refused once so many things happened and the
+/// writer has so much room.
 fn is_flushed(
     alloc: Global,
-    lines: usize,
+    happened: usize,
     room: usize,
     end: SimEnd,
     printed: &[u8],
@@ -301,10 +309,10 @@ fn is_flushed(
     let player = Player::open(alloc, lawful(alloc, &flags, &specs)?, &mut ready)?;
     let mut session = Refused {
         player,
-        left: lines,
+        left: happened,
     };
     let mut reader = Pieces {
-        text: b"up 1\nexit 1 error:x\nup 2\nwhich",
+        text: b"up 1\nexit 1 error:x\nup 2\nstop",
         size: 4096,
         good: usize::MAX,
         failures: Tally::new(),
@@ -314,9 +322,12 @@ fn is_flushed(
     Ok(ended == end && writer.bytes.as_slice() == printed)
 }
 
+/// A line is one thing that happens, and so is the question what follows it.
 #[test]
-fn refused_memory_loses_no_earlier_line(rt: HostRuntime) -> Result<(), Fail> {
+fn refused_memory_loses_nothing_earlier(rt: HostRuntime) -> Result<(), Fail> {
     let alloc = rt.alloc();
+    let restarted = b"start a #1\nready\nstart a #2\n".as_slice();
+    let asked = b"start a #1\nready\nstart a #2\nask a #2\n".as_slice();
     let rows = [
         (
             0usize,
@@ -330,22 +341,17 @@ fn refused_memory_loses_no_earlier_line(rt: HostRuntime) -> Result<(), Fail> {
             SimEnd::Memory,
             b"start a #1\nready\n".as_slice(),
         ),
-        (
-            2,
-            usize::MAX,
-            SimEnd::Memory,
-            b"start a #1\nready\nstart a #2\n".as_slice(),
-        ),
-        (2, 13, SimEnd::OutputFailed, b"start a #1\nre".as_slice()),
-        (
-            3,
-            usize::MAX,
-            SimEnd::Memory,
-            b"start a #1\nready\nstart a #2\n".as_slice(),
-        ),
+        (3, usize::MAX, SimEnd::Memory, restarted),
+        (3, 13, SimEnd::OutputFailed, b"start a #1\nre".as_slice()),
+        (7, usize::MAX, SimEnd::Memory, restarted),
+        (8, usize::MAX, SimEnd::Memory, asked),
+        (9, usize::MAX, SimEnd::Done, asked),
     ];
-    for (lines, room, end, printed) in rows {
-        assert!(rt; is_flushed(alloc, lines, room, end, printed)?, "{lines}");
+    for (happened, room, end, printed) in rows {
+        assert!(rt;
+            is_flushed(alloc, happened, room, end, printed)?,
+            "{happened}"
+        );
     }
     Ok(())
 }

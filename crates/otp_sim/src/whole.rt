@@ -1,4 +1,4 @@
-//! Lines that are printed whole or not at all.
+//! Events that are printed whole or not at all.
 
 ghost use Rattle.std.specs.Prelude.{◌≡◌, OnErr};
 
@@ -9,14 +9,24 @@ use std::alloc::AllocError;
 impl Session for Player {
     ghost sim = { λ player. player };
 
-    /// A line that is refused memory halfway is cut off again.
-    fn take_line(&mut self, line: &[u8], out: &mut Vec<u8>) -> Result<(), AllocError> {
+    /// An event that is refused memory halfway is cut off again.
+    fn begin_line(&mut self, line: &[u8], out: &mut Vec<u8>) -> Result<(), AllocError> {
         let before = out.len();
-        let taken = self.play_line(line, out);
-        if taken.is_err() {
+        let begun = self.play_line(line, out);
+        if begun.is_err() {
             out.truncate(before);
         }
-        taken
+        begun
+    }
+
+    /// An event that is refused memory halfway is cut off again.
+    fn go_on(&mut self, out: &mut Vec<u8>) -> Result<bool, AllocError> {
+        let before = out.len();
+        let went_on = self.play_next(out);
+        if went_on.is_err() {
+            out.truncate(before);
+        }
+        went_on
     }
 
     fn end(&self) -> Option<Stop> {

@@ -1,25 +1,41 @@
-use Rattle.std.proofs.Common.{◌≡◌, List, ℕ, subst}
-use Rattle.otp_sim.specs.Runs.{Flushes}
-use Rattle.otp_sim.proofs.Progress.{line_ran, line_broke, line_flushed}
+use Rattle.std.proofs.Common.{◌≡◌, ℕ, ◌++◌, ◌∷◌, ◌∙◌, List, [], length, Err, arith, subst, sym, vec_len}
+use Rattle.std.proofs.lemmas.Bool.{eqb-true}
+use Rattle.otp_sim.specs.Runs.{LineEnds, NoEnd, Played, with_text}
+use Rattle.otp_sim.proofs.Progress.{line_ran, line_ran_where, line_piece, line_piece_where, no_bytes, piece_flushed}
 use Rattle.otp_sim.proofs.serving.serve_next.Goals as goal
 
-pub returns-clause-ok : goal.returns-clause-ok
-returns-clause-ok g c =
-    line_ran (g.S.Session.sim c.args.session.now) (g.S.Session.sim c.serve_line.new.session) _ _
-    c.args.ready.now.items c.serve_line.new.ready.items c.write_much.new.ready.items _
-    c.requires.kept (c.in-Ok.ensures {u = tt}).ok (c.in-Ok-write_much.ensures {u = tt}).ok
+pub returns-then-is_empty-clause-ok : goal.returns-then-is_empty-clause-ok
+returns-then-is_empty-clause-ok g c =
+    let zero : vec_len c.args.kept.now ≡ 0 = eqb-true _ _ (sym (c.if-is_empty.ensures {u = tt})) in
+    let empty : c.args.kept.now.items ≡ [] = no_bytes c.args.kept.now.items (omega (arith, zero, c.args.kept.now.ok.0)) in
+    let none : NoEnd c.args.part.now = subst (λ (bytes : List ℕ). NoEnd (bytes ++ c.args.part.now)) empty c.requires.kept in
+    rw empty (line_ran_where c.serve_line.result (g.S.Session.sim c.args.session.now) (g.S.Session.sim c.serve_line.new.session) _ _
+    c.args.ready.now.items c.serve_line.new.ready.items c.args.part.now none c.serve_line.ensures.ok)
+
+pub returns-then-is_empty-clause-err : goal.returns-then-is_empty-clause-err
+returns-then-is_empty-clause-err g c others =
+    let zero : vec_len c.args.kept.now ≡ 0 = eqb-true _ _ (sym (c.if-is_empty.ensures {u = tt})) in
+    let empty : c.args.kept.now.items ≡ [] = no_bytes c.args.kept.now.items (omega (arith, zero, c.args.kept.now.ok.0)) in
+    let none : NoEnd c.args.part.now = subst (λ (bytes : List ℕ). NoEnd (bytes ++ c.args.part.now)) empty c.requires.kept in
+    rw empty (line_piece_where c.serve_line.result (g.S.Session.sim c.args.session.now) _ _ c.args.ready.now.items c.args.part.now _ _ none c.serve_line.ensures.err others)
 
 pub returns-in_default-clause-err : goal.returns-in_default-clause-err
 returns-in_default-clause-err g c others =
-    let same : c.serve_line.new.ready.items ≡ c.args.ready.now.items = c.in_default.ensures.err in
-    line_flushed c.out_of_memory.result (g.S.Session.sim c.args.session.now) _ _ c.args.ready.now.items _ _ _
-    (subst (λ (bytes : List ℕ). Flushes c.out_of_memory.result (g.W.Output.contents c.args.output.now) (g.W.Output.contents c.out_of_memory.new.output) bytes
-    (g.W.Output.failures c.args.output.now) (g.W.Output.failures c.out_of_memory.new.output)) same c.out_of_memory.ensures.end)
+    piece_flushed c.out_of_memory.result (g.S.Session.sim c.args.session.now) _ _ c.args.ready.now.items _ _ _ c.out_of_memory.ensures.end
 
-pub returns-in_default-write_much-clause-err : goal.returns-in_default-write_much-clause-err
-returns-in_default-write_much-clause-err g c others = (
-  line_broke (g.S.Session.sim c.args.session.now) (g.S.Session.sim c.serve_line.new.session) _ _
-      c.args.ready.now.items c.serve_line.new.ready.items _
-      c.requires.kept (c.in-Ok.ensures {u = tt}).ok c.write_much.ensures.part others,
-  c.in_default-write_much.ensures.failed,
-)
+pub returns-in-Err-clause-err : goal.returns-in-Err-clause-err
+returns-in-Err-clause-err g c others =
+    let line : c.as_slice.result.now ≡ c.args.kept.now.items ++ c.args.part.now = c.as_slice.ensures.value ∙ c.in-Ok.ensures.items in
+    line_piece c.in-Err.why (g.S.Session.sim c.args.session.now) _ _ c.args.ready.now.items (c.args.kept.now.items ++ c.args.part.now) _ _ c.requires.kept
+    (subst (λ (bytes : List ℕ). LineEnds (Err c.in-Err.why) (with_text c.args.ready.now.items (g.S.Session.sim c.args.session.now)) bytes
+    (g.W.Output.contents c.args.output.now) (g.W.Output.contents c.serve_line-2.new.output) (g.W.Output.failures c.args.output.now) (g.W.Output.failures c.serve_line-2.new.output))
+    line c.in-Err.ensures.err) others
+
+pub returns-clause-ok : goal.returns-clause-ok
+returns-clause-ok g c others =
+    let line : c.as_slice.result.now ≡ c.args.kept.now.items ++ c.args.part.now = c.as_slice.ensures.value ∙ c.in-Ok.ensures.items in
+    line_ran (g.S.Session.sim c.args.session.now) (g.S.Session.sim c.serve_line-2.new.session) _ _
+    c.args.ready.now.items c.serve_line-2.new.ready.items (c.args.kept.now.items ++ c.args.part.now) c.requires.kept
+    (subst (λ (bytes : List ℕ). Played (with_text c.args.ready.now.items (g.S.Session.sim c.args.session.now)) (g.S.Session.sim c.serve_line-2.new.session) bytes
+    (g.W.Output.contents c.args.output.now) (g.W.Output.contents c.serve_line-2.new.output) c.serve_line-2.new.ready.items)
+    line (c.in_default-serve_line.ensures {u = tt}).ok) others
