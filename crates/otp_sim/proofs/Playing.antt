@@ -1,5 +1,5 @@
 -- What playing a line, event by event, does to a run.
-use Rattle.std.proofs.Common.{◌≡◌, ℕ, suc, zero, ◌+◌, ◌<◌, ◌≤◌, Bool, true, false, List, [], ◌++◌, Option, None, Err, is_some, subst, refl, ap, sym, ◌∙◌, append_assoc, arith}
+use Rattle.std.proofs.Common.{◌≡◌, ℕ, suc, zero, ◌+◌, ◌<◌, ◌≤◌, Bool, true, false, List, [], ◌++◌, Option, None, Err, is_some, subst, ap, sym, ◌∙◌, append_assoc, arith}
 use Rattle.std.specs.Prelude.{if◌then◌else◌}
 use Rattle.std.specs.Io.KnownBytes.{Appends}
 use Rattle.otp_sim.specs.declared.session.Stop.{Stop}
@@ -7,7 +7,7 @@ use Rattle.otp_sim.specs.declared.engine.SimEnd.{SimEnd}
 use Rattle.otp_sim.specs.declared.engine.SimEnd.TheVariants.{Done, LineRefused, HistoryFull, InputFailed, OutputFailed, Memory}
 use Rattle.otp_sim.specs.Devices.{Begins, AppendsPart, Moves}
 use Rattle.otp_sim.specs.Sim.{Sim, begin_line, end_of, followed, next_kind, settled, take_line, went_on}
-use Rattle.otp_sim.specs.Runs.{Finishes, Flushes, LastWrites, LineEnds, Played, Stopped, begun, with_text}
+use Rattle.otp_sim.specs.Runs.{Finishes, Flushes, LastWrites, LineEnds, Played, begun, with_text}
 use Rattle.otp_sim.proofs.Settled.{followed_last, none_follows, remaining, remaining_fell, settled_done, settled_went_on, stays}
 use Rattle.otp_sim.proofs.Texts.{after, settled_begins, went_on_after}
 use Rattle.otp_sim.proofs.Progress.{begins_front, line_part}

@@ -18,7 +18,7 @@ use Rattle.otp_sim.specs.Devices.{AppendsPart, Moves}
 use Rattle.std.specs.Io.KnownBytes.{Appends}
 use Rattle.otp_sim.proofs.Writes.{appends_none, appends_more}
 use Rattle.otp_sim.proofs.Settled.{ended_none, settled_done}
-use Rattle.otp_sim.proofs.Texts.{take_line_after, take_lines_after, begun_after, begun_first_after, begins_then, after}
+use Rattle.otp_sim.proofs.Texts.{take_lines_after, begun_after, begun_first_after, begins_then, after}
 
 abbrev is_end : ℕ → Bool
 is_end byte = byte == 10
@@ -534,14 +534,16 @@ line_piece (LineRefused number) s before now ready line failures_before failures
 line_piece HistoryFull s before now ready line failures_before failures_now none ends others = ends
 line_piece InputFailed s before now ready line failures_before failures_now none ends others = ends
 line_piece OutputFailed s before now ready line failures_before failures_now none ends others =
-    let start : Sim = with_text ready s in
-    (record {
-      text = ends.0.front;
-      written = ends.0.appended;
-      begins = λ more.
-          begins_then ends.0.front (take_line line start).text _ ends.0.begins
-          (served_begins start (take_line line start) (line ++ 10 ∷ others) others more (line_first start line others none));
-    }, ends.1)
+    let start : Sim = with_text ready s in (
+      record {
+        text = ends.0.front;
+        written = ends.0.appended;
+        begins = λ more.
+            begins_then ends.0.front (take_line line start).text _ ends.0.begins
+            (served_begins start (take_line line start) (line ++ 10 ∷ others) others more (line_first start line others none));
+      },
+      ends.1,
+    )
 line_piece Memory s before now ready line failures_before failures_now none ends others =
     record {
       lines = [];

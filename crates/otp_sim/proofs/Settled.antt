@@ -1,7 +1,6 @@
 use Rattle.std.proofs.Common.{◌≡◌, ℕ, ◌+◌, ◌-◌, ◌<◌, ◌==◌, Bool, true, false, ◌∙◌, Option, None, Some, ap, arith, refl, sym, suc, zero}
 use Rattle.std.specs.Prelude.{if◌then◌else◌, is_some, ◌≢◌}
 use Rattle.std.proofs.lemmas.Bool.{false≢true}
-use Rattle.otp_rules.specs.declared.event.Kind.TheVariants as kind
 use Rattle.otp_rules.specs.declared.event.Kind.{Kind}
 use Rattle.otp_rules.specs.Step.{step}
 use Rattle.otp_rules.specs.Next.{idle_kind}

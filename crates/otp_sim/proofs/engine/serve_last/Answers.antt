@@ -1,5 +1,5 @@
 use Rattle.otp_sim.specs.Runs.{with_text}
-use Rattle.otp_sim.proofs.Playing.{last_ends, last_finished}
+use Rattle.otp_sim.proofs.Playing.{last_finished}
 use Rattle.otp_sim.proofs.engine.serve_last.Goals as goal
 
 pub returns : goal.returns

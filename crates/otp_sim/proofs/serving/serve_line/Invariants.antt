@@ -1,4 +1,4 @@
-use Rattle.std.proofs.Common.{◌≡◌, ℕ, ◌+◌, ◌≤◌, Bool, false, None}
+use Rattle.std.proofs.Common.{◌≡◌, ◌+◌, ◌≤◌, false, None}
 use Rattle.std.specs.Prelude.{if◌then◌else◌}
 use Rattle.otp_sim.specs.Sim.{next_kind}
 use Rattle.otp_sim.specs.Runs.{with_text}

@@ -1,4 +1,4 @@
-use Rattle.std.proofs.Common.{◌≡◌, ℕ, ◌++◌, ◌∷◌, ◌∙◌, List, [], length, Err, arith, subst, sym, vec_len}
+use Rattle.std.proofs.Common.{◌≡◌, ℕ, ◌++◌, ◌∙◌, List, [], Err, arith, subst, sym, vec_len}
 use Rattle.std.proofs.lemmas.Bool.{eqb-true}
 use Rattle.otp_sim.specs.Runs.{LineEnds, NoEnd, Played, with_text}
 use Rattle.otp_sim.proofs.Progress.{line_ran, line_ran_where, line_piece, line_piece_where, no_bytes, piece_flushed}

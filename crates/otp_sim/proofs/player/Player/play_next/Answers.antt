@@ -1,5 +1,4 @@
 use Rattle.std.proofs.Common.{◌≡◌, ◌∙◌, sym, Some, None}
-use Rattle.otp_rules.specs.declared.event.Kind.{Kind}
 use Rattle.otp_sim.specs.Sim.{Sim, next_kind}
 use Rattle.otp_sim.specs.Runs.{with_text}
 use Rattle.otp_sim.proofs.Settled.{goes, stays}
