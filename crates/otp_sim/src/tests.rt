@@ -3,7 +3,7 @@
 use crate::engine::serve;
 use crate::player::Player;
 use crate::session::{Session, Stop};
-use crate::{Failed, Input, Output, SimEnd, sim};
+use crate::{Failed, Input, Output, PIECE, SimEnd, sim};
 use otp_core::OpenFault;
 use otp_reason::Name;
 use otp_spec::{ChildSpec, Shutdown, SpecFault, SupFlags, SupSpec, copy_specs};
@@ -68,6 +68,28 @@ impl Output for Page {
         }
         self.room -= count;
         Ok(count)
+    }
+}
+
+/// A writer that takes all, and says how many bytes it was given, and how many at once at the most.
+#[derive(Drop)]
+struct Measured {
+    all: usize,
+    most: usize,
+    failures: Tally,
+}
+
+impl Output for Measured {
+    ghost use Rattle.std.specs.Prelude.{None};
+
+    ghost contents = { λ _. None };
+
+    ghost failures = { λ measured. measured.failures.count };
+
+    fn write(&mut self, bytes: &[u8]) -> Result<usize, Failed> {
+        self.all = self.all.saturating_add(bytes.len());
+        self.most = self.most.max(bytes.len());
+        Ok(bytes.len())
     }
 }
 
@@ -353,6 +375,43 @@ fn refused_memory_loses_nothing_earlier(rt: HostRuntime) -> Result<(), Fail> {
             "{happened}"
         );
     }
+    Ok(())
+}
+
+/// One line answers 200 calls that waited for it, each with 40 children.
+#[test]
+fn a_line_that_prints_much_is_written_in_pieces(rt: HostRuntime) -> Result<(), Fail> {
+    let alloc = rt.alloc();
+    let mut specs = Vec::new(alloc);
+    let mut lines = Vec::new(alloc);
+    for number in 1..41u64 {
+        let id = format!(in alloc; "child_{number}")?;
+        specs.push(worker(id.as_str())?).map_err(|_| AllocError)?;
+        lines.extend_from_slice(format!(in alloc; "up {number}\n")?.as_bytes())?;
+    }
+    lines.extend_from_slice(b"terminate child_1\n")?;
+    for _ in 0..200u64 {
+        lines.extend_from_slice(b"which\n")?;
+    }
+    lines.extend_from_slice(b"exit 1 shutdown\n")?;
+    let mut reader = Pieces {
+        text: lines.as_slice(),
+        size: 4096,
+        good: usize::MAX,
+        failures: Tally::new(),
+    };
+    let mut writer = Measured {
+        all: 0,
+        most: 0,
+        failures: Tally::new(),
+    };
+    let supervisor = lawful(alloc, &SupFlags::default(), &specs)?;
+    assert_eq!(rt;
+        sim(alloc, supervisor, &mut reader, &mut writer),
+        SimEnd::Done
+    );
+    assert!(rt; 3 * PIECE < writer.all, "{}", writer.all);
+    assert!(rt; writer.most < PIECE + PIECE / 8, "{}", writer.most);
     Ok(())
 }
 
