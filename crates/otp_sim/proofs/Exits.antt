@@ -4,8 +4,8 @@ use Rattle.std.specs.Io.KnownBytes.{Appends, Consumes, IsAtEnd, Keeps}
 use Rattle.std.proofs.lemmas.List.{append-nil, take-append-le, take_all}
 use Rattle.otp_spec.specs.declared.child.ChildSpec.{ChildSpec}
 use Rattle.otp_spec.specs.declared.flags.SupFlags.{SupFlags}
-use Rattle.otp_sim.specs.declared.session.Stop.{Stop}
-use Rattle.otp_sim.specs.declared.session.Stop.TheVariants as stop
+use Rattle.otp_sim.specs.declared.driven.Stop.{Stop}
+use Rattle.otp_sim.specs.declared.driven.Stop.TheVariants as stop
 use Rattle.otp_sim.specs.declared.engine.SimEnd.{SimEnd}
 use Rattle.otp_sim.specs.declared.engine.SimEnd.TheVariants.{Done, LineRefused, HistoryFull, InputFailed, OutputFailed, Memory}
 use Rattle.otp_sim.specs.Devices.{Begins, AppendsPart}

@@ -9,7 +9,7 @@ use Rattle.otp_rules.specs.Needs.{last_from, last_number}
 use Rattle.otp_rules.specs.Run.{state_after}
 use Rattle.otp_rules.specs.State.{State}
 use Rattle.otp_rules.specs.Step.{step}
-use Rattle.otp_sim.specs.declared.session.Stop.TheVariants as stop
+use Rattle.otp_sim.specs.declared.driven.Stop.TheVariants as stop
 use Rattle.otp_sim.specs.Sim.{Sim, event_of, happen, orders_text, stepped}
 
 -- one event more

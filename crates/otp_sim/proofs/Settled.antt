@@ -4,8 +4,8 @@ use Rattle.std.proofs.lemmas.Bool.{false≢true}
 use Rattle.otp_rules.specs.declared.event.Kind.{Kind}
 use Rattle.otp_rules.specs.Step.{step}
 use Rattle.otp_rules.specs.Next.{idle_kind}
-use Rattle.otp_sim.specs.declared.session.Stop.{Stop}
-use Rattle.otp_sim.specs.declared.session.Stop.TheVariants as stop
+use Rattle.otp_sim.specs.declared.driven.Stop.{Stop}
+use Rattle.otp_sim.specs.declared.driven.Stop.TheVariants as stop
 use Rattle.otp_sim.specs.Sim.{Sim, event_of, followed, happen, if_some, next_kind, settled, stepped, went_on}
 
 -- where nothing follows

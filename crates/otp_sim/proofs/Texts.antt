@@ -10,7 +10,7 @@ use Rattle.otp_text.specs.declared.line.Line.{Line}
 use Rattle.otp_text.specs.declared.line.Line.TheVariants as line
 use Rattle.otp_text.specs.Lines.{line_of}
 use Rattle.otp_sim.specs.Sim.{Sim, event_of, stepped, happen, next_kind, if_some, went_on, followed, settled, is_due, ticked, take_read, begin_form, begin_line, take_line, take_lines, orders_text}
-use Rattle.otp_sim.specs.declared.session.Stop.TheVariants.{HistoryFull}
+use Rattle.otp_sim.specs.declared.driven.Stop.TheVariants.{HistoryFull}
 use Rattle.otp_sim.specs.Devices.{Begins}
 use Rattle.otp_sim.specs.Runs.{with_text, begun, begun_first}
 

@@ -5,7 +5,7 @@ use Rattle.std.specs.Io.KnownBytes.{Appends, Consumes, IsAtEnd, Keeps}
 use Rattle.otp_sim.specs.declared.engine.TheConstants.{MOST_BYTES}
 use Rattle.otp_sim.specs.declared.engine.SimEnd.{SimEnd}
 use Rattle.otp_sim.specs.declared.engine.SimEnd.TheVariants.{Done, LineRefused, HistoryFull, InputFailed, OutputFailed, Memory}
-use Rattle.otp_sim.specs.declared.session.Stop.{Stop}
+use Rattle.otp_sim.specs.declared.driven.Stop.{Stop}
 use Rattle.otp_sim.specs.Devices.{Begins, AppendsPart}
 use Rattle.otp_sim.specs.Sim.{Sim, begin_line, followed, take_line, take_lines, lines_of, sim_text, sim_end, whole_text, end_of}
 

@@ -21,8 +21,8 @@ use Rattle.otp_text.specs.declared.line.Line.{Line}
 use Rattle.otp_text.specs.declared.line.Line.TheVariants as line
 use Rattle.otp_text.specs.Effects.{effect_line}
 use Rattle.otp_text.specs.Lines.{line_of}
-use Rattle.otp_sim.specs.declared.session.Stop.{Stop}
-use Rattle.otp_sim.specs.declared.session.Stop.TheVariants as stop
+use Rattle.otp_sim.specs.declared.driven.Stop.{Stop}
+use Rattle.otp_sim.specs.declared.driven.Stop.TheVariants as stop
 use Rattle.otp_sim.specs.declared.engine.SimEnd.{SimEnd}
 use Rattle.otp_sim.specs.declared.engine.SimEnd.TheVariants.{Done, LineRefused, HistoryFull}
 

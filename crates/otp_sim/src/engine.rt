@@ -5,10 +5,10 @@ ghost use Rattle.otp_sim.specs.Runs.{Writes, LastWrites, with_text};
 ghost use Rattle.otp_sim.specs.Sim.{opened};
 
 use crate::device::{Input, Output, PIECE};
+use crate::driven::Driven;
 use crate::player::Player;
 use crate::reading::read_next;
 use crate::serving::{serve_line, serve_piece};
-use crate::session::Session;
 use crate::writing::{finish, out_of_memory, write_out};
 use otp_spec::SupSpec;
 use otp_text::LONGEST_LINE;
@@ -61,17 +61,17 @@ pub fn sim<R: Input, W: Output>(
     serve(alloc, &mut player, &mut ready, input, output)
 }
 
-/// Serves the lines of the input, to its end or to the line that ends the session, and writes what is printed
+/// Serves the lines of the input, to its end or to the line that ends the run, and writes what is printed
 /// before each read that might wait, and before it ends.
-pub(crate) fn serve<S: Session, R: Input, W: Output>(
+pub(crate) fn serve<S: Driven, R: Input, W: Output>(
     alloc: Global,
-    session: &mut S,
+    driven: &mut S,
     ready: &mut Vec<u8>,
     input: &mut R,
     output: &mut W,
 ) -> SimEnd
-    requires { (S.sim session.old).lines ≡ 0 }
-    ensures { Writes result (with_text ready.old.items (S.sim session.old))
+    requires { (S.sim driven.old).lines ≡ 0 }
+    ensures { Writes result (with_text ready.old.items (S.sim driven.old))
         (record { left = R.remaining input.old; written = W.contents output.old; read_failures = R.failures input.old; write_failures = W.failures output.old })
         (record { left = R.remaining input.new; written = W.contents output.new; read_failures = R.failures input.new; write_failures = W.failures output.new }) }
 {
@@ -81,7 +81,7 @@ pub(crate) fn serve<S: Session, R: Input, W: Output>(
     let mut kept = Vec::new(alloc);
     let mut taken: u64 = 0;
     while taken < MOST_BYTES {
-        if let Some(stop) = session.end() {
+        if let Some(stop) = driven.end() {
             return finish(output, ready, Some(stop));
         }
         let count = match read_next(input, output, ready, &mut buffer) {
@@ -89,13 +89,13 @@ pub(crate) fn serve<S: Session, R: Input, W: Output>(
             Err(end) => return end,
         };
         if count == 0 {
-            return serve_last(session, &kept, ready, output);
+            return serve_last(driven, &kept, ready, output);
         }
-        if let Err(end) = serve_piece(session, &mut kept, ready, output, &buffer[..count]) {
+        if let Err(end) = serve_piece(driven, &mut kept, ready, output, &buffer[..count]) {
             return end;
         }
         if kept.len() > LONGEST_LINE {
-            return serve_last(session, &kept, ready, output);
+            return serve_last(driven, &kept, ready, output);
         }
         taken += count as u64;
     }
@@ -113,17 +113,17 @@ fn zeros(alloc: Global, size: usize) -> Result<Vec<u8>, AllocError>
 }
 
 /// Serves a last line, and writes what is printed.
-fn serve_last<S: Session, W: Output>(
-    session: &mut S,
+fn serve_last<S: Driven, W: Output>(
+    driven: &mut S,
     line: &[u8],
     ready: &mut Vec<u8>,
     output: &mut W,
 ) -> SimEnd
-    requires { (S.sim session.old).lines + 1 < 2 ^ 63 }
-    ensures { LastWrites result line.now (with_text ready.old.items (S.sim session.old)) (W.contents output.old) (W.contents output.new) (W.failures output.old) (W.failures output.new) }
+    requires { (S.sim driven.old).lines + 1 < 2 ^ 63 }
+    ensures { LastWrites result line.now (with_text ready.old.items (S.sim driven.old)) (W.contents output.old) (W.contents output.new) (W.failures output.old) (W.failures output.new) }
 {
-    if let Err(end) = serve_line(session, ready, output, line) {
+    if let Err(end) = serve_line(driven, ready, output, line) {
         return end;
     }
-    finish(output, ready, session.end())
+    finish(output, ready, driven.end())
 }

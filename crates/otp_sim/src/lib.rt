@@ -4,11 +4,11 @@
 #![tactic(auto)]
 
 pub mod device;
+pub mod driven;
 pub mod engine;
 mod player;
 mod reading;
 mod serving;
-pub mod session;
 pub mod streams;
 mod whole;
 mod writing;

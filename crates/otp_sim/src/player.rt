@@ -10,7 +10,7 @@ ghost use Rattle.otp_sim.specs.Sim.{begin_form, begin_line, event_of, happen, is
 ghost use Rattle.otp_sim.specs.Devices.{Begins};
 ghost use Rattle.otp_sim.specs.Runs.{with_text};
 
-use crate::session::Stop;
+use crate::driven::Stop;
 use otp_core::{Core, Counter};
 use otp_rules::{Effect, Item, Kind, Reply};
 use otp_spec::SupSpec;

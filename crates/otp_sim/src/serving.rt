@@ -4,8 +4,8 @@ ghost use Rattle.std.specs.Prelude.{◌≡◌, ◌==◌, ◌∷◌, ℕ, List, �
 ghost use Rattle.otp_sim.specs.Runs.{with_text, LineEnds, Played, Ran, PieceEnds, NoEnd};
 
 use crate::device::Output;
+use crate::driven::Driven;
 use crate::engine::SimEnd;
-use crate::session::Session;
 use crate::writing::{out_of_memory, write_much};
 
 /// Serves all lines whose end is in the piece, and keeps the beginning of the next line.
@@ -14,24 +14,24 @@ use crate::writing::{out_of_memory, write_much};
 ///
 /// [`SimEnd::Memory`], once the text of the lines before is written, and [`SimEnd::OutputFailed`], where a beginning
 /// of it is.
-pub(crate) fn serve_piece<S: Session, W: Output>(
-    session: &mut S,
+pub(crate) fn serve_piece<S: Driven, W: Output>(
+    driven: &mut S,
     kept: &mut Vec<u8>,
     ready: &mut Vec<u8>,
     output: &mut W,
     piece: &[u8],
 ) -> Result<(), SimEnd>
-    requires lines { (S.sim session.old).lines + length piece.now < 2 ^ 63 }
+    requires lines { (S.sim driven.old).lines + length piece.now < 2 ^ 63 }
     requires kept { NoEnd kept.old.items }
-    ensures ok { OnOk result (Ran (with_text ready.old.items (S.sim session.old)) (S.sim session.new) (W.contents output.old) (W.contents output.new) ready.new.items (kept.old.items ++ piece.now) kept.new.items) }
+    ensures ok { OnOk result (Ran (with_text ready.old.items (S.sim driven.old)) (S.sim driven.new) (W.contents output.old) (W.contents output.new) ready.new.items (kept.old.items ++ piece.now) kept.new.items) }
     ensures no_end { OnOk result (NoEnd kept.new.items) }
-    ensures lines { OnOk result ((S.sim session.new).lines ≤ (S.sim session.old).lines + length piece.now) }
-    ensures err { PieceEnds result (with_text ready.old.items (S.sim session.old)) (W.contents output.old) (W.contents output.new) (kept.old.items ++ piece.now) (W.failures output.old) (W.failures output.new) }
+    ensures lines { OnOk result ((S.sim driven.new).lines ≤ (S.sim driven.old).lines + length piece.now) }
+    ensures err { PieceEnds result (with_text ready.old.items (S.sim driven.old)) (W.contents output.old) (W.contents output.new) (kept.old.items ++ piece.now) (W.failures output.old) (W.failures output.new) }
     ensures failures { W.failures output.old ≤ W.failures output.new }
 {
     let mut rest = piece;
     while let Some(end) = line_end(rest) {
-        if let Err(why) = serve_next(session, kept, ready, output, &rest[..end]) {
+        if let Err(why) = serve_next(driven, kept, ready, output, &rest[..end]) {
             return Err(why);
         }
         rest = &rest[end + 1..];
@@ -43,28 +43,28 @@ pub(crate) fn serve_piece<S: Session, W: Output>(
 }
 
 /// Serves the line of what was kept and a last part.
-fn serve_next<S: Session, W: Output>(
-    session: &mut S,
+fn serve_next<S: Driven, W: Output>(
+    driven: &mut S,
     kept: &mut Vec<u8>,
     ready: &mut Vec<u8>,
     output: &mut W,
     part: &[u8],
 ) -> Result<(), SimEnd>
-    requires lines { (S.sim session.old).lines + 1 < 2 ^ 63 }
+    requires lines { (S.sim driven.old).lines + 1 < 2 ^ 63 }
     requires kept { NoEnd (kept.old.items ++ part.now) }
-    ensures ok { OnOk result ((others : List ℕ) → Ran (with_text ready.old.items (S.sim session.old)) (S.sim session.new) (W.contents output.old) (W.contents output.new) ready.new.items (kept.old.items ++ part.now ++ 10 ∷ others) others) }
+    ensures ok { OnOk result ((others : List ℕ) → Ran (with_text ready.old.items (S.sim driven.old)) (S.sim driven.new) (W.contents output.old) (W.contents output.new) ready.new.items (kept.old.items ++ part.now ++ 10 ∷ others) others) }
     ensures empty { OnOk result (kept.new.items ≡ []) }
-    ensures lines { OnOk result ((S.sim session.new).lines ≤ (S.sim session.old).lines + 1) }
-    ensures err { (others : List ℕ) → PieceEnds result (with_text ready.old.items (S.sim session.old)) (W.contents output.old) (W.contents output.new) (kept.old.items ++ part.now ++ 10 ∷ others) (W.failures output.old) (W.failures output.new) }
+    ensures lines { OnOk result ((S.sim driven.new).lines ≤ (S.sim driven.old).lines + 1) }
+    ensures err { (others : List ℕ) → PieceEnds result (with_text ready.old.items (S.sim driven.old)) (W.contents output.old) (W.contents output.new) (kept.old.items ++ part.now ++ 10 ∷ others) (W.failures output.old) (W.failures output.new) }
     ensures failures { W.failures output.old ≤ W.failures output.new }
 {
     if kept.is_empty() {
-        return serve_line(session, ready, output, part);
+        return serve_line(driven, ready, output, part);
     }
     let Ok(()) = kept.extend_from_slice(part) else {
         return Err(out_of_memory(output, ready));
     };
-    if let Err(why) = serve_line(session, ready, output, kept.as_slice()) {
+    if let Err(why) = serve_line(driven, ready, output, kept.as_slice()) {
         return Err(why);
     }
     kept.clear();
@@ -86,19 +86,19 @@ fn line_end(bytes: &[u8]) -> Option<usize>
 ///
 /// [`SimEnd::Memory`], once the text of the events before is written, and [`SimEnd::OutputFailed`], where a beginning
 /// of it is.
-pub(crate) fn serve_line<S: Session, W: Output>(
-    session: &mut S,
+pub(crate) fn serve_line<S: Driven, W: Output>(
+    driven: &mut S,
     ready: &mut Vec<u8>,
     output: &mut W,
     line: &[u8],
 ) -> Result<(), SimEnd>
-    requires { (S.sim session.old).lines + 1 < 2 ^ 63 }
-    ensures ok { OnOk result (Played (with_text ready.old.items (S.sim session.old)) (S.sim session.new) line.now (W.contents output.old) (W.contents output.new) ready.new.items) }
-    ensures lines { OnOk result ((S.sim session.new).lines ≤ (S.sim session.old).lines + 1) }
-    ensures err { LineEnds result (with_text ready.old.items (S.sim session.old)) line.now (W.contents output.old) (W.contents output.new) (W.failures output.old) (W.failures output.new) }
+    requires { (S.sim driven.old).lines + 1 < 2 ^ 63 }
+    ensures ok { OnOk result (Played (with_text ready.old.items (S.sim driven.old)) (S.sim driven.new) line.now (W.contents output.old) (W.contents output.new) ready.new.items) }
+    ensures lines { OnOk result ((S.sim driven.new).lines ≤ (S.sim driven.old).lines + 1) }
+    ensures err { LineEnds result (with_text ready.old.items (S.sim driven.old)) line.now (W.contents output.old) (W.contents output.new) (W.failures output.old) (W.failures output.new) }
     ensures failures { W.failures output.old ≤ W.failures output.new }
 {
-    let Ok(()) = session.begin_line(line, ready) else {
+    let Ok(()) = driven.begin_line(line, ready) else {
         return Err(out_of_memory(output, ready));
     };
     let mut is_going = true;
@@ -106,7 +106,7 @@ pub(crate) fn serve_line<S: Session, W: Output>(
         let Ok(()) = write_much(output, ready) else {
             return Err(SimEnd::OutputFailed);
         };
-        let Ok(went_on) = session.go_on(ready) else {
+        let Ok(went_on) = driven.go_on(ready) else {
             return Err(out_of_memory(output, ready));
         };
         is_going = went_on;

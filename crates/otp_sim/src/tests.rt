@@ -1,8 +1,8 @@
 //! What no clause says: that the definition of the text is the text that was meant, and that runs succeed.
 
+use crate::driven::{Driven, Stop};
 use crate::engine::serve;
 use crate::player::Player;
-use crate::session::{Session, Stop};
 use crate::{Failed, Input, Output, PIECE, SimEnd, sim};
 use otp_core::OpenFault;
 use otp_reason::Name;
@@ -100,7 +100,7 @@ struct Refused {
     left: usize,
 }
 
-impl Session for Refused {
+impl Driven for Refused {
     ghost sim = { λ refused. refused.player };
 
     fn begin_line(&mut self, line: &[u8], out: &mut Vec<u8>) -> Result<(), AllocError> {
@@ -329,7 +329,7 @@ fn is_flushed(
     let specs = [worker("a")?];
     let mut ready = Vec::new(alloc);
     let player = Player::open(alloc, lawful(alloc, &flags, &specs)?, &mut ready)?;
-    let mut session = Refused {
+    let mut driven = Refused {
         player,
         left: happened,
     };
@@ -340,7 +340,7 @@ fn is_flushed(
         failures: Tally::new(),
     };
     let mut writer = blank_page(alloc, room);
-    let ended = serve(alloc, &mut session, &mut ready, &mut reader, &mut writer);
+    let ended = serve(alloc, &mut driven, &mut ready, &mut reader, &mut writer);
     Ok(ended == end && writer.bytes.as_slice() == printed)
 }
 

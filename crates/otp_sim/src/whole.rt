@@ -2,11 +2,11 @@
 
 ghost use Rattle.std.specs.Prelude.{◌≡◌, OnErr};
 
+use crate::driven::{Driven, Stop};
 use crate::player::Player;
-use crate::session::{Session, Stop};
 use std::alloc::AllocError;
 
-impl Session for Player {
+impl Driven for Player {
     ghost sim = { λ player. player };
 
     /// An event that is refused memory halfway is cut off again.

@@ -8,8 +8,8 @@ ghost use Rattle.otp_sim.specs.Runs.{Finishes, Flushes};
 ghost use Rattle.otp_sim.specs.Sim.{end_of};
 
 use crate::device::{Failed, Output, PIECE};
+use crate::driven::Stop;
 use crate::engine::SimEnd;
-use crate::session::Stop;
 
 /// Writes what is ready, if it is much: not each line by itself.
 ///

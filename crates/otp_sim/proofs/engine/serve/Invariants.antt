@@ -6,7 +6,7 @@ use Rattle.otp_sim.proofs.engine.serve.Given as goal
 -- the lines so far are served
 abbrev pub invariant-loop-taken : goal.invariant-loop-taken
 invariant-loop-taken g l = record {
-  stands : Stands (with_text l.initial.ready.items (g.S.Session.sim l.initial.session)) (g.S.Session.sim l.session)
+  stands : Stands (with_text l.initial.ready.items (g.S.Driven.sim l.initial.driven)) (g.S.Driven.sim l.driven)
       (record {
         left = g.R.Input.remaining l.initial.input;
         written = g.W.Output.contents l.initial.output;

@@ -9,12 +9,12 @@ use Rattle.otp_sim.proofs.serving.serve_line.Given as goal
 -- so far it is played, and where it doesn't go on nothing is left
 abbrev pub invariant-loop-is_going : goal.invariant-loop-is_going
 invariant-loop-is_going g l = record {
-  playing : Playing (with_text l.fn.ready.items (g.S.Session.sim l.fn.session)) l.line
-      (g.W.Output.contents l.fn.output) (g.W.Output.contents l.output) l.ready.items (g.S.Session.sim l.session);
-  over : l.is_going ≡ false → next_kind (g.S.Session.sim l.session) ≡ None;
-  lines : (g.S.Session.sim l.session).lines ≤ (g.S.Session.sim l.fn.session).lines + 1;
+  playing : Playing (with_text l.fn.ready.items (g.S.Driven.sim l.fn.driven)) l.line
+      (g.W.Output.contents l.fn.output) (g.W.Output.contents l.output) l.ready.items (g.S.Driven.sim l.driven);
+  over : l.is_going ≡ false → next_kind (g.S.Driven.sim l.driven) ≡ None;
+  lines : (g.S.Driven.sim l.driven).lines ≤ (g.S.Driven.sim l.fn.driven).lines + 1;
   failures : g.W.Output.failures l.fn.output ≤ g.W.Output.failures l.output;
 }
 
 abbrev pub decreases-loop-is_going : goal.decreases-loop-is_going
-decreases-loop-is_going g l = if l.is_going then remaining (g.S.Session.sim l.session) + 1 else 0
+decreases-loop-is_going g l = if l.is_going then remaining (g.S.Driven.sim l.driven) + 1 else 0

@@ -7,7 +7,7 @@ use Rattle.otp_sim.proofs.serving.serve_piece.Goals as goal
 
 pub loop-end-init : goal.loop-end-init
 loop-end-init g c = record {
-  ran = ran_start (g.S.Session.sim c.args.session.now) _ c.args.ready.now.items _;
+  ran = ran_start (g.S.Driven.sim c.args.driven.now) _ c.args.ready.now.items _;
   kept = c.requires.kept;
   lines = omega arith;
   failures = omega arith;
@@ -19,7 +19,7 @@ serve_next-requires-clause-kept g c =
 
 pub returns-in-Err-clause-err : goal.returns-in-Err-clause-err
 returns-in-Err-clause-err g c =
-    next_ends c.in-Err.why _ (g.S.Session.sim c.loop-end.session) _ _ _ c.loop-end.ready.items _ c.loop-end.kept.items c.loop-end.rest.now
+    next_ends c.in-Err.why _ (g.S.Driven.sim c.loop-end.driven) _ _ _ c.loop-end.ready.items _ c.loop-end.kept.items c.loop-end.rest.now
     c.in-Some.end _ _ _ (sym c.in-Some.ensures.found) c.loop-end.invariant.ran c.loop-end.invariant.failures c.in-Err.ensures.err
 
 pub loop-end-preserved : goal.loop-end-preserved
@@ -29,7 +29,7 @@ loop-end-preserved g c =
     let same : take (length c.loop-end.rest.now - (c.in-Some.end + 1)) (drop (c.in-Some.end + 1) c.loop-end.rest.now) ≡ drop (c.in-Some.end + 1) c.loop-end.rest.now =
     grind (arith, common_steps) in
     record {
-      ran = next_ran _ (g.S.Session.sim c.loop-end.session) (g.S.Session.sim c.serve_next.new.session) _ _ _
+      ran = next_ran _ (g.S.Driven.sim c.loop-end.driven) (g.S.Driven.sim c.serve_next.new.driven) _ _ _
           c.loop-end.ready.items c.serve_next.new.ready.items _ c.loop-end.kept.items c.serve_next.new.kept.items c.loop-end.rest.now _
           c.in-Some.end (sym c.in-Some.ensures.found) c.loop-end.invariant.ran done.ok empty same;
       kept = subst NoEnd (sym empty) (All-nil (λ byte. (byte == 10) ≡ false));
@@ -40,7 +40,7 @@ loop-end-preserved g c =
 pub returns-in_default-extend_from_slice-clause-err : goal.returns-in_default-extend_from_slice-clause-err
 returns-in_default-extend_from_slice-clause-err g c =
     ends_earlier c.out_of_memory.result _ _ _ _ _ _ _ c.loop-end.invariant.failures
-    (flushed c.out_of_memory.result _ (g.S.Session.sim c.loop-end.session) _ _ _ c.loop-end.ready.items _ _ _ _
+    (flushed c.out_of_memory.result _ (g.S.Driven.sim c.loop-end.driven) _ _ _ c.loop-end.ready.items _ _ _ _
     c.loop-end.invariant.ran c.out_of_memory.ensures.end)
 
 pub returns-clause-no_end : goal.returns-clause-no_end

@@ -5,10 +5,10 @@ use Rattle.otp_sim.proofs.serving.serve_piece.Given as goal
 -- the lines so far are served
 abbrev pub invariant-loop-end : goal.invariant-loop-end
 invariant-loop-end g l = record {
-  ran : Ran (with_text l.initial.ready.items (g.S.Session.sim l.initial.session)) (g.S.Session.sim l.session)
+  ran : Ran (with_text l.initial.ready.items (g.S.Driven.sim l.initial.driven)) (g.S.Driven.sim l.driven)
       (g.W.Output.contents l.initial.output) (g.W.Output.contents l.output) l.ready.items (l.initial.kept.items ++ l.piece) (l.kept.items ++ l.rest);
   kept : NoEnd l.kept.items;
-  lines : (g.S.Session.sim l.session).lines + length l.rest ≤ (g.S.Session.sim l.initial.session).lines + length l.piece;
+  lines : (g.S.Driven.sim l.driven).lines + length l.rest ≤ (g.S.Driven.sim l.initial.driven).lines + length l.piece;
   failures : g.W.Output.failures l.initial.output ≤ g.W.Output.failures l.output;
 }
 

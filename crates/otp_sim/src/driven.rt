@@ -16,7 +16,7 @@ pub enum Stop {
 }
 
 /// A supervisor that is driven by lines.
-pub trait Session {
+pub trait Driven {
     /// How it stands.
     ghost sim: { Self → Sim };
 
@@ -24,7 +24,7 @@ pub trait Session {
     ///
     /// # Errors
     ///
-    /// Where memory is refused. Then nothing was appended, and the session is not to be used any more.
+    /// Where memory is refused. Then nothing was appended, and it is not to be used any more.
     fn begin_line(&mut self, line: &[u8], out: &mut Vec<u8>) -> Result<(), AllocError>
         requires { (sim self.old).lines + 1 < 2 ^ 63 }
         ensures ok { OnOk result (with_text out.new.items (sim self.new) ≡ begin_line line.now (with_text out.old.items (sim self.old))) }
@@ -35,7 +35,7 @@ pub trait Session {
     ///
     /// # Errors
     ///
-    /// As of [`Session::begin_line`].
+    /// As of [`Driven::begin_line`].
     fn go_on(&mut self, out: &mut Vec<u8>) -> Result<bool, AllocError>
         ensures ok { OnOk result (with_text out.new.items (sim self.new) ≡ went_on (with_text out.old.items (sim self.old))) }
         ensures happened { IfOk result (λ happened. happened ≡ is_some (next_kind (sim self.old))) }
