@@ -5,3 +5,7 @@ pub mod Inside
 pub mod TrialInside
 pub mod Texts
 pub mod Sketched
+pub mod Standing
+pub mod Awaiting
+pub mod Prompt
+pub mod Unused

@@ -9,6 +9,7 @@ pub mod finding;
 mod help;
 mod planting;
 pub mod play;
+mod prompt;
 pub mod script;
 mod seat;
 mod sketch;

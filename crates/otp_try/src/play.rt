@@ -1,17 +1,18 @@
 //! A script that is played to its end, line by line.
 
-ghost use Rattle.std.specs.Prelude.{◌≡◌, ◌≤◌, ◌<◌, IfOk, IfSome, length, vec_len};
+ghost use Rattle.std.specs.Prelude.{ℕ, List, ◌∷◌, ◌++◌, Bool, true, ◌≡◌, ◌≤◌, ◌<◌, IfOk, OnOk, IfSome, length, vec_len};
 ghost use Rattle.otp_spec.specs.declared.limits.TheConstants.{MAX_READING};
+ghost use Rattle.otp_try.specs.Prompt.{prompt_text, standings_text};
+ghost use Rattle.otp_try.specs.Unused.{unused_text};
+ghost use Rattle.otp_try.specs.declared.world.Hang.{Hang};
+ghost use Rattle.otp_try.specs.declared.world.Plan.{Plan};
 
-use crate::awaited::write_awaited;
 use crate::finding::{is_known, named_in};
 use crate::help::{HELP, WELCOME, is_help};
+use crate::prompt::{write_prompt, write_standings};
 use crate::script::{Action, Child, ScriptFault, Step, When, read_step};
 use crate::seat::Seat;
 use crate::sketch::{Shows, Sketch};
-use crate::state::write_state;
-use crate::telling::write_heading;
-use crate::time::write_time;
 use crate::trial::{ActionEnd, Halt, Trial};
 use crate::unused::{line_of_unknown, write_unused};
 use crate::words::end_of_lines;
@@ -266,32 +267,22 @@ impl Play {
         }
     }
 
-    /// Puts how the root stands on the page.
-    fn write_standing(&mut self) -> Result<(), AllocError> {
+    /// Puts how the supervisors stand on the page, and what they await.
+    fn write_standings(&mut self) -> Result<(), AllocError>
+        ensures text { OnOk result ((now : ℕ) × (others : List Bool) × (self.new.page.items ≡ self.old.page.items ++ standings_text now self.old.trial (true ∷ others))) }
+        ensures same { self.new.trial ≡ self.old.trial }
+    {
         let now = self.trial.time();
-        write_standing(self.trial.root(), now, &mut self.page)
+        let running = self.trial.running()?;
+        write_standings(now, self.trial.seats(), running.as_slice(), &mut self.page)
     }
 
-    /// Puts how the supervisors below the root stand on the page, a line for each that has a process.
-    fn write_below(&mut self) -> Result<(), AllocError> {
-        let now = self.trial.time();
-        for (place, seat) in self.trial.seats().iter().enumerate() {
-            if 0 < place && self.trial.has_process(place) {
-                write_standing(seat, now, &mut self.page)?;
-                self.page.extend_from_slice(b"\n")?;
-            }
-        }
-        Ok(())
-    }
-
-    /// Puts what is awaited on the page.
-    fn write_all_awaited(&mut self) -> Result<(), AllocError> {
-        for (place, seat) in self.trial.seats().iter().enumerate() {
-            if self.trial.has_process(place) {
-                write_awaited(seat.path(), seat.rows(), &mut self.page)?;
-            }
-        }
-        Ok(())
+    /// Puts on the page what the script planned, and the run never came to.
+    fn write_unused(&mut self) -> Result<(), AllocError>
+        ensures text { OnOk result ((plans : List Plan) × (hanging : List Hang) × (self.new.page.items ≡ self.old.page.items ++ unused_text self.old.trial plans hanging)) }
+        ensures same { self.new.trial ≡ self.old.trial }
+    {
+        write_unused(self.trial.world(), self.trial.seats(), &mut self.page)
     }
 
     /// Puts on the page how to go on, for a person.
@@ -303,12 +294,12 @@ impl Play {
     }
 
     /// Puts the prompt on the page, for a person.
-    fn write_prompt(&mut self) -> Result<(), AllocError> {
-        if self.writer == Writer::Script {
-            return Ok(());
-        }
-        self.write_standing()?;
-        self.page.extend_from_slice(b"> ")
+    fn write_prompt(&mut self) -> Result<(), AllocError>
+        ensures text { OnOk result ((now : ℕ) × (self.new.page.items ≡ self.old.page.items ++ prompt_text self.old.writer self.old.trial now)) }
+        ensures same { self.new.trial ≡ self.old.trial }
+    {
+        let now = self.trial.time();
+        write_prompt(self.writer, self.trial.seats(), now, &mut self.page)
     }
 
     /// Half a line, where memory was refused within it, is taken off the page: lines are written whole.
@@ -332,17 +323,6 @@ impl Play {
         self.page.clear();
         Ok(())
     }
-}
-
-/// Appends how a supervisor stands.
-fn write_standing(seat: &Seat, now: u64, out: &mut Vec<u8>) -> Result<(), AllocError> {
-    write_time(now, out)?;
-    out.extend_from_slice(b"  ")?;
-    write_heading(seat.path(), out)?;
-    if seat.has_ended() {
-        return out.extend_from_slice(b"the supervisor has ended");
-    }
-    write_state(&seat.flags(), seat.rows(), seat.kept_restarts(), now, out)
 }
 
 /// Whether the supervisor at this place has a child with this id.
@@ -411,11 +391,8 @@ impl Play {
             self.take_line(last)?;
         }
         self.draw_rest()?;
-        self.write_standing()?;
-        self.page.extend_from_slice(b"\n")?;
-        self.write_below()?;
-        self.write_all_awaited()?;
-        write_unused(self.trial.world(), self.trial.seats(), &mut self.page)?;
+        self.write_standings()?;
+        self.write_unused()?;
         self.judge()
     }
 

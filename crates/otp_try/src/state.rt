@@ -1,5 +1,8 @@
 //! How a supervisor stands, in one line.
 
+ghost use Rattle.std.specs.Prelude.{◌≡◌, ◌++◌, OnOk, count_by};
+ghost use Rattle.otp_try.specs.Standing.{children_text, count_text, does, doing_of, doing_text, doing_word, period_text, share_text, state_text, used_text};
+
 use otp_spec::SupFlags;
 use otp_table::{Row, RowState};
 use otp_text::write_number;
@@ -24,7 +27,10 @@ pub enum Doing {
 
 impl Doing {
     /// What a child in this state does.
-    pub fn of(state: RowState) -> Self {
+    #[tactic(auto, unfolding(crate::specs::Standing::doing_of))]
+    pub fn of(state: RowState) -> Self
+        ensures { result ≡ doing_of state }
+    {
         match state {
             RowState::Up(_) => Doing::Up,
             RowState::Starting(..) => Doing::Starting,
@@ -35,7 +41,10 @@ impl Doing {
     }
 
     /// The word for it.
-    pub fn word(self) -> &'static str {
+    #[tactic(auto, unfolding(crate::specs::Standing::doing_word))]
+    pub fn word(self) -> &'static str
+        ensures { result.now ≡ doing_word self }
+    {
         match self {
             Doing::Up => "up",
             Doing::Starting => "starting",
@@ -46,63 +55,105 @@ impl Doing {
     }
 }
 
+/// Whether a child does this.
+fn does(doing: Doing, row: &Row) -> bool
+    ensures { result ≡ does doing row.now }
+{
+    Doing::of(row.state) == doing
+}
+
 /// How many children do this.
-fn count_of(rows: &[Row], doing: Doing) -> u64 {
+fn count_of(rows: &[Row], doing: Doing) -> u64
+    ensures { result ≡ count_by (does doing) rows.now }
+{
     let mut count: u64 = 0;
     for row in rows {
-        if Doing::of(row.state) == doing {
-            count = count.saturating_add(1);
+        if does(doing, row) {
+            count += 1;
         }
     }
     count
 }
 
-/// Appends how many children do this, where some do, and a comma before it where it is not the first that is told.
-fn write_doing(
-    rows: &[Row],
-    doing: Doing,
-    is_first: bool,
-    out: &mut Vec<u8>,
-) -> Result<bool, AllocError> {
-    let count = count_of(rows, doing);
+/// Appends so many children and what they do, where there are some.
+#[tactic(auto, unfolding(crate::specs::Standing::count_text))]
+fn write_count(count: u64, word: &[u8], out: &mut Vec<u8>) -> Result<(), AllocError>
+    ensures { OnOk result (out.new.items ≡ out.old.items ++ count_text count word.now) }
+{
     if count == 0 {
-        return Ok(is_first);
-    }
-    if !is_first {
-        out.extend_from_slice(b", ")?;
+        return Ok(());
     }
     write_number(count, out)?;
     out.extend_from_slice(b" ")?;
-    out.extend_from_slice(doing.word().as_bytes())?;
-    Ok(false)
+    out.extend_from_slice(word)?;
+    out.extend_from_slice(b", ")
+}
+
+/// Appends how many children do this, where some do.
+#[tactic(auto, unfolding(crate::specs::Standing::doing_text))]
+fn write_doing(rows: &[Row], doing: Doing, out: &mut Vec<u8>) -> Result<(), AllocError>
+    ensures { OnOk result (out.new.items ≡ out.old.items ++ doing_text rows.now doing) }
+{
+    write_count(count_of(rows, doing), doing.word().as_bytes(), out)
+}
+
+/// Appends how the children stand, a comma behind each count.
+#[tactic(auto, unfolding(crate::specs::Standing::children_text))]
+fn write_children(rows: &[Row], out: &mut Vec<u8>) -> Result<(), AllocError>
+    ensures { OnOk result (out.new.items ≡ out.old.items ++ children_text rows.now) }
+{
+    match rows {
+        [] => out.extend_from_slice(b"no children, "),
+        rows => {
+            write_doing(rows, Doing::Up, out)?;
+            write_doing(rows, Doing::Starting, out)?;
+            write_doing(rows, Doing::Stopping, out)?;
+            write_doing(rows, Doing::Restarting, out)?;
+            write_doing(rows, Doing::Down, out)
+        }
+    }
+}
+
+/// Appends so many restarts, and how many there may be.
+#[tactic(auto, unfolding(crate::specs::Standing::share_text))]
+fn write_share(restarts: u64, intensity: u64, out: &mut Vec<u8>) -> Result<(), AllocError>
+    ensures { OnOk result (out.new.items ≡ out.old.items ++ share_text restarts intensity) }
+{
+    write_number(restarts, out)?;
+    out.extend_from_slice(b"/")?;
+    write_number(intensity, out)
+}
+
+/// Appends within which time.
+#[tactic(auto, unfolding(crate::specs::Standing::period_text))]
+fn write_period(period: u64, out: &mut Vec<u8>) -> Result<(), AllocError>
+    ensures { OnOk result (out.new.items ≡ out.old.items ++ period_text period) }
+{
+    out.extend_from_slice(b" restarts in ")?;
+    write_number(period, out)?;
+    out.extend_from_slice(b" s")
+}
+
+/// Appends how many restarts of the period are used up.
+#[tactic(auto, unfolding(crate::specs::Standing::used_text))]
+fn write_used(flags: &SupFlags, restarts: u64, out: &mut Vec<u8>) -> Result<(), AllocError>
+    ensures { OnOk result (out.new.items ≡ out.old.items ++ used_text flags.now restarts) }
+{
+    write_share(restarts, flags.intensity, out)?;
+    write_period(flags.period, out)
 }
 
 /// Appends how the children stand, and how many restarts of the period are used up: `3 up, 1 stopping, 2/3 restarts in 10 s`.
+#[tactic(auto, unfolding(crate::specs::Standing::state_text))]
 pub(crate) fn write_state(
     flags: &SupFlags,
     rows: &[Row],
     stamps: &VecDeque<u64>,
     now: u64,
     out: &mut Vec<u8>,
-) -> Result<(), AllocError> {
-    let mut is_first = true;
-    for doing in [
-        Doing::Up,
-        Doing::Starting,
-        Doing::Stopping,
-        Doing::Restarting,
-        Doing::Down,
-    ] {
-        is_first = write_doing(rows, doing, is_first, out)?;
-    }
-    if is_first {
-        out.extend_from_slice(b"no children")?;
-    }
-    out.extend_from_slice(b", ")?;
-    write_number(restarts_in(stamps, flags.period, now), out)?;
-    out.extend_from_slice(b"/")?;
-    write_number(flags.intensity, out)?;
-    out.extend_from_slice(b" restarts in ")?;
-    write_number(flags.period, out)?;
-    out.extend_from_slice(b" s")
+) -> Result<(), AllocError>
+    ensures { OnOk result (out.new.items ≡ out.old.items ++ state_text flags.now rows.now stamps.now.items now) }
+{
+    write_children(rows, out)?;
+    write_used(flags, restarts_in(stamps, flags.period, now), out)
 }

@@ -14,7 +14,7 @@ use std::alloc::AllocError;
 
 /// Appends a number after a word.
 #[tactic(auto, unfolding(crate::specs::Story::number_after))]
-fn write_after(before: &[u8], number: u64, out: &mut Vec<u8>) -> Result<(), AllocError>
+pub(crate) fn write_after(before: &[u8], number: u64, out: &mut Vec<u8>) -> Result<(), AllocError>
     ensures { OnOk result (out.new.items ≡ out.old.items ++ number_after before.now number) }
 {
     out.extend_from_slice(before)?;

@@ -163,13 +163,8 @@ impl Trial {
         0
     }
 
-    /// The root.
-    pub(crate) fn root(&self) -> &Seat {
-        &self.seats[0]
-    }
-
     /// Whether each of the supervisors has a process. The root always has one.
-    fn running(&self) -> Result<Vec<bool>, AllocError>
+    pub(crate) fn running(&self) -> Result<Vec<bool>, AllocError>
         ensures root { IfOk result (λ running. (others : List Bool) × (running.items ≡ true ∷ others)) }
         ensures each { IfOk result (λ running. length running.items ≡ length self.now) }
     {

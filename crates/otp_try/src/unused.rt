@@ -1,11 +1,13 @@
 //! What a script planned, and the run never came to.
 
 ghost use Rattle.std.specs.Prelude.{◌≡◌, ◌++◌, OnOk};
+ghost use Rattle.std.specs.List.{flat_map};
 ghost use Rattle.otp_try.specs.Story.{child_text, unused_line};
+ghost use Rattle.otp_try.specs.Unused.{hang_line, path_at, plan_line, start_word, unused_text};
 
 use crate::script::{Child, NextStart};
 use crate::seat::Seat;
-use crate::world::{Plan, World};
+use crate::world::{Hang, Plan, World};
 use otp_text::{write_name, write_number, write_process};
 use std::alloc::AllocError;
 
@@ -41,7 +43,10 @@ fn write_line(
 }
 
 /// What a script says so that a start answers so.
-fn word_of(start: NextStart) -> &'static str {
+#[tactic(auto, unfolding(crate::specs::Unused::start_word))]
+fn word_of(start: NextStart) -> &'static str
+    ensures { result.now ≡ start_word start }
+{
     match start {
         NextStart::Ignore => "ignore ",
         NextStart::Fail(_) => "fail ",
@@ -49,40 +54,73 @@ fn word_of(start: NextStart) -> &'static str {
 }
 
 /// The path of the supervisor at this place.
-fn path_at(seats: &[Seat], place: usize) -> &[u8] {
-    match seats.get(place) {
-        None => &[],
-        Some(seat) => seat.path(),
+#[tactic(auto, unfolding(crate::specs::Unused::path_at, crate::specs::Unused::path_in))]
+fn path_at(seats: &[Seat], place: usize) -> &[u8]
+    ensures { result.now ≡ path_at seats.now place }
+{
+    if place < seats.len() {
+        seats[place].path()
+    } else {
+        &[]
     }
+}
+
+/// Appends that a start was planned and never came.
+#[tactic(auto, unfolding(crate::specs::Unused::plan_line))]
+fn write_plan(seats: &[Seat], plan: &Plan, out: &mut Vec<u8>) -> Result<(), AllocError>
+    ensures { OnOk result (out.new.items ≡ out.old.items ++ plan_line seats.now plan.now) }
+{
+    let word = word_of(plan.start).as_bytes();
+    let child = Child::Named(plan.id);
+    write_line(word, path_at(seats, plan.place), &child, plan.line, out)
+}
+
+/// Appends a line for each start that was planned and never came.
+fn write_plans(seats: &[Seat], plans: &[Plan], out: &mut Vec<u8>) -> Result<(), AllocError>
+    ensures { OnOk result (out.new.items ≡ out.old.items ++ flat_map (plan_line seats.now) plans.now) }
+{
+    for plan in plans {
+        write_plan(seats, plan, out)?;
+    }
+    Ok(())
+}
+
+/// Appends that a child was to hang and was never asked to shut down.
+#[tactic(auto, unfolding(crate::specs::Unused::hang_line))]
+fn write_hang(seats: &[Seat], hang: &Hang, out: &mut Vec<u8>) -> Result<(), AllocError>
+    ensures { OnOk result (out.new.items ≡ out.old.items ++ hang_line seats.now hang.now) }
+{
+    write_line(
+        b"hang ",
+        path_at(seats, hang.place),
+        &hang.child,
+        hang.line,
+        out,
+    )
+}
+
+/// Appends a line for each child that was to hang and was never asked to shut down.
+fn write_hanging(seats: &[Seat], hanging: &[Hang], out: &mut Vec<u8>) -> Result<(), AllocError>
+    ensures { OnOk result (out.new.items ≡ out.old.items ++ flat_map (hang_line seats.now) hanging.now) }
+{
+    for hang in hanging {
+        write_hang(seats, hang, out)?;
+    }
+    Ok(())
 }
 
 /// Appends a line for each start that was planned and never came, and for each child that was to hang and was never asked
 /// to shut down.
+#[tactic(auto, unfolding(crate::specs::Unused::unused_text))]
 pub(crate) fn write_unused(
     world: &World,
     seats: &[Seat],
     out: &mut Vec<u8>,
-) -> Result<(), AllocError> {
-    for plan in world.starts() {
-        let word = word_of(plan.start).as_bytes();
-        write_line(
-            word,
-            path_at(seats, plan.place),
-            &Child::Named(plan.id),
-            plan.line,
-            out,
-        )?;
-    }
-    for hang in world.hanging() {
-        write_line(
-            b"hang ",
-            path_at(seats, hang.place),
-            &hang.child,
-            hang.line,
-            out,
-        )?;
-    }
-    Ok(())
+) -> Result<(), AllocError>
+    ensures { OnOk result (out.new.items ≡ out.old.items ++ unused_text seats.now world.now.starts.items world.now.hanging.items) }
+{
+    write_plans(seats, world.starts(), out)?;
+    write_hanging(seats, world.hanging(), out)
 }
 
 /// The first line that planned the start of a child which wasn't there.

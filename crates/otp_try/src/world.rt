@@ -192,12 +192,16 @@ impl World {
     }
 
     /// What starts answer that have not come yet, in the order of the lines that say so.
-    pub fn starts(&self) -> &[Plan] {
+    pub fn starts(&self) -> &[Plan]
+        ensures { result.now ≡ self.now.starts.items }
+    {
         self.starts.as_slice()
     }
 
     /// The children that will hang and were not asked to shut down yet, in the order of the lines that say so.
-    pub fn hanging(&self) -> &[Hang] {
+    pub fn hanging(&self) -> &[Hang]
+        ensures { result.now ≡ self.now.hanging.items }
+    {
         self.hanging.as_slice()
     }
 
