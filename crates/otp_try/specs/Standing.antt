@@ -4,6 +4,7 @@ use Rattle.otp_spec.specs.declared.flags.SupFlags.{SupFlags}
 use Rattle.otp_table.specs.declared.row.Row.{Row}
 use Rattle.otp_table.specs.declared.row.RowState.{RowState}
 use Rattle.otp_table.specs.declared.row.RowState.TheVariants.{Undefined, Starting, Up, Asked, Killed, Restarting}
+use Rattle.otp_try.specs.Story.{number_after}
 use Rattle.otp_try.specs.declared.state.Doing.{Doing}
 use Rattle.otp_try.specs.declared.state.Doing.TheVariants as doing
 use Rattle.otp_window.specs.Period.{in_period}
@@ -61,7 +62,7 @@ share_text restarts intensity = decimal restarts ++ codes "/" ++ decimal intensi
 
 -- within which time
 unfoldable pub period_text : ℕ → List ℕ
-period_text period = codes " restarts in " ++ decimal period ++ codes " s"
+period_text period = number_after (codes " restarts in ") period ++ codes " s"
 
 -- how many restarts of a period are used up, as `2/3 restarts in 10 s`
 unfoldable pub used_text : SupFlags → ℕ → List ℕ

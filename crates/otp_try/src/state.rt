@@ -3,6 +3,7 @@
 ghost use Rattle.std.specs.Prelude.{◌≡◌, ◌++◌, OnOk, count_by};
 ghost use Rattle.otp_try.specs.Standing.{children_text, count_text, does, doing_of, doing_text, doing_word, period_text, share_text, state_text, used_text};
 
+use crate::telling::write_after;
 use otp_spec::SupFlags;
 use otp_table::{Row, RowState};
 use otp_text::write_number;
@@ -129,8 +130,7 @@ fn write_share(restarts: u64, intensity: u64, out: &mut Vec<u8>) -> Result<(), A
 fn write_period(period: u64, out: &mut Vec<u8>) -> Result<(), AllocError>
     ensures { OnOk result (out.new.items ≡ out.old.items ++ period_text period) }
 {
-    out.extend_from_slice(b" restarts in ")?;
-    write_number(period, out)?;
+    write_after(b" restarts in ", period, out)?;
     out.extend_from_slice(b" s")
 }
 
