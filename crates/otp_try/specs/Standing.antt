@@ -62,11 +62,11 @@ share_text restarts intensity = decimal restarts ++ codes "/" ++ decimal intensi
 
 -- within which time
 unfoldable pub period_text : ℕ → List ℕ
-period_text period = number_after (codes " restarts in ") period ++ codes " s"
+period_text period = number_after (codes " restarts in ") period
 
 -- how many restarts of a period are used up, as `2/3 restarts in 10 s`
 unfoldable pub used_text : SupFlags → ℕ → List ℕ
-used_text flags restarts = share_text restarts flags.intensity ++ period_text flags.period
+used_text flags restarts = share_text restarts flags.intensity ++ period_text flags.period ++ codes " s"
 
 -- how a supervisor stands now that has these children, and had restarts at these times
 unfoldable pub state_text : SupFlags → List Row → List ℕ → ℕ → List ℕ

@@ -130,8 +130,7 @@ fn write_share(restarts: u64, intensity: u64, out: &mut Vec<u8>) -> Result<(), A
 fn write_period(period: u64, out: &mut Vec<u8>) -> Result<(), AllocError>
     ensures { OnOk result (out.new.items ≡ out.old.items ++ period_text period) }
 {
-    write_after(b" restarts in ", period, out)?;
-    out.extend_from_slice(b" s")
+    write_after(b" restarts in ", period, out)
 }
 
 /// Appends how many restarts of the period are used up.
@@ -140,7 +139,8 @@ fn write_used(flags: &SupFlags, restarts: u64, out: &mut Vec<u8>) -> Result<(), 
     ensures { OnOk result (out.new.items ≡ out.old.items ++ used_text flags.now restarts) }
 {
     write_share(restarts, flags.intensity, out)?;
-    write_period(flags.period, out)
+    write_period(flags.period, out)?;
+    out.extend_from_slice(b" s")
 }
 
 /// Appends how the children stand, and how many restarts of the period are used up: `3 up, 1 stopping, 2/3 restarts in 10 s`.
