@@ -1,2 +1,3 @@
 pub mod Tellings
 pub mod Plantings
+pub mod Pages

@@ -9,3 +9,4 @@ pub mod Standing
 pub mod Awaiting
 pub mod Prompt
 pub mod Unused
+pub mod Page

@@ -7,6 +7,7 @@
 mod awaited;
 pub mod finding;
 mod help;
+mod page;
 mod planting;
 pub mod play;
 mod prompt;

@@ -2,6 +2,8 @@
 
 ghost use Rattle.std.specs.Prelude.{ℕ, List, ◌∷◌, ◌++◌, Bool, true, ◌≡◌, ◌≤◌, ◌<◌, IfOk, OnOk, IfSome, length, vec_len};
 ghost use Rattle.otp_spec.specs.declared.limits.TheConstants.{MAX_READING};
+ghost use Rattle.otp_try.specs.Page.{PlaysLine, done_text, heading_line, missed_text, remark_text};
+ghost use Rattle.otp_try.specs.Played.{Tells};
 ghost use Rattle.otp_try.specs.Prompt.{prompt_text, standings_text};
 ghost use Rattle.otp_try.specs.Unused.{unused_text};
 ghost use Rattle.otp_try.specs.declared.world.Hang.{Hang};
@@ -9,6 +11,7 @@ ghost use Rattle.otp_try.specs.declared.world.Plan.{Plan};
 
 use crate::finding::{is_known, named_in};
 use crate::help::{HELP, WELCOME, is_help};
+use crate::page::{write_done, write_heading_line, write_missed};
 use crate::prompt::{write_prompt, write_standings};
 use crate::script::{Action, Child, ScriptFault, Step, When, read_step};
 use crate::seat::Seat;
@@ -20,7 +23,7 @@ use otp_file::TreeSpec;
 use otp_reason::Name;
 use otp_sim::{Failed, Input, Output, PIECE, write_all};
 use otp_spec::MAX_READING;
-use otp_text::{LONGEST_LINE, write_number};
+use otp_text::LONGEST_LINE;
 use std::alloc::{AllocError, Global};
 
 /// How a script ended.
@@ -69,9 +72,6 @@ pub enum Writer {
     /// Somebody at a terminal: a prompt says how the supervisor stands, and such a line is told and forgotten.
     Person,
 }
-
-/// What stands behind the number of a line that names a child which isn't there.
-const UNKNOWN_NAME: &str = ": there is no such child; which lists the children\n";
 
 /// A trial, and the lines that it was told.
 #[derive(Drop)]
@@ -123,17 +123,50 @@ impl Play {
         self.add_moment(self.lines)
     }
 
-    /// A line that was read: the clock goes on, and then it is done.
-    fn play_step(&mut self, line: &[u8], step: Step<'_>) -> Result<(), TryEnd> {
+    /// A line that was read: its heading, what it does, and a remark if it did nothing.
+    #[tactic(auto, using(crate::proofs::Pages::plays_line))]
+    fn play_step(&mut self, line: &[u8], step: Step<'_>) -> Result<(), TryEnd>
+        ensures { OnOk result (PlaysLine self.old.lines line.now self.old.trial self.new.trial self.old.page.items self.new.page.items) }
+    {
         self.write_line(line, step)?;
-        let Some(time) = self.time_of(step.when) else {
-            return self.miss(ActionEnd::TooLate);
-        };
+        let (is_unknown, taken) = self.do_step(step)?;
+        self.remark(is_unknown, taken)?;
+        Ok(())
+    }
+
+    /// What a line says: the clock goes on, and then it is done. The answer is whether it names nobody, and what became of
+    /// it.
+    fn do_step(&mut self, step: Step<'_>) -> Result<(bool, ActionEnd), Halt>
+        ensures told { OnOk result (Tells self.old.trial self.new.trial self.old.page.items self.new.page.items) }
+        ensures lines { self.new.lines ≡ self.old.lines }
+    {
+        match self.time_of(step.when) {
+            None => Ok((false, ActionEnd::TooLate)),
+            Some(time) => self.do_at(time, step),
+        }
+    }
+
+    /// The clock goes to this time, and then it is done.
+    #[tactic(auto, using(crate::proofs::Pages::told_in_turn))]
+    fn do_at(&mut self, time: u64, step: Step<'_>) -> Result<(bool, ActionEnd), Halt>
+        requires { time ≤ MAX_READING }
+        ensures told { OnOk result (Tells self.old.trial self.new.trial self.old.page.items self.new.page.items) }
+        ensures lines { self.new.lines ≡ self.old.lines }
+    {
         self.trial.go_to(time, &mut self.page)?;
         let is_unknown = self.means_nobody(step);
-        match self.act(step)? {
-            ActionEnd::Done if is_unknown => self.tell_unknown(),
-            ActionEnd::Done => Ok(()),
+        let taken = self.act(step)?;
+        Ok((is_unknown, taken))
+    }
+
+    /// What is told behind what a line did: that it names nobody, or that it did nothing.
+    #[tactic(auto, unfolding(crate::specs::Page::remark_text))]
+    fn remark(&mut self, is_unknown: bool, taken: ActionEnd) -> Result<(), TryEnd>
+        ensures text { OnOk result (self.new.page.items ≡ self.old.page.items ++ remark_text self.old.lines is_unknown taken) }
+        ensures same { self.new.trial ≡ self.old.trial }
+    {
+        match taken {
+            ActionEnd::Done => self.remark_done(is_unknown),
             taken => self.miss(taken),
         }
     }
@@ -153,16 +186,20 @@ impl Play {
         }
     }
 
-    /// Puts on the page that a line names a child that isn't there.
-    fn tell_unknown(&mut self) -> Result<(), TryEnd> {
-        self.page.extend_from_slice(b"line ")?;
-        write_number(self.lines, &mut self.page)?;
-        self.page.extend_from_slice(UNKNOWN_NAME.as_bytes())?;
+    /// A line that was taken: puts on the page that it names a child which isn't there, if it does.
+    fn remark_done(&mut self, is_unknown: bool) -> Result<(), TryEnd>
+        ensures text { OnOk result (self.new.page.items ≡ self.old.page.items ++ done_text self.old.lines is_unknown) }
+        ensures same { self.new.trial ≡ self.old.trial }
+    {
+        write_done(self.lines, is_unknown, &mut self.page)?;
         Ok(())
     }
 
     /// What a line says is done at the supervisor that it means.
-    fn act(&mut self, step: Step<'_>) -> Result<ActionEnd, Halt> {
+    fn act(&mut self, step: Step<'_>) -> Result<ActionEnd, Halt>
+        ensures told { OnOk result (Tells self.old.trial self.new.trial self.old.page.items self.new.page.items) }
+        ensures lines { self.new.lines ≡ self.old.lines }
+    {
         let Some(place) = self.place_of(step) else {
             return Ok(self.unless_ended(ActionEnd::NoChild));
         };
@@ -210,25 +247,25 @@ impl Play {
     }
 
     /// A line that did nothing.
-    fn miss(&mut self, taken: ActionEnd) -> Result<(), TryEnd> {
+    fn miss(&mut self, taken: ActionEnd) -> Result<(), TryEnd>
+        ensures text { OnOk result (self.new.page.items ≡ self.old.page.items ++ missed_text taken) }
+        ensures same { self.new.trial ≡ self.old.trial }
+    {
         if self.writer == Writer::Script {
             return Err(TryEnd::LineMissed(self.lines, taken));
         }
-        self.page.extend_from_slice(taken.text().as_bytes())?;
-        self.page.extend_from_slice(b"\n")?;
+        write_missed(taken, &mut self.page)?;
         Ok(())
     }
 
     /// Puts the line of a script above what it does; a line that says nothing has no heading.
-    fn write_line(&mut self, line: &[u8], step: Step<'_>) -> Result<(), AllocError> {
-        if self.writer == Writer::Person || is_silent(step) {
-            return Ok(());
-        }
-        self.page.extend_from_slice(b"line ")?;
-        write_number(self.lines, &mut self.page)?;
-        self.page.extend_from_slice(b": ")?;
-        self.page.extend_from_slice(line)?;
-        self.page.extend_from_slice(b"\n")
+    fn write_line(&mut self, line: &[u8], step: Step<'_>) -> Result<(), AllocError>
+        ensures text { OnOk result ((has_heading : Bool) × (self.new.page.items ≡ self.old.page.items ++ heading_line has_heading self.old.lines line.now)) }
+        ensures same { self.new.trial ≡ self.old.trial }
+        ensures lines { self.new.lines ≡ self.old.lines }
+    {
+        let has_heading = self.writer == Writer::Script && !is_silent(step);
+        write_heading_line(has_heading, self.lines, line, &mut self.page)
     }
 
     /// Where a script is drawn, its orders are not told: the page is cut to this length.
