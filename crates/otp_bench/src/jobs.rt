@@ -145,7 +145,7 @@ fn take_turn<N: RunNaming>(scheduler: &mut AnyScheduler<N>) -> bool {
         return false;
     }
     match one_turn(process, Signal::None) {
-        After::Again(process) | After::Begun(process, _) => {
+        After::Again(process) | After::Waits(process) | After::Begun(process, _) => {
             if let Err(_) = scheduler.give_back(process) {
                 return false;
             }

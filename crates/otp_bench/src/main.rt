@@ -8,6 +8,8 @@
 #![tactic(auto)]
 
 mod core_alone;
+mod counts;
+mod driven;
 mod inbox;
 mod jobs;
 mod report;
@@ -30,12 +32,13 @@ fn main(rt: HostRuntime) -> io::Result<ExitCode> {
     let count = words.next().and_then(|word| word.parse::<u64>().ok());
     let (Some(work), Some(threads), Some(count)) = (work, threads, count) else {
         eprintln!(rt;
-            "usage: otp_bench core|inbox|puts|storm|supervisors|trees|turns|words THREADS COUNT"
+            "usage: otp_bench core|counts|inbox|puts|storm|supervisors|trees|turns|words THREADS COUNT"
         )?;
         return Ok(ExitCode::from(2));
     };
     match work.as_str() {
         "core" => core_alone::measure(&rt, rt.alloc(), count)?,
+        "counts" => counts::measure(&rt, rt.alloc(), threads, count)?,
         "storm" => core_alone::measure_storm(&rt, rt.alloc(), count)?,
         "inbox" => inbox::measure(&rt, rt.alloc(), threads, count)?,
         "words" => signal_words::measure(&rt, rt.alloc(), threads, count)?,

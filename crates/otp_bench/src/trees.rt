@@ -23,7 +23,7 @@ const MOST_ROUNDS: u64 = 10_000;
 
 const DIGITS: [u8; 16] = *b"0123456789abcdef";
 
-/// A worker that works on until it is asked to stop, or crashes in each turn.
+/// A worker that waits until it is asked to stop, or crashes in each turn.
 #[derive(Drop)]
 struct Worker {
     crashes: bool,
@@ -44,7 +44,7 @@ impl Job for Worker {
         match told {
             Told::Shutdown => Turn::End(Reason::Shutdown),
             Told::Nothing if self.crashes => Turn::End(Reason::Error(Text::joined(b"crash", b""))),
-            Told::Nothing => Turn::Again,
+            Told::Nothing => Turn::Wait,
         }
     }
 }
@@ -173,8 +173,8 @@ fn crashing_plans(alloc: Global) -> Result<Vec<Plan>, AllocError> {
 #[derive(Drop)]
 struct UpAndDown;
 
-impl Leader for UpAndDown {
-    fn next(&mut self, told: Option<Note>) -> Round {
+impl Leader<Worker, BoxedSubsystem> for UpAndDown {
+    fn next(&mut self, told: Option<Note>) -> Round<Worker, BoxedSubsystem> {
         match told {
             Some(Note::Up(_)) => Round::Stop(TURNS),
             Some(_) => Round::Leave,

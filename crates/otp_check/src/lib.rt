@@ -17,4 +17,4 @@ mod shown;
 
 pub use document::{check, says_nothing};
 pub use finding::Finding;
-pub use picture::draw;
+pub use picture::{Caption, draw, draw_with};

@@ -5,6 +5,60 @@ use otp_spec::{AutoShutdown, ChildSpec, ChildType, Shutdown, SupFlags};
 use otp_text::{write_name, write_number};
 use std::alloc::{AllocError, Global};
 
+/// What a picture says of a tree, beside how its supervisors restart and the ids of their children.
+pub trait Caption {
+    /// Appends what is said of the supervisor of the table with this number, from 0 in the order of the walk.
+    ///
+    /// # Errors
+    ///
+    /// Where memory is refused.
+    fn write_supervisor(
+        &self,
+        table: usize,
+        flags: &SupFlags,
+        out: &mut Vec<u8>,
+    ) -> Result<(), AllocError>;
+
+    /// Appends what is said of a child of the supervisor of this table.
+    ///
+    /// # Errors
+    ///
+    /// Where memory is refused.
+    fn write_child(
+        &self,
+        table: usize,
+        spec: &ChildSpec,
+        out: &mut Vec<u8>,
+    ) -> Result<(), AllocError>;
+}
+
+/// What a file says of its tree.
+struct Keys;
+
+impl Caption for Keys {
+    fn write_supervisor(
+        &self,
+        _table: usize,
+        flags: &SupFlags,
+        out: &mut Vec<u8>,
+    ) -> Result<(), AllocError> {
+        out.extend_from_slice(shutdown_words(flags.auto_shutdown).as_bytes())
+    }
+
+    fn write_child(
+        &self,
+        _table: usize,
+        spec: &ChildSpec,
+        out: &mut Vec<u8>,
+    ) -> Result<(), AllocError> {
+        out.extend_from_slice(spec.restart.word().as_bytes())?;
+        out.extend_from_slice(b"  ")?;
+        write_kind(spec.kind, out)?;
+        out.extend_from_slice(b"  ")?;
+        write_shutdown(spec.shutdown, out)
+    }
+}
+
 /// What an automatic shutdown comes from.
 fn shutdown_words(auto_shutdown: AutoShutdown) -> &'static str {
     match auto_shutdown {
@@ -84,14 +138,26 @@ impl Halves {
         }
         if self.fit(margin.len().saturating_add(branch.len())) {
             out.extend_from_slice(self.between.as_bytes())?;
+            out.extend_from_slice(self.second.as_slice())?;
         } else {
             out.extend_from_slice(b"\n")?;
             out.extend_from_slice(margin)?;
             out.extend_from_slice(below.as_bytes())?;
+            let columns = margin.len().saturating_add(below.len());
+            write_cut(self.second.as_slice(), COLUMNS.saturating_sub(columns), out)?;
         }
-        out.extend_from_slice(self.second.as_slice())?;
         out.extend_from_slice(b"\n")
     }
+}
+
+/// Appends a text, or as much of it as there are columns for, with two dots at its end.
+fn write_cut(text: &[u8], columns: usize, out: &mut Vec<u8>) -> Result<(), AllocError> {
+    if text.len() <= columns {
+        return out.extend_from_slice(text);
+    }
+    let front = text.get(..columns.saturating_sub(2)).unwrap_or(text);
+    out.extend_from_slice(front)?;
+    out.extend_from_slice(b"..")
 }
 
 /// What stands between a number of restarts and the period.
@@ -103,8 +169,13 @@ fn restarts_words(count: u64) -> &'static str {
     }
 }
 
-/// What is said of a supervisor: how it restarts, and when it ends by itself.
-fn halves_of_flags(alloc: Global, flags: &SupFlags) -> Result<Halves, AllocError> {
+/// What is said of a supervisor: how it restarts, and the caption.
+fn halves_of_supervisor<C: Caption>(
+    alloc: Global,
+    table: usize,
+    flags: &SupFlags,
+    caption: &C,
+) -> Result<Halves, AllocError> {
     let mut first = Vec::new(alloc);
     first.extend_from_slice(flags.strategy.word().as_bytes())?;
     first.extend_from_slice(b", ")?;
@@ -113,7 +184,7 @@ fn halves_of_flags(alloc: Global, flags: &SupFlags) -> Result<Halves, AllocError
     write_number(flags.period, &mut first)?;
     first.extend_from_slice(b" s")?;
     let mut second = Vec::new(alloc);
-    second.extend_from_slice(shutdown_words(flags.auto_shutdown).as_bytes())?;
+    caption.write_supervisor(table, flags, &mut second)?;
     Ok(Halves {
         first,
         between: ", ",
@@ -121,18 +192,20 @@ fn halves_of_flags(alloc: Global, flags: &SupFlags) -> Result<Halves, AllocError
     })
 }
 
-/// What is said of a child, whose id is filled up to this width: its id with a star if it is significant, and the rest.
-fn halves_of_child(alloc: Global, spec: &ChildSpec, width: usize) -> Result<Halves, AllocError> {
+/// What is said of a child, whose id is filled up to this width: its id with a star if it is significant, and the caption.
+fn halves_of_child<C: Caption>(
+    alloc: Global,
+    table: usize,
+    spec: &ChildSpec,
+    width: usize,
+    caption: &C,
+) -> Result<Halves, AllocError> {
     let mut first = Vec::new(alloc);
     write_name(&spec.id, &mut first)?;
     first.extend_from_slice(if spec.significant { b"*" } else { b" " })?;
     write_spaces(width.saturating_sub(spec.id.as_bytes().len()), &mut first)?;
     let mut second = Vec::new(alloc);
-    second.extend_from_slice(spec.restart.word().as_bytes())?;
-    second.extend_from_slice(b"  ")?;
-    write_kind(spec.kind, &mut second)?;
-    second.extend_from_slice(b"  ")?;
-    write_shutdown(spec.shutdown, &mut second)?;
+    caption.write_child(table, spec, &mut second)?;
     Ok(Halves {
         first,
         between: " ",
@@ -155,32 +228,37 @@ fn tree_at(tree: &TreeSpec, place: usize) -> Option<&TreeSpec> {
     tree.trees().get(index)
 }
 
-/// Appends the lines of a supervisor and of all below it, each behind this margin, to so many levels.
-fn draw_below(
+/// Appends the lines of the supervisor of this table and of all below it, each behind this margin, to so many levels, and
+/// gives the number of the table that comes next.
+fn draw_below<C: Caption>(
     alloc: Global,
     tree: &TreeSpec,
+    table: usize,
     levels: usize,
     margin: &[u8],
+    caption: &C,
     out: &mut Vec<u8>,
-) -> Result<(), AllocError> {
+) -> Result<usize, AllocError> {
+    let mut next = table.saturating_add(1);
     let Some(left) = levels.checked_sub(1) else {
-        return Ok(());
+        return Ok(next);
     };
     let supervisor = tree.supervisor();
-    halves_of_flags(alloc, &supervisor.flags())?.write(margin, "", "  ", out)?;
+    halves_of_supervisor(alloc, table, &supervisor.flags(), caption)?.write(margin, "", "  ", out)?;
     let specs = supervisor.specs();
     let width = longest_id(specs);
     for (place, spec) in specs.iter().enumerate() {
         let is_last = place.saturating_add(1) == specs.len();
-        draw_child(alloc, spec, width, is_last, margin, out)?;
+        let (branch, below) = branch(is_last);
+        halves_of_child(alloc, table, spec, width, caption)?.write(margin, branch, below, out)?;
         if let Some(nested) = tree_at(tree, place) {
             let mut deeper = Vec::new(alloc);
             deeper.extend_from_slice(margin)?;
             deeper.extend_from_slice(bar(is_last))?;
-            draw_below(alloc, nested, left, deeper.as_slice(), out)?;
+            next = draw_below(alloc, nested, next, left, deeper.as_slice(), caption, out)?;
         }
     }
-    Ok(())
+    Ok(next)
 }
 
 /// What stands below the line of a child, in front of what lies below it.
@@ -188,21 +266,13 @@ fn bar(is_last: bool) -> &'static [u8] {
     if is_last { b"  " } else { b"| " }
 }
 
-/// Appends the line of a child.
-fn draw_child(
-    alloc: Global,
-    spec: &ChildSpec,
-    width: usize,
-    is_last: bool,
-    margin: &[u8],
-    out: &mut Vec<u8>,
-) -> Result<(), AllocError> {
-    let (branch, below) = if is_last {
+/// What stands in front of a child, and in front of the second line that is said of it.
+fn branch(is_last: bool) -> (&'static str, &'static str) {
+    if is_last {
         ("`-- ", "      ")
     } else {
         ("|-- ", "|     ")
-    };
-    halves_of_child(alloc, spec, width)?.write(margin, branch, below, out)
+    }
 }
 
 /// Appends a tree: a line for the supervisor, and one for each child in start order, with its restart type, its type and
@@ -213,5 +283,21 @@ fn draw_child(
 ///
 /// Where memory is refused.
 pub fn draw(alloc: Global, tree: &TreeSpec, out: &mut Vec<u8>) -> Result<(), AllocError> {
-    draw_below(alloc, tree, MAX_DEPTH, b"", out)
+    draw_with(alloc, tree, &Keys, out)
+}
+
+/// Appends a tree as [`draw`] does, with what the caption says of supervisors and children in the place of their keys. What
+/// has no room on two lines is cut.
+///
+/// # Errors
+///
+/// Where memory is refused.
+pub fn draw_with<C: Caption>(
+    alloc: Global,
+    tree: &TreeSpec,
+    caption: &C,
+    out: &mut Vec<u8>,
+) -> Result<(), AllocError> {
+    let _tables = draw_below(alloc, tree, 0, MAX_DEPTH, b"", caption, out)?;
+    Ok(())
 }

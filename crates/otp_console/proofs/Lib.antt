@@ -1,2 +1,4 @@
 pub mod Checked
 pub mod Told
+pub mod Getters
+pub mod WorkedWords

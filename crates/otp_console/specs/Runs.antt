@@ -180,38 +180,54 @@ abbrev pub Does : (List ℕ → List ℕ → Type 0) → Command → ProgramEnd 
 Does Holds (command.Sim file) ending old new = Simulates (Holds file.now) ending old new
 Does Holds (command.Check files) ending old new =
     IsUnread old new × ChecksAll (λ name. Holds name.now) files.items ending (writer_of old) (writer_of new)
-Does Holds (command.Run file settings) ending old new =
+Does Holds (command.Run file settings is_drawn) ending old new =
     IsUnread old new × RunsTree (Holds file.now) settings.counted ending (writer_of old) (writer_of new)
 Does Holds (command.Use file usage) ending old new = Uses (Holds file.now) usage ending old new
 
--- what the words ask for was done, for some command; or the words alone were answered
-abbrev pub Obeys : (List ℕ → List ℕ → Type 0) → ProgramEnd → Devices → Devices → Type 0
-Obeys Holds ending old new = ((command : Command) × Does Holds command ending old new) ⊎ Answers ending old new
+-- a picture of the tree that is run is told besides, where the command asks for it
+abbrev pub draws : Command → Bool
+draws (command.Run file settings is_drawn) = is_drawn
+draws _ = false
+
+-- what the words ask for was done, for some command, with a picture or without; or the words alone were answered
+abbrev pub Obeys : (List ℕ → List ℕ → Type 0) → Bool → ProgramEnd → Devices → Devices → Type 0
+Obeys Holds drawn ending old new =
+    ((command : Command) × ((draws command ≡ drawn) × Does Holds command ending old new)) ⊎ ((drawn ≡ false) × Answers ending old new)
 
 -- a text was written, or the writer failed
 abbrev pub IsTold : List ℕ → Option (List ℕ) → Option (List ℕ) → ℕ → ℕ → Type 0
 IsTold text before now failures_before failures_now = (failures_before < failures_now) ⊎ Appends before now text
 
--- what is told before the program ends: why `clap` refuses the words, and why a file can't be read
-abbrev pub is_told_first : ProgramEnd → Bool
-is_told_first WordsRefused = true
-is_told_first FileNotRead = true
-is_told_first _ = false
+-- what is told before the program ends: why `clap` refuses the words, why a file can't be read, and a picture of a tree that
+-- was run, where one is wanted
+abbrev pub is_told_first : Bool → ProgramEnd → Bool
+is_told_first drawn WordsRefused = true
+is_told_first drawn FileNotRead = true
+is_told_first drawn Done = drawn
+is_told_first drawn _ = false
 
 -- before the program ends nothing else is told
-abbrev pub TellsFirst : ProgramEnd → Option (List ℕ) → Option (List ℕ) → ℕ → ℕ → Type 0
-TellsFirst ending before now failures_before failures_now =
-    (text : List ℕ) × ((is_told_first ending ≡ false → text ≡ []) × IsTold text before now failures_before failures_now)
+abbrev pub TellsFirst : Bool → ProgramEnd → Option (List ℕ) → Option (List ℕ) → ℕ → ℕ → Type 0
+TellsFirst drawn ending before now failures_before failures_now =
+    (text : List ℕ) × ((is_told_first drawn ending ≡ false → text ≡ []) × IsTold text before now failures_before failures_now)
+
+-- what was done, and what was told before the program ends
+pub record IsObeyed (Holds : List ℕ → List ℕ → Type 0) (ending : ProgramEnd) (old new : Devices)
+    (before now : Option (List ℕ)) (failures_before failures_now : ℕ) : Type 0 where
+  pub drawn : Bool
+  pub done : Obeys Holds drawn ending old new
+  pub first : TellsFirst drawn ending before now failures_before failures_now
 
 -- and with it the sentence of the ending
-abbrev pub Tells : ProgramEnd → Option (List ℕ) → Option (List ℕ) → ℕ → ℕ → Type 0
-Tells ending before now failures_before failures_now =
-    (text : List ℕ) × ((is_told_first ending ≡ false → text ≡ []) × IsTold (text ++ sentence_of ending) before now failures_before failures_now)
+abbrev pub Tells : Bool → ProgramEnd → Option (List ℕ) → Option (List ℕ) → ℕ → ℕ → Type 0
+Tells drawn ending before now failures_before failures_now =
+    (text : List ℕ) × ((is_told_first drawn ending ≡ false → text ≡ []) × IsTold (text ++ sentence_of ending) before now failures_before failures_now)
 
 -- a run of the program: how it ended, its status, what it did to its input and output, and what it told
 pub record IsProgramRun (Holds : List ℕ → List ℕ → Type 0) (status : ℕ) (old new : Devices)
     (before now : Option (List ℕ)) (failures_before failures_now : ℕ) : Type 0 where
   pub ending : ProgramEnd
+  pub drawn : Bool
   pub status_is : status ≡ status_of ending
-  pub done : Obeys Holds ending old new
-  pub told : Tells ending before now failures_before failures_now
+  pub done : Obeys Holds drawn ending old new
+  pub told : Tells drawn ending before now failures_before failures_now

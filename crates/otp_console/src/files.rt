@@ -1,6 +1,6 @@
 //! The files that the program reads.
 
-ghost use Rattle.std.specs.Prelude.{ℕ, List, ◌≡◌, ◌≤◌, ◌<◌, ◌++◌, ◌⊎◌, IfErr, IfOk, OnOk, OnErr, codes, vec_len};
+ghost use Rattle.std.specs.Prelude.{ℕ, Bool, List, ◌≡◌, ◌≤◌, ◌<◌, ◌++◌, ◌⊎◌, IfErr, IfOk, OnOk, OnErr, codes, vec_len};
 ghost use Rattle.std.specs.Io.KnownBytes.{Appends};
 ghost use Rattle.otp_console.specs.Runs.{IsUnreadEnd, TellsFirst};
 ghost use Rattle.otp_console.specs.Statuses.{not_read_text};
@@ -62,7 +62,7 @@ pub(crate) fn read_file<F: TreeFiles, E: Output>(
     ensures holds { IfOk result (λ file. F.holds files.now name.now file.items) }
     ensures silent { OnOk result (errors.new ≡ errors.old) }
     ensures ending { IfErr result (λ ending. (ending ≡ FileNotRead) ⊎ (ending ≡ OutOfMemory)) }
-    ensures first { IfErr result (λ ending. TellsFirst ending (E.contents errors.old) (E.contents errors.new) (E.failures errors.old) (E.failures errors.new)) }
+    ensures first { IfErr result (λ ending. (drawn : Bool) → TellsFirst drawn ending (E.contents errors.old) (E.contents errors.new) (E.failures errors.old) (E.failures errors.new)) }
     ensures kept { E.failures errors.old ≤ E.failures errors.new }
 {
     let error = match read_named(files, name) {
@@ -89,7 +89,7 @@ pub(crate) fn read_tree_file<F: TreeFiles, E: Output>(
     ensures small { IfOk result (λ file. vec_len file ≤ LARGEST_TREE) }
     ensures silent { OnOk result (errors.new ≡ errors.old) }
     ensures ending { IfErr result (λ ending. (ending ≡ FileNotRead) ⊎ (ending ≡ OutOfMemory)) }
-    ensures first { IfErr result (λ ending. TellsFirst ending (E.contents errors.old) (E.contents errors.new) (E.failures errors.old) (E.failures errors.new)) }
+    ensures first { IfErr result (λ ending. (drawn : Bool) → TellsFirst drawn ending (E.contents errors.old) (E.contents errors.new) (E.failures errors.old) (E.failures errors.new)) }
     ensures kept { E.failures errors.old ≤ E.failures errors.new }
 {
     let file = read_file(files, name, errors)?;
@@ -113,7 +113,7 @@ pub(crate) fn read_run_file<F: TreeFiles, E: Output>(
     ensures holds { IfOk result (λ file. F.holds files.now name.now file.items) }
     ensures silent { OnOk result (errors.new ≡ errors.old) }
     ensures ending { IfErr result IsUnreadEnd }
-    ensures first { IfErr result (λ ending. TellsFirst ending (E.contents errors.old) (E.contents errors.new) (E.failures errors.old) (E.failures errors.new)) }
+    ensures first { IfErr result (λ ending. (drawn : Bool) → TellsFirst drawn ending (E.contents errors.old) (E.contents errors.new) (E.failures errors.old) (E.failures errors.new)) }
     ensures kept { E.failures errors.old ≤ E.failures errors.new }
 {
     if let b"-" = name.as_bytes() {
@@ -128,7 +128,7 @@ pub(crate) fn read_run_file<F: TreeFiles, E: Output>(
 /// Tells which file can't be read, and why.
 fn tell_not_read<E: Output>(errors: &mut E, name: &str, why: &str) -> ProgramEnd
     ensures ending { result ≡ FileNotRead }
-    ensures first { TellsFirst result (E.contents errors.old) (E.contents errors.new) (E.failures errors.old) (E.failures errors.new) }
+    ensures first { (drawn : Bool) → TellsFirst drawn result (E.contents errors.old) (E.contents errors.new) (E.failures errors.old) (E.failures errors.new) }
     ensures kept { E.failures errors.old ≤ E.failures errors.new }
 {
     // Where nothing can be told, the status alone says it.

@@ -4,6 +4,7 @@
 #![tactic(auto)]
 
 pub mod checking;
+mod commands;
 pub mod console;
 pub mod ending;
 pub mod files;
@@ -12,6 +13,7 @@ pub mod limiting;
 pub mod program;
 pub mod running;
 mod screen;
+mod standing;
 mod stopwatch;
 pub mod trying;
 pub mod words;

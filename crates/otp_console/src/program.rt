@@ -1,7 +1,7 @@
 //! The program but for the system under it: what it does for which words, and what it tells on which stream.
 
-ghost use Rattle.std.specs.Prelude.{ℕ, List, Option, ◌≡◌, ◌≤◌, ◌⊎◌, IfErr, IfOk, OnOk, option_map, true};
-ghost use Rattle.otp_console.specs.Runs.{Answers, Checks, ChecksAll, Does, IsProgramRun, IsTrial, IsTrialOf, IsUsed, Obeys, RunsTree, Simulates, TellsFirst, Uses, goes_on};
+ghost use Rattle.std.specs.Prelude.{ℕ, List, Option, ◌≡◌, ◌≤◌, ◌⊎◌, IfErr, IfOk, OnOk, option_map, true, false};
+ghost use Rattle.otp_console.specs.Runs.{Answers, Checks, ChecksAll, Does, IsObeyed, IsProgramRun, IsTrial, IsTrialOf, IsUsed, RunsTree, Simulates, TellsFirst, Uses, goes_on, draws};
 ghost use Rattle.otp_console.specs.declared.ending.ProgramEnd.TheVariants as end;
 ghost use Rattle.otp_console.specs.Words.{EndsFor};
 ghost use Rattle.otp_console.specs.declared.words.WordsFault.TheVariants.{Clap};
@@ -68,10 +68,10 @@ where
     R: Input,
     W: Output,
     E: Output,
-    ensures done { Obeys (F.holds files.now) result
+    ensures obeyed { IsObeyed (F.holds files.now) result
         (record { left = R.remaining input.old; written = W.contents output.old; read_failures = R.failures input.old; write_failures = W.failures output.old })
-        (record { left = R.remaining input.new; written = W.contents output.new; read_failures = R.failures input.new; write_failures = W.failures output.new }) }
-    ensures first { TellsFirst result (E.contents errors.old) (E.contents errors.new) (E.failures errors.old) (E.failures errors.new) }
+        (record { left = R.remaining input.new; written = W.contents output.new; read_failures = R.failures input.new; write_failures = W.failures output.new })
+        (E.contents errors.old) (E.contents errors.new) (E.failures errors.old) (E.failures errors.new) }
     ensures kept { E.failures errors.old ≤ E.failures errors.new }
 {
     let words = match words {
@@ -104,7 +104,7 @@ where
     ensures done { Does (F.holds files.now) command.entry result
         (record { left = R.remaining input.old; written = W.contents output.old; read_failures = R.failures input.old; write_failures = W.failures output.old })
         (record { left = R.remaining input.new; written = W.contents output.new; read_failures = R.failures input.new; write_failures = W.failures output.new }) }
-    ensures first { TellsFirst result (E.contents errors.old) (E.contents errors.new) (E.failures errors.old) (E.failures errors.new) }
+    ensures first { TellsFirst (draws command.entry) result (E.contents errors.old) (E.contents errors.new) (E.failures errors.old) (E.failures errors.new) }
     ensures kept { E.failures errors.old ≤ E.failures errors.new }
 {
     match command {
@@ -116,9 +116,11 @@ where
             output,
             errors,
         ),
-        Command::Run { file, settings } => {
-            run_named(pool, alloc, files, file, settings, output, errors)
-        }
+        Command::Run {
+            file,
+            settings,
+            is_drawn,
+        } => run_named(pool, alloc, files, file, settings, is_drawn, output, errors),
         Command::Use { file, usage } => use_named(alloc, files, file, usage, input, output, errors),
     }
 }
@@ -148,6 +150,7 @@ fn run_named<H, G, F, W, E>(
     files: &F,
     name: &str,
     settings: Settings,
+    is_drawn: bool,
     output: &mut W,
     errors: &mut E,
 ) -> ProgramEnd
@@ -160,11 +163,11 @@ where
     ensures done { RunsTree (F.holds files.now name.now) settings.counted result
         (record { bytes = W.contents output.old; failures = W.failures output.old })
         (record { bytes = W.contents output.new; failures = W.failures output.new }) }
-    ensures first { TellsFirst result (E.contents errors.old) (E.contents errors.new) (E.failures errors.old) (E.failures errors.new) }
+    ensures first { TellsFirst is_drawn result (E.contents errors.old) (E.contents errors.new) (E.failures errors.old) (E.failures errors.new) }
     ensures kept { E.failures errors.old ≤ E.failures errors.new }
 {
     match read_run_file(files, name, errors) {
-        Ok(file) => run_file(pool, alloc, &file, settings, output),
+        Ok(file) => run_file(pool, alloc, &file, settings, is_drawn, output, errors),
         Err(ending) => ending,
     }
 }
@@ -182,7 +185,7 @@ fn use_named<F: TreeFiles, R: Input, W: Output, E: Output>(
     ensures done { Uses (F.holds files.now name.now) usage.entry result
         (record { left = R.remaining input.old; written = W.contents output.old; read_failures = R.failures input.old; write_failures = W.failures output.old })
         (record { left = R.remaining input.new; written = W.contents output.new; read_failures = R.failures input.new; write_failures = W.failures output.new }) }
-    ensures first { TellsFirst result (E.contents errors.old) (E.contents errors.new) (E.failures errors.old) (E.failures errors.new) }
+    ensures first { TellsFirst false result (E.contents errors.old) (E.contents errors.new) (E.failures errors.old) (E.failures errors.new) }
     ensures kept { E.failures errors.old ≤ E.failures errors.new }
 {
     match read_tree_file(files, name, errors) {
@@ -204,7 +207,7 @@ fn use_file<F: TreeFiles, R: Input, W: Output, E: Output>(
     ensures done { IsUsed usage.entry result file.now
         (record { left = R.remaining input.old; written = W.contents output.old; read_failures = R.failures input.old; write_failures = W.failures output.old })
         (record { left = R.remaining input.new; written = W.contents output.new; read_failures = R.failures input.new; write_failures = W.failures output.new }) }
-    ensures first { TellsFirst result (E.contents errors.old) (E.contents errors.new) (E.failures errors.old) (E.failures errors.new) }
+    ensures first { TellsFirst false result (E.contents errors.old) (E.contents errors.new) (E.failures errors.old) (E.failures errors.new) }
     ensures kept { E.failures errors.old ≤ E.failures errors.new }
 {
     match usage {
@@ -243,7 +246,7 @@ fn try_by<F: TreeFiles, R: Input, W: Output, E: Output>(
     ensures done { IsTrialOf (option_map (λ script. script.now) script.entry) result file.now
         (record { left = R.remaining input.old; written = W.contents output.old; read_failures = R.failures input.old; write_failures = W.failures output.old })
         (record { left = R.remaining input.new; written = W.contents output.new; read_failures = R.failures input.new; write_failures = W.failures output.new }) }
-    ensures first { TellsFirst result (E.contents errors.old) (E.contents errors.new) (E.failures errors.old) (E.failures errors.new) }
+    ensures first { TellsFirst false result (E.contents errors.old) (E.contents errors.new) (E.failures errors.old) (E.failures errors.new) }
     ensures kept { E.failures errors.old ≤ E.failures errors.new }
 {
     let Some(script) = script else {
@@ -303,7 +306,7 @@ fn check_all<F: TreeFiles, W: Output, E: Output>(
     ensures done { ChecksAll (λ name. F.holds files.now name.now) names.now result
         (record { bytes = W.contents output.old; failures = W.failures output.old })
         (record { bytes = W.contents output.new; failures = W.failures output.new }) }
-    ensures first { TellsFirst result (E.contents errors.old) (E.contents errors.new) (E.failures errors.old) (E.failures errors.new) }
+    ensures first { TellsFirst false result (E.contents errors.old) (E.contents errors.new) (E.failures errors.old) (E.failures errors.new) }
     ensures kept { E.failures errors.old ≤ E.failures errors.new }
 {
     let mut ending = ProgramEnd::Done;
@@ -329,7 +332,7 @@ fn check_named<F: TreeFiles, W: Output, E: Output>(
         (record { bytes = W.contents output.old; failures = W.failures output.old })
         (record { bytes = W.contents output.new; failures = W.failures output.new }) }
     ensures silent { goes_on result ≡ true → errors.new ≡ errors.old }
-    ensures first { TellsFirst result (E.contents errors.old) (E.contents errors.new) (E.failures errors.old) (E.failures errors.new) }
+    ensures first { TellsFirst false result (E.contents errors.old) (E.contents errors.new) (E.failures errors.old) (E.failures errors.new) }
     ensures kept { E.failures errors.old ≤ E.failures errors.new }
 {
     match read_tree_file(files, name, errors) {
@@ -349,7 +352,7 @@ fn answer<W: Output, E: Output>(
     ensures done { (left : Option (List ℕ)) (failures : ℕ) → Answers result
         (record { left = left; written = W.contents output.old; read_failures = failures; write_failures = W.failures output.old })
         (record { left = left; written = W.contents output.new; read_failures = failures; write_failures = W.failures output.new }) }
-    ensures first { TellsFirst result (E.contents errors.old) (E.contents errors.new) (E.failures errors.old) (E.failures errors.new) }
+    ensures first { TellsFirst false result (E.contents errors.old) (E.contents errors.new) (E.failures errors.old) (E.failures errors.new) }
     ensures kept { E.failures errors.old ≤ E.failures errors.new }
 {
     match fault {
@@ -372,7 +375,7 @@ fn show<W: Output, E: Output>(
     ensures done { (left : Option (List ℕ)) (failures : ℕ) → Answers result
         (record { left = left; written = W.contents output.old; read_failures = failures; write_failures = W.failures output.old })
         (record { left = left; written = W.contents output.new; read_failures = failures; write_failures = W.failures output.new }) }
-    ensures first { TellsFirst result (E.contents errors.old) (E.contents errors.new) (E.failures errors.old) (E.failures errors.new) }
+    ensures first { TellsFirst false result (E.contents errors.old) (E.contents errors.new) (E.failures errors.old) (E.failures errors.new) }
     ensures kept { E.failures errors.old ≤ E.failures errors.new }
 {
     let Ok(text) = error.to_string(alloc) else {

@@ -1,10 +1,12 @@
 //! `run`: a tree is run on threads, with worked jobs.
 
-ghost use Rattle.std.specs.Prelude.{◌≡◌, [], Some};
+ghost use Rattle.std.specs.Prelude.{◌≡◌, ◌≤◌, [], Some};
 ghost use Rattle.otp_console.specs.Statuses.{ending_of_run};
 ghost use Rattle.otp_console.specs.Running.{IsTreeRun};
+ghost use Rattle.otp_console.specs.Runs.{TellsFirst};
 
 use crate::ending::ProgramEnd;
+use crate::standing::picture_of;
 use otp_file::{TreeFault, read_tree};
 use otp_jobs::{FileRunFault, Settings, run_worked};
 use otp_sim::{Failed, Output, write_all};
@@ -20,32 +22,46 @@ pub struct Pool<'a, H, G> {
     pub gate: &'a G,
 }
 
-/// Reads the tree of a file, runs it with worked jobs, and writes the report, with the counts where the settings say so.
-pub fn run_file<H, G, W>(
+/// Reads the tree of a file, runs it with worked jobs, and writes the report, with the counts where the settings say so. The
+/// output is the same where a picture of the tree is wanted; that is told besides.
+pub fn run_file<H, G, W, E>(
     pool: &Pool<'_, H, G>,
     alloc: Global,
     file: &[u8],
     settings: Settings,
+    is_drawn: bool,
     output: &mut W,
+    errors: &mut E,
 ) -> ProgramEnd
 where
     H: Threads + Wait + Sync,
     G: Gate + Sync,
     W: Output,
-    ensures { IsTreeRun settings.counted result file.now
+    E: Output,
+    ensures done { IsTreeRun settings.counted result file.now
         (record { bytes = W.contents output.old; failures = W.failures output.old })
         (record { bytes = W.contents output.new; failures = W.failures output.new }) }
+    ensures first { TellsFirst is_drawn result (E.contents errors.old) (E.contents errors.new) (E.failures errors.old) (E.failures errors.new) }
+    ensures kept { E.failures errors.old ≤ E.failures errors.new }
 {
     let tree = match read_tree(alloc, file) {
         Ok(tree) => tree,
         Err(fault) => return ProgramEnd::of_tree(fault),
     };
     let mut report = Vec::new(alloc);
-    if let Err(fault) = run_worked(pool.rt, alloc, tree, settings, pool.gate, &mut report) {
-        return ProgramEnd::of_run(fault);
-    }
+    let whole = match run_worked(pool.rt, alloc, tree, settings, pool.gate, &mut report) {
+        Ok(whole) => whole,
+        Err(fault) => return ProgramEnd::of_run(fault),
+    };
+    let Ok(picture) = picture_of(alloc, is_drawn, file, whole.report.tables.as_slice()) else {
+        return ProgramEnd::OutOfMemory;
+    };
     match write_all(output, report.as_slice()) {
-        Ok(()) => ProgramEnd::Done,
+        Ok(()) => {
+            // Where nothing can be told, the report stands all the same.
+            let _told = write_all(errors, picture.as_slice());
+            ProgramEnd::Done
+        }
         Err(Failed) => ProgramEnd::OutputFailed,
     }
 }

@@ -1,17 +1,27 @@
 -- What contracts see of a process. (own, but for what traps and signals mean)
-use Rattle.std.specs.Prelude.{◌≡◌, ℕ, ⊤, Option, Some, None}
+use Rattle.std.specs.Prelude.{◌≡◌, ℕ, ⊤, Bool, true, false, Option, Some, None}
 use Rattle.otp_bridge.specs.declared.bridge.BridgePhase.TheVariants as bridge_phase
 use Rattle.otp_job.specs.declared.body.Body.{Body}
 use Rattle.otp_job.specs.declared.body.Body.TheVariants as body
 use Rattle.otp_job.specs.declared.process.ProcessPhase.{ProcessPhase}
 use Rattle.otp_job.specs.declared.process.ProcessPhase.TheVariants as phase
 use Rattle.otp_job.specs.declared.process.Ticket.{Ticket}
+use Rattle.otp_signals.specs.declared.signal.Signal.{Signal}
+use Rattle.otp_signals.specs.declared.signal.Signal.TheVariants as signal
 
 pub record ProcessState (J S : Type 0) : Type 0 where
   pub ticket : Ticket
   -- none where a nested supervisor's body has gone home
   pub body : Option (Body J S)
   pub phase : ProcessPhase
+
+-- a signal that tells a process in this phase something: a kill, or a shutdown that it wasn't told yet
+abbrev pub is_news : ProcessPhase → Signal → Bool
+is_news _ signal.None = false
+is_news phase.Fresh signal.Shutdown = true
+is_news phase.Running signal.Shutdown = true
+is_news phase.Asked signal.Shutdown = false
+is_news _ signal.Kill = true
 
 module _ {J S : Type 0} where
   -- the process of this ticket, in this phase and with this body

@@ -43,6 +43,7 @@ module _ {J S : Type 0} where
   -- what follows from the answer of a turn
   abbrev pub after_turn : Ticket → ProcessPhase → Turn → Body J S → After J S
   after_turn ticket phase turn.Again body = after.Again (process_at ticket phase body)
+  after_turn ticket phase turn.Wait body = after.Waits (process_at ticket phase body)
   after_turn ticket phase (turn.End reason) body = exited ticket reason body
 
   -- what follows from a bridge's turn

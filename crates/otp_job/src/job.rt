@@ -15,6 +15,9 @@ pub enum Told {
 pub enum Turn {
     /// It wants another turn.
     Again,
+    /// It has nothing to do until its supervisor tells it something, as a process of Erlang that waits in a receive: it has its
+    /// next turn once it is to be killed, or is asked to shut down and wasn't told so yet.
+    Wait,
     /// It has ended, with this reason.
     End(Reason),
 }
@@ -26,6 +29,8 @@ pub enum Turn {
 /// - **No turn may block.** A thread takes the turns of many processes, one after another. A turn that sleeps, waits
 ///   for a lock or reads from a socket that has nothing keeps all of them waiting, and a supervisor that waits for one
 ///   of them too. Do a piece of work, keep in `self` what the next turn needs, and answer [`Turn::Again`].
+/// - **A job that has nothing to do should say so** ([`Turn::Wait`]): else it takes turns that do nothing, and all others wait
+///   for them. One that looks after something outside, as a socket, can't wait: only its supervisor ends a wait.
 /// - **Every turn returns.** A turn can't be broken off. A job that never returns from one is never killed, and keeps
 ///   its thread.
 /// - **`start` begins anew, from whatever state the job is in.** After its end the same value may be started again,

@@ -1,8 +1,9 @@
 ghost use Rattle.std.specs.Prelude.{◌≡◌, ◌≢◌, ◌↔◌, Some, None, IsTrue, OnOk, OnErr, IfOk, IfErr, IsOk};
-ghost use Rattle.otp_job.specs.Processes.{fresh_process, IsRunnable, nested_table_of};
+ghost use Rattle.otp_job.specs.Processes.{fresh_process, is_news, IsRunnable, nested_table_of};
 ghost use Rattle.otp_job.specs.declared.body.Body.TheVariants.{Sup};
 
 use crate::body::{Body, TableNo};
+use otp_signals::Signal;
 use std::alloc::Global;
 use std::marker::Model;
 
@@ -134,6 +135,17 @@ impl<J: Drop, S: Drop> Process<J, S> {
         match &self.inside.body {
             Some(Body::Sup(table)) => Some(table.number()),
             _ => None,
+        }
+    }
+
+    /// Whether this signal, which its supervisor has posted for it, is news to it: a kill, or a shutdown that its job wasn't told.
+    pub fn has_news(&self, signal: Signal) -> bool
+        ensures { result ≡ is_news self.now.phase signal }
+    {
+        match signal {
+            Signal::None => false,
+            Signal::Shutdown => self.inside.phase != ProcessPhase::Asked,
+            Signal::Kill => true,
         }
     }
 

@@ -29,6 +29,8 @@ pub struct EndNote<J: Drop, S: Drop> {
 pub enum After<J: Drop, S: Drop> {
     /// It goes on.
     Again(Process<J, S>),
+    /// It goes on, and needs no turn before it is told something ([`Process::has_news`]).
+    Waits(Process<J, S>),
     /// It has started. The note is to be sent before its next turn.
     Begun(Process<J, S>, Note),
     /// It ended. The note is to be sent, and what is left of the process to be counted.
@@ -116,6 +118,7 @@ fn tell_job<J: Job, S: Drop>(
 {
     match job.turn(told) {
         Turn::Again => After::Again(process(inside, phase, Body::Worker(job))),
+        Turn::Wait => After::Waits(process(inside, phase, Body::Worker(job))),
         Turn::End(reason) => exit(inside, reason, Body::Worker(job)),
     }
 }

@@ -3,7 +3,7 @@ ghost use Rattle.std.specs.Prelude.{◌≡◌, ◌<◌, ◌≤◌, ◌++◌, fal
 ghost use Rattle.std.specs.Option.{SomeIff, option_map};
 ghost use Rattle.otp_file.specs.Trees.{tables_of};
 ghost use Rattle.otp_jobs.specs.Plans.{plan_fault};
-ghost use Rattle.otp_jobs.specs.Runs.{AreSettings, IsOfRun, Reports, line_of, run_fault, run_text};
+ghost use Rattle.otp_jobs.specs.Runs.{AreSettings, IsOfRun, IsRunOf, line_of, run_fault, run_text};
 
 use crate::plan::{PlanFault, plan_tree};
 use crate::report::{TableLine, write_counts, write_report};
@@ -87,7 +87,9 @@ impl From<RunFault<WorkedJob, Calm>> for FileRunFault {
         match why {
             RunFault::Open(fault) => FileRunFault::from(fault),
             RunFault::Close(CloseFault::OutOfMemory(())) => FileRunFault::OutOfMemory,
-            RunFault::Close(CloseFault::Missing(())) => FileRunFault::Missing,
+            RunFault::Close(CloseFault::Missing(()) | CloseFault::Misplaced(())) => {
+                FileRunFault::Missing
+            }
             RunFault::Close(CloseFault::Mismatch(..)) => FileRunFault::Mismatch,
         }
     }
@@ -184,6 +186,9 @@ impl Settings {
     }
 }
 
+/// What came of a tree of worked jobs, and what its supervisors counted before the stop.
+pub type WorkedRun = CountedRun<WorkedJob, Calm>;
+
 /// What is printed of a supervisor.
 fn line_of(table: &TableReport) -> TableLine
     ensures { result ≡ line_of table.now }
@@ -211,7 +216,7 @@ fn lines_of(alloc: Global, tables: &[TableReport]) -> Result<Vec<TableLine>, All
 fn write_run(
     alloc: Global,
     is_counted: bool,
-    run: &CountedRun<WorkedJob, Calm>,
+    run: &WorkedRun,
     out: &mut Vec<u8>,
 ) -> Result<(), AllocError>
     ensures { OnOk result (out.new.items ≡ out.old.items ++ run_text is_counted run.now) }
@@ -224,7 +229,7 @@ fn write_run(
 /// Runs a tree of worked jobs: each hand makes its turns, the root is asked to stop, each hand makes as many turns again,
 /// and the tree is closed. The gate says the time before each turn. Appends the report: a line for each supervisor, and how
 /// many processes are left. Where the settings say so, a line for each supervisor stands before it, with the counts of its
-/// children before the stop.
+/// children before the stop. Gives what it appends the text of.
 ///
 /// # Errors
 ///
@@ -238,11 +243,12 @@ pub fn run_worked<R, G>(
     settings: Settings,
     gate: &G,
     out: &mut Vec<u8>,
-) -> Result<(), FileRunFault>
+) -> Result<WorkedRun, FileRunFault>
 where
     R: Threads + Wait + Sync,
     G: Gate + Sync,
-    ensures report { OnOk result (Reports settings.counted (length (tables_of tree)) out.old.items out.new.items) }
+    ensures run { IfOk result (IsRunOf (length (tables_of tree))) }
+    ensures report { IfOk result (λ run. out.new.items ≡ out.old.items ++ run_text settings.counted run) }
     ensures runnable { OnOk result (plan_fault (tables_of tree) ≡ None) }
     ensures fault { IfErr result (λ why. IsOfRun why → option_map run_fault (plan_fault (tables_of tree)) ≡ Some why) }
 {
@@ -256,5 +262,5 @@ where
         settings.turns(),
     )?;
     write_run(alloc, settings.is_counted(), &whole, out)?;
-    Ok(())
+    Ok(whole)
 }

@@ -1,12 +1,12 @@
 //! The events of a supervisor, kept. Most of them are short, and few have a term or a call, so these stand beside them: an
-//! event takes 32 bytes, the term of its reason 64 more, and its call what a call takes.
+//! event takes 32 bytes, the term of its reason [`TEXT_SIZE`] more, and its call what a call takes.
 
 ghost use Rattle.std.specs.Prelude.{◌≡◌, ◌+◌, ◌<◌, ◌≤◌, ◌++◌, ◌∷◌, [], IsTrue, Some, length, map, slice_get, OnOk, OnErr, vec_len, vec_capacity};
 ghost use Rattle.otp_reason.specs.Texts.{text_block, text_with};
 ghost use Rattle.otp_lists.specs.Events.{calls_in, terms_in, terms_of};
 ghost use Rattle.otp_lists.specs.HistoryInside.{kind_of, number_of, plain_kind, reason_as, shows_term, term_at, KindWithin};
 
-use otp_reason::{Note, Reason, Text};
+use otp_reason::{Note, Reason, TEXT_SIZE, Text};
 use otp_rules::{Call, Event, Item, Kind};
 use std::alloc::{AllocError, Global};
 use std::marker::Model;
@@ -68,7 +68,7 @@ pub(crate) struct ShortEvent {
 pub struct History {
     events: Vec<ShortEvent>,
     /// The bytes of each term, those that it doesn't show too.
-    terms: Vec<[u8; 64]>,
+    terms: Vec<[u8; TEXT_SIZE]>,
     calls: Vec<Call>,
     /// How many more events the memory is known to hold.
     room: usize,
@@ -174,7 +174,7 @@ fn plain(tag: Tag, subject: u64, starts: bool) -> ShortKind
 }
 
 /// Puts the bytes of a term last, and says how many of them it shows.
-fn put_term(term: &Text, terms: &mut Vec<[u8; 64]>) -> u8
+fn put_term(term: &Text, terms: &mut Vec<[u8; TEXT_SIZE]>) -> u8
     requires { vec_len terms.old < vec_capacity terms.old }
     ensures terms { terms.new.items ≡ terms.old.items ++ text_block term.now ∷ [] }
     ensures shown { text_with (text_block term.now) result ≡ term.now }
@@ -187,7 +187,7 @@ fn put_term(term: &Text, terms: &mut Vec<[u8; 64]>) -> u8
 }
 
 /// The kind of a reason, and how many bytes its term shows, which is put last.
-fn put_reason(reason: &Reason, terms: &mut Vec<[u8; 64]>) -> (Why, u8)
+fn put_reason(reason: &Reason, terms: &mut Vec<[u8; TEXT_SIZE]>) -> (Why, u8)
     requires { vec_len terms.old < vec_capacity terms.old }
     ensures terms { terms.new.items ≡ terms.old.items ++ map text_block (terms_of reason.now) }
     ensures reason { reason_as result.0 (term_at terms.new.items (length terms.old.items) result.1) ≡ reason.now }
@@ -210,7 +210,7 @@ fn put_reason(reason: &Reason, terms: &mut Vec<[u8; 64]>) -> (Why, u8)
 fn short_kind(
     kind: &Kind,
     starts: bool,
-    terms: &mut Vec<[u8; 64]>,
+    terms: &mut Vec<[u8; TEXT_SIZE]>,
     calls: &mut Vec<Call>,
 ) -> ShortKind
     requires terms { vec_len terms.old < vec_capacity terms.old }
@@ -257,7 +257,7 @@ fn ended(
     subject: u64,
     starts: bool,
     reason: &Reason,
-    terms: &mut Vec<[u8; 64]>,
+    terms: &mut Vec<[u8; TEXT_SIZE]>,
 ) -> ShortKind
     requires terms { vec_len terms.old < vec_capacity terms.old }
     requires few { vec_len terms.old < MAX_PLACES }
@@ -290,14 +290,14 @@ fn whole_number(event: &ShortEvent) -> Option<u64>
     }
 }
 
-fn whole_term(terms: &[[u8; 64]], kind: &ShortKind) -> Text
+fn whole_term(terms: &[[u8; TEXT_SIZE]], kind: &ShortKind) -> Text
     requires { kind.now.place < length terms.now }
     ensures { result ≡ term_at terms.now kind.now.place kind.now.shown }
 {
     Text::of_parts(terms[kind.place as usize], kind.shown)
 }
 
-fn whole_reason(terms: &[[u8; 64]], kind: &ShortKind) -> Reason
+fn whole_reason(terms: &[[u8; TEXT_SIZE]], kind: &ShortKind) -> Reason
     requires { IsTrue (shows_term kind.now.why) → kind.now.place < length terms.now }
     ensures { result ≡ reason_as kind.now.why (term_at terms.now kind.now.place kind.now.shown) }
 {
@@ -312,7 +312,7 @@ fn whole_reason(terms: &[[u8; 64]], kind: &ShortKind) -> Reason
     }
 }
 
-fn whole_kind(terms: &[[u8; 64]], calls: &[Call], kind: &ShortKind) -> Kind
+fn whole_kind(terms: &[[u8; TEXT_SIZE]], calls: &[Call], kind: &ShortKind) -> Kind
     requires { KindWithin (length terms.now) (length calls.now) kind.now }
     ensures { result ≡ kind_of terms.now calls.now kind.now }
 {

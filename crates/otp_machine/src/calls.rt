@@ -284,7 +284,9 @@ fn fault_at(asked: &Call, state: RowState) -> Option<CallFault>
         }
         (Call::RestartChild(_) | Call::DeleteChild(_), _) => Some(CallFault::Running),
         (Call::TerminateProcess(_), RowState::Undefined) => Some(CallFault::NotFound),
-        _ => None,
+        (Call::TerminateChild(_) | Call::TerminateProcess(_) | Call::GetChildspec(_), _) => None,
+        // These name no child.
+        (Call::StartDynamic | Call::WhichChildren | Call::CountChildren, _) => None,
     }
 }
 

@@ -1,7 +1,8 @@
 //! What events change (`specs/State` of the rules).
 
-ghost use Rattle.std.specs.Prelude.{◌≡◌, ◌+◌, ◌<◌, ◌≤◌, ◌^◌, OnOk, vec_len, vec_capacity};
+ghost use Rattle.std.specs.Prelude.{◌≡◌, ◌+◌, ◌<◌, ◌≤◌, OnOk, vec_len, vec_capacity};
 ghost use Rattle.std.specs.VecDeque.{deque_capacity};
+ghost use Rattle.otp_machine.specs.declared.machine.TheConstants.{ROOM_LIMIT};
 
 use otp_lists::answers::Answers;
 use otp_lists::waits::Waits;
@@ -11,6 +12,9 @@ use otp_table::Rows;
 use otp_window::Window;
 use std::alloc::AllocError;
 use std::collections::VecDeque;
+
+/// No list of a supervisor wants room for so many items.
+const ROOM_LIMIT: usize = 1 << 32;
 
 /// The parts of a supervisor's state, and memory that is kept ready for the next event.
 #[derive(Drop)]
@@ -117,7 +121,7 @@ impl Machine {
 
 /// Takes memory for this many items in all.
 fn reserve_in_all<T: Drop>(list: &mut Vec<T>, count: usize) -> Result<(), AllocError>
-    requires { count < 2 ^ 32 }
+    requires { count < ROOM_LIMIT }
     ensures items { list.new.items ≡ list.old.items }
     ensures ok { OnOk result (count ≤ vec_capacity list.new) }
 {
@@ -126,7 +130,7 @@ fn reserve_in_all<T: Drop>(list: &mut Vec<T>, count: usize) -> Result<(), AllocE
 
 /// The same for the children that are to be started.
 fn reserve_starts(list: &mut VecDeque<Due>, count: usize) -> Result<(), AllocError>
-    requires { count < 2 ^ 32 }
+    requires { count < ROOM_LIMIT }
     ensures items { list.new.items ≡ list.old.items }
     ensures ok { OnOk result (count ≤ deque_capacity list.new) }
 {

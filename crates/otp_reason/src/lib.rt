@@ -8,7 +8,7 @@ pub mod reason;
 pub mod text;
 
 pub use delivery::{Delivery, deliver};
-pub use name::Name;
+pub use name::{NAME_SIZE, Name};
 pub use note::{Note, Started};
 pub use reason::Reason;
-pub use text::Text;
+pub use text::{TEXT_SIZE, Text};

@@ -2,32 +2,33 @@ ghost use Rattle.std.specs.Prelude.{◌≡◌, ◌≤◌, ◌↔◌, IsTrue, len
 ghost use Rattle.std.specs.Option.{SomeIff};
 ghost use Rattle.std.specs.List.{list_all};
 ghost use Rattle.otp_reason.specs.Names.{name_bytes, name_of, is_name_byte, is_lawful_name};
+ghost use Rattle.otp_reason.specs.declared.name.TheConstants.{NAME_SIZE};
 
-/// The most bytes that a name holds.
-const NAME_SIZE: usize = 32;
+/// The most bytes that a name holds (own).
+pub const NAME_SIZE: usize = 32;
 
-/// A child's id, or the name of its start function's module: at most 32 bytes, kept in place.
+/// A child's id, or the name of its start function's module: at most [`NAME_SIZE`] bytes, kept in place.
 ///
 /// Erlang takes any term as an id; here it is a name, so that a specification takes no memory.
 /// Two names are equal where they show the same bytes.
 #[derive(Clone, Copy, Debug)]
 pub struct Name {
     // The bytes, and zeros from `len` on.
-    bytes: [u8; 32],
+    bytes: [u8; NAME_SIZE],
     len: u8,
 }
 
 impl Name {
-    /// The name that shows these bytes, whatever they are; `None` where they are more than 32.
+    /// The name that shows these bytes, whatever they are; `None` where they are more than [`NAME_SIZE`].
     ///
     /// Whether the name is one that a specification may have is what [`Name::is_lawful`] answers.
     pub fn new(bytes: &[u8]) -> Option<Self>
-        ensures { SomeIff result (length bytes.now ≤ 32) (name_of bytes.now) }
+        ensures { SomeIff result (length bytes.now ≤ NAME_SIZE) (name_of bytes.now) }
     {
         if bytes.len() > NAME_SIZE {
             return None;
         }
-        let mut kept = [0; 32];
+        let mut kept = [0; NAME_SIZE];
         kept[..bytes.len()].copy_from_slice(bytes);
         Some(Name {
             bytes: kept,
@@ -50,7 +51,7 @@ impl Name {
         self.len == other.len && self.bytes == other.bytes
     }
 
-    /// Whether the name has 1 to 32 bytes, each of them one of `a-z A-Z 0-9 _ - .`.
+    /// Whether the name has 1 to [`NAME_SIZE`] bytes, each of them one of `a-z A-Z 0-9 _ - .`.
     pub fn is_lawful(&self) -> bool
         ensures { result ≡ is_lawful_name (name_bytes self.now) }
     {

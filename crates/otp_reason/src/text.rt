@@ -2,30 +2,31 @@ ghost use Rattle.std.specs.Prelude.{◌≡◌, ◌+◌, ◌≤◌, ◌++◌, IsT
 ghost use Rattle.std.specs.Option.{SomeIff};
 ghost use Rattle.std.specs.List.{list_all};
 ghost use Rattle.otp_reason.specs.Texts.{text_block, text_bytes, text_of, text_with, is_text_byte, is_lawful_text};
+ghost use Rattle.otp_reason.specs.declared.text.TheConstants.{TEXT_SIZE};
 
-/// The most bytes that a text holds.
-const TEXT_SIZE: usize = 64;
+/// The most bytes that a text holds (own).
+pub const TEXT_SIZE: usize = 64;
 
-/// The term of a reason: 1 to 64 printable bytes with no space among them (0x21 to 0x7E), kept in place.
+/// The term of a reason: 1 to [`TEXT_SIZE`] printable bytes with no space among them (0x21 to 0x7E), kept in place.
 ///
 /// Erlang takes any term; here it is a text of fixed size, so that a reason takes no memory.
 /// Two texts are equal where they show the same bytes.
 #[derive(Clone, Copy, Debug)]
 pub struct Text {
     // The bytes, and zeros from `len` on.
-    bytes: [u8; 64],
+    bytes: [u8; TEXT_SIZE],
     len: u8,
 }
 
 impl Text {
-    /// The text that shows these bytes; `None` for anything but 1 to 64 bytes from 0x21 to 0x7E.
+    /// The text that shows these bytes; `None` for anything but 1 to [`TEXT_SIZE`] bytes from 0x21 to 0x7E.
     pub fn new(bytes: &[u8]) -> Option<Self>
         ensures { SomeIff result (IsTrue (is_lawful_text bytes.now)) (text_of bytes.now) }
     {
         if !may_be_text(bytes) {
             return None;
         }
-        let mut kept = [0; 64];
+        let mut kept = [0; TEXT_SIZE];
         kept[..bytes.len()].copy_from_slice(bytes);
         Some(Text {
             bytes: kept,
@@ -35,11 +36,11 @@ impl Text {
 
     /// The text of these bytes followed by those, which the caller knows to be lawful bytes of a text.
     pub fn joined(front: &[u8], back: &[u8]) -> Self
-        requires { length front.now + length back.now ≤ 64 }
+        requires { length front.now + length back.now ≤ TEXT_SIZE }
         ensures { result ≡ text_of (front.now ++ back.now) }
     {
         let end = front.len() + back.len();
-        let mut kept = [0; 64];
+        let mut kept = [0; TEXT_SIZE];
         write_at(&mut kept, 0, front);
         write_at(&mut kept, front.len(), back);
         Text {
@@ -49,7 +50,7 @@ impl Text {
     }
 
     /// All bytes that are kept, those that the text doesn't show too, and how many it shows: for whoever keeps many texts.
-    pub fn parts(&self) -> ([u8; 64], u8)
+    pub fn parts(&self) -> ([u8; TEXT_SIZE], u8)
         ensures block { result.0 ≡ text_block self.now }
         ensures text { text_with result.0 result.1 ≡ self.now }
     {
@@ -57,7 +58,7 @@ impl Text {
     }
 
     /// The text of the [`parts`](Text::parts) of one.
-    pub fn of_parts(bytes: [u8; 64], len: u8) -> Self
+    pub fn of_parts(bytes: [u8; TEXT_SIZE], len: u8) -> Self
         ensures { result ≡ text_with bytes len }
     {
         Text { bytes, len }
@@ -80,7 +81,7 @@ fn write_at(buffer: &mut [u8], at: usize, bytes: &[u8])
     buffer[at..end].copy_from_slice(bytes);
 }
 
-/// Whether these are 1 to 64 bytes from 0x21 to 0x7E.
+/// Whether these are 1 to [`TEXT_SIZE`] bytes from 0x21 to 0x7E.
 fn may_be_text(bytes: &[u8]) -> bool
     ensures { result ≡ is_lawful_text bytes.now }
 {

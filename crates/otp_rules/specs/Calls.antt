@@ -30,8 +30,8 @@ refuse c why o = answer c (reply.Refused why) o
 abbrev pub new_row : ℕ → Option Name → ChildSpec → Row
 new_row slot id spec = record { slot = slot; id = id; spec = spec; state = Undefined }
 
--- the row is added last, to be started (supervisor, start_child/2); there are at most 256, and it gets the least slot
--- that none of them has (own)
+-- the row is added last, to be started (supervisor, start_child/2); there are at most MAX_CHILDREN, and it gets the least
+-- slot that none of them has (own)
 unfoldable pub add_child : ℕ → Option Name → ChildSpec → Outcome → Outcome
 add_child c id spec o =
     if nat_le MAX_CHILDREN (length o.state.rows) then refuse c fault.TooManyChildren o
@@ -51,8 +51,14 @@ fault_at (call.RestartChild _) _ = Some fault.Running
 fault_at (call.DeleteChild _) Undefined = None
 fault_at (call.DeleteChild _) (Restarting _) = Some fault.Restarting
 fault_at (call.DeleteChild _) _ = Some fault.Running
+fault_at (call.TerminateChild _) _ = None
 fault_at (call.TerminateProcess _) Undefined = Some fault.NotFound
-fault_at _ _ = None
+fault_at (call.TerminateProcess _) _ = None
+fault_at (call.GetChildspec _) _ = None
+-- these name no child, and are asked of none
+fault_at call.StartDynamic _ = None
+fault_at call.WhichChildren _ = None
+fault_at call.CountChildren _ = None
 
 -- the process is to be stopped, and then the call is answered
 unfoldable pub stop_process : ℕ → ℕ → Outcome → Outcome
@@ -73,7 +79,12 @@ carry_out c (call.DeleteChild _) place row o = answer c reply.Ok (with_rows (rem
 carry_out c (call.TerminateChild _) place row o = stop_child c row.state (set_row place row Undefined o) o
 carry_out c (call.TerminateProcess _) place row o = stop_child c row.state (with_rows (remove o.state.rows place) o) o
 carry_out c (call.GetChildspec _) place row o = answer c (reply.Spec row.spec) o
-carry_out c _ place row o = o
+-- refused at each child that is there
+carry_out c (call.StartChild _) place row o = o
+-- these name no child, and are asked of none
+carry_out c call.StartDynamic place row o = o
+carry_out c call.WhichChildren place row o = o
+carry_out c call.CountChildren place row o = o
 
 -- refused where there is a fault, else this is done
 abbrev pub unless_refused : ℕ → Option CallFault → Outcome → Outcome → Outcome

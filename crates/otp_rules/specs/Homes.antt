@@ -24,11 +24,17 @@ use Rattle.otp_rules.specs.Step.{step}
 use Rattle.otp_rules.specs.Run.{empty_state, state_after}
 use Rattle.otp_rules.specs.Needs.{IsLawfulHistory, numbers_of}
 
--- the call asks for a child more (supervisor, start_child/2)
+-- the call asks for a child more, and brings its body (supervisor, start_child/2)
 abbrev pub is_start_call : Call → Bool
 is_start_call (call.StartChild _) = true
 is_start_call call.StartDynamic = true
-is_start_call _ = false
+is_start_call (call.RestartChild _) = false
+is_start_call (call.DeleteChild _) = false
+is_start_call (call.TerminateChild _) = false
+is_start_call (call.TerminateProcess _) = false
+is_start_call call.WhichChildren = false
+is_start_call call.CountChildren = false
+is_start_call (call.GetChildspec _) = false
 
 -- the first that waits is this item
 abbrev pub IsFirst : List Waiting → Item → Type 0

@@ -1,7 +1,7 @@
 -- Changes of the state at one child's row.
 use Rattle.std.specs.Prelude.{ℕ, Bool, Option, Some, None, slice_get, slice_set, remove, position, is_none, ◌||◌, if◌then◌else◌}
 use Rattle.otp_spec.specs.declared.child.Restart.{Restart}
-use Rattle.otp_spec.specs.declared.child.Restart.TheVariants.{Temporary}
+use Rattle.otp_spec.specs.declared.child.Restart.TheVariants.{Permanent, Temporary, Transient}
 use Rattle.std.specs.Prelude.{true, false}
 use Rattle.otp_table.specs.declared.row.Row.{Row}
 use Rattle.otp_table.specs.declared.row.RowState.{RowState}
@@ -26,8 +26,9 @@ unfoldable pub at_number : ℕ → (ℕ → Row → Outcome → Outcome) → Out
 at_number p f o = at_row (row_has (has_process p)) o f o
 
 abbrev pub is_temporary : Restart → Bool
+is_temporary Permanent = false
+is_temporary Transient = false
 is_temporary Temporary = true
-is_temporary _ = false
 
 -- the row is removed where it would become undefined: of a temporary child (supervisor, terminate_child/2: its
 -- specification is deleted as soon as its process terminates), and of a dynamic one (own)

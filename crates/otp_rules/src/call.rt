@@ -43,48 +43,56 @@ pub enum Call {
     GetChildspec(Name),
 }
 
-/// Why a call is refused.
+/// Why a call is refused. OTP's term stands at each (supervisor, the exported functions).
 #[derive(Clone, Copy, Debug, PartialEq, Eq)]
 pub enum CallFault {
-    /// No child is named so.
+    /// `not_found`: no child is named so, or has this process number. Of restart_child/2, delete_child/2, terminate_child/2
+    /// and get_childspec/2.
     NotFound,
-    /// The child runs.
+    /// `running`: the child runs. Of restart_child/2 and delete_child/2.
     Running,
-    /// The child waits for its next restart.
+    /// `restarting`: the child waits for its next restart. Of restart_child/2 and delete_child/2.
     Restarting,
-    /// The call needs ids, and dynamic children have none.
+    /// `simple_one_for_one`: the call names a child by its id, and dynamic children have none. Of start_child/2 with a
+    /// specification, restart_child/2, delete_child/2 and terminate_child/2.
     SimpleOneForOne,
-    /// The call is for simple_one_for_one alone.
+    /// The call is for simple_one_for_one alone (own; there OTP takes the arguments for a specification that is wrong). Of
+    /// start_child/2 without a specification.
     NotSimple,
-    /// A child that doesn't run has this id.
+    /// `already_present`: a child that isn't up has this id. Of start_child/2.
     AlreadyPresent,
-    /// The child runs under this process number.
+    /// `{already_started, Child}`: a child with this id is up, under this process number. Of start_child/2.
     AlreadyStarted(u64),
-    /// There are [`MAX_CHILDREN`](otp_spec::MAX_CHILDREN) children.
+    /// There are [`MAX_CHILDREN`](otp_spec::MAX_CHILDREN) children (own). Of start_child/2.
     TooManyChildren,
-    /// The specification is unlawful.
+    /// The specification is unlawful; the first thing that is wrong with it. Of start_child/2, before the children are looked at.
     BadSpec(SpecFault),
-    /// The start failed with this reason.
+    /// The start failed with this reason. Of start_child/2, whose child is then gone again, and restart_child/2, whose child
+    /// stays without a process; answered once the start has failed.
     Start(Reason),
 }
 
-/// What which_children says of a child's process.
+/// What which_children says of a child's process (supervisor, which_children/1, `Child`).
 #[derive(Clone, Copy, Debug, PartialEq, Eq)]
 pub enum ChildProcess {
     /// It has a process with this number.
     Number(u64),
-    /// It waits for its next restart.
+    /// `restarting`: it waits for its next restart.
     Restarting,
-    /// It has none.
+    /// `undefined`: it has none.
     Undefined,
 }
 
-/// A child as which_children lists it. A dynamic one has no id.
+/// A child as which_children lists it (supervisor, which_children/1).
 #[derive(Clone, Copy, Debug, PartialEq, Eq)]
 pub struct ChildLine {
+    /// `Id`, as the specification has it. A dynamic child has none.
     pub id: Option<Name>,
+    /// `Child`.
     pub process: ChildProcess,
+    /// `Type`, as the specification has it.
     pub kind: ChildType,
+    /// `Modules`, as the specification has them.
     pub modules: Modules,
 }
 
@@ -137,10 +145,10 @@ impl ChildLines {
     }
 }
 
-/// What count_children answers.
+/// What count_children answers (supervisor, count_children/1).
 #[derive(Clone, Copy, Debug, PartialEq, Eq)]
 pub struct CountsNow {
-    /// Children, or 1 under simple_one_for_one.
+    /// Specifications: one for each child, or 1 under simple_one_for_one, whose children share it.
     pub specs: u64,
     /// Children with a process.
     pub active: u64,
@@ -150,21 +158,25 @@ pub struct CountsNow {
     pub workers: u64,
 }
 
-/// The answer to a call.
+/// The answer to a call (supervisor, the exported functions).
 #[derive(Debug, Drop)]
 pub enum Reply {
-    /// `ok`: the child is deleted, or stopped.
+    /// `ok`, of delete_child/2: the specification is gone; of terminate_child/2: the child's process has ended, or it had none.
     Ok,
-    /// `{ok, Child}`: it started under this number.
+    /// `{ok, Child}`, of start_child/2 and restart_child/2: the child started under this number.
     OkProcess(u64),
-    /// `{ok, undefined}`: its start answered `ignore`.
+    /// `{ok, undefined}`, of start_child/2 and restart_child/2: the child's start answered `ignore`.
     OkUndefined,
-    /// `{error, Reason}`.
+    /// `{error, Error}`, of each call but which_children/1 and count_children/1, which are never refused.
     Refused(CallFault),
+    /// Of which_children/1: a line for each child, in start order, as they stand when the call is taken up (own: the
+    /// manual says nothing of the order).
     Which(ChildLines),
+    /// Of count_children/1: the counts when the call is taken up.
     Count(CountsNow),
+    /// `{ok, ChildSpec}`, of get_childspec/2: the child's specification, or the one that all share under simple_one_for_one.
     Spec(ChildSpec),
-    /// The supervisor has ended.
+    /// `noproc`, of every call: the supervisor has ended, or was never opened.
     NoProc,
 }
 

@@ -127,16 +127,6 @@ line_flushed InputFailed line s before now failures_before failures_now flushes 
 line_flushed OutputFailed line s before now failures_before failures_now flushes = (line_part line s before now flushes.0, flushes.1)
 line_flushed Memory line s before now failures_before failures_now flushes = record { events = zero; text = flushes }
 
--- a last line ends so
-pub last_ends : (how : SimEnd) (line : List ℕ) (s : Sim) (before now : Option (List ℕ)) (failures_before failures_now : ℕ)
-    → LineEnds (Err how) s line before now failures_before failures_now → LastWrites how line s before now failures_before failures_now
-last_ends Done line s before now failures_before failures_now ends = absurd ends
-last_ends (LineRefused number) line s before now failures_before failures_now ends = absurd ends
-last_ends HistoryFull line s before now failures_before failures_now ends = absurd ends
-last_ends InputFailed line s before now failures_before failures_now ends = absurd ends
-last_ends OutputFailed line s before now failures_before failures_now ends = ends
-last_ends Memory line s before now failures_before failures_now ends = ends
-
 -- a last line was played, and what is ready is written
 played_text : (from to : Sim) (line : List ℕ) (before mid now : Option (List ℕ)) (ready : List ℕ)
     → Played from to line before mid ready → Appends mid now ready → Appends before now (take_line line from).text

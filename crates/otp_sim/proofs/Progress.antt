@@ -14,7 +14,7 @@ use Rattle.otp_sim.specs.Sim.{Sim, begin_form, begin_line, followed, settled, ta
 use Rattle.otp_sim.specs.declared.engine.SimEnd.{SimEnd}
 use Rattle.otp_sim.specs.declared.engine.SimEnd.TheVariants.{Done, LineRefused, HistoryFull, InputFailed, OutputFailed, Memory}
 use Rattle.otp_sim.specs.Runs.{Served, Ran, Played, Stopped, LineEnds, Broke, Halted, PieceEnds, Flushes, NoEnd, WroteFirst, begun, begun_first, with_text}
-use Rattle.otp_sim.specs.Devices.{AppendsPart, Moves}
+use Rattle.otp_sim.specs.Devices.{AppendsPart}
 use Rattle.std.specs.Io.KnownBytes.{Appends}
 use Rattle.otp_sim.proofs.Writes.{appends_none, appends_more}
 use Rattle.otp_sim.proofs.Settled.{ended_none, settled_done}
@@ -80,19 +80,6 @@ more_read start s taken waiting piece served =
 first_cut : (line others more : List ℕ) → NoEnd line → lines_of ((line ++ 10 ∷ others) ++ more) ≡ line ∷ lines_of (others ++ more)
 unfolding lines_of
 first_cut line others more none = ap lines_of (append_assoc line (10 ∷ others) more) ∙ slice_split_at is_end line 10 (others ++ more) none refl
-
--- a line is served
-pub line_served : (start s : Sim) (taken line others : List ℕ) → NoEnd line → Served start taken (line ++ 10 ∷ others) s
-    → Served start taken others (take_line line s)
-line_served start s taken line others none served =
-    record {
-      lines = served.lines ++ line ∷ [];
-      cut = λ more.
-          served.cut more
-          ∙ ap (λ parts. served.lines ++ parts) (first_cut line others more none)
-          ∙ sym (append_assoc served.lines (line ∷ []) (lines_of (others ++ more)));
-      so_far = ap (take_line line) served.so_far ∙ sym (take_one line _) ∙ sym (take_lines_append served.lines (line ∷ []) start);
-    }
 
 -- at the end of the input the line that waits is the last
 pub last_cut : (start s : Sim) (taken line : List ℕ) → NoEnd line → (served : Served start taken line s) → lines_of taken ≡ served.lines ++ line ∷ []
@@ -431,18 +418,6 @@ flushed OutputFailed start s before mid now ready taken waiting failures_before 
     (ran_part start s before mid now ready taken waiting ran flushes.0, flushes.1)
 flushed Memory start s before mid now ready taken waiting failures_before failures_now ran flushes =
     halted_between start s before now taken waiting (ran_written start s before mid now ready taken waiting ran flushes)
-
--- some of what is ready is written
-pub ran_moved : (start s : Sim) (before mid now : Option (List ℕ)) (ready left taken waiting : List ℕ)
-    → Ran start s before mid ready taken waiting → Moves mid now ready left → Ran start s before now left taken waiting
-ran_moved start s before mid now ready left taken waiting ran moved =
-    let same : ran.written ++ ready ≡ (ran.written ++ moved.text) ++ left =
-    ap (λ bytes. ran.written ++ bytes) moved.whole ∙ sym (append_assoc ran.written moved.text left) in
-    record {
-      written = ran.written ++ moved.text;
-      appended = appends_more before mid now ran.written moved.text ran.appended moved.appended;
-      served = rw (← same) ran.served;
-    }
 
 -- a piece is cut at its first LF
 not_found : (found : Bool) (place : ℕ) → cond found (Some place) None ≡ None → found ≡ false

@@ -1,10 +1,14 @@
 //! Who takes the lines.
 
-ghost use Rattle.std.specs.Prelude.{◌≡◌, ◌+◌, ◌<◌, ◌≤◌, ◌^◌, OnOk, OnErr, IfOk, is_some};
+ghost use Rattle.std.specs.Prelude.{◌≡◌, ◌+◌, ◌<◌, ◌≤◌, OnOk, OnErr, IfOk, is_some};
 ghost use Rattle.otp_sim.specs.Sim.{Sim, begin_line, next_kind, went_on};
 ghost use Rattle.otp_sim.specs.Runs.{with_text};
+ghost use Rattle.otp_sim.specs.declared.driven.TheConstants.{LINE_LIMIT};
 
 use std::alloc::AllocError;
+
+/// No input has so many lines: a run reads less than that in bytes.
+pub const LINE_LIMIT: u64 = 1 << 63;
 
 /// Why no line is taken any more.
 #[derive(Clone, Copy, Debug, PartialEq, Eq)]
@@ -26,7 +30,7 @@ pub trait Driven {
     ///
     /// Where memory is refused. Then nothing was appended, and it is not to be used any more.
     fn begin_line(&mut self, line: &[u8], out: &mut Vec<u8>) -> Result<(), AllocError>
-        requires { (sim self.old).lines + 1 < 2 ^ 63 }
+        requires { (sim self.old).lines + 1 < LINE_LIMIT }
         ensures ok { OnOk result (with_text out.new.items (sim self.new) ≡ begin_line line.now (with_text out.old.items (sim self.old))) }
         ensures err { OnErr result (out.new.items ≡ out.old.items) }
         ensures lines { OnOk result ((sim self.new).lines ≤ (sim self.old).lines + 1) };

@@ -1,8 +1,9 @@
 //! The engine of `sim`: lines in, orders out.
 
-ghost use Rattle.std.specs.Prelude.{◌≡◌, ◌+◌, ◌<◌, ◌^◌, IfOk, None, vec_len};
+ghost use Rattle.std.specs.Prelude.{◌≡◌, ◌+◌, ◌<◌, IfOk, None, vec_len};
 ghost use Rattle.otp_sim.specs.Runs.{Writes, LastWrites, with_text};
 ghost use Rattle.otp_sim.specs.Sim.{opened};
+ghost use Rattle.otp_sim.specs.declared.driven.TheConstants.{LINE_LIMIT};
 
 use crate::device::{Input, Output, PIECE};
 use crate::driven::Driven;
@@ -119,7 +120,7 @@ fn serve_last<S: Driven, W: Output>(
     ready: &mut Vec<u8>,
     output: &mut W,
 ) -> SimEnd
-    requires { (S.sim driven.old).lines + 1 < 2 ^ 63 }
+    requires { (S.sim driven.old).lines + 1 < LINE_LIMIT }
     ensures { LastWrites result line.now (with_text ready.old.items (S.sim driven.old)) (W.contents output.old) (W.contents output.new) (W.failures output.old) (W.failures output.new) }
 {
     if let Err(end) = serve_line(driven, ready, output, line) {

@@ -1,6 +1,6 @@
 //! A supervisor's core that is played: lines are turned into events, and orders into text.
 
-ghost use Rattle.std.specs.Prelude.{ℕ, [], ◌≡◌, ◌+◌, ◌<◌, ◌≤◌, ◌^◌, ◌++◌, None, Some, OnOk, OnErr, IfOk, IfSome, is_some, option_map};
+ghost use Rattle.std.specs.Prelude.{ℕ, [], ◌≡◌, ◌+◌, ◌<◌, ◌≤◌, ◌++◌, None, Some, OnOk, OnErr, IfOk, IfSome, is_some, option_map};
 ghost use Rattle.otp_text.specs.Lines.{IsTimely};
 ghost use Rattle.std.specs.List.{flat_map};
 ghost use Rattle.otp_core.specs.View.{state_of};
@@ -9,6 +9,7 @@ ghost use Rattle.otp_rules.specs.Run.{reply_of};
 ghost use Rattle.otp_sim.specs.Sim.{begin_form, begin_line, event_of, happen, is_due, next_kind, opened, orders_text, take_read, ticked, told_by, went_on};
 ghost use Rattle.otp_sim.specs.Devices.{Begins};
 ghost use Rattle.otp_sim.specs.Runs.{with_text};
+ghost use Rattle.otp_sim.specs.declared.driven.TheConstants.{LINE_LIMIT};
 
 use crate::driven::Stop;
 use otp_core::{Core, Counter};
@@ -160,7 +161,7 @@ impl Player {
     fn take_read(&mut self, line: Line, out: &mut Vec<u8>) -> Result<(), AllocError>
         requires calls { self.old.calls < self.old.lines }
         requires time { IsTimely line }
-        requires lines { self.old.lines < 2 ^ 63 }
+        requires lines { self.old.lines < LINE_LIMIT }
         ensures ok { OnOk result (with_text out.new.items self.new ≡ take_read line (with_text out.old.items self.old)) }
         ensures kept { Begins out.old.items out.new.items }
         ensures lines { self.new.lines ≡ self.old.lines }
@@ -193,7 +194,7 @@ impl Player {
     fn begin_form(&mut self, line: Option<Line>, out: &mut Vec<u8>) -> Result<(), AllocError>
         requires calls { self.old.calls < self.old.lines }
         requires time { IfSome line (λ read. IsTimely read) }
-        requires lines { self.old.lines < 2 ^ 63 }
+        requires lines { self.old.lines < LINE_LIMIT }
         ensures ok { OnOk result (with_text out.new.items self.new ≡ begin_form line (with_text out.old.items self.old)) }
         ensures kept { Begins out.old.items out.new.items }
         ensures lines { self.new.lines ≡ self.old.lines }
@@ -214,7 +215,7 @@ impl Player {
     /// Where memory is refused. Then part of the text may have been appended, and the player is not used again.
     #[tactic(auto, unfolding(crate::specs::Sim::begin_line))]
     pub(crate) fn play_line(&mut self, line: &[u8], out: &mut Vec<u8>) -> Result<(), AllocError>
-        requires { self.old.lines + 1 < 2 ^ 63 }
+        requires { self.old.lines + 1 < LINE_LIMIT }
         ensures ok { OnOk result (with_text out.new.items self.new ≡ begin_line line.now (with_text out.old.items self.old)) }
         ensures kept { Begins out.old.items out.new.items }
         ensures lines { self.new.lines ≤ self.old.lines + 1 }

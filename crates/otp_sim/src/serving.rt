@@ -1,7 +1,8 @@
 //! Serving the lines of the input as it comes.
 
-ghost use Rattle.std.specs.Prelude.{◌≡◌, ◌==◌, ◌∷◌, ℕ, List, ◌+◌, ◌<◌, ◌≤◌, ◌^◌, ◌++◌, [], length, position, OnOk, OnErr, IfSome};
+ghost use Rattle.std.specs.Prelude.{◌≡◌, ◌==◌, ◌∷◌, ℕ, List, ◌+◌, ◌<◌, ◌≤◌, ◌++◌, [], length, position, OnOk, OnErr, IfSome};
 ghost use Rattle.otp_sim.specs.Runs.{with_text, LineEnds, Played, Ran, PieceEnds, NoEnd};
+ghost use Rattle.otp_sim.specs.declared.driven.TheConstants.{LINE_LIMIT};
 
 use crate::device::Output;
 use crate::driven::Driven;
@@ -21,7 +22,7 @@ pub(crate) fn serve_piece<S: Driven, W: Output>(
     output: &mut W,
     piece: &[u8],
 ) -> Result<(), SimEnd>
-    requires lines { (S.sim driven.old).lines + length piece.now < 2 ^ 63 }
+    requires lines { (S.sim driven.old).lines + length piece.now < LINE_LIMIT }
     requires kept { NoEnd kept.old.items }
     ensures ok { OnOk result (Ran (with_text ready.old.items (S.sim driven.old)) (S.sim driven.new) (W.contents output.old) (W.contents output.new) ready.new.items (kept.old.items ++ piece.now) kept.new.items) }
     ensures no_end { OnOk result (NoEnd kept.new.items) }
@@ -50,7 +51,7 @@ fn serve_next<S: Driven, W: Output>(
     output: &mut W,
     part: &[u8],
 ) -> Result<(), SimEnd>
-    requires lines { (S.sim driven.old).lines + 1 < 2 ^ 63 }
+    requires lines { (S.sim driven.old).lines + 1 < LINE_LIMIT }
     requires kept { NoEnd (kept.old.items ++ part.now) }
     ensures ok { OnOk result ((others : List ℕ) → Ran (with_text ready.old.items (S.sim driven.old)) (S.sim driven.new) (W.contents output.old) (W.contents output.new) ready.new.items (kept.old.items ++ part.now ++ 10 ∷ others) others) }
     ensures empty { OnOk result (kept.new.items ≡ []) }
@@ -92,7 +93,7 @@ pub(crate) fn serve_line<S: Driven, W: Output>(
     output: &mut W,
     line: &[u8],
 ) -> Result<(), SimEnd>
-    requires { (S.sim driven.old).lines + 1 < 2 ^ 63 }
+    requires { (S.sim driven.old).lines + 1 < LINE_LIMIT }
     ensures ok { OnOk result (Played (with_text ready.old.items (S.sim driven.old)) (S.sim driven.new) line.now (W.contents output.old) (W.contents output.new) ready.new.items) }
     ensures lines { OnOk result ((S.sim driven.new).lines ≤ (S.sim driven.old).lines + 1) }
     ensures err { LineEnds result (with_text ready.old.items (S.sim driven.old)) line.now (W.contents output.old) (W.contents output.new) (W.failures output.old) (W.failures output.new) }

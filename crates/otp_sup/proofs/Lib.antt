@@ -13,3 +13,7 @@ pub mod Heeding
 pub mod Homes
 pub mod Flushing
 pub mod Sent
+pub mod Evident
+pub mod Telling
+pub mod Turning
+pub mod Unsent

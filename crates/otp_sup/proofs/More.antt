@@ -2,23 +2,23 @@
 use Rattle.std.specs.Prelude.{◌≡◌, ◌⊎◌, ℕ, ◌+◌, ◌<◌, ◌≤◌, ◌++◌, true, false, List, [], ◌∷◌, length}
 use Rattle.otp_rules.specs.declared.event.Effect.{Effect}
 use Rattle.std.proofs.Common.{◌∙◌, ap, arith, inl, inr, append-nil, append_assoc, sym}
-use Rattle.otp_reason.specs.declared.note.Note.{Note}
 use Rattle.otp_sup.specs.declared.orders.Sending.{Sending}
 use Rattle.otp_sup.specs.declared.orders.Sending.TheVariants as sending
 use Rattle.otp_sup.specs.declared.port.Flushed.{Flushed}
 use Rattle.otp_sup.specs.declared.port.Flushed.TheVariants as flushed
 use Rattle.otp_sup.specs.declared.port.Launched.{Launched}
+use Rattle.otp_sup.specs.declared.port.ToldNote.{ToldNote}
 use Rattle.otp_sup.specs.Facts.{OfficeView}
 use Rattle.std.proofs.lemmas.Bool.{false≢true}
-use Rattle.otp_sup.specs.Flushes.{Flushes, IsSent, was_sent}
-use Rattle.otp_sup.specs.Ports.{Taken, TookMore, launched, taken_by}
+use Rattle.otp_sup.specs.Flushes.{Flushes, IsSent, first_end, was_sent}
+use Rattle.otp_sup.specs.Ports.{Taken, TookMore, launched, taken_by, told}
 
 -- nothing besides
 pub took_none : (before after : Taken) (refusals later : ℕ) → after ≡ before → refusals ≤ later → TookMore before after refusals later
 took_none before after refusals later same le = record {
   processes = [];
   notes = [];
-  took = same ∙ ap (λ (l : List Launched). taken_by l before.notes) (sym (append-nil before.processes)) ∙ ap (λ (l : List Note). taken_by (before.processes ++ []) l) (sym (append-nil before.notes));
+  took = same ∙ ap (λ (l : List Launched). taken_by l before.notes) (sym (append-nil before.processes)) ∙ ap (λ (l : List ToldNote). taken_by (before.processes ++ []) l) (sym (append-nil before.notes));
   refused = le;
 }
 
@@ -26,11 +26,11 @@ took_process : (before after : Taken) (refusals later : ℕ) (p : Launched) → 
 took_process before after refusals later p is le = record {
   processes = p ∷ [];
   notes = [];
-  took = is ∙ ap (λ (l : List Note). taken_by (before.processes ++ p ∷ []) l) (sym (append-nil before.notes));
+  took = is ∙ ap (λ (l : List ToldNote). taken_by (before.processes ++ p ∷ []) l) (sym (append-nil before.notes));
   refused = le;
 }
 
-took_note : (before after : Taken) (refusals later : ℕ) (n : Note) → after ≡ record before { notes = before.notes ++ n ∷ [] } → refusals ≤ later → TookMore before after refusals later
+took_note : (before after : Taken) (refusals later : ℕ) (n : ToldNote) → after ≡ record before { notes = before.notes ++ n ∷ [] } → refusals ≤ later → TookMore before after refusals later
 took_note before after refusals later n is le = record {
   processes = [];
   notes = n ∷ [];
@@ -42,7 +42,7 @@ sent_more : (how : Sending) (old new : OfficeView) (before after : Taken) (refus
 sent_more (sending.Start n) old new before after refusals later s le = took_process before after refusals later (launched n s.slot true) s.took le
 sent_more (sending.Ask n) old new before after refusals later s le = took_none before after refusals later s.took le
 sent_more (sending.Kill n) old new before after refusals later s le = took_none before after refusals later s.took le
-sent_more (sending.Tell x) old new before after refusals later s le = took_note before after refusals later x s.took le
+sent_more (sending.Tell x) old new before after refusals later s le = took_note before after refusals later (told x (first_end old.outbox)) s.took le
 
 -- so it is after each order
 pub flushes_more : (how : Flushed) (old new : OfficeView) (before after : Taken) (refusals later : ℕ) → Flushes how old new before after refusals later → TookMore before after refusals later
@@ -60,7 +60,7 @@ more_again one two three a b c first second =
       took = second.took
           ∙ ap (λ (t : Taken). taken_by (t.processes ++ second.processes) (t.notes ++ second.notes)) first.took
           ∙ ap (λ (l : List Launched). taken_by l ((one.notes ++ first.notes) ++ second.notes)) (append_assoc one.processes first.processes second.processes)
-          ∙ ap (λ (l : List Note). taken_by (one.processes ++ (first.processes ++ second.processes)) l) (append_assoc one.notes first.notes second.notes);
+          ∙ ap (λ (l : List ToldNote). taken_by (one.processes ++ (first.processes ++ second.processes)) l) (append_assoc one.notes first.notes second.notes);
       refused = omega (arith, x, y);
     }
 

@@ -98,7 +98,7 @@ advanced o some i =
     }
 
 module _ (P : Effect → Type 0) where
-  all_drop : (n : ℕ) (l : List Effect) → All P l → All P (drop n l)
+  pub all_drop : (n : ℕ) (l : List Effect) → All P l → All P (drop n l)
   all_drop zero l h = h
   all_drop (suc n) [] h = h
   all_drop (suc n) (x ∷ xs) h = all_drop n xs (λ k d b. h (suc k) d (omega arith))
@@ -107,7 +107,7 @@ module _ (P : Effect → Type 0) where
   all_cons x xs p h zero d b = p
   all_cons x xs p h (suc k) d b = h k d (omega arith)
 
-  all_filter : (test : Effect → Bool) (l : List Effect) → All P l → All P (filter test l)
+  pub all_filter : (test : Effect → Bool) (l : List Effect) → All P l → All P (filter test l)
   all_filter test [] h = h
   all_filter test (x ∷ xs) h =
       let rest : All P (filter test xs) = all_filter test xs (λ k d b. h (suc k) d (omega arith)) in

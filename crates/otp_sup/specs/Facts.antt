@@ -35,6 +35,8 @@ use Rattle.otp_signals.specs.Lists.{EachBetween}
 use Rattle.otp_rules.specs.Waits.{starts_waiting}
 use Rattle.otp_sup.specs.declared.bodies.Kept.{Kept}
 use Rattle.otp_sup.specs.Bodies.{are_given, calls_waiting, count_away, has_body, started_by}
+use Rattle.otp_sup.specs.declared.told.ToldEnd.{ToldEnd}
+use Rattle.otp_sup.specs.Ends.{AreTold}
 
 -- the orders among effects
 abbrev pub orders_in : List Effect → List Effect
@@ -171,6 +173,8 @@ pub record TableView : Type 0 where
   pub bodies : List Kept
   -- its counts as they were published
   pub counts : Publishing
+  -- the ends of supervisors that it was told, in their order
+  pub ends_told : List ToldEnd
 
 -- a child has this process, and no note of the process's end waits
 pub record IsRunning (s : State) (p : ℕ) (row : Row) : Type 0 where
@@ -227,6 +231,7 @@ pub record IsTable (t : TableView) : Type 0 where
   pub bodies : HasBodies t.office t.bodies
   -- what was published last is what it counts
   pub counts : EndsWith (counts_of (state_of t.office.core)) t.counts.published
+  pub told : AreTold t.office.core.history t.ends_told
 
 -- what holds whenever the lock is free
 pub record KeepsRules (t : TableView) : Type 0 where
@@ -239,6 +244,8 @@ pub record KeepsRules (t : TableView) : Type 0 where
   pub bodies : HasBodies t.office t.bodies
   -- the counts that were published last are those of its children (count_children)
   pub counts : EndsWith (counts_of (state_of t.office.core)) t.counts.published
+  -- the ends that it was told came with notes of its history: each is for the note's reason, and shown
+  pub told : AreTold t.office.core.history t.ends_told
 
 -- what contracts see of a supervisor that is out of its lock
 pub record UnlockedView : Type 0 where

@@ -8,6 +8,7 @@ use Rattle.otp_rules.specs.declared.ending.Cause.TheVariants as cause
 use Rattle.otp_rules.specs.declared.ending.SupEnd.{SupEnd}
 use Rattle.otp_rules.specs.declared.event.Effect.{Effect}
 use Rattle.otp_rules.specs.declared.event.Effect.TheVariants as effect
+use Rattle.otp_rules.specs.Ended.{end_in}
 use Rattle.otp_rules.specs.State.{own_number}
 use Rattle.otp_core.specs.View.{View, state_of}
 use Rattle.otp_signals.specs.declared.signal.Signal.{Signal}
@@ -19,7 +20,7 @@ use Rattle.otp_sup.specs.declared.orders.Sending.TheVariants as sending
 use Rattle.otp_sup.specs.declared.port.Flushed.{Flushed}
 use Rattle.otp_sup.specs.declared.port.Flushed.TheVariants as flushed
 use Rattle.otp_sup.specs.Facts.{OfficeView, post_of}
-use Rattle.otp_sup.specs.Ports.{Taken, launched}
+use Rattle.otp_sup.specs.Ports.{Taken, launched, told}
 use Rattle.otp_sup.specs.Slots.{slot_of}
 
 -- the note of a supervisor's end to its parent: it failed where a child didn't start at the opening, else it exited
@@ -40,6 +41,11 @@ sending_of own (effect.Kill _ n) = Some (sending.Kill n)
 sending_of own (effect.Reply _) = None
 sending_of own effect.Ready = Some (sending.Tell (note.Up own))
 sending_of own (effect.End e) = Some (sending.Tell (end_note own e))
+
+-- the end that the first order tells
+abbrev pub first_end : List Effect → Option SupEnd
+first_end [] = None
+first_end (x ∷ xs) = end_in x
 
 -- the first order of the outbox is sent so
 pub record IsFirst (o : OfficeView) (how : Sending) : Type 0 where
@@ -78,10 +84,10 @@ pub record IsAsked (number : ℕ) (told : Signal) (old new : OfficeView) (before
   pub posted : IsPosted number told slot old new
   pub took : after ≡ before
 
--- the note stands last in what the port took
+-- the note stands last in what the port took, with the end that the order tells
 pub record IsTold (note : Note) (old new : OfficeView) (before after : Taken) : Type 0 where
   pub owner : new.owner ≡ old.owner
-  pub took : after ≡ record before { notes = before.notes ++ note ∷ [] }
+  pub took : after ≡ record before { notes = before.notes ++ told note (first_end old.outbox) ∷ [] }
 
 abbrev pub IsSent : Sending → OfficeView → OfficeView → Taken → Taken → Type 0
 IsSent (sending.Start n) old new before after = IsPut n old new before after
@@ -127,8 +133,8 @@ after_order core first (effect.Start _ n) t = record t { processes = t.processes
 after_order core first (effect.Ask _ n) t = t
 after_order core first (effect.Kill _ n) t = t
 after_order core first (effect.Reply _) t = t
-after_order core first effect.Ready t = record t { notes = t.notes ++ note.Up (own_number (state_of core).phase) ∷ [] }
-after_order core first (effect.End e) t = record t { notes = t.notes ++ end_note (own_number (state_of core).phase) e ∷ [] }
+after_order core first effect.Ready t = record t { notes = t.notes ++ told (note.Up (own_number (state_of core).phase)) None ∷ [] }
+after_order core first (effect.End e) t = record t { notes = t.notes ++ told (end_note (own_number (state_of core).phase) e) (Some e) ∷ [] }
 
 -- and once all of these were, in this order
 abbrev pub after_orders : View → ℕ → List Effect → Taken → Taken

@@ -3,6 +3,7 @@ pub mod LetterInside
 pub mod Slots
 pub mod Bodies
 pub mod Ports
+pub mod Ends
 pub mod Facts
 pub mod Turns
 pub mod Flushes

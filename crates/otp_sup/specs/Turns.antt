@@ -1,4 +1,5 @@
 -- What a turn of a table does.
+use Rattle.otp_rules.specs.declared.ending.SupEnd.{SupEnd}
 use Rattle.std.specs.Prelude.{◌≡◌, ◌⊎◌, ◌<◌, All, ℕ, ⊤, ◌+◌, Bool, true, false, not, ◌&&◌, nat_lt, nat_le, is_some, List, [], ◌∷◌, ◌++◌, Option, Some, None, Result, Ok, Err, length, if◌then◌else◌, MatchOption, MatchResult, OnOk}
 use Rattle.std.specs.List.{list_any}
 use Rattle.otp_spec.specs.declared.limits.TheConstants.{MAX_EVENTS}
@@ -24,7 +25,8 @@ use Rattle.otp_sup.specs.declared.turns.TurnAnswer.{TurnAnswer}
 use Rattle.otp_sup.specs.declared.turns.TurnAnswer.TheVariants as answer
 use Rattle.otp_sup.specs.declared.turns.TurnFault.{TurnFault}
 use Rattle.otp_sup.specs.declared.turns.TurnFault.TheVariants as fault
-use Rattle.otp_sup.specs.Letters.{carries_body, one_if}
+use Rattle.otp_sup.specs.Ends.{told_with}
+use Rattle.otp_sup.specs.Letters.{Comes, carries_body, one_if}
 use Rattle.otp_sup.specs.declared.bodies.Kept.{Kept}
 use Rattle.otp_sup.specs.Bodies.{bodies_after, bodies_in}
 use Rattle.otp_sup.specs.Facts.{KeepsRules, OfficeView, TableView, orders_in}
@@ -114,12 +116,17 @@ pub record Took (reading : ℕ) (old new : TableView) : Type 0 where
   -- exactly the body that came with the item is more
   pub count : bodies_in new.bodies ≡ bodies_in old.bodies + one_if (carries_body item)
   pub counts : Published old new
+  -- the end that came with the item, if one did, is the last that was told
+  pub end : Option SupEnd
+  pub comes : Comes item end
+  pub ends : new.ends_told ≡ old.ends_told ++ told_with (length old.office.core.history) item end
 
 pub record FoundEmpty (old new : TableView) : Type 0 where
   pub office : Readied old.office new.office
   pub taker : new.taker ≡ record old.taker { empty_finds = old.taker.empty_finds + 1 }
   pub bodies : new.bodies ≡ old.bodies
   pub counts : new.counts ≡ old.counts
+  pub ends : new.ends_told ≡ old.ends_told
 
 abbrev pub TookOrEmpty : ℕ → TableView → TableView → TurnAnswer → Type 0
 TookOrEmpty reading old new answer.Took = Took reading old new
@@ -139,12 +146,14 @@ pub record Did (reading : ℕ) (kind : Kind) (old new : TableView) (said : TurnA
   pub bodies : new.bodies ≡ bodies_after (state_of old.office.core) (state_of new.office.core) kind old.bodies
   pub count : bodies_in new.bodies ≡ bodies_in old.bodies
   pub counts : Published old new
+  pub ends : new.ends_told ≡ old.ends_told
 
 pub record Refused (old new : TableView) : Type 0 where
   pub office : Readied old.office new.office
   pub taker : new.taker ≡ old.taker
   pub bodies : new.bodies ≡ old.bodies
   pub counts : new.counts ≡ old.counts
+  pub ends : new.ends_told ≡ old.ends_told
 
 -- the first of the eleven cases that applies
 abbrev pub Turned : ℕ → ℕ → Signal → TableView → TableView → Result TurnAnswer TurnFault → Type 0
@@ -190,6 +199,7 @@ pub record LockedTurn (inbox number reading : ℕ) (told : Signal) (result : Res
   pub left : (new.office.outbox ≡ []) ⊎ (refusals < later)
   pub taker : new.taker ≡ turned.taker
   pub counts : new.counts ≡ turned.counts
+  pub ends : new.ends_told ≡ turned.ends_told
   -- each body that the table has no more went with a process that the port took
   pub count : bodies_in new.bodies + carried after.processes ≡ bodies_in turned.bodies + carried before.processes
   pub kept : KeepsRules new

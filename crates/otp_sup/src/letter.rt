@@ -1,10 +1,11 @@
-//! What is sent to a supervisor. Most of it is notes, so the specification that a call brings stands apart, in a box: a letter
-//! takes 96 bytes and those of its body's place, and 212 more where it brings a specification.
-ghost use Rattle.std.specs.Prelude.{◌≡◌, is_some, IfErr, IfOk, IfSome};
-ghost use Rattle.otp_sup.specs.Letters.{carries_body};
+//! What is sent to a supervisor. Most of it is notes, so the specification that a call brings stands apart, in a box, and so
+//! does the end of a supervisor: a letter takes 104 bytes and those of its body's place, and more only where it brings either.
+ghost use Rattle.std.specs.Prelude.{◌≡◌, is_some, IfErr, IfOk, IfSome, None};
+ghost use Rattle.otp_sup.specs.Letters.{Comes, carries_body};
 ghost use Rattle.otp_sup.specs.LetterInside.{call_of, item_of};
 ghost use Rattle.otp_rules.specs.declared.event.Item.TheVariants as item;
 
+use crate::told::Evidence;
 use otp_inbox::Mail;
 use otp_reason::{Name, Note};
 use otp_rules::{Call, Item};
@@ -33,23 +34,25 @@ pub(crate) enum Content {
 }
 
 /// A note or a call, with the body that it brings: an end note brings the child's body home, a start call brings the
-/// body of the child to be started, and no other item brings one.
+/// body of the child to be started, and no other item brings one. The note of a supervisor's end brings that end too, which
+/// has the note's reason and is shown.
 #[derive(Drop)]
 pub struct Letter<B: Drop> {
     content: Content,
     body: Option<B>,
+    end: Option<Evidence>,
 }
 
 impl<B: Drop> Model for Letter<B> {
     ghost use Rattle.std.specs.Prelude.{◌≡◌, is_some};
-    ghost use Rattle.otp_sup.specs.Letters.{Sending, carries_body};
+    ghost use Rattle.otp_sup.specs.Letters.{Comes, Sending, carries_body};
     ghost use Rattle.otp_sup.specs.LetterInside.{item_of};
 
     ghost Value = { Sending B };
 
-    ghost view = { λ l. record { item = item_of l.content; body = l.body } };
+    ghost view = { λ l. record { item = item_of l.content; body = l.body; end = l.end } };
 
-    ghost invariant = { λ l. is_some l.body ≡ carries_body (item_of l.content) };
+    ghost invariant = { λ l. (is_some l.body ≡ carries_body (item_of l.content)) × Comes (item_of l.content) l.end };
 }
 
 impl<B: Drop> Mail<Item> for Letter<B> {
@@ -57,21 +60,37 @@ impl<B: Drop> Mail<Item> for Letter<B> {
 }
 
 impl<B: Drop> Letter<B> {
-    /// A note. It takes no memory.
+    /// A note that brings no supervisor's end. It takes no memory.
+    #[tactic(auto, unfolding(crate::specs::Letters::Comes))]
     pub fn note(note: Note, body: Option<B>) -> Self
         requires { is_some body ≡ carries_body (item.Note note) }
-        ensures { result ≡ record { item = item.Note note; body = body } }
+        ensures { result ≡ record { item = item.Note note; body = body; end = None } }
     {
         Letter {
             content: Content::Note(note),
             body,
+            end: None,
+        }
+    }
+
+    /// A note, with the end that it tells, if it is a supervisor's. It takes no memory.
+    pub fn with_end(note: Note, body: Option<B>, end: Option<Evidence>) -> Self
+        requires body { is_some body ≡ carries_body (item.Note note) }
+        requires end { Comes (item.Note note) end }
+        ensures { result ≡ record { item = item.Note note; body = body; end = end } }
+    {
+        Letter {
+            content: Content::Note(note),
+            body,
+            end,
         }
     }
 
     /// A call. One that brings a specification takes memory for it; where that is refused the body comes back.
+    #[tactic(auto, unfolding(crate::specs::Letters::Comes))]
     pub fn call(alloc: Global, number: u64, call: Call, body: Option<B>) -> Result<Self, Option<B>>
         requires { is_some body ≡ carries_body (item.Call number call) }
-        ensures ok { IfOk result (λ letter. letter ≡ record { item = item.Call number call; body = body }) }
+        ensures ok { IfOk result (λ letter. letter ≡ record { item = item.Call number call; body = body; end = None }) }
         ensures err { IfErr result (λ back. back ≡ body) }
     {
         let Some(asked) = asked_of(alloc, call) else {
@@ -80,16 +99,19 @@ impl<B: Drop> Letter<B> {
         Ok(Letter {
             content: Content::Call(number, asked),
             body,
+            end: None,
         })
     }
 
-    /// What it says, and its body.
-    pub fn into_parts(self) -> (Item, Option<B>)
+    /// What it says, its body, and the end that it tells.
+    pub fn into_parts(self) -> (Item, Option<B>, Option<Evidence>)
         ensures item { result.0 ≡ self.item }
         ensures body { result.1 ≡ self.body }
+        ensures end { result.2 ≡ self.end }
+        ensures comes { Comes result.0 result.2 }
     {
-        let Letter { content, body } = self;
-        (item_of(content), body)
+        let Letter { content, body, end } = self;
+        (item_of(content), body, end)
     }
 }
 

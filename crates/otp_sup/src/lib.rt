@@ -23,13 +23,15 @@ mod rows;
 mod sending;
 pub mod sup;
 pub mod table;
+pub mod told;
 pub mod turns;
 
 pub use bodies::{Bodies, Kept, Origin, Place, count_opened};
 pub use client::{Client, SplitFault, SubmitCause, SubmitFault};
 pub use letter::Letter;
 pub use office::Office;
-pub use port::{Flushed, Launched, MemoryPort, NewProcess, Port};
+pub use port::{Flushed, Launched, MemoryPort, NewProcess, Port, ToldNote};
 pub use sup::{Sup, SupParts, Unlocked};
 pub use table::Table;
+pub use told::{Evidence, ToldEnd, evidence_of};
 pub use turns::{TurnAnswer, TurnFault};

@@ -7,14 +7,14 @@ ghost use Rattle.otp_rules.specs.Counts.{counts_of};
 ghost use Rattle.otp_rules.specs.Run.{reply_of};
 ghost use Rattle.otp_counts.specs.Words.{AreFew};
 ghost use Rattle.otp_signals.specs.Lists.{EachBetween};
-ghost use Rattle.otp_sup.specs.Facts.{item_of, new_office, IsOpening, KeepsOffice};
+ghost use Rattle.otp_sup.specs.Facts.{item_of, new_office, starts_in, IsOpening, KeepsOffice};
 ghost use Rattle.otp_sup.specs.Bodies.{is_any_waiting};
 ghost use Rattle.otp_sup.specs.Slots.{AreBelow};
 ghost use Rattle.otp_sup.specs.declared.turns.TurnFault.TheVariants as fault;
 ghost use Rattle.otp_sup.specs.Turns.{is_told, may_open, due_kind, early_answer, Happened, Readied, IsRefusal};
 
 use crate::draws::step_drawing;
-use crate::orders::first_order;
+use crate::orders::{count_starts, first_order};
 use crate::turns::{TurnAnswer, TurnFault};
 use otp_core::Core;
 use otp_rules::{CountsNow, Kind, Phase, Reply, laws};
@@ -203,6 +203,13 @@ impl<N: WordsNaming> Office<N> {
         self.core.counts()
     }
 
+    /// How many of the orders that are still to be sent start a child.
+    pub fn unsent_starts(&self) -> u64
+        ensures { result ≡ length (starts_in self.now.outbox) }
+    {
+        count_starts(self.core.effects(), self.next)
+    }
+
     /// What is so whenever nobody is changing it.
     pub fn keeps_rules(&self)
         ensures { KeepsOffice self.now }
@@ -213,6 +220,13 @@ impl<N: WordsNaming> Office<N> {
         let _ = self.core.history();
         let _ = self.core.last_number();
         let _ = self.core.kept_restarts();
+    }
+
+    /// How many events happened.
+    pub(crate) fn events(&self) -> usize
+        ensures { result ≡ length self.now.core.history }
+    {
+        self.core.history().len()
     }
 
     /// Takes it apart, at the end: the core, and the seat that drew its process numbers.

@@ -1,8 +1,9 @@
 //! The orders among a core's effects, and how each is sent.
-ghost use Rattle.std.specs.Prelude.{◌≡◌, ◌+◌, ◌≤◌, [], ◌∷◌, false, not, length, drop, ltb, slice_get, Some};
+ghost use Rattle.std.specs.Prelude.{◌≡◌, ◌+◌, ◌≤◌, [], ◌∷◌, false, not, length, drop, ltb, option_copied, slice_get, Some};
 ghost use Rattle.otp_rules.specs.declared.event.Effect.{Effect};
 ghost use Rattle.otp_rules.specs.Effects.{is_reply};
-ghost use Rattle.otp_sup.specs.Facts.{orders_in};
+ghost use Rattle.otp_rules.specs.Ended.{end_in};
+ghost use Rattle.otp_sup.specs.Facts.{orders_in, starts_in};
 ghost use Rattle.otp_sup.specs.Flushes.{sending_of, end_note};
 ghost use Rattle.otp_sup.specs.Turns.{has_some};
 
@@ -46,6 +47,16 @@ pub(crate) fn sending_of(order: &Effect, own: u64) -> Option<Sending>
     }
 }
 
+/// The end that an order tells.
+pub(crate) fn end_in(order: &Effect) -> Option<&SupEnd>
+    ensures { option_copied result ≡ end_in order.now }
+{
+    match order {
+        Effect::End(end) => Some(end),
+        _ => None,
+    }
+}
+
 /// Whether there is an order at the place: any effect but a reply.
 fn is_order(effects: &[Effect], place: usize) -> bool
     ensures { (x : Effect) → slice_get effects.now place ≡ Some x → result ≡ not (is_reply x) }
@@ -72,4 +83,28 @@ pub(crate) fn first_order(effects: &[Effect], from: usize) -> usize
         place += 1;
     }
     place
+}
+
+/// How many children this effect starts: one or none.
+fn count_start(effect: &Effect) -> u64
+    ensures value { result ≡ length (starts_in (orders_in (effect.now ∷ []))) }
+    ensures few { result ≤ 1 }
+{
+    match effect {
+        Effect::Start(..) => 1,
+        _ => 0,
+    }
+}
+
+/// How many children the effects from here on start.
+pub(crate) fn count_starts(effects: &[Effect], from: usize) -> u64
+    ensures { result ≡ length (starts_in (orders_in (drop from effects.now))) }
+{
+    let mut starts: u64 = 0;
+    let mut place = from;
+    while place < effects.len() {
+        starts += count_start(&effects[place]);
+        place += 1;
+    }
+    starts
 }

@@ -1,10 +1,14 @@
 //! Where orders go.
-ghost use Rattle.std.specs.Prelude.{◌≡◌, ℕ, ◌<◌, List, [], ◌∷◌, ◌++◌, is_some, OnOk, OnErr, IfErr};
-ghost use Rattle.otp_reason.specs.declared.note.Note.{Note};
-ghost use Rattle.otp_sup.specs.Ports.{launched, launched_all};
+ghost use Rattle.std.specs.Prelude.{◌≡◌, ℕ, ◌<◌, List, [], ◌∷◌, ◌++◌, is_some, option_copied, OnOk, OnErr, IfErr};
+ghost use Rattle.otp_rules.specs.declared.event.Item.TheVariants as item;
+ghost use Rattle.otp_sup.specs.Letters.{Comes};
+ghost use Rattle.otp_sup.specs.Ports.{launched, launched_all, told};
 ghost use Rattle.otp_sup.specs.declared.port.Launched.{Launched};
+ghost use Rattle.otp_sup.specs.declared.port.ToldNote.{ToldNote};
 
+use crate::told::{Evidence, evidence_of};
 use otp_reason::Note;
+use otp_rules::SupEnd;
 use otp_tally::Tally;
 use std::alloc::Global;
 
@@ -26,6 +30,13 @@ pub struct Launched {
     pub body: bool,
 }
 
+/// A note to the parent, with the supervisor's end, if that is what it tells.
+#[derive(Drop)]
+pub struct ToldNote {
+    pub note: Note,
+    pub end: Option<Evidence>,
+}
+
 /// What became of the first order.
 #[derive(Clone, Copy, Debug, PartialEq, Eq)]
 pub enum Flushed {
@@ -43,7 +54,7 @@ pub enum Flushed {
 pub trait Port<B: Drop> {
     ghost processes: { Self → List Launched };
 
-    ghost notes: { Self → List Note };
+    ghost notes: { Self → List ToldNote };
 
     ghost refusals: { Self → ℕ };
 
@@ -56,10 +67,11 @@ pub trait Port<B: Drop> {
         ensures back { IfErr result (λ back. back ≡ process) }
         ensures notes { notes self.new ≡ notes self.old };
 
-    /// Takes a note to the parent: Up, once all children have started, or Exit, when the supervisor has ended. A
-    /// refused one comes back.
-    fn send(&mut self, note: Note) -> Result<(), Note>
-        ensures took { OnOk result (notes self.new ≡ notes self.old ++ note ∷ []) }
+    /// Takes a note to the parent: Up, once all children have started; or Exit or Failed, when the supervisor has ended, with
+    /// that end, of which the port keeps a copy. A refused note comes back.
+    fn send(&mut self, note: Note, end: Option<&SupEnd>) -> Result<(), Note>
+        requires { Comes (item.Note note) (option_copied end) }
+        ensures took { OnOk result (notes self.new ≡ notes self.old ++ told note (option_copied end.entry) ∷ []) }
         ensures kept { OnErr result (notes self.new ≡ notes self.old) }
         ensures refused { OnErr result (refusals self.old < refusals self.new) }
         ensures counted { OnOk result (refusals self.new ≡ refusals self.old) }
@@ -71,9 +83,10 @@ pub trait Port<B: Drop> {
 pub struct MemoryPort<B: Drop> {
     /// The processes that it took, in order.
     pub processes: Vec<NewProcess<B>>,
-    /// The notes to the parent, in order.
-    pub notes: Vec<Note>,
+    /// The notes to the parent, in order, each with the end that it tells.
+    pub notes: Vec<ToldNote>,
     refusals: Tally,
+    alloc: Global,
 }
 
 impl<B: Drop> MemoryPort<B> {
@@ -86,6 +99,7 @@ impl<B: Drop> MemoryPort<B> {
             processes: Vec::new(alloc),
             notes: Vec::new(alloc),
             refusals: Tally::new(),
+            alloc,
         }
     }
 }
@@ -115,8 +129,9 @@ impl<B: Drop> Port<B> for MemoryPort<B> {
         Ok(())
     }
 
-    fn send(&mut self, note: Note) -> Result<(), Note>
-        ensures took { OnOk result (self.new.notes.items ≡ self.old.notes.items ++ note ∷ []) }
+    fn send(&mut self, note: Note, end: Option<&SupEnd>) -> Result<(), Note>
+        requires { Comes (item.Note note) (option_copied end) }
+        ensures took { OnOk result (self.new.notes.items ≡ self.old.notes.items ++ told note (option_copied end.entry) ∷ []) }
         ensures kept { OnErr result (self.new.notes.items ≡ self.old.notes.items) }
         ensures refused { OnErr result (self.old.refusals.count < self.new.refusals.count) }
         ensures counted { OnOk result (self.new.refusals.count ≡ self.old.refusals.count) }
@@ -126,7 +141,11 @@ impl<B: Drop> Port<B> for MemoryPort<B> {
             self.refusals.raise();
             return Err(note);
         }
-        self.notes.push_reserved(note);
+        let Ok(end) = evidence_of(self.alloc, note, end) else {
+            self.refusals.raise();
+            return Err(note);
+        };
+        self.notes.push_reserved(ToldNote { note, end });
         Ok(())
     }
 }

@@ -1,21 +1,24 @@
 //! How an office sends its orders.
-ghost use Rattle.std.specs.Prelude.{◌≡◌, ◌+◌, ◌<◌, ◌^◌, [], true, drop, is_some, IsSome, MatchOption, None};
+ghost use Rattle.std.specs.Prelude.{◌≡◌, ◌+◌, ◌<◌, ◌^◌, [], true, drop, is_some, option_copied, IsSome, MatchOption, None};
+ghost use Rattle.otp_reason.specs.declared.note.Note.{Note};
+ghost use Rattle.otp_rules.specs.declared.event.Item.TheVariants as item;
 ghost use Rattle.otp_spec.specs.declared.limits.TheConstants.{MAX_CHILDREN};
 ghost use Rattle.otp_core.specs.View.{state_of};
 ghost use Rattle.otp_rules.specs.State.{own_number};
-ghost use Rattle.otp_sup.specs.Flushes.{IsFirst, Posts, Posted, Flushes};
+ghost use Rattle.otp_sup.specs.Flushes.{IsFirst, Posts, Posted, Flushes, first_end};
 ghost use Rattle.otp_sup.specs.Ports.{taken_by, carried};
-ghost use Rattle.otp_sup.specs.Letters.{one_if};
+ghost use Rattle.otp_sup.specs.Letters.{Comes, one_if};
+ghost use Rattle.otp_sup.specs.declared.orders.Sending.TheVariants as sending;
 ghost use Rattle.otp_sup.specs.declared.port.Flushed.TheVariants as flushed;
 ghost use Rattle.otp_sup.specs.Bodies.{starting_slot};
 ghost use Rattle.otp_sup.specs.Slots.{slot_of};
 ghost use Rattle.otp_sup.specs.Turns.{has_some};
 
 use crate::office::{Office, own_number};
-use crate::orders::{Sending, first_order, sending_of};
+use crate::orders::{Sending, end_in, first_order, sending_of};
 use crate::port::{Flushed, NewProcess, Port};
 use crate::rows::slot_of;
-use otp_rules::laws;
+use otp_rules::{SupEnd, laws};
 use otp_signals::{Signal, Words, WordsNaming};
 
 impl<N: WordsNaming> Office<N> {
@@ -38,6 +41,20 @@ impl<N: WordsNaming> Office<N> {
         let own = self.own();
         let order = &effects[place];
         sending_of(order, own)
+    }
+
+    /// The end that the first order tells, if it is that of an end.
+    fn first_end(&self) -> Option<&SupEnd>
+        ensures end { option_copied result ≡ first_end self.now.outbox }
+        ensures comes { (note : Note) → IsFirst self.now (sending.Tell note) → Comes (item.Note note) (first_end self.now.outbox) }
+    {
+        laws::end_evidence();
+        let effects = self.core.effects();
+        let place = first_order(effects, self.next);
+        if place >= effects.len() {
+            return None;
+        }
+        end_in(&effects[place])
     }
 
     /// The slot, counted from 0, of the row that has this process.
@@ -121,7 +138,8 @@ impl<N: WordsNaming> Office<N> {
                 (Flushed::Sent, body)
             }
             Sending::Tell(note) => {
-                if let Err(_) = port.send(note) {
+                let end = self.first_end();
+                if let Err(_) = port.send(note, end) {
                     return (Flushed::Refused, body);
                 }
                 self.advance();

@@ -3,7 +3,7 @@ ghost use Rattle.std.specs.Prelude.{◌≡◌, ◌⊎◌, ◌+◌, ◌<◌, ◌�
 ghost use Rattle.otp_spec.specs.declared.limits.TheConstants.{MAX_READING};
 ghost use Rattle.otp_inbox.specs.Tokens.{count_limit};
 ghost use Rattle.otp_sup.specs.Bodies.{bodies_in, is_left_of, is_stray};
-ghost use Rattle.otp_sup.specs.Facts.{KeepsRules};
+ghost use Rattle.otp_sup.specs.Facts.{KeepsRules, starts_in};
 ghost use Rattle.otp_sup.specs.Flushes.{SentOrders, was_sent};
 ghost use Rattle.otp_sup.specs.Ports.{TookMore, carried, taken_by};
 ghost use Rattle.otp_sup.specs.Turns.{HadBody, HasReply, IsFlushed, IsOfAnother, LockedTurn, TurnedUnder};
@@ -12,6 +12,7 @@ ghost use Rattle.otp_sup.specs.declared.turns.TurnAnswer.TheVariants as answer;
 use crate::letter::Letter;
 use crate::port::{Flushed, Port};
 use crate::table::Table;
+use crate::told::ToldEnd;
 use crate::turns::{TurnAnswer, TurnFault};
 use otp_core::Core;
 use otp_inbox::{Inbox, InboxNaming, Taker};
@@ -63,7 +64,7 @@ impl<N: WordsNaming + InboxNaming, B: Drop> Sup<N, B> {
     ) -> Result<TurnAnswer, TurnFault>
         requires { reading ≤ MAX_READING }
         ensures turned { TurnedUnder self.now.inbox number reading told result ⊎ ((result ≡ Ok answer.Pending) × IsOfAnother self.now.inbox) }
-        ensures flushed { IsFlushed (P.refusals port.old) (P.refusals port.new) ⊎ IsOfAnother self.now.inbox }
+        ensures flushed { IsFlushed (P.refusals port.old) (P.refusals port.new) ⊎ ((result ≡ Ok answer.Pending) × IsOfAnother self.now.inbox) }
         ensures port { TookMore (taken_by (P.processes port.old) (P.notes port.old)) (taken_by (P.processes port.new) (P.notes port.new)) (P.refusals port.old) (P.refusals port.new) }
         // All of this of one table: it had the turn, and the port took what its first orders put and tell.
         ensures one_table { LockedTurn self.now.inbox number reading told result (taken_by (P.processes port.old) (P.notes port.old)) (taken_by (P.processes port.new) (P.notes port.new)) (P.refusals port.old) (P.refusals port.new) ⊎ ((result ≡ Ok answer.Pending) × IsOfAnother self.now.inbox × (taken_by (P.processes port.new) (P.notes port.new) ≡ taken_by (P.processes port.old) (P.notes port.old))) }
@@ -152,6 +153,8 @@ pub struct SupParts<N: WordsNaming + InboxNaming, B: Drop> {
     pub owner: Owner<N>,
     /// The taker of its inbox.
     pub taker: Taker<N, Item, Letter<B>>,
+    /// The ends of supervisors that it was told, in their order.
+    pub ends_told: Vec<ToldEnd>,
 }
 
 impl<N: WordsNaming + InboxNaming, B: Drop> Unlocked<N, B> {
@@ -176,6 +179,21 @@ impl<N: WordsNaming + InboxNaming, B: Drop> Unlocked<N, B> {
         self.table.taken_count()
     }
 
+    /// What is so of its table ([`Table::keeps_rules`]).
+    pub fn keeps_rules(&self)
+        ensures { KeepsRules self.now.table }
+    {
+        self.table.keeps_rules();
+    }
+
+    /// How many of the orders that are still to be sent start a child: one at most.
+    pub fn unsent_starts(&self) -> u64
+        ensures value { result ≡ length (starts_in self.now.table.office.outbox) }
+        ensures few { result ≤ 1 }
+    {
+        self.table.unsent_starts()
+    }
+
     /// Puts the table under a lock again.
     pub fn lock(self) -> Sup<N, B>
         ensures { result.inbox ≡ self.inbox }
@@ -193,15 +211,17 @@ impl<N: WordsNaming + InboxNaming, B: Drop> Unlocked<N, B> {
         ensures core { result.core ≡ self.table.office.core }
         ensures owner { result.owner ≡ self.table.office.owner }
         ensures taker { result.taker ≡ self.table.taker }
+        ensures ends { result.ends_told.items ≡ self.table.ends_told }
     {
         let Unlocked { inbox, table } = self;
-        let (office, taker) = table.into_parts();
+        let (office, taker, ends_told) = table.into_parts();
         let (core, owner) = office.into_parts();
         SupParts {
             inbox,
             core,
             owner,
             taker,
+            ends_told,
         }
     }
 }
@@ -223,6 +243,7 @@ fn flush_all<N: WordsNaming + InboxNaming, B: Drop, P: Port<B>>(
     ensures orders { SentOrders table.old.office table.new.office (taken_by (P.processes port.old) (P.notes port.old)) (taken_by (P.processes port.new) (P.notes port.new)) }
     ensures taker { table.new.taker ≡ table.old.taker }
     ensures counts { table.new.counts ≡ table.old.counts }
+    ensures ends { table.new.ends_told ≡ table.old.ends_told }
     ensures count { bodies_in table.new.bodies + carried (P.processes port.new) ≡ bodies_in table.old.bodies + carried (P.processes port.old) }
 {
     let mut flushed = table.flush_one(words, port);

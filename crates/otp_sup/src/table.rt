@@ -1,5 +1,5 @@
 //! What lies under a supervisor's lock.
-ghost use Rattle.otp_sup.specs.Letters.{carries_body};
+ghost use Rattle.otp_sup.specs.Letters.{Comes, carries_body};
 ghost use Rattle.std.specs.Prelude.{◌≡◌, ◌++◌, ◌∷◌, ◌+◌, ◌≤◌, ◌<◌, [], true, false, is_some, length, min, IfNone, IfOk, IfSome, MatchOption, None, OnOk, Some};
 ghost use Rattle.otp_inbox.specs.Tokens.{count_limit};
 ghost use Rattle.std.specs.List.{list_any};
@@ -9,7 +9,7 @@ ghost use Rattle.otp_rules.specs.Counts.{counts_of};
 ghost use Rattle.otp_rules.specs.Run.{reply_of};
 ghost use Rattle.otp_counts.specs.Counts.{after_publish, fresh_pass};
 ghost use Rattle.otp_sup.specs.Bodies.{are_ready, bodies_in, bodies_sent, is_left_of, is_stray, settled, starting_slot, without_first};
-ghost use Rattle.otp_sup.specs.Facts.{KeepsRules, count_opened};
+ghost use Rattle.otp_sup.specs.Facts.{KeepsRules, count_opened, starts_in};
 ghost use Rattle.otp_sup.specs.Flushes.{Flushes};
 ghost use Rattle.otp_sup.specs.Ports.{taken_by, carried};
 ghost use Rattle.otp_sup.specs.Turns.{Turned, early_answer};
@@ -19,23 +19,25 @@ use crate::letter::Letter;
 use crate::moves::{come_back, happen, leave};
 use crate::office::Office;
 use crate::port::{Flushed, Port};
+use crate::told::{Evidence, ToldEnd, keep_end};
 use crate::turns::{TurnAnswer, TurnFault, answer_of};
 use otp_counts::{CountsPass, Publisher};
 use otp_inbox::{Inbox, InboxNaming, Taker};
 use otp_rules::{Item, Kind, Reply};
 use otp_signals::{Signal, Words, WordsNaming};
-use std::alloc::AllocError;
+use std::alloc::{AllocError, Global};
 use std::marker::{Model, PhantomData};
 use std::sync::Wait;
 
 /// What lies under a supervisor's lock: its core with seat and orders, the taker of its inbox, the bodies that it keeps,
-/// and the right to publish its counts.
+/// the right to publish its counts, and the ends of supervisors that it was told.
 #[derive(Drop)]
 pub struct Table<N: WordsNaming + InboxNaming, B: Drop> {
     office: Office<N>,
     taker: Taker<N, Item, Letter<B>>,
     bodies: Bodies<B>,
     counts: Publisher,
+    ends: Vec<ToldEnd>,
     of: PhantomData<N>,
 }
 
@@ -44,9 +46,9 @@ impl<N: WordsNaming + InboxNaming, B: Drop> Model for Table<N, B> {
 
     ghost Value = { TableView };
 
-    ghost view = { λ t. record { office = t.office; taker = t.taker; bodies = t.bodies.kept; counts = t.counts } };
+    ghost view = { λ t. record { office = t.office; taker = t.taker; bodies = t.bodies.kept; counts = t.counts; ends_told = t.ends.items } };
 
-    ghost invariant = { λ t. IsTable (record { office = t.office; taker = t.taker; bodies = t.bodies.kept; counts = t.counts }) };
+    ghost invariant = { λ t. IsTable (record { office = t.office; taker = t.taker; bodies = t.bodies.kept; counts = t.counts; ends_told = t.ends.items }) };
 }
 
 /// Publishes what count_children would answer now.
@@ -61,6 +63,7 @@ impl<N: WordsNaming + InboxNaming, B: Drop> Table<N, B> {
     /// each child that an opening makes ([`Bodies::are_ready`], [`count_opened`]). Published of it is
     /// what it counts now, and nothing before ([`Office::counts`]).
     pub fn new(
+        alloc: Global,
         office: Office<N>,
         taker: Taker<N, Item, Letter<B>>,
         mut bodies: Bodies<B>,
@@ -70,7 +73,7 @@ impl<N: WordsNaming + InboxNaming, B: Drop> Table<N, B> {
         requires taken { taker.taken ≡ [] }
         requires bodies { are_ready (count_opened office.core.base.flags office.core.base.specs) bodies.kept ≡ true }
         requires counts { counts.published ≡ counts_of (state_of office.core) ∷ [] }
-        ensures { result ≡ record { office = office; taker = taker; bodies = settled [] false bodies.kept; counts = counts } }
+        ensures { result ≡ record { office = office; taker = taker; bodies = settled [] false bodies.kept; counts = counts; ends_told = [] } }
     {
         office.keeps_rules();
         // No child has any of them yet, and no call waits.
@@ -80,20 +83,25 @@ impl<N: WordsNaming + InboxNaming, B: Drop> Table<N, B> {
             taker,
             bodies,
             counts,
+            ends: Vec::new(alloc),
             of: PhantomData,
         }
     }
 
-    /// What is so whenever the supervisor's lock is free: its children, restart times and kept replies are what OTP's rules
-    /// give for the history that it stores; the orders that it sent, followed by those still to be sent, are those of that
-    /// history; the history has each item taken from its inbox once, in order; no period since it was last opened has more
-    /// restarts than the intensity, unless it is ending; and a child that is undefined or restarting has its body.
+    /// What is so whenever a supervisor's lock is free: its children, restart times, kept replies and sent orders are what OTP's
+    /// rules give for the history that it stores; that history holds each signal taken from its queue once, in order; no
+    /// period in it has more restarts than the intensity unless the supervisor is ending.
+    ///
+    /// Sent orders are those that it sent, followed by those still to be sent; signals are the items of its inbox; the period is
+    /// one since it was last opened (of all openings the law `restart_rate` says it); one that is ending takes, or took, the one
+    /// restart too many. And a child that is undefined or restarting has its body.
     ///
     /// Besides, its process numbers are those that its own seat drew. Each signal that it posted for one of them is that of
     /// an order that was sent, or of the one to be sent next. No two of its children have one slot, or one process. A child
     /// whose start is still to be sent has its body too. A body that is away is with a child's process; and that of a child
     /// whose process runs is away with it: its start was sent, and no Exit of it waits. Each start call that waits has its
-    /// body with it, in their order. And the counts that were published last are those of its children.
+    /// body with it, in their order. The counts that were published last are those of its children. And each end of a supervisor
+    /// that it was told came with a note of its history, for the note's reason, and is shown.
     pub fn keeps_rules(&self)
         ensures { KeepsRules self.now }
     {
@@ -125,7 +133,8 @@ impl<N: WordsNaming + InboxNaming, B: Drop> Table<N, B> {
     ///
     /// Cases 6 to 10 are one event each; in all others nothing changes, but that in case 11 one look more has found the
     /// inbox empty. A turn keeps one body more exactly where the item that it took brought one, and each body is then where
-    /// the definitions put it. With an event the counts after it are published, and nothing is published otherwise.
+    /// the definitions put it. With an event the counts after it are published, and nothing is published otherwise. An end
+    /// that came with the item is the last of those that the supervisor was told.
     pub fn turn<R: Wait>(
         &mut self,
         rt: &R,
@@ -144,7 +153,7 @@ impl<N: WordsNaming + InboxNaming, B: Drop> Table<N, B> {
         if let Some(early) = self.office.early_answer(number) {
             return early;
         }
-        if self.bodies.prepare().is_err() {
+        if self.bodies.prepare().is_err() || self.ends.reserve(1).is_err() {
             return Err(TurnFault::OutOfMemory);
         }
         self.office.prepare()?;
@@ -160,13 +169,15 @@ impl<N: WordsNaming + InboxNaming, B: Drop> Table<N, B> {
             publish(&self.office, &mut self.counts);
             return Ok(answer_of(kind));
         }
-        let Some((item, body)) = take_item(rt, inbox, &mut self.taker) else {
+        let Some((item, body, end)) = take_item(rt, inbox, &mut self.taker) else {
             return Ok(if self.office.has_ended() {
                 TurnAnswer::Ended
             } else {
                 TurnAnswer::Quiet
             });
         };
+        let event = self.office.events();
+        keep_end(&mut self.ends, event, item, end);
         let kind = Kind::Took(item);
         happen(
             &mut self.office,
@@ -198,6 +209,7 @@ impl<N: WordsNaming + InboxNaming, B: Drop> Table<N, B> {
         ensures flushed { Flushes result self.old.office self.new.office (taken_by (P.processes port.old) (P.notes port.old)) (taken_by (P.processes port.new) (P.notes port.new)) (P.refusals port.old) (P.refusals port.new) }
         ensures taker { self.new.taker ≡ self.old.taker }
         ensures counts { self.new.counts ≡ self.old.counts }
+        ensures ends { self.new.ends_told ≡ self.old.ends_told }
         // The body that the table doesn't keep any more is that of the child whose process was put,
         ensures bodies { self.new.bodies ≡ bodies_sent result (starting_slot self.old.office.outbox (state_of self.old.office.core).rows) self.old.bodies }
         // and it went with the process that the port took.
@@ -219,19 +231,31 @@ impl<N: WordsNaming + InboxNaming, B: Drop> Table<N, B> {
         self.taker.taken_count()
     }
 
-    /// Takes it apart, at the end: its office, and the taker of its inbox. The bodies that it has are dropped.
-    pub fn into_parts(self) -> (Office<N>, Taker<N, Item, Letter<B>>)
+    /// How many of the orders that are still to be sent start a child: one at most.
+    pub fn unsent_starts(&self) -> u64
+        ensures value { result ≡ length (starts_in self.now.office.outbox) }
+        ensures few { result ≤ 1 }
+    {
+        let _ = &self.taker;
+        self.office.unsent_starts()
+    }
+
+    /// Takes it apart, at the end: its office, the taker of its inbox, and the ends that it was told. The bodies that it has
+    /// are dropped.
+    pub fn into_parts(self) -> (Office<N>, Taker<N, Item, Letter<B>>, Vec<ToldEnd>)
         ensures office { result.0 ≡ self.office }
         ensures taker { result.1 ≡ self.taker }
+        ensures ends { result.2.items ≡ self.ends_told }
     {
         let Table {
             office,
             taker,
             bodies: _,
             counts: _,
+            ends,
             of: _,
         } = self;
-        (office, taker)
+        (office, taker, ends)
     }
 
     /// The kept answer to the call with this number.
@@ -264,15 +288,16 @@ impl<N: WordsNaming + InboxNaming, B: Drop> Table<N, B> {
     }
 }
 
-/// Takes the item at the front, with the body that it brings.
+/// Takes the item at the front, with the body and the end that it brings.
 fn take_item<N: InboxNaming, B: Drop, R: Wait>(
     rt: &R,
     inbox: &Inbox<N, Item, Letter<B>>,
     taker: &mut Taker<N, Item, Letter<B>>,
-) -> Option<(Item, Option<B>)>
+) -> Option<(Item, Option<B>, Option<Evidence>)>
     requires { taker.old.inbox ≡ inbox.now }
     ensures found { IfSome result (λ x. taker.new ≡ record taker.old { taken = taker.old.taken ++ x.0 ∷ [] }) }
     ensures body { IfSome result (λ x. is_some x.1 ≡ carries_body x.0) }
+    ensures end { IfSome result (λ x. Comes x.0 x.2) }
     ensures empty { IfNone result (taker.new ≡ record taker.old { empty_finds = taker.old.empty_finds + 1 }) }
 {
     let letter = inbox.take(rt, taker)?;

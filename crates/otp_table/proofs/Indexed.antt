@@ -10,6 +10,7 @@ use Rattle.std.specs.Ordering.{on}
 use Rattle.std.specs.Str.{bytes_eq}
 use Rattle.otp_reason.specs.declared.name.Name.{Name}
 use Rattle.otp_reason.specs.Names.{name_bytes}
+use Rattle.otp_table.specs.declared.keys.TheConstants.{FNV_START}
 use Rattle.otp_table.specs.declared.marks.Mark.{Mark}
 use Rattle.otp_table.specs.declared.row.Row.{Row}
 use Rattle.otp_table.specs.declared.row.RowState.{RowState}
@@ -253,7 +254,7 @@ retry_tells n row e = retry_state n row.state e
 
 same_print : (one other : Name) → bytes_eq (name_bytes one) (name_bytes other) ≡ true → fingerprint one ≡ fingerprint other
 unfolding fingerprint
-same_print one other e = ap (λ (bytes : List ℕ). print_of 0xcbf2_9ce4_8422_2325 bytes) ((bytes_eq-Decides (name_bytes one) (name_bytes other)).0 e)
+same_print one other e = ap (λ (bytes : List ℕ). print_of FNV_START bytes) ((bytes_eq-Decides (name_bytes one) (name_bytes other)).0 e)
 
 id_if : (id : Name) (other : Option Name) → option_eq (on name_bytes bytes_eq) other (Some id) ≡ true → print_if other ≡ Some (fingerprint id)
 id_if id None e = absurd (both_ways false refl e)

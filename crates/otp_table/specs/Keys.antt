@@ -3,10 +3,11 @@ use Rattle.std.specs.Prelude.{ℕ, ◌*◌, ◌%◌, ◌^◌, List, [], ◌∷�
 use Rattle.otp_reason.specs.declared.name.Name.{Name}
 use Rattle.otp_reason.specs.Names.{name_bytes}
 use Rattle.otp_table.specs.declared.row.Row.{Row}
+use Rattle.otp_table.specs.declared.keys.TheConstants.{FNV_PRIME, FNV_START}
 
 -- one byte more
 unfoldable pub mixed : ℕ → ℕ → ℕ
-mixed print byte = (bit_xor print byte * 0x100_0000_01b3) % 2 ^ 64
+mixed print byte = (bit_xor print byte * FNV_PRIME) % 2 ^ 64
 
 -- the fingerprint once these bytes follow
 abbrev pub print_of : ℕ → List ℕ → ℕ
@@ -15,7 +16,7 @@ print_of print (byte ∷ bytes) = print_of (mixed print byte) bytes
 
 -- the fingerprint of a name: that of the bytes that it shows
 unfoldable pub fingerprint : Name → ℕ
-fingerprint name = print_of 0xcbf2_9ce4_8422_2325 (name_bytes name)
+fingerprint name = print_of FNV_START (name_bytes name)
 
 abbrev pub print_if : Option Name → Option ℕ
 print_if None = None

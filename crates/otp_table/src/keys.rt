@@ -4,9 +4,16 @@ ghost use Rattle.std.specs.Prelude.{◌≡◌, ◌<◌, length};
 ghost use Rattle.otp_reason.specs.Names.{name_bytes};
 ghost use Rattle.otp_table.specs.Keys.{fingerprint, id_key, mixed, print_of};
 ghost use Rattle.otp_table.specs.Marks.{id_at, number_at};
+ghost use Rattle.otp_table.specs.declared.keys.TheConstants.{FNV_START};
 
 use crate::row::Row;
 use otp_reason::Name;
+
+/// What FNV-1a begins with, where a hash has 64 bits.
+const FNV_START: u64 = 0xcbf2_9ce4_8422_2325;
+
+/// What it multiplies by at each byte.
+const FNV_PRIME: u64 = 0x100_0000_01b3;
 
 /// The number of the row at the place.
 pub fn number_in(rows: &[Row], place: usize) -> Option<u64>
@@ -44,9 +51,9 @@ pub fn fingerprint(name: &Name) -> u64
 
 /// The FNV-1a hash of these bytes.
 fn print_of(bytes: &[u8]) -> u64
-    ensures { result ≡ print_of 0xcbf2_9ce4_8422_2325 bytes.now }
+    ensures { result ≡ print_of FNV_START bytes.now }
 {
-    let mut print = 0xcbf2_9ce4_8422_2325;
+    let mut print = FNV_START;
     for byte in bytes {
         print = mixed(print, *byte);
     }
@@ -58,5 +65,5 @@ fn print_of(bytes: &[u8]) -> u64
 fn mixed(print: u64, byte: u8) -> u64
     ensures { result ≡ mixed print byte }
 {
-    (print ^ byte as u64).wrapping_mul(0x100_0000_01b3)
+    (print ^ byte as u64).wrapping_mul(FNV_PRIME)
 }

@@ -2,7 +2,7 @@
 //! each public call.
 //!
 //! They stand in a crate of their own, one module for a crate, since a crate with tests is proved twice. Tests of
-//! what threads share are in `otp_thread_tests`; those of the engine and of the program are beside them.
+//! what threads share are in `otp_thread_tests`, `otp_sup_tests` and `otp_tree_tests`; those of the engine and of the program are beside them.
 #![tactic(auto)]
 
 #[cfg(test)]

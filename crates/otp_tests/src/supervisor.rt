@@ -644,3 +644,26 @@ fn ended_supervisor_tells(rt: HostRuntime) -> Result<(), Fail> {
     }
     Ok(())
 }
+
+// What a call has added belongs to one life of the supervisor: the next one begins with the specifications.
+#[test]
+fn added_child_is_gone_after_the_next_start(rt: HostRuntime) -> Result<(), Fail> {
+    let mut flags = SupFlags::default();
+    flags.intensity = 0;
+    let mut driver = Driver::open(&rt, rt.alloc(), flags, &[child(b"x")?])?;
+    let lines = [
+        up(1),
+        Line::Asked(Call::StartChild(child(b"added")?)),
+        up(2),
+        exit(1, error()?),
+        exit(2, Reason::Shutdown),
+    ];
+    driver.lines(&rt, &lines)?;
+    assert_eq!(rt; driver.core.phase(), Phase::Ended(0, Ending::Intensity));
+    driver.event(&rt, Kind::Opened(7))?;
+    let [row] = driver.core.rows() else {
+        return Err(Fail::from("one child"));
+    };
+    assert_eq!(rt; row.id, Some(named(b"x")?));
+    Ok(())
+}

@@ -94,6 +94,21 @@ fn hanging_child(rt: HostRuntime) -> Result<(), Fail> {
     )
 }
 
+/// A stop that comes while a child is being stopped waits for that, and is not forgotten.
+#[test]
+fn stop_while_work_is_open(rt: HostRuntime) -> Result<(), Fail> {
+    plays(
+        &rt,
+        rt.alloc(),
+        Writer::Script,
+        "hang db\nterminate db\nstop\n+5s\n",
+        "0.000 s  start db #1\n0.000 s  ready\nline 1: hang db\nline 2: terminate db\n0.000 s  ask db #1\n\
+line 3: stop\nline 4: +5s\n5.000 s  kill db #1\n5.000 s  reply 1 ok\n5.000 s  end shutdown: asked to stop\n\
+5.000 s  the supervisor has ended\n",
+        TryEnd::Done,
+    )
+}
+
 /// A start that fails is tried again, and each try is a restart.
 #[test]
 fn failing_start(rt: HostRuntime) -> Result<(), Fail> {

@@ -3,6 +3,7 @@ use Rattle.std.proofs.Common.{◌≡◌, ◌∙◌, ℕ, Bool, true, List, ◌++
 use Rattle.std.proofs.Math.Seq.{take-append_seam}
 use Rattle.otp_reason.specs.declared.reason.Reason.TheVariants as reason
 use Rattle.otp_reason.specs.declared.text.Text.{Text}
+use Rattle.otp_reason.specs.declared.text.TheConstants.{TEXT_SIZE}
 use Rattle.otp_reason.specs.Padded.{padded_to}
 use Rattle.otp_reason.specs.Texts.{is_lawful_text, text_of}
 use Rattle.otp_text.specs.ReadBack.{IsReadBack, ReasonsAreReadBack}
@@ -10,7 +11,7 @@ use Rattle.otp_text.specs.Values.{reason_text}
 use Rattle.otp_text.specs.Words.{reason_in, when}
 
 -- a text shows the bytes that it was made of
-shown : (term : List ℕ) → take (length term) (padded_to 64 term) ≡ term
+shown : (term : List ℕ) → take (length term) (padded_to TEXT_SIZE term) ≡ term
 shown term = take-append_seam term _
 
 error_back : (term : List ℕ) → is_lawful_text term ≡ true → IsReadBack (reason.Error (text_of term))

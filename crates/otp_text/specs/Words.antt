@@ -13,6 +13,7 @@ use Rattle.otp_spec.specs.declared.child.Shutdown.{Shutdown}
 use Rattle.otp_spec.specs.declared.child.Shutdown.TheVariants.{Milliseconds}
 use Rattle.otp_spec.specs.declared.limits.TheConstants.{MAX_SHUTDOWN}
 use Rattle.otp_spec.specs.Words.{shutdown_of}
+use Rattle.otp_text.specs.declared.word.TheConstants.{MOST_DIGITS}
 use Rattle.otp_text.specs.Values.{reason_text, bool_text}
 
 -- the words of a line: what stands between its spaces, before the first and after the last
@@ -55,13 +56,13 @@ only_word words = do
 abbrev pub is_digit : ℕ → Bool
 is_digit byte = nat_le 48 byte && nat_le byte 57
 
--- a decimal number without leading zeros, of at most 19 digits
+-- a decimal number without leading zeros, of at most MOST_DIGITS
 unfoldable pub is_decimal : List ℕ → Bool
 is_decimal word =
-    nat_le 1 (length word) && nat_le (length word) 19 && list_all is_digit word
+    nat_le 1 (length word) && nat_le (length word) MOST_DIGITS && list_all is_digit word
     && (not (slice_index word 0 == 48) || length word == 1)
 
--- the number that the word spells, where it is at most the limit; limits are below 10 ^ 19
+-- the number that the word spells, where it is at most the limit; limits are below 10 ^ MOST_DIGITS
 unfoldable pub number_up_to : ℕ → List ℕ → Option ℕ
 number_up_to limit word = when (is_decimal word && nat_le (digits_value 10 word) limit) (digits_value 10 word)
 

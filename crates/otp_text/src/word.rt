@@ -10,7 +10,7 @@ ghost use Rattle.otp_text.specs.Words.{words_of, words_left, no_words, take_word
 use otp_reason::{Name, Reason, Text};
 use otp_spec::{MAX_SHUTDOWN, Shutdown};
 
-/// The most digits of a number.
+/// The most digits of a number: what they spell fits in 64 bits.
 const MOST_DIGITS: usize = 19;
 
 /// The first word of a line, and what stands after the space behind it, if there is one.
@@ -78,7 +78,7 @@ pub fn read_number(limit: u64, word: &[u8]) -> Option<u64>
     if number <= limit { Some(number) } else { None }
 }
 
-/// Whether the word is a decimal number without leading zeros, of at most 19 digits.
+/// Whether the word is a decimal number without leading zeros, of at most [`MOST_DIGITS`].
 #[tactic(auto, unfolding(crate::specs::Words::is_decimal))]
 fn is_number(word: &[u8]) -> bool
     ensures { result ≡ is_decimal word.now }

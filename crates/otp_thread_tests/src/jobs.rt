@@ -1,6 +1,8 @@
 // Which calls a job gets in which turn.
+ghost use Rattle.std.specs.Prelude.{true};
+
 use crate::probes::{AnyBody, AnyProcess, Calls, Pipe, Probe, worker_body};
-use otp_job::{After, Body, Process, ProcessPhase, TableNo, one_turn};
+use otp_job::{After, Body, BoxedJob, Job, Process, ProcessPhase, TableNo, Told, Turn, one_turn};
 use otp_reason::{Note, Reason, Started};
 use otp_signals::Signal;
 use std::alloc::{AllocError, Global};
@@ -25,7 +27,7 @@ pub fn run<R: Abort>(
         };
         assert!(rt; process.is_runnable());
         match one_turn(process, *signal) {
-            After::Again(process) => {
+            After::Again(process) | After::Waits(process) => {
                 assert_eq!(rt; process.number(), 7);
                 assert_eq!(rt; (process.slot(), process.table()), (3, 1));
                 last = None;
@@ -89,6 +91,49 @@ fn trapping_job_is_told_once(rt: HostRuntime) -> Result<(), Fail> {
         assert_eq!(rt; note, end);
         assert_eq!(rt; body.is_some(), !traps);
         assert_eq!(rt; calls.load(Ordering::SeqCst), wanted);
+    }
+    Ok(())
+}
+
+// Waits in each turn.
+#[derive(Drop)]
+struct Waiter;
+
+impl Job for Waiter {
+    ghost is_trapping = { λ _. true };
+
+    fn traps(&self) -> bool {
+        true
+    }
+
+    fn start(&mut self, _number: u64) -> Started {
+        Started::Up
+    }
+
+    fn turn(&mut self, _told: Told) -> Turn {
+        Turn::Wait
+    }
+}
+
+// A process that waits has news while it was not told of the shutdown, and whenever it is to be killed.
+#[test]
+fn a_process_that_waits_has_news_of_a_shutdown_once(rt: HostRuntime) -> Result<(), Fail> {
+    let job: BoxedJob = Box::new(rt.alloc(), Waiter)?;
+    let process = Process::new(rt.alloc(), 7, 3, 1, Body::Worker(job));
+    let mut process: AnyProcess = process.map_err(|_| AllocError)?;
+    for signal in [Signal::None, Signal::None, Signal::Shutdown] {
+        assert!(rt; process.is_runnable());
+        process = match one_turn(process, signal) {
+            After::Waits(process) | After::Begun(process, _) => process,
+            After::Again(_process) => return Err("it waits".into()),
+            After::Done(_end, spent) => {
+                let _ = spent.into_number();
+                return Err("it goes on".into());
+            }
+        };
+        assert!(rt; !process.has_news(Signal::None));
+        assert_eq!(rt; process.has_news(Signal::Shutdown), signal == Signal::None);
+        assert!(rt; process.has_news(Signal::Kill));
     }
     Ok(())
 }

@@ -1,19 +1,14 @@
-//! Tests of what threads share and of what runs on them, from outside, most of them on real threads: a module for each
-//! crate, and for each thing that stands on several.
+//! Tests of what threads share below the supervisors, and of the jobs that they run, from outside, most of them on real
+//! threads: a module for each crate, and for each thing that stands on several.
 //!
-//! They stand in a crate of their own, since a crate with tests is proved twice.
+//! They stand in a crate of their own, since a crate with tests is proved twice. Supervisors under a lock have theirs in
+//! `otp_sup_tests`, trees in `otp_tree_tests`, so that each waits only for the crates that it tests.
 #![tactic(auto)]
 
 #[cfg(test)]
 mod bridges;
 #[cfg(test)]
-mod clients;
-#[cfg(test)]
-mod closes;
-#[cfg(test)]
 mod counts;
-#[cfg(test)]
-mod drafts;
 #[cfg(test)]
 mod inbox;
 #[cfg(test)]
@@ -25,12 +20,6 @@ mod queues;
 #[cfg(test)]
 mod signals;
 #[cfg(test)]
-mod supervisors;
-#[cfg(test)]
-mod tables;
-#[cfg(test)]
 mod tally;
 #[cfg(test)]
 mod tokens;
-#[cfg(test)]
-mod trees;

@@ -1,14 +1,9 @@
 // What threads carry is Send, and what they share is Sync, also as seen from a crate above.
 use otp_bridge::{BoxedSubsystem, Bridge};
 use otp_counts::{CountsPass, Publisher};
-use otp_inbox::{Inbox, InboxNaming, Sender, Taker};
 use otp_job::{After, Body, BoxedJob, EndNote, Process, Spent, TableNo, Ticket};
-use otp_rules::Item;
 use otp_run::{GatherFault, LiveTotal, OwnDeque, RunNaming, RunQueue, Scheduler, Share, Victim};
 use otp_signals::{Owner, Viewer, Words, WordsNaming};
-use otp_sup::{Bodies, Client, Letter, MemoryPort, Office, SubmitFault, Sup, Table};
-
-type Boxed = Body<BoxedJob, BoxedSubsystem>;
 
 fn is_send<T: Send>(_: &T) {}
 
@@ -76,42 +71,6 @@ pub fn words_cross<N: WordsNaming + Send + Sync>(
     is_sync(words);
     is_send(owner);
     is_send(viewer);
-}
-
-pub fn inbox_crosses<N: InboxNaming + Send + Sync>(
-    inbox: &Inbox<N, Item, Letter<Boxed>>,
-    sender: &Sender<N, Item, Letter<Boxed>>,
-    taker: &Taker<N, Item, Letter<Boxed>>,
-) {
-    is_send(inbox);
-    is_sync(inbox);
-    is_send(sender);
-    is_send(taker);
-}
-
-pub fn supervisor_crosses<N: WordsNaming + InboxNaming + Send + Sync>(
-    sup: &Sup<N, Boxed>,
-    table: &Table<N, Boxed>,
-    office: &Office<N>,
-    client: &Client<N, Boxed>,
-) {
-    is_send(sup);
-    is_sync(sup);
-    is_send(table);
-    is_send(office);
-    is_send(client);
-}
-
-pub fn bodies_are_send(
-    letter: &Letter<Boxed>,
-    bodies: &Bodies<Boxed>,
-    port: &MemoryPort<Boxed>,
-    fault: &SubmitFault<Boxed>,
-) {
-    is_send(letter);
-    is_send(bodies);
-    is_send(port);
-    is_send(fault);
 }
 
 pub fn counts_are_send(publisher: &Publisher, pass: &CountsPass) {

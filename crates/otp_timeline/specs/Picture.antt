@@ -18,6 +18,7 @@ use Rattle.otp_timeline.specs.declared.column.Look.{Look}
 use Rattle.otp_timeline.specs.declared.moment.Mark.{Mark}
 use Rattle.otp_timeline.specs.declared.moment.Moment.{Moment}
 use Rattle.otp_timeline.specs.declared.moment.Standing.{Standing}
+use Rattle.otp_timeline.specs.declared.picture.TheConstants.{LONG}
 use Rattle.otp_timeline.specs.Seconds.{seconds_text}
 
 -- the escape sequence of a terminal for a colour
@@ -186,7 +187,7 @@ line_cell moment = cell false Plain (line_text moment.line)
 
 -- a time in seconds, whole ones where it is long
 unfoldable pub time_text : ℕ → List ℕ
-time_text time = if nat_lt time 1000000 then seconds_text time else decimal (time / 1000)
+time_text time = if nat_lt time LONG then seconds_text time else decimal (time / 1000)
 
 unfoldable pub time_cell : Moment → List ℕ
 time_cell moment = cell false Plain (time_text moment.time)

@@ -6,3 +6,6 @@ pub mod Starts
 pub mod Below
 pub mod Refusals
 pub mod EachRead
+pub mod There
+pub mod Leavings
+pub mod Settlings

@@ -5,6 +5,7 @@ use Rattle.otp_rules.specs.declared.event.Item.{Item}
 use Rattle.otp_rules.specs.Needs.{numbers_of}
 use Rattle.otp_run.specs.Gathers.{IsAll}
 use Rattle.otp_signals.specs.Lists.{NoneInBoth}
+use Rattle.otp_sup.specs.Ends.{AreTold}
 use Rattle.otp_sup.specs.Facts.{Begins}
 use Rattle.otp_tree.specs.declared.closing.CloseFault.{CloseFault}
 use Rattle.otp_tree.specs.declared.closing.CloseFault.TheVariants as fault
@@ -16,6 +17,7 @@ use Rattle.otp_tree.specs.declared.whole.RunFault.{RunFault}
 use Rattle.otp_tree.specs.declared.whole.RunFault.TheVariants as run
 use Rattle.otp_tree.specs.declared.report.TableReport.{TableReport}
 use Rattle.otp_tree.specs.Hands.{HandView, ClientView, SystemView, senders_of}
+use Rattle.otp_tree.specs.Leavings.{HasUnsent}
 use Rattle.otp_tree.specs.Partings.{schedulers_of}
 use Rattle.otp_tree.specs.Sendings.{parts_to}
 use Rattle.otp_tree.specs.Tellings.{AreSo, IsMismatch}
@@ -39,6 +41,10 @@ IsComplete system hands client = IsAll (schedulers_of hands) × IsReached system
 abbrev pub HasBegun : TableReport → Type 0
 HasBegun t = Begins t.core.base
 
+-- each end of another supervisor that the history was told is for the note's reason, and shown
+abbrev pub HasTold : TableReport → Type 0
+HasTold t = AreTold t.core.history t.ends_told.items
+
 -- no process number is in the histories of two of these supervisors
 abbrev pub AreApart : List TableReport → Type 0
 AreApart tables = AllPairs (λ one other. NoneInBoth (numbers_of one.core.history) (numbers_of other.core.history)) tables
@@ -49,24 +55,28 @@ module _ {J S K : Type 0} where
   report_in (Ok report) = Some report
   report_in (Err (fault.OutOfMemory k)) = None
   report_in (Err (fault.Missing k)) = None
+  report_in (Err (fault.Misplaced k)) = None
   report_in (Err (fault.Mismatch m report)) = Some report
 
   -- what comes back where nothing was taken apart
   abbrev pub kept_in : CloseFault J S K → Option K
   kept_in (fault.OutOfMemory k) = Some k
   kept_in (fault.Missing k) = Some k
+  kept_in (fault.Misplaced k) = Some k
   kept_in (fault.Mismatch m report) = None
 
   -- a part is said to be missing only where one is
   abbrev pub IsMissingOnly : Type 0 → CloseFault J S K → Type 0
   IsMissingOnly complete (fault.OutOfMemory k) = ⊤
   IsMissingOnly complete (fault.Missing k) = ¬ complete
+  IsMissingOnly complete (fault.Misplaced k) = ⊤
   IsMissingOnly complete (fault.Mismatch m report) = ⊤
 
   -- a mismatch is that of an event of the report
   abbrev pub IsMismatchOnly : CloseFault J S K → Type 0
   IsMismatchOnly (fault.OutOfMemory k) = ⊤
   IsMismatchOnly (fault.Missing k) = ⊤
+  IsMismatchOnly (fault.Misplaced k) = ⊤
   IsMismatchOnly (fault.Mismatch m report) = IsMismatch report.tables.items m
 
 module _ {J S : Type 0} where
@@ -79,8 +89,11 @@ module _ {J S : Type 0} where
   pub record IsReportOf (tables : ℕ) (report : Report J S) : Type 0 where
     pub count : length report.tables.items ≡ tables
     pub begins : All HasBegun report.tables.items
+    pub shown : All HasTold report.tables.items
     -- no process number is in the histories of two of them
     pub apart : AreApart report.tables.items
+    -- of the orders of each history all were sent, but those that were still to be sent
+    pub unsent : All HasUnsent report.tables.items
     -- each end that one was told of another is one that the other's history gives
     pub told : AreSo report.tables.items
     pub processes : IsBalanced report
@@ -100,4 +113,5 @@ pub record IsAsItWas {N J S : Type 0} (system : SystemView) (hands : List (HandV
 abbrev pub IsRefusalOf : {N J S : Type 0} → Refusal → SystemView → List (HandView J S) → ClientView → CloseFault J S (Unclosed N J S) → Type 0
 IsRefusalOf refusal.OutOfMemory system hands client (fault.OutOfMemory k) = IsAsItWas system hands client k
 IsRefusalOf refusal.Missing system hands client (fault.Missing k) = IsAsItWas system hands client k
+IsRefusalOf refusal.Misplaced system hands client (fault.Misplaced k) = IsAsItWas system hands client k
 IsRefusalOf _ system hands client _ = ⊥

@@ -9,3 +9,4 @@ use Rattle.otp_tree.specs.declared.closing.Refusal.TheVariants as refusal
 abbrev pub IsHandsRefused : List SchedulerState → Refusal → Type 0
 IsHandsRefused schedulers refusal.Missing = ¬ (IsAll schedulers)
 IsHandsRefused schedulers refusal.OutOfMemory = ⊤
+IsHandsRefused schedulers refusal.Misplaced = ⊤

@@ -1,24 +1,27 @@
 -- What contracts see of a hand. (own)
-use Rattle.std.specs.Prelude.{◌≡◌, MatchOption, ℕ, Bool, true, false, List, [], ◌∷◌, ◌++◌, map, Option, Some, None, slice_get}
-use Rattle.std.specs.List.{filter_map}
+use Rattle.std.specs.Prelude.{◌≡◌, MatchOption, ℕ, Bool, true, false, List, [], ◌∷◌, ◌++◌, Option, Some, None}
 use Rattle.otp_counts.specs.Counts.{Reading}
 use Rattle.otp_inbox.specs.Tokens.{SenderState, TakerState}
 use Rattle.otp_job.specs.Processes.{ProcessState}
 use Rattle.otp_job.specs.declared.process.Ticket.{Ticket}
 use Rattle.otp_reason.specs.declared.note.Note.{Note}
+use Rattle.otp_rules.specs.declared.ending.SupEnd.{SupEnd}
 use Rattle.otp_rules.specs.declared.event.Item.{Item}
 use Rattle.otp_rules.specs.declared.event.Item.TheVariants as item
 use Rattle.otp_run.specs.Schedulers.{SchedulerState}
 use Rattle.otp_signals.specs.declared.view.Holding.{Holding}
-use Rattle.otp_sup.specs.Ports.{launched}
+use Rattle.otp_sup.specs.Ports.{launched, told}
 use Rattle.otp_sup.specs.declared.port.Launched.{Launched}
+use Rattle.otp_sup.specs.declared.port.ToldNote.{ToldNote}
 use Rattle.otp_tree.specs.declared.hand.Unsent.{Unsent}
 
 pub record HandView (J S : Type 0) : Type 0 where
   pub scheduler : SchedulerState
   pub senders : List (SenderState Item)
-  -- the process that it has out
+  -- the process that it has out, whose turn it is
   pub turning : Option (ProcessState J S)
+  -- those that it has out and that wait until they are told something
+  pub waiting : List (ProcessState J S)
   -- the letter that was refused
   pub unsent : Option (Unsent J S)
   pub refusals : ℕ
@@ -36,32 +39,20 @@ one_if false = 0
 abbrev pub launched_of : Ticket → Launched
 launched_of t = launched t.number t.slot true
 
-abbrev pub note_of : Item → Option Note
-note_of (item.Note n) = Some n
-note_of (item.Call _ _) = None
-
-abbrev pub one_or_none : Option Note → List Note
-one_or_none (Some n) = n ∷ []
-one_or_none None = []
-
-abbrev pub sent_or_none : Option (SenderState Item) → List Item
-sent_or_none (Some s) = s.sent
-sent_or_none None = []
+-- the note that a letter brings, with the end that it tells
+abbrev pub notes_in : Item → Option SupEnd → List ToldNote
+notes_in (item.Note n) end = told n end ∷ []
+notes_in (item.Call _ _) end = []
 
 module _ {J S : Type 0} where
-  -- the supervisor to which the notes of the process that is out go
-  abbrev pub parent_of : Option (ProcessState J S) → ℕ
-  parent_of (Some p) = p.ticket.table
-  parent_of None = 0
-
-  -- the note among unsent ones
-  abbrev pub unsent_notes : Option (Unsent J S) → List Note
-  unsent_notes (Some u) = one_or_none (note_of u.letter.item)
+  -- the note that a hand still has to send
+  abbrev pub unsent_notes : Option (Unsent J S) → List ToldNote
+  unsent_notes (Some u) = notes_in u.letter.item u.letter.end
   unsent_notes None = []
 
-  -- the notes that went to the parent of the process that is out, and the one that is still to go
-  abbrev pub notes_by : HandView J S → List Note
-  notes_by h = filter_map note_of (sent_or_none (slice_get h.senders (parent_of h.turning))) ++ unsent_notes h.unsent
+  -- the notes that a hand took and that are still to go: while a supervisor has its turn it sends none
+  abbrev pub notes_by : HandView J S → List ToldNote
+  notes_by h = unsent_notes h.unsent
 
 -- what contracts see of a client
 pub record ClientView : Type 0 where

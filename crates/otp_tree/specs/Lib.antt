@@ -5,6 +5,10 @@ pub mod Reports
 pub mod Partings
 pub mod Sendings
 pub mod Tellings
+pub mod Waitings
 pub mod Closes
 pub mod Gathers
 pub mod Readings
+pub mod Callings
+pub mod Leavings
+pub mod Settlings

@@ -1,11 +1,14 @@
 -- What supervisors are told of the ends of others, and when that is so (Supervisor Behaviour, nested supervisors).
-use Rattle.std.specs.Prelude.{◌≡◌, ℕ, ⊤, List, Option, Some, None, MatchOption, slice_get}
+use Rattle.std.specs.Prelude.{◌≡◌, ◌⊎◌, ℕ, ⊤, List, Option, Some, None, MatchOption, slice_get}
 use Rattle.otp_core.specs.View.{state_of}
 use Rattle.otp_reason.specs.declared.note.Note.{Note}
 use Rattle.otp_reason.specs.declared.note.Note.TheVariants as note
 use Rattle.otp_reason.specs.declared.reason.Reason.{Reason}
 use Rattle.otp_reason.specs.declared.reason.Reason.TheVariants as why
+use Rattle.otp_reason.specs.Names.{name_bytes}
 use Rattle.otp_reason.specs.Texts.{text_bytes}
+use Rattle.otp_rules.specs.declared.ending.Cause.{Cause}
+use Rattle.otp_rules.specs.declared.ending.Cause.TheVariants as cause
 use Rattle.otp_rules.specs.declared.ending.SupEnd.{SupEnd}
 use Rattle.otp_rules.specs.declared.event.Event.{Event}
 use Rattle.otp_rules.specs.declared.event.Item.{Item}
@@ -15,6 +18,7 @@ use Rattle.otp_rules.specs.declared.event.Kind.TheVariants as kind
 use Rattle.otp_rules.specs.declared.work.Phase.TheVariants.{Open}
 use Rattle.otp_rules.specs.State.{State}
 use Rattle.otp_run.specs.Lists.{AllAt}
+use Rattle.otp_sup.specs.declared.told.ToldEnd.{ToldEnd}
 use Rattle.otp_tree.specs.declared.evidence.Mismatch.{Mismatch}
 use Rattle.otp_tree.specs.declared.report.TableReport.{TableReport}
 
@@ -67,14 +71,55 @@ AllAgree tables number reason = AllAt (λ _ (t : TableReport). Agrees (state_of 
 pub record IsSo (tables : List (TableReport)) (event : Event) : Type 0 where
   pub told : MatchOption (told_end event.kind) ⊤ (λ told. AllAgree tables told.0 told.1)
 
--- each end that a supervisor was told is one with which the histories of all agree
-pub record IsToldSo (tables : List (TableReport)) (t : TableReport) : Type 0 where
+-- two causes are the same: of two ids, that they show the same bytes
+abbrev pub IsSameCause : Cause → Cause → Type 0
+IsSameCause (cause.Intensity flags stamps) (cause.Intensity others times) = (flags ≡ others) × (stamps ≡ times)
+IsSameCause (cause.Significant p) (cause.Significant q) = p ≡ q
+IsSameCause cause.Asked cause.Asked = ⊤
+IsSameCause (cause.InitFailed one) (cause.InitFailed other) = name_bytes one ≡ name_bytes other
+IsSameCause _ _ = ⊥
+
+-- an element of the list has the fact
+pub record IsThere {A : Type 0} (P : A → Type 0) (xs : List A) : Type 0 where
+  pub place : ℕ
+  pub there : MatchOption (slice_get xs place) ⊥ P
+
+-- an opening under this number ended with this reason and this cause
+pub record IsEndUnder (number : ℕ) (end : SupEnd) (x : ℕ × SupEnd) : Type 0 where
+  pub own : x.0 ≡ number
+  pub reason : IsSameReason x.1.reason end.reason
+  pub cause : IsSameCause x.1.cause end.cause
+
+-- the history gives this end of the opening under this number
+abbrev pub Gives : ℕ → SupEnd → State → Type 0
+Gives number end s = IsThere (IsEndUnder number end) s.ends
+
+-- an end that was told is the one that the history of the supervisor with that number gives
+abbrev pub IsGiven : List TableReport → ToldEnd → Type 0
+IsGiven tables x = IsThere (λ (t : TableReport). Gives x.number x.end (state_of t.core)) tables
+
+-- each end that a supervisor was told is one with which the histories of all supervisors agree; and where it came with what
+-- shows it, one of them gives the same
+pub record IsToldSo (tables : List TableReport) (t : TableReport) : Type 0 where
   pub events : AllAt (λ _ e. IsSo tables e) t.core.history
+  pub ends : AllAt (λ _ x. IsGiven tables x) t.ends_told.items
 
 -- the same of all supervisors
 abbrev pub AreSo : List (TableReport) → Type 0
 AreSo tables = AllAt (λ _ t. IsToldSo tables t) tables
 
--- an event of this supervisor tells an end with which a history doesn't agree
+-- the event tells an end with which a history doesn't agree
+abbrev pub IsFalseEvent : List TableReport → TableReport → ℕ → Type 0
+IsFalseEvent tables t place = MatchOption (slice_get t.core.history place) ⊥ (λ event. ¬ (IsSo tables event))
+
+-- the event told an end that no history gives
+abbrev pub IsFalseEnd : List TableReport → TableReport → ℕ → Type 0
+IsFalseEnd tables t place = IsThere (λ (x : ToldEnd). (x.event ≡ place) × ¬ (IsGiven tables x)) t.ends_told.items
+
+-- an event of this supervisor tells an end that isn't so
+abbrev pub IsMismatchOf : List TableReport → TableReport → ℕ → Type 0
+IsMismatchOf tables t place = IsFalseEvent tables t place ⊎ IsFalseEnd tables t place
+
+-- an event of one of the supervisors does
 abbrev pub IsMismatch : List (TableReport) → Mismatch → Type 0
-IsMismatch tables m = MatchOption (slice_get tables m.table) ⊥ (λ t. MatchOption (slice_get t.core.history m.event) ⊥ (λ event. ¬ (IsSo tables event)))
+IsMismatch tables m = MatchOption (slice_get tables m.table) ⊥ (λ t. IsMismatchOf tables t m.event)

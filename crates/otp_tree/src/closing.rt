@@ -1,24 +1,38 @@
 //! A tree is taken apart, once all its hands and its client are back.
-ghost use Rattle.std.specs.Prelude.{◌≡◌, ◌≤◌, [], All, Err, IfErr, IfOk, IfSome, OnSome, Some, length, map, sum_by, vec_capacity};
+ghost use Rattle.std.specs.Prelude.{◌≡◌, ◌+◌, ◌<◌, ◌≤◌, ◌∷◌, [], All, Err, IfErr, IfOk, IfSome, OnSome, Some, length, map, sum_by, vec_capacity};
+ghost use Rattle.otp_inbox.specs.Lists.{AsOften};
+ghost use Rattle.otp_inbox.specs.Tokens.{all_sent};
+ghost use Rattle.otp_rules.specs.Needs.{numbers_of};
 ghost use Rattle.otp_run.specs.Gathers.{IsLiveTotal, begun_of, ended_of};
 ghost use Rattle.otp_run.specs.Rule.{ticket_of};
-ghost use Rattle.otp_tree.specs.Closes.{AreApart, HasBegun, IsAsItWas, IsComplete, IsMismatchOnly, IsMissingOnly, IsRefusalOf, IsReportOf, kept_in, report_in};
+ghost use Rattle.otp_run.specs.Lists.{AllAt};
+ghost use Rattle.otp_signals.specs.Lists.{AllIn, NoneInBoth};
+ghost use Rattle.otp_tree.specs.Closes.{AreApart, HasBegun, HasTold, IsAsItWas, IsComplete, IsMismatchOnly, IsMissingOnly, IsReached, IsRefusalOf, IsReportOf, all_senders, kept_in, report_in};
+ghost use Rattle.otp_tree.specs.Leavings.{AreAccounted, HasUnsent, IsLast, line_of, sent_at};
 ghost use Rattle.otp_tree.specs.Partings.{schedulers_of};
+ghost use Rattle.otp_tree.specs.Settlings.{AreReady, IsLoose, IsReady, senders_in};
 ghost use Rattle.otp_tree.specs.Tellings.{AreSo};
 
 use crate::client::Client;
 use crate::complete::is_reached;
 use crate::evidence::Mismatch;
 use crate::hand::Hand;
-use crate::parting::{HandsFault, gather_hands};
+use crate::joining::join_all;
+use crate::parting::{Gathered, HandsFault, gather_hands};
 use crate::report::{Report, TableReport};
+use crate::rooms::LeftRoom;
+use crate::settling::settle;
 use crate::system::System;
-use otp_inbox::InboxNaming;
+use crate::unlocking::{Loose, Unready, loosen};
+use otp_inbox::{InboxNaming, Sender};
 use otp_job::Body;
+use otp_rules::Item;
 use otp_run::{LiveTotal, RunNaming};
 use otp_signals::{Owner, Words, WordsNaming};
-use otp_sup::{Sup, SupParts};
+use otp_sup::{Letter, SupParts, Unlocked};
 use std::alloc::Global;
+use std::sync::Wait;
+use std::vec::IntoIter;
 
 /// Why a tree has no report, or one that tells of a mismatch. `K` is what comes back where nothing was taken apart: the
 /// whole tree ([`Unclosed`]), or nothing where it can't leave the call.
@@ -29,6 +43,9 @@ pub enum CloseFault<J: Drop, S: Drop, K: Drop> {
     /// E20: a hand is missing, or the hands aren't in the order in which the tree was opened with them, or the client
     /// isn't the one that it was opened with.
     Missing(K),
+    /// A supervisor's lock holds another one's. It doesn't happen, since each is opened with its own and nothing moves
+    /// them; but what lies under a lock is known by its type alone, which doesn't say whose it is.
+    Misplaced(K),
     /// E17: a supervisor was told an end of another that isn't the one that the other's own history gives.
     Mismatch(Mismatch, Report<J, S>),
 }
@@ -42,6 +59,7 @@ impl<J: Drop, S: Drop, K: Drop> CloseFault<J, S, K> {
         match self {
             CloseFault::OutOfMemory(_) => CloseFault::OutOfMemory(()),
             CloseFault::Missing(_) => CloseFault::Missing(()),
+            CloseFault::Misplaced(_) => CloseFault::Misplaced(()),
             CloseFault::Mismatch(mismatch, report) => CloseFault::Mismatch(mismatch, report),
         }
     }
@@ -52,6 +70,7 @@ impl<J: Drop, S: Drop, K: Drop> CloseFault<J, S, K> {
 pub(crate) enum Refusal {
     OutOfMemory,
     Missing,
+    Misplaced,
 }
 
 /// A tree that was not taken apart, as it was.
@@ -63,14 +82,16 @@ pub struct Unclosed<N: WordsNaming + InboxNaming + RunNaming, J: Drop, S: Drop> 
 }
 
 impl<N: WordsNaming + InboxNaming, J: Drop, S: Drop> System<N, J, S> {
-    /// Takes the tree apart, and reports what it was.
+    /// Takes the tree apart, and reports what it was, with what is left in each inbox.
     ///
     /// # Errors
     ///
-    /// [`CloseFault::OutOfMemory`] (E0) and [`CloseFault::Missing`] (E20) are found before anything is taken apart; the
-    /// tree, all hands and the client come back as they were. [`CloseFault::Mismatch`] (E17) has the report.
-    pub fn close(
+    /// [`CloseFault::OutOfMemory`] (E0), [`CloseFault::Missing`] (E20) and [`CloseFault::Misplaced`] are found before
+    /// anything is taken apart; the tree, all hands and the client come back as they were. [`CloseFault::Mismatch`] (E17)
+    /// has the report.
+    pub fn close<R: Wait>(
         self,
+        rt: &R,
         alloc: Global,
         hands: Vec<Hand<N, J, S>>,
         client: Client<N, Body<J, S>>,
@@ -86,8 +107,16 @@ impl<N: WordsNaming + InboxNaming, J: Drop, S: Drop> System<N, J, S> {
         ensures ended { IfSome (report_in result) (λ report. report.ended ≡ sum_by ended_of (schedulers_of hands.items)) }
         // Each core began as a supervisor that was never opened.
         ensures begins { IfSome (report_in result) (λ report. All HasBegun report.tables.items) }
+        // Each end of another supervisor that its history was told is for the note's reason, and shown.
+        ensures shown { IfSome (report_in result) (λ report. All HasTold report.tables.items) }
         // No process number is in the histories of two supervisors.
         ensures apart { IfSome (report_in result) (λ report. AreApart report.tables.items) }
+        // The items of each supervisor's history and those left in its inbox are as often as all hands and the client sent
+        // them to it; and so it is with those that the client took of the root's, and the last.
+        ensures left { IfSome (report_in result) (λ report. AreAccounted (all_senders client hands.items) report.tables.items) }
+        ensures last { IfSome (report_in result) (λ report. IsLast self.tables (all_senders client hands.items) client.waiter report.last.items) }
+        // Of the orders of each history all were sent, but those that were still to be sent; one start at most is there.
+        ensures unsent { IfSome (report_in result) (λ report. All HasUnsent report.tables.items) }
         // Each end that a supervisor was told of another is one that the other's history gives.
         ensures told { IfOk result (λ report. AreSo report.tables.items) }
         ensures mismatch { IfErr result IsMismatchOnly }
@@ -97,24 +126,23 @@ impl<N: WordsNaming + InboxNaming, J: Drop, S: Drop> System<N, J, S> {
         if !is_reached(self.tables(), hands.as_slice(), &client) {
             return Err(refuse(Refusal::Missing, self, hands, client));
         }
-        let Ok(tables) = Vec::with_capacity(alloc, self.tables()) else {
-            return Err(CloseFault::OutOfMemory(Unclosed {
-                system: self,
-                hands,
-                client,
-            }));
+        let loose = match loosen(alloc, self, hands.as_slice(), &client) {
+            Ok(loose) => loose,
+            Err(Unready { cause, system }) => return Err(refuse(cause, system, hands, client)),
         };
         match gather_hands(alloc, hands) {
-            Ok(total) => judge(report_of(self, client, tables, total)),
-            Err(HandsFault { cause, hands }) => Err(refuse(cause, self, hands, client)),
+            Ok(gathered) => judge(report_of(rt, loose, gathered, client)),
+            Err(HandsFault { cause, hands }) => Err(refuse(cause, loose.lock(), hands, client)),
         }
     }
 }
 
 impl<N: WordsNaming + InboxNaming, J: Drop, S: Drop> System<N, J, S> {
-    /// Closes the tree ([`System::close`]). Where it can't be closed it is dropped.
-    pub(crate) fn finish(
+    /// Closes the tree ([`System::close`]), once the processes that wait were given back to the run queue. Where it can't be
+    /// closed it is dropped.
+    pub(crate) fn finish<R: Wait>(
         self,
+        rt: &R,
         alloc: Global,
         hands: Vec<Hand<N, J, S>>,
         client: Client<N, Body<J, S>>,
@@ -124,74 +152,157 @@ impl<N: WordsNaming + InboxNaming, J: Drop, S: Drop> System<N, J, S> {
         ensures report { IfOk result (IsReportOf self.tables) }
         ensures mismatch { IfErr result IsMismatchOnly }
     {
-        match self.close(alloc, hands, client) {
+        let mut hands = hands;
+        rouse_all(hands.as_mut_slice());
+        match self.close(rt, alloc, hands, client) {
             Ok(report) => Ok(report),
             Err(fault) => Err(fault.without_tree()),
         }
     }
 }
 
-/// Takes all supervisors apart.
-fn report_of<N: WordsNaming + InboxNaming, J: Drop, S: Drop>(
-    system: System<N, J, S>,
+/// Gives the processes that wait back to the run queue.
+fn rouse_all<N: WordsNaming + InboxNaming + RunNaming, J: Drop, S: Drop>(
+    hands: &mut [Hand<N, J, S>],
+) {
+    for place in 0..hands.len() {
+        hands[place].rouse();
+    }
+}
+
+/// Takes all supervisors apart, and empties all inboxes.
+fn report_of<N: WordsNaming + InboxNaming, J: Drop, S: Drop, R: Wait>(
+    rt: &R,
+    loose: Loose<N, J, S>,
+    gathered: Gathered<N, J, S>,
     client: Client<N, Body<J, S>>,
-    tables: Vec<TableReport>,
-    total: LiveTotal<J, S>,
 ) -> Report<J, S>
-    requires none { tables.items ≡ [] }
-    requires room { system.tables ≤ vec_capacity tables }
-    ensures count { length result.tables.items ≡ system.tables }
+    requires loose { IsLoose client (client.senders ∷ map senders_in gathered.rests.items) loose }
+    requires reached { IsReached (length loose.sups.items) client (client.senders ∷ map senders_in gathered.rests.items) }
+    ensures count { length result.tables.items ≡ length loose.sups.items }
     ensures begins { All HasBegun result.tables.items }
+    ensures shown { All HasTold result.tables.items }
     ensures apart { AreApart result.tables.items }
-    ensures live { result.live ≡ total.live }
-    ensures begun { result.begun ≡ total.begun }
-    ensures ended { result.ended ≡ total.ended }
-    ensures processes { result.processes ≡ total.left }
+    ensures left { AreAccounted (client.senders ∷ map senders_in gathered.rests.items) result.tables.items }
+    ensures last { IsLast (length loose.sups.items) (client.senders ∷ map senders_in gathered.rests.items) client.waiter result.last.items }
+    ensures unsent { All HasUnsent result.tables.items }
+    ensures live { result.live ≡ gathered.total.live }
+    ensures begun { result.begun ≡ gathered.total.begun }
+    ensures ended { result.ended ≡ gathered.total.ended }
+    ensures processes { result.processes ≡ gathered.total.left }
 {
-    let System {
+    let Loose {
         words,
         sups,
-        outer: _,
-    } = system;
+        outer,
+        rooms,
+        last: room,
+        tables,
+        back: _,
+    } = loose;
+    let Gathered { total, rests } = gathered;
     let LiveTotal {
         live,
         begun,
         ended,
         left,
     } = total;
+    let Client {
+        owner,
+        senders,
+        root: _,
+        waiter,
+    } = client;
+    let (senders, sender) = join_all(sups.as_slice(), &outer, senders, rests).into_last();
+    let Some(waiter) = waiter else { unreachable!() };
     Report {
-        tables: take_all_apart(&words, sups, client.owner, tables),
+        tables: take_all_apart(rt, &words, sups, senders, rooms, owner, tables),
         live,
         begun,
         ended,
         processes: left,
+        last: settle(rt, &outer, waiter, sender, room),
     }
 }
 
-/// Takes all supervisors apart. Their seats are joined to the owner, which shows that no number was drawn by two.
-fn take_all_apart<N: WordsNaming + InboxNaming, B: Drop>(
+/// Takes all supervisors apart, and empties the inbox of each.
+fn take_all_apart<N: WordsNaming + InboxNaming, B: Drop, R: Wait>(
+    rt: &R,
     words: &Words<N>,
-    sups: Vec<Sup<N, B>>,
+    sups: Vec<Unlocked<N, B>>,
+    senders: Vec<Sender<N, Item, Letter<B>>>,
+    rooms: Vec<LeftRoom<B>>,
     mut owner: Owner<N>,
     mut tables: Vec<TableReport>,
 ) -> Vec<TableReport>
     requires none { tables.items ≡ [] }
     requires room { length sups.items ≤ vec_capacity tables }
+    requires ready { AreReady sups.items senders.items rooms.items }
     ensures begins { All HasBegun result.items }
+    ensures shown { All HasTold result.items }
     ensures apart { AreApart result.items }
+    ensures left { AllAt (λ k t. AsOften (sent_at k senders.items) (line_of t)) result.items }
+    ensures unsent { All HasUnsent result.items }
     ensures count { length result.items ≡ length sups.items }
 {
+    let mut senders = senders.into_iter();
+    let mut rooms = rooms.into_iter();
     for sup in sups {
-        let SupParts {
-            inbox: _,
-            core,
-            owner: seat,
-            taker: _,
-        } = sup.unlock().into_parts();
-        words.join(&mut owner, seat);
-        tables.push_reserved(TableReport { core });
+        let sender = next_of(&mut senders);
+        let room = next_of(&mut rooms);
+        tables.push_reserved(take_apart(rt, words, sup, sender, room, &mut owner));
     }
     tables
+}
+
+/// The next of what is left.
+fn next_of<T: Drop>(items: &mut IntoIter<T, Global>) -> T
+    requires { 0 < items.old.rest.len }
+    ensures next { items.old.rest.items ≡ result ∷ items.new.rest.items }
+    ensures len { items.new.rest.len + 1 ≡ items.old.rest.len }
+{
+    match items.next() {
+        Some(item) => item,
+        None => unreachable!(),
+    }
+}
+
+/// Takes a supervisor apart, and empties its inbox. Its seat is joined to the owner, which shows that no number was drawn by
+/// both.
+fn take_apart<N: WordsNaming + InboxNaming, B: Drop, R: Wait>(
+    rt: &R,
+    words: &Words<N>,
+    sup: Unlocked<N, B>,
+    sender: Sender<N, Item, Letter<B>>,
+    room: LeftRoom<B>,
+    owner: &mut Owner<N>,
+) -> TableReport
+    requires { IsReady sup sender room }
+    ensures begins { HasBegun result }
+    ensures shown { HasTold result }
+    ensures left { AsOften (all_sent sender) (line_of result) }
+    ensures unsent { HasUnsent result }
+    ensures apart { NoneInBoth owner.old.drawn (numbers_of result.core.history) }
+    ensures kept { AllIn owner.old.drawn owner.new.drawn }
+    ensures gained { AllIn (numbers_of result.core.history) owner.new.drawn }
+{
+    sup.keeps_rules();
+    let unsent = sup.unsent_starts();
+    let SupParts {
+        inbox,
+        core,
+        owner: seat,
+        taker,
+        ends_told,
+    } = sup.into_parts();
+    words.join(owner, seat);
+    let left = settle(rt, &inbox, taker, sender, room);
+    TableReport {
+        core,
+        ends_told,
+        left,
+        unsent,
+    }
 }
 
 /// All comes back.
@@ -211,6 +322,7 @@ fn refuse<N: WordsNaming + InboxNaming + RunNaming, J: Drop, S: Drop>(
     match cause {
         Refusal::OutOfMemory => CloseFault::OutOfMemory(tree),
         Refusal::Missing => CloseFault::Missing(tree),
+        Refusal::Misplaced => CloseFault::Misplaced(tree),
     }
 }
 

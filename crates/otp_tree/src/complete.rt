@@ -20,7 +20,13 @@ pub(crate) fn is_reached<N: WordsNaming + InboxNaming + RunNaming, J: Drop, S: D
 ) -> bool
     ensures { IsTrue result ↔ IsReached tables client.now (all_senders client.now hands.now) }
 {
-    client.waits_at(tables) && reaches(client, tables) && has_all_parts(hands, client)
+    if !client.waits_at(tables) {
+        return false;
+    }
+    if !reaches(client, tables) {
+        return false;
+    }
+    has_all_parts(hands, client)
 }
 
 /// Whether it sends to so many supervisors, and to whoever opened the tree.

@@ -1,15 +1,17 @@
 //! What supervisors were told of the ends of others, held against the others' own histories.
 ghost use Rattle.std.specs.Prelude.{◌≡◌, ◌↔◌, IfNone, IfSome, IsTrue, MatchOption, slice_get};
 ghost use Rattle.otp_core.specs.View.{state_of};
+ghost use Rattle.otp_reason.specs.Names.{name_bytes};
 ghost use Rattle.otp_reason.specs.Texts.{text_bytes};
 ghost use Rattle.otp_rules.specs.declared.work.Phase.TheVariants.{Open};
 ghost use Rattle.otp_run.specs.Lists.{AllAt};
-ghost use Rattle.otp_tree.specs.Tellings.{Agrees, AllAgree, AreSo, EndedSo, IsEndTold, IsMismatch, IsSameReason, IsSo, told_end};
+ghost use Rattle.otp_tree.specs.Tellings.{Agrees, AllAgree, AreSo, EndedSo, Gives, IsEndTold, IsEndUnder, IsFalseEnd, IsGiven, IsMismatch, IsMismatchOf, IsSameCause, IsSameReason, IsSo, IsThere, IsToldSo, told_end};
 
 use crate::report::TableReport;
 use otp_core::{Core, History};
-use otp_reason::{Note, Reason, Text};
-use otp_rules::{Event, Item, Kind, Phase, SupEnd};
+use otp_reason::{Name, Note, Reason, Text};
+use otp_rules::{Cause, Event, Item, Kind, Phase, Stamps, SupEnd};
+use otp_sup::ToldEnd;
 
 /// E17: which event tells a supervisor an end of another one that isn't the one that the other's own history gives.
 #[derive(Clone, Copy, Debug, PartialEq, Eq)]
@@ -26,11 +28,22 @@ pub(crate) fn find_mismatch(tables: &[TableReport]) -> Option<Mismatch>
     ensures found { IfSome result (IsMismatch tables.now) }
 {
     for table in 0..tables.len() {
-        if let Some(event) = find_untrue(tables[table].core.history(), tables) {
+        if let Some(event) = find_in(&tables[table], tables) {
             return Some(Mismatch { table, event });
         }
     }
     None
+}
+
+/// The first event of a supervisor that tells an end that isn't so: for another reason, or else with another cause.
+fn find_in(table: &TableReport, tables: &[TableReport]) -> Option<usize>
+    ensures none { IfNone result (IsToldSo tables.now table.now) }
+    ensures found { IfSome result (λ event. IsMismatchOf tables.now table.now event) }
+{
+    match find_untrue(table.core.history(), tables) {
+        Some(event) => Some(event),
+        None => find_false_end(table.ends_told.as_slice(), tables),
+    }
 }
 
 /// The first event of a history that tells an end that isn't so.
@@ -156,4 +169,84 @@ fn is_open_under(phase: Phase, number: u64) -> bool
         Phase::Open(own) => own == number,
         Phase::Unopened | Phase::Ended(..) => false,
     }
+}
+
+/// The event of the first end that was told and that no history gives.
+fn find_false_end(ends: &[ToldEnd], tables: &[TableReport]) -> Option<usize>
+    ensures none { IfNone result (AllAt (λ _ x. IsGiven tables.now x) ends.now) }
+    ensures found { IfSome result (λ event. IsThere (λ x. (x.event ≡ event) × ¬ (IsGiven tables.now x)) ends.now) }
+{
+    for place in 0..ends.len() {
+        if !is_given(&ends[place], tables) {
+            return Some(ends[place].event);
+        }
+    }
+    None
+}
+
+/// Whether the history of one of the supervisors gives this end.
+fn is_given(told: &ToldEnd, tables: &[TableReport]) -> bool
+    ensures { IsTrue result ↔ IsGiven tables.now told.now }
+{
+    for table in 0..tables.len() {
+        if gives(tables[table].core.ends(), told.number, told.end.end()) {
+            return true;
+        }
+    }
+    false
+}
+
+/// Whether one of these ends is this one, of the opening under this number.
+fn gives(ends: &[(u64, SupEnd)], number: u64, end: &SupEnd) -> bool
+    ensures { IsTrue result ↔ IsThere (IsEndUnder number end.now) ends.now }
+{
+    for place in 0..ends.len() {
+        if is_end_under(&ends[place], number, end) {
+            return true;
+        }
+    }
+    false
+}
+
+/// Whether this is the end of an opening under this number, with the same reason and the same cause.
+fn is_end_under(entry: &(u64, SupEnd), number: u64, end: &SupEnd) -> bool
+    ensures { IsTrue result ↔ IsEndUnder number end.now entry.now }
+{
+    let (own, ended) = entry;
+    *own == number
+        && is_same_reason(ended.reason, end.reason)
+        && is_same_cause(&ended.cause, &end.cause)
+}
+
+/// Whether two causes are the same.
+fn is_same_cause(one: &Cause, other: &Cause) -> bool
+    ensures { IsTrue result ↔ IsSameCause one.now other.now }
+{
+    match (one, other) {
+        (
+            Cause::Intensity { flags, stamps },
+            Cause::Intensity {
+                flags: others,
+                stamps: times,
+            },
+        ) => *flags == *others && is_same_times(stamps, times),
+        (Cause::Significant(one), Cause::Significant(other)) => *one == *other,
+        (Cause::Asked, Cause::Asked) => true,
+        (Cause::InitFailed(one), Cause::InitFailed(other)) => is_same_name(one, other),
+        _ => false,
+    }
+}
+
+/// Whether two lists have the same times.
+fn is_same_times(one: &Stamps, other: &Stamps) -> bool
+    ensures { IsTrue result ↔ (one.now ≡ other.now) }
+{
+    one.as_slice() == other.as_slice()
+}
+
+/// Whether two ids show the same bytes.
+fn is_same_name(one: &Name, other: &Name) -> bool
+    ensures { IsTrue result ↔ (name_bytes one.now ≡ name_bytes other.now) }
+{
+    one.as_bytes() == other.as_bytes()
 }

@@ -1,21 +1,22 @@
 //! What one thread needs to serve a tree.
-ghost use Rattle.std.specs.Prelude.{◌≡◌, ◌↔◌, ◌<◌, ◌≤◌, ◌^◌, ◌++◌, ◌∷◌, [], None, Some, is_some, true, false, IsTrue, OnErr, OnOk, IfErr, IfNone, IfSome, length};
-ghost use Rattle.otp_sup.specs.Ports.{launched};
-ghost use Rattle.otp_sup.specs.Letters.{carries_body};
+ghost use Rattle.std.specs.Prelude.{◌≡◌, ◌↔◌, ◌<◌, ◌≤◌, ◌^◌, ◌++◌, ◌∷◌, [], None, Some, is_some, true, false, option_copied, IsTrue, OnErr, OnOk, IfErr, IfNone, IfSome, length};
+ghost use Rattle.otp_sup.specs.Ports.{launched, told};
+ghost use Rattle.otp_sup.specs.Letters.{Comes, carries_body};
 ghost use Rattle.otp_rules.specs.declared.event.Item.TheVariants as item;
 ghost use Rattle.otp_tree.specs.Readings.{HasRead};
 
 use crate::reading::read_at;
 use crate::senders::Senders;
+use crate::waiting::Waiting;
 use otp_bridge::Subsystem;
 use otp_counts::CountsPass;
 use otp_inbox::InboxNaming;
 use otp_job::{After, Body, EndNote, Job, Process, one_turn};
 use otp_reason::Note;
-use otp_rules::{CountsNow, Item};
+use otp_rules::{CountsNow, Item, SupEnd};
 use otp_run::{RunNaming, SHARE_LIMIT, Scheduler};
 use otp_signals::{Signal, Viewer, Words, WordsNaming};
-use otp_sup::{Letter, NewProcess, Port};
+use otp_sup::{Letter, NewProcess, Port, evidence_of};
 use otp_tally::Tally;
 use std::alloc::Global;
 use std::marker::Model;
@@ -32,14 +33,16 @@ pub(crate) struct Unsent<J: Drop, S: Drop> {
 /// What one thread needs to serve: a scheduler, a viewer of the signals, a sender to each supervisor, and a pass to read
 /// the counts of each.
 ///
-/// It has at most one process out, the one whose turn it is; where that can't be given back for want of memory it stays
-/// in the hand and comes first. So does a note that was refused.
+/// It has out the process whose turn it is; where that can't be given back for want of memory it stays in the hand and comes
+/// first. So does a note that was refused. Out are also those of its processes that wait until they are told something
+/// ([`Turn::Wait`](otp_job::Turn::Wait)): they take no turns, and no other hand gets them.
 #[derive(Drop)]
 pub struct Hand<N: WordsNaming + InboxNaming + RunNaming, J: Drop, S: Drop> {
     pub(crate) scheduler: Scheduler<N, J, S>,
     pub(crate) viewer: Viewer<N>,
     pub(crate) senders: Senders<N, Body<J, S>>,
     pub(crate) turning: Option<Process<J, S>>,
+    pub(crate) waiting: Waiting<J, S>,
     pub(crate) unsent: Option<Unsent<J, S>>,
     pub(crate) refusals: Tally,
     pub(crate) passes: Vec<CountsPass>,
@@ -47,15 +50,15 @@ pub struct Hand<N: WordsNaming + InboxNaming + RunNaming, J: Drop, S: Drop> {
 }
 
 impl<N: WordsNaming + InboxNaming + RunNaming, J: Drop, S: Drop> Model for Hand<N, J, S> {
-    ghost use Rattle.std.specs.Prelude.{◌≡◌, is_some};
+    ghost use Rattle.std.specs.Prelude.{◌≡◌, ◌+◌, is_some, length};
     ghost use Rattle.otp_run.specs.Schedulers.{out};
     ghost use Rattle.otp_tree.specs.Hands.{HandView, one_if};
 
     ghost Value = { HandView J S };
 
-    ghost view = { λ h. record { scheduler = h.scheduler; senders = h.senders; turning = h.turning; unsent = h.unsent; refusals = h.refusals.count; passes = h.passes.items } };
+    ghost view = { λ h. record { scheduler = h.scheduler; senders = h.senders; turning = h.turning; waiting = h.waiting; unsent = h.unsent; refusals = h.refusals.count; passes = h.passes.items } };
 
-    ghost invariant = { λ h. out h.scheduler ≡ one_if (is_some h.turning) };
+    ghost invariant = { λ h. out h.scheduler ≡ one_if (is_some h.turning) + length h.waiting };
 }
 
 impl<N: WordsNaming + InboxNaming + RunNaming, J: Drop, S: Drop> Port<Body<J, S>>
@@ -98,15 +101,17 @@ impl<N: WordsNaming + InboxNaming + RunNaming, J: Drop, S: Drop> Port<Body<J, S>
         Err(NewProcess { number, slot, body })
     }
 
-    fn send(&mut self, note: Note) -> Result<(), Note>
-        ensures took { OnOk result (notes_by self.new ≡ notes_by self.old ++ note ∷ []) }
+    fn send(&mut self, note: Note, end: Option<&SupEnd>) -> Result<(), Note>
+        requires { Comes (item.Note note) (option_copied end) }
+        ensures took { OnOk result (notes_by self.new ≡ notes_by self.old ++ told note (option_copied end.entry) ∷ []) }
         ensures kept { OnErr result (notes_by self.new ≡ notes_by self.old) }
         ensures refused { OnErr result (self.old.refusals < self.new.refusals) }
         ensures counted { OnOk result (self.new.refusals ≡ self.old.refusals) }
         ensures processes { map launched_of self.new.scheduler.own.puts ≡ map launched_of self.old.scheduler.own.puts }
     {
+        let alloc = self.alloc;
         if let (None, Some(process)) = (&self.unsent, &mut self.turning) {
-            if let Some(letter) = letter_of(note, process) {
+            if let Some(letter) = letter_of(alloc, note, end, process) {
                 let table = process.table();
                 self.unsent = Some(Unsent { table, letter });
                 return Ok(());
@@ -125,25 +130,31 @@ fn nested_in<J: Drop, S: Drop>(turning: &Option<Process<J, S>>) -> usize {
     }
 }
 
-/// The letter that tells a supervisor's parent of its start or its end. With its end its number goes home; None where
-/// that has gone already.
+/// The letter that tells a supervisor's parent of its start, or its end with what shows it. With its end its number goes
+/// home; None where that has gone already, or where memory is refused.
 fn letter_of<J: Drop, S: Drop>(
+    alloc: Global,
     note: Note,
+    end: Option<&SupEnd>,
     process: &mut Process<J, S>,
 ) -> Option<Letter<Body<J, S>>>
+    requires { Comes (item.Note note) (option_copied end) }
     ensures letter { IfSome result (λ letter. letter.item ≡ item.Note note) }
+    ensures end { IfSome result (λ letter. letter.end ≡ option_copied end.entry) }
     ensures ticket { process.new.ticket ≡ process.old.ticket }
 {
-    if let Note::Up(_) = note {
-        return Some(Letter::note(note, None));
-    }
-    let table = process.take_table()?;
-    Some(Letter::note(note, Some(Body::Sup(table))))
+    let end = evidence_of(alloc, note, end).ok()?;
+    let body = match note {
+        Note::Up(_) => None,
+        _ => Some(Body::Sup(process.take_table()?)),
+    };
+    Some(Letter::with_end(note, body, end))
 }
 
 impl<N: WordsNaming + InboxNaming + RunNaming, J: Drop, S: Drop> Hand<N, J, S> {
-    /// Makes sure that it has a process out. False where none was found.
-    pub(crate) fn find(&mut self) -> bool
+    /// Makes sure that there is a process whose turn it is: one that waited and was told something, or else the next of the
+    /// run queue. False where none was found.
+    pub(crate) fn find(&mut self, words: &Words<N>) -> bool
         ensures found { IsTrue result → is_some self.new.turning ≡ true }
         ensures unsent { self.new.unsent ≡ self.old.unsent }
         ensures passes { self.new.passes ≡ self.old.passes }
@@ -154,7 +165,10 @@ impl<N: WordsNaming + InboxNaming + RunNaming, J: Drop, S: Drop> Hand<N, J, S> {
         if self.scheduler.share().ended >= SHARE_LIMIT {
             return false;
         }
-        self.turning = self.scheduler.next();
+        self.turning = self.waiting.take_told(words, &mut self.viewer);
+        if self.turning.is_none() {
+            self.turning = self.scheduler.next();
+        }
         self.turning.is_some()
     }
 
@@ -173,6 +187,34 @@ impl<N: WordsNaming + InboxNaming + RunNaming, J: Drop, S: Drop> Hand<N, J, S> {
             }
             return;
         }
+        if let Err(process) = self.scheduler.give_back(process) {
+            self.turning = Some(process);
+        }
+    }
+
+    /// Gives the processes that wait back to the run queue, as far as there is memory: each has its turn again when it comes
+    /// there, in any hand. Whoever closes a tree does this first ([`System::close`](crate::System::close)), so that they are
+    /// among the processes of the report.
+    pub fn rouse(&mut self)
+        ensures unsent { self.new.unsent ≡ self.old.unsent }
+        ensures passes { self.new.passes ≡ self.old.passes }
+    {
+        for _ in 0..self.waiting.len() {
+            self.rouse_one();
+        }
+    }
+
+    /// Gives one back, if one waits. Where memory is refused it has the hand's next turn, and no other is given back before.
+    fn rouse_one(&mut self)
+        ensures unsent { self.new.unsent ≡ self.old.unsent }
+        ensures passes { self.new.passes ≡ self.old.passes }
+    {
+        if self.turning.is_some() {
+            return;
+        }
+        let Some(process) = self.waiting.pop() else {
+            return;
+        };
         if let Err(process) = self.scheduler.give_back(process) {
             self.turning = Some(process);
         }
@@ -237,6 +279,7 @@ impl<N: WordsNaming + InboxNaming + RunNaming, J: Job, S: Subsystem> Hand<N, J, 
         let table = process.table();
         match one_turn(process, told) {
             After::Again(process) => self.turning = Some(process),
+            After::Waits(process) => self.turning = self.waiting.keep(process),
             After::Begun(process, note) => {
                 self.turning = Some(process);
                 self.unsent = Some(Unsent {

@@ -21,8 +21,8 @@
 //! #[derive(Drop)]
 //! struct UpAndDown;
 //!
-//! impl Leader for UpAndDown {
-//!     fn next(&mut self, told: Option<Note>) -> Round {
+//! impl Leader<Job, Subsystem> for UpAndDown {
+//!     fn next(&mut self, told: Option<Note>) -> Round<Job, Subsystem> {
 //!         match told {
 //!             Some(Note::Up(_)) => Round::Stop(1000),
 //!             Some(_) => Round::Leave,
@@ -34,6 +34,9 @@
 //! lead(&rt, rt.alloc(), plans, 4, &clock, 100, UpAndDown)?;
 //! ```
 //!
+//! Its rounds may call a supervisor too, as `supervisor:start_child` and `supervisor:which_children` do ([`Round::Call`]), and
+//! then it hears the answer ([`Leader::hear`]).
+//!
 //! Nothing else is to be written, and no proof: `plans` are the tree's supervisors with their jobs, each of flags and child
 //! specifications that were tested once ([`otp_spec::SupSpec::check`]), 4 the hands, `clock` is
 //! a [`Gate`], which is asked the time before each turn, and 100 the most rounds. At the end the tree is closed, and its report
@@ -42,8 +45,9 @@
 //! Whoever wants to serve in one thread, or to do more with the open tree, writes a [`Session`] for [`with_system`]. All
 //! that belongs to one tree bears one name, `N`, in its type, so that nothing of it can be mixed up with another's, and the
 //! library picks the name; that is why a session is a trait with one generic method. In it [`System::serve`] gives a hand
-//! turns, [`System::root_note`] is the next thing that the root tells, [`System::stop`] asks it to shut down, and
-//! [`System::close`] takes the tree apart and reports.
+//! turns, [`System::root_note`] is the next thing that the root tells, [`System::submit`] calls a supervisor and
+//! [`System::reply`] has its answer, [`System::stop`] asks the root to shut down, and [`System::close`] takes the tree apart
+//! and reports.
 //! `crates/otp_uses/src/tree.rt` has a whole session, with its job and its plan. The prover doesn't cover a call of
 //! [`pool_run`] in a trait's method yet, so a session serves hand by hand.
 //!
@@ -51,24 +55,31 @@
 //! its parent's `shutdown`, and the root's note is what its parent hears (OTP Design Principles, Supervisor Behaviour).
 #![tactic(auto)]
 
+pub mod calling;
 pub mod client;
 pub mod clock;
 pub mod closing;
 mod complete;
 pub mod evidence;
 pub mod hand;
+mod joining;
 pub mod opening;
 mod parting;
 pub mod plan;
 mod reading;
 pub mod report;
+mod rooms;
 pub mod rounds;
 pub mod senders;
 pub mod serving;
 pub mod session;
+mod settling;
 pub mod system;
+mod unlocking;
+mod waiting;
 pub mod whole;
 
+pub use calling::{CallRefusal, Uncalled};
 pub use client::Client;
 pub use clock::{Gate, Millis};
 pub use closing::{CloseFault, Unclosed};
@@ -77,7 +88,7 @@ pub use hand::Hand;
 pub use opening::{Opened, Parts, SystemFault};
 pub use plan::TablePlan;
 pub use report::{Report, TableReport};
-pub use rounds::{Leader, Led, Round, lead};
+pub use rounds::{CallEnd, CallId, CallRequest, Leader, Led, Round, lead};
 pub use senders::Senders;
 pub use serving::{MAX_HANDS, pool_run};
 pub use session::{Session, with_system};

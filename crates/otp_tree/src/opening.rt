@@ -15,6 +15,7 @@ use crate::plan::TablePlan;
 use crate::reading::split_all;
 use crate::senders::Senders;
 use crate::system::System;
+use crate::waiting::Waiting;
 use otp_counts::{CountsPass, Publisher};
 use otp_inbox::{Inbox, InboxNaming, Sender, UnnamedInbox};
 use otp_job::{Body, Process, TableNo};
@@ -145,7 +146,7 @@ fn open_one<N: WordsNaming + InboxNaming, J: Drop, S: Drop>(
     let (inbox, taker, sender) = inbox.named::<N>(number);
     let office = Office::open(alloc, supervisor, seat, first);
     let counts = Publisher::open(alloc, office.counts())?;
-    let mut table = Table::new(office, taker, bodies, counts);
+    let mut table = Table::new(alloc, office, taker, bodies, counts);
     let pass = table.pass()?;
     let sup = Sup::new(inbox, table);
     Ok(NamedOne { sup, sender, pass })
@@ -274,6 +275,7 @@ fn make_hand<N: WordsNaming + InboxNaming + RunNaming, J: Drop, S: Drop>(
         viewer,
         senders,
         turning: None,
+        waiting: Waiting::new(alloc),
         unsent: None,
         refusals: Tally::new(),
         passes,

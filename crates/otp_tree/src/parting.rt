@@ -3,11 +3,14 @@ ghost use Rattle.std.specs.Prelude.{◌≡◌, ◌≤◌, [], length, map, sum_b
 ghost use Rattle.otp_run.specs.Gathers.{IsAll, IsLiveTotal, begun_of, ended_of};
 ghost use Rattle.otp_run.specs.Rule.{ticket_of};
 ghost use Rattle.otp_tree.specs.Gathers.{IsHandsRefused};
+ghost use Rattle.otp_tree.specs.Hands.{senders_of};
 ghost use Rattle.otp_tree.specs.Partings.{joined, schedulers_of, ArePaired};
+ghost use Rattle.otp_tree.specs.Settlings.{senders_in};
 
 use crate::closing::Refusal;
 use crate::hand::{Hand, Unsent};
 use crate::senders::Senders;
+use crate::waiting::Waiting;
 use otp_counts::CountsPass;
 use otp_inbox::InboxNaming;
 use otp_job::{Body, Process};
@@ -22,6 +25,7 @@ pub(crate) struct Rest<N: WordsNaming + InboxNaming, J: Drop, S: Drop> {
     pub viewer: Viewer<N>,
     pub senders: Senders<N, Body<J, S>>,
     pub turning: Option<Process<J, S>>,
+    pub waiting: Waiting<J, S>,
     pub unsent: Option<Unsent<J, S>>,
     pub refusals: Tally,
     pub passes: Vec<CountsPass>,
@@ -33,6 +37,13 @@ pub(crate) struct Rest<N: WordsNaming + InboxNaming, J: Drop, S: Drop> {
 pub(crate) struct HandsFault<N: WordsNaming + InboxNaming + RunNaming, J: Drop, S: Drop> {
     pub cause: Refusal,
     pub hands: Vec<Hand<N, J, S>>,
+}
+
+/// Hands that were taken apart: the ledger of all schedulers, and what the hands had beside them.
+#[derive(Drop)]
+pub(crate) struct Gathered<N: WordsNaming + InboxNaming, J: Drop, S: Drop> {
+    pub total: LiveTotal<J, S>,
+    pub rests: Vec<Rest<N, J, S>>,
 }
 
 /// The memory for it.
@@ -56,16 +67,17 @@ impl<N: WordsNaming + InboxNaming + RunNaming, J: Drop, S: Drop> Room<N, J, S> {
     }
 }
 
-/// Takes all hands apart: what is left in the run queue, and how many processes more began than ended. Where a hand is
-/// missing or memory is refused, all of them come back as they were.
+/// Takes all hands apart: what is left in the run queue, and how many processes more began than ended, and the rest of each
+/// hand. Where a hand is missing or memory is refused, all of them come back as they were.
 pub(crate) fn gather_hands<N: WordsNaming + InboxNaming + RunNaming, J: Drop, S: Drop>(
     alloc: Global,
     hands: Vec<Hand<N, J, S>>,
-) -> Result<LiveTotal<J, S>, HandsFault<N, J, S>>
+) -> Result<Gathered<N, J, S>, HandsFault<N, J, S>>
     ensures all { OnOk result (IsAll (schedulers_of hands.items)) }
-    ensures total { IfOk result (λ total. IsLiveTotal (schedulers_of hands.items) total.live (map ticket_of total.left.items)) }
-    ensures begun { IfOk result (λ total. total.begun ≡ sum_by begun_of (schedulers_of hands.items)) }
-    ensures ended { IfOk result (λ total. total.ended ≡ sum_by ended_of (schedulers_of hands.items)) }
+    ensures total { IfOk result (λ g. IsLiveTotal (schedulers_of hands.items) g.total.live (map ticket_of g.total.left.items)) }
+    ensures begun { IfOk result (λ g. g.total.begun ≡ sum_by begun_of (schedulers_of hands.items)) }
+    ensures ended { IfOk result (λ g. g.total.ended ≡ sum_by ended_of (schedulers_of hands.items)) }
+    ensures senders { IfOk result (λ g. map senders_in g.rests.items ≡ map senders_of hands.items) }
     ensures refused { IfErr result (λ fault. fault.hands.items ≡ hands.items) }
     ensures missing { IfErr result (λ fault. IsHandsRefused (schedulers_of hands.items) fault.cause) }
 {
@@ -82,7 +94,7 @@ pub(crate) fn gather_hands<N: WordsNaming + InboxNaming + RunNaming, J: Drop, S:
     } = room;
     part_all(hands, &mut schedulers, &mut rests);
     match gather(alloc, schedulers) {
-        Ok(total) => Ok(total),
+        Ok(total) => Ok(Gathered { total, rests }),
         Err(GatherFault::Missing(schedulers)) => {
             rejoin_all(schedulers, rests, &mut back);
             Err(HandsFault {
@@ -114,6 +126,7 @@ fn part_all<N: WordsNaming + InboxNaming + RunNaming, J: Drop, S: Drop>(
     ensures paired { ArePaired schedulers.new.items rests.new.items }
     ensures many { length schedulers.new.items ≡ length rests.new.items }
     ensures same { schedulers_of hands.items ≡ schedulers.new.items }
+    ensures senders { map senders_in rests.new.items ≡ map senders_of hands.items }
     ensures count { length schedulers.new.items ≡ length hands.items }
 {
     for hand in hands {
@@ -122,6 +135,7 @@ fn part_all<N: WordsNaming + InboxNaming + RunNaming, J: Drop, S: Drop>(
             viewer,
             senders,
             turning,
+            waiting,
             unsent,
             refusals,
             passes,
@@ -132,6 +146,7 @@ fn part_all<N: WordsNaming + InboxNaming + RunNaming, J: Drop, S: Drop>(
             viewer,
             senders,
             turning,
+            waiting,
             unsent,
             refusals,
             passes,
@@ -160,6 +175,7 @@ fn rejoin_all<N: WordsNaming + InboxNaming + RunNaming, J: Drop, S: Drop>(
             viewer,
             senders,
             turning,
+            waiting,
             unsent,
             refusals,
             passes,
@@ -170,6 +186,7 @@ fn rejoin_all<N: WordsNaming + InboxNaming + RunNaming, J: Drop, S: Drop>(
             viewer,
             senders,
             turning,
+            waiting,
             unsent,
             refusals,
             passes,

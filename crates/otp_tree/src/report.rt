@@ -9,13 +9,20 @@ use crate::evidence::{Mismatch, find_mismatch};
 use otp_core::Core;
 use otp_job::Process;
 use otp_reason::Reason;
-use otp_rules::Event;
+use otp_rules::{Event, Item};
+use otp_sup::ToldEnd;
 
 /// What is known of a supervisor when its tree was taken apart.
 #[derive(Drop)]
 pub struct TableReport {
     /// Its core, as its last turn left it, with its whole history.
     pub core: Core,
+    /// The ends of other supervisors that it was told, in their order, each with what shows it.
+    pub ends_told: Vec<ToldEnd>,
+    /// What it hadn't taken from its inbox, in the order in which it would have. Bodies that came with it are dropped.
+    pub left: Vec<Item>,
+    /// How many starts it had still to send: one at most.
+    pub unsent: u64,
 }
 
 impl TableReport {
@@ -72,7 +79,7 @@ fn count_start(event: &Event) -> u64
 
 impl<J: Drop, S: Drop> Report<J, S> {
     /// The first event that tells a supervisor an end of another one that isn't the one that the other's own history
-    /// gives. [`System::close`](crate::System::close) looks for it.
+    /// gives: another reason, or another cause. [`System::close`](crate::System::close) looks for it.
     pub fn find_mismatch(&self) -> Option<Mismatch>
         ensures none { IfNone result (AreSo self.now.tables.items) }
         ensures found { IfSome result (IsMismatch self.now.tables.items) }
@@ -94,4 +101,6 @@ pub struct Report<J: Drop, S: Drop> {
     pub ended: u64,
     /// The processes that are left in the run queues.
     pub processes: Vec<Process<J, S>>,
+    /// What whoever opened the tree hadn't taken of what the root told.
+    pub last: Vec<Item>,
 }

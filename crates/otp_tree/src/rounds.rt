@@ -6,6 +6,7 @@ ghost use Rattle.otp_run.specs.Rule.{all_parts};
 ghost use Rattle.otp_tree.specs.Closes.{IsMismatchOnly, IsReportOf};
 ghost use Rattle.otp_tree.specs.Opens.{slots_of};
 
+use crate::calling::Uncalled;
 use crate::client::Client;
 use crate::clock::Gate;
 use crate::closing::CloseFault;
@@ -19,6 +20,7 @@ use otp_bridge::Subsystem;
 use otp_inbox::InboxNaming;
 use otp_job::{Body, Job};
 use otp_reason::Note;
+use otp_rules::{Call, Reply};
 use otp_run::RunNaming;
 use otp_signals::WordsNaming;
 use std::alloc::Global;
@@ -27,26 +29,68 @@ use std::sync::Wait;
 use std::thread::Threads;
 
 /// What is done with a tree next.
-#[derive(Clone, Copy, Debug, PartialEq, Eq)]
-pub enum Round {
+#[derive(Drop)]
+pub enum Round<J: Drop, S: Drop> {
     /// Each hand makes so many turns, all hands at once.
     Serve(u64),
+    /// A supervisor is called, then each hand makes so many turns, all hands at once, and the leader hears the answer
+    /// ([`Leader::hear`]).
+    Call(CallRequest<J, S>),
+    /// Each hand makes so many turns, all hands at once, and the leader hears the answer to a call that was not answered yet.
+    Await(CallId, u64),
     /// The root is asked to shut down, and then each hand makes so many turns, all hands at once.
     Stop(u64),
     /// Nothing more: the tree is closed as it is.
     Leave,
 }
 
+/// A call of a supervisor that is to be made.
+#[derive(Drop)]
+pub struct CallRequest<J: Drop, S: Drop> {
+    /// The number of the supervisor.
+    pub table: usize,
+    pub call: Call,
+    /// What the child runs, exactly where the call starts a new one.
+    pub body: Option<Body<J, S>>,
+    /// So many turns each hand makes before the answer is looked for.
+    pub turns: u64,
+}
+
+/// A call that was made.
+#[derive(Clone, Copy, Debug, PartialEq, Eq)]
+pub struct CallId {
+    /// The number of the supervisor.
+    pub table: usize,
+    /// The number of the call.
+    pub number: u64,
+}
+
+/// What became of a call.
+#[derive(Drop)]
+pub enum CallEnd<J: Drop, S: Drop> {
+    /// The supervisor answered. Where no child has the body that the call brought, as after a refusal, it is back.
+    Answered(CallId, Reply, Option<Body<J, S>>),
+    /// It was not answered yet: [`Round::Await`] looks again.
+    Unanswered(CallId),
+    /// E0: memory for a copy of the answer was refused. It is kept, and [`Round::Await`] looks again.
+    OutOfMemory(CallId),
+    /// It was not sent, and its body is back.
+    Unsent(Uncalled<Body<J, S>>),
+}
+
 /// Who leads a tree from round to round. No hand makes a turn while it is asked.
-pub trait Leader: Drop {
+pub trait Leader<J: Drop, S: Drop>: Drop {
     /// The next round, given what the root told since it was asked last: `Up` once all its children have started, `Exit`
     /// when it has ended, None where there is nothing new.
-    fn next(&mut self, told: Option<Note>) -> Round;
+    fn next(&mut self, told: Option<Note>) -> Round<J, S>;
+
+    /// Hears what became of a call, after the turns that its round gave it. A leader that makes no call needn't write it.
+    fn hear(&mut self, _answer: CallEnd<J, S>) {}
 }
 
 /// What came of a tree that was led.
 #[derive(Drop)]
-pub struct Led<J: Drop, S: Drop, L: Leader> {
+pub struct Led<J: Drop, S: Drop, L: Leader<J, S>> {
     pub leader: L,
     /// What the tree was when it was closed; a fault has nothing to give back, as the tree can't leave the call.
     pub report: Result<Report<J, S>, CloseFault<J, S, ()>>,
@@ -71,7 +115,7 @@ where
     J: Job + Send,
     S: Subsystem + Send,
     G: Gate + Sync,
-    L: Leader,
+    L: Leader<J, S>,
     requires tables { length plans.items ≤ MAX_TABLES }
     requires some { 0 < hands }
     requires few { hands ≤ all_parts }
@@ -96,7 +140,7 @@ where
     J: Job + Send,
     S: Subsystem + Send,
     G: Gate + Sync,
-    L: Leader,
+    L: Leader<J, S>,
     requires words { parts.words.words ≡ N.words }
     requires inboxes { AllAt (λ k id. id ≡ N.inbox k) parts.inboxes.items }
     requires outer { parts.outer ≡ N.inbox (length parts.inboxes.items) }
@@ -114,22 +158,33 @@ where
     } = parts.named::<N>(alloc)?;
     for _ in 0..rounds {
         let round = leader.next(system.root_note(rt, &mut client));
-        if !make_round(rt, &system, &mut hands, &mut client, gate, round) {
+        if !make_round(
+            rt,
+            alloc,
+            &system,
+            &mut hands,
+            &mut client,
+            gate,
+            &mut leader,
+            round,
+        ) {
             break;
         }
     }
-    let report = system.finish(alloc, hands, client);
+    let report = system.finish(rt, alloc, hands, client);
     Ok(Led { leader, report })
 }
 
 /// Makes a round. False where nothing more is wanted.
-fn make_round<N, R, J, S, G>(
+fn make_round<N, R, J, S, G, L>(
     rt: &R,
+    alloc: Global,
     system: &System<N, J, S>,
     hands: &mut Vec<Hand<N, J, S>>,
     client: &mut Client<N, Body<J, S>>,
     gate: &G,
-    round: Round,
+    leader: &mut L,
+    round: Round<J, S>,
 ) -> bool
 where
     N: WordsNaming + InboxNaming + RunNaming + Send + Sync,
@@ -137,15 +192,52 @@ where
     J: Job + Send,
     S: Subsystem + Send,
     G: Gate + Sync,
+    L: Leader<J, S>,
 {
-    let turns = match round {
-        Round::Serve(turns) => turns,
+    match round {
+        Round::Serve(turns) => pool_run(rt, system, hands.as_mut_slice(), gate, turns),
         Round::Stop(turns) => {
             system.stop(client);
-            turns
+            pool_run(rt, system, hands.as_mut_slice(), gate, turns);
+        }
+        Round::Call(asking) => {
+            let CallRequest {
+                table,
+                call,
+                body,
+                turns,
+            } = asking;
+            match system.submit(rt, alloc, client, table, call, body) {
+                Ok(number) => {
+                    pool_run(rt, system, hands.as_mut_slice(), gate, turns);
+                    leader.hear(answer_to(rt, system, CallId { table, number }));
+                }
+                Err(fault) => leader.hear(CallEnd::Unsent(fault)),
+            }
+        }
+        Round::Await(asked, turns) => {
+            pool_run(rt, system, hands.as_mut_slice(), gate, turns);
+            leader.hear(answer_to(rt, system, asked));
         }
         Round::Leave => return false,
-    };
-    pool_run(rt, system, hands.as_mut_slice(), gate, turns);
+    }
     true
+}
+
+/// What became of a call so far.
+fn answer_to<N, R, J, S>(rt: &R, system: &System<N, J, S>, asked: CallId) -> CallEnd<J, S>
+where
+    N: WordsNaming + InboxNaming,
+    R: Wait,
+    J: Drop,
+    S: Drop,
+{
+    match system.reply(rt, asked.table, asked.number) {
+        Ok(Some(reply)) => {
+            let body = system.take_box(rt, asked.table, asked.number);
+            CallEnd::Answered(asked, reply, body)
+        }
+        Ok(None) => CallEnd::Unanswered(asked),
+        Err(_) => CallEnd::OutOfMemory(asked),
+    }
 }

@@ -1,12 +1,18 @@
 //! Senders to each supervisor of a tree.
-ghost use Rattle.std.specs.Prelude.{◌≡◌, ◌<◌, ◌++◌, ◌∷◌, [], length, ◌==◌, IfErr, IfSome, OnErr, OnOk, Some, slice_get, slice_set};
-ghost use Rattle.otp_inbox.specs.Tokens.{SenderState, no_shares};
+ghost use Rattle.std.specs.Prelude.{◌≡◌, ◌<◌, ◌++◌, ◌∷◌, [], is_some, length, min, ◌==◌, IfErr, IfSome, OnErr, OnOk, Some, slice_get, slice_set};
+ghost use Rattle.otp_inbox.specs.Tokens.{SenderState, count_limit, no_shares};
+ghost use Rattle.otp_tree.specs.Leavings.{sent_at};
+ghost use Rattle.otp_tree.specs.Seats.{Seated};
 ghost use Rattle.otp_tree.specs.Sendings.{parts_at};
+ghost use Rattle.otp_tree.specs.Settlings.{with_sender};
 ghost use Rattle.otp_rules.specs.declared.event.Item.{Item};
+ghost use Rattle.otp_rules.specs.declared.event.Item.TheVariants as item;
+ghost use Rattle.otp_rules.specs.Homes.{is_start_call};
 
 use otp_inbox::{Inbox, InboxNaming, Sender};
-use otp_rules::Item;
+use otp_rules::{Call, Item};
 use otp_sup::Letter;
+use std::alloc::Global;
 use std::marker::Model;
 use std::sync::Wait;
 
@@ -62,6 +68,33 @@ impl<N: InboxNaming, B: Drop> Senders<N, B> {
         inbox.send(rt, &mut self.list[place], letter)
     }
 
+    /// Sends a call under this number to a supervisor. Where memory is refused its body comes back, and nothing changes.
+    pub(crate) fn call<R: Wait>(
+        &mut self,
+        rt: &R,
+        alloc: Global,
+        inbox: &Inbox<N, Item, Letter<B>>,
+        number: u64,
+        call: Call,
+        body: Option<B>,
+    ) -> Result<(), Option<B>>
+        requires reaches { inbox.now < length self.old }
+        requires body { is_some body ≡ is_start_call call }
+        ensures sent { (s : SenderState Item) → slice_get self.old inbox.now ≡ Some s →
+            OnOk result (self.new ≡ slice_set self.old inbox.now (record s { sent = s.sent ++ item.Call number call ∷ [] })) }
+        ensures back { IfErr result (λ back. back ≡ body) }
+        ensures refused { OnErr result (self.new ≡ self.old) }
+    {
+        let letter = match Letter::call(alloc, number, call, body) {
+            Ok(letter) => letter,
+            Err(body) => return Err(body),
+        };
+        match self.send(rt, inbox, letter) {
+            Ok(()) => Ok(()),
+            Err(letter) => Err(letter.into_parts().1),
+        }
+    }
+
     /// Its parts of the right to send to one supervisor.
     pub(crate) fn parts_at(&self, place: usize) -> u64
         ensures { result ≡ parts_at place self.now }
@@ -70,6 +103,44 @@ impl<N: InboxNaming, B: Drop> Senders<N, B> {
             Some(sender) => sender.parts(),
             None => 0,
         }
+    }
+
+    /// How much its sender to one supervisor sent, with those that it took in. The count stops at 2^62.
+    pub(crate) fn sent_count_at(&self, place: usize) -> u64
+        ensures { result ≡ min (length (sent_at place self.now)) count_limit }
+    {
+        match self.list.get(place) {
+            Some(sender) => sender.sent_count(),
+            None => 0,
+        }
+    }
+
+    /// The last sender, and those before it.
+    pub(crate) fn into_last(self) -> (Vec<Sender<N, Item, Letter<B>>>, Sender<N, Item, Letter<B>>)
+        requires { 0 < length self }
+        ensures all { result.0.items ++ result.1 ∷ [] ≡ self }
+        ensures seated { Seated (result.0.items ++ result.1 ∷ []) }
+    {
+        let Senders { mut list } = self;
+        match list.pop() {
+            Some(last) => (list, last),
+            None => unreachable!(),
+        }
+    }
+
+    /// Takes in another sender to one of these supervisors.
+    pub(crate) fn join_at(
+        &mut self,
+        inbox: &Inbox<N, Item, Letter<B>>,
+        other: Sender<N, Item, Letter<B>>,
+    )
+        requires reaches { inbox.now < length self.old }
+        requires belongs { other.inbox ≡ inbox.now }
+        ensures joined { (s : SenderState Item) → slice_get self.old inbox.now ≡ Some s → self.new ≡ slice_set self.old inbox.now (with_sender other s) }
+        ensures len { length self.new ≡ length self.old }
+    {
+        let place = inbox.number();
+        inbox.join(&mut self.list[place], other);
     }
 
     /// A sender to one supervisor, with so many parts of the right to send. None where not more are there.

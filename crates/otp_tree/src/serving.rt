@@ -17,8 +17,8 @@ use std::thread::Threads;
 impl<N: WordsNaming + InboxNaming, J: Job, S: Subsystem> System<N, J, S> {
     /// Gives a hand so many turns, in the thread that calls.
     ///
-    /// A turn first sends a note that was refused before. Then it takes the process that the hand has out, or the next of
-    /// the run queue: a worker's or a bridge's has one turn ([`otp_job::one_turn`]), a supervisor's one too
+    /// A turn first sends a note that was refused before. Then it takes the process that the hand has out, or one that waited and
+    /// was told something, or the next of the run queue: a worker's or a bridge's has one turn ([`otp_job::one_turn`]), a supervisor's one too
     /// ([`otp_sup::Sup::turn`]). Where there is no process, the turn does nothing.
     pub fn serve<R: Wait, M: Millis>(
         &self,
@@ -45,7 +45,7 @@ impl<N: WordsNaming + InboxNaming, J: Job, S: Subsystem> System<N, J, S> {
         requires { reading ≤ MAX_READING }
         ensures { hand.new.passes ≡ hand.old.passes }
     {
-        if !self.send_unsent(rt, hand) || !hand.find() {
+        if !self.send_unsent(rt, hand) || !hand.find(&self.words) {
             return;
         }
         let told = hand.look(&self.words);

@@ -216,7 +216,7 @@ where
         turns,
         passes.as_mut_slice(),
     );
-    let report = system.finish(alloc, hands, client)?;
+    let report = system.finish(rt, alloc, hands, client)?;
     Ok(CountedRun { counts, report })
 }
 

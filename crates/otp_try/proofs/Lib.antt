@@ -1,2 +1,4 @@
 pub mod Tellings
 pub mod Plantings
+pub mod Pieces
+pub mod Pages

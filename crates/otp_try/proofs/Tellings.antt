@@ -6,7 +6,7 @@ use Rattle.otp_rules.specs.declared.event.Kind.{Kind}
 use Rattle.otp_rules.specs.Run.{state_after}
 use Rattle.otp_rules.specs.State.{State}
 use Rattle.otp_rules.specs.Step.{step}
-use Rattle.otp_try.specs.Played.{Begins, Happens, IsAt, Lead, Move, Seated, Tells, move_text, seat_after, state_in, story}
+use Rattle.otp_try.specs.Played.{Begins, Happens, IsAt, Lead, Move, Seated, Tells, TellsFirst, move_text, seat_after, state_in, story}
 use Rattle.otp_try.specs.Story.{event_text}
 
 -- the state after one event more
@@ -63,3 +63,31 @@ pub begins-event : (a b : List Seated) (place : ℕ) (k : Kind) (old new : Seate
     → Begins place k a b
 begins-event a b place k old new x y here (e, kind, is, told) set =
     (old, e, [], (here, set ∙ ap (λ (seat : Seated). slice_set a place seat) is), kind)
+
+-- the same with what is told of it
+pub first-event : (a b : List Seated) (place : ℕ) (k : Kind) (old new : Seated) (x y : List ℕ) → IsAt a place old → Happens k old new x y → b ≡ slice_set a place new
+    → TellsFirst place k a b x y
+unfolding move_text
+first-event a b place k old new x y here (e, kind, is, told) set = (
+  old,
+  e,
+  [],
+  (here, set ∙ ap (λ (seat : Seated). slice_set a place seat) is),
+  kind,
+  told ∙ ap (λ (text : List ℕ). x ++ text) (sym (append-nil (event_text old.path (state_in old) e))),
+)
+
+-- and what is told after it
+pub first-then : (place : ℕ) (k : Kind) (a b c : List Seated) (x y z : List ℕ) → TellsFirst place k a b x y → Tells b c y z → TellsFirst place k a c x z
+first-then place k a b c x y z (seat, e, ms, ab, is, told) (more, bc, told_more) =
+    let m : Move = record { place = place; seat = seat; event = Some e } in (
+      seat,
+      e,
+      ms ++ more,
+      lead-append a b c (m ∷ ms) more ab bc,
+      is,
+      told_more
+          ∙ ap (λ (text : List ℕ). text ++ story more) told
+          ∙ append_assoc x (story (m ∷ ms)) (story more)
+          ∙ ap (λ (text : List ℕ). x ++ text) (sym (story-append (m ∷ ms) more)),
+    )

@@ -1,5 +1,5 @@
 -- What a supervisor of a trial and the trial itself stand for, and what they keep.
-use Rattle.std.specs.Prelude.{◌≡◌, ℕ, ◌<◌, ◌≤◌, ◌^◌, List, length}
+use Rattle.std.specs.Prelude.{◌≡◌}
 use Rattle.otp_rules.specs.Run.{empty_state}
 use Rattle.otp_try.specs.declared.seat.Seat.TheInside.{Inside}
 use Rattle.otp_try.specs.Played.{Seated}

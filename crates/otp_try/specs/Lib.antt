@@ -9,3 +9,5 @@ pub mod Standing
 pub mod Awaiting
 pub mod Prompt
 pub mod Unused
+pub mod Page
+pub mod Pages

@@ -4,11 +4,11 @@ use Rattle.std.specs.List.{flat_map}
 use Rattle.otp_file.specs.Trees.{Table, Tree}
 use Rattle.otp_reason.specs.declared.note.Note.TheVariants as note
 use Rattle.otp_reason.specs.declared.reason.Reason.{Reason}
-use Rattle.otp_rules.specs.declared.call.Call.{Call}
 use Rattle.otp_rules.specs.declared.event.Event.{Event}
 use Rattle.otp_rules.specs.declared.event.Item.TheVariants as item
 use Rattle.otp_rules.specs.declared.event.Kind.{Kind}
 use Rattle.otp_rules.specs.declared.event.Kind.TheVariants as kind
+use Rattle.otp_rules.specs.Next.{idle_kind}
 use Rattle.otp_rules.specs.Run.{empty_state, state_after}
 use Rattle.otp_rules.specs.State.{State, is_over}
 use Rattle.otp_spec.specs.declared.child.ChildSpec.{ChildSpec}
@@ -114,6 +114,12 @@ abbrev pub Begins : ℕ → Kind → List Seated → List Seated → Type 0
 Begins place k old new = (seat : Seated) × (e : Event) × (ms : List Move)
     × Lead old (record { place = place; seat = seat; event = Some e } ∷ ms) new × (e.kind ≡ k)
 
+-- and the text tells all orders of that event, and then of the moves after it
+abbrev pub TellsFirst : ℕ → Kind → List Seated → List Seated → List ℕ → List ℕ → Type 0
+TellsFirst place k old new before after = (seat : Seated) × (e : Event) × (ms : List Move)
+    × Lead old (record { place = place; seat = seat; event = Some e } ∷ ms) new × (e.kind ≡ k)
+    × (after ≡ before ++ story (record { place = place; seat = seat; event = Some e } ∷ ms))
+
 -- the end of that process is what happens first; or nothing happens, and the answer says why
 unfoldable pub Ends : ℕ → Reason → Found → List Seated → ActionEnd → List Seated → Type 0
 Ends place r (found.Process p) old answer new = (answer ≡ taken.Done) × Begins place (kind.Took (item.Note (note.Exit p r))) old new
@@ -129,10 +135,20 @@ is_root_over (root ∷ seats) = is_over (state_in root).phase
 unfoldable pub end_of_plan : List Seated → Seated → ActionEnd
 end_of_plan seats seat = if is_root_over seats then taken.Ended else if is_simple seat.base.flags.strategy then taken.NoIds else taken.Done
 
+-- what a supervisor does first that is asked to shut down: what it does by itself where its parent wants that, which is to
+-- begin with it; or nothing where it has ended, or work is open, which comes first
+unfoldable pub StopsBy : Option Kind → ℕ → List Seated → List Seated → Type 0
+StopsBy None place old new = new ≡ old
+StopsBy (Some k) place old new = Begins place k old new
+
+-- the same of the supervisor at this place
+abbrev pub StopsFirst : ℕ → List Seated → List Seated → Type 0
+StopsFirst place old new = (seat : Seated) → IsAt old place seat → StopsBy (idle_kind (state_in seat) true) place old new
+
 -- what becomes of a request to shut down, where the root has ended or not
-unfoldable pub Stops : Bool → List Seated → ActionEnd → List Seated → Type 0
-Stops true old answer new = (answer ≡ taken.Ended) × (new ≡ old)
-Stops false old answer new = answer ≡ taken.Done
+unfoldable pub Stops : Bool → ℕ → List Seated → ActionEnd → List Seated → Type 0
+Stops true place old answer new = (answer ≡ taken.Ended) × (new ≡ old)
+Stops false place old answer new = (answer ≡ taken.Done) × StopsFirst place old new
 
 -- what an action of a script, which is said to the supervisor at this place, does first
 unfoldable pub Acts : Action → ℕ → Seated → List Seated → ActionEnd → List Seated → Type 0
@@ -140,7 +156,7 @@ Acts action.Nothing place seat old answer new = (answer ≡ taken.Done) × (new 
 Acts (action.Exit c r) place seat old answer new = Ends place r (found_for c (state_in seat).rows) old answer new
 Acts (action.Start _ _) place seat old answer new = (answer ≡ end_of_plan old seat) × (new ≡ old)
 Acts (action.Hang c) place seat old answer new = new ≡ old
-Acts action.Stop place seat old answer new = Stops (is_root_over old) old answer new
+Acts action.Stop place seat old answer new = Stops (is_root_over old) place old answer new
 Acts (action.Call c) place seat old answer new = (answer ≡ taken.Done) × ((n : ℕ) × Begins place (kind.Took (item.Call n c)) old new)
 
 -- the supervisor that a script means stands at this place, and its own children are meant

@@ -1,5 +1,6 @@
--- What is told of a line that can't be read, or that does nothing: what is wrong, and what to do (own).
-use Rattle.std.specs.Prelude.{ℕ, List, [], codes}
+-- What is told of a line that can't be read, or that does nothing: what is wrong, and what to do. What a person is told
+-- first, and for help (own).
+use Rattle.std.specs.Prelude.{ℕ, List, [], ◌++◌, codes}
 use Rattle.otp_try.specs.declared.script.ScriptFault.{ScriptFault}
 use Rattle.otp_try.specs.declared.script.ScriptFault.TheVariants as fault
 use Rattle.otp_try.specs.declared.trial.ActionEnd.{ActionEnd}
@@ -24,3 +25,27 @@ taken_text taken.NoChild = codes "ignored: there is no such child; which lists t
 taken_text taken.TooLate = codes "ignored: that time has gone by; +TIME counts from the line before"
 taken_text taken.Ended = codes "ignored: the supervisor has ended; the line of its end says why"
 taken_text taken.NoIds = codes "ignored: children of simple_one_for_one have no ids, so no start of one can be planned"
+
+-- what a person may write at the prompt: what goes wrong
+unfoldable pub help_failures : List ℕ
+help_failures = codes "crash CHILD [REASON]   its process ends, with error:crash if no reason is given\nexit CHILD REASON      its process ends with this reason\nfail ID [REASON]       its next start fails\nignore ID              its next start answers ignore\n"
+
+-- what is asked of the supervisor
+unfoldable pub help_requests : List ℕ
+help_requests = codes "hang CHILD             it doesn't end when it is next asked to\nstop                   the supervisor is asked to shut down\nwhich, count, get ID, restart ID, terminate ID, delete ID, start ..\n                       calls of the supervisor\n"
+
+-- how the clock is moved, and how a child is named
+unfoldable pub help_names : List ℕ
+help_names = codes "at 10s, +500ms         the clock goes there, alone or before other words\nCHILD is an id, or a process number as #3; below the root it has its path, as\nsub/x. The end of the input ends the trial.\n"
+
+-- what a person may write at the prompt
+unfoldable pub help_text : List ℕ
+help_text = help_failures ++ help_requests ++ help_names
+
+-- what a person is told first
+unfoldable pub welcome_text : List ℕ
+welcome_text = codes "help lists what may be written here\n"
+
+-- what the cells of a picture mean
+unfoldable pub legend_text : List ℕ
+legend_text = codes "#N runs as process N, +#N starts, -#N is to end; retry: its start failed\n"

@@ -1,5 +1,5 @@
 -- What a trial stands for, and what it keeps.
-use Rattle.std.specs.Prelude.{ℕ, ◌<◌, ◌≤◌, List, length}
+use Rattle.std.specs.Prelude.{◌<◌, ◌≤◌, List, length}
 use Rattle.otp_spec.specs.declared.limits.TheConstants.{MAX_READING}
 use Rattle.otp_try.specs.declared.trial.Trial.TheInside.{Inside}
 use Rattle.otp_try.specs.Played.{Seated}

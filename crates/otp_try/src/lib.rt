@@ -1,15 +1,19 @@
 //! What would my tree do? The cores of its supervisors are played: children start and stop by themselves, unless a script
 //! says otherwise, and each order is told with its time and the path of its supervisor.
 //!
-//! `specs/Played` says what is told: all orders that the cores give, in their order, and nothing else.
+//! `specs/Played` says what is told of a run: all orders that the cores give, in their order, and nothing else. `specs/Page`
+//! says what a person or a script gets to see: that, and remarks between.
 #![tactic(auto)]
 
 mod awaited;
+mod early;
 pub mod finding;
 mod help;
+mod line;
 mod planting;
 pub mod play;
 mod prompt;
+mod remark;
 pub mod script;
 mod seat;
 mod sketch;

@@ -1,26 +1,23 @@
 //! A script that is played to its end, line by line.
 
-ghost use Rattle.std.specs.Prelude.{ℕ, List, ◌∷◌, ◌++◌, Bool, true, ◌≡◌, ◌≤◌, ◌<◌, IfOk, OnOk, IfSome, length, vec_len};
-ghost use Rattle.otp_spec.specs.declared.limits.TheConstants.{MAX_READING};
-ghost use Rattle.otp_try.specs.Prompt.{prompt_text, standings_text};
-ghost use Rattle.otp_try.specs.Unused.{unused_text};
-ghost use Rattle.otp_try.specs.declared.world.Hang.{Hang};
-ghost use Rattle.otp_try.specs.declared.world.Plan.{Plan};
+ghost use Rattle.std.specs.Prelude.{ℕ, List, [], ◌++◌, Bool, true, Option, ◌≡◌, ◌≤◌, IfOk, OnOk, OnErr, length, vec_len};
+ghost use Rattle.otp_timeline.specs.declared.moment.Moment.{Moment};
+ghost use Rattle.otp_try.specs.Page.{Adds, drawing, shown};
+ghost use Rattle.otp_try.specs.Pages.{AddsTo, Ended, Ran, StopsSo, SumsUp, Tries, WritesOut, Wrote, tells_orders};
+ghost use Rattle.otp_try.specs.Played.{Seated};
 
-use crate::finding::{is_known, named_in};
-use crate::help::{HELP, WELCOME, is_help};
-use crate::prompt::{write_prompt, write_standings};
-use crate::script::{Action, Child, ScriptFault, Step, When, read_step};
+use crate::early::EarlyEnd;
+use crate::help::is_help;
+use crate::line::{Line, is_silent};
+use crate::remark::{Topic, summary_of};
+use crate::script::{ScriptFault, Step, read_step};
 use crate::seat::Seat;
 use crate::sketch::{Shows, Sketch};
 use crate::trial::{ActionEnd, Halt, Trial};
-use crate::unused::{line_of_unknown, write_unused};
-use crate::words::end_of_lines;
+use crate::unused::line_of_unknown;
 use otp_file::TreeSpec;
-use otp_reason::Name;
-use otp_sim::{Failed, Input, Output, PIECE, write_all};
-use otp_spec::MAX_READING;
-use otp_text::{LONGEST_LINE, write_number};
+use otp_sim::{Input, Output, PIECE, write_all};
+use otp_text::LONGEST_LINE;
 use std::alloc::{AllocError, Global};
 
 /// How a script ended.
@@ -40,27 +37,6 @@ pub enum TryEnd {
     OutOfMemory,
 }
 
-impl From<AllocError> for TryEnd {
-    fn from(_error: AllocError) -> Self {
-        TryEnd::OutOfMemory
-    }
-}
-
-impl From<Halt> for TryEnd {
-    fn from(halt: Halt) -> Self {
-        match halt {
-            Halt::HistoryFull => TryEnd::HistoryFull,
-            Halt::OutOfMemory => TryEnd::OutOfMemory,
-        }
-    }
-}
-
-impl From<Failed> for TryEnd {
-    fn from(_failed: Failed) -> Self {
-        TryEnd::OutputFailed
-    }
-}
-
 /// Who writes the lines.
 #[derive(Clone, Copy, Debug, PartialEq, Eq)]
 pub enum Writer {
@@ -70,352 +46,588 @@ pub enum Writer {
     Person,
 }
 
-/// What stands behind the number of a line that names a child which isn't there.
-const UNKNOWN_NAME: &str = ": there is no such child; which lists the children\n";
+/// How a run is told.
+#[derive(Clone, Copy, Debug, PartialEq, Eq)]
+struct Settings {
+    writer: Writer,
+    /// Orders are told, and not drawn alone.
+    tells: bool,
+}
 
-/// A trial, and the lines that it was told.
+/// A trial, and what is told of it.
 #[derive(Drop)]
 struct Play {
+    alloc: Global,
     trial: Trial,
-    writer: Writer,
     /// How many lines were read.
     lines: u64,
-    /// What is told and not yet written.
+    /// What is told and not yet written. What goes there goes there whole, or not at all.
     page: Vec<u8>,
     /// The picture of the run, if one is wanted.
     sketch: Option<Sketch>,
 }
 
 impl Play {
-    /// A line of the script: what it does is put on the page.
-    fn take_line(&mut self, line: &[u8]) -> Result<(), TryEnd> {
+    /// Puts a text on the page.
+    fn put(&mut self, text: &[u8]) -> Result<(), EarlyEnd>
+        ensures ok { OnOk result (self.new.page.items ≡ self.old.page.items ++ text.now) }
+        ensures err { OnErr result (self.new.page.items ≡ self.old.page.items) }
+        ensures same { self.new.trial ≡ self.old.trial }
+    {
+        match self.page.extend_from_slice(text) {
+            Ok(()) => Ok(()),
+            Err(_) => Err(EarlyEnd::OutOfMemory),
+        }
+    }
+
+    /// Puts what a line did on the page, if orders are told. The run ends so behind it, if it does.
+    #[tactic(auto, unfolding(crate::specs::Page::shown))]
+    fn tell(
+        &mut self,
+        settings: Settings,
+        told: &[u8],
+        end: Option<EarlyEnd>,
+    ) -> Result<Option<EarlyEnd>, EarlyEnd>
+        ensures ok { OnOk result (self.new.page.items ≡ self.old.page.items ++ shown settings.tells told.now) }
+        ensures err { OnErr result (self.new.page.items ≡ self.old.page.items) }
+        ensures same { self.new.trial ≡ self.old.trial }
+    {
+        if !settings.tells {
+            return Ok(end);
+        }
+        match self.put(told) {
+            Ok(()) => Ok(end),
+            Err(why) => Err(why),
+        }
+    }
+
+    /// Puts a remark on the page.
+    fn remark(&mut self, topic: Topic) -> Result<(), EarlyEnd>
+        ensures { (tells : Bool) → AddsTo result tells self.old.trial self.new.trial self.old.page.items self.new.page.items }
+    {
+        match topic.text(self.alloc, &self.trial) {
+            Ok(text) => self.put(text.as_slice()),
+            Err(_) => Err(EarlyEnd::OutOfMemory),
+        }
+    }
+
+    /// The picture of what is not drawn yet; nothing where none is wanted.
+    fn picture(&self) -> Result<Vec<u8>, AllocError>
+        ensures { IfOk result (λ text. (is_coloured : Bool) × (seats : List Seated) × (moments : List Moment) × (text.items ≡ drawing is_coloured seats moments)) }
+    {
+        match &self.sketch {
+            None => Ok(Vec::new(self.alloc)),
+            Some(sketch) => picture_of(self.alloc, sketch, self.trial.seats()),
+        }
+    }
+
+    /// What is not drawn yet is put on the page, if a picture is wanted.
+    fn draw(&mut self) -> Result<(), EarlyEnd>
+        ensures drawn { (tells : Bool) (seats : List Seated) → AddsTo result tells seats seats self.old.page.items self.new.page.items }
+        ensures same { self.new.trial ≡ self.old.trial }
+    {
+        match self.picture() {
+            Ok(text) => self.put_picture(text.as_slice()),
+            Err(_) => Err(EarlyEnd::OutOfMemory),
+        }
+    }
+
+    /// Puts a picture on the page; what it shows is not drawn again.
+    fn put_picture(&mut self, text: &[u8]) -> Result<(), EarlyEnd>
+        ensures ok { OnOk result (self.new.page.items ≡ self.old.page.items ++ text.now) }
+        ensures err { OnErr result (self.new.page.items ≡ self.old.page.items) }
+        ensures same { self.new.trial ≡ self.old.trial }
+    {
+        match self.put(text) {
+            Ok(()) => {
+                self.forget_drawn();
+                Ok(())
+            }
+            Err(end) => Err(end),
+        }
+    }
+
+    /// What is drawn is not drawn again.
+    fn forget_drawn(&mut self)
+        ensures page { self.new.page.items ≡ self.old.page.items }
+        ensures same { self.new.trial ≡ self.old.trial }
+    {
+        if let Some(sketch) = &mut self.sketch {
+            sketch.clear();
+        }
+    }
+
+    /// How the supervisors stand after this line is a column of the picture, if one is wanted. The answer is whether as many
+    /// columns wait as stand side by side.
+    fn keep_moment(&mut self, line: u64) -> Result<bool, AllocError>
+        ensures page { self.new.page.items ≡ self.old.page.items }
+        ensures same { self.new.trial ≡ self.old.trial }
+    {
+        let Some(sketch) = &mut self.sketch else {
+            return Ok(false);
+        };
+        sketch.add(self.trial.moment(line, self.trial.time())?)?;
+        Ok(sketch.is_full())
+    }
+
+    /// How the supervisors stand after this line is a column of the picture, which is drawn once it is as wide as it may be.
+    fn add_moment(&mut self, line: u64) -> Result<(), EarlyEnd>
+        ensures drawn { (tells : Bool) (seats : List Seated) → AddsTo result tells seats seats self.old.page.items self.new.page.items }
+        ensures same { self.new.trial ≡ self.old.trial }
+    {
+        match self.keep_moment(line) {
+            Ok(is_full) => self.draw_full(is_full),
+            Err(_) => Err(EarlyEnd::OutOfMemory),
+        }
+    }
+
+    /// What is not drawn yet is put on the page, if the picture is as wide as it may be.
+    fn draw_full(&mut self, is_full: bool) -> Result<(), EarlyEnd>
+        ensures drawn { (tells : Bool) (seats : List Seated) → AddsTo result tells seats seats self.old.page.items self.new.page.items }
+        ensures same { self.new.trial ≡ self.old.trial }
+    {
+        if is_full { self.draw() } else { Ok(()) }
+    }
+
+    /// The next line begins.
+    fn begin_line(&mut self)
+        ensures page { self.new.page.items ≡ self.old.page.items }
+        ensures same { self.new.trial ≡ self.old.trial }
+    {
         self.lines = self.lines.saturating_add(1);
         self.trial.begin_line(self.lines);
-        if self.writer == Writer::Person && is_help(line) {
-            self.page.extend_from_slice(HELP.as_bytes())?;
-            return Ok(());
+    }
+
+    /// A line of the input: what it does is put on the page.
+    fn take_line(&mut self, settings: Settings, line: &[u8]) -> Result<(), EarlyEnd>
+        ensures { AddsTo result settings.tells self.old.trial self.new.trial self.old.page.items self.new.page.items }
+    {
+        self.begin_line();
+        self.serve_line(settings, line)
+    }
+
+    /// The line that has begun: a person may ask for help; else it is played.
+    fn serve_line(&mut self, settings: Settings, line: &[u8]) -> Result<(), EarlyEnd>
+        ensures { AddsTo result settings.tells self.old.trial self.new.trial self.old.page.items self.new.page.items }
+    {
+        if settings.writer == Writer::Person && is_help(line) {
+            return self.remark(Topic::Help);
         }
         match read_step(line) {
-            Ok(step) => self.take_step(line, step),
-            Err(fault) => self.refuse(fault),
+            Ok(step) => self.take_step(settings, line, step),
+            Err(fault) => self.refuse(settings, fault),
         }
     }
 
     /// A line that can't be read.
-    fn refuse(&mut self, fault: ScriptFault) -> Result<(), TryEnd> {
-        if self.writer == Writer::Script {
-            return Err(TryEnd::LineRefused(self.lines, fault));
+    fn refuse(&mut self, settings: Settings, fault: ScriptFault) -> Result<(), EarlyEnd>
+        ensures { AddsTo result settings.tells self.old.trial self.new.trial self.old.page.items self.new.page.items }
+    {
+        if settings.writer == Writer::Script {
+            return Err(EarlyEnd::LineRefused(self.lines, fault));
         }
-        self.page.extend_from_slice(fault.text().as_bytes())?;
-        self.page.extend_from_slice(b"\n")?;
-        Ok(())
+        self.remark(Topic::Fault(fault))
     }
 
     /// A line that was read is played, and drawn where a picture is wanted.
-    fn take_step(&mut self, line: &[u8], step: Step<'_>) -> Result<(), TryEnd> {
-        let told = self.page.len();
-        let taken = self.play_step(line, step);
-        self.untell(told);
-        taken?;
-        if is_silent(step) {
-            return Ok(());
+    fn take_step(&mut self, settings: Settings, line: &[u8], step: Step<'_>) -> Result<(), EarlyEnd>
+        ensures { AddsTo result settings.tells self.old.trial self.new.trial self.old.page.items self.new.page.items }
+    {
+        match self.play_step(settings, line, step) {
+            Ok(end) => self.end_step(step, end),
+            Err(end) => Err(end),
         }
-        self.add_moment(self.lines)
     }
 
-    /// A line that was read: the clock goes on, and then it is done.
-    fn play_step(&mut self, line: &[u8], step: Step<'_>) -> Result<(), TryEnd> {
-        self.write_line(line, step)?;
-        let Some(time) = self.time_of(step.when) else {
-            return self.miss(ActionEnd::TooLate);
+    /// The end of a line, or of the run: how the supervisors stand is a column of the picture, unless the line says nothing.
+    fn end_step(&mut self, step: Step<'_>, end: Option<EarlyEnd>) -> Result<(), EarlyEnd>
+        ensures drawn { (tells : Bool) (seats : List Seated) → AddsTo result tells seats seats self.old.page.items self.new.page.items }
+        ensures same { self.new.trial ≡ self.old.trial }
+    {
+        match end {
+            Some(end) => Err(end),
+            None if is_silent(step) => Ok(()),
+            None => self.add_moment(self.lines),
+        }
+    }
+
+    /// A line that was read is played, and told if orders are. The answer is how the run ends behind it, if it does.
+    fn play_step(
+        &mut self,
+        settings: Settings,
+        line: &[u8],
+        step: Step<'_>,
+    ) -> Result<Option<EarlyEnd>, EarlyEnd>
+        ensures { AddsTo result settings.tells self.old.trial self.new.trial self.old.page.items self.new.page.items }
+    {
+        let mut told = Vec::new(self.alloc);
+        match self.play_on(settings, line, step, &mut told) {
+            Ok(end) => self.tell(settings, told.as_slice(), end),
+            Err(halt) => Err(EarlyEnd::from(halt)),
+        }
+    }
+
+    /// A line that was read is played on a sheet of its own.
+    fn play_on(
+        &mut self,
+        settings: Settings,
+        line: &[u8],
+        step: Step<'_>,
+        told: &mut Vec<u8>,
+    ) -> Result<Option<EarlyEnd>, Halt>
+        ensures told { OnOk result (Adds true self.old.trial self.new.trial told.old.items told.new.items) }
+        ensures page { self.new.page.items ≡ self.old.page.items }
+    {
+        let place = Line {
+            writer: settings.writer,
+            number: self.lines,
         };
-        self.trial.go_to(time, &mut self.page)?;
-        let is_unknown = self.means_nobody(step);
-        match self.act(step)? {
-            ActionEnd::Done if is_unknown => self.tell_unknown(),
-            ActionEnd::Done => Ok(()),
-            taken => self.miss(taken),
+        place.play(&mut self.trial, line, step, told)
+    }
+
+    /// What stands before the first line: how to go on, for a person; what a picture means, and its first column.
+    fn begin(&mut self, settings: Settings) -> Result<(), EarlyEnd>
+        ensures { AddsTo result settings.tells self.old.trial self.new.trial self.old.page.items self.new.page.items }
+    {
+        match self.welcome(settings) {
+            Ok(()) => self.begin_picture(),
+            Err(end) => Err(end),
         }
     }
 
-    /// Whether a line names a child which the supervisor doesn't have, and is taken all the same: of a call the answer is
-    /// the core's, and for a start that is planned a later call may add the child. Whoever mistyped the name is told so.
-    fn means_nobody(&self, step: Step<'_>) -> bool {
-        let Some(id) = named_in(step.action) else {
-            return false;
-        };
-        if self.trial.has_ended() {
-            return false;
-        }
-        match self.place_of(step) {
-            None => false,
-            Some(place) => !has_child(self.trial.seats(), place, &id),
+    /// What a picture means, and its first column, if one is wanted.
+    fn begin_picture(&mut self) -> Result<(), EarlyEnd>
+        ensures { (tells : Bool) → AddsTo result tells self.old.trial self.new.trial self.old.page.items self.new.page.items }
+    {
+        match self.write_legend() {
+            Ok(()) => self.add_moment(0),
+            Err(end) => Err(end),
         }
     }
 
-    /// Puts on the page that a line names a child that isn't there.
-    fn tell_unknown(&mut self) -> Result<(), TryEnd> {
-        self.page.extend_from_slice(b"line ")?;
-        write_number(self.lines, &mut self.page)?;
-        self.page.extend_from_slice(UNKNOWN_NAME.as_bytes())?;
-        Ok(())
-    }
-
-    /// What a line says is done at the supervisor that it means.
-    fn act(&mut self, step: Step<'_>) -> Result<ActionEnd, Halt> {
-        let Some(place) = self.place_of(step) else {
-            return Ok(self.unless_ended(ActionEnd::NoChild));
-        };
-        if !self.trial.has_process(place) {
-            return Ok(self.unless_ended(ActionEnd::NoProcess));
-        }
-        let taken = self.trial.act(place, step.action, &mut self.page)?;
-        match taken {
-            ActionEnd::NoChild => Ok(self.unless_ended(taken)),
-            taken => Ok(taken),
+    /// Puts how to go on on the page, for a person.
+    fn welcome(&mut self, settings: Settings) -> Result<(), EarlyEnd>
+        ensures { AddsTo result settings.tells self.old.trial self.new.trial self.old.page.items self.new.page.items }
+    {
+        match settings.writer {
+            Writer::Script => Ok(()),
+            Writer::Person => self.remark(Topic::Welcome),
         }
     }
 
-    /// Why nothing was done: before all else that the root has ended.
-    fn unless_ended(&self, taken: ActionEnd) -> ActionEnd {
-        if self.trial.has_ended() {
-            ActionEnd::Ended
+    /// Puts what the cells of a picture mean on the page, if one is wanted.
+    fn write_legend(&mut self) -> Result<(), EarlyEnd>
+        ensures { (tells : Bool) → AddsTo result tells self.old.trial self.new.trial self.old.page.items self.new.page.items }
+    {
+        if self.sketch.is_some() {
+            self.remark(Topic::Legend)
         } else {
-            taken
+            Ok(())
         }
-    }
-
-    /// The place of the supervisor that a line means: by its path, or by the number of a process.
-    fn place_of(&self, step: Step<'_>) -> Option<usize>
-        ensures { IfSome result (λ place. place < length self.now.trial) }
-    {
-        match step.action {
-            Action::Exit(Child::Numbered(process), _) | Action::Hang(Child::Numbered(process))
-                if step.path.is_empty() => Some(self.trial.place_of_process(process)),
-            _ => self.trial.place_of(step.path),
-        }
-    }
-
-    /// The time of a line, where it has not gone by.
-    fn time_of(&self, when: When) -> Option<u64>
-        ensures { IfSome result (λ time. time ≤ MAX_READING) }
-    {
-        let now = self.trial.time();
-        match when {
-            When::Now => Some(now),
-            When::At(time) if time < now => None,
-            When::At(time) => Some(time.min(MAX_READING)),
-            When::After(time) => Some(now.saturating_add(time).min(MAX_READING)),
-        }
-    }
-
-    /// A line that did nothing.
-    fn miss(&mut self, taken: ActionEnd) -> Result<(), TryEnd> {
-        if self.writer == Writer::Script {
-            return Err(TryEnd::LineMissed(self.lines, taken));
-        }
-        self.page.extend_from_slice(taken.text().as_bytes())?;
-        self.page.extend_from_slice(b"\n")?;
-        Ok(())
-    }
-
-    /// Puts the line of a script above what it does; a line that says nothing has no heading.
-    fn write_line(&mut self, line: &[u8], step: Step<'_>) -> Result<(), AllocError> {
-        if self.writer == Writer::Person || is_silent(step) {
-            return Ok(());
-        }
-        self.page.extend_from_slice(b"line ")?;
-        write_number(self.lines, &mut self.page)?;
-        self.page.extend_from_slice(b": ")?;
-        self.page.extend_from_slice(line)?;
-        self.page.extend_from_slice(b"\n")
-    }
-
-    /// Where a script is drawn, its orders are not told: the page is cut to this length.
-    fn untell(&mut self, told: usize) {
-        if self.sketch.is_some() && self.writer == Writer::Script {
-            self.page.truncate(told);
-        }
-    }
-
-    /// Where a picture is wanted: what the cells mean, and the start.
-    fn begin_picture(&mut self) -> Result<(), TryEnd> {
-        self.untell(0);
-        if let Some(sketch) = &self.sketch {
-            sketch.write_legend(&mut self.page)?;
-        }
-        self.add_moment(0)
-    }
-
-    /// Where a picture is wanted: how the supervisors stand after this line is a column of it.
-    fn add_moment(&mut self, line: u64) -> Result<(), TryEnd> {
-        let Some(sketch) = &mut self.sketch else {
-            return Ok(());
-        };
-        sketch.add(self.trial.moment(line, self.trial.time())?)?;
-        if sketch.is_full() {
-            sketch.draw(self.trial.seats(), &mut self.page)?;
-        }
-        Ok(())
-    }
-
-    /// Where a picture is wanted: what is not drawn yet is put on the page.
-    fn draw_rest(&mut self) -> Result<(), AllocError> {
-        match &mut self.sketch {
-            None => Ok(()),
-            Some(sketch) => sketch.draw(self.trial.seats(), &mut self.page),
-        }
-    }
-
-    /// Puts how the supervisors stand on the page, and what they await.
-    fn write_standings(&mut self) -> Result<(), AllocError>
-        ensures text { OnOk result ((now : ℕ) × (others : List Bool) × (self.new.page.items ≡ self.old.page.items ++ standings_text now self.old.trial (true ∷ others))) }
-        ensures same { self.new.trial ≡ self.old.trial }
-    {
-        let now = self.trial.time();
-        let running = self.trial.running()?;
-        write_standings(now, self.trial.seats(), running.as_slice(), &mut self.page)
-    }
-
-    /// Puts on the page what the script planned, and the run never came to.
-    fn write_unused(&mut self) -> Result<(), AllocError>
-        ensures text { OnOk result ((plans : List Plan) × (hanging : List Hang) × (self.new.page.items ≡ self.old.page.items ++ unused_text self.old.trial plans hanging)) }
-        ensures same { self.new.trial ≡ self.old.trial }
-    {
-        write_unused(self.trial.world(), self.trial.seats(), &mut self.page)
-    }
-
-    /// Puts on the page how to go on, for a person.
-    fn write_welcome(&mut self) -> Result<(), AllocError> {
-        if self.writer == Writer::Script {
-            return Ok(());
-        }
-        self.page.extend_from_slice(WELCOME.as_bytes())
     }
 
     /// Puts the prompt on the page, for a person.
-    fn write_prompt(&mut self) -> Result<(), AllocError>
-        ensures text { OnOk result ((now : ℕ) × (self.new.page.items ≡ self.old.page.items ++ prompt_text self.old.writer self.old.trial now)) }
-        ensures same { self.new.trial ≡ self.old.trial }
+    fn prompt(&mut self, settings: Settings) -> Result<(), EarlyEnd>
+        ensures { AddsTo result settings.tells self.old.trial self.new.trial self.old.page.items self.new.page.items }
     {
-        let now = self.trial.time();
-        write_prompt(self.writer, self.trial.seats(), now, &mut self.page)
-    }
-
-    /// Half a line, where memory was refused within it, is taken off the page: lines are written whole.
-    fn cut_half_line(&mut self) {
-        let end = end_of_lines(self.page.as_slice());
-        self.page.truncate(end);
-    }
-
-    /// Where a picture is wanted, and the run has ended: what is not drawn yet is put on the page.
-    fn draw_last(&mut self) -> Result<(), AllocError> {
-        let drawn = self.draw_rest();
-        if drawn.is_err() {
-            self.cut_half_line();
+        match settings.writer {
+            Writer::Script => Ok(()),
+            Writer::Person => self.remark(Topic::Prompt),
         }
-        drawn
     }
 
-    /// What is on the page is written, and gone from it.
-    fn hand_out<W: Output>(&mut self, output: &mut W) -> Result<(), Failed> {
-        write_all(output, self.page.as_slice())?;
-        self.page.clear();
-        Ok(())
+    /// The last line, if there is one.
+    fn take_last(&mut self, settings: Settings, last: &[u8]) -> Result<(), EarlyEnd>
+        ensures { AddsTo result settings.tells self.old.trial self.new.trial self.old.page.items self.new.page.items }
+    {
+        if last.is_empty() {
+            Ok(())
+        } else {
+            self.take_line(settings, last)
+        }
     }
-}
-
-/// Whether the supervisor at this place has a child with this id.
-fn has_child(seats: &[Seat], place: usize, id: &Name) -> bool {
-    match seats.get(place) {
-        None => false,
-        Some(seat) => is_known(id, seat.rows()),
-    }
-}
-
-/// The line says nothing: it is empty, or a comment.
-fn is_silent(step: Step<'_>) -> bool {
-    step.when == When::Now && step.action == Action::Nothing
 }
 
 impl Play {
+    /// What is on the page is written, and gone from it.
+    fn hand_out<W: Output>(&mut self, output: &mut W) -> Result<(), EarlyEnd>
+        ensures ran { (tells : Bool) (seats : List Seated) → Ran result tells seats seats self.old.page.items self.new.page.items (W.contents output.old) (W.contents output.new) }
+        ensures empty { OnOk result (self.new.page.items ≡ []) }
+        ensures same { self.new.trial ≡ self.old.trial }
+    {
+        let Ok(()) = write_all(output, self.page.as_slice()) else {
+            return Err(EarlyEnd::OutputFailed);
+        };
+        self.page.clear();
+        Ok(())
+    }
+
+    /// What is on the page is written, if it is much.
+    fn hand_out_much<W: Output>(&mut self, output: &mut W) -> Result<(), EarlyEnd>
+        ensures ran { (tells : Bool) (seats : List Seated) → Ran result tells seats seats self.old.page.items self.new.page.items (W.contents output.old) (W.contents output.new) }
+        ensures same { self.new.trial ≡ self.old.trial }
+    {
+        if self.page.len() < PIECE {
+            return Ok(());
+        }
+        self.hand_out(output)
+    }
+
+    /// A byte of the input: a line that ends with it is taken, and else it is kept.
+    fn take_byte<W: Output>(
+        &mut self,
+        settings: Settings,
+        kept: &mut Vec<u8>,
+        byte: u8,
+        output: &mut W,
+    ) -> Result<(), EarlyEnd>
+        ensures { Ran result settings.tells self.old.trial self.new.trial self.old.page.items self.new.page.items (W.contents output.old) (W.contents output.new) }
+    {
+        if byte != b'\n' {
+            return keep(kept, byte);
+        }
+        match self.take_line(settings, kept.as_slice()) {
+            Ok(()) => {
+                kept.clear();
+                self.hand_out_much(output)
+            }
+            Err(end) => Err(end),
+        }
+    }
+
     /// Some bytes of the input: each line that ends in them is taken. The beginning of the next one is kept.
     fn take_piece<W: Output>(
         &mut self,
+        settings: Settings,
         kept: &mut Vec<u8>,
         piece: &[u8],
         output: &mut W,
-    ) -> Result<(), TryEnd> {
+    ) -> Result<(), EarlyEnd>
+        ensures { Ran result settings.tells self.old.trial self.new.trial self.old.page.items self.new.page.items (W.contents output.old) (W.contents output.new) }
+    {
         for byte in piece {
-            if *byte != b'\n' {
-                keep(kept, *byte)?;
-                continue;
-            }
-            self.take_line(kept.as_slice())?;
-            kept.clear();
-            if self.page.len() >= PIECE {
-                self.hand_out(output)?;
+            if let Err(end) = self.take_byte(settings, kept, *byte, output) {
+                return Err(end);
             }
         }
         Ok(())
+    }
+
+    /// What is told is written, a prompt behind it for a person; then a piece of the input is read, and played. The answer is
+    /// whether there was one.
+    fn serve<R: Input, W: Output>(
+        &mut self,
+        settings: Settings,
+        kept: &mut Vec<u8>,
+        buffer: &mut [u8],
+        input: &mut R,
+        output: &mut W,
+    ) -> Result<bool, EarlyEnd>
+        requires { PIECE ≤ length buffer.old }
+        ensures ran { Ran result settings.tells self.old.trial self.new.trial self.old.page.items self.new.page.items (W.contents output.old) (W.contents output.new) }
+        ensures size { length buffer.new ≡ length buffer.old }
+    {
+        match self.ask(settings, output) {
+            Ok(()) => self.serve_next(settings, kept, buffer, input, output),
+            Err(end) => Err(end),
+        }
+    }
+
+    /// A piece of the input is read, and played. The answer is whether there was one.
+    fn serve_next<R: Input, W: Output>(
+        &mut self,
+        settings: Settings,
+        kept: &mut Vec<u8>,
+        buffer: &mut [u8],
+        input: &mut R,
+        output: &mut W,
+    ) -> Result<bool, EarlyEnd>
+        requires { PIECE ≤ length buffer.old }
+        ensures ran { Ran result settings.tells self.old.trial self.new.trial self.old.page.items self.new.page.items (W.contents output.old) (W.contents output.new) }
+        ensures size { length buffer.new ≡ length buffer.old }
+    {
+        let Ok(count) = input.read(buffer) else {
+            return Err(EarlyEnd::InputFailed);
+        };
+        if count == 0 {
+            return Ok(false);
+        }
+        match self.take_piece(settings, kept, &buffer[..count], output) {
+            Ok(()) => Ok(true),
+            Err(end) => Err(end),
+        }
+    }
+
+    /// What is told is written, a prompt behind it for a person.
+    fn ask<W: Output>(&mut self, settings: Settings, output: &mut W) -> Result<(), EarlyEnd>
+        ensures { Ran result settings.tells self.old.trial self.new.trial self.old.page.items self.new.page.items (W.contents output.old) (W.contents output.new) }
+    {
+        match self.prompt(settings) {
+            Ok(()) => self.hand_out(output),
+            Err(end) => Err(end),
+        }
     }
 
     /// All lines of the input, to its end or to the line that ends the run. What is told is written before each read.
     fn run<R: Input, W: Output>(
         &mut self,
-        alloc: Global,
+        settings: Settings,
         input: &mut R,
         output: &mut W,
-    ) -> Result<(), TryEnd> {
-        self.write_welcome()?;
-        self.begin_picture()?;
-        let mut buffer = zeros(alloc, PIECE)?;
-        let mut kept = Vec::new(alloc);
-        for _ in 0..u64::MAX {
-            self.write_prompt()?;
-            self.hand_out(output)?;
-            let Ok(count) = input.read(&mut buffer) else {
-                return Err(TryEnd::InputFailed);
-            };
-            if count == 0 {
-                return self.finish(kept.as_slice());
-            }
-            self.take_piece(&mut kept, &buffer[..count], output)?;
+    ) -> Result<(), EarlyEnd>
+        ensures { Ran result settings.tells self.old.trial self.new.trial self.old.page.items self.new.page.items (W.contents output.old) (W.contents output.new) }
+    {
+        match self.begin(settings) {
+            Ok(()) => self.open_input(settings, input, output),
+            Err(end) => Err(end),
         }
-        Err(TryEnd::InputFailed)
     }
 
-    /// The end of the input: its last line may lack the LF. Then it is told how the supervisor stands, and what it awaits.
-    fn finish(&mut self, last: &[u8]) -> Result<(), TryEnd> {
-        if !last.is_empty() {
-            self.take_line(last)?;
+    /// All of the input is played.
+    fn open_input<R: Input, W: Output>(
+        &mut self,
+        settings: Settings,
+        input: &mut R,
+        output: &mut W,
+    ) -> Result<(), EarlyEnd>
+        ensures { Ran result settings.tells self.old.trial self.new.trial self.old.page.items self.new.page.items (W.contents output.old) (W.contents output.new) }
+    {
+        let Ok(mut buffer) = zeros(self.alloc, PIECE) else {
+            return Err(EarlyEnd::OutOfMemory);
+        };
+        self.serve_all(settings, &mut buffer, input, output)
+    }
+
+    /// All pieces of the input, to its end or to the line that ends the run.
+    fn serve_all<R: Input, W: Output>(
+        &mut self,
+        settings: Settings,
+        buffer: &mut [u8],
+        input: &mut R,
+        output: &mut W,
+    ) -> Result<(), EarlyEnd>
+        requires { PIECE ≤ length buffer.old }
+        ensures { Ran result settings.tells self.old.trial self.new.trial self.old.page.items self.new.page.items (W.contents output.old) (W.contents output.new) }
+    {
+        let mut kept = Vec::new(self.alloc);
+        for _ in 0..u64::MAX {
+            match self.serve(settings, &mut kept, buffer, input, output) {
+                Ok(true) => {}
+                Ok(false) => return self.take_last(settings, kept.as_slice()),
+                Err(end) => return Err(end),
+            }
         }
-        self.draw_rest()?;
-        self.write_standings()?;
-        self.write_unused()?;
-        self.judge()
+        Err(EarlyEnd::InputFailed)
+    }
+
+    /// The end of a run that ended early: what is not drawn is drawn where there is memory, and all that is told is written.
+    fn write_last<W: Output>(&mut self, end: EarlyEnd, output: &mut W) -> TryEnd
+        ensures { (tells : Bool) (seats : List Seated) → Ended result tells seats self.old.page.items (W.contents output.old) (W.contents output.new) }
+    {
+        let _drawn = self.draw();
+        let Ok(()) = self.hand_out(output) else {
+            return TryEnd::OutputFailed;
+        };
+        end.told()
+    }
+
+    /// The end of a run that ended early: where the writer failed, nothing more is written.
+    fn close_early<W: Output>(&mut self, end: EarlyEnd, output: &mut W) -> TryEnd
+        ensures { (tells : Bool) (seats : List Seated) (page : List ℕ) (before : Option (List ℕ)) → StopsSo end tells seats page self.old.page.items before (W.contents output.old) → Ended result tells seats page before (W.contents output.new) }
+    {
+        match end {
+            EarlyEnd::OutputFailed => TryEnd::OutputFailed,
+            end => self.write_last(end, output),
+        }
     }
 
     /// Whether a line of the script could do nothing: it planned the start of a child that wasn't there, and none came.
-    fn judge(&self) -> Result<(), TryEnd> {
+    fn judge(&self, settings: Settings) -> Result<(), EarlyEnd> {
         match line_of_unknown(self.trial.world().starts()) {
-            Some(line) if self.writer == Writer::Script => Err(TryEnd::LineMissed(
+            Some(line) if settings.writer == Writer::Script => Err(EarlyEnd::LineMissed(
                 line,
                 ActionEnd::NoChild,
             )),
             _ => Ok(()),
         }
     }
+
+    /// Puts on the page how the supervisors stand, what they await, and what the script planned and the run never came to.
+    fn put_summary(&mut self, settings: Settings) -> Result<(), EarlyEnd>
+        ensures { (tells : Bool) → SumsUp result tells self.old.trial self.old.page.items self.new.page.items }
+    {
+        let Ok(text) = summary_of(self.alloc, &self.trial) else {
+            return Err(EarlyEnd::OutOfMemory);
+        };
+        match self.put(text.as_slice()) {
+            Ok(()) => self.judge(settings),
+            Err(end) => Err(end),
+        }
+    }
+
+    /// What stands behind the last line: the rest of the picture, if one is wanted, and how the supervisors stand.
+    fn sum_up(&mut self, settings: Settings) -> Result<(), EarlyEnd>
+        ensures { (tells : Bool) → SumsUp result tells self.old.trial self.old.page.items self.new.page.items }
+    {
+        match self.draw() {
+            Ok(()) => self.put_summary(settings),
+            Err(end) => Err(end),
+        }
+    }
+
+    /// The last of a run that was played to its end is written.
+    fn write_out<W: Output>(&self, output: &mut W) -> TryEnd
+        ensures { WritesOut result self.now.page.items (W.contents output.old) (W.contents output.new) }
+    {
+        match write_all(output, self.page.as_slice()) {
+            Ok(()) => TryEnd::Done,
+            Err(_) => TryEnd::OutputFailed,
+        }
+    }
+
+    /// The end of a run of which all lines were played: it is told how the supervisors stand, and what they await.
+    fn conclude<W: Output>(&mut self, settings: Settings, output: &mut W) -> TryEnd
+        ensures { (tells : Bool) (seats : List Seated) (page : List ℕ) (before : Option (List ℕ)) → Wrote tells seats self.old.trial page self.old.page.items before (W.contents output.old) → Ended result tells seats page before (W.contents output.new) }
+    {
+        match self.sum_up(settings) {
+            Ok(()) => self.write_out(output),
+            Err(end) => self.close_early(end, output),
+        }
+    }
+
+    /// All lines of the input are played, and all that is told of them is written.
+    fn play<R: Input, W: Output>(
+        &mut self,
+        settings: Settings,
+        input: &mut R,
+        output: &mut W,
+    ) -> TryEnd
+        ensures { Ended result settings.tells self.old.trial self.old.page.items (W.contents output.old) (W.contents output.new) }
+    {
+        match self.run(settings, input, output) {
+            Ok(()) => self.conclude(settings, output),
+            Err(end) => self.close_early(end, output),
+        }
+    }
+}
+
+/// The picture of these supervisors at the moments that are not drawn yet.
+fn picture_of(alloc: Global, sketch: &Sketch, seats: &[Seat]) -> Result<Vec<u8>, AllocError>
+    ensures { IfOk result (λ text. text.items ≡ drawing sketch.now.is_coloured seats.now sketch.now.moments.items) }
+{
+    let mut text = Vec::new(alloc);
+    sketch.draw(seats, &mut text)?;
+    Ok(text)
 }
 
 /// Keeps a byte of a line that goes on: of a line that is too long no more than shows that.
-fn keep(kept: &mut Vec<u8>, byte: u8) -> Result<(), TryEnd> {
+fn keep(kept: &mut Vec<u8>, byte: u8) -> Result<(), EarlyEnd> {
     if kept.len() > LONGEST_LINE {
         return Ok(());
     }
     match kept.push(byte) {
         Ok(()) => Ok(()),
-        Err(_) => Err(TryEnd::OutOfMemory),
+        Err(_) => Err(EarlyEnd::OutOfMemory),
     }
 }
 
@@ -434,9 +646,32 @@ fn sketch_of(alloc: Global, shows: Shows) -> Option<Sketch> {
     }
 }
 
+/// Whether orders are told: where a script is drawn, they are not.
+fn tells_orders(writer: Writer, shows: Shows) -> bool
+    ensures { result ≡ tells_orders writer shows }
+{
+    match writer {
+        Writer::Person => true,
+        Writer::Script => shows == Shows::Orders,
+    }
+}
+
+/// What is on the page before the first line: what the supervisors ordered as they started, if orders are told.
+#[tactic(auto, unfolding(crate::specs::Page::shown))]
+fn page_of(alloc: Global, settings: Settings, told: Vec<u8>) -> Vec<u8>
+    ensures { result.items ≡ shown settings.tells told.items }
+{
+    if settings.tells {
+        told
+    } else {
+        Vec::new(alloc)
+    }
+}
+
 /// Plays the lines of the input on the supervisors of a tree, and writes what they order, or a picture of the run.
 ///
-/// Where the run ends early, what was told before is written all the same, to its last whole line.
+/// Where the run ends early, what was told before is written all the same: all that the lines before told, and of the last
+/// one, unless memory was refused within it or a history was full, what it did.
 pub fn try_tree<R: Input, W: Output>(
     alloc: Global,
     tree: TreeSpec,
@@ -444,30 +679,24 @@ pub fn try_tree<R: Input, W: Output>(
     shows: Shows,
     input: &mut R,
     output: &mut W,
-) -> TryEnd {
-    let mut page = Vec::new(alloc);
-    let trial = match Trial::open(alloc, &tree, &mut page) {
+) -> TryEnd
+    ensures { Tries result tree (tells_orders writer shows) (W.contents output.old) (W.contents output.new) }
+{
+    let settings = Settings {
+        writer,
+        tells: tells_orders(writer, shows),
+    };
+    let mut told = Vec::new(alloc);
+    let trial = match Trial::open(alloc, &tree, &mut told) {
         Ok(trial) => trial,
-        Err(halt) => return TryEnd::from(halt),
+        Err(halt) => return EarlyEnd::from(halt).told(),
     };
     let mut play = Play {
+        alloc,
         trial,
-        writer,
         lines: 0,
-        page,
+        page: page_of(alloc, settings, told),
         sketch: sketch_of(alloc, shows),
     };
-    let ended = play.run(alloc, input, output);
-    if ended.is_err() {
-        play.cut_half_line();
-    }
-    let drawn = play.draw_last();
-    if ended == Err(TryEnd::OutputFailed) || play.hand_out(output).is_err() {
-        return TryEnd::OutputFailed;
-    }
-    match (ended, drawn) {
-        (Ok(()), Ok(())) => TryEnd::Done,
-        (Ok(()), Err(_)) => TryEnd::OutOfMemory,
-        (Err(end), _) => end,
-    }
+    play.play(settings, input, output)
 }

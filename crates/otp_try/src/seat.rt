@@ -2,6 +2,7 @@
 
 ghost use Rattle.std.specs.Prelude.{◌≡◌, ◌≤◌, ◌^◌, [], false, IfOk, OnOk};
 ghost use Rattle.otp_rules.specs.Ends.{last_stamps};
+ghost use Rattle.otp_rules.specs.Next.{idle_kind, next_kind};
 ghost use Rattle.otp_rules.specs.Run.{empty_state};
 ghost use Rattle.otp_rules.specs.State.{is_over};
 ghost use Rattle.otp_spec.specs.declared.limits.TheConstants.{MAX_READING};
@@ -151,8 +152,17 @@ impl Seat {
     }
 
     /// What happens next at this time though no process tells anything.
-    pub(crate) fn next_kind(&self, time: u64, is_stopping: bool) -> Option<Kind> {
+    pub(crate) fn next_kind(&self, time: u64, is_stopping: bool) -> Option<Kind>
+        ensures { result ≡ next_kind (state_in self.now) time is_stopping }
+    {
         self.core.next_kind(time, is_stopping)
+    }
+
+    /// What happens next by itself, deadlines apart.
+    pub(crate) fn idle_kind(&self, is_stopping: bool) -> Option<Kind>
+        ensures { result ≡ idle_kind (state_in self.now) is_stopping }
+    {
+        self.core.idle_kind(is_stopping)
     }
 
     /// The next deadline of a child that was asked to shut down.

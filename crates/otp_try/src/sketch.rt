@@ -1,11 +1,12 @@
 //! A run as a picture.
 
 ghost use Rattle.std.specs.Prelude.{◌≡◌, ◌++◌, ◌∷◌, [], IfOk, OnOk, length};
+ghost use Rattle.otp_try.specs.Page.{drawing};
 ghost use Rattle.otp_try.specs.Sketched.{moment_of, picture, standing_in, standings_in, supervisors_text};
 
 use crate::seat::Seat;
 use otp_timeline::{
-    LEGEND, Look, MOMENTS, Moment, Standing, Standings, no_standing, standing_of, write_heads,
+    Look, MOMENTS, Moment, Standing, Standings, no_standing, standing_of, write_heads,
     write_supervisor,
 };
 use std::alloc::{AllocError, Global};
@@ -103,11 +104,6 @@ impl Sketch {
         }
     }
 
-    /// Appends what the picture means.
-    pub fn write_legend(&self, out: &mut Vec<u8>) -> Result<(), AllocError> {
-        out.extend_from_slice(LEGEND)
-    }
-
     /// Puts a moment behind the others.
     pub fn add(&mut self, moment: Moment) -> Result<(), AllocError>
         ensures { OnOk result (self.new.moments.items ≡ self.old.moments.items ++ moment ∷ []) }
@@ -151,13 +147,19 @@ impl Sketch {
         self.write_supervisors(seats, out)
     }
 
-    /// Draws the moments that are not drawn yet, if there are some.
-    pub fn draw(&mut self, seats: &[Seat], out: &mut Vec<u8>) -> Result<(), AllocError> {
-        if self.moments.is_empty() {
-            return Ok(());
+    /// Appends the picture of these supervisors at the moments that are not drawn yet, if there are some.
+    #[tactic(auto, unfolding(crate::specs::Page::drawing))]
+    pub fn draw(&self, seats: &[Seat], out: &mut Vec<u8>) -> Result<(), AllocError>
+        ensures { OnOk result (out.new.items ≡ out.old.items ++ drawing self.now.is_coloured seats.now self.now.moments.items) }
+    {
+        match self.moments.as_slice() {
+            [] => Ok(()),
+            [_, ..] => self.write(seats, out),
         }
-        self.write(seats, out)?;
+    }
+
+    /// The moments so far are drawn.
+    pub fn clear(&mut self) {
         self.moments.clear();
-        Ok(())
     }
 }

@@ -5,7 +5,7 @@ ghost use Rattle.otp_reason.specs.declared.note.Note.TheVariants as note;
 ghost use Rattle.otp_rules.specs.declared.event.Item.TheVariants as item;
 ghost use Rattle.otp_rules.specs.declared.event.Kind.TheVariants as kind;
 ghost use Rattle.otp_spec.specs.declared.limits.TheConstants.{MAX_READING};
-ghost use Rattle.otp_try.specs.Played.{ActsAt, Begins, EndsAt, IsPlanted, PlansAt, Seated, Stops, Tells, is_root_over};
+ghost use Rattle.otp_try.specs.Played.{ActsAt, Begins, EndsAt, IsPlanted, PlansAt, Seated, Stops, StopsFirst, Tells, TellsFirst, is_root_over};
 ghost use Rattle.otp_try.specs.Sketched.{moment_of};
 ghost use Rattle.otp_try.specs.Texts.{taken_text};
 ghost use Rattle.otp_try.specs.declared.trial.ActionEnd.TheVariants.{Done};
@@ -118,7 +118,8 @@ impl Trial {
     ///
     /// Where memory is refused.
     pub fn open(alloc: Global, tree: &TreeSpec, out: &mut Vec<u8>) -> Result<Self, Halt>
-        ensures { IfOk result (λ trial. (before : List Seated) × IsPlanted tree.now before × Tells before trial out.old.items out.new.items × Begins 0 (kind.Opened 0) before trial) }
+        ensures opened { IfOk result (λ trial. (before : List Seated) × IsPlanted tree.now before × Tells before trial out.old.items out.new.items × Begins 0 (kind.Opened 0) before trial) }
+        ensures told { IfOk result (λ trial. (before : List Seated) × IsPlanted tree.now before × TellsFirst 0 (kind.Opened 0) before trial out.old.items out.new.items) }
     {
         let plants = plant(alloc, tree)?;
         if plants.seats.is_empty() {
@@ -232,6 +233,7 @@ impl Trial {
         requires { place < length self.old }
         ensures told { OnOk result (Tells self.old self.new out.old.items out.new.items) }
         ensures first { OnOk result (Begins place kind self.old self.new) }
+        ensures begins { OnOk result (TellsFirst place kind self.old self.new out.old.items out.new.items) }
     {
         self.last = self.seats[place].happen(self.time, kind, self.last, &mut self.printer, out)?;
         let seat = &self.seats[place];
@@ -306,6 +308,7 @@ impl Trial {
         requires { place < length self.old }
         ensures told { OnOk result (Tells self.old self.new out.old.items out.new.items) }
         ensures first { OnOk result (Begins place kind self.old self.new) }
+        ensures begins { OnOk result (TellsFirst place kind self.old self.new out.old.items out.new.items) }
     {
         self.happen(place, kind, out)?;
         self.settle(out)
@@ -436,17 +439,32 @@ impl Trial {
         Ok(ActionEnd::Done)
     }
 
+    /// The supervisor at this place is wanted to shut down. It begins with it, and all that follows from it happens; where
+    /// work is open, it does once that is done.
+    #[tactic(auto, unfolding(crate::specs::Played::StopsBy))]
+    fn want_stop(&mut self, place: usize, out: &mut Vec<u8>) -> Result<(), Halt>
+        requires { place < length self.old }
+        ensures told { OnOk result (Tells self.old self.new out.old.items out.new.items) }
+        ensures first { OnOk result (StopsFirst place self.old self.new) }
+    {
+        self.world.stop(place);
+        match self.seats[place].idle_kind(true) {
+            None => Ok(()),
+            Some(kind) => self.play(place, kind, out),
+        }
+    }
+
     /// The supervisor at this place is asked to shut down, and all that follows from it happens.
     #[tactic(auto, unfolding(crate::specs::Played::Stops))]
     fn stop(&mut self, place: usize, out: &mut Vec<u8>) -> Result<ActionEnd, Halt>
+        requires { place < length self.old }
         ensures told { OnOk result (Tells self.old self.new out.old.items out.new.items) }
-        ensures stops { IfOk result (λ taken. Stops (is_root_over self.old) self.old taken self.new) }
+        ensures stops { IfOk result (λ taken. Stops (is_root_over self.old) place self.old taken self.new) }
     {
         if self.has_ended() {
             return Ok(ActionEnd::Ended);
         }
-        self.world.stop(place);
-        self.settle(out)?;
+        self.want_stop(place, out)?;
         Ok(ActionEnd::Done)
     }
 

@@ -54,13 +54,6 @@ pub(crate) fn end_of_path(word: &[u8]) -> usize
     end_after_last(word, b'/')
 }
 
-/// The place after the last whole line, or 0 where there is none.
-pub(crate) fn end_of_lines(page: &[u8]) -> usize
-    ensures { result ≤ length page.now }
-{
-    end_after_last(page, b'\n')
-}
-
 /// The line without what stands after its last word.
 pub(crate) fn strip_end(line: &[u8]) -> &[u8] {
     &line[..end_of_words(line)]

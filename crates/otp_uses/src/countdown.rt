@@ -50,7 +50,7 @@ pub fn step(mut process: AnyProcess, signal: Signal) -> Option<(Note, u32)> {
             return None;
         }
         process = match one_turn(process, signal) {
-            After::Again(process) | After::Begun(process, _) => process,
+            After::Again(process) | After::Waits(process) | After::Begun(process, _) => process,
             After::Done(end, spent) => {
                 let _ = spent.into_number();
                 return Some((end.note, turn));
@@ -89,7 +89,8 @@ fn run_in<N: RunNaming>(
     }
 }
 
-// One turn of the process that comes next, if there is one. Its notes would go to its supervisor.
+// One turn of the process that comes next, if there is one. Its notes would go to its supervisor. One that waits has no
+// supervisor here that could tell it something, and takes turns as all others.
 fn take_turn<N: RunNaming>(
     scheduler: &mut Scheduler<N, BoxedJob, BoxedSubsystem>,
 ) -> Result<(), AllocError> {
@@ -100,7 +101,7 @@ fn take_turn<N: RunNaming>(
         return scheduler.give_back(process).map_err(|_| AllocError);
     }
     match one_turn(process, Signal::None) {
-        After::Again(process) | After::Begun(process, _) => {
+        After::Again(process) | After::Waits(process) | After::Begun(process, _) => {
             scheduler.give_back(process).map_err(|_| AllocError)?;
         }
         After::Done(_, spent) => scheduler.finish(spent),

@@ -41,9 +41,13 @@ fn main(rt: HostRuntime) -> io::Result<()> {
         Ok(
             Run {
                 up: Some(up),
+                counts: Some(counts),
                 end: Some(end),
             },
-        ) => println!(rt; "the tree: {up:?}, then {end:?}")?,
+        ) => println!(rt;
+            "the tree: {up:?}, {} children, then {end:?}",
+            counts.active
+        )?,
         Ok(_) => println!(rt; "the tree had too few turns")?,
         Err(fault) => println!(rt; "the tree was not opened: {fault:?}")?,
     }

@@ -1,10 +1,11 @@
-//! A tree of jobs of one's own: opened, served by two hands in turn, asked to stop, and ended.
+//! A tree of jobs of one's own: opened, served by two hands in turn, called, asked to stop, and ended.
 ghost use Rattle.std.specs.Prelude.{◌≡◌, true, length, IfOk};
 
 use otp_bridge::BoxedSubsystem;
 use otp_inbox::InboxNaming;
 use otp_job::{Body, Job, Told, Turn};
 use otp_reason::{Name, Note, Reason, Started};
+use otp_rules::{Call, CountsNow, Reply};
 use otp_run::RunNaming;
 use otp_signals::WordsNaming;
 use otp_spec::{ChildSpec, SpecFault, SupFlags, SupSpec};
@@ -12,7 +13,7 @@ use otp_tree::{Client, Hand, Millis, Session, System, SystemFault, TablePlan, wi
 use std::alloc::{AllocError, Global};
 use std::sync::Wait;
 
-/// Works on until it is asked to shut down.
+/// Waits until it is asked to shut down.
 #[derive(Drop)]
 struct Steady;
 
@@ -30,7 +31,7 @@ impl Job for Steady {
     fn turn(&mut self, told: Told) -> Turn {
         match told {
             Told::Shutdown => Turn::End(Reason::Shutdown),
-            Told::Nothing => Turn::Again,
+            Told::Nothing => Turn::Wait,
         }
     }
 }
@@ -101,16 +102,20 @@ impl Millis for Still {
     }
 }
 
-/// What a tree told: when it was up, and at its end.
+/// What a tree told: when it was up, how many children the root had then, and its end.
 #[derive(Drop)]
 pub struct Run {
     pub up: Option<Note>,
+    pub counts: Option<CountsNow>,
     pub end: Option<Note>,
 }
 
-/// Serves the tree until its root tells that it is up, asks it to stop, and serves it until it tells its end.
+/// Serves the tree until its root tells that it is up, counts its children, asks it to stop, and serves it until it tells
+/// its end.
 #[derive(Drop)]
-struct UpAndDown;
+struct UpAndDown {
+    alloc: Global,
+}
 
 impl<R: Wait> Session<R, Steady, BoxedSubsystem> for UpAndDown {
     type Output = Run;
@@ -124,9 +129,46 @@ impl<R: Wait> Session<R, Steady, BoxedSubsystem> for UpAndDown {
     ) -> Self::Output {
         let (mut hands, mut client) = (hands, client);
         let up = next_note(rt, &system, &mut hands, &mut client);
+        let counts = count_children(rt, self.alloc, &system, &mut hands, &mut client);
         system.stop(&mut client);
         let end = next_note(rt, &system, &mut hands, &mut client);
-        Run { up, end }
+        Run { up, counts, end }
+    }
+}
+
+/// Gives each hand a hundred turns.
+fn serve_all<N, R>(
+    rt: &R,
+    system: &System<N, Steady, BoxedSubsystem>,
+    hands: &mut Vec<Hand<N, Steady, BoxedSubsystem>>,
+)
+where
+    N: WordsNaming + InboxNaming + RunNaming,
+    R: Wait,
+{
+    for place in 0..hands.len() {
+        system.serve(rt, &mut hands[place], &mut Still, 100);
+    }
+}
+
+/// Asks the root how many children it has (supervisor, count_children/1), and gives it turns to answer.
+fn count_children<N, R>(
+    rt: &R,
+    alloc: Global,
+    system: &System<N, Steady, BoxedSubsystem>,
+    hands: &mut Vec<Hand<N, Steady, BoxedSubsystem>>,
+    client: &mut Client<N, Body<Steady, BoxedSubsystem>>,
+) -> Option<CountsNow>
+where
+    N: WordsNaming + InboxNaming + RunNaming,
+    R: Wait,
+{
+    let call = system.submit(rt, alloc, client, 0, Call::CountChildren, None);
+    let number = call.ok()?;
+    serve_all(rt, system, hands);
+    match system.reply(rt, 0, number) {
+        Ok(Some(Reply::Count(counts))) => Some(counts),
+        _ => None,
     }
 }
 
@@ -142,9 +184,7 @@ where
     R: Wait,
 {
     for _ in 0..100 {
-        for place in 0..hands.len() {
-            system.serve(rt, &mut hands[place], &mut Still, 100);
-        }
+        serve_all(rt, system, hands);
         if let Some(note) = system.root_note(rt, client) {
             return Some(note);
         }
@@ -154,5 +194,5 @@ where
 
 /// A tree of one supervisor, for two hands.
 pub fn up_and_down<R: Wait>(rt: &R, alloc: Global) -> Result<Run, NoRun> {
-    Ok(with_system(rt, alloc, plans(alloc)?, 2, UpAndDown)?)
+    Ok(with_system(rt, alloc, plans(alloc)?, 2, UpAndDown { alloc })?)
 }

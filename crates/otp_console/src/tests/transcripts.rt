@@ -1,7 +1,7 @@
 //! The transcripts of the repository. `examples/check --table` writes this file from theirs.
 
 /// The name of each file that they name, and its text.
-pub(super) const FILES: [(&str, &str); 45] = [
+pub(super) const FILES: [(&str, &str); 46] = [
     (
         "all_significant.events",
         r##"up 1
@@ -658,6 +658,14 @@ at 1s crash db
 "##,
     ),
     (
+        "storm_misspelt.script",
+        r##"# A misspelt word: the line can't be read, and nothing behind it is played.
+crash db
++1s crsh db
++1s crash db
+"##,
+    ),
+    (
         "storm_not_running.script",
         r##"# A database that was terminated has no process, so a crash finds nobody.
 terminate db
@@ -744,7 +752,7 @@ start = "nap"
 ];
 
 /// The words, the file of the lines of standard input or `-`, and what is written and told, with the status.
-pub(super) const TRANSCRIPTS: [(&str, &str, &str); 38] = [
+pub(super) const TRANSCRIPTS: [(&str, &str, &str); 41] = [
     (
         "sim all_significant.toml",
         "all_significant.events",
@@ -1041,6 +1049,23 @@ status 5
 "##,
     ),
     (
+        "try storm.toml storm_misspelt.script",
+        "-",
+        r##"0.000 s  start db #1
+0.000 s  start cache #2
+0.000 s  start web #3
+0.000 s  ready
+line 2: crash db
+0.000 s  ask web #3
+0.000 s  ask cache #2
+0.000 s  start db #4
+0.000 s  start cache #5
+0.000 s  start web #6
+line 3: unknown word: a line is one of crash, exit, fail, ignore, hang, stop, at TIME, +TIME, or a call (start, restart, delete, terminate, get, which, count)
+status 5
+"##,
+    ),
+    (
         "try storm.toml storm_not_running.script",
         "-",
         r##"0.000 s  start db #1
@@ -1318,11 +1343,41 @@ status 0
 "##,
     ),
     (
+        "run nested.toml --schedulers 1 --turns 1000 --tree",
+        "-",
+        r##"table 0 starts 3 restarts 1 end shutdown
+table 1 starts 5 restarts 0 end shutdown
+live 0
+one_for_one, 2 restarts in 60 s, table 0: 3 starts, 1 restart, end shutdown
+|-- db    -
+`-- pool  -
+  one_for_one, 1 restart in 10 s, table 1: 5 starts, 0 restarts, end shutdown
+  |-- a  -
+  `-- b  -
+status 0
+"##,
+    ),
+    (
         "run nested.toml --schedulers 1",
         "-",
         r##"table 0 starts 3 restarts 1 end shutdown
 table 1 starts 5 restarts 0 end shutdown
 live 0
+status 0
+"##,
+    ),
+    (
+        "run nested.toml --schedulers 1 --turns 8 --tree",
+        "-",
+        r##"table 0 starts 2 restarts 0 end none
+table 1 starts 2 restarts 0 end none
+live 4
+one_for_one, 2 restarts in 60 s, table 0: 2 starts, 0 restarts, runs
+|-- db    up #2
+`-- pool  starting #3
+  one_for_one, 1 restart in 10 s, table 1: 2 starts, 0 restarts, runs
+  |-- a  up #4
+  `-- b  starting #5
 status 0
 "##,
     ),

@@ -2,9 +2,11 @@ use Rattle.otp_console.proofs.Told.{told_last}
 use Rattle.otp_console.proofs.program.run.Goals as goal
 
 pub returns : goal.returns
-returns g c = record {
-  ending = c.obey-ending.result;
-  status_is = c.tell.ensures.status;
-  done = c.obey-ending.ensures.done;
-  told = told_last c.obey-ending.result _ _ _ _ _ _ c.obey-ending.ensures.kept c.tell.ensures.kept c.obey-ending.ensures.first c.tell.ensures.told;
-}
+returns g c =
+    let obeyed = c.obey-ending.ensures.obeyed in record {
+      ending = c.obey-ending.result;
+      drawn = obeyed.drawn;
+      status_is = c.tell.ensures.status;
+      done = obeyed.done;
+      told = told_last obeyed.drawn c.obey-ending.result _ _ _ _ _ _ c.obey-ending.ensures.kept c.tell.ensures.kept obeyed.first c.tell.ensures.told;
+    }

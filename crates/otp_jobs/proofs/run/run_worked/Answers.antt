@@ -5,17 +5,11 @@ use Rattle.otp_tree.specs.Closes.{IsReportOf}
 use Rattle.otp_tree.specs.declared.whole.CountedRun.{CountedRun}
 use Rattle.otp_jobs.proofs.run.run_worked.Goals as goal
 
-pub returns-clause-report : goal.returns-clause-report
-returns-clause-report g c =
+pub returns-clause-run : goal.returns-clause-run
+returns-clause-run g c =
     let run : CountedRun WorkedJob Calm = c.in_ok-whole.whole in
     let is_report : IsReportOf (length c.in_ok-plans.plans.items) run.report = search rules in
-    let are_counted : length run.counts.items ≡ length c.in_ok-plans.plans.items = search rules in (
-      run,
-      (
-        record {
-          counts = are_counted ∙ c.in_ok-plans.ensures.count;
-          report = subst (λ n. IsReportOf n run.report) c.in_ok-plans.ensures.count is_report;
-        },
-        search rules,
-      ),
-    )
+    let are_counted : length run.counts.items ≡ length c.in_ok-plans.plans.items = search rules in record {
+      counts = are_counted ∙ c.in_ok-plans.ensures.count;
+      report = subst (λ n. IsReportOf n run.report) c.in_ok-plans.ensures.count is_report;
+    }

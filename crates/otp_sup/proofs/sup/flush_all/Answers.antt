@@ -10,6 +10,7 @@ loop-table-init g c =
       orders = sent_again c.flush_one-flushed.result _ _ _ _ _ _ _ _ (sent_none _ _) c.flush_one-flushed.ensures.flushed;
       taker = c.flush_one-flushed.ensures.taker;
       counts = c.flush_one-flushed.ensures.counts;
+      ends = c.flush_one-flushed.ensures.ends;
       count = c.flush_one-flushed.ensures.count;
       last = flushes_last c.flush_one-flushed.result _ _ _ _ _ _ _ c.flush_one-flushed.ensures.flushed (omega arith);
     }
@@ -22,6 +23,7 @@ loop-table-preserved g c =
       orders = sent_again c.flush_one-flushed-in-loop-table.result _ _ _ _ _ _ _ _ c.loop-table.invariant.orders c.flush_one-flushed-in-loop-table.ensures.flushed;
       taker = c.flush_one-flushed-in-loop-table.ensures.taker ∙ c.loop-table.invariant.taker;
       counts = c.flush_one-flushed-in-loop-table.ensures.counts ∙ c.loop-table.invariant.counts;
+      ends = c.flush_one-flushed-in-loop-table.ensures.ends ∙ c.loop-table.invariant.ends;
       count = c.flush_one-flushed-in-loop-table.ensures.count ∙ c.loop-table.invariant.count;
       last = flushes_last c.flush_one-flushed-in-loop-table.result _ _ _ _ _ _ _ c.flush_one-flushed-in-loop-table.ensures.flushed refused;
     }

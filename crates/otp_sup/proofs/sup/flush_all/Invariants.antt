@@ -13,6 +13,7 @@ invariant-loop-table g l =
       orders : SentOrders l.fn.table.office l.table.office (taken_by (g.P.Port.processes l.fn.port) (g.P.Port.notes l.fn.port)) (taken_by (g.P.Port.processes l.port) (g.P.Port.notes l.port));
       taker : l.table.taker ≡ l.fn.table.taker;
       counts : l.table.counts ≡ l.fn.table.counts;
+      ends : l.table.ends_told ≡ l.fn.table.ends_told;
       count : bodies_in l.table.bodies + carried (g.P.Port.processes l.port) ≡ bodies_in l.fn.table.bodies + carried (g.P.Port.processes l.fn.port);
       last : IsLast l.flushed l.table.office.outbox (g.P.Port.refusals l.fn.port) (g.P.Port.refusals l.port);
     }

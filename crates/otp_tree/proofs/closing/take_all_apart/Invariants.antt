@@ -1,6 +1,9 @@
-use Rattle.std.proofs.Common.{◌≡◌, ◌+◌, ◌≤◌, length}
+use Rattle.std.proofs.Common.{◌≡◌, ◌+◌, ◌≤◌, ◌++◌, drop, length}
 use Rattle.std.specs.Prelude.{All, vec_capacity, vec_len}
-use Rattle.otp_tree.specs.Closes.{AreApart, HasBegun}
+use Rattle.otp_inbox.specs.Lists.{AsOften}
+use Rattle.otp_run.specs.Lists.{AllAt}
+use Rattle.otp_tree.specs.Closes.{AreApart, HasBegun, HasTold}
+use Rattle.otp_tree.specs.Leavings.{HasUnsent, line_of, sent_at}
 use Rattle.otp_tree.proofs.Apart.{Seen}
 use Rattle.otp_tree.proofs.closing.take_all_apart.Given as goal
 
@@ -8,9 +11,17 @@ abbrev pub invariant-loop-sup : goal.invariant-loop-sup
 invariant-loop-sup g l =
     record {
       left : l.sup-iterator.rest.len ≡ length l.sup-iterator.rest.items;
+      left_too : l.senders.rest.len ≡ length l.senders.rest.items;
+      left_rooms : l.rooms.rest.len ≡ length l.rooms.rest.items;
       room : vec_len l.tables + length l.sup-iterator.rest.items ≤ vec_capacity l.tables;
       count : length l.tables.items + length l.sup-iterator.rest.items ≡ length l.fn.sups.items;
       begins : All HasBegun l.tables.items;
+      shown : All HasTold l.tables.items;
       apart : AreApart l.tables.items;
       seen : All (Seen l.owner.drawn) l.tables.items;
+      unsent : All HasUnsent l.tables.items;
+      done : AllAt (λ k t. AsOften (sent_at k l.fn.senders.items) (line_of t)) l.tables.items;
+      sups : drop (length l.tables.items) l.fn.sups.items ≡ l.sup-iterator.rest.items;
+      senders : drop (length l.tables.items) l.fn.senders.items ≡ l.senders.rest.items;
+      rooms : drop (length l.tables.items) l.fn.rooms.items ≡ l.rooms.rest.items;
     }

@@ -1,7 +1,8 @@
-use Rattle.std.proofs.Common.{◌≡◌, ℕ, ◌+◌, [], ◌∷◌, length, sym, ap, ◌∙◌, arith, length-append}
+use Rattle.std.proofs.Common.{◌≡◌, ℕ, ◌+◌, [], ◌∷◌, length, map, sym, ap, ◌∙◌, arith, length-append}
 use Rattle.std.proofs.lemmas.List.{length-map}
+use Rattle.otp_tree.specs.Hands.{senders_of}
 use Rattle.otp_tree.specs.Partings.{scheduler_of, schedulers_of}
-use Rattle.otp_tree.proofs.Partings.{parted-more, paired-more, parted-all, schedulers-joined}
+use Rattle.otp_tree.proofs.Partings.{parted-more, paired-more, parted-all, schedulers-joined, senders-joined}
 use Rattle.otp_tree.proofs.parting.part_all.Goals as goal
 
 pub loop-hand-preserved : goal.loop-hand-preserved
@@ -43,3 +44,6 @@ returns-clause-same g c = ap schedulers_of (sym (returns-clause-hands g c)) ∙ 
 
 pub returns-clause-count : goal.returns-clause-count
 returns-clause-count g c = sym (ap length (returns-clause-same g c)) ∙ length-map c.args.hands.items scheduler_of
+
+pub returns-clause-senders : goal.returns-clause-senders
+returns-clause-senders g c = senders-joined c.loop-hand.schedulers.items c.loop-hand.rests.items c.loop-hand.invariant.paired c.loop-hand.invariant.many ∙ ap (λ l. map senders_of l) (returns-clause-hands g c)

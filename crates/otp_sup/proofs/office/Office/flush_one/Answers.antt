@@ -1,14 +1,15 @@
-use Rattle.std.proofs.Common.{◌≡◌, refl, ap, sym, ◌∙◌, Bool, true, List, [], ◌∷◌, ◌++◌, subst, arith}
+use Rattle.std.proofs.Common.{◌≡◌, refl, ap, sym, ◌∙◌, Bool, true, List, [], ◌∷◌, ◌++◌, Option, subst, arith}
 use Rattle.otp_core.specs.View.{state_of}
 use Rattle.otp_sup.proofs.Leaving.{starts_slot}
 use Rattle.std.specs.Prelude.{is_some}
-use Rattle.otp_reason.specs.declared.note.Note.{Note}
 use Rattle.otp_signals.specs.declared.signal.Signal.TheVariants as signal
 use Rattle.otp_sup.specs.declared.orders.Sending.{Sending}
 use Rattle.otp_sup.specs.Facts.{OfficeView}
-use Rattle.otp_sup.specs.Flushes.{IsSent}
+use Rattle.otp_sup.specs.Flushes.{IsSent, first_end}
+use Rattle.otp_rules.specs.declared.ending.SupEnd.{SupEnd}
 use Rattle.otp_sup.specs.declared.port.Launched.{Launched}
-use Rattle.otp_sup.specs.Ports.{Taken, taken_by, carried}
+use Rattle.otp_sup.specs.declared.port.ToldNote.{ToldNote}
+use Rattle.otp_sup.specs.Ports.{Taken, taken_by, carried, told}
 use Rattle.otp_sup.proofs.Sends.{sent_first, last_post, carried_last}
 use Rattle.otp_sup.proofs.office.Office.flush_one.Goals as goal
 
@@ -50,7 +51,7 @@ returns-in_default-put-clause-flushed g c =
     let put : Launched = record { number = c.in-Start.number; slot = c.post-slot.result; body = true } in
     let has : is_some c.args.body ≡ true = c.requires (starts_slot old c.in-Some.how c.in-Start.number (state_of old.core).rows (c.in-Some.ensures {u = tt}) c.in-Start.is) in
     let took : after ≡ record before { processes = before.processes ++ put ∷ [] } =
-    ap (λ (l : List Launched). taken_by l (g.P.Port.notes c.put.new.self)) (h.took ∙ ap (λ (b : Bool). before.processes ++ record { number = c.in-Start.number; slot = c.post-slot.result; body = b } ∷ []) has) ∙ ap (λ (l : List Note). taken_by (before.processes ++ put ∷ []) l) h.notes in
+    ap (λ (l : List Launched). taken_by l (g.P.Port.notes c.put.new.self)) (h.took ∙ ap (λ (b : Bool). before.processes ++ record { number = c.in-Start.number; slot = c.post-slot.result; body = b } ∷ []) has) ∙ ap (λ (l : List ToldNote). taken_by (before.processes ++ put ∷ []) l) h.notes in
     let S : Sending → Type 0 = λ w. IsSent w old new before after in (
       sent_first old _ new c.in-Some.how before after (c.in-Some.ensures {u = tt}) (ap (λ (o : OfficeView). o.outbox) p.owner) (ap (λ (o : OfficeView). o.sent) p.owner) (ap (λ (o : OfficeView). o.core) p.owner) (ap (λ (o : OfficeView). o.first_slot) p.owner) stepped
           (subst S (sym c.in-Start.is) (record { slot = c.post-slot.result; posted = last_post old _ new c.in-Start.number c.post-slot.result signal.None p stepped; took = took })),
@@ -72,8 +73,10 @@ returns-in_default-send-clause-flushed g c =
     let h = c.in_default-send.ensures {u = tt} in
     let before : Taken = taken_by (g.P.Port.processes c.args.port.now) (g.P.Port.notes c.args.port.now) in
     let after : Taken = taken_by (g.P.Port.processes c.send.new.self) (g.P.Port.notes c.send.new.self) in
-    let took : after ≡ record before { notes = before.notes ++ c.in-Tell.note ∷ [] } =
-    ap (λ (l : List Launched). taken_by l (g.P.Port.notes c.send.new.self)) h.processes ∙ ap (λ (l : List Note). taken_by before.processes l) h.took in
+    let took : after ≡ record before { notes = before.notes ++ told c.in-Tell.note (first_end old.outbox) ∷ [] } =
+    ap (λ (l : List Launched). taken_by l (g.P.Port.notes c.send.new.self)) h.processes
+    ∙ ap (λ (l : List ToldNote). taken_by before.processes l) h.took
+    ∙ ap (λ (e : Option SupEnd). taken_by before.processes (before.notes ++ told c.in-Tell.note e ∷ [])) c.first_end-end.ensures.end in
     let S : Sending → Type 0 = λ w. IsSent w old new before after in (
       sent_first old old new c.in-Some.how before after (c.in-Some.ensures {u = tt}) refl refl refl refl stepped
           (subst S (sym c.in-Tell.is) (record { owner = ap (λ (o : OfficeView). o.owner) stepped; took = took })),

@@ -16,6 +16,7 @@ returns-clause-one_table g c =
       left = c.flush_all.ensures.sent;
       taker = c.flush_all.ensures.taker;
       counts = c.flush_all.ensures.counts;
+      ends = c.flush_all.ensures.ends;
       count = c.flush_all.ensures.count;
       kept = c.keeps_rules-2.ensures;
     })

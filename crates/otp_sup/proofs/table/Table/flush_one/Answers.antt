@@ -1,4 +1,4 @@
-use Rattle.std.proofs.Common.{◌≡◌, List, Option, ℕ, ap, sym, ◌∙◌, subst, IsSome}
+use Rattle.std.proofs.Common.{◌≡◌, List, Option, ℕ, ap, refl, sym, ◌∙◌, subst, IsSome}
 use Rattle.otp_core.specs.View.{View, state_of}
 use Rattle.otp_counts.specs.Counts.{EndsWith}
 use Rattle.otp_rules.specs.Counts.{counts_of}
@@ -8,6 +8,7 @@ use Rattle.otp_sup.specs.Facts.{HasBodies, OfficeView, items_of}
 use Rattle.otp_sup.proofs.Flushing.{bodies_flushed, start_leaves}
 use Rattle.otp_sup.specs.declared.bodies.Kept.{Kept}
 use Rattle.otp_sup.proofs.Calls.{sent_calls}
+use Rattle.otp_sup.proofs.Telling.{told_same}
 use Rattle.otp_sup.proofs.Leaving.{Left, flushes_core, flushes_none, left_or_not}
 use Rattle.otp_sup.proofs.table.Table.flush_one.Goals as goal
 
@@ -40,6 +41,7 @@ invariant_of-self g c =
           ∙ ap (λ (v : View). starts_waiting (state_of v).waiting) (sym core);
       bodies = subst Has (sym is) (subst Slot (sym c.starting_slot-slot.ensures) (bodies_flushed _ _ _ _ _ _ _ c.self.inside.bodies.kept c.keeps_rules.ensures sent.flushed c.self.invariant.bodies));
       counts = subst (λ (v : View). EndsWith (counts_of (state_of v)) c.self.inside.counts.published) (sym core) c.self.invariant.counts;
+      told = told_same _ _ _ _ (ap (λ (v : View). v.history) core) refl c.self.invariant.told;
     }
 
 pub flush_one-flushed-requires : goal.flush_one-flushed-requires

@@ -16,4 +16,5 @@ invariant_of-self g c =
       calls = ap calls_waiting c.take_of_nobody.ensures.kept ∙ without_calls (is_stray) c.self.inside.bodies.kept (λ b t. (and_parts _ _ t).1) ∙ c.self.invariant.calls;
       bodies = subst Has (sym c.take_of_nobody.ensures.kept) (stray_bodies (state_of c.self.inside.office.core) (starts_in c.self.inside.office.outbox) c.self.inside.bodies.kept c.self.invariant.bodies);
       counts = c.self.invariant.counts;
+      told = c.self.invariant.told;
     }

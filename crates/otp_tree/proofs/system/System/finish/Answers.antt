@@ -11,7 +11,9 @@ returns-in-Ok-clause-report g c =
     record {
       count = e.count;
       begins = e.begins;
+      shown = e.shown;
       apart = e.apart;
+      unsent = e.unsent;
       told = e.told;
       processes = record {
         balance = e.begun ∙ total.balance ∙ ap (λ n. n + report.live) (sym e.ended);

@@ -1,4 +1,4 @@
-use Rattle.std.proofs.Common.{◌≡◌, ◌<◌, List, [], length, OnOk, refl, slice_set, subst, sym}
+use Rattle.std.proofs.Common.{◌<◌, List, length, OnOk, refl, slice_set, subst, sym}
 use Rattle.std.specs.Prelude.{Ok, Err}
 use Rattle.otp_try.specs.Played.{IsAt, Seated, Tells}
 use Rattle.otp_try.proofs.Tellings.{tells-anew, tells-then}

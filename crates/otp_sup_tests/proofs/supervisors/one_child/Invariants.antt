@@ -1,0 +1,7 @@
+use Rattle.otp_sup_tests.proofs.supervisors.one_child.Given as goal
+
+abbrev pub ghosts-one_child_in-N-WordsNaming : goal.ghosts-one_child_in-N-WordsNaming
+ghosts-one_child_in-N-WordsNaming g a = record { words = a.words.words }
+
+abbrev pub ghosts-one_child_in-N-InboxNaming : goal.ghosts-one_child_in-N-InboxNaming
+ghosts-one_child_in-N-InboxNaming g a = record { inbox = λ number. a.inbox }

@@ -1,0 +1,7 @@
+use Rattle.otp_sup_tests.proofs.tables.refused_order.Given as goal
+
+abbrev pub ghosts-refused_in-N-WordsNaming : goal.ghosts-refused_in-N-WordsNaming
+ghosts-refused_in-N-WordsNaming g a = record { words = a.words.words }
+
+abbrev pub ghosts-refused_in-N-InboxNaming : goal.ghosts-refused_in-N-InboxNaming
+ghosts-refused_in-N-InboxNaming g a = record { inbox = λ number. a.inbox }

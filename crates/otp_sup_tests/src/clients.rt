@@ -1,0 +1,213 @@
+// Calls that two clients send from threads of their own, while a third thread takes turns of the supervisor.
+ghost use Rattle.std.specs.Prelude.{◌≡◌};
+
+use otp_core::History;
+use otp_counts::Publisher;
+use otp_inbox::{InboxNaming, UnnamedInbox};
+use otp_rules::{Call, CountsNow, Item, Kind, Reply};
+use otp_signals::{OpenWords, Signal, Words, WordsNaming};
+use otp_spec::{SupFlags, SupSpec};
+use otp_sup::{
+    Bodies, Client, Letter, MemoryPort, Office, SplitFault, SubmitCause, Sup, Table, TurnAnswer,
+    count_opened,
+};
+use std::alloc::Global;
+use std::marker::Brand;
+use std::process::Abort;
+use std::sync::Wait;
+use std::test::*;
+use std::thread;
+use std::thread::Threads;
+
+// How many calls each client sends.
+const CALLS: u64 = 10_000;
+
+type Post = Letter<u64>;
+
+#[test]
+fn two_clients_and_a_hand(rt: HostRuntime) -> Result<(), Fail> {
+    let words = OpenWords::open(rt.alloc(), 256)?;
+    let inbox = UnnamedInbox::<Item, Post>::open(rt.alloc())?;
+    clients_in::<Brand, _>(&rt, rt.alloc(), words, inbox)
+}
+
+// A supervisor without children, and its first client, which may draw the numbers of all calls.
+fn make_one<N: WordsNaming + InboxNaming>(
+    alloc: Global,
+    words: OpenWords,
+    inbox: UnnamedInbox<Item, Post>,
+) -> Result<(Words<N>, Sup<N, u64>, Client<N, u64>), Fail>
+    requires words { words.words ≡ N.words }
+    requires slots { words.slots ≡ 256 }
+    requires inbox { inbox ≡ N.inbox 0 }
+{
+    let (words, mut owner) = words.named::<N>();
+    let (inbox, taker, sender) = inbox.named::<N>(0);
+    let seat = words.split(&mut owner, 0..256, 100)?;
+    let callers = words.split(&mut owner, 0..0, 2 * CALLS)?;
+    let supervisor = SupSpec::check(SupFlags::default(), Vec::new(alloc))?;
+    let bodies = Bodies::new(alloc);
+    if !bodies.are_ready(count_opened(&supervisor)) {
+        return Err("a body is wanted".into());
+    }
+    let office = Office::open(alloc, supervisor, seat, 0);
+    let counts = Publisher::open(alloc, office.counts())?;
+    let table = Table::new(alloc, office, taker, bodies, counts);
+    let client = Client::new(alloc, callers, sender);
+    Ok((words, Sup::new(inbox, table), client))
+}
+
+fn clients_in<N: WordsNaming + InboxNaming + Send + Sync, R: Threads + Wait + Abort + Sync>(
+    rt: &R,
+    alloc: Global,
+    words: OpenWords,
+    inbox: UnnamedInbox<Item, Post>,
+) -> Result<(), Fail>
+    requires words { words.words ≡ N.words }
+    requires slots { words.slots ≡ 256 }
+    requires inbox { inbox ≡ N.inbox 0 }
+{
+    let (words, sup, mut first) = make_one::<N>(alloc, words, inbox)?;
+    let mut port = MemoryPort::new(alloc);
+    let opened = sup.turn(rt, &words, &mut port, 0, 0, Signal::None);
+    assert_eq!(rt; opened, Ok(TurnAnswer::Opened));
+    let second = split(rt, &mut first, &words, &sup)?;
+    let (shared, lent) = (&sup, &words);
+    let (sent, port) = thread::join(
+        rt,
+        move || thread::join(
+            rt,
+            move || send_all(rt, alloc, shared, lent, first),
+            move || send_all(rt, alloc, shared, lent, second),
+        ),
+        move || serve(rt, shared, lent, port),
+    );
+    assert!(rt; port.processes.is_empty());
+    let (first, second) = (sent.0?, sent.1?);
+    answered(rt, &sup, first.as_slice())?;
+    answered(rt, &sup, second.as_slice())?;
+    let mut taken = Vec::new(alloc);
+    for _ in 0..2 * CALLS + 1 {
+        taken.push(0)?;
+    }
+    let parts = sup.unlock().into_parts();
+    assert!(rt; count_taken(parts.core.history(), taken.as_mut_slice()));
+    assert!(rt; are_once(taken.as_slice(), first.as_slice()));
+    assert!(rt; are_once(taken.as_slice(), second.as_slice()));
+    assert_eq!(rt; parts.core.history().len() as u64, 2 * CALLS + 1);
+    Ok(())
+}
+
+// Counts how often the history has each call, by the call's number. Behind its opening it has no other event.
+fn count_taken(history: &History, taken: &mut [u64]) -> bool {
+    for place in 1..history.len() {
+        let Kind::Took(Item::Call(number, Call::CountChildren)) = history.get(place).kind else {
+            return false;
+        };
+        let Some(count) = taken.get_mut(number as usize) else {
+            return false;
+        };
+        *count = count.saturating_add(1);
+    }
+    true
+}
+
+// Each of these calls was taken once.
+fn are_once(taken: &[u64], calls: &[u64]) -> bool {
+    calls
+        .iter()
+        .all(|call| taken.get(*call as usize) == Some(&1))
+}
+
+// Another client with half of the numbers; the first can't have more than it has, and sends no body that no call wants.
+fn split<N: WordsNaming + InboxNaming, R: Wait + Abort>(
+    rt: &R,
+    first: &mut Client<N, u64>,
+    words: &Words<N>,
+    sup: &Sup<N, u64>,
+) -> Result<Client<N, u64>, Fail> {
+    assert_eq!(rt; first.number(), sup.inbox().number());
+    let more = first.split(words, sup.inbox(), 2 * CALLS + 1);
+    assert_eq!(rt; more.err(), Some(SplitFault::Exhausted));
+    let wrong = first.submit(rt, words, sup.inbox(), Call::CountChildren, Some(3));
+    let why = wrong.err().map(|fault| (fault.cause, fault.body));
+    assert_eq!(rt; why, Some((SubmitCause::WrongBody, Some(3))));
+    let second = first.split(words, sup.inbox(), CALLS);
+    Ok(second.map_err(|_| "a client was refused")?)
+}
+
+// Sends its calls, and answers their numbers. One more is refused, as no number is left.
+fn send_all<N: WordsNaming + InboxNaming, R: Wait + Abort>(
+    rt: &R,
+    alloc: Global,
+    sup: &Sup<N, u64>,
+    words: &Words<N>,
+    mut client: Client<N, u64>,
+) -> Result<Vec<u64>, &'static str> {
+    let mut numbers = Vec::new(alloc);
+    for _ in 0..CALLS {
+        match send_one(rt, sup, words, &mut client) {
+            Ok(number) => numbers.push(number).map_err(|_| "no memory")?,
+            Err(_) => return Err("a call was refused"),
+        }
+    }
+    let more = send_one(rt, sup, words, &mut client);
+    assert_eq!(rt; more, Err(SubmitCause::Exhausted));
+    Ok(numbers)
+}
+
+fn send_one<N: WordsNaming + InboxNaming, R: Wait + Abort>(
+    rt: &R,
+    sup: &Sup<N, u64>,
+    words: &Words<N>,
+    client: &mut Client<N, u64>,
+) -> Result<u64, SubmitCause> {
+    assert_eq!(rt; client.number(), sup.inbox().number());
+    let sent = client.submit(rt, words, sup.inbox(), Call::CountChildren, None);
+    sent.map_err(|fault| fault.cause)
+}
+
+// Takes turns until all calls were taken: no other item comes.
+fn serve<N: WordsNaming + InboxNaming, R: Wait + Abort>(
+    rt: &R,
+    sup: &Sup<N, u64>,
+    words: &Words<N>,
+    mut port: MemoryPort<u64>,
+) -> MemoryPort<u64> {
+    let mut taken = 0u64;
+    for _ in rt.forever() {
+        if taken >= 2 * CALLS {
+            break;
+        }
+        match sup.turn(rt, words, &mut port, 0, 0, Signal::None) {
+            Ok(TurnAnswer::Took) => taken += 1,
+            Ok(TurnAnswer::Quiet) => thread::yield_now(),
+            _ => assert!(rt; false),
+        }
+    }
+    port
+}
+
+// Each call was taken once, and answered.
+fn answered<N: WordsNaming + InboxNaming, R: Wait + Abort>(
+    rt: &R,
+    sup: &Sup<N, u64>,
+    numbers: &[u64],
+) -> Result<(), Fail> {
+    assert_eq!(rt; numbers.len() as u64, CALLS);
+    for number in numbers {
+        assert!(rt; is_count(sup.reply(rt, *number)?));
+    }
+    Ok(())
+}
+
+// What count_children answers where there are no children.
+fn is_count(reply: Option<Reply>) -> bool {
+    let none = CountsNow {
+        specs: 0,
+        active: 0,
+        supervisors: 0,
+        workers: 0,
+    };
+    matches!(reply, Some(Reply::Count(now)) if now == none)
+}

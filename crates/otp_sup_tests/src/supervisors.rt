@@ -1,0 +1,390 @@
+// Supervisors under a lock, driven by hand over a port in memory.
+ghost use Rattle.std.specs.Prelude.{◌≡◌, ◌≤◌, ◌<◌, ◌^◌};
+
+use otp_counts::Publisher;
+use otp_inbox::{InboxNaming, Sender, UnnamedInbox};
+use otp_reason::{Name, Note, Reason, Text};
+use otp_rules::{Call, CallFault, Item, Reply};
+use otp_signals::{OpenWords, Signal, Viewer, Words, WordsNaming};
+use otp_spec::{ChildSpec, SupFlags, SupSpec, copy_specs};
+use otp_sup::{
+    Bodies, Client, Letter, MemoryPort, Office, SubmitCause, Sup, Table, TurnAnswer, TurnFault,
+    count_opened,
+};
+use std::alloc::Global;
+use std::marker::Brand;
+use std::process::Abort;
+use std::sync::Wait;
+use std::test::*;
+
+// What a child runs here: it can be told from others by its tag.
+trait Job: Send + Drop {
+    fn tag(&self) -> u64;
+}
+
+#[derive(Drop)]
+struct Tagged {
+    tag: u64,
+}
+
+impl Job for Tagged {
+    fn tag(&self) -> u64 {
+        self.tag
+    }
+}
+
+type Body = Box<dyn Job, Global>;
+
+type Post = Letter<Body>;
+
+// The specification of the one child, `a`.
+fn child() -> Result<ChildSpec, Fail> {
+    let id = Name::new(b"a").ok_or("a name")?;
+    Ok(ChildSpec::new(id, id))
+}
+
+// A supervisor, and what a test needs to drive it.
+#[derive(Drop)]
+struct Driven<N: WordsNaming + InboxNaming, B: Drop> {
+    words: Words<N>,
+    viewer: Viewer<N>,
+    sup: Sup<N, B>,
+    sender: Sender<N, Item, Letter<B>>,
+    client: Client<N, B>,
+    port: MemoryPort<B>,
+}
+
+// A supervisor of the child `a`, with this body for it.
+fn make_driven<N: WordsNaming + InboxNaming, B: Drop>(
+    alloc: Global,
+    words: OpenWords,
+    inbox: UnnamedInbox<Item, Letter<B>>,
+    body: B,
+) -> Result<Driven<N, B>, Fail>
+    requires words { words.words ≡ N.words }
+    requires slots { words.slots ≡ 256 }
+    requires inbox { inbox ≡ N.inbox 0 }
+{
+    let (words, mut owner) = words.named::<N>();
+    let seat = words.split(&mut owner, 0..256, 1000)?;
+    let viewer = words.viewer(&mut owner);
+    let (inbox, taker, mut sender) = inbox.named::<N>(0);
+    let client = Client::new(alloc, owner, inbox.split(&mut sender, 1));
+    let supervisor = SupSpec::check(SupFlags::default(), copy_specs(alloc, &[child()?])?)?;
+    let mut bodies = Bodies::new(alloc);
+    if bodies.hand_in(0, body).is_err() || !bodies.are_ready(count_opened(&supervisor)) {
+        return Err("a body was refused".into());
+    }
+    let office = Office::open(alloc, supervisor, seat, 0);
+    let counts = Publisher::open(alloc, office.counts())?;
+    let sup = Sup::new(inbox, Table::new(alloc, office, taker, bodies, counts));
+    Ok(Driven {
+        words,
+        viewer,
+        sup,
+        sender,
+        client,
+        port: MemoryPort::new(alloc),
+    })
+}
+
+impl<N: WordsNaming + InboxNaming, B: Drop> Driven<N, B> {
+    // A turn. Under `rt try --test --fail-alloc N` memory is refused once: nothing has happened then, and the same turn
+    // with memory does what it would have done.
+    fn turn<R: Wait + Abort>(
+        &mut self,
+        rt: &R,
+        number: u64,
+        reading: u64,
+        told: Signal,
+    ) -> Result<TurnAnswer, TurnFault>
+        requires { reading ≤ 2 ^ 62 }
+    {
+        let before = (self.port.processes.len(), self.port.notes.len());
+        let turned = self.turn_once(rt, number, reading, told);
+        if turned == Err(TurnFault::OutOfMemory) {
+            let after = (self.port.processes.len(), self.port.notes.len());
+            assert_eq!(rt; after, before);
+            return self.turn_once(rt, number, reading, told);
+        }
+        turned
+    }
+
+    // Where the port was refused memory, the order stayed: the next turn says so, and sends it.
+    fn send_orders<R: Wait + Abort>(&mut self, rt: &R, number: u64, is_sent: bool) {
+        if !is_sent {
+            let turned = self.turn_once(rt, number, 0, Signal::None);
+            assert_eq!(rt; turned, Ok(TurnAnswer::Pending));
+        }
+    }
+
+    // A call, with a body where it starts a child. Where memory is refused the body comes back, and it is sent again.
+    fn call<R: Wait + Abort>(&mut self, rt: &R, call: Call, body: Option<B>) -> u64 {
+        match self.call_once(rt, call, body) {
+            Ok(number) => number,
+            Err((cause, body)) => {
+                assert_eq!(rt; cause, SubmitCause::OutOfMemory);
+                let sent = self.call_once(rt, call, body);
+                assert!(rt; sent.is_ok());
+                sent.map_err(|_| ()).unwrap_or(0)
+            }
+        }
+    }
+
+    fn call_once<R: Wait + Abort>(
+        &mut self,
+        rt: &R,
+        call: Call,
+        body: Option<B>,
+    ) -> Result<u64, (SubmitCause, Option<B>)> {
+        assert_eq!(rt; self.client.number(), self.sup.inbox().number());
+        let sent = self
+            .client
+            .submit(rt, &self.words, self.sup.inbox(), call, body);
+        sent.map_err(|fault| (fault.cause, fault.body))
+    }
+
+    fn turn_once<R: Wait>(
+        &mut self,
+        rt: &R,
+        number: u64,
+        reading: u64,
+        told: Signal,
+    ) -> Result<TurnAnswer, TurnFault>
+        requires { reading ≤ 2 ^ 62 }
+    {
+        self.sup
+            .turn(rt, &self.words, &mut self.port, number, reading, told)
+    }
+
+    // Sends a letter. Where memory is refused it comes back, and is sent again.
+    fn send<R: Wait + Abort>(&mut self, rt: &R, letter: Letter<B>) {
+        if let Some(letter) = self.send_once(rt, letter) {
+            assert!(rt; self.send_once(rt, letter).is_none());
+        }
+    }
+
+    fn send_once<R: Wait + Abort>(&mut self, rt: &R, letter: Letter<B>) -> Option<Letter<B>> {
+        assert_eq!(rt; self.sender.number(), self.sup.inbox().number());
+        assert!(rt; self.sender.parts() > 0);
+        self.sup.inbox().send(rt, &mut self.sender, letter).err()
+    }
+
+    // What the child's process sees.
+    fn signal<R: Abort>(&mut self, rt: &R, number: u64) -> Signal {
+        assert!(rt; self.words.slots() > 0);
+        self.words.look(&mut self.viewer, 0, number)
+    }
+
+    fn up<R: Wait + Abort>(&mut self, rt: &R, number: u64) {
+        let letter = Letter::note(Note::Up(number), None);
+        self.send(rt, letter);
+    }
+
+    fn exit<R: Wait + Abort>(&mut self, rt: &R, number: u64, reason: Reason, body: B) {
+        let letter = Letter::note(Note::Exit(number, reason), Some(body));
+        self.send(rt, letter);
+    }
+}
+
+// The number, the slot and the body's tag of the process that was put; the port has it no more.
+fn launched<N: WordsNaming + InboxNaming, R: Wait + Abort>(
+    rt: &R,
+    one: &mut Driven<N, Body>,
+    number: u64,
+) -> Option<(u64, usize, u64)> {
+    let is_put = !one.port.processes.is_empty();
+    one.send_orders(rt, number, is_put);
+    let process = one.port.processes.pop()?;
+    assert!(rt; one.port.processes.is_empty());
+    let tag = process.body.as_ref()?.tag();
+    Some((process.number, process.slot, tag))
+}
+
+// The note that the parent was told; the port has it no more.
+fn told<N: WordsNaming + InboxNaming, R: Wait + Abort>(
+    rt: &R,
+    one: &mut Driven<N, Body>,
+) -> Option<Note> {
+    let is_told = !one.port.notes.is_empty();
+    one.send_orders(rt, 0, is_told);
+    let told = one.port.notes.pop()?;
+    assert!(rt; one.port.notes.is_empty());
+    Some(told.note)
+}
+
+#[test]
+fn one_child(rt: HostRuntime) -> Result<(), Fail> {
+    let words = OpenWords::open(rt.alloc(), 256)?;
+    let inbox = UnnamedInbox::<Item, Post>::open(rt.alloc())?;
+    let bodies: (Body, Body, Body) = (
+        Box::new(rt.alloc(), Tagged { tag: 6 })?,
+        Box::new(rt.alloc(), Tagged { tag: 7 })?,
+        Box::new(rt.alloc(), Tagged { tag: 8 })?,
+    );
+    one_child_in::<Brand, _>(&rt, rt.alloc(), words, inbox, bodies)
+}
+
+fn is_send<T: Send>(_: &T) {}
+
+fn is_sync<T: Sync>(_: &T) {}
+
+// What threads share or carry can be shared and carried, with boxed jobs too.
+fn crosses_threads<N: WordsNaming + InboxNaming + Send + Sync>(one: &Driven<N, Body>) {
+    is_sync(&one.words);
+    is_send(&one.words);
+    is_send(&one.viewer);
+    is_sync(&one.sup);
+    is_send(&one.sup);
+    is_send(&one.sender);
+    is_send(&one.port);
+}
+
+// Opened, restarted, stopped, killed and ended, line by line.
+fn one_child_in<N: WordsNaming + InboxNaming + Send + Sync, R: Wait + Abort>(
+    rt: &R,
+    alloc: Global,
+    words: OpenWords,
+    inbox: UnnamedInbox<Item, Post>,
+    bodies: (Body, Body, Body),
+) -> Result<(), Fail>
+    requires words { words.words ≡ N.words }
+    requires slots { words.slots ≡ 256 }
+    requires inbox { inbox ≡ N.inbox 0 }
+{
+    let x = Text::new(b"x").ok_or("a text")?;
+    let (own, second, third) = bodies;
+    let mut one = make_driven::<N, Body>(alloc, words, inbox, own)?;
+    crosses_threads(&one);
+    assert_eq!(rt; one.turn(rt, 0, 0, Signal::None), Ok(TurnAnswer::Opened));
+    assert_eq!(rt; launched(rt, &mut one, 0), Some((1, 0, 6)));
+    assert_eq!(rt; one.turn(rt, 0, 0, Signal::None), Ok(TurnAnswer::Quiet));
+    assert_eq!(rt;
+        one.turn(rt, 3, 0, Signal::None),
+        Err(TurnFault::WrongNumber)
+    );
+    one.up(rt, 1);
+    assert_eq!(rt; one.turn(rt, 0, 0, Signal::None), Ok(TurnAnswer::Took));
+    assert_eq!(rt; told(rt, &mut one), Some(Note::Up(0)));
+    one.exit(rt, 1, Reason::Error(x), second);
+    assert_eq!(rt; one.turn(rt, 0, 1000, Signal::None), Ok(TurnAnswer::Took));
+    assert_eq!(rt; launched(rt, &mut one, 0), Some((2, 0, 7)));
+    one.up(rt, 2);
+    assert_eq!(rt; one.turn(rt, 0, 1000, Signal::None), Ok(TurnAnswer::Took));
+    assert_eq!(rt; one.signal(rt, 2), Signal::None);
+    assert_eq!(rt;
+        one.turn(rt, 0, 1000, Signal::Shutdown),
+        Ok(TurnAnswer::Stopped)
+    );
+    assert_eq!(rt; one.signal(rt, 2), Signal::Shutdown);
+    assert_eq!(rt; one.turn(rt, 0, 6000, Signal::None), Ok(TurnAnswer::Ticked));
+    assert_eq!(rt; one.signal(rt, 2), Signal::Kill);
+    one.exit(rt, 2, Reason::Killed, third);
+    assert_eq!(rt; one.turn(rt, 0, 6000, Signal::None), Ok(TurnAnswer::Took));
+    assert_eq!(rt; told(rt, &mut one), Some(Note::Exit(0, Reason::Shutdown)));
+    assert_eq!(rt; one.turn(rt, 0, 6000, Signal::None), Ok(TurnAnswer::Ended));
+    // Under a greater number it opens again, with the body that came home.
+    assert_eq!(rt; one.turn(rt, 9, 6000, Signal::None), Ok(TurnAnswer::Opened));
+    assert_eq!(rt; launched(rt, &mut one, 9), Some((3, 0, 8)));
+    assert_eq!(rt; one.turn(rt, 0, 6000, Signal::None), Ok(TurnAnswer::Ended));
+    assert!(rt; one.port.notes.is_empty());
+    Ok(())
+}
+
+#[test]
+fn bodies_come_back(rt: HostRuntime) -> Result<(), Fail> {
+    let words = OpenWords::open(rt.alloc(), 256)?;
+    let inbox = UnnamedInbox::<Item, Post>::open(rt.alloc())?;
+    let bodies: (Body, Body, Body) = (
+        Box::new(rt.alloc(), Tagged { tag: 6 })?,
+        Box::new(rt.alloc(), Tagged { tag: 7 })?,
+        Box::new(rt.alloc(), Tagged { tag: 8 })?,
+    );
+    bodies_in::<Brand, _>(&rt, rt.alloc(), words, inbox, bodies)
+}
+
+// The body of a call that was refused, and one that came with a note of no process, can be had once.
+fn bodies_in<N: WordsNaming + InboxNaming, R: Wait + Abort>(
+    rt: &R,
+    alloc: Global,
+    words: OpenWords,
+    inbox: UnnamedInbox<Item, Post>,
+    bodies: (Body, Body, Body),
+) -> Result<(), Fail>
+    requires words { words.words ≡ N.words }
+    requires slots { words.slots ≡ 256 }
+    requires inbox { inbox ≡ N.inbox 0 }
+{
+    let (own, second, third) = bodies;
+    let mut one = make_driven::<N, Body>(alloc, words, inbox, own)?;
+    assert_eq!(rt; one.turn(rt, 0, 0, Signal::None), Ok(TurnAnswer::Opened));
+    one.up(rt, 1);
+    assert_eq!(rt; one.turn(rt, 0, 0, Signal::None), Ok(TurnAnswer::Took));
+    let Ok(letter) = Letter::call(alloc, 40, Call::StartChild(child()?), Some(second)) else {
+        return Err("memory was refused".into());
+    };
+    one.send(rt, letter);
+    assert!(rt; one.sup.take_box(rt, 40).is_none());
+    assert_eq!(rt; one.turn(rt, 0, 0, Signal::None), Ok(TurnAnswer::Took));
+    let reply = one.sup.reply(rt, 40)?;
+    assert!(rt; matches!(reply, Some(Reply::Refused(CallFault::AlreadyStarted(1)))));
+    assert_eq!(rt; one.sup.take_box(rt, 40).map(|body| body.tag()), Some(7));
+    assert!(rt; one.sup.take_box(rt, 40).is_none());
+    one.exit(rt, 5, Reason::Normal, third);
+    assert!(rt; one.sup.take_stray(rt).is_none());
+    assert_eq!(rt; one.turn(rt, 0, 0, Signal::None), Ok(TurnAnswer::Took));
+    assert_eq!(rt; one.sup.take_stray(rt).map(|body| body.tag()), Some(8));
+    assert!(rt; one.sup.take_stray(rt).is_none());
+    Ok(())
+}
+
+#[test]
+fn refused_growths(rt: HostRuntime) -> Result<(), Fail> {
+    let words = OpenWords::open(rt.alloc(), 256)?;
+    let inbox = UnnamedInbox::<Item, Post>::open(rt.alloc())?;
+    let bodies: (Body, Body, Body) = (
+        Box::new(rt.alloc(), Tagged { tag: 6 })?,
+        Box::new(rt.alloc(), Tagged { tag: 7 })?,
+        Box::new(rt.alloc(), Tagged { tag: 8 })?,
+    );
+    growths_in::<Brand, _>(&rt, rt.alloc(), words, inbox, bodies)
+}
+
+// A turn, a call and the sending of an order. Of `rt try --test --fail-alloc N` the least N refuse what is opened, which
+// the test then tells; each of the next refuses one growth of these calls: nothing has happened, the body is back, and the
+// same call with memory then does what it would have done.
+fn growths_in<N: WordsNaming + InboxNaming, R: Wait + Abort>(
+    rt: &R,
+    alloc: Global,
+    words: OpenWords,
+    inbox: UnnamedInbox<Item, Post>,
+    bodies: (Body, Body, Body),
+) -> Result<(), Fail>
+    requires words { words.words ≡ N.words }
+    requires slots { words.slots ≡ 256 }
+    requires inbox { inbox ≡ N.inbox 0 }
+{
+    let x = Text::new(b"x").ok_or("a text")?;
+    let id = Name::new(b"b").ok_or("a name")?;
+    let (own, second, third) = bodies;
+    let mut one = make_driven::<N, Body>(alloc, words, inbox, own)?;
+    assert_eq!(rt; one.turn(rt, 0, 0, Signal::None), Ok(TurnAnswer::Opened));
+    assert_eq!(rt; launched(rt, &mut one, 0), Some((1, 0, 6)));
+    one.up(rt, 1);
+    assert_eq!(rt; one.turn(rt, 0, 0, Signal::None), Ok(TurnAnswer::Took));
+    assert_eq!(rt; told(rt, &mut one), Some(Note::Up(0)));
+    let call = one.call(rt, Call::StartChild(ChildSpec::new(id, id)), Some(second));
+    assert_eq!(rt; one.turn(rt, 0, 0, Signal::None), Ok(TurnAnswer::Took));
+    let started = launched(rt, &mut one, 0);
+    assert!(rt; matches!(started, Some((_, 1, 7))));
+    let child = started.map(|process| process.0).unwrap_or(0);
+    one.up(rt, child);
+    assert_eq!(rt; one.turn(rt, 0, 0, Signal::None), Ok(TurnAnswer::Took));
+    let reply = one.sup.reply(rt, call)?;
+    assert!(rt; matches!(reply, Some(Reply::OkProcess(number)) if number == child));
+    one.exit(rt, 1, Reason::Error(x), third);
+    assert_eq!(rt; one.turn(rt, 0, 0, Signal::None), Ok(TurnAnswer::Took));
+    let restarted = launched(rt, &mut one, 0);
+    assert!(rt; matches!(restarted, Some((number, 0, 8)) if number > child));
+    Ok(())
+}

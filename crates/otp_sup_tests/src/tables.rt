@@ -1,0 +1,341 @@
+// What lies under a supervisor's lock, without the lock: a turn at a time, and an order at a time, over a port in memory.
+ghost use Rattle.std.specs.Prelude.{◌≡◌, ◌≤◌, ◌<◌, ◌^◌, ◌++◌, ◌∷◌, [], is_some, option_copied, IfErr, OnErr, OnOk};
+ghost use Rattle.otp_rules.specs.declared.event.Item.TheVariants as item;
+ghost use Rattle.otp_sup.specs.Letters.{Comes};
+ghost use Rattle.otp_sup.specs.Ports.{launched, launched_all, told};
+
+use otp_counts::Publisher;
+use otp_inbox::{Inbox, InboxNaming, Sender, UnnamedInbox};
+use otp_reason::{Name, Note, Reason, Text};
+use otp_rules::{Call, CallFault, Cause, Item, Reply, SupEnd};
+use otp_signals::{OpenWords, Signal, Viewer, Words, WordsNaming};
+use otp_spec::{ChildSpec, SupFlags, SupSpec, copy_specs};
+use otp_sup::{
+    Bodies, Flushed, Letter, MemoryPort, NewProcess, Office, Port, Table, ToldNote, TurnAnswer,
+    TurnFault, count_opened,
+};
+use otp_tally::Tally;
+use std::alloc::Global;
+use std::marker::Brand;
+use std::process::Abort;
+use std::sync::Wait;
+use std::test::*;
+
+// A body is a number here.
+type Post = Letter<u64>;
+
+// The body that was handed in for the child `a`.
+const OWN: u64 = 6;
+
+// The specification of the one child, `a`.
+fn child() -> Result<ChildSpec, Fail> {
+    let id = Name::new(b"a").ok_or("a name")?;
+    Ok(ChildSpec::new(id, id))
+}
+
+// A table of the child `a`, and what a test needs to drive it.
+#[derive(Drop)]
+struct Alone<N: WordsNaming + InboxNaming> {
+    words: Words<N>,
+    viewer: Viewer<N>,
+    inbox: Inbox<N, Item, Post>,
+    table: Table<N, u64>,
+    sender: Sender<N, Item, Post>,
+    port: MemoryPort<u64>,
+}
+
+fn make_alone<N: WordsNaming + InboxNaming>(
+    alloc: Global,
+    words: OpenWords,
+    inbox: UnnamedInbox<Item, Post>,
+) -> Result<Alone<N>, Fail>
+    requires words { words.words ≡ N.words }
+    requires slots { words.slots ≡ 256 }
+    requires inbox { inbox ≡ N.inbox 0 }
+{
+    let (words, mut owner) = words.named::<N>();
+    let seat = words.split(&mut owner, 0..256, 1000)?;
+    let viewer = words.viewer(&mut owner);
+    let (inbox, taker, sender) = inbox.named::<N>(0);
+    let supervisor = SupSpec::check(SupFlags::default(), copy_specs(alloc, &[child()?])?)?;
+    let mut bodies = Bodies::new(alloc);
+    if bodies.hand_in(0, OWN).is_err() || !bodies.are_ready(count_opened(&supervisor)) {
+        return Err("a body was refused".into());
+    }
+    let office = Office::open(alloc, supervisor, seat, 0);
+    let counts = Publisher::open(alloc, office.counts())?;
+    Ok(Alone {
+        words,
+        viewer,
+        inbox,
+        table: Table::new(alloc, office, taker, bodies, counts),
+        sender,
+        port: MemoryPort::new(alloc),
+    })
+}
+
+impl<N: WordsNaming + InboxNaming> Alone<N> {
+    fn turn<R: Wait + Abort>(
+        &mut self,
+        rt: &R,
+        number: u64,
+        reading: u64,
+        told: Signal,
+    ) -> Result<TurnAnswer, TurnFault>
+        requires { reading ≤ 2 ^ 62 }
+    {
+        assert_eq!(rt; self.table.number(), self.inbox.number());
+        self.table
+            .turn(rt, &self.words, &self.inbox, number, reading, told)
+    }
+
+    // Sends orders one by one until none is left, and answers how many were sent.
+    fn flush<R: Abort>(&mut self, rt: &R) -> u64 {
+        let mut sent = 0u64;
+        for _ in 0..10 {
+            let flushed = self.table.flush_one(&self.words, &mut self.port);
+            if flushed == Flushed::Empty {
+                return sent;
+            }
+            assert_eq!(rt; flushed, Flushed::Sent);
+            sent = sent.saturating_add(1);
+        }
+        sent
+    }
+
+    // The number, the slot and the body of the process that was put; the port has it no more.
+    fn put(&mut self) -> Option<(u64, usize, u64)> {
+        let process = self.port.processes.pop()?;
+        Some((process.number, process.slot, process.body?))
+    }
+
+    // The note that the parent was told; the port has it no more.
+    fn told(&mut self) -> Option<Note> {
+        Some(self.port.notes.pop()?.note)
+    }
+
+    // Whether the last note that the parent was told brings the end of a supervisor that was asked to stop.
+    fn has_told_asked(&self) -> bool {
+        match self.port.notes.last() {
+            Some(
+                ToldNote {
+                    note: _,
+                    end: Some(end),
+                },
+            ) => matches!(end.end().cause, Cause::Asked),
+            _ => false,
+        }
+    }
+
+    // What the child's process sees.
+    fn signal<R: Abort>(&mut self, rt: &R, number: u64) -> Signal {
+        assert!(rt; self.words.slots() > 0);
+        self.words.look(&mut self.viewer, 0, number)
+    }
+
+    fn send<R: Wait + Abort>(&mut self, rt: &R, letter: Post) {
+        assert_eq!(rt; self.sender.number(), self.inbox.number());
+        assert!(rt; self.sender.parts() > 0);
+        assert!(rt; self.inbox.send(rt, &mut self.sender, letter).is_ok());
+    }
+
+    fn up<R: Wait + Abort>(&mut self, rt: &R, number: u64) {
+        let letter = Letter::note(Note::Up(number), None);
+        self.send(rt, letter);
+    }
+
+    fn exit<R: Wait + Abort>(&mut self, rt: &R, number: u64, reason: Reason, body: u64) {
+        let letter = Letter::note(Note::Exit(number, reason), Some(body));
+        self.send(rt, letter);
+    }
+}
+
+#[test]
+fn one_child_by_orders(rt: HostRuntime) -> Result<(), Fail> {
+    let words = OpenWords::open(rt.alloc(), 256)?;
+    let inbox = UnnamedInbox::<Item, Post>::open(rt.alloc())?;
+    by_orders_in::<Brand, _>(&rt, rt.alloc(), words, inbox)
+}
+
+// Opened, restarted, stopped, killed and ended: after each turn its orders are sent, and counted.
+fn by_orders_in<N: WordsNaming + InboxNaming, R: Wait + Abort>(
+    rt: &R,
+    alloc: Global,
+    words: OpenWords,
+    inbox: UnnamedInbox<Item, Post>,
+) -> Result<(), Fail>
+    requires words { words.words ≡ N.words }
+    requires slots { words.slots ≡ 256 }
+    requires inbox { inbox ≡ N.inbox 0 }
+{
+    let x = Text::new(b"x").ok_or("a text")?;
+    let mut one = make_alone::<N>(alloc, words, inbox)?;
+    assert_eq!(rt; one.turn(rt, 0, 0, Signal::None), Ok(TurnAnswer::Opened));
+    assert_eq!(rt; one.flush(rt), 1);
+    assert_eq!(rt; one.put(), Some((1, 0, OWN)));
+    assert_eq!(rt; one.turn(rt, 0, 0, Signal::None), Ok(TurnAnswer::Quiet));
+    assert_eq!(rt; one.flush(rt), 0);
+    assert_eq!(rt;
+        one.turn(rt, 3, 0, Signal::None),
+        Err(TurnFault::WrongNumber)
+    );
+    assert_eq!(rt; one.flush(rt), 0);
+    one.up(rt, 1);
+    assert_eq!(rt; one.turn(rt, 0, 0, Signal::None), Ok(TurnAnswer::Took));
+    assert_eq!(rt; one.flush(rt), 1);
+    assert_eq!(rt; one.told(), Some(Note::Up(0)));
+    one.exit(rt, 1, Reason::Error(x), 7);
+    assert_eq!(rt; one.turn(rt, 0, 1000, Signal::None), Ok(TurnAnswer::Took));
+    assert_eq!(rt; one.flush(rt), 1);
+    assert_eq!(rt; one.put(), Some((2, 0, 7)));
+    one.up(rt, 2);
+    assert_eq!(rt; one.turn(rt, 0, 1000, Signal::None), Ok(TurnAnswer::Took));
+    assert_eq!(rt; one.flush(rt), 0);
+    assert_eq!(rt;
+        one.turn(rt, 0, 1000, Signal::Shutdown),
+        Ok(TurnAnswer::Stopped)
+    );
+    assert_eq!(rt; one.signal(rt, 2), Signal::None);
+    assert_eq!(rt; one.flush(rt), 1);
+    assert_eq!(rt; one.signal(rt, 2), Signal::Shutdown);
+    assert_eq!(rt; one.turn(rt, 0, 6000, Signal::None), Ok(TurnAnswer::Ticked));
+    assert_eq!(rt; one.flush(rt), 1);
+    assert_eq!(rt; one.signal(rt, 2), Signal::Kill);
+    one.exit(rt, 2, Reason::Killed, 8);
+    assert_eq!(rt; one.turn(rt, 0, 6000, Signal::None), Ok(TurnAnswer::Took));
+    assert_eq!(rt; one.flush(rt), 1);
+    assert!(rt; one.has_told_asked());
+    assert_eq!(rt; one.told(), Some(Note::Exit(0, Reason::Shutdown)));
+    assert_eq!(rt; one.turn(rt, 0, 6000, Signal::None), Ok(TurnAnswer::Ended));
+    assert_eq!(rt; one.flush(rt), 0);
+    assert!(rt; one.port.processes.is_empty() && one.port.notes.is_empty());
+    let (office, _, _) = one.table.into_parts();
+    let (core, _) = office.into_parts();
+    assert_eq!(rt; core.history().len(), 7);
+    Ok(())
+}
+
+// A port that takes nothing.
+#[derive(Drop)]
+struct Shut {
+    processes: Vec<NewProcess<u64>>,
+    notes: Vec<ToldNote>,
+    refusals: Tally,
+}
+
+impl Port<u64> for Shut {
+    ghost use Rattle.otp_sup.specs.Ports.{launched_all};
+
+    ghost processes = { λ p. launched_all p.processes.items };
+
+    ghost notes = { λ p. p.notes.items };
+
+    ghost refusals = { λ p. p.refusals.count };
+
+    fn put(&mut self, process: NewProcess<u64>) -> Result<(), NewProcess<u64>>
+        ensures took { OnOk result (launched_all self.new.processes.items ≡ launched_all self.old.processes.items ++ launched process.number process.slot (is_some process.body) ∷ []) }
+        ensures kept { OnErr result (launched_all self.new.processes.items ≡ launched_all self.old.processes.items) }
+        ensures refused { OnErr result (self.old.refusals.count < self.new.refusals.count) }
+        ensures counted { OnOk result (self.new.refusals.count ≡ self.old.refusals.count) }
+        ensures back { IfErr result (λ back. back ≡ process) }
+        ensures notes { self.new.notes.items ≡ self.old.notes.items }
+    {
+        self.refusals.raise();
+        Err(process)
+    }
+
+    fn send(&mut self, note: Note, end: Option<&SupEnd>) -> Result<(), Note>
+        requires { Comes (item.Note note) (option_copied end) }
+        ensures took { OnOk result (self.new.notes.items ≡ self.old.notes.items ++ told note (option_copied end.entry) ∷ []) }
+        ensures kept { OnErr result (self.new.notes.items ≡ self.old.notes.items) }
+        ensures refused { OnErr result (self.old.refusals.count < self.new.refusals.count) }
+        ensures counted { OnOk result (self.new.refusals.count ≡ self.old.refusals.count) }
+        ensures processes { launched_all self.new.processes.items ≡ launched_all self.old.processes.items }
+    {
+        let _ = end;
+        self.refusals.raise();
+        Err(note)
+    }
+}
+
+#[test]
+fn refused_order(rt: HostRuntime) -> Result<(), Fail> {
+    let words = OpenWords::open(rt.alloc(), 256)?;
+    let inbox = UnnamedInbox::<Item, Post>::open(rt.alloc())?;
+    refused_in::<Brand, _>(&rt, rt.alloc(), words, inbox)
+}
+
+// An order that the port refuses stays, and so does the body: nothing happens before it was sent.
+fn refused_in<N: WordsNaming + InboxNaming, R: Wait + Abort>(
+    rt: &R,
+    alloc: Global,
+    words: OpenWords,
+    inbox: UnnamedInbox<Item, Post>,
+) -> Result<(), Fail>
+    requires words { words.words ≡ N.words }
+    requires slots { words.slots ≡ 256 }
+    requires inbox { inbox ≡ N.inbox 0 }
+{
+    let mut one = make_alone::<N>(alloc, words, inbox)?;
+    let mut shut = Shut {
+        processes: Vec::new(alloc),
+        notes: Vec::new(alloc),
+        refusals: Tally::new(),
+    };
+    assert_eq!(rt; one.turn(rt, 0, 0, Signal::None), Ok(TurnAnswer::Opened));
+    for _ in 0..2 {
+        assert_eq!(rt;
+            one.table.flush_one(&one.words, &mut shut),
+            Flushed::Refused
+        );
+        assert_eq!(rt; one.turn(rt, 0, 0, Signal::None), Ok(TurnAnswer::Pending));
+    }
+    assert_eq!(rt; one.flush(rt), 1);
+    assert_eq!(rt; one.put(), Some((1, 0, OWN)));
+    one.up(rt, 1);
+    assert_eq!(rt; one.turn(rt, 0, 0, Signal::None), Ok(TurnAnswer::Took));
+    assert_eq!(rt;
+        one.table.flush_one(&one.words, &mut shut),
+        Flushed::Refused
+    );
+    assert_eq!(rt; one.flush(rt), 1);
+    assert_eq!(rt; one.told(), Some(Note::Up(0)));
+    Ok(())
+}
+
+#[test]
+fn refused_start_call(rt: HostRuntime) -> Result<(), Fail> {
+    let words = OpenWords::open(rt.alloc(), 256)?;
+    let inbox = UnnamedInbox::<Item, Post>::open(rt.alloc())?;
+    start_call_in::<Brand, _>(&rt, rt.alloc(), words, inbox)
+}
+
+// A start_child of an id that runs orders nothing, and its body can be had back once, under the call's number.
+fn start_call_in<N: WordsNaming + InboxNaming, R: Wait + Abort>(
+    rt: &R,
+    alloc: Global,
+    words: OpenWords,
+    inbox: UnnamedInbox<Item, Post>,
+) -> Result<(), Fail>
+    requires words { words.words ≡ N.words }
+    requires slots { words.slots ≡ 256 }
+    requires inbox { inbox ≡ N.inbox 0 }
+{
+    let mut one = make_alone::<N>(alloc, words, inbox)?;
+    assert_eq!(rt; one.turn(rt, 0, 0, Signal::None), Ok(TurnAnswer::Opened));
+    assert_eq!(rt; one.flush(rt), 1);
+    one.up(rt, 1);
+    assert_eq!(rt; one.turn(rt, 0, 0, Signal::None), Ok(TurnAnswer::Took));
+    assert_eq!(rt; one.flush(rt), 1);
+    let Ok(letter) = Letter::call(alloc, 40, Call::StartChild(child()?), Some(9)) else {
+        return Err("memory was refused".into());
+    };
+    one.send(rt, letter);
+    assert_eq!(rt; one.turn(rt, 0, 0, Signal::None), Ok(TurnAnswer::Took));
+    assert_eq!(rt; one.flush(rt), 0);
+    let reply = one.table.reply(40);
+    assert!(rt; matches!(reply, Some(Reply::Refused(CallFault::AlreadyStarted(1)))));
+    assert_eq!(rt; one.table.take_box(40), Some(9));
+    assert_eq!(rt; one.table.take_box(40), None);
+    Ok(())
+}

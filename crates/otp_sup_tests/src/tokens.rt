@@ -1,0 +1,49 @@
+// What threads carry of a supervisor is Send, and what they share of it is Sync, also as seen from a crate above.
+use otp_bridge::BoxedSubsystem;
+use otp_inbox::{Inbox, InboxNaming, Sender, Taker};
+use otp_job::{Body, BoxedJob};
+use otp_rules::Item;
+use otp_signals::WordsNaming;
+use otp_sup::{Bodies, Client, Letter, MemoryPort, Office, SubmitFault, Sup, Table};
+
+type Boxed = Body<BoxedJob, BoxedSubsystem>;
+
+fn is_send<T: Send>(_: &T) {}
+
+fn is_sync<T: Sync>(_: &T) {}
+
+pub fn inbox_crosses<N: InboxNaming + Send + Sync>(
+    inbox: &Inbox<N, Item, Letter<Boxed>>,
+    sender: &Sender<N, Item, Letter<Boxed>>,
+    taker: &Taker<N, Item, Letter<Boxed>>,
+) {
+    is_send(inbox);
+    is_sync(inbox);
+    is_send(sender);
+    is_send(taker);
+}
+
+pub fn supervisor_crosses<N: WordsNaming + InboxNaming + Send + Sync>(
+    sup: &Sup<N, Boxed>,
+    table: &Table<N, Boxed>,
+    office: &Office<N>,
+    client: &Client<N, Boxed>,
+) {
+    is_send(sup);
+    is_sync(sup);
+    is_send(table);
+    is_send(office);
+    is_send(client);
+}
+
+pub fn bodies_are_send(
+    letter: &Letter<Boxed>,
+    bodies: &Bodies<Boxed>,
+    port: &MemoryPort<Boxed>,
+    fault: &SubmitFault<Boxed>,
+) {
+    is_send(letter);
+    is_send(bodies);
+    is_send(port);
+    is_send(fault);
+}

@@ -1,7 +1,0 @@
-use Rattle.otp_thread_tests.proofs.clients.two_clients_and_a_hand.Given as goal
-
-abbrev pub ghosts-clients_in-N-WordsNaming : goal.ghosts-clients_in-N-WordsNaming
-ghosts-clients_in-N-WordsNaming g a = record { words = a.words.words }
-
-abbrev pub ghosts-clients_in-N-InboxNaming : goal.ghosts-clients_in-N-InboxNaming
-ghosts-clients_in-N-InboxNaming g a = record { inbox = λ number. a.inbox }

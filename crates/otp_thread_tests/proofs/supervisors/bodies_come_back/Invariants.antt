@@ -1,7 +1,0 @@
-use Rattle.otp_thread_tests.proofs.supervisors.bodies_come_back.Given as goal
-
-abbrev pub ghosts-bodies_in-N-WordsNaming : goal.ghosts-bodies_in-N-WordsNaming
-ghosts-bodies_in-N-WordsNaming g a = record { words = a.words.words }
-
-abbrev pub ghosts-bodies_in-N-InboxNaming : goal.ghosts-bodies_in-N-InboxNaming
-ghosts-bodies_in-N-InboxNaming g a = record { inbox = λ number. a.inbox }

@@ -1,0 +1,13 @@
+use Rattle.std.proofs.Common.{◌≡◌, ◌∷◌, ◌++◌, length, map}
+use Rattle.otp_run.specs.Lists.{AllAt}
+use Rattle.otp_tree.specs.Settlings.{HasAll, senders_in}
+use Rattle.otp_tree.proofs.joining.join_all.Given as goal
+
+abbrev pub invariant-loop-rest : goal.invariant-loop-rest
+invariant-loop-rest g l =
+    record {
+      has : AllAt (HasAll (l.fn.senders ∷ map senders_in l.yielded)) l.senders;
+      len : length l.senders ≡ length l.fn.senders;
+      all : l.yielded ++ l.rest-iterator.rest.items ≡ l.fn.rests.items;
+      left : l.rest-iterator.rest.len ≡ length l.rest-iterator.rest.items;
+    }

@@ -1,0 +1,51 @@
+use Rattle.std.proofs.Common.{◌≡◌, ◌+◌, ◌<◌, ◌≤◌, ◌∷◌, ◌++◌, [], length, set, sym, ap, ◌∙◌, subst, arith, append_assoc}
+use Rattle.std.specs.Prelude.{Some, slice_get}
+use Rattle.otp_run.specs.Lists.{AllAt}
+use Rattle.otp_tree.specs.Seats.{Seated}
+use Rattle.otp_tree.specs.Settlings.{IsJoined, with_sender}
+use Rattle.otp_tree.proofs.Leavings.{joined_more, joined_past}
+use Rattle.otp_tree.proofs.Settlings.{seat_of, some_at}
+use Rattle.otp_tree.proofs.joining.join_senders.Goals as goal
+
+pub loop-sender-preserved-then-place-len : goal.loop-sender-preserved-then-place-len
+loop-sender-preserved-then-place-len g c =
+    let i = c.loop-sender.invariant in
+    let next = (c.in-Some.ensures {u = tt}).steps.0 in
+    let x = c.in-Some.sender in
+    let old = c.args.senders.now in
+    let now = c.loop-sender.senders in
+    let before = c.loop-sender.yielded in
+    let all = append_assoc before (x ∷ []) c.next.new.self.rest.items ∙ ap (λ l. before ++ l) (sym next) ∙ i.all in
+    let seat : x.inbox ≡ length before = seat_of before x c.next.new.self.rest.items c.args.others (append_assoc before (x ∷ []) c.next.new.self.rest.items) all (subst Seated c.others.view_is c.others.invariant) in
+    let number = c.number-place.ensures in
+    let size = c.len.ensures in
+    let test = c.if-place-len.true in
+    let len = i.len in
+    let reach = c.requires.reach in
+    let at : c.inbox_at.result.now ≡ length before = c.inbox_at.ensures (omega arith) ∙ number ∙ seat in
+    let s = some_at now (length before) (omega arith) in
+    let new : c.join_at.new.self ≡ set now (length before) (with_sender x s.0) = c.join_at.ensures.joined s.0 (ap (slice_get now) at ∙ s.1) ∙ ap (λ k. set now k (with_sender x s.0)) at in
+    record {
+      joined = subst (λ l. AllAt (IsJoined old (before ++ x ∷ [])) l) (sym new) (joined_more old before now x s.0 s.1 i.joined);
+      len = c.join_at.ensures.len ∙ i.len;
+      all = all;
+    }
+
+pub loop-sender-preserved : goal.loop-sender-preserved
+loop-sender-preserved g c =
+    let i = c.loop-sender.invariant in
+    let next = (c.in-Some.ensures {u = tt}).steps.0 in
+    let x = c.in-Some.sender in
+    let old = c.args.senders.now in
+    let now = c.loop-sender.senders in
+    let before = c.loop-sender.yielded in
+    let all = append_assoc before (x ∷ []) c.next.new.self.rest.items ∙ ap (λ l. before ++ l) (sym next) ∙ i.all in
+    let seat : x.inbox ≡ length before = seat_of before x c.next.new.self.rest.items c.args.others (append_assoc before (x ∷ []) c.next.new.self.rest.items) all (subst Seated c.others.view_is c.others.invariant) in
+    let number = c.number-place.ensures in
+    let size = c.len.ensures in
+    let test = c.if-place-len.false in
+    record {
+      joined = joined_past old before now x (omega arith) i.joined;
+      len = i.len;
+      all = all;
+    }

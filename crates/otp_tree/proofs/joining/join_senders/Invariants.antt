@@ -1,0 +1,12 @@
+use Rattle.std.proofs.Common.{◌≡◌, ◌++◌, length}
+use Rattle.otp_run.specs.Lists.{AllAt}
+use Rattle.otp_tree.specs.Settlings.{IsJoined}
+use Rattle.otp_tree.proofs.joining.join_senders.Given as goal
+
+abbrev pub invariant-loop-sender : goal.invariant-loop-sender
+invariant-loop-sender g l =
+    record {
+      joined : AllAt (IsJoined l.initial.senders l.yielded) l.senders;
+      len : length l.senders ≡ length l.initial.senders;
+      all : l.yielded ++ l.sender-iterator.rest.items ≡ l.fn.others;
+    }

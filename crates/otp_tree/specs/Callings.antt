@@ -1,0 +1,71 @@
+-- Calls of the supervisors of a tree (supervisor, the exported functions), and why one is not sent. (own)
+use Rattle.std.specs.Prelude.{◌≡◌, ℕ, ◌<◌, ◌++◌, ◌∷◌, [], length, Bool, true, false, Option, Some, None, slice_get, slice_set}
+use Rattle.otp_inbox.specs.Tokens.{SenderState}
+use Rattle.otp_job.specs.declared.body.Body.{Body}
+use Rattle.otp_job.specs.declared.body.Body.TheVariants as body
+use Rattle.otp_rules.specs.declared.call.Call.{Call}
+use Rattle.otp_rules.specs.declared.call.Call.TheVariants as call
+use Rattle.otp_rules.specs.declared.event.Item.{Item}
+use Rattle.otp_rules.specs.declared.event.Item.TheVariants as item
+use Rattle.otp_rules.specs.Homes.{is_start_call}
+use Rattle.otp_signals.specs.Holdings.{after_draw}
+use Rattle.otp_spec.specs.declared.child.ChildType.{ChildType}
+use Rattle.otp_spec.specs.declared.child.ChildType.TheVariants as kind
+use Rattle.otp_tree.specs.declared.calling.CallRefusal.{CallRefusal}
+use Rattle.otp_tree.specs.declared.calling.CallRefusal.TheVariants as refusal
+use Rattle.otp_tree.specs.Hands.{ClientView}
+
+module _ {J S : Type 0} where
+  -- a body that a child of this type may run: a supervisor's number is no body that a call brings
+  abbrev pub is_of_type : ChildType → Body J S → Bool
+  is_of_type kind.Worker (body.Worker _) = true
+  is_of_type kind.Worker (body.Bridge _) = true
+  is_of_type kind.Worker (body.Sup _) = false
+  is_of_type kind.Supervisor (body.Worker _) = false
+  is_of_type kind.Supervisor (body.Bridge _) = true
+  is_of_type kind.Supervisor (body.Sup _) = false
+
+  -- the same where the call names no type
+  abbrev pub is_no_table : Body J S → Bool
+  is_no_table (body.Worker _) = true
+  is_no_table (body.Bridge _) = true
+  is_no_table (body.Sup _) = false
+
+  -- a call that starts a new child comes with a body that the child may run, and no other comes with one
+  abbrev pub fits_call : Call → Option (Body J S) → Bool
+  fits_call (call.StartChild spec) (Some b) = is_of_type spec.kind b
+  fits_call call.StartDynamic (Some b) = is_no_table b
+  fits_call _ (Some b) = false
+  fits_call (call.StartChild spec) None = false
+  fits_call call.StartDynamic None = false
+  fits_call _ None = true
+
+-- the call was the last that was sent to this supervisor, under the number that was drawn last, and nothing else of the client changed
+pub record Called (table number : ℕ) (x : Call) (old new : ClientView) : Type 0 where
+  pub drawn : new.owner ≡ after_draw number old.owner
+  pub there : table < length old.senders
+  pub sent : (s : SenderState Item) → slice_get old.senders table ≡ Some s → new.senders ≡ slice_set old.senders table (record s { sent = s.sent ++ item.Call number x ∷ [] })
+  pub root : new.root ≡ old.root
+  pub waiter : new.waiter ≡ old.waiter
+
+-- a number was drawn, and nothing else changed
+pub record HasSpent (old new : ClientView) : Type 0 where
+  pub number : ℕ
+  pub spent : new ≡ record old { owner = after_draw number old.owner }
+
+-- the client sends to this supervisor
+abbrev pub Reaches : ℕ → ℕ → ClientView → Type 0
+Reaches tables table client = (table < tables) × (table < length client.senders)
+
+-- why a call that has a supervisor and a body that fits was not sent, and what it left behind
+abbrev pub IsUnsendable : CallRefusal → ClientView → ClientView → Type 0
+IsUnsendable refusal.NoSupervisor old new = ⊥
+IsUnsendable refusal.WrongBody old new = ⊥
+IsUnsendable refusal.Exhausted old new = (old.owner.quota ≡ 0) × (new ≡ old)
+IsUnsendable refusal.OutOfMemory old new = (0 < old.owner.quota) × HasSpent old new
+
+-- why any call was not sent: the first of these that is so
+abbrev pub IsNotSent : CallRefusal → ℕ → ℕ → Bool → ClientView → ClientView → Type 0
+IsNotSent refusal.NoSupervisor tables table fits old new = ¬ (Reaches tables table old) × (new ≡ old)
+IsNotSent refusal.WrongBody tables table fits old new = Reaches tables table old × (fits ≡ false) × (new ≡ old)
+IsNotSent cause tables table fits old new = Reaches tables table old × (fits ≡ true) × IsUnsendable cause old new

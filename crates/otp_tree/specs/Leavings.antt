@@ -1,0 +1,42 @@
+-- What was sent to the inboxes of a tree, and what is left in them at its close. (own)
+use Rattle.std.specs.Prelude.{◌≡◌, ℕ, ◌+◌, ◌≤◌, List, [], ◌++◌, Option, Some, None, MatchOption, length, map, slice_get, min, vec_capacity}
+use Rattle.otp_inbox.specs.Lists.{AsOften, together}
+use Rattle.otp_inbox.specs.Tokens.{SenderState, TakerState, all_parts, all_sent}
+use Rattle.otp_rules.specs.declared.event.Effect.{Effect}
+use Rattle.otp_rules.specs.declared.event.Item.{Item}
+use Rattle.otp_run.specs.Lists.{AllAt}
+use Rattle.otp_sup.specs.Facts.{items_of, orders_along, starts_in}
+use Rattle.otp_tree.specs.declared.report.TableReport.{TableReport}
+
+abbrev pub sent_in : Option (SenderState Item) → List Item
+sent_in None = []
+sent_in (Some s) = all_sent s
+
+-- what the one of these senders that sends to this supervisor sent, with those that it took in
+abbrev pub sent_at : ℕ → List (SenderState Item) → List Item
+sent_at place senders = sent_in (slice_get senders place)
+
+-- the same of several lists of senders together
+abbrev pub sent_to : ℕ → List (List (SenderState Item)) → List Item
+sent_to place all = together (map (sent_at place) all)
+
+-- what a supervisor took, as its history has it, and then what it left in its inbox
+abbrev pub line_of : TableReport → List Item
+line_of t = items_of t.core.history ++ t.left.items
+
+-- each item stands there as often as these senders sent it to that supervisor
+abbrev pub AreAccounted : List (List (SenderState Item)) → List TableReport → Type 0
+AreAccounted all tables = AllAt (λ k (t : TableReport). AsOften (sent_to k all) (line_of t)) tables
+
+-- the same of the inbox of whoever opened a tree of so many supervisors
+abbrev pub IsLast : ℕ → List (List (SenderState Item)) → Option (TakerState Item) → List Item → Type 0
+IsLast tables all waiter last = MatchOption waiter ⊥ (λ (w : TakerState Item). AsOften (sent_to tables all) (w.taken ++ last))
+
+-- so many starts were still to be sent: the orders of its history are those that it sent, and then those to be sent. An
+-- event starts one child at most
+pub record HasUnsent (t : TableReport) : Type 0 where
+  pub sent : List Effect
+  pub outbox : List Effect
+  pub orders : sent ++ outbox ≡ orders_along t.core
+  pub starts : t.unsent ≡ length (starts_in outbox)
+  pub few : t.unsent ≤ 1

@@ -1,0 +1,169 @@
+//! Calls of the supervisors of a running tree: start_child, which_children and the other functions that OTP's `supervisor`
+//! exports.
+ghost use Rattle.std.specs.Prelude.{◌≡◌, ◌<◌, ◌≤◌, None, Ok, is_some, true, IfErr, IfOk, OnOk, length};
+ghost use Rattle.otp_rules.specs.Homes.{is_start_call};
+ghost use Rattle.otp_sup.specs.Bodies.{is_left_of};
+ghost use Rattle.otp_sup.specs.Turns.{HadBody, HasReply};
+ghost use Rattle.otp_tree.specs.Callings.{Called, IsNotSent, IsUnsendable, fits_call, is_no_table, is_of_type};
+
+use crate::client::Client;
+use crate::system::System;
+use otp_inbox::{Inbox, InboxNaming};
+use otp_job::Body;
+use otp_rules::{Call, Item, Reply};
+use otp_signals::{Words, WordsNaming};
+use otp_spec::ChildType;
+use otp_sup::Letter;
+use std::alloc::{AllocError, Global};
+use std::sync::Wait;
+
+/// Why a call was not sent: the first of these that is so.
+#[derive(Clone, Copy, Debug, PartialEq, Eq)]
+pub enum CallRefusal {
+    /// The tree has no supervisor of this number.
+    NoSupervisor,
+    /// E19: a call that starts a child has no body, or one that the child may not run, or another call has one. A worker
+    /// runs a job or a bridge, a supervisor that a call starts a bridge.
+    WrongBody,
+    /// E9: the client may draw no more numbers.
+    Exhausted,
+    /// E0: memory was refused. A number was drawn, and is spent.
+    OutOfMemory,
+}
+
+/// A call that was not sent, with the body that came with it.
+#[derive(Drop)]
+pub struct Uncalled<B> {
+    pub cause: CallRefusal,
+    pub body: Option<B>,
+}
+
+impl<N: WordsNaming + InboxNaming, J: Drop, S: Drop> System<N, J, S> {
+    /// Sends a call to the supervisor with this number, with a body exactly where it starts a new child
+    /// (supervisor, start_child/2), and answers the number of the call. The supervisor takes it in one of its turns; then
+    /// [`System::reply`] has the answer under this number.
+    ///
+    /// Where it is refused nothing was sent, and the body comes back.
+    pub fn submit<R: Wait>(
+        &self,
+        rt: &R,
+        alloc: Global,
+        client: &mut Client<N, Body<J, S>>,
+        table: usize,
+        call: Call,
+        body: Option<Body<J, S>>,
+    ) -> Result<u64, Uncalled<Body<J, S>>>
+        // The number is the last that the client drew, and the call under it the last item that it sent to that supervisor.
+        ensures sent { IfOk result (λ number. Called table number call client.old client.new) }
+        ensures fits { OnOk result (fits_call call body ≡ true) }
+        ensures there { OnOk result (table < self.now.tables) }
+        ensures refused { IfErr result (λ fault. IsNotSent fault.cause self.now.tables table (fits_call call body) client.old client.new) }
+        ensures back { IfErr result (λ fault. fault.body ≡ body) }
+    {
+        if table >= self.sups.len() || table >= client.senders.len() {
+            return Err(not_called(CallRefusal::NoSupervisor, body));
+        }
+        if !fits_call(&call, &body) {
+            return Err(not_called(CallRefusal::WrongBody, body));
+        }
+        client.send_call(rt, alloc, &self.words, self.inbox_of(table), call, body)
+    }
+
+    /// A copy of the answer to the call with this number, which that supervisor keeps. None where it wasn't answered yet, or
+    /// the tree has no supervisor of this number.
+    ///
+    /// As of each thing that lies under a lock, contracts say that the answer, or that there is none, is that of a supervisor
+    /// which keeps the rules.
+    pub fn reply<R: Wait>(
+        &self,
+        rt: &R,
+        table: usize,
+        call: u64,
+    ) -> Result<Option<Reply>, AllocError>
+        ensures kept { table < self.now.tables → IfOk result (HasReply call) }
+        ensures none { self.now.tables ≤ table → result ≡ Ok None }
+    {
+        match self.sups.get(table) {
+            Some(sup) => sup.reply(rt, call),
+            None => Ok(None),
+        }
+    }
+
+    /// The body that the call with this number brought, once it was answered and no child of that supervisor has the body:
+    /// after a refusal, or when the child is gone. It is given once.
+    pub fn take_box<R: Wait>(&self, rt: &R, table: usize, call: u64) -> Option<Body<J, S>>
+        ensures kept { table < self.now.tables → HadBody (is_left_of call) (is_some result) }
+        ensures none { self.now.tables ≤ table → result ≡ None }
+    {
+        match self.sups.get(table) {
+            Some(sup) => sup.take_box(rt, call),
+            None => None,
+        }
+    }
+}
+
+impl<N: WordsNaming + InboxNaming, B: Drop> Client<N, B> {
+    /// Sends a call to the supervisor with this inbox, under a number that is drawn for it.
+    fn send_call<R: Wait>(
+        &mut self,
+        rt: &R,
+        alloc: Global,
+        words: &Words<N>,
+        inbox: &Inbox<N, Item, Letter<B>>,
+        call: Call,
+        body: Option<B>,
+    ) -> Result<u64, Uncalled<B>>
+        requires reaches { inbox.now < length self.old.senders }
+        requires body { is_some body ≡ is_start_call call }
+        ensures sent { IfOk result (λ number. Called inbox.now number call self.old self.new) }
+        ensures refused { IfErr result (λ fault. IsUnsendable fault.cause self.old self.new) }
+        ensures back { IfErr result (λ fault. fault.body ≡ body) }
+    {
+        let Ok(number) = words.draw(&mut self.owner) else {
+            return Err(not_called(CallRefusal::Exhausted, body));
+        };
+        match self.senders.call(rt, alloc, inbox, number, call, body) {
+            Ok(()) => Ok(number),
+            Err(body) => Err(not_called(CallRefusal::OutOfMemory, body)),
+        }
+    }
+}
+
+fn not_called<B: Drop>(cause: CallRefusal, body: Option<B>) -> Uncalled<B>
+    ensures { result ≡ record { cause = cause; body = body } }
+{
+    Uncalled { cause, body }
+}
+
+/// Whether a call that starts a new child comes with a body that the child may run, and another one with none.
+fn fits_call<J: Drop, S: Drop>(call: &Call, body: &Option<Body<J, S>>) -> bool
+    ensures value { result ≡ fits_call call.now body.now }
+    ensures start { result ≡ true → is_some body.now ≡ is_start_call call.now }
+{
+    match (call, body) {
+        (Call::StartChild(spec), Some(body)) => is_of_type(spec.kind, body),
+        (Call::StartDynamic, Some(body)) => is_no_table(body),
+        (Call::StartChild(_) | Call::StartDynamic, None) => false,
+        (_, Some(_)) => false,
+        (_, None) => true,
+    }
+}
+
+/// Whether a child of this type may run it.
+fn is_of_type<J: Drop, S: Drop>(kind: ChildType, body: &Body<J, S>) -> bool
+    ensures { result ≡ is_of_type kind body.now }
+{
+    match (kind, body) {
+        (ChildType::Worker, Body::Worker(_)) => true,
+        (_, Body::Bridge(_)) => true,
+        (ChildType::Supervisor, Body::Worker(_)) => false,
+        (_, Body::Sup(_)) => false,
+    }
+}
+
+/// Whether it is not the number of a supervisor.
+fn is_no_table<J: Drop, S: Drop>(body: &Body<J, S>) -> bool
+    ensures { result ≡ is_no_table body.now }
+{
+    !matches!(body, Body::Sup(_))
+}

@@ -1,0 +1,79 @@
+// The senders of all hands come home to the client's.
+ghost use Rattle.std.specs.Prelude.{◌≡◌, ℕ, ◌+◌, ◌<◌, ◌≤◌, ◌∷◌, length, map};
+ghost use Rattle.otp_inbox.specs.Tokens.{all_parts};
+ghost use Rattle.otp_run.specs.Lists.{AllAt};
+ghost use Rattle.otp_tree.specs.Sendings.{parts_to};
+ghost use Rattle.otp_tree.specs.Settlings.{ArePlaced, IsJoined, IsWhole, senders_in};
+
+use crate::parting::Rest;
+use crate::senders::Senders;
+use otp_inbox::{Inbox, InboxNaming};
+use otp_job::Body;
+use otp_rules::Item;
+use otp_signals::WordsNaming;
+use otp_sup::{Letter, Unlocked};
+
+/// The inbox of the supervisor at this place, or of whoever opened the tree.
+fn inbox_at<'a, N: WordsNaming + InboxNaming, B: Drop>(
+    sups: &'a [Unlocked<N, B>],
+    outer: &'a Inbox<N, Item, Letter<B>>,
+    place: usize,
+) -> &'a Inbox<N, Item, Letter<B>>
+    requires { ArePlaced sups.now outer.now }
+    ensures { place ≤ length sups.now → result.now ≡ place }
+{
+    match sups.get(place) {
+        Some(sup) => sup.inbox(),
+        None => outer,
+    }
+}
+
+/// Joins a hand's senders to these, each to that of its supervisor.
+fn join_senders<N: WordsNaming + InboxNaming, B: Drop>(
+    sups: &[Unlocked<N, B>],
+    outer: &Inbox<N, Item, Letter<B>>,
+    senders: &mut Senders<N, B>,
+    others: Senders<N, B>,
+)
+    requires placed { ArePlaced sups.now outer.now }
+    requires reach { length senders.old ≡ length sups.now + 1 }
+    requires bounded { AllAt (λ k s. s.parts ≤ all_parts) senders.old }
+    ensures joined { AllAt (IsJoined senders.old others) senders.new }
+    ensures len { length senders.new ≡ length senders.old }
+{
+    for sender in others.list {
+        let place = sender.number();
+        if place < senders.len() {
+            senders.join_at(inbox_at(sups, outer, place), sender);
+        }
+    }
+}
+
+/// Joins the senders of all hands to the client's, so that each knows all that was sent to its supervisor.
+pub(crate) fn join_all<N: WordsNaming + InboxNaming, J: Drop, S: Drop>(
+    sups: &[Unlocked<N, Body<J, S>>],
+    outer: &Inbox<N, Item, Letter<Body<J, S>>>,
+    mut senders: Senders<N, Body<J, S>>,
+    rests: Vec<Rest<N, J, S>>,
+) -> Senders<N, Body<J, S>>
+    requires placed { ArePlaced sups.now outer.now }
+    requires reach { length senders ≡ length sups.now + 1 }
+    requires whole { (place : ℕ) → place < length senders → parts_to place (senders ∷ map senders_in rests.items) ≡ all_parts }
+    ensures whole { AllAt (IsWhole (senders ∷ map senders_in rests.items)) result }
+    ensures len { length result ≡ length senders }
+{
+    for rest in rests {
+        let Rest {
+            viewer: _,
+            senders: others,
+            turning: _,
+            waiting: _,
+            unsent: _,
+            refusals: _,
+            passes: _,
+            alloc: _,
+        } = rest;
+        join_senders(sups, outer, &mut senders, others);
+    }
+    senders
+}

@@ -1,0 +1,120 @@
+//! Processes that wait until they are told something.
+ghost use Rattle.std.specs.Prelude.{◌≡◌, ◌<◌, ◌≤◌, ◌++◌, ◌∷◌, [], length, IfSome, MatchOption};
+ghost use Rattle.otp_tree.specs.Waitings.{IsTaken};
+
+use otp_job::Process;
+use otp_signals::{Viewer, Words, WordsNaming};
+use std::alloc::Global;
+use std::marker::Model;
+
+/// How many of those that began to wait last are looked at in each turn: a supervisor that stops its children begins with the
+/// one that was started last.
+const NEWEST: usize = 8;
+
+/// How many of the others are looked at in each turn, one after the other.
+const OTHERS: usize = 24;
+
+/// The processes of a hand that have nothing to do until their supervisors tell them something. They take no turns; in each
+/// turn of the hand it is looked whether some of them were told something.
+#[derive(Drop)]
+pub(crate) struct Waiting<J: Drop, S: Drop> {
+    list: Vec<Process<J, S>>,
+    // The place of the first that is looked at in the next turn, of those that are not the newest.
+    next: usize,
+}
+
+impl<J: Drop, S: Drop> Model for Waiting<J, S> {
+    ghost use Rattle.std.specs.Prelude.{List};
+    ghost use Rattle.otp_job.specs.Processes.{ProcessState};
+
+    ghost Value = { List (ProcessState J S) };
+
+    ghost view = { λ w. w.list.items };
+}
+
+impl<J: Drop, S: Drop> Waiting<J, S> {
+    /// None waits.
+    pub fn new(alloc: Global) -> Self
+        ensures { result ≡ [] }
+    {
+        Waiting {
+            list: Vec::new(alloc),
+            next: 0,
+        }
+    }
+
+    /// How many wait.
+    pub fn len(&self) -> usize
+        ensures { result ≡ length self.now }
+    {
+        self.list.len()
+    }
+
+    /// Lets a process wait. It comes back where memory is refused.
+    pub fn keep(&mut self, process: Process<J, S>) -> Option<Process<J, S>>
+        ensures { MatchOption result (self.new ≡ self.old ++ process ∷ []) (λ back. (back ≡ process) × (self.new ≡ self.old)) }
+    {
+        if self.list.reserve(1).is_err() {
+            return Some(process);
+        }
+        self.list.push_reserved(process);
+        None
+    }
+
+    /// Takes out the one that began to wait last.
+    pub fn pop(&mut self) -> Option<Process<J, S>>
+        ensures { MatchOption result (self.new ≡ self.old) (λ process. self.old ≡ self.new ++ process ∷ []) }
+    {
+        self.list.pop()
+    }
+
+    /// Takes out one that was told something, if that is one of those that are looked at now.
+    pub fn take_told<N: WordsNaming>(
+        &mut self,
+        words: &Words<N>,
+        viewer: &mut Viewer<N>,
+    ) -> Option<Process<J, S>>
+        ensures { MatchOption result (self.new ≡ self.old) (λ process. IsTaken process self.old self.new) }
+    {
+        let len = self.list.len();
+        let newest = len.saturating_sub(NEWEST);
+        let from = self.next.min(newest);
+        let to = from.saturating_add(OTHERS).min(newest);
+        self.next = if to < newest { to } else { 0 };
+        let waiting = self.list.as_slice();
+        let place = match find_told(words, viewer, waiting, newest, len) {
+            Some(place) => place,
+            None => find_told(words, viewer, waiting, from, to)?,
+        };
+        Some(self.list.swap_remove(place))
+    }
+}
+
+/// The first of the processes at these places that was told something.
+fn find_told<N: WordsNaming, J: Drop, S: Drop>(
+    words: &Words<N>,
+    viewer: &mut Viewer<N>,
+    waiting: &[Process<J, S>],
+    from: usize,
+    to: usize,
+) -> Option<usize>
+    requires { to ≤ length waiting.now }
+    ensures { IfSome result (λ place. place < length waiting.now) }
+{
+    for place in from..to {
+        if is_told(words, viewer, &waiting[place]) {
+            return Some(place);
+        }
+    }
+    None
+}
+
+/// Whether a process that waits was told something.
+fn is_told<N: WordsNaming, J: Drop, S: Drop>(
+    words: &Words<N>,
+    viewer: &mut Viewer<N>,
+    process: &Process<J, S>,
+) -> bool {
+    let (slot, number) = (process.slot(), process.number());
+    slot < words.slots() && process.has_news(words.look(viewer, slot, number))
+}

@@ -1,0 +1,376 @@
+// Trees of which a report is taken: a small one, and one of as many supervisors as there may be, each with as many children.
+ghost use Rattle.std.specs.Prelude.{◌≡◌, ◌<◌, ◌≤◌, false, length, IfOk};
+ghost use Rattle.otp_run.specs.Rule.{all_parts};
+
+use crate::drafts::Draft;
+use otp_bridge::BoxedSubsystem;
+use otp_job::{Job, Told, Turn};
+use otp_reason::{Note, Reason, Started};
+use otp_rules::{Call, CountsNow, Item, Kind};
+use otp_spec::MAX_TABLES;
+use otp_tree::{
+    CallEnd, CallRequest, Gate, Leader, Led, Report, Round, TablePlan, TableReport, lead, run_tree,
+};
+use std::alloc::Global;
+use std::process::Abort;
+use std::sync::Wait;
+use std::sync::atomic::{AtomicU64, Ordering};
+use std::test::*;
+use std::thread::Threads;
+
+// Works on until its supervisor ends it.
+#[derive(Drop)]
+struct Steady;
+
+impl Job for Steady {
+    ghost is_trapping = { λ _. false };
+
+    fn traps(&self) -> bool {
+        false
+    }
+
+    fn start(&mut self, _number: u64) -> Started {
+        Started::Up
+    }
+
+    fn turn(&mut self, _told: Told) -> Turn {
+        Turn::Again
+    }
+}
+
+// A clock that stands still.
+struct Still;
+
+impl Gate for Still {
+    fn before_turn(&self, _hand: usize) -> u64 {
+        0
+    }
+}
+
+type Plan = TablePlan<Steady, BoxedSubsystem>;
+
+const DIGITS: [u8; 16] = *b"0123456789abcdef";
+
+// A supervisor of 256 children, of which the first are supervisors, so many.
+fn full_plan(alloc: Global, nested: usize) -> Result<Plan, Fail> {
+    let mut draft = Draft::new(alloc);
+    for high in DIGITS {
+        for low in DIGITS {
+            let table = draft.len().saturating_add(1);
+            if table <= nested {
+                draft.add_supervisor(&[high, low], table)?;
+            } else {
+                draft.add_worker(&[high, low], Steady)?;
+            }
+        }
+    }
+    draft.plan()
+}
+
+// As many supervisors as there may be, each with 256 children.
+fn full_plans(alloc: Global) -> Result<Vec<Plan>, Fail> {
+    let mut plans = Vec::new(alloc);
+    plans.push(full_plan(alloc, MAX_TABLES - 1)?)?;
+    for _ in 1..MAX_TABLES {
+        plans.push(full_plan(alloc, 0)?)?;
+    }
+    Ok(plans)
+}
+
+// So few turns leave most children unstarted, and most of those that were started unended.
+fn close_full<R: Threads + Wait + Abort + Sync>(
+    rt: &R,
+    alloc: Global,
+    hands: usize,
+) -> Result<(), Fail>
+    requires some { 0 < hands }
+    requires few { hands ≤ all_parts }
+{
+    let plans = full_plans(alloc)?;
+    if plans.len() > 64 {
+        return Err("more supervisors than a tree may have".into());
+    }
+    match run_tree(rt, alloc, plans, hands, &Still, 20_000) {
+        Ok(report) => {
+            check_open(rt, &report);
+            check_numbers(rt, alloc, &report)
+        }
+        Err(_) => Err("the tree was not closed".into()),
+    }
+}
+
+fn check_open<R: Abort>(rt: &R, report: &Report<Steady, BoxedSubsystem>) {
+    assert_eq!(rt; report.tables.len(), MAX_TABLES);
+    assert!(rt; report.live > 0);
+    assert_eq!(rt; report.begun, report.ended.saturating_add(report.live));
+    check_accounts(rt, report);
+}
+
+// Each start that was sent began a process, and so did the root. Each end was taken or is left, and the rest is live.
+fn check_accounts<R: Abort>(rt: &R, report: &Report<Steady, BoxedSubsystem>) {
+    assert_eq!(rt;
+        report.begun.saturating_add(count_unsent(report)),
+        count_starts(report).saturating_add(1)
+    );
+    assert_eq!(rt; report.ended, count_ends(report));
+    assert_eq!(rt; report.processes.len() as u64, report.live);
+}
+
+// How many children were started, by all supervisors.
+fn count_starts(report: &Report<Steady, BoxedSubsystem>) -> u64 {
+    let mut starts: u64 = 0;
+    for table in report.tables.as_slice() {
+        starts = starts.saturating_add(table.starts());
+    }
+    starts
+}
+
+// How many starts were still to be sent.
+fn count_unsent(report: &Report<Steady, BoxedSubsystem>) -> u64 {
+    let mut unsent: u64 = 0;
+    for table in report.tables.as_slice() {
+        unsent = unsent.saturating_add(table.unsent);
+    }
+    unsent
+}
+
+// How many items the supervisors hadn't taken.
+fn count_left(report: &Report<Steady, BoxedSubsystem>) -> u64 {
+    let mut left: u64 = 0;
+    for table in report.tables.as_slice() {
+        left = left.saturating_add(table.left.len() as u64);
+    }
+    left
+}
+
+// How many ends of processes were told: those that supervisors took, those that they left, and the root's own.
+fn count_ends(report: &Report<Steady, BoxedSubsystem>) -> u64 {
+    let mut ends = ends_in(report.last.as_slice());
+    for table in report.tables.as_slice() {
+        ends = ends
+            .saturating_add(ends_taken(table))
+            .saturating_add(ends_in(table.left.as_slice()));
+    }
+    ends
+}
+
+fn ends_taken(table: &TableReport) -> u64 {
+    let history = table.core.history();
+    let mut ends: u64 = 0;
+    for place in 0..history.len() {
+        if let Kind::Took(item) = history.get(place).kind {
+            ends = ends.saturating_add(ends_in(&[item]));
+        }
+    }
+    ends
+}
+
+fn ends_in(items: &[Item]) -> u64 {
+    let mut ends: u64 = 0;
+    for item in items {
+        if let Item::Note(Note::Ignored(_) | Note::Failed(..) | Note::Exit(..)) = item {
+            ends = ends.saturating_add(1);
+        }
+    }
+    ends
+}
+
+// 1 is the root's number. Each of the next was given to one child of one supervisor, and no other number to any.
+fn check_numbers<R: Abort>(
+    rt: &R,
+    alloc: Global,
+    report: &Report<Steady, BoxedSubsystem>,
+) -> Result<(), Fail> {
+    let mut given = Vec::new(alloc);
+    for _ in 0..=report.begun {
+        given.push(false)?;
+    }
+    for table in report.tables.as_slice() {
+        let history = table.core.history();
+        for place in 0..history.len() {
+            if let Some(number) = history.get(place).number {
+                let mark = given.get_mut(number as usize).ok_or("a number in turn")?;
+                assert!(rt; number > 1 && !*mark);
+                *mark = true;
+            }
+        }
+    }
+    Ok(())
+}
+
+#[test]
+fn full_trees_are_closed(rt: HostRuntime) -> Result<(), Fail> {
+    close_full(&rt, rt.alloc(), 1)?;
+    close_full(&rt, rt.alloc(), 2)?;
+    close_full(&rt, rt.alloc(), 4)?;
+    close_full(&rt, rt.alloc(), 8)
+}
+
+// Three steady workers under one supervisor.
+fn small_plans(alloc: Global) -> Result<Vec<Plan>, Fail>
+    ensures { IfOk result (λ plans. length plans.items ≤ 64) }
+{
+    let mut draft = Draft::new(alloc);
+    draft.add_worker(b"a", Steady)?;
+    draft.add_worker(b"b", Steady)?;
+    draft.add_worker(b"c", Steady)?;
+    let mut plans = Vec::new(alloc);
+    plans.push(draft.plan()?)?;
+    Ok(plans)
+}
+
+#[test]
+fn a_report_counts_starts_events_and_processes(rt: HostRuntime) -> Result<(), Fail> {
+    let plans = small_plans(rt.alloc())?;
+    match run_tree(&rt, rt.alloc(), plans, 1, &Still, 1000) {
+        Ok(report) => check_small(&rt, &report),
+        Err(_) => return Err("the tree was not closed".into()),
+    }
+    Ok(())
+}
+
+// What the report tells of them: opened, three starts and three answers, and the stop with three ends.
+fn check_small<R: Abort>(rt: &R, report: &Report<Steady, BoxedSubsystem>) {
+    assert_eq!(rt; report.tables.len(), 1);
+    let table = &report.tables[0];
+    assert_eq!(rt;
+        (table.starts(), table.restarts(), table.events()),
+        (3, 0, 8)
+    );
+    assert_eq!(rt; table.end(), Some(Reason::Shutdown));
+    assert_eq!(rt; (report.begun, report.ended, report.live), (4, 4, 0));
+    // It took all, and nobody took what the root told: that it was up, and its end.
+    assert_eq!(rt; (table.left.len(), table.unsent), (0, 0));
+    let last = report.last.as_slice();
+    assert!(rt;
+        matches!(
+            last,
+            [
+                Item::Note(Note::Up(1)),
+                Item::Note(Note::Exit(1, Reason::Shutdown))
+            ]
+        )
+    );
+}
+
+#[test]
+fn trees_that_are_closed_early_tell_what_is_left(rt: HostRuntime) -> Result<(), Fail> {
+    let mut left: u64 = 0;
+    for turns in 1..20 {
+        let plans = small_plans(rt.alloc())?;
+        match run_tree(&rt, rt.alloc(), plans, 1, &Still, turns) {
+            Ok(report) => {
+                check_accounts(&rt, &report);
+                left = left.saturating_add(count_left(&report));
+                // The supervisor's turn started the first worker, and the second turn was the worker's.
+                if turns == 1 {
+                    let Some(root) = report.tables.get(0) else {
+                        return Err("no supervisor".into());
+                    };
+                    let first = root.left.as_slice();
+                    assert!(rt; matches!(first, [Item::Note(Note::Up(2))]));
+                }
+            }
+            Err(_) => return Err("the tree was not closed".into()),
+        }
+    }
+    assert!(rt; left > 0);
+    Ok(())
+}
+
+// Serves until all children have started, calls the supervisor, and leaves without another turn.
+#[derive(Drop)]
+struct CallsLate {
+    is_up: bool,
+}
+
+impl Leader<Steady, BoxedSubsystem> for CallsLate {
+    fn next(&mut self, told: Option<Note>) -> Round<Steady, BoxedSubsystem> {
+        if self.is_up {
+            return Round::Leave;
+        }
+        if told.is_none() {
+            return Round::Serve(100);
+        }
+        self.is_up = true;
+        Round::Call(CallRequest {
+            table: 0,
+            call: Call::WhichChildren,
+            body: None,
+            turns: 0,
+        })
+    }
+
+    fn hear(&mut self, answer: CallEnd<Steady, BoxedSubsystem>) {
+        self.is_up = matches!(answer, CallEnd::Unanswered(_));
+    }
+}
+
+#[test]
+fn a_call_that_nobody_took_is_left(rt: HostRuntime) -> Result<(), Fail> {
+    let plans = small_plans(rt.alloc())?;
+    let leader = CallsLate { is_up: false };
+    match lead(&rt, rt.alloc(), plans, 2, &Still, 1000, leader) {
+        Ok(
+            Led {
+                leader,
+                report: Ok(report),
+            },
+        ) => {
+            assert!(rt; leader.is_up);
+            let Some(root) = report.tables.get(0) else {
+                return Err("no supervisor".into());
+            };
+            let left = root.left.as_slice();
+            assert!(rt; matches!(left, [Item::Call(_, Call::WhichChildren)]));
+            assert_eq!(rt; (report.last.len(), report.live), (0, 4));
+            Ok(())
+        }
+        _ => Err("the tree was not closed".into()),
+    }
+}
+
+// What a gate was told of a run: how often, the turns made and those in all as told last, and the children that were up
+// once half of them were made.
+#[derive(Drop)]
+struct Listener {
+    calls: AtomicU64,
+    made: AtomicU64,
+    of: AtomicU64,
+    live: AtomicU64,
+}
+
+impl Gate for Listener {
+    fn before_turn(&self, _hand: usize) -> u64 {
+        0
+    }
+
+    fn saw(&self, made: u64, of: u64, counts: &[CountsNow]) {
+        self.calls.fetch_add(1, Ordering::SeqCst);
+        self.made.store(made, Ordering::SeqCst);
+        self.of.store(of, Ordering::SeqCst);
+        if made == of / 2 {
+            for supervisor in counts {
+                self.live.fetch_add(supervisor.active, Ordering::SeqCst);
+            }
+        }
+    }
+}
+
+#[test]
+fn a_gate_is_told_how_far_a_run_is(rt: HostRuntime) -> Result<(), Fail> {
+    let plans = small_plans(rt.alloc())?;
+    let listener = Listener {
+        calls: AtomicU64::new(0),
+        made: AtomicU64::new(0),
+        of: AtomicU64::new(0),
+        live: AtomicU64::new(0),
+    };
+    let ran = run_tree(&rt, rt.alloc(), plans, 2, &listener, 60_000);
+    assert!(rt; ran.is_ok());
+    assert_eq!(rt; listener.calls.load(Ordering::SeqCst), 4);
+    assert_eq!(rt; listener.made.load(Ordering::SeqCst), 120_000);
+    assert_eq!(rt; listener.of.load(Ordering::SeqCst), 120_000);
+    assert_eq!(rt; listener.live.load(Ordering::SeqCst), 3);
+    Ok(())
+}

@@ -1,0 +1,34 @@
+// What the threads of a tree carry is Send, and what they share is Sync, also as seen from a crate above.
+use otp_bridge::BoxedSubsystem;
+use otp_inbox::InboxNaming;
+use otp_job::{Body, BoxedJob};
+use otp_run::RunNaming;
+use otp_signals::WordsNaming;
+use otp_tree::{Client, Hand, Report, System, TablePlan};
+
+fn is_send<T: Send>(_: &T) {}
+
+fn is_sync<T: Sync>(_: &T) {}
+
+pub fn system_is_shared<N: WordsNaming + InboxNaming + Send + Sync>(
+    system: &System<N, BoxedJob, BoxedSubsystem>,
+    client: &Client<N, Body<BoxedJob, BoxedSubsystem>>,
+) {
+    is_send(system);
+    is_sync(system);
+    is_send(client);
+}
+
+pub fn hand_is_carried<N: WordsNaming + InboxNaming + RunNaming + Send + Sync>(
+    hand: &Hand<N, BoxedJob, BoxedSubsystem>,
+) {
+    is_send(hand);
+}
+
+pub fn what_stands_before_and_after_is_carried(
+    plan: &TablePlan<BoxedJob, BoxedSubsystem>,
+    report: &Report<BoxedJob, BoxedSubsystem>,
+) {
+    is_send(plan);
+    is_send(report);
+}

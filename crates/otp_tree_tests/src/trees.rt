@@ -1,0 +1,546 @@
+// Trees of supervisors, served by one thread and by several.
+ghost use Rattle.std.specs.Prelude.{◌≡◌, ◌<◌, ◌≤◌, false, length, IfOk};
+ghost use Rattle.otp_run.specs.Rule.{all_parts};
+
+use crate::drafts::Draft;
+use otp_bridge::BoxedSubsystem;
+use otp_inbox::InboxNaming;
+use otp_job::{Body, Job, Told, Turn};
+use otp_reason::{Note, Reason, Started, Text};
+use otp_rules::CountsNow;
+use otp_run::RunNaming;
+use otp_signals::WordsNaming;
+use otp_tree::{
+    Client, CloseFault, Gate, Hand, Leader, Led, Millis, Report, Round, Session, System,
+    SystemFault, TablePlan, Unclosed, lead, run_tree, with_system,
+};
+use std::alloc::{AllocError, Global};
+use std::process::Abort;
+use std::sync::atomic::{AtomicU64, Ordering};
+use std::sync::{Arc, Wait};
+use std::test::*;
+use std::thread;
+use std::thread::Threads;
+
+// Starts that were counted.
+type Starts = Arc<AtomicU64>;
+
+// A worker that counts its starts. It works on for ever, or crashes in the first turn of its life.
+#[derive(Drop)]
+struct Worker {
+    starts: Starts,
+    crashes: Option<Text>,
+}
+
+impl Job for Worker {
+    ghost is_trapping = { λ _. false };
+
+    fn traps(&self) -> bool {
+        false
+    }
+
+    fn start(&mut self, _number: u64) -> Started {
+        self.starts.fetch_add(1, Ordering::SeqCst);
+        Started::Up
+    }
+
+    fn turn(&mut self, _told: Told) -> Turn {
+        match self.crashes.take() {
+            Some(text) => Turn::End(Reason::Error(text)),
+            None => Turn::Again,
+        }
+    }
+}
+
+type Plan = TablePlan<Worker, BoxedSubsystem>;
+
+fn make_worker(starts: &Starts, crashes: Option<Text>) -> Result<Worker, AllocError> {
+    Ok(Worker {
+        starts: Arc::try_clone(starts)?,
+        crashes,
+    })
+}
+
+// How many workers the tree has. One of them crashes.
+const WORKERS: u64 = 3;
+
+// The root has the worker `a` and the supervisor `sub`, which has the workers `b` and `c`; `c` crashes.
+fn plans(alloc: Global, starts: &Starts) -> Result<Vec<Plan>, Fail>
+    ensures { IfOk result (λ plans. length plans.items ≡ 2) }
+{
+    let crash = Text::new(b"crash").ok_or("a text")?;
+    let mut root = Draft::new(alloc);
+    root.add_worker(b"a", make_worker(starts, None)?)?;
+    root.add_supervisor(b"sub", 1)?;
+    let mut sub = Draft::new(alloc);
+    sub.add_worker(b"b", make_worker(starts, None)?)?;
+    sub.add_worker(b"c", make_worker(starts, Some(crash))?)?;
+    let mut plans = Vec::new(alloc);
+    plans.push(root.plan()?)?;
+    plans.push(sub.plan()?)?;
+    Ok(plans)
+}
+
+// A clock that stands still.
+#[derive(Drop)]
+struct Still;
+
+impl Gate for Still {
+    fn before_turn(&self, _hand: usize) -> u64 {
+        0
+    }
+}
+
+impl Millis for Still {
+    fn now(&mut self) -> u64 {
+        0
+    }
+}
+
+// Serves until the tree is up and so many starts were made, then stops it, and leaves at the root's end.
+#[derive(Drop)]
+struct UpAndDown {
+    starts: Starts,
+    wanted: u64,
+    up: Option<Note>,
+    end: Option<Note>,
+}
+
+impl UpAndDown {
+    fn new(starts: Starts, wanted: u64) -> UpAndDown {
+        UpAndDown {
+            starts,
+            wanted,
+            up: None,
+            end: None,
+        }
+    }
+
+    // Whether the root has ended.
+    fn has_heard(&mut self, told: Option<Note>) -> bool {
+        match told {
+            Some(Note::Up(number)) => self.up = Some(Note::Up(number)),
+            Some(note) => self.end = Some(note),
+            None => {}
+        }
+        self.end.is_some()
+    }
+
+    fn has_restarted(&self) -> bool {
+        self.up.is_some() && self.starts.load(Ordering::SeqCst) >= self.wanted
+    }
+
+    // The tree was up, each worker started once and the one that crashed once more, and it ended as it was asked to.
+    fn check<R: Abort>(&self, rt: &R) {
+        assert_eq!(rt; self.up, Some(Note::Up(1)));
+        assert_eq!(rt; self.end, Some(Note::Exit(1, Reason::Shutdown)));
+        assert_eq!(rt; self.starts.load(Ordering::SeqCst), self.wanted);
+    }
+}
+
+impl Leader<Worker, BoxedSubsystem> for UpAndDown {
+    fn next(&mut self, told: Option<Note>) -> Round<Worker, BoxedSubsystem> {
+        if self.has_heard(told) {
+            Round::Leave
+        } else if self.has_restarted() {
+            Round::Stop(100)
+        } else {
+            Round::Serve(100)
+        }
+    }
+}
+
+// The whole life of the tree, with this many hands, each in a thread of its own.
+fn live_with<R: Threads + Wait + Abort + Sync>(
+    rt: &R,
+    alloc: Global,
+    hands: usize,
+) -> Result<(), Fail>
+    requires some { 0 < hands }
+    requires few { hands ≤ all_parts }
+{
+    let starts: Starts = Arc::new(alloc, AtomicU64::new(0))?;
+    let plans = plans(alloc, &starts)?;
+    let leader = UpAndDown::new(starts, WORKERS + 1);
+    let Led { leader, report } = match lead(rt, alloc, plans, hands, &Still, 10_000, leader) {
+        Ok(led) => led,
+        Err(_why) => return Err("the tree was refused".into()),
+    };
+    leader.check(rt);
+    match report {
+        Ok(report) => check_ended(rt, &report),
+        Err(_why) => return Err("the tree was not closed".into()),
+    }
+    Ok(())
+}
+
+// What the tree is once all of it has ended: two children of the root and two of `sub` were started, one of these once
+// more, and nobody has anything left.
+fn check_ended<R: Abort>(rt: &R, report: &Report<Worker, BoxedSubsystem>) {
+    assert_eq!(rt; report.tables.len(), 2);
+    let (root, sub) = (&report.tables[0], &report.tables[1]);
+    assert_eq!(rt;
+        (root.starts(), root.restarts(), root.end()),
+        (2, 0, Some(Reason::Shutdown))
+    );
+    assert_eq!(rt;
+        (sub.starts(), sub.restarts(), sub.end()),
+        (3, 1, Some(Reason::Shutdown))
+    );
+    assert_eq!(rt; (report.live, report.begun, report.ended), (0, 6, 6));
+    assert!(rt; report.processes.is_empty() && report.find_mismatch().is_none());
+}
+
+// What any report says, however far the tree came.
+fn check_ledger<R: Abort>(rt: &R, report: &Report<Worker, BoxedSubsystem>) {
+    assert_eq!(rt; report.tables.len(), 2);
+    assert_eq!(rt; report.begun, report.ended.saturating_add(report.live));
+    assert_eq!(rt; report.processes.len() as u64, report.live);
+    assert!(rt; report.find_mismatch().is_none());
+}
+
+// The whole life of the tree in one call, long enough for its end, or so short that processes are left. How far several
+// hands come depends on how their threads run: one may use up its turns while another, which has a process out, doesn't
+// run. So the end is asked of one hand alone.
+fn run_with<R: Threads + Wait + Abort + Sync>(
+    rt: &R,
+    alloc: Global,
+    hands: usize,
+) -> Result<(), Fail>
+    requires some { 0 < hands }
+    requires few { hands ≤ all_parts }
+{
+    let starts: Starts = Arc::new(alloc, AtomicU64::new(0))?;
+    let whole = plans(alloc, &starts)?;
+    match run_tree(rt, alloc, whole, hands, &Still, 20_000) {
+        Ok(report) => {
+            check_ledger(rt, &report);
+            if hands == 1 {
+                check_ended(rt, &report);
+            }
+        }
+        Err(_) => return Err("the tree was not closed".into()),
+    }
+    let short = plans(alloc, &starts)?;
+    match run_tree(rt, alloc, short, hands, &Still, 1) {
+        Ok(report) => {
+            assert!(rt; report.live > 0);
+            assert_eq!(rt; report.begun, report.ended + report.live);
+            assert_eq!(rt; report.processes.len() as u64, report.live);
+        }
+        Err(_) => return Err("the tree was not closed".into()),
+    }
+    Ok(())
+}
+
+#[test]
+fn a_whole_tree_is_run_in_one_call(rt: HostRuntime) -> Result<(), Fail> {
+    run_with(&rt, rt.alloc(), 1)?;
+    run_with(&rt, rt.alloc(), 2)?;
+    run_with(&rt, rt.alloc(), 4)?;
+    run_with(&rt, rt.alloc(), 8)
+}
+
+#[test]
+fn a_tree_is_served_by_one_hand_and_by_several(rt: HostRuntime) -> Result<(), Fail> {
+    live_with(&rt, rt.alloc(), 1)?;
+    live_with(&rt, rt.alloc(), 2)?;
+    live_with(&rt, rt.alloc(), 4)
+}
+
+// Lets two hands wait for each other before the first turn of each. A wait has its end, so that one thread that served
+// both hands, one after the other, would not hang: it would not meet.
+#[derive(Drop)]
+struct Meeting {
+    first: AtomicU64,
+    second: AtomicU64,
+    met: AtomicU64,
+}
+
+impl Gate for Meeting {
+    fn before_turn(&self, hand: usize) -> u64 {
+        let (own, other) = if hand == 0 {
+            (&self.first, &self.second)
+        } else {
+            (&self.second, &self.first)
+        };
+        if own.swap(1, Ordering::SeqCst) == 0 {
+            for _ in 0..10_000_000 {
+                if other.load(Ordering::SeqCst) == 1 {
+                    self.met.fetch_add(1, Ordering::SeqCst);
+                    return 0;
+                }
+                thread::yield_now();
+            }
+        }
+        0
+    }
+}
+
+// Serves one round, and leaves.
+#[derive(Drop)]
+struct Once {
+    rounds: u64,
+}
+
+impl Leader<Worker, BoxedSubsystem> for Once {
+    fn next(&mut self, _told: Option<Note>) -> Round<Worker, BoxedSubsystem> {
+        self.rounds = self.rounds.saturating_add(1);
+        if self.rounds > 1 {
+            Round::Leave
+        } else {
+            Round::Serve(1)
+        }
+    }
+}
+
+#[test]
+fn each_hand_has_a_thread_of_its_own(rt: HostRuntime) -> Result<(), Fail> {
+    let starts: Starts = Arc::new(rt.alloc(), AtomicU64::new(0))?;
+    let plans = plans(rt.alloc(), &starts)?;
+    let meeting = Meeting {
+        first: AtomicU64::new(0),
+        second: AtomicU64::new(0),
+        met: AtomicU64::new(0),
+    };
+    let led = lead(&rt, rt.alloc(), plans, 2, &meeting, 10, Once { rounds: 0 });
+    assert_eq!(rt; led.map(|led| led.leader.rounds), Ok(2));
+    assert_eq!(rt; meeting.met.load(Ordering::SeqCst), 2);
+    Ok(())
+}
+
+// The nested supervisor has two children and one body.
+#[test]
+fn a_refused_table_is_told_by_its_number(rt: HostRuntime) -> Result<(), Fail> {
+    let starts: Starts = Arc::new(rt.alloc(), AtomicU64::new(0))?;
+    let mut plans = plans(rt.alloc(), &starts)?;
+    if let Some(plan) = plans.last_mut() {
+        plan.bodies.pop();
+    }
+    let led = lead(&rt, rt.alloc(), plans, 2, &Still, 10, Once { rounds: 0 });
+    let fault = SystemFault::NoBody { table: 1 };
+    assert_eq!(rt; led.map(|led| led.leader.rounds), Err(fault));
+    Ok(())
+}
+
+// Serves all hands from one thread, as the leader says.
+#[derive(Drop)]
+struct Alone {
+    leader: UpAndDown,
+}
+
+impl<R: Wait + Abort> Session<R, Worker, BoxedSubsystem> for Alone {
+    type Output = UpAndDown;
+
+    fn run<N: WordsNaming + InboxNaming + RunNaming + Send + Sync>(
+        self,
+        rt: &R,
+        system: System<N, Worker, BoxedSubsystem>,
+        hands: Vec<Hand<N, Worker, BoxedSubsystem>>,
+        client: Client<N, Body<Worker, BoxedSubsystem>>,
+    ) -> UpAndDown {
+        let (mut hands, mut client) = (hands, client);
+        let mut leader = self.leader;
+        assert_eq!(rt; (system.tables(), hands.len()), (2, 2));
+        assert!(rt; client.is_first());
+        lead_alone(rt, &system, &mut hands, &mut client, &mut leader);
+        leader
+    }
+}
+
+// Serves all hands, as the leader says, until the root has ended.
+fn lead_alone<N: WordsNaming + InboxNaming + RunNaming, R: Wait + Abort>(
+    rt: &R,
+    system: &System<N, Worker, BoxedSubsystem>,
+    hands: &mut Vec<Hand<N, Worker, BoxedSubsystem>>,
+    client: &mut Client<N, Body<Worker, BoxedSubsystem>>,
+    leader: &mut UpAndDown,
+) {
+    for _ in 0..10_000 {
+        if leader.has_heard(system.root_note(rt, client)) {
+            return;
+        }
+        if leader.has_restarted() {
+            assert!(rt; system.stop(client));
+        }
+        for hand in hands.iter_mut() {
+            system.serve(rt, hand, &mut Still, 99);
+            system.turn(rt, hand, 0);
+        }
+    }
+}
+
+#[test]
+fn a_session_serves_all_hands_from_one_thread(rt: HostRuntime) -> Result<(), Fail> {
+    let starts: Starts = Arc::new(rt.alloc(), AtomicU64::new(0))?;
+    let plans = plans(rt.alloc(), &starts)?;
+    let leader = UpAndDown::new(starts, WORKERS + 1);
+    match with_system(&rt, rt.alloc(), plans, 2, Alone { leader }) {
+        Ok(leader) => leader.check(&rt),
+        Err(_) => return Err("the tree was refused".into()),
+    }
+    Ok(())
+}
+
+// Ends the tree, closes it without one of its hands, and then with all of them.
+#[derive(Drop)]
+struct Closing {
+    alone: Alone,
+    alloc: Global,
+}
+
+impl<R: Wait + Abort> Session<R, Worker, BoxedSubsystem> for Closing {
+    type Output = Option<Report<Worker, BoxedSubsystem>>;
+
+    fn run<N: WordsNaming + InboxNaming + RunNaming + Send + Sync>(
+        self,
+        rt: &R,
+        system: System<N, Worker, BoxedSubsystem>,
+        hands: Vec<Hand<N, Worker, BoxedSubsystem>>,
+        client: Client<N, Body<Worker, BoxedSubsystem>>,
+    ) -> Option<Report<Worker, BoxedSubsystem>> {
+        let (mut hands, mut client) = (hands, client);
+        let mut leader = self.alone.leader;
+        lead_alone(rt, &system, &mut hands, &mut client, &mut leader);
+        leader.check(rt);
+        let away = hands.pop()?;
+        let back = match system.close(rt, self.alloc, hands, client) {
+            Err(CloseFault::Missing(back) | CloseFault::OutOfMemory(back)) => back,
+            _ => panic!(rt; "a hand is away"),
+        };
+        let Unclosed {
+            system,
+            mut hands,
+            client,
+        } = back;
+        assert_eq!(rt;
+            (system.tables(), hands.len(), client.is_first()),
+            (2, 1, true)
+        );
+        if hands.push(away).is_err() {
+            return None;
+        }
+        // Under a refused growth all comes back, and the tree can be closed again.
+        let back = match system.close(rt, self.alloc, hands, client) {
+            Ok(report) => return Some(report),
+            Err(CloseFault::OutOfMemory(back)) => back,
+            Err(_) => panic!(rt; "all hands are here"),
+        };
+        let Unclosed {
+            system,
+            hands,
+            client,
+        } = back;
+        match system.close(rt, self.alloc, hands, client) {
+            Ok(report) => Some(report),
+            Err(_) => panic!(rt; "there is memory now"),
+        }
+    }
+}
+
+// The whole life of the tree, closed first without one of its hands. False where memory was refused at its opening.
+fn close_whole<R: Wait + Abort>(rt: &R, alloc: Global) -> Result<bool, Fail> {
+    let starts: Starts = Arc::new(alloc, AtomicU64::new(0))?;
+    let plans = plans(alloc, &starts)?;
+    let leader = UpAndDown::new(starts, WORKERS + 1);
+    let closing = Closing {
+        alone: Alone { leader },
+        alloc,
+    };
+    match with_system(rt, alloc, plans, 2, closing) {
+        Ok(Some(report)) => check_ended(rt, &report),
+        Err(SystemFault::OutOfMemory) => return Ok(false),
+        _ => return Err("memory was refused".into()),
+    }
+    Ok(true)
+}
+
+// Of `rt try --test --fail-alloc N` the least N refuse what the test makes for itself, which it then tells. Of the next each
+// refuses one growth of the opening, of a turn or of the close: the tree is opened again, or nothing is lost, and all comes to
+// the same end.
+#[test]
+fn a_tree_is_closed_with_all_its_hands(rt: HostRuntime) -> Result<(), Fail> {
+    if !close_whole(&rt, rt.alloc())? {
+        assert!(rt; close_whole(&rt, rt.alloc())?);
+    }
+    Ok(())
+}
+
+// What a supervisor counts that has so many children, of whom so many have a process.
+fn counted(specs: u64, active: u64, supervisors: u64, workers: u64) -> Option<CountsNow> {
+    Some(CountsNow {
+        specs,
+        active,
+        supervisors,
+        workers,
+    })
+}
+
+// Whether a reading of the nested supervisor may come after one that had so many children: it is of two workers, of whom at
+// most two run, or of none before it was opened; and never of none again.
+fn may_follow(last: u64, now: CountsNow) -> bool {
+    let is_one = now.specs == now.workers && now.specs <= 2 && now.active <= now.specs;
+    is_one && last <= now.specs
+}
+
+// Serves by one hand, while another reads after each turn; and reads once all is up and `c` was restarted.
+fn count_along<N: WordsNaming + InboxNaming + RunNaming, R: Wait + Abort>(
+    rt: &R,
+    system: &System<N, Worker, BoxedSubsystem>,
+    serving: &mut Hand<N, Worker, BoxedSubsystem>,
+    reading: &mut Hand<N, Worker, BoxedSubsystem>,
+) {
+    assert_eq!(rt; system.counts(reading, 0), counted(0, 0, 0, 0));
+    assert_eq!(rt; system.counts(reading, 1), counted(0, 0, 0, 0));
+    assert_eq!(rt; system.counts(reading, 2), None);
+    // The root is opened, and starts its first child.
+    system.turn(rt, serving, 0);
+    assert_eq!(rt; system.counts(reading, 0), counted(2, 0, 1, 1));
+    let mut last = 0;
+    for _ in 0..1000 {
+        system.turn(rt, serving, 0);
+        match system.counts(reading, 1) {
+            Some(now) => {
+                assert!(rt; may_follow(last, now));
+                last = now.specs;
+            }
+            None => assert!(rt; false),
+        }
+    }
+    assert_eq!(rt; system.counts(reading, 0), counted(2, 2, 1, 1));
+    assert_eq!(rt; system.counts(reading, 1), counted(2, 2, 0, 2));
+    assert_eq!(rt; system.counts(serving, 1), counted(2, 2, 0, 2));
+}
+
+// Counts by two hands.
+#[derive(Drop)]
+struct Counting;
+
+impl<R: Wait + Abort> Session<R, Worker, BoxedSubsystem> for Counting {
+    type Output = bool;
+
+    fn run<N: WordsNaming + InboxNaming + RunNaming + Send + Sync>(
+        self,
+        rt: &R,
+        system: System<N, Worker, BoxedSubsystem>,
+        hands: Vec<Hand<N, Worker, BoxedSubsystem>>,
+        _client: Client<N, Body<Worker, BoxedSubsystem>>,
+    ) -> bool {
+        let mut hands = hands;
+        let (Some(mut reading), Some(mut serving)) = (hands.pop(), hands.pop()) else {
+            return false;
+        };
+        count_along(rt, &system, &mut serving, &mut reading);
+        true
+    }
+}
+
+#[test]
+fn counts_are_read_while_the_tree_restarts(rt: HostRuntime) -> Result<(), Fail> {
+    let starts: Starts = Arc::new(rt.alloc(), AtomicU64::new(0))?;
+    let plans = plans(rt.alloc(), &starts)?;
+    let counted = with_system(&rt, rt.alloc(), plans, 2, Counting);
+    assert_eq!(rt; counted, Ok(true));
+    assert_eq!(rt; starts.load(Ordering::SeqCst), WORKERS + 1);
+    Ok(())
+}

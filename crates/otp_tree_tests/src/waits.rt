@@ -1,0 +1,201 @@
+// Jobs that wait until they are told something.
+ghost use Rattle.std.specs.Prelude.{◌≡◌, ◌<◌, ◌≤◌, true, length, IfOk};
+ghost use Rattle.otp_run.specs.Rule.{all_parts};
+
+use crate::drafts::Draft;
+use otp_bridge::BoxedSubsystem;
+use otp_job::{Job, Told, Turn};
+use otp_reason::{Note, Reason, Started};
+use otp_tree::{Gate, Leader, Led, Report, Round, TablePlan, lead};
+use std::alloc::{AllocError, Global};
+use std::process::Abort;
+use std::sync::atomic::{AtomicU64, Ordering};
+use std::sync::{Arc, Wait};
+use std::test::*;
+use std::thread::Threads;
+
+// What several jobs count together.
+type Counter = Arc<AtomicU64>;
+
+// Waits until it is asked to shut down. It counts its starts, and its turns.
+#[derive(Drop)]
+struct Waiter {
+    starts: Counter,
+    turns: Counter,
+}
+
+impl Job for Waiter {
+    ghost is_trapping = { λ _. true };
+
+    fn traps(&self) -> bool {
+        true
+    }
+
+    fn start(&mut self, _number: u64) -> Started {
+        self.starts.fetch_add(1, Ordering::SeqCst);
+        Started::Up
+    }
+
+    fn turn(&mut self, told: Told) -> Turn {
+        self.turns.fetch_add(1, Ordering::SeqCst);
+        match told {
+            Told::Nothing => Turn::Wait,
+            Told::Shutdown => Turn::End(Reason::Shutdown),
+        }
+    }
+}
+
+type Plan = TablePlan<Waiter, BoxedSubsystem>;
+
+const LETTERS: [u8; 16] = *b"abcdefghijklmnop";
+
+// How many workers the tree has: more than are looked at in one turn.
+const WORKERS: u64 = 64;
+
+// The root has one supervisor, which has all workers.
+fn plans(alloc: Global, starts: &Counter, turns: &Counter) -> Result<Vec<Plan>, Fail>
+    ensures { IfOk result (λ plans. length plans.items ≡ 2) }
+{
+    let mut root = Draft::new(alloc);
+    root.add_supervisor(b"sub", 1)?;
+    let mut sub = Draft::new(alloc);
+    for high in &LETTERS[..4] {
+        for low in LETTERS {
+            let worker = Waiter {
+                starts: Arc::try_clone(starts)?,
+                turns: Arc::try_clone(turns)?,
+            };
+            sub.add_worker(&[*high, low], worker)?;
+        }
+    }
+    let mut plans = Vec::new(alloc);
+    plans.push(root.plan()?)?;
+    plans.push(sub.plan()?)?;
+    Ok(plans)
+}
+
+// A clock that stands still.
+#[derive(Drop)]
+struct Still;
+
+impl Gate for Still {
+    fn before_turn(&self, _hand: usize) -> u64 {
+        0
+    }
+}
+
+// Turns of a round: where hands wait for each other they may be spent on nothing, so the leader goes on until it sees what
+// it waits for.
+const TURNS: u64 = 1_000;
+
+// Rounds at the most: more than any machine needs, however busy.
+const ROUNDS: u64 = 1_000_000;
+
+// Serves until the root is up and each worker had its turn, and for some rounds more. Then it leaves, or stops the tree first.
+#[derive(Drop)]
+struct Idler {
+    turns: Counter,
+    stops: bool,
+    is_up: bool,
+    is_asked: bool,
+    idle_rounds: u64,
+    // How many turns the workers had had when the idle rounds were over.
+    idle_turns: u64,
+    end: Option<Note>,
+}
+
+impl Idler {
+    fn new(turns: Counter, stops: bool) -> Idler {
+        Idler {
+            turns,
+            stops,
+            is_up: false,
+            is_asked: false,
+            idle_rounds: 0,
+            idle_turns: 0,
+            end: None,
+        }
+    }
+
+    fn hear_note(&mut self, told: Option<Note>) {
+        match told {
+            Some(Note::Up(_)) => self.is_up = true,
+            Some(note) => self.end = Some(note),
+            None => {}
+        }
+    }
+
+    // Whether all workers have waited for ten rounds.
+    fn has_idled(&mut self) -> bool {
+        if !self.is_up || self.turns.load(Ordering::SeqCst) < WORKERS {
+            return false;
+        }
+        self.idle_rounds = self.idle_rounds.saturating_add(1);
+        self.idle_turns = self.turns.load(Ordering::SeqCst);
+        self.idle_rounds > 10
+    }
+}
+
+impl Leader<Waiter, BoxedSubsystem> for Idler {
+    fn next(&mut self, told: Option<Note>) -> Round<Waiter, BoxedSubsystem> {
+        self.hear_note(told);
+        if self.end.is_some() {
+            return Round::Leave;
+        }
+        if self.is_asked || !self.has_idled() {
+            return Round::Serve(TURNS);
+        }
+        if !self.stops {
+            return Round::Leave;
+        }
+        self.is_asked = true;
+        Round::Stop(TURNS)
+    }
+}
+
+// What the tree was, once it was left as it ran, or was stopped.
+fn check<R: Abort>(rt: &R, report: &Report<Waiter, BoxedSubsystem>, stops: bool) {
+    let processes = WORKERS.saturating_add(2);
+    let live = if stops { 0 } else { processes };
+    assert_eq!(rt; (report.begun, report.live), (processes, live));
+    assert_eq!(rt; report.processes.len() as u64, live);
+    assert!(rt; report.find_mismatch().is_none());
+}
+
+fn idle_with<R: Threads + Wait + Abort + Sync>(
+    rt: &R,
+    alloc: Global,
+    hands: usize,
+    stops: bool,
+) -> Result<(), Fail>
+    requires some { 0 < hands }
+    requires few { hands ≤ all_parts }
+{
+    let starts: Counter = Arc::new(alloc, AtomicU64::new(0))?;
+    let turns: Counter = Arc::new(alloc, AtomicU64::new(0))?;
+    let plans = plans(alloc, &starts, &turns)?;
+    let leader = Idler::new(Arc::try_clone(&turns)?, stops);
+    let Led { leader, report } = match lead(rt, alloc, plans, hands, &Still, ROUNDS, leader) {
+        Ok(led) => led,
+        Err(_why) => return Err(AllocError.into()),
+    };
+    // Each worker had one turn, however long it waited, and one more when it was asked to shut down.
+    assert_eq!(rt; starts.load(Ordering::SeqCst), WORKERS);
+    assert_eq!(rt; leader.idle_turns, WORKERS);
+    let told = if stops { WORKERS } else { 0 };
+    assert_eq!(rt; turns.load(Ordering::SeqCst), WORKERS.saturating_add(told));
+    match report {
+        Ok(report) => check(rt, &report, stops),
+        Err(_why) => return Err("the tree was not closed".into()),
+    }
+    Ok(())
+}
+
+#[test]
+fn jobs_that_wait_take_no_turns_until_they_are_told(rt: HostRuntime) -> Result<(), Fail> {
+    for stops in [false, true] {
+        idle_with(&rt, rt.alloc(), 1, stops)?;
+        idle_with(&rt, rt.alloc(), 2, stops)?;
+    }
+    Ok(())
+}

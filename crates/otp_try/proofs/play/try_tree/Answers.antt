@@ -1,0 +1,13 @@
+use Rattle.std.proofs.Common.{Bool, inl, inr, subst}
+use Rattle.otp_try.proofs.Pages.{opens_at, unopened}
+use Rattle.otp_try.specs.Pages.{Tries}
+use Rattle.otp_try.proofs.play.try_tree.Goals as goal
+
+pub returns-in-Err : goal.returns-in-Err
+returns-in-Err g c = inl (unopened c.from.result c.told.result (g.W.Output.contents c.args.output.now) c.from.ensures c.told.ensures)
+
+pub returns : goal.returns
+returns g c =
+    subst (λ (b : Bool). Tries c.play.result c.args.tree b (g.W.Output.contents c.args.output.now) (g.W.Output.contents c.play.new.output)) c.tells_orders.ensures
+    (inr (opens_at c.play.result c.args.tree c.tells_orders.result c.in-Ok.trial c.new-told.result.items c.open.new.out.items c.page_of.result.items
+    (g.W.Output.contents c.args.output.now) (g.W.Output.contents c.play.new.output) c.new-told.ensures.items c.in-Ok.ensures.told c.page_of.ensures c.play.ensures))

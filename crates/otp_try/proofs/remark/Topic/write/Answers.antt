@@ -1,0 +1,30 @@
+use Rattle.std.proofs.Common.{List, ap, refl}
+use Rattle.otp_try.specs.Page.{remark_text}
+use Rattle.otp_try.specs.Page.Remark.{Fault, Help, Legend, Prompt, Welcome}
+use Rattle.otp_try.specs.Played.{Seated}
+use Rattle.otp_try.specs.Prompt.{prompt_text}
+use Rattle.otp_try.specs.declared.play.Writer.TheVariants as writer
+use Rattle.otp_try.proofs.Pages.{some_remark}
+use Rattle.otp_try.proofs.remark.Topic.write.Goals as goal
+
+pub returns-in-Welcome : goal.returns-in-Welcome
+unfolding remark_text
+returns-in-Welcome c = some_remark c.write_welcome.result c.args.trial.now c.args.out.now.items c.write_welcome.new.out.items _ Welcome refl c.write_welcome.ensures
+
+pub returns-in-Help : goal.returns-in-Help
+unfolding remark_text
+returns-in-Help c = some_remark c.write_help.result c.args.trial.now c.args.out.now.items c.write_help.new.out.items _ Help refl c.write_help.ensures
+
+pub returns-in-Legend : goal.returns-in-Legend
+unfolding remark_text
+returns-in-Legend c = some_remark c.write_legend.result c.args.trial.now c.args.out.now.items c.write_legend.new.out.items _ Legend refl c.write_legend.ensures
+
+pub returns-in-Fault : goal.returns-in-Fault
+unfolding remark_text
+returns-in-Fault c = some_remark c.write_fault.result c.args.trial.now c.args.out.now.items c.write_fault.new.out.items _ (Fault c.in-Fault.fault) refl c.write_fault.ensures
+
+pub returns-in-Prompt : goal.returns-in-Prompt
+unfolding remark_text
+returns-in-Prompt c =
+    some_remark c.write_prompt.result c.args.trial.now c.args.out.now.items c.write_prompt.new.out.items (prompt_text writer.Person c.seats.result.now c.time.result)
+    (Prompt writer.Person c.time.result) (ap (λ (s : List Seated). prompt_text writer.Person s c.time.result) c.seats.ensures) c.write_prompt.ensures

@@ -1,0 +1,120 @@
+-- What is put on the page of a trial: all orders of its supervisors, in order, and remarks between them (own).
+use Rattle.std.specs.Prelude.{◌≡◌, ℕ, Bool, true, false, List, [], ◌∷◌, ◌++◌, codes, slice_set}
+use Rattle.otp_timeline.specs.declared.moment.Moment.{Moment}
+use Rattle.otp_try.specs.Played.{IsAt, Move, Seated, move_text, seat_after}
+use Rattle.otp_try.specs.Prompt.{prompt_text, standings_text}
+use Rattle.otp_try.specs.Sketched.{picture}
+use Rattle.otp_try.specs.Story.{number_after}
+use Rattle.otp_try.specs.Texts.{fault_text, help_text, legend_text, taken_text, welcome_text}
+use Rattle.otp_try.specs.Unused.{unused_text}
+use Rattle.otp_try.specs.declared.play.Writer.{Writer}
+use Rattle.otp_try.specs.declared.play.Writer.TheVariants as writer
+use Rattle.otp_try.specs.declared.script.ScriptFault.{ScriptFault}
+use Rattle.otp_try.specs.declared.trial.ActionEnd.{ActionEnd}
+use Rattle.otp_try.specs.declared.trial.ActionEnd.TheVariants as taken
+use Rattle.otp_try.specs.declared.world.Hang.{Hang}
+use Rattle.otp_try.specs.declared.world.Plan.{Plan}
+
+-- what is told beside the orders
+pub data Remark : Type 0 where
+  Welcome : Remark
+  Help : Remark
+  -- what the cells of a picture mean
+  Legend : Remark
+  -- above what a line does, if it has a heading: its number and its text
+  Heading : Bool → ℕ → List ℕ → Remark
+  -- why a line can't be read
+  Fault : ScriptFault → Remark
+  -- behind what a line did: whether it names nobody, and what became of it
+  Verdict : Writer → ℕ → Bool → ActionEnd → Remark
+  Prompt : Writer → ℕ → Remark
+  -- at the end: how the supervisors stand at this time, of which these have a process, and the plans of which nothing came
+  Summary : ℕ → List Bool → List Plan → List Hang → Remark
+  -- how these supervisors stood at these moments
+  Picture : Bool → List Seated → List Moment → Remark
+
+-- the number of a line
+unfoldable pub line_number : ℕ → List ℕ
+line_number number = number_after (codes "line ") number
+
+-- what stands above what a line does, if it has a heading
+unfoldable pub heading_line : Bool → ℕ → List ℕ → List ℕ
+heading_line false number line = []
+heading_line true number line = line_number number ++ codes ": " ++ line ++ codes "\n"
+
+-- that a line names a child which isn't there
+unfoldable pub unknown_text : ℕ → List ℕ
+unknown_text number = line_number number ++ codes ": there is no such child; which lists the children\n"
+
+-- of a line that was taken: whether it names a child which isn't there
+unfoldable pub known_text : ℕ → Bool → List ℕ
+known_text number true = unknown_text number
+known_text number false = []
+
+-- a sentence for a person; a script ends with it
+unfoldable pub reply_text : Writer → List ℕ → List ℕ
+reply_text writer.Script text = []
+reply_text writer.Person text = text ++ codes "\n"
+
+-- what is told behind what a line did
+unfoldable pub verdict_text : Writer → ℕ → Bool → ActionEnd → List ℕ
+verdict_text writer number is_unknown taken.Done = known_text number is_unknown
+verdict_text writer number is_unknown why = reply_text writer (taken_text why)
+
+-- the picture of these moments, if there are some
+unfoldable pub drawing : Bool → List Seated → List Moment → List ℕ
+drawing is_coloured seats [] = []
+drawing is_coloured seats (moment ∷ moments) = picture is_coloured seats (moment ∷ moments)
+
+-- why a line can't be read
+unfoldable pub fault_line : ScriptFault → List ℕ
+fault_line why = fault_text why ++ codes "\n"
+
+-- what stands at the end of a run: how its supervisors stand, what they await, and what was planned and never came
+unfoldable pub summary_text : ℕ → List Seated → List Bool → List Plan → List Hang → List ℕ
+summary_text now seats running plans hanging = standings_text now seats running ++ unused_text seats plans hanging
+
+-- a text says so of these supervisors, of which the root has a process
+abbrev pub IsSummary : List Seated → List ℕ → Type 0
+IsSummary seats text =
+    (now : ℕ) × (others : List Bool) × (plans : List Plan) × (hanging : List Hang) × (text ≡ summary_text now seats (true ∷ others) plans hanging)
+
+-- what a remark says where the supervisors stand so
+unfoldable pub remark_text : Remark → List Seated → List ℕ
+remark_text Welcome seats = welcome_text
+remark_text Help seats = help_text
+remark_text Legend seats = legend_text
+remark_text (Heading has_heading number line) seats = heading_line has_heading number line
+remark_text (Fault why) seats = fault_line why
+remark_text (Verdict writer number is_unknown taken) seats = verdict_text writer number is_unknown taken
+remark_text (Prompt writer now) seats = prompt_text writer seats now
+remark_text (Summary now running plans hanging) seats = summary_text now seats running plans hanging
+remark_text (Picture is_coloured drawn moments) seats = drawing is_coloured drawn moments
+
+-- what comes next of a run: a move, or something is said
+pub data Piece : Type 0 where
+  Moved : Move → Piece
+  Said : Remark → Piece
+
+-- the moves among the pieces lead from these supervisors to those
+abbrev pub Leads : List Seated → List Piece → List Seated → Type 0
+Leads seats [] after = after ≡ seats
+Leads seats (Moved m ∷ ps) after = IsAt seats m.place m.seat × Leads (slice_set seats m.place (seat_after m)) ps after
+Leads seats (Said r ∷ ps) after = Leads seats ps after
+
+-- a text, if it is shown
+unfoldable pub shown : Bool → List ℕ → List ℕ
+shown false text = []
+shown true text = text
+
+-- the text of pieces, from these supervisors on: of each move the lines of all its orders, if orders are told
+abbrev pub pieces_text : Bool → List Seated → List Piece → List ℕ
+pieces_text tells seats [] = []
+pieces_text tells seats (Moved m ∷ ps) = shown tells (move_text m) ++ pieces_text tells (slice_set seats m.place (seat_after m)) ps
+pieces_text tells seats (Said r ∷ ps) = remark_text r seats ++ pieces_text tells seats ps
+
+-- the run went on so, and its pieces were put behind the text, in order: no move of the supervisors is left out
+pub record Adds (tells : Bool) (old new : List Seated) (before after : List ℕ) : Type 0 where
+  pub pieces : List Piece
+  pub lead : Leads old pieces new
+  pub text : after ≡ before ++ pieces_text tells old pieces

@@ -1,0 +1,250 @@
+//! A line of the input, played on a trial: its heading, what it does, and what became of it.
+
+ghost use Rattle.std.specs.Prelude.{Bool, true, List, ◌≡◌, ◌≤◌, ◌<◌, ◌++◌, OnOk, IfSome, length};
+ghost use Rattle.otp_spec.specs.declared.limits.TheConstants.{MAX_READING};
+ghost use Rattle.otp_try.specs.Page.{Adds, heading_line, known_text, line_number, reply_text, unknown_text, verdict_text};
+ghost use Rattle.otp_try.specs.Played.{Tells};
+
+use crate::early::EarlyEnd;
+use crate::finding::{is_known, named_in};
+use crate::play::Writer;
+use crate::script::{Action, Child, Step, When};
+use crate::seat::Seat;
+use crate::telling::write_after;
+use crate::trial::{ActionEnd, Halt, Trial};
+use otp_reason::Name;
+use otp_spec::MAX_READING;
+use std::alloc::AllocError;
+
+/// A line of the input: who wrote it, and its number, counted from 1.
+#[derive(Clone, Copy, Debug, PartialEq, Eq)]
+pub(crate) struct Line {
+    pub writer: Writer,
+    pub number: u64,
+}
+
+/// What a line came to.
+#[derive(Clone, Copy, Debug, PartialEq, Eq)]
+struct Outcome {
+    /// It names a child that isn't there, and was taken all the same.
+    is_unknown: bool,
+    taken: ActionEnd,
+}
+
+/// Appends the number of a line.
+#[tactic(auto, unfolding(crate::specs::Page::line_number))]
+fn write_line_number(number: u64, out: &mut Vec<u8>) -> Result<(), AllocError>
+    ensures { OnOk result (out.new.items ≡ out.old.items ++ line_number number) }
+{
+    write_after(b"line ", number, out)
+}
+
+/// Appends what stands above what a line does, if it has a heading.
+#[tactic(auto, unfolding(crate::specs::Page::heading_line))]
+fn write_heading_line(
+    has_heading: bool,
+    number: u64,
+    line: &[u8],
+    out: &mut Vec<u8>,
+) -> Result<(), AllocError>
+    ensures { OnOk result (out.new.items ≡ out.old.items ++ heading_line has_heading number line.now) }
+{
+    if !has_heading {
+        return Ok(());
+    }
+    write_line_number(number, out)?;
+    out.extend_from_slice(b": ")?;
+    out.extend_from_slice(line)?;
+    out.extend_from_slice(b"\n")
+}
+
+/// Appends that the line with this number names a child which isn't there.
+#[tactic(auto, unfolding(crate::specs::Page::unknown_text))]
+fn write_unknown(number: u64, out: &mut Vec<u8>) -> Result<(), AllocError>
+    ensures { OnOk result (out.new.items ≡ out.old.items ++ unknown_text number) }
+{
+    write_line_number(number, out)?;
+    out.extend_from_slice(b": there is no such child; which lists the children\n")
+}
+
+/// Appends that the line with this number names a child which isn't there, if it does.
+#[tactic(auto, unfolding(crate::specs::Page::known_text))]
+fn write_known(number: u64, is_unknown: bool, out: &mut Vec<u8>) -> Result<(), AllocError>
+    ensures { OnOk result (out.new.items ≡ out.old.items ++ known_text number is_unknown) }
+{
+    if is_unknown {
+        write_unknown(number, out)
+    } else {
+        Ok(())
+    }
+}
+
+/// Appends a sentence for a person; a script ends with it.
+#[tactic(auto, unfolding(crate::specs::Page::reply_text))]
+fn write_reply(writer: Writer, text: &[u8], out: &mut Vec<u8>) -> Result<(), AllocError>
+    ensures { OnOk result (out.new.items ≡ out.old.items ++ reply_text writer text.now) }
+{
+    match writer {
+        Writer::Script => Ok(()),
+        Writer::Person => {
+            out.extend_from_slice(text)?;
+            out.extend_from_slice(b"\n")
+        }
+    }
+}
+
+/// Whether the supervisor at this place has a child with this id.
+fn has_child(seats: &[Seat], place: usize, id: &Name) -> bool {
+    match seats.get(place) {
+        None => false,
+        Some(seat) => is_known(id, seat.rows()),
+    }
+}
+
+/// The line says nothing: it is empty, or a comment.
+pub(crate) fn is_silent(step: Step<'_>) -> bool {
+    step.when == When::Now && step.action == Action::Nothing
+}
+
+/// The place of the supervisor that a line means: by its path, or by the number of a process.
+fn place_of(trial: &Trial, step: Step<'_>) -> Option<usize>
+    ensures { IfSome result (λ place. place < length trial.now) }
+{
+    match step.action {
+        Action::Exit(Child::Numbered(process), _) | Action::Hang(Child::Numbered(process))
+            if step.path.is_empty() => Some(trial.place_of_process(process)),
+        _ => trial.place_of(step.path),
+    }
+}
+
+/// The time of a line, where it has not gone by.
+fn time_of(trial: &Trial, when: When) -> Option<u64>
+    ensures { IfSome result (λ time. time ≤ MAX_READING) }
+{
+    let now = trial.time();
+    match when {
+        When::Now => Some(now),
+        When::At(time) if time < now => None,
+        When::At(time) => Some(time.min(MAX_READING)),
+        When::After(time) => Some(now.saturating_add(time).min(MAX_READING)),
+    }
+}
+
+/// Whether a line names a child which the supervisor doesn't have, and is taken all the same: of a call the answer is
+/// the core's, and for a start that is planned a later call may add the child. Whoever mistyped the name is told so.
+fn means_nobody(trial: &Trial, step: Step<'_>) -> bool {
+    let Some(id) = named_in(step.action) else {
+        return false;
+    };
+    if trial.has_ended() {
+        return false;
+    }
+    match place_of(trial, step) {
+        None => false,
+        Some(place) => !has_child(trial.seats(), place, &id),
+    }
+}
+
+/// Why nothing was done: before all else that the root has ended.
+fn unless_ended(trial: &Trial, taken: ActionEnd) -> ActionEnd {
+    if trial.has_ended() {
+        ActionEnd::Ended
+    } else {
+        taken
+    }
+}
+
+/// What a line says is done at the supervisor that it means.
+fn act(trial: &mut Trial, step: Step<'_>, out: &mut Vec<u8>) -> Result<ActionEnd, Halt>
+    ensures { OnOk result (Tells trial.old trial.new out.old.items out.new.items) }
+{
+    let Some(place) = place_of(trial, step) else {
+        return Ok(unless_ended(trial, ActionEnd::NoChild));
+    };
+    if !trial.has_process(place) {
+        return Ok(unless_ended(trial, ActionEnd::NoProcess));
+    }
+    let taken = trial.act(place, step.action, out)?;
+    match taken {
+        ActionEnd::NoChild => Ok(unless_ended(trial, taken)),
+        taken => Ok(taken),
+    }
+}
+
+/// The clock goes to this time, and then what a line says is done.
+fn do_at(trial: &mut Trial, time: u64, step: Step<'_>, out: &mut Vec<u8>) -> Result<Outcome, Halt>
+    requires { time ≤ MAX_READING }
+    ensures { OnOk result (Tells trial.old trial.new out.old.items out.new.items) }
+{
+    trial.go_to(time, out)?;
+    let is_unknown = means_nobody(trial, step);
+    let taken = act(trial, step, out)?;
+    Ok(Outcome { is_unknown, taken })
+}
+
+/// What a line says: the clock goes on, and then it is done, unless its time has gone by.
+fn do_step(trial: &mut Trial, step: Step<'_>, out: &mut Vec<u8>) -> Result<Outcome, Halt>
+    ensures { OnOk result (Tells trial.old trial.new out.old.items out.new.items) }
+{
+    match time_of(trial, step.when) {
+        None => Ok(Outcome {
+            is_unknown: false,
+            taken: ActionEnd::TooLate,
+        }),
+        Some(time) => do_at(trial, time, step, out),
+    }
+}
+
+impl Line {
+    /// Appends what stands above what the line of a script does; a line that says nothing has no heading.
+    fn write_heading(self, line: &[u8], step: Step<'_>, out: &mut Vec<u8>) -> Result<(), AllocError>
+        ensures { OnOk result ((has_heading : Bool) × (out.new.items ≡ out.old.items ++ heading_line has_heading self.number line.now)) }
+    {
+        let has_heading = self.writer == Writer::Script && !is_silent(step);
+        write_heading_line(has_heading, self.number, line, out)
+    }
+
+    /// Appends what became of the line: that it names nobody, or why it did nothing.
+    #[tactic(auto, unfolding(crate::specs::Page::verdict_text))]
+    fn write_verdict(self, outcome: Outcome, out: &mut Vec<u8>) -> Result<(), AllocError>
+        ensures { OnOk result (out.new.items ≡ out.old.items ++ verdict_text self.writer self.number outcome.is_unknown outcome.taken) }
+    {
+        match outcome.taken {
+            ActionEnd::Done => write_known(self.number, outcome.is_unknown, out),
+            taken => write_reply(self.writer, taken.text().as_bytes(), out),
+        }
+    }
+
+    /// How the run ends behind the line, if it does: a script ends where a line did nothing.
+    fn stop_of(self, outcome: Outcome) -> Option<EarlyEnd> {
+        match outcome.taken {
+            ActionEnd::Done => None,
+            taken if self.writer == Writer::Script => Some(EarlyEnd::LineMissed(
+                self.number,
+                taken,
+            )),
+            _ => None,
+        }
+    }
+
+    /// Plays a line that was read: appended are its heading, all orders of what it does, in order, and what became of it.
+    /// The answer is how the run ends behind it, if it does.
+    ///
+    /// # Errors
+    ///
+    /// Where memory is refused, or the history of a supervisor has no room.
+    pub fn play(
+        self,
+        trial: &mut Trial,
+        line: &[u8],
+        step: Step<'_>,
+        out: &mut Vec<u8>,
+    ) -> Result<Option<EarlyEnd>, Halt>
+        ensures { OnOk result (Adds true trial.old trial.new out.old.items out.new.items) }
+    {
+        self.write_heading(line, step, out)?;
+        let outcome = do_step(trial, step, out)?;
+        self.write_verdict(outcome, out)?;
+        Ok(self.stop_of(outcome))
+    }
+}
