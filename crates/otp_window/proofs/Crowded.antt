@@ -193,7 +193,7 @@ alike_by limit period t one other is ordered latest other_ordered other_latest f
     ∙ kept_crowded limit period t (kept_of limit one) other is any many other_ordered other_latest
 
 -- where the same stamps are kept, the next restart is one too many for both or for neither
-kept_alike : (limit period t : ℕ) (one other : List ℕ) → kept_of limit one ≡ kept_of limit other → IsNonDecreasing one → All (λ s. s ≤ t) one → IsNonDecreasing other → All (λ s. s ≤ t) other
+pub kept_alike : (limit period t : ℕ) (one other : List ℕ) → kept_of limit one ≡ kept_of limit other → IsNonDecreasing one → All (λ s. s ≤ t) one → IsNonDecreasing other → All (λ s. s ≤ t) other
     → nat_lt limit (in_period period (one ++ t ∷ []) t) ≡ nat_lt limit (in_period period (other ++ t ∷ []) t)
 kept_alike limit period t one other is ordered latest other_ordered other_latest =
     alike_by limit period t one other is ordered latest other_ordered other_latest (nat_le limit 0) refl (nat_lt (length (kept_of limit one)) limit) refl

@@ -129,18 +129,20 @@ impl Window {
         self.past = Past::new();
     }
 
-    /// Whether a restart at `now`, in milliseconds, would be one too many. Adds nothing and looks at one stamp,
-    /// however many there are.
+    /// Whether a restart at `now`, in milliseconds, would be one too many. Adds nothing. The answer is the same for all stamps,
+    /// of which the same are kept; by its code it looks at one stamp, however many there are.
     pub fn would_exceed(&self, now: u64) -> bool
         requires { All (λ s. s ≤ now) self.now.stamps }
-        ensures { result ≡ nat_lt self.now.intensity (in_period self.now.period (self.now.stamps ++ now ∷ []) now) }
+        ensures answer { result ≡ nat_lt self.now.intensity (in_period self.now.period (self.now.stamps ++ now ∷ []) now) }
+        ensures by_kept { (all : List ℕ) → IsNonDecreasing all → All (λ s. s ≤ now) all → kept_of self.now.intensity all ≡ kept_of self.now.intensity self.now.stamps →
+            result ≡ nat_lt self.now.intensity (in_period self.now.period (all ++ now ∷ []) now) }
     {
         is_crowded_with(&self.kept, self.intensity, self.period, now, &self.past)
     }
 
     /// Adds a restart at `now`, in milliseconds, and tells whether the period that ends then has too many.
-    /// Takes no memory and looks at one stamp, however many there are. No stamp that isn't kept counts: the answer is the
-    /// same for all stamps, of which the same are kept.
+    /// No stamp that isn't kept counts: the answer is the same for all stamps, of which the same are kept. By its code it takes
+    /// no memory and looks at one stamp, however many there are.
     pub fn add(&mut self, now: u64) -> Within
         requires reserved { self.old.reserved ≡ true }
         requires latest { All (λ s. s ≤ now) self.old.stamps }

@@ -37,7 +37,8 @@ returns-clause-by_kept c all ordered latest same =
     let t_latest : All (λ s. s ≤ t) before = subst IsLatest (sym c.self.view_is) c.requires.latest in
     let alike : kept_of c.self.inside.intensity before ≡ kept_of c.self.inside.intensity all = sym (subst IsSame (sym c.self.view_is) same) in
     let Answers : View → Type 0 = λ v. ◌≡◌ {A = Within} c.if-is_crowded.result (within v.intensity v.period (all ++ t ∷ []) t) in
-    let asked : c.would_exceed-is_crowded.result ≡ nat_lt c.self.inside.intensity (in_period c.self.inside.period (before ++ t ∷ []) t) = search rules in
+    let Asked : View → Type 0 = λ v. c.would_exceed-is_crowded.result ≡ nat_lt v.intensity (in_period v.period (v.stamps ++ t ∷ []) t) in
+    let asked : c.would_exceed-is_crowded.result ≡ nat_lt c.self.inside.intensity (in_period c.self.inside.period (before ++ t ∷ []) t) = subst Asked (sym c.self.view_is) c.would_exceed-is_crowded.ensures.answer in
     subst Answers c.self.view_is (elim c.if-is_crowded.branch [
       | then-is_crowded w ↦ w.result-is ∙ within_alike c.self.inside.intensity c.self.inside.period t before all true (sym asked ∙ w.if-is_crowded.true) alike c.self.invariant.ordered t_latest ordered latest
       | else-is_crowded w ↦ w.result-is ∙ within_alike c.self.inside.intensity c.self.inside.period t before all false (sym asked ∙ w.if-is_crowded.false) alike c.self.invariant.ordered t_latest ordered latest
