@@ -336,7 +336,7 @@ impl Core {
     }
 
     /// For how many more events, orders and answers there is memory. Where the core is prepared, that is at least what
-    /// any event needs; lists that grow take as much again as they hold, and no more.
+    /// any event needs. That lists which grow take as much again as they hold and no more, a test shows.
     pub fn spare(&self) -> Spare
         ensures events { IsTrue self.now.prepared → 0 < result.events }
         ensures orders { IsTrue self.now.prepared → length (state_of self.now).rows + 1 < result.orders }

@@ -9,7 +9,8 @@ pub const TEXT_SIZE: usize = 64;
 
 /// The term of a reason: 1 to [`TEXT_SIZE`] printable bytes with no space among them (0x21 to 0x7E), kept in place.
 ///
-/// Erlang takes any term; here it is a text of fixed size, so that a reason takes no memory.
+/// Erlang takes any term; here it is a text of fixed size, so that a reason takes no memory. [`Text::new`] tests the bytes;
+/// [`Text::joined`] and [`Text::of_parts`] don't, and make whatever text their caller's bytes show.
 /// Two texts are equal where they show the same bytes.
 #[derive(Clone, Copy, Debug)]
 pub struct Text {

@@ -1,5 +1,5 @@
 -- A supervisor ends: the reason, what shows why, and what becomes of what waits.
-use Rattle.std.specs.Prelude.{ℕ, ◌++◌, ◌+◌, ◌-◌, List, None, Option, Some, [], codes, drop, length}
+use Rattle.std.specs.Prelude.{ℕ, ◌++◌, List, None, Option, Some, [], codes}
 use Rattle.otp_reason.specs.declared.name.Name.{Name}
 use Rattle.otp_reason.specs.Names.{name_bytes}
 use Rattle.otp_rules.specs.declared.call.Reply.TheVariants as reply
@@ -12,6 +12,7 @@ use Rattle.otp_rules.specs.declared.event.Effect.{Effect}
 use Rattle.otp_rules.specs.declared.event.Effect.TheVariants as effect
 use Rattle.otp_reason.specs.declared.reason.Reason.TheVariants as reason
 use Rattle.otp_reason.specs.Texts.{text_of}
+use Rattle.otp_window.specs.Kept.{kept_of}
 use Rattle.otp_spec.specs.declared.flags.SupFlags.{SupFlags}
 use Rattle.otp_rules.specs.declared.ending.Ending.{Ending}
 use Rattle.otp_rules.specs.declared.ending.Cause.{Cause}
@@ -33,7 +34,7 @@ reason_of _ = reason.Shutdown
 
 -- the last restarts, one more than the intensity
 abbrev pub last_stamps : ℕ → List ℕ → List ℕ
-last_stamps intensity stamps = drop (length stamps - (intensity + 1)) stamps
+last_stamps intensity stamps = kept_of intensity stamps
 
 abbrev pub cause_of : SupFlags → List ℕ → Ending → Cause
 cause_of flags stamps Intensity = cause.Intensity flags (last_stamps flags.intensity stamps)

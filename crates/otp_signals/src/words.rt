@@ -195,7 +195,7 @@ impl<N: WordsNaming> Words<N> {
         self.table.word_count() - 1
     }
 
-    /// Draws a number: a new one, above all that this owner drew. One atomic step; takes no memory.
+    /// Draws a number: a new one, above all that this owner drew. By its code one atomic step that takes no memory.
     ///
     /// Refused (E9) exactly where the quota is 0.
     pub fn draw(&self, owner: &mut Owner<N>) -> Result<u64, Exhausted>
@@ -219,7 +219,7 @@ impl<N: WordsNaming> Words<N> {
     }
 
     /// Posts a signal for a number to a slot: the slot's word becomes the greater of what it was and this word.
-    /// One atomic step; takes no memory.
+    /// By its code one atomic step that takes no memory.
     pub fn post(&self, owner: &mut Owner<N>, slot: usize, number: u64, signal: Signal)
         requires slot { Contains owner.old.slots slot }
         requires number { (number ≡ 0) ⊎ Contains owner.old.drawn number }
@@ -234,7 +234,7 @@ impl<N: WordsNaming> Words<N> {
 
     /// Loads the word of a slot, and answers its signal where it is the word of this number, else none. A signal
     /// that is answered stands as its word among those that the viewer saw.
-    /// One atomic step; takes no memory.
+    /// By its code one atomic step that takes no memory.
     pub fn look(&self, viewer: &mut Viewer<N>, slot: usize, number: u64) -> Signal
         requires { slot < self.now }
         ensures looked { Looked viewer.old viewer.new slot number result }
