@@ -1,20 +1,17 @@
 //! Tests of the crates that decide and read, each from outside: worked rows, limits, texts, and the happy path of
 //! each public call.
 //!
-//! They stand in a crate of their own, one module for a crate, since a crate with tests is proved twice. Tests of
-//! what threads share are in `otp_thread_tests`, `otp_sup_tests` and `otp_tree_tests`; those of the engine and of the program are beside them.
+//! They stand in a crate of their own, one module for a crate, since a crate with tests is proved twice. Tests of what plays a
+//! supervisor and looks at files for people are in `otp_play_tests`, those of what threads share in `otp_thread_tests`,
+//! `otp_sup_tests` and `otp_tree_tests`; those of the engine and of the program are beside them.
 #![tactic(auto)]
 
-#[cfg(test)]
-mod checking;
 #[cfg(test)]
 mod file;
 #[cfg(test)]
 mod fixtures;
 #[cfg(test)]
 mod history;
-#[cfg(test)]
-mod limits;
 #[cfg(test)]
 mod reason;
 #[cfg(test)]
@@ -27,7 +24,5 @@ mod supervisor;
 mod table;
 #[cfg(test)]
 mod text;
-#[cfg(test)]
-mod trying;
 #[cfg(test)]
 mod window;

@@ -1,7 +1,7 @@
 //! What no clause says: what is printed of trees whose limits were worked out by hand, and that all is played.
 
-use crate::fixtures::named;
 use otp_limits::{find_limits, write_table};
+use otp_reason::Name;
 use otp_spec::{AutoShutdown, ChildSpec, Restart, Strategy, SupFlags, SupSpec, copy_specs};
 use std::alloc::Global;
 use std::process::Abort;
@@ -27,7 +27,7 @@ fn prints(
 
 /// A child with this name and restart type.
 fn child(name: &[u8], restart: Restart) -> Result<ChildSpec, Fail> {
-    let name = named(name)?;
+    let name = Name::new(name).ok_or("a name of at most 32 bytes")?;
     Ok(ChildSpec {
         restart,
         ..ChildSpec::new(name, name)
