@@ -85,7 +85,7 @@ awaits-fresh k f place row o new at awaits same sound x = (
 )
 
 -- nothing is awaited: the children with a process are those that run
-processes-running : (rows : List Row) → rows_in is_awaited rows ≡ 0 → processes (calm_rows rows) ≡ running rows
+pub processes-running : (rows : List Row) → rows_in is_awaited rows ≡ 0 → processes (calm_rows rows) ≡ running rows
 processes-running [] h = refl
 processes-running (row ∷ rows) h =
     let split : rows_in is_awaited (row ∷ rows) ≡ cond (is_awaited row.state) 1 0 + rows_in is_awaited rows = rows_in-cons is_awaited row rows in
@@ -102,7 +102,7 @@ processes-running (row ∷ rows) h =
     one (Restarting _) ps h = refl
 
 -- the ids of those that are started again
-abbrev ids_back : List Row → List (Option (List ℕ))
+abbrev pub ids_back : List Row → List (Option (List ℕ))
 ids_back rows = map (λ (x : Row). id_bytes x.id) (filter (λ (x : Row). comes_back x.spec.restart) (calm_rows rows))
 
 ids_back-append : (xs ys : List Row) → ids_back (xs ++ ys) ≡ ids_back xs ++ ids_back ys
@@ -125,7 +125,7 @@ dues-ids kept (row ∷ rows) = one row.spec.restart (filter (λ (x : Row). not (
     one Transient xs ys h = ap (λ (ids : List (Option (List ℕ))). id_bytes row.id ∷ ids) h
     one Temporary xs ys h = h
 
-restart_list-ids : (from to place k : ℕ) (rows : List Row) → from ≤ place → place + 1 ≤ to → map (λ (x : Due). id_bytes x.id) (restart_list from to place k rows) ≡ ids_back (slice_range rows from to)
+pub restart_list-ids : (from to place k : ℕ) (rows : List Row) → from ≤ place → place + 1 ≤ to → map (λ (x : Due). id_bytes x.id) (restart_list from to place k rows) ≡ ids_back (slice_range rows from to)
 restart_list-ids from to place k rows le more =
     let xs : List Row = slice_range rows from place in
     let ys : List Row = slice_range rows place (place + 1) in
@@ -153,7 +153,7 @@ one_slice (x ∷ rows) (suc i) row at =
 abbrev mended : ℕ → ℕ → List Row → List Row
 mended from to rows = take from rows ++ calm_rows (slice_range rows from to) ++ drop to rows
 
-abbrev part_of : Strategy → ℕ → List Row → List Row
+abbrev pub part_of : Strategy → ℕ → List Row → List Row
 part_of s place rows = slice_range rows (affected_from s place) (affected_to s place (length rows))
 
 one_affected : (place : ℕ) (rows : List Row) → place < length rows → slice_range (mended place (place + 1) rows) place (place + 1) ≡ calm_rows (slice_range rows place (place + 1))
@@ -344,7 +344,7 @@ added-listed c id spec o none =
     )
 
 -- a child that is started again
-same_id : (id : Name) (other : Option Name) → option_eq (on name_bytes bytes_eq) other (Some id) ≡ true → id_bytes (Some id) ≡ id_bytes other
+pub same_id : (id : Name) (other : Option Name) → option_eq (on name_bytes bytes_eq) other (Some id) ≡ true → id_bytes (Some id) ≡ id_bytes other
 same_id id None h = absurd (false≢true h)
 same_id id (Some name) h = ap (λ (bytes : List ℕ). Some bytes) (sym ((bytes_eq-Decides (name_bytes name) (name_bytes id)).0 h))
 
