@@ -29,7 +29,7 @@ pub mod Slots
 pub mod Named
 pub mod Processes
 pub mod Opened
-mod Taken
+pub mod Taken
 pub mod Restarted
 pub mod Runs
 pub mod Few
