@@ -12,6 +12,7 @@ use Rattle.otp_reason.specs.declared.note.Note.TheVariants as note
 use Rattle.otp_spec.specs.declared.child.ChildSpec.{ChildSpec}
 use Rattle.otp_spec.specs.declared.fault.SpecFault.{SpecFault}
 use Rattle.otp_spec.specs.Lawful.{first_fault}
+use Rattle.otp_spec.specs.declared.limits.TheConstants.{MAX_CHILDREN}
 use Rattle.otp_table.specs.declared.row.Row.{Row}
 use Rattle.otp_table.specs.declared.row.RowState.{RowState}
 use Rattle.otp_table.specs.declared.row.RowState.TheVariants.{Undefined, Starting, Up, Asked, Killed, Restarting}
@@ -108,7 +109,7 @@ pub record SurvivesEvent (k : Kind) (G : Item → Type 0) (old : Outcome) (P : O
   pub ticks : k ≡ kind.Ticked → P old → P (tick old)
   pub opens : (own : ℕ) → k ≡ kind.Opened own → is_over old.state.phase ≡ true → P old → P (open_rows own old)
   -- calls
-  pub adds : (c : ℕ) (id : Option Name) (spec : ChildSpec) (o : Outcome) → IsUnmoved old o → IsIdle (is_busy old) o → IsRunning o → is_some id ≡ not (is_simple o.state.flags.strategy) → nat_le 256 (length o.state.rows) ≡ false → BringsStart G old c o → P o → P (with_work [] (record { id = id; kept = None } ∷ []) (Some (sequel.Added c)) (with_rows (o.state.rows ++ new_row (free_slot o.state.rows) id spec ∷ []) o))
+  pub adds : (c : ℕ) (id : Option Name) (spec : ChildSpec) (o : Outcome) → IsUnmoved old o → IsIdle (is_busy old) o → IsRunning o → is_some id ≡ not (is_simple o.state.flags.strategy) → nat_le MAX_CHILDREN (length o.state.rows) ≡ false → BringsStart G old c o → P o → P (with_work [] (record { id = id; kept = None } ∷ []) (Some (sequel.Added c)) (with_rows (o.state.rows ++ new_row (free_slot o.state.rows) id spec ∷ []) o))
   pub starts_again : (c : ℕ) (id : Name) (place : ℕ) (row : Row) (o : Outcome) → IsUnmoved old o → IsIdle (is_busy old) o → IsRunning o → StandsAt place row o → has_id id row ≡ true → row.state ≡ Undefined → P o → P (with_work [] (record { id = Some id; kept = None } ∷ []) (Some (sequel.Restarted c)) o)
   pub removed : (place : ℕ) (row : Row) (o : Outcome) → IsUnmoved old o → IsIdle (is_busy old) o → IsRunning o → StandsAt place row o → is_down row.state ≡ true → P o → P (with_rows (remove o.state.rows place) o)
   pub given_up : (place : ℕ) (row : Row) (o : Outcome) → IsUnmoved old o → IsIdle (is_busy old) o → IsRunning o → StandsAt place row o → is_down row.state ≡ true → P o → P (set_row place row Undefined o)
@@ -307,7 +308,7 @@ take_note-survives k G old P s (note.Exit p r) o u runs noted x = take_exit-surv
 add_child-survives : (k : Kind) (G : Item → Type 0) (old : Outcome) (P : Outcome → Type 0) → SurvivesEvent k G old P → (c : ℕ) (id : Option Name) (spec : ChildSpec) (o : Outcome) → IsUnmoved old o → IsIdle (is_busy old) o → IsRunning o → is_some id ≡ not (is_simple o.state.flags.strategy) → BringsStart G old c o → P o → P (add_child c id spec o)
 unfolding add_child
 add_child-survives k G old P s c id spec o u idle runs named got x =
-    by_test P (nat_le 256 (length o.state.rows)) _ _ (λ _. s.answered c (reply.Refused fault.TooManyChildren) o x) (λ few. s.adds c id spec o u idle runs named few got x)
+    by_test P (nat_le MAX_CHILDREN (length o.state.rows)) _ _ (λ _. s.answered c (reply.Refused fault.TooManyChildren) o x) (λ few. s.adds c id spec o u idle runs named few got x)
 
 -- a call that starts the child in a row again names it by its id
 abbrev NamesRow : Call → Row → Type 0
