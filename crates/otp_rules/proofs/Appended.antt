@@ -11,6 +11,7 @@ use Rattle.otp_reason.specs.declared.note.Note.TheVariants as note
 use Rattle.otp_spec.specs.declared.child.ChildSpec.{ChildSpec}
 use Rattle.otp_spec.specs.declared.fault.SpecFault.{SpecFault}
 use Rattle.otp_spec.specs.Lawful.{first_fault}
+use Rattle.otp_spec.specs.declared.limits.TheConstants.{MAX_CHILDREN}
 use Rattle.otp_table.specs.declared.row.Row.{Row}
 use Rattle.otp_table.specs.declared.row.RowState.{RowState}
 use Rattle.otp_table.specs.declared.row.RowState.TheVariants.{Undefined, Starting, Up, Asked, Killed, Restarting}
@@ -304,7 +305,7 @@ add_child-behind : (xs : List Effect) (c : ℕ) (id : Option Name) (spec : Child
 unfolding add_child
 add_child-behind xs c id spec o =
     let fresh : Outcome → Outcome = λ x. with_work [] (record { id = id; kept = None } ∷ []) (Some (sequel.Added c)) (with_rows (o.state.rows ++ new_row (free_slot o.state.rows) id spec ∷ []) x) in
-    either xs (nat_le 256 (length o.state.rows)) (refuse c fault.TooManyChildren (behind xs o)) (fresh (behind xs o)) (refuse c fault.TooManyChildren o) (fresh o)
+    either xs (nat_le MAX_CHILDREN (length o.state.rows)) (refuse c fault.TooManyChildren (behind xs o)) (fresh (behind xs o)) (refuse c fault.TooManyChildren o) (fresh o)
     (refuse-behind xs c fault.TooManyChildren o) refl
 
 unless_refused-behind : (xs : List Effect) (c : ℕ) (why : Option CallFault) (done' done o : Outcome) → done' ≡ behind xs done → unless_refused c why done' (behind xs o) ≡ behind xs (unless_refused c why done o)

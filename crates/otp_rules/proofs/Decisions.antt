@@ -12,6 +12,7 @@ use Rattle.otp_reason.specs.declared.note.Note.TheVariants as note
 use Rattle.otp_spec.specs.declared.child.ChildSpec.{ChildSpec}
 use Rattle.otp_spec.specs.declared.fault.SpecFault.{SpecFault}
 use Rattle.otp_spec.specs.Lawful.{first_fault}
+use Rattle.otp_spec.specs.declared.limits.TheConstants.{MAX_CHILDREN}
 use Rattle.otp_table.specs.declared.row.Row.{Row}
 use Rattle.otp_table.specs.declared.row.RowState.{RowState}
 use Rattle.otp_table.specs.declared.row.RowState.TheVariants.{Undefined, Starting, Up, Asked, Killed, Restarting}
@@ -108,7 +109,7 @@ pub record SurvivesEvent (k : Kind) (G : Item → Type 0) (old : Outcome) (P : O
   pub ticks : k ≡ kind.Ticked → P old → P (tick old)
   pub opens : (own : ℕ) → k ≡ kind.Opened own → is_over old.state.phase ≡ true → P old → P (open_rows own old)
   -- calls
-  pub adds : (c : ℕ) (id : Option Name) (spec : ChildSpec) (o : Outcome) → IsUnmoved old o → IsIdle (is_busy old) o → IsRunning o → is_some id ≡ not (is_simple o.state.flags.strategy) → nat_le 256 (length o.state.rows) ≡ false → BringsStart G old c o → P o → P (with_work [] (record { id = id; kept = None } ∷ []) (Some (sequel.Added c)) (with_rows (o.state.rows ++ new_row (free_slot o.state.rows) id spec ∷ []) o))
+  pub adds : (c : ℕ) (id : Option Name) (spec : ChildSpec) (o : Outcome) → IsUnmoved old o → IsIdle (is_busy old) o → IsRunning o → is_some id ≡ not (is_simple o.state.flags.strategy) → nat_le MAX_CHILDREN (length o.state.rows) ≡ false → BringsStart G old c o → P o → P (with_work [] (record { id = id; kept = None } ∷ []) (Some (sequel.Added c)) (with_rows (o.state.rows ++ new_row (free_slot o.state.rows) id spec ∷ []) o))
   pub starts_again : (c : ℕ) (id : Name) (place : ℕ) (row : Row) (o : Outcome) → IsUnmoved old o → IsIdle (is_busy old) o → IsRunning o → StandsAt place row o → has_id id row ≡ true → row.state ≡ Undefined → P o → P (with_work [] (record { id = Some id; kept = None } ∷ []) (Some (sequel.Restarted c)) o)
   pub removed : (place : ℕ) (row : Row) (o : Outcome) → IsUnmoved old o → IsIdle (is_busy old) o → IsRunning o → StandsAt place row o → is_down row.state ≡ true → P o → P (with_rows (remove o.state.rows place) o)
   pub given_up : (place : ℕ) (row : Row) (o : Outcome) → IsUnmoved old o → IsIdle (is_busy old) o → IsRunning o → StandsAt place row o → is_down row.state ≡ true → P o → P (set_row place row Undefined o)
@@ -150,20 +151,28 @@ by_test P b x y h k = cond_both b x y P h k
 abbrev pub AtPassing : (Outcome → Type 0) → (Row → Bool) → (ℕ → Row → Outcome → Outcome) → Outcome → Type 0
 AtPassing P test f o = (place : ℕ) (row : Row) → StandsAt place row o → test row ≡ true → P (f place row o)
 
-at_place-survives : (P : Outcome → Type 0) (test : Row → Bool) (f : ℕ → Row → Outcome → Outcome) (place : ℕ) (row : Option Row) (o : Outcome) → slice_get o.state.rows place ≡ row → position test o.state.rows ≡ Some place → P o → AtPassing P test f o → P (at_place f place row o)
-unfolding at_place
-at_place-survives P test f place None o e found p h = p
-at_place-survives P test f place (Some row) o e found p h =
-    h place row e (ap (λ (r : Row). test r) (sym (get_or_from_slice_get o.state.rows place row row e)) ∙ (position-Some test o.state.rows place row found).1)
+-- and of the first that does
+abbrev pub AtFirst : (Outcome → Type 0) → (Row → Bool) → (ℕ → Row → Outcome → Outcome) → Outcome → Type 0
+AtFirst P test f o = (place : ℕ) (row : Row) → StandsAt place row o → position test o.state.rows ≡ Some place → P (f place row o)
 
-at_found-survives : (P : Outcome → Type 0) (test : Row → Bool) (missing : Outcome) (f : ℕ → Row → Outcome → Outcome) (place : Option ℕ) (o : Outcome) → position test o.state.rows ≡ place → P missing → P o → AtPassing P test f o → P (at_found missing f place o)
+at_place-finds : (P : Outcome → Type 0) (test : Row → Bool) (f : ℕ → Row → Outcome → Outcome) (place : ℕ) (row : Option Row) (o : Outcome) → slice_get o.state.rows place ≡ row → position test o.state.rows ≡ Some place → P o → AtFirst P test f o → P (at_place f place row o)
+unfolding at_place
+at_place-finds P test f place None o e found p h = p
+at_place-finds P test f place (Some row) o e found p h = h place row e found
+
+at_found-finds : (P : Outcome → Type 0) (test : Row → Bool) (missing : Outcome) (f : ℕ → Row → Outcome → Outcome) (place : Option ℕ) (o : Outcome) → position test o.state.rows ≡ place → P missing → P o → AtFirst P test f o → P (at_found missing f place o)
 unfolding at_found
-at_found-survives P test missing f None o found m p h = m
-at_found-survives P test missing f (Some place) o found m p h = at_place-survives P test f place (slice_get o.state.rows place) o refl found p h
+at_found-finds P test missing f None o found m p h = m
+at_found-finds P test missing f (Some place) o found m p h = at_place-finds P test f place (slice_get o.state.rows place) o refl found p h
+
+pub at_row-finds : (P : Outcome → Type 0) (test : Row → Bool) (missing : Outcome) (f : ℕ → Row → Outcome → Outcome) (o : Outcome) → P missing → P o → AtFirst P test f o → P (at_row test missing f o)
+unfolding at_row
+at_row-finds P test missing f o m p h = at_found-finds P test missing f (position test o.state.rows) o refl m p h
 
 pub at_row-survives : (P : Outcome → Type 0) (test : Row → Bool) (missing : Outcome) (f : ℕ → Row → Outcome → Outcome) (o : Outcome) → P missing → P o → AtPassing P test f o → P (at_row test missing f o)
-unfolding at_row
-at_row-survives P test missing f o m p h = at_found-survives P test missing f (position test o.state.rows) o refl m p h
+at_row-survives P test missing f o m p h =
+    at_row-finds P test missing f o m p
+    (λ place row at found. h place row at (ap (λ (r : Row). test r) (sym (get_or_from_slice_get o.state.rows place row row at)) ∙ (position-Some test o.state.rows place row found).1))
 
 pub at_number-survives : (P : Outcome → Type 0) (p : ℕ) (f : ℕ → Row → Outcome → Outcome) (o : Outcome) → P o → AtPassing P (row_has (has_process p)) f o → P (at_number p f o)
 unfolding at_number
@@ -223,7 +232,7 @@ unfolding take_exit
 take_exit-survives k G old P s p r o u runs noted x =
     at_number-survives P p _ o x (λ place row at h. exit_in-survives k G old P s p r place row row.state o u refl h runs noted at x)
 
-awaits_as : (n : ℕ) (state : RowState) → awaits_retry n state ≡ true → state ≡ Restarting n
+pub awaits_as : (n : ℕ) (state : RowState) → awaits_retry n state ≡ true → state ≡ Restarting n
 awaits_as n (Restarting q) h = ap (λ (m : ℕ). Restarting m) (eqb-true q n h)
 awaits_as n Undefined h = absurd (false≢true h)
 awaits_as n (Starting _ _) h = absurd (false≢true h)
@@ -237,7 +246,7 @@ retry-survives k G old P s n o u idle runs x =
     at_row-survives P (row_has (awaits_retry n)) o (restart n) o x x (λ place row at h. s.restarts n place row o u idle runs at (inr (awaits_as n row.state h)) x)
 
 -- what a function makes of a row whose start is awaited under this number
-abbrev AtStarting : (Outcome → Type 0) → ℕ → (ℕ → ℕ → Row → Outcome → Outcome) → Outcome → Type 0
+abbrev pub AtStarting : (Outcome → Type 0) → ℕ → (ℕ → ℕ → Row → Outcome → Outcome) → Outcome → Type 0
 AtStarting P p f o = (q k place : ℕ) (row : Row) → StandsAt place row o → row.state ≡ Starting q k → (q == p) ≡ true → P (f k place row o)
 
 if_starting-survives : (P : Outcome → Type 0) (p : ℕ) (f : ℕ → ℕ → Row → Outcome → Outcome) (place : ℕ) (row : Row) (state : RowState) (o : Outcome) → row.state ≡ state → has_process p state ≡ true → StandsAt place row o → AtStarting P p f o → P o → P (if_starting (λ k. f k place row) state o)
@@ -248,7 +257,7 @@ if_starting-survives P p f place row (Asked _ _) o is h at each x = x
 if_starting-survives P p f place row (Killed _) o is h at each x = x
 if_starting-survives P p f place row (Restarting _) o is h at each x = x
 
-at_starting-survives : (P : Outcome → Type 0) (p : ℕ) (f : ℕ → ℕ → Row → Outcome → Outcome) (o : Outcome) → AtStarting P p f o → P o → P (at_starting p f o)
+pub at_starting-survives : (P : Outcome → Type 0) (p : ℕ) (f : ℕ → ℕ → Row → Outcome → Outcome) (o : Outcome) → AtStarting P p f o → P o → P (at_starting p f o)
 unfolding at_starting
 at_starting-survives P p f o each x = at_number-survives P p _ o x (λ place row at h. if_starting-survives P p f place row row.state o refl h at each x)
 
@@ -299,7 +308,7 @@ take_note-survives k G old P s (note.Exit p r) o u runs noted x = take_exit-surv
 add_child-survives : (k : Kind) (G : Item → Type 0) (old : Outcome) (P : Outcome → Type 0) → SurvivesEvent k G old P → (c : ℕ) (id : Option Name) (spec : ChildSpec) (o : Outcome) → IsUnmoved old o → IsIdle (is_busy old) o → IsRunning o → is_some id ≡ not (is_simple o.state.flags.strategy) → BringsStart G old c o → P o → P (add_child c id spec o)
 unfolding add_child
 add_child-survives k G old P s c id spec o u idle runs named got x =
-    by_test P (nat_le 256 (length o.state.rows)) _ _ (λ _. s.answered c (reply.Refused fault.TooManyChildren) o x) (λ few. s.adds c id spec o u idle runs named few got x)
+    by_test P (nat_le MAX_CHILDREN (length o.state.rows)) _ _ (λ _. s.answered c (reply.Refused fault.TooManyChildren) o x) (λ few. s.adds c id spec o u idle runs named few got x)
 
 -- a call that starts the child in a row again names it by its id
 abbrev NamesRow : Call → Row → Type 0
@@ -322,7 +331,7 @@ has_named id call.CountChildren row same h = tt
 has_named id (call.GetChildspec _) row same h = tt
 
 -- what neither a fault nor a process stands against
-undefined_row : (id : Name) (state : RowState) → fault_at (call.RestartChild id) state ≡ None → state ≡ Undefined
+pub undefined_row : (id : Name) (state : RowState) → fault_at (call.RestartChild id) state ≡ None → state ≡ Undefined
 undefined_row id Undefined h = refl
 undefined_row id (Starting _ _) h = cc
 undefined_row id (Up _) h = cc

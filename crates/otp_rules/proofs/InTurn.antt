@@ -39,7 +39,8 @@ use Rattle.otp_rules.specs.Order.{StopsInTurn, IsToldTogether, IsStopInTurn, Sto
 use Rattle.otp_rules.proofs.Sound.{IsReady, advance-sound, empty-sound, used-ready}
 use Rattle.otp_rules.proofs.Stopping.{Carried, apart-alike, carried-survives, not_busy}
 use Rattle.otp_rules.proofs.WhileOpen.{fails_opening, no_after, opens_none}
-use Rattle.otp_rules.proofs.Opened.{decided-keeps, stands_at, started-carried, together, together-follows}
+use Rattle.otp_rules.proofs.Opened.{stands_at, together, together-follows}
+use Rattle.otp_rules.proofs.Taken.{decided-keeps, started-carried}
 use Rattle.otp_rules.specs.declared.ending.SupEnd.{SupEnd}
 use Rattle.otp_rules.specs.Ends.{sup_end_of, refusal, refuse_all, end_all}
 use Rattle.otp_rules.specs.declared.ending.Ending.TheVariants as ending
@@ -91,7 +92,7 @@ InTurn g Q o = Keeps o.state g × All Q o.orders
 
 -- what has been popped from the stop list has ended
 abbrev pub IsDone : Progress → List ℕ → Type 0
-IsDone g ps = IsListed g.opened × (done : List ℕ) × (g.opened.to_stop ≡ done ++ ps) × ((q : ℕ) → IsIn q done → IsIn q g.ended)
+IsDone g ps = IsListed g × (done : List ℕ) × (g.opened.to_stop ≡ done ++ ps) × ((q : ℕ) → IsIn q done → IsIn q g.ended)
 
 abbrev pub HasDone : Progress → List ℕ → Outcome → Type 0
 HasDone g ps o = ends_together o.state ≡ false → IsDone g ps
@@ -133,7 +134,7 @@ around p (x ∷ before) one two after_it = ap (λ (ps : List ℕ). x ∷ ps) (ar
 -- the next of the stop list is in its turn
 in_turn : (g : Progress) (p : ℕ) (ps : List ℕ) → IsDone g (p ∷ ps) → StopsInTurn g p
 in_turn g p ps d =
-    let listed : IsListed g.opened = d.0 in
+    let listed : IsListed g = d.0 in
     let part : List Row = listed.0 in
     let done : List ℕ = d.1 in
     let earlier : List ℕ = listed.2 in

@@ -1,5 +1,5 @@
 -- Between two events open work awaits an answer, so that an event that ticks does nothing but kill late children.
-use Rattle.std.specs.Prelude.{◌≡◌, ℕ, ◌+◌, ◌≤◌, ◌<◌, Bool, true, false, List, [], ◌∷◌, Option, None, Some, All, Contains, refl, if◌then◌else◌, is_some, max, nat_le, slice_set, unwrap_or}
+use Rattle.std.specs.Prelude.{◌≡◌, ℕ, ◌+◌, ◌≤◌, ◌<◌, Bool, true, List, [], ◌∷◌, Option, None, Some, All, Contains, refl, if◌then◌else◌, is_some, max, nat_le, slice_set, unwrap_or}
 use Rattle.std.specs.List.{cons_option, filter_map, list_any}
 use Rattle.std.proofs.Common.{◌∙◌, ap, sym, subst, arith, cond, ⊎_elim}
 use Rattle.std.proofs.lemmas.Bool.{cases_Bool, cond_both, false≢true, leb-true, or_cases}

@@ -29,6 +29,7 @@ pub mod Slots
 pub mod Named
 pub mod Processes
 pub mod Opened
+pub mod Taken
 pub mod Restarted
 pub mod Runs
 pub mod Few

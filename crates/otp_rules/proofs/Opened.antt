@@ -5,10 +5,10 @@ use Rattle.std.specs.Option.{option_eq}
 use Rattle.std.specs.Ordering.{on}
 use Rattle.std.specs.Str.{bytes_eq}
 use Rattle.std.proofs.Common.{◌∙◌, ap, sym, subst, inl, inr, arith, ⊎_elim, cond}
-use Rattle.std.proofs.lemmas.Bool.{cond_both, false≢true, cases_Bool, eq-eqb, eqb-true, ltb-true, ltb-false}
-use Rattle.std.proofs.lemmas.List.{append-nil, append_assoc, map-append, drop_all, drop_at, take_at, length-take-le, length-drop, length-append, length-map, length-set, get_or-set_same}
+use Rattle.std.proofs.lemmas.Bool.{false≢true, cases_Bool, eq-eqb, eqb-true, ltb-true, ltb-false}
+use Rattle.std.proofs.lemmas.List.{append-nil, append_assoc, map-append, drop_all, drop_at, take_at, length-take-le, length-drop, length-append, length-map}
 use Rattle.std.proofs.lemmas.List.Elements.{filter-append, filter_map-append}
-use Rattle.std.proofs.lemmas.Option.{slice_get_within, slice_get-get_or}
+use Rattle.std.proofs.lemmas.Option.{slice_get_within}
 use Rattle.std.proofs.lemmas.Slice.Eq.{bytes_eq-Decides}
 use Prim.Native.Nat.{zero, suc}
 use Rattle.otp_reason.specs.declared.name.Name.{Name}
@@ -21,8 +21,7 @@ use Rattle.otp_spec.specs.declared.flags.Strategy.TheVariants.{OneForOne, OneFor
 use Rattle.otp_table.specs.declared.row.Row.{Row}
 use Rattle.otp_table.specs.declared.row.RowState.{RowState}
 use Rattle.otp_table.specs.declared.row.RowState.TheVariants.{Undefined, Starting, Up, Asked, Killed, Restarting}
-use Rattle.otp_table.specs.Rows.{free_slot, has_id, is_awaited, with_state, calm_rows, calmed, up_number}
-use Rattle.otp_window.specs.Period.{in_period}
+use Rattle.otp_table.specs.Rows.{free_slot, is_awaited, with_state, calm_rows, calmed, up_number}
 use Rattle.otp_rules.specs.declared.call.Reply.{Reply}
 use Rattle.otp_rules.specs.declared.ending.Ending.{Ending}
 use Rattle.otp_rules.specs.declared.event.Event.{Event}
@@ -31,28 +30,48 @@ use Rattle.otp_rules.specs.declared.event.Kind.TheVariants as kind
 use Rattle.otp_rules.specs.declared.work.Due.{Due}
 use Rattle.otp_rules.specs.declared.work.Sequel.{Sequel}
 use Rattle.otp_spec.specs.Flags.{is_simple}
-use Rattle.otp_rules.specs.State.{Outcome, State, answer, closed, put_last, with_rows, with_stamps, with_waiting, with_work}
+use Rattle.otp_rules.specs.State.{Outcome, State, answer, closed, put_last, with_rows, with_work}
 use Rattle.otp_rules.specs.Places.{end_row, is_temporary, set_row}
 use Rattle.otp_rules.specs.Restarts.{affected_from, affected_to, dues, restart_list, running}
 use Rattle.otp_rules.specs.Stops.{calm_all, stop_each, terminate_ordered, terminate_together, terminate}
-use Rattle.otp_rules.specs.Deaths.{restart_rows, restart_or_end, restart}
+use Rattle.otp_rules.specs.Deaths.{restart_rows}
 use Rattle.otp_rules.specs.Calls.{new_row}
 use Rattle.otp_rules.specs.Step.{due_of, rows_from, open_with, open_rows, opening_specs, tick, decide, stamped}
-use Rattle.otp_rules.specs.Progress.{Progress, is_opened, ends_together, ended_by, decided, opened_now, went_on, seen, affected, comes_back, id_bytes, process_number, processes, IsIn}
-use Rattle.otp_rules.specs.Fit.{is_told, rows_in, times, IsLimited, IsSound, HasWaiting, HasStops, HasPart, Keeps, IsListed}
+use Rattle.otp_rules.specs.Progress.{is_opened, ends_together, decided, affected, comes_back, id_bytes, is_end, process_number, processes, start_list, IsIn}
+use Rattle.otp_rules.specs.Fit.{is_told, rows_in, times, IsLimited, IsSound}
 use Rattle.otp_rules.proofs.Decisions.{StandsAt, Survives, by_test, decide-survives}
-use Rattle.otp_rules.proofs.Counting.{times-cons, times-append, rows_in-cons, rows_in-append, rows_in-set, rows_in-at, Alike, end_row-alike, alike, stop_each-alike, take_rows, drop_rows, calm_awaited}
-use Rattle.otp_rules.proofs.Sound.{awaits_nothing, sound-survives}
+use Rattle.otp_rules.proofs.Counting.{times-cons, rows_in-cons, rows_in-set, rows_in-at, Alike, end_row-alike, alike, stop_each-alike, take_rows, drop_rows, calm_awaited}
+use Rattle.otp_rules.proofs.Sound.{sound-survives}
 use Rattle.otp_rules.proofs.Fitted.{affected_from_le, affected_to_more, slice_split}
-use Rattle.otp_rules.proofs.Stopping.{Carried, apart-alike, carried-survives, waits-all}
-use Rattle.otp_rules.proofs.WhileOpen.{Tracks, fails_opening, no_after, opens_none, restart-busy, terminate-follows}
+use Rattle.otp_rules.proofs.Stopping.{apart-alike}
+use Rattle.otp_rules.proofs.WhileOpen.{Tracks, fails_opening, terminate-follows}
 use Rattle.otp_rules.specs.declared.ending.Ending.TheVariants as ending
 use Rattle.otp_rules.specs.declared.event.Waiting.TheVariants as waiting
 use Rattle.otp_rules.specs.declared.work.Sequel.TheVariants as sequel
 
+-- work of these children has just been opened: to be stopped are their processes, of which none stands later among the
+-- rows, in reverse start order; and to be started are those of them that such work starts
+abbrev pub IsListedAs : List Row → State → Type 0
+IsListedAs part s =
+    (earlier : List ℕ) × (later : List ℕ)
+    × (processes s.rows ≡ earlier ++ processes part ++ later)
+    × ((q : ℕ) → IsIn q later → IsIn q (processes part) → ⊥)
+    × (s.to_stop ≡ reverse (processes part))
+    × (map (λ x. id_bytes x.id) s.to_start ≡ map (λ (x : Row). id_bytes x.id) (start_list s.follows part))
+
+-- the work that opens or ends the supervisor is of all
+abbrev pub IsWhole : Option Sequel → List Row → List Row → Type 0
+IsWhole (Some sequel.Ready) rows part = part ≡ rows
+IsWhole (Some (sequel.End _)) rows part = part ≡ rows
+IsWhole _ rows part = Unit {0}
+
+-- such work of some children
+abbrev pub IsListedWhole : State → Type 0
+IsListedWhole s = (part : List Row) × IsWhole s.follows s.rows part × IsListedAs part s
+
 -- work that has just been opened awaits no answer and has the lists of its children
 abbrev IsFresh : State → Type 0
-IsFresh s = (rows_in is_awaited s.rows ≡ 0) × IsListed s
+IsFresh s = (rows_in is_awaited s.rows ≡ 0) × IsListedWhole s
 
 abbrev Fresh : Kind → Option Sequel → Outcome → Type 0
 Fresh k f o =
@@ -231,8 +250,9 @@ none_later RestForOne place row rows at down q h k = past rows q h
 none_later SimpleOneForOne place row rows at down q h k = one_down place row rows at down q k
 
 -- a restart's work
-restarted-listed : (place k : ℕ) (row : Row) (o : Outcome) → StandsAt place (with_state Undefined row) o → rows_in is_awaited o.state.rows ≡ 0
-    → IsFresh (restart_rows (affected_from o.state.flags.strategy place) (affected_to o.state.flags.strategy place (length o.state.rows)) place k o).state
+pub restarted-listed : (place k : ℕ) (row : Row) (o : Outcome) → StandsAt place (with_state Undefined row) o → rows_in is_awaited o.state.rows ≡ 0
+    → (let s : Strategy = o.state.flags.strategy in let new : State = (restart_rows (affected_from s place) (affected_to s place (length o.state.rows)) place k o).state in
+    (slice_get new.rows place ≡ Some (with_state Undefined row)) × IsListedAs (affected s place new.rows) new)
 unfolding restart_rows
 restarted-listed place k row o at none =
     let rows : List Row = o.state.rows in
@@ -245,12 +265,10 @@ restarted-listed place k row o at none =
     let more : place + 1 ≤ to = affected_to_more s place (length rows) within in
     let inside : rows_in is_awaited part ≤ rows_in is_awaited rows =
     (let a : rows_in is_awaited part ≤ rows_in is_awaited (drop from rows) = take_rows is_awaited (to - from) (drop from rows) in omega (arith, a, drop_rows is_awaited from rows)) in
-    let calm : rows_in is_awaited (calm_rows part) ≡ rows_in is_awaited part = calm_awaited part in
-    let runs : processes (calm_rows part) ≡ running part = processes-running part (omega (arith, inside, none)) in (
-      omega (arith, rows_in-append is_awaited (take from rows ++ calm_rows part) (drop to rows), rows_in-append is_awaited (take from rows) (calm_rows part), take_rows is_awaited from rows, drop_rows is_awaited to rows, inside, calm, none),
-      (
-        calm_rows part,
-        (place, with_state Undefined row, mended-at from to place row rows at le more, refl, sym (affected-is s place rows within)),
+    let runs : processes (calm_rows part) ≡ running part = processes-running part (omega (arith, inside, none)) in
+    let new : State = (restart_rows from to place k o).state in (
+      mended-at from to place row rows at le more,
+      subst (λ (xs : List Row). IsListedAs xs new) (sym (affected-is s place rows within)) (
         processes (take from rows),
         processes (drop to rows),
         filter_map-append (λ (x : Row). process_number x.state) (take from rows ++ calm_rows part) (drop to rows)
@@ -273,7 +291,7 @@ together e o simple =
     ∙ simple
 
 -- the end's work, but that of dynamic children
-ended-listed : (e : Ending) (o : Outcome) → rows_in is_awaited o.state.rows ≡ 0 → ends_together (terminate e o).state ≡ false → IsFresh (terminate e o).state
+pub ended-listed : (e : Ending) (o : Outcome) → rows_in is_awaited o.state.rows ≡ 0 → ends_together (terminate e o).state ≡ false → IsFresh (terminate e o).state
 unfolding terminate terminate_ordered
 ended-listed e o none =
     by_test (λ x. ends_together x.state ≡ false → IsFresh x.state) (is_simple o.state.flags.strategy) (terminate_together e o) (terminate_ordered e o)
@@ -285,12 +303,14 @@ ended-listed e o none =
       (
         calm_rows rows,
         refl,
-        [],
-        [],
-        sym (append-nil (processes (calm_rows rows))),
-        (λ q h k. omega (arith, h)),
-        sym (ap (λ (ps : List ℕ). reverse ps) (processes-running rows none)),
-        refl,
+        (
+          [],
+          [],
+          sym (append-nil (processes (calm_rows rows))),
+          (λ q h k. omega (arith, h)),
+          sym (ap (λ (ps : List ℕ). reverse ps) (processes-running rows none)),
+          refl,
+        ),
       ),
     ))
 
@@ -307,15 +327,14 @@ new-ids : (slot : ℕ) (specs : List ChildSpec) → map (λ (x : Due). id_bytes 
 new-ids slot [] = refl
 new-ids slot (spec ∷ specs) = ap (λ (ids : List (Option (List ℕ))). Some (name_bytes spec.id) ∷ ids) (new-ids (slot + 1) specs)
 
-opened-listed : (own : ℕ) (o : Outcome) → IsFresh (open_rows own o).state
+pub opened-listed : (own : ℕ) (o : Outcome) → IsListedWhole (open_rows own o).state
 unfolding open_rows open_with
 opened-listed own o =
     let specs : List ChildSpec = opening_specs (is_simple o.state.flags.strategy) o.state.specs in
     let rows : List Row = rows_from 0 specs in (
-      new-awaited 0 specs,
+      rows,
+      refl,
       (
-        rows,
-        refl,
         [],
         [],
         sym (append-nil (processes rows)),
@@ -326,43 +345,33 @@ opened-listed own o =
     )
 
 -- a child that is added
-added-listed : (c : ℕ) (id : Option Name) (spec : ChildSpec) (o : Outcome) → rows_in is_awaited o.state.rows ≡ 0
-    → IsFresh (with_work [] (record { id = id; kept = None } ∷ []) (Some (sequel.Added c)) (with_rows (o.state.rows ++ new_row (free_slot o.state.rows) id spec ∷ []) o)).state
-added-listed c id spec o none =
+pub added-listed : (c : ℕ) (id : Option Name) (spec : ChildSpec) (o : Outcome)
+    → IsListedAs (new_row (free_slot o.state.rows) id spec ∷ []) (with_work [] (record { id = id; kept = None } ∷ []) (Some (sequel.Added c)) (with_rows (o.state.rows ++ new_row (free_slot o.state.rows) id spec ∷ []) o)).state
+added-listed c id spec o =
     let row : Row = new_row (free_slot o.state.rows) id spec in (
-      omega (arith, rows_in-append is_awaited o.state.rows (row ∷ []), rows_in-cons is_awaited row [], none),
-      (
-        row ∷ [],
-        (o.state.rows, row, refl, refl),
-        processes o.state.rows,
-        [],
-        filter_map-append (λ (x : Row). process_number x.state) o.state.rows (row ∷ []) ∙ sym (append-nil (processes o.state.rows ++ [])),
-        (λ q h k. omega (arith, k)),
-        refl,
-        refl,
-      ),
+      processes o.state.rows,
+      [],
+      filter_map-append (λ (x : Row). process_number x.state) o.state.rows (row ∷ []) ∙ sym (append-nil (processes o.state.rows ++ [])),
+      (λ q h k. omega (arith, k)),
+      refl,
+      refl,
     )
 
 -- a child that is started again
-same_id : (id : Name) (other : Option Name) → option_eq (on name_bytes bytes_eq) other (Some id) ≡ true → id_bytes (Some id) ≡ id_bytes other
+pub same_id : (id : Name) (other : Option Name) → option_eq (on name_bytes bytes_eq) other (Some id) ≡ true → id_bytes (Some id) ≡ id_bytes other
 same_id id None h = absurd (false≢true h)
 same_id id (Some name) h = ap (λ (bytes : List ℕ). Some bytes) (sym ((bytes_eq-Decides (name_bytes name) (name_bytes id)).0 h))
 
-again-listed : (c : ℕ) (id : Name) (place : ℕ) (row : Row) (o : Outcome) → StandsAt place row o → has_id id row ≡ true → row.state ≡ Undefined → rows_in is_awaited o.state.rows ≡ 0
-    → IsFresh (with_work [] (record { id = Some id; kept = None } ∷ []) (Some (sequel.Restarted c)) o).state
-again-listed c id place row o at has down none =
+pub again-listed : (c : ℕ) (id : Name) (row : Row) (o : Outcome) → id_bytes row.id ≡ Some (name_bytes id) → row.state ≡ Undefined
+    → IsListedAs (row ∷ []) (with_work [] (record { id = Some id; kept = None } ∷ []) (Some (sequel.Restarted c)) o).state
+again-listed c id row o has down =
     let nobody : processes (row ∷ []) ≡ [] = ap (λ (s : RowState). cons_option (process_number s) []) down in (
-      none,
-      (
-        row ∷ [],
-        (place, row, at, refl),
-        processes o.state.rows,
-        [],
-        sym (append-nil (processes o.state.rows)) ∙ sym (append-nil (processes o.state.rows ++ [])) ∙ ap (λ (ps : List ℕ). (processes o.state.rows ++ ps) ++ []) (sym nobody),
-        (λ q h k. omega (arith, h)),
-        sym (ap (λ (ps : List ℕ). reverse ps) nobody),
-        ap (λ (x : Option (List ℕ)). x ∷ []) (same_id id row.id has),
-      ),
+      processes o.state.rows,
+      [],
+      sym (append-nil (processes o.state.rows)) ∙ sym (append-nil (processes o.state.rows ++ [])) ∙ ap (λ (ps : List ℕ). (processes o.state.rows ++ ps) ++ []) (sym nobody),
+      (λ q h k. omega (arith, h)),
+      sym (ap (λ (ps : List ℕ). reverse ps) nobody),
+      ap (λ (x : Option (List ℕ)). x ∷ []) (sym has),
     )
 
 -- the last of the rows that have the process
@@ -407,16 +416,18 @@ process_in p (x ∷ rows) (suc i) row at is = more (process_number x.state) (pro
     more None h = h
     more (Some m) h = omega (arith, h, times-cons p m (processes rows))
 
--- a child that is stopped
-stopped-listed : (c p place : ℕ) (row : Row) (o : Outcome) → StandsAt place row o → row.state ≡ Up p → rows_in is_awaited o.state.rows ≡ 0 → IsFresh (with_work (p ∷ []) [] (Some (sequel.Stopped c)) o).state
-stopped-listed c p place row o at up none =
-    let there : IsIn p (processes o.state.rows) = process_in p o.state.rows place row at (ap process_number up) in
-    let it : (place : ℕ) × (row : Row) × (slice_get o.state.rows place ≡ Some row) × (process_number row.state ≡ Some p) × (earlier : List ℕ) × (later : List ℕ) × (processes o.state.rows ≡ earlier ++ p ∷ later) × (IsIn p later → ⊥) = has_last p o.state.rows there in
+-- a child that is stopped: the work is that of the last row with its process
+pub stopped-listed : (c p place : ℕ) (row : Row) (o : Outcome) → StandsAt place row o → process_number row.state ≡ Some p
+    → (i : ℕ) × (other : Row) × (slice_get o.state.rows i ≡ Some other) × (process_number other.state ≡ Some p) × IsListedAs (other ∷ []) (with_work (p ∷ []) [] (Some (sequel.Stopped c)) o).state
+stopped-listed c p place row o at has =
+    let it : (place : ℕ) × (row : Row) × (slice_get o.state.rows place ≡ Some row) × (process_number row.state ≡ Some p) × (earlier : List ℕ) × (later : List ℕ) × (processes o.state.rows ≡ earlier ++ p ∷ later) × (IsIn p later → ⊥) =
+    has_last p o.state.rows (process_in p o.state.rows place row at has) in
     let one : processes (it.1 ∷ []) ≡ p ∷ [] = ap (λ (n : Option ℕ). cons_option n []) it.3 in (
-      none,
+      it.0,
+      it.1,
+      it.2,
+      it.3,
       (
-        it.1 ∷ [],
-        (it.0, it.1, it.2, refl),
         it.4,
         it.5,
         it.6 ∙ sym (append_assoc it.4 (p ∷ []) it.5) ∙ ap (λ (ps : List ℕ). (it.4 ++ ps) ++ it.5) (sym one),
@@ -454,37 +465,26 @@ answer-fresh : (k : Kind) (f : Option Sequel) (c : ℕ) (r : Reply) (o : Outcome
 unfolding answer
 answer-fresh k f c r o x sound = (sound, x.1, x.2)
 
-restart-fresh : (p place : ℕ) (row : Row) (o : Outcome) → StandsAt place row o → rows_in is_awaited o.state.rows ≡ 0 → ends_together (restart p place row o).state ≡ false → IsFresh (restart p place row o).state
-unfolding restart restart_or_end
-restart-fresh p place row o at none =
-    let counted : Outcome = with_stamps (o.state.stamps ++ o.state.last ∷ []) (set_row place row Undefined o) in
-    let calm : rows_in is_awaited (slice_set o.state.rows place (with_state Undefined row)) ≡ 0 = down_calm place row Undefined o at refl (omega (arith, none)) in
-    let within : place < length o.state.rows = slice_get_within o.state.rows place row at in
-    let here : slice_get (slice_set o.state.rows place (with_state Undefined row)) place ≡ Some (with_state Undefined row) =
-    slice_get-get_or (slice_set o.state.rows place (with_state Undefined row)) place row (omega (arith, within, length-set o.state.rows place (with_state Undefined row)))
-    ∙ ap (λ (r : Row). Some r) (get_or-set_same o.state.rows place (with_state Undefined row) row within) in
-    cond_both (nat_lt o.state.flags.intensity (in_period o.state.flags.period (o.state.stamps ++ o.state.last ∷ []) o.state.last)) _ _ (λ (x : Outcome). ends_together x.state ≡ false → IsFresh x.state)
-    (λ _ plain. ended-listed ending.Intensity counted calm plain)
-    (λ _ _. restarted-listed place p row counted here calm)
-
--- work opens where none was open
-opens-fresh : (k : Kind) (b : Bool) (f : Option Sequel) (o new : Outcome) → b ≡ is_some f → b ≡ false → is_some new.state.follows ≡ true → IsSound new.state → (ends_together new.state ≡ false → IsFresh new.state) → Fresh k f new
-opens-fresh k b f o new is idle busy sound h = (sound, inr (inr (opens_none f b new.state.follows is idle busy)), λ _ _. h)
-
 pub open_rows-busy : (own : ℕ) (o : Outcome) → is_some (open_rows own o).state.follows ≡ true
 unfolding open_rows open_with
 open_rows-busy own o = refl
+
+pub open_rows-follows : (own : ℕ) (o : Outcome) → (open_rows own o).state.follows ≡ Some sequel.Ready
+unfolding open_rows open_with
+open_rows-follows own o = refl
 
 pub tick-follows : (o : Outcome) → (tick o).state.follows ≡ o.state.follows
 unfolding tick
 tick-follows o = refl
 
-fresh-survives : (k : Kind) (b : Bool) (f : Option Sequel) → b ≡ is_some f → Survives k b (Fresh k f)
-fresh-survives k b f is_base =
-    let s : Survives k b (λ o. IsSound o.state) = sound-survives k b in
+-- an opening goes on, or fails
+fresh-survives : (k : Kind) → Survives k true (Fresh k (Some sequel.Ready))
+fresh-survives k =
+    let f : Option Sequel = Some sequel.Ready in
+    let s : Survives k true (λ o. IsSound o.state) = sound-survives k true in
     record {
       answered = λ c r o x. answer-fresh k f c r o x (s.answered c r o x.0);
-      taken = λ w ws o idle runs is x. idle-fresh k f (with_waiting ws o) (no_after o.state.follows idle.1) (s.taken w ws o idle runs is x.0);
+      taken = λ w ws o idle runs is x. absurd (false≢true (sym idle.0));
       call_waits = λ c call o x. (s.call_waits c call o x.0, x.1, x.2);
       exit_waits = λ p r o noted x. (s.exit_waits p r o noted x.0, x.1, x.2);
       up = λ p place row q kept o at is same noted x. awaits-fresh k f place row o (set_row place row (Up p) o) at (starting row q kept is) (alike o) (s.up p place row q kept o at is same noted x.0) x;
@@ -502,29 +502,16 @@ fresh-survives k b f is_base =
       added_failed = λ place row q kept c o at is follows x. idle-fresh k f (closed (with_rows (remove o.state.rows place) o)) refl (s.added_failed place row q kept c o at is follows x.0);
       restarted_failed = λ place row q kept c o at is follows x. idle-fresh k f (closed (set_row place row Undefined o)) refl (s.restarted_failed place row q kept c o at is follows x.0);
       stopped = λ p r place row o at h noted x. awaits-fresh k f place row o (end_row place row o) at (told_awaited p row.state h) (end_row-alike place row o) (s.stopped p r place row o at h noted x.0) x;
-      died = λ p place row o idle runs at is x. idle-fresh k f (end_row place row o) ((end_row-alike place row o).4 ∙ no_after o.state.follows idle.1) (s.died p place row o idle runs at is x.0);
-      restarts = λ p place row o idle runs at h x.
-          opens-fresh k b f o (restart p place row o) is_base idle.0 (restart-busy p place row o) (s.restarts p place row o idle runs at h x.0) (restart-fresh p place row o at (awaits_nothing b o idle x.0));
-      ends = λ e o other idle runs x.
-          opens-fresh k b f o (terminate e o) is_base idle.0 (ap (λ (y : Option Sequel). is_some y) (terminate-follows e o)) (s.ends e o other idle runs x.0) (ended-listed e o (awaits_nothing b o idle x.0));
+      died = λ p place row o idle runs at is x. absurd (false≢true (sym idle.0));
+      restarts = λ p place row o idle runs at h x. absurd (false≢true (sym idle.0));
+      ends = λ e o other idle runs x. absurd (false≢true (sym idle.0));
       ticks = λ o is x. (s.ticks o is x.0, subst (λ (y : Option Sequel). (y ≡ f) ⊎ ((y ≡ None) ⊎ (is_opened f y ≡ true))) (sym (tick-follows o)) x.1, λ other. absurd (other is));
-      opens = λ own o is link over x.
-          opens-fresh k b f o (open_rows own o) is_base (sym link ∙ x.0.3 over) (open_rows-busy own o) (s.opens own o is link over x.0) (λ _. opened-listed own o);
-      adds = λ c id spec o idle runs named x.
-          opens-fresh k b f o (with_work [] (record { id = id; kept = None } ∷ []) (Some (sequel.Added c)) (with_rows (o.state.rows ++ new_row (free_slot o.state.rows) id spec ∷ []) o)) is_base idle.0 refl (s.adds c id spec o idle runs named x.0)
-          (λ _. added-listed c id spec o (awaits_nothing b o idle x.0));
-      starts_again = λ c id place row o idle runs at h is x.
-          opens-fresh k b f o (with_work [] (record { id = Some id; kept = None } ∷ []) (Some (sequel.Restarted c)) o) is_base idle.0 refl (s.starts_again c id place row o idle runs at h is x.0)
-          (λ _. again-listed c id place row o at h is (awaits_nothing b o idle x.0));
-      removed = λ place row o idle runs at h x. idle-fresh k f (with_rows (remove o.state.rows place) o) (no_after o.state.follows idle.1) (s.removed place row o idle runs at h x.0);
-      given_up = λ place row o idle runs at h x. idle-fresh k f (set_row place row Undefined o) (no_after o.state.follows idle.1) (s.given_up place row o idle runs at h x.0);
-      stops_child = λ c p place row o idle runs at h x.
-          opens-fresh k b f o (with_work (p ∷ []) [] (Some (sequel.Stopped c)) o) is_base idle.0 refl (s.stops_child c p place row o idle runs at h x.0)
-          (λ _. ⊎_elim
-          (λ awaits.
-          let one : ◌≡◌ {A = ℕ} (cond (is_awaited row.state) 1 0) 1 = ap (λ (y : Bool). cond y 1 0) awaits in
-          absurd (omega (arith, rows_in-at is_awaited place row o.state.rows at, one, awaits_nothing b o idle x.0)))
-          (λ up. stopped-listed c p place row o at up (awaits_nothing b o idle x.0)) h);
+      opens = λ own o is link over x. absurd (false≢true (sym (x.0.3 over) ∙ link));
+      adds = λ c id spec o idle runs named x. absurd (false≢true (sym idle.0));
+      starts_again = λ c id place row o idle runs at h is x. absurd (false≢true (sym idle.0));
+      removed = λ place row o idle runs at h x. absurd (false≢true (sym idle.0));
+      given_up = λ place row o idle runs at h x. absurd (false≢true (sym idle.0));
+      stops_child = λ c p place row o idle runs at h x. absurd (false≢true (sym idle.0));
     }
 
 -- an event that ticks opens no work
@@ -541,41 +528,12 @@ ticked_opens_none : (s : State) (e : Event) → e.kind ≡ kind.Ticked → is_op
 unfolding decide
 ticked_opens_none s e is = ap (λ (k : Kind). is_opened s.follows (decide k (record { state = stamped e.reading s; orders = [] })).state.follows) is ∙ ap (λ (f : Option Sequel). is_opened s.follows f) (tick-follows (record { state = stamped e.reading s; orders = [] })) ∙ opens_not_again s.follows
 
--- the work that an event opens
-decided-listed : (s : State) (e : Event) → IsSound s → is_opened s.follows (decided s e).follows ≡ true → ends_together (decided s e) ≡ false → IsListed (decided s e)
-decided-listed s e sound opened plain =
+-- the work by which an opening that fails ends the supervisor
+pub failed-listed : (s : State) (e : Event) → s.follows ≡ Some sequel.Ready → IsSound s → is_opened s.follows (decided s e).follows ≡ true → ends_together (decided s e) ≡ false → IsListedWhole (decided s e)
+failed-listed s e ready sound opened plain =
     let start : Outcome = record { state = stamped e.reading s; orders = [] } in
-    let first : Fresh e.kind s.follows start = (sound, inl refl, λ _ again. absurd (false≢true (sym (opens_not_again s.follows) ∙ again))) in
-    let last : Fresh e.kind s.follows (decide e.kind start) = decide-survives e.kind (Fresh e.kind s.follows) start (fresh-survives e.kind (is_some s.follows) s.follows refl) first in
-    (last.2 (λ ticks. false≢true (sym (ticked_opens_none s e ticks) ∙ opened)) opened plain).1
-
-pub opened_now-keeps : (s : State) → (ends_together s ≡ false → IsListed s) → Keeps s (opened_now s)
-opened_now-keeps s listed busy = (
-  λ q h. omega (arith, h, waits-all q s.waiting),
-  λ apart. (listed apart, [], refl, λ q i. absurd (omega (arith, i))),
-)
-
-pub started-carried : (s : State) (e : Event) (g : Progress) → IsSound s → Keeps s g → Carried s.follows (went_on e.kind g) (record { state = stamped e.reading s; orders = [] })
-started-carried s e g sound keeps = (
-  sound,
-  inl refl,
-  λ no busy.
-      let had : HasWaiting s g × HasStops s g = keeps busy in (
-        λ q h. omega (arith, had.0 q h, times-append q g.ended (ended_by e.kind)),
-        λ apart.
-            let part : HasPart s g = had.1 apart in
-            (part.0, part.1, part.2, λ q i. ⊎_elim (λ x. inl (omega (arith, x, times-append q g.ended (ended_by e.kind)))) (λ x. inr x) (part.3 q i)),
-      ),
-)
-
--- the event is taken: the work that it opens, or that was open, is in step
-pub decided-keeps : (s : State) (e : Event) (g : Progress) → IsSound s → Keeps s g → IsSound (decided s e) × Keeps (decided s e) (seen s e g)
-decided-keeps s e g sound keeps =
-    let start : Outcome = record { state = stamped e.reading s; orders = [] } in
-    let last : Carried s.follows (went_on e.kind g) (decide e.kind start) =
-    decide-survives e.kind (Carried s.follows (went_on e.kind g)) start (carried-survives e.kind (is_some s.follows) s.follows g refl) (started-carried s e g sound keeps) in (
-      last.0,
-      cond_both (is_opened s.follows (decided s e).follows) (opened_now (decided s e)) (went_on e.kind g) (λ (x : Progress). Keeps (decided s e) x)
-          (λ opened. opened_now-keeps (decided s e) (decided-listed s e sound opened))
-          (λ no. last.2 no),
-    )
+    let ready_opens : is_opened (Some sequel.Ready) (decided s e).follows ≡ true = subst (λ (f : Option Sequel). is_opened f (decided s e).follows ≡ true) ready opened in
+    let survives : Survives e.kind (is_some s.follows) (Fresh e.kind (Some sequel.Ready)) = subst (λ (b : Bool). Survives e.kind b (Fresh e.kind (Some sequel.Ready))) (sym (ap (λ (f : Option Sequel). is_some f) ready)) (fresh-survives e.kind) in
+    let last : Fresh e.kind (Some sequel.Ready) (decide e.kind start) =
+    decide-survives e.kind (Fresh e.kind (Some sequel.Ready)) start survives (sound, inl ready, λ _ again. absurd (false≢true (ap is_end (sym ready) ∙ again))) in
+    (last.2 (λ ticks. false≢true (sym (ticked_opens_none s e ticks) ∙ opened)) ready_opens plain).1

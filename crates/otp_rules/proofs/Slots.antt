@@ -1,4 +1,4 @@
--- No two rows have one slot, and each lies below 256.
+-- No two rows have one slot, and each lies below MAX_CHILDREN.
 use Rattle.std.specs.Prelude.{Contains, ◌&&◌, not, ◌≡◌, ◌⊎◌, ℕ, ◌==◌, ◌+◌, ◌≤◌, ◌<◌, ◌++◌, ◌||◌, Bool, true, false, List, [], ◌∷◌, Option, None, Some, All, refl, if◌then◌else◌, position, slice_get, slice_set, slice_range, nat_lt, nat_le, length, remove, unwrap_or, map, take, drop, count_by}
 use Rattle.std.specs.List.{list_any}
 use Rattle.std.proofs.Common.{◌∙◌, ap, sym, subst, inl, inr, arith, ⊎_elim, cond, get_or, rules}
@@ -8,6 +8,7 @@ use Rattle.std.proofs.lemmas.List.Folds.{drop_split}
 use Rattle.std.proofs.lemmas.List.Elements.{All-head, All-tail}
 use Prim.Native.Nat.{zero, suc}
 use Rattle.otp_spec.specs.declared.child.ChildSpec.{ChildSpec}
+use Rattle.otp_spec.specs.declared.limits.TheConstants.{MAX_CHILDREN}
 use Rattle.otp_table.specs.declared.row.Row.{Row}
 use Rattle.otp_table.specs.declared.row.RowState.{RowState}
 use Rattle.otp_table.specs.declared.row.RowState.TheVariants.{Undefined, Starting, Up, Asked, Killed, Restarting}
@@ -140,9 +141,9 @@ pub free_slot-within : (rows : List Row) → free_slot rows ≤ length rows
 unfolding free_slot
 free_slot-within rows = omega (arith, free_from-within (length rows) 0 rows)
 
--- each slot has one row at most, and none from 256 on has one
+-- each slot has one row at most, and none from MAX_CHILDREN on has one
 abbrev pub Slotted : List Row → Type 0
-Slotted rows = ((k : ℕ) → holding k rows ≤ 1) × ((k : ℕ) → 256 ≤ k → holding k rows ≡ 0)
+Slotted rows = ((k : ℕ) → holding k rows ≤ 1) × ((k : ℕ) → MAX_CHILDREN ≤ k → holding k rows ≡ 0)
 
 abbrev pub AllSlotted : Outcome → Type 0
 AllSlotted o = Slotted o.state.rows
@@ -241,7 +242,7 @@ tick-slots o h =
     (λ k. omega (arith, map-slots (λ (row : Row). killed row (late_number o.state.last row.state)) (λ row. killed-slot o.state.last row row.state) o.state.rows k)) h
 
 -- a new row takes a slot that no row has
-added-slots : (rows : List Row) (new : Row) → nat_le 256 (length rows) ≡ false → new.slot ≡ free_slot rows → Slotted rows → Slotted (rows ++ new ∷ [])
+added-slots : (rows : List Row) (new : Row) → nat_le MAX_CHILDREN (length rows) ≡ false → new.slot ≡ free_slot rows → Slotted rows → Slotted (rows ++ new ∷ [])
 added-slots rows new few is h = (
   λ k. ⊎_elim
       (λ same. let z : new.slot ≡ k = eqb-true new.slot k same in
@@ -258,8 +259,8 @@ added-slots rows new few is h = (
     all : (k : ℕ) → holding k (rows ++ new ∷ []) ≡ holding k rows + cond (new.slot == k) 1 0
     all k = omega (arith, holding-append k rows (new ∷ []), holding-cons k new [])
 
-    within : length rows < 256
-    within = leb-false 256 (length rows) few
+    within : length rows < MAX_CHILDREN
+    within = leb-false MAX_CHILDREN (length rows) few
 
 -- the rows of an opening
 opened-holding : (slot : ℕ) (specs : List ChildSpec) (k : ℕ) → (k < slot → holding k (rows_from slot specs) ≡ 0) × (slot + length specs ≤ k → holding k (rows_from slot specs) ≡ 0) × (holding k (rows_from slot specs) ≤ 1)
@@ -283,13 +284,13 @@ opening-length : (b : Bool) (specs : List ChildSpec) → length (opening_specs b
 opening-length true specs = omega arith
 opening-length false specs = omega arith
 
-open-slots : (own : ℕ) (o : Outcome) → length o.state.specs ≤ 256 → AllSlotted (open_rows own o)
+open-slots : (own : ℕ) (o : Outcome) → length o.state.specs ≤ MAX_CHILDREN → AllSlotted (open_rows own o)
 unfolding open_rows open_with
 open-slots own o few =
     let specs : List ChildSpec = opening_specs (is_simple o.state.flags.strategy) o.state.specs in
     (λ k. (opened-holding 0 specs k).2, λ k high. (opened-holding 0 specs k).1 (omega (arith, opening-length (is_simple o.state.flags.strategy) o.state.specs, few, high)))
 
-slots-survive : (k : Kind) (G : Item → Type 0) (old : Outcome) → length old.state.specs ≤ 256 → SurvivesEvent k G old AllSlotted
+slots-survive : (k : Kind) (G : Item → Type 0) (old : Outcome) → length old.state.specs ≤ MAX_CHILDREN → SurvivesEvent k G old AllSlotted
 slots-survive k G old few =
     record {
       answered = λ c r o h. answer-slots c r o h;
@@ -343,56 +344,56 @@ advance-slots : (n : ℕ) (o : Outcome) → AllSlotted o → AllSlotted (advance
 advance-slots n o h =
     advance-by AllSlotted n o h (λ _ _. stop_first-slots o.state.to_stop n o h)
 
-step-slots : (s : State) (e : Event) → length s.specs ≤ 256 → Slotted s.rows → Slotted (step s e).state.rows
+step-slots : (s : State) (e : Event) → length s.specs ≤ MAX_CHILDREN → Slotted s.rows → Slotted (step s e).state.rows
 unfolding step step_on
 step-slots s e few h =
     let start : Outcome = record { state = stamped e.reading s; orders = [] } in
     advance-slots (unwrap_or e.number 0) (decide e.kind start)
     (decide-survives_event e.kind (λ (i : Item). Unit {0}) start AllSlotted (slots-survive e.kind (λ (i : Item). Unit {0}) start few) (λ i b idle. tt) h)
 
-pub run-slots : (s : State) (es : List Event) → length s.specs ≤ 256 → Slotted s.rows → Slotted (state_after s es).rows
+pub run-slots : (s : State) (es : List Event) → length s.specs ≤ MAX_CHILDREN → Slotted s.rows → Slotted (state_after s es).rows
 run-slots s [] few h = h
 run-slots s (e ∷ es) few h =
-    run-slots (step s e).state es (subst (λ (l : List ChildSpec). length l ≤ 256) (sym (step_keeps_plan_law s e).1) few) (step-slots s e few h)
+    run-slots (step s e).state es (subst (λ (l : List ChildSpec). length l ≤ MAX_CHILDREN) (sym (step_keeps_plan_law s e).1) few) (step-slots s e few h)
 
-pub each-below : (rows : List Row) → ((k : ℕ) → 256 ≤ k → holding k rows ≡ 0) → (i : ℕ) (d : Row) → i < length rows → (get_or rows i d).slot < 256
+pub each-below : (rows : List Row) → ((k : ℕ) → MAX_CHILDREN ≤ k → holding k rows ≡ 0) → (i : ℕ) (d : Row) → i < length rows → (get_or rows i d).slot < MAX_CHILDREN
 each-below [] h i d less = absurd (omega (arith, less))
 each-below (row ∷ rows) h zero d less =
-    ⊎_elim (λ yes. ltb-true row.slot 256 yes)
-    (λ no. absurd (let high = ltb-false row.slot 256 no in
+    ⊎_elim (λ yes. ltb-true row.slot MAX_CHILDREN yes)
+    (λ no. absurd (let high = ltb-false row.slot MAX_CHILDREN no in
     let one : ◌≡◌ {A = ℕ} (cond (row.slot == row.slot) 1 0) 1 = ap (λ (b : Bool). cond b 1 0) (eq-eqb row.slot row.slot refl) in
     let none : holding row.slot (row ∷ rows) ≡ 0 = h row.slot (omega (arith, high)) in
     omega (arith, holding-cons row.slot row rows, one, none)))
-    (cases_Bool (nat_lt row.slot 256))
+    (cases_Bool (nat_lt row.slot MAX_CHILDREN))
 each-below (row ∷ rows) h (suc i) d less =
     each-below rows (λ k high. let none : holding k (row ∷ rows) ≡ 0 = h k high in omega (arith, holding-cons k row rows, none)) i d (omega (arith, less))
 
-below-none : (rows : List Row) → All (λ row. row.slot < 256) rows → (k : ℕ) → 256 ≤ k → holding k rows ≡ 0
+below-none : (rows : List Row) → All (λ row. row.slot < MAX_CHILDREN) rows → (k : ℕ) → MAX_CHILDREN ≤ k → holding k rows ≡ 0
 below-none [] h k high = refl
 below-none (row ∷ rows) h k high =
     let none : ◌≡◌ {A = ℕ} (cond (row.slot == k) 1 0) 0 =
-    ⊎_elim (λ same. absurd (let z : row.slot ≡ k = eqb-true row.slot k same in omega (arith, z, high, All-head (λ (r : Row). r.slot < 256) row rows h)))
+    ⊎_elim (λ same. absurd (let z : row.slot ≡ k = eqb-true row.slot k same in omega (arith, z, high, All-head (λ (r : Row). r.slot < MAX_CHILDREN) row rows h)))
     (λ other. ap (λ (b : Bool). cond b 1 0) other) (cases_Bool (row.slot == k)) in
-    omega (arith, holding-cons k row rows, none, below-none rows (All-tail (λ (r : Row). r.slot < 256) row rows h) k high)
+    omega (arith, holding-cons k row rows, none, below-none rows (All-tail (λ (r : Row). r.slot < MAX_CHILDREN) row rows h) k high)
 
 pub slots_stay_owned_law : SlotsStayOwned
 slots_stay_owned_law s events few h =
     let end : Slotted (state_after s events).rows = run-slots s events few (h.one, below-none s.rows h.below) in
     record { one = end.0; below = λ i d less. each-below (state_after s events).rows end.1 i d less }
 
--- more than 256 specifications are a fault
-opened_few : (flags : SupFlags) (specs : List ChildSpec) → supervisor_fault flags specs ≡ None → length specs ≤ 256
+-- more than MAX_CHILDREN specifications are a fault
+opened_few : (flags : SupFlags) (specs : List ChildSpec) → supervisor_fault flags specs ≡ None → length specs ≤ MAX_CHILDREN
 unfolding supervisor_fault
 opened_few flags specs =
-    let P : Option SpecFault → Type 0 = λ fault. fault ≡ None → length specs ≤ 256 in
-    let last : Option SpecFault = if nat_lt 256 (length specs) then Some TooManyChildren else first_fault specs (Some flags.auto_shutdown) in
+    let P : Option SpecFault → Type 0 = λ fault. fault ≡ None → length specs ≤ MAX_CHILDREN in
+    let last : Option SpecFault = if nat_lt MAX_CHILDREN (length specs) then Some TooManyChildren else first_fault specs (Some flags.auto_shutdown) in
     cond_both (not (are_lawful_flags flags)) (Some BadFlag) (if is_simple flags.strategy && not (length specs == 1) then Some SimpleNeedsOne else last) P
     (λ _ e. absurd (search (rules, e)))
     (λ _. cond_both (is_simple flags.strategy && not (length specs == 1)) (Some SimpleNeedsOne) last P
     (λ _ e. absurd (search (rules, e)))
-    (λ _. cond_both (nat_lt 256 (length specs)) (Some TooManyChildren) (first_fault specs (Some flags.auto_shutdown)) P
+    (λ _. cond_both (nat_lt MAX_CHILDREN (length specs)) (Some TooManyChildren) (first_fault specs (Some flags.auto_shutdown)) P
     (λ _ e. absurd (search (rules, e)))
-    (λ few _. ltb-false 256 (length specs) few)))
+    (λ few _. ltb-false MAX_CHILDREN (length specs) few)))
 
 pub slots_owned_law : SlotsOwned
 slots_owned_law flags specs events opens =

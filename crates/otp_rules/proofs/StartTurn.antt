@@ -36,7 +36,7 @@ use Rattle.otp_rules.proofs.Counting.{rows_in-set, rows_in-at, Alike, end_row-al
 use Rattle.otp_rules.specs.Order.{StartsInTurn, IsStartInTurn, StartOrder, StartOrderFromEmpty}
 use Rattle.otp_rules.proofs.Sound.{IsReady, empty-sound, used-ready}
 use Rattle.otp_rules.proofs.Stopping.{not_busy}
-use Rattle.otp_rules.proofs.Opened.{decided-keeps}
+use Rattle.otp_rules.proofs.Taken.{decided-keeps}
 use Rattle.otp_rules.specs.Needs.{IsNumbered, is_start, numbers_of}
 use Rattle.otp_rules.proofs.NeedsWork.{decide-quiet}
 use Rattle.otp_rules.proofs.Numbers.{use_exit-no_more, decided-distinct}
@@ -148,7 +148,7 @@ same_parts (x ∷ first) due rest (row ∷ rows) h =
 -- the next of the start list is in its turn
 in_turn : (g : Progress) (due : Due) (rest : List Due) (o : Outcome) → o.state.to_start ≡ due ∷ rest → AllAnswered g o → IsDone g [] → StartsInTurn g due.id
 in_turn g due rest o is answered d =
-    let listed : IsListed g.opened = d.0 in
+    let listed : IsListed g = d.0 in
     let part : List Row = listed.0 in
     let next : g.opened.to_start ≡ answered.0 ++ due ∷ rest = answered.1 ∙ ap (λ (ds : List Due). answered.0 ++ ds) is in
     let parts : (before : List Row) × (row : Row) × (after_it : List Row) × (start_list g.opened.follows part ≡ before ++ row ∷ after_it) × (id_bytes row.id ≡ id_bytes due.id) × (map (λ (x : Due). id_bytes x.id) answered.0 ≡ map (λ (x : Row). id_bytes x.id) before) =

@@ -15,7 +15,7 @@ use Rattle.otp_rules.specs.declared.work.Due.{Due}
 use Rattle.otp_rules.specs.State.{Outcome, State, answer, put_last}
 use Rattle.otp_rules.specs.Places.{end_row, set_row}
 use Rattle.otp_rules.specs.Step.{tick, decide, stamped}
-use Rattle.otp_rules.specs.Progress.{Ordered, Progress, is_opened, is_answer_note, is_answer, heard, decided, id_bytes, opened_now, went_on, seen}
+use Rattle.otp_rules.specs.Progress.{Ordered, Progress, is_opened, is_answer_note, is_answer, heard, decided, id_bytes, opened_now, went_on, seen, taken}
 use Rattle.otp_rules.specs.Fit.{is_told, rows_in, IsSound, is_starting, IsUnderWay, HasStarts, KeepsStarts}
 use Rattle.otp_rules.proofs.Decisions.{IsNoted, decide-survives}
 use Rattle.otp_rules.proofs.Counting.{rows_in-set, rows_in-end, Alike, alike, end_row-alike, tick_count}
@@ -120,6 +120,6 @@ decided-starts s e g sound keeps =
     ) in
     let last : While (λ t. HasStarts t (went_on e.kind g)) s.follows (decide e.kind start) =
     decide-survives e.kind (While (λ t. HasStarts t (went_on e.kind g)) s.follows) start (while-survives e.kind (is_some s.follows) s.follows (λ t. HasStarts t (went_on e.kind g)) refl (stays e.kind (is_some s.follows) g)) first in
-    cond_both (is_opened s.follows (decided s e).follows) (opened_now (decided s e)) (went_on e.kind g) (λ (x : Progress). KeepsStarts (decided s e) x)
+    cond_both (is_opened s.follows (decided s e).follows) (opened_now s (taken e.kind s.waiting) (decided s e)) (went_on e.kind g) (λ (x : Progress). KeepsStarts (decided s e) x)
     (λ _ busy. ([], refl, refl, All-nil (IsUnderWay (decided s e).rows)))
     (λ not. last.2 not)

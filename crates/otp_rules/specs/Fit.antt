@@ -20,7 +20,7 @@ use Rattle.otp_rules.specs.Places.{is_removed}
 use Rattle.otp_rules.specs.Stops.{is_exit}
 use Rattle.otp_rules.specs.Run.{empty_state, state_after}
 use Rattle.otp_rules.specs.Needs.{IsLawfulHistory, numbers_of}
-use Rattle.otp_rules.specs.Progress.{Ordered, Progress, no_progress, is_end, ends_together, id_bytes, processes, progress, start_list, IsAbout, IsIn}
+use Rattle.otp_rules.specs.Progress.{Ordered, Progress, no_progress, is_end, ends_together, id_bytes, processes, progress, start_list, IsIn, IsPart}
 
 -- how many rows' states pass the test
 abbrev pub rows_in : (RowState → Bool) → List Row → ℕ
@@ -114,18 +114,18 @@ HasWaiting s g = (q : ℕ) → 0 < count_by (is_exit q) s.waiting → IsIn q g.e
 
 -- the lists of work that has just been opened are those of the children that it is about: their processes, of which
 -- none stands later among the rows, in reverse start order; and those that are to be started
-abbrev pub IsListed : State → Type 0
-IsListed s =
-    (part : List Row) × IsAbout s.follows s.flags.strategy s.rows part
+abbrev pub IsListed : Progress → Type 0
+IsListed g =
+    (part : List Row) × IsPart g part
     × (earlier : List ℕ) × (later : List ℕ)
-    × (processes s.rows ≡ earlier ++ processes part ++ later)
+    × (processes g.opened.rows ≡ earlier ++ processes part ++ later)
     × ((q : ℕ) → IsIn q later → IsIn q (processes part) → ⊥)
-    × (s.to_stop ≡ reverse (processes part))
-    × (map (λ x. id_bytes x.id) s.to_start ≡ map (λ (x : Row). id_bytes x.id) (start_list s.follows part))
+    × (g.opened.to_stop ≡ reverse (processes part))
+    × (map (λ x. id_bytes x.id) g.opened.to_start ≡ map (λ (x : Row). id_bytes x.id) (start_list g.opened.follows part))
 
 -- what was to be stopped is what still is, and before it those that have ended or were told to stop
 abbrev pub HasPart : State → Progress → Type 0
-HasPart s g = IsListed g.opened × (done : List ℕ) × (g.opened.to_stop ≡ done ++ s.to_stop) × ((q : ℕ) → IsIn q done → IsIn q g.ended ⊎ (0 < rows_in (is_told q) s.rows))
+HasPart s g = IsListed g × (done : List ℕ) × (g.opened.to_stop ≡ done ++ s.to_stop) × ((q : ℕ) → IsIn q done → IsIn q g.ended ⊎ (0 < rows_in (is_told q) s.rows))
 
 -- dynamic children that end together have no stop list
 abbrev pub HasStops : State → Progress → Type 0

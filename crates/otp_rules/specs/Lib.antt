@@ -19,6 +19,7 @@ pub mod Rate
 pub mod Progress
 pub mod Fit
 pub mod Order
+pub mod Taken
 pub mod Effects
 pub mod Homes
 pub mod Slots

@@ -1,11 +1,14 @@
--- The open work seen from outside: the supervisor as it was when the work was opened, the children that the work is
--- about, and what has happened since. Nothing here reads the lists by which the rules stop and start.
-use Rattle.std.specs.Prelude.{◌≡◌, ℕ, ◌+◌, ◌<◌, ◌==◌, ◌&&◌, ◌||◌, Bool, true, false, List, [], ◌∷◌, ◌++◌, Option, Some, None, map, filter, drop, slice_get, slice_range, count_by, is_some, if◌then◌else◌}
+-- The open work seen from outside: what opened it, the supervisor as it was then, the children that the work is about, and
+-- what has happened since. Nothing here reads the lists by which the rules stop and start, nor how they find a row.
+use Rattle.std.specs.Prelude.{◌≡◌, ◌⊎◌, ℕ, ◌+◌, ◌<◌, ◌==◌, ◌&&◌, ◌||◌, Bool, true, false, List, [], ◌∷◌, ◌++◌, Option, Some, None, map, filter, drop, slice_get, slice_range, slice_set, count_by, is_some, if◌then◌else◌}
 use Rattle.std.specs.List.{filter_map}
 use Rattle.otp_reason.specs.declared.name.Name.{Name}
 use Rattle.otp_reason.specs.Names.{name_bytes}
 use Rattle.otp_reason.specs.declared.note.Note.{Note}
 use Rattle.otp_reason.specs.declared.note.Note.TheVariants as note
+use Rattle.otp_reason.specs.declared.reason.Reason.{Reason}
+use Rattle.otp_reason.specs.Quiet.{is_quiet}
+use Rattle.otp_spec.specs.declared.child.ChildSpec.{ChildSpec}
 use Rattle.otp_spec.specs.declared.child.Restart.{Restart}
 use Rattle.otp_spec.specs.declared.child.Restart.TheVariants.{Permanent, Transient, Temporary}
 use Rattle.otp_spec.specs.declared.flags.Strategy.{Strategy}
@@ -13,6 +16,9 @@ use Rattle.otp_spec.specs.declared.flags.Strategy.TheVariants.{OneForOne, OneFor
 use Rattle.otp_table.specs.declared.row.Row.{Row}
 use Rattle.otp_table.specs.declared.row.RowState.{RowState}
 use Rattle.otp_table.specs.declared.row.RowState.TheVariants.{Undefined, Starting, Up, Asked, Killed, Restarting}
+use Rattle.otp_table.specs.Rows.{calm_rows, with_state}
+use Rattle.otp_rules.specs.declared.call.Call.{Call}
+use Rattle.otp_rules.specs.declared.call.Call.TheVariants as call
 use Rattle.otp_rules.specs.declared.event.Effect.{Effect}
 use Rattle.otp_rules.specs.declared.event.Effect.TheVariants as effect
 use Rattle.otp_rules.specs.declared.event.Event.{Event}
@@ -36,6 +42,9 @@ pub record Ordered : Type 0 where
 
 -- the work that was opened last
 pub record Progress : Type 0 where
+  -- the supervisor when the event came that opened it, and what this event took
+  pub before : State
+  pub took : Option Waiting
   -- the supervisor when it was opened: its children in start order, and what was to follow
   pub opened : State
   -- the processes whose Exit waited then, or was taken since
@@ -45,7 +54,7 @@ pub record Progress : Type 0 where
 
 -- no work was opened yet, and this is the supervisor
 abbrev pub no_progress : State → Progress
-no_progress s = record { opened = s; ended = []; ordered = [] }
+no_progress s = record { before = s; took = None; opened = s; ended = []; ordered = [] }
 
 -- the work ends the supervisor
 abbrev pub is_end : Option Sequel → Bool
@@ -111,9 +120,15 @@ started _ = None
 abbrev pub decided : State → Event → State
 decided s e = (decide e.kind (record { state = stamped e.reading s; orders = [] })).state
 
--- the work of this state has just been opened
-abbrev pub opened_now : State → Progress
-opened_now s = record { opened = s; ended = filter_map exit_of_waiting s.waiting; ordered = [] }
+-- what an event takes: an item of the inbox, or the first that waits
+abbrev pub taken : Kind → List Waiting → Option Waiting
+taken (kind.Took x) ws = Some (waiting.Item x)
+taken kind.Resumed ws = slice_get ws 0
+taken _ ws = None
+
+-- the work of the state t has just been opened, by an event that took this in the state s
+abbrev pub opened_now : State → Option Waiting → State → Progress
+opened_now s took t = record { before = s; took = took; opened = t; ended = filter_map exit_of_waiting t.waiting; ordered = [] }
 
 -- the work goes on, and the event is taken
 abbrev pub went_on : Kind → Progress → Progress
@@ -121,7 +136,7 @@ went_on k g = record g { ended = g.ended ++ ended_by k; ordered = map (heard k) 
 
 -- the progress when the event's orders are given
 abbrev pub seen : State → Event → Progress → Progress
-seen s e g = if is_opened s.follows (decided s e).follows then opened_now (decided s e) else went_on e.kind g
+seen s e g = if is_opened s.follows (decided s e).follows then opened_now s (taken e.kind s.waiting) (decided s e) else went_on e.kind g
 
 -- the orders have been given
 abbrev pub gave : List Effect → Progress → Progress
@@ -162,29 +177,112 @@ affected OneForAll place rows = rows
 affected RestForOne place rows = drop place rows
 affected SimpleOneForOne place rows = slice_range rows place (place + 1)
 
--- the last of the rows
-abbrev pub IsLast : List Row → List Row → Type 0
-IsLast rows part = (front : List Row) × (row : Row) × (rows ≡ front ++ row ∷ []) × (part ≡ row ∷ [])
+-- what was taken is this call, under this number
+abbrev pub IsCall : Option Waiting → ℕ → Call → Type 0
+IsCall took c x = took ≡ Some (waiting.Item (item.Call c x))
 
--- one of the rows
-abbrev pub IsOneOf : List Row → List Row → Type 0
-IsOneOf rows part = (place : ℕ) × (row : Row) × (slice_get rows place ≡ Some row) × (part ≡ row ∷ [])
+-- it is the note that this process ended, for this reason
+abbrev pub IsExit : Option Waiting → ℕ → Reason → Type 0
+IsExit took p r = took ≡ Some (waiting.Item (item.Note (note.Exit p r)))
 
--- a restart is about the children that the restart of one affects, which has no process
-abbrev pub IsRestarted : Strategy → List Row → List Row → Type 0
-IsRestarted strategy rows part =
-    (place : ℕ) × (row : Row) × (slice_get rows place ≡ Some row) × (row.state ≡ Undefined) × (part ≡ affected strategy place rows)
+-- this row stands at this place, and is the first of which it holds
+pub record IsFirstRow (Holds : Row → Type 0) (rows : List Row) (place : ℕ) (row : Row) : Type 0 where
+  pub at : slice_get rows place ≡ Some row
+  pub holds : Holds row
+  pub first : (i : ℕ) (other : Row) → i < place → slice_get rows i ≡ Some other → Holds other → ⊥
 
--- the children that the work is about, by what is to follow it: all at the opening and at the end of the supervisor,
--- those that a restart affects, the one that was added, or the one that a call names
-abbrev pub IsAbout : Option Sequel → Strategy → List Row → List Row → Type 0
-IsAbout None strategy rows part = part ≡ []
-IsAbout (Some sequel.Ready) strategy rows part = part ≡ rows
-IsAbout (Some sequel.Nothing) strategy rows part = IsRestarted strategy rows part
-IsAbout (Some (sequel.Added _)) strategy rows part = IsLast rows part
-IsAbout (Some (sequel.Restarted _)) strategy rows part = IsOneOf rows part
-IsAbout (Some (sequel.Stopped _)) strategy rows part = IsOneOf rows part
-IsAbout (Some (sequel.End _)) strategy rows part = part ≡ rows
+-- the row's child has this id: the same bytes
+abbrev pub HasId : Name → Row → Type 0
+HasId id row = id_bytes row.id ≡ Some (name_bytes id)
+
+-- the row's child has this process
+abbrev pub HasProcess : ℕ → Row → Type 0
+HasProcess p row = process_number row.state ≡ Some p
+
+-- the row's child waits for its next restart, under this number
+abbrev pub WaitsRetry : ℕ → Row → Type 0
+WaitsRetry n row = row.state ≡ Restarting n
+
+-- a child of this type is restarted when it ends by itself for this reason (Child Specification, restart)
+abbrev pub ComesBackAfter : Reason → Restart → Type 0
+ComesBackAfter r Permanent = Unit {0}
+ComesBackAfter r Transient = is_quiet r ≡ false
+ComesBackAfter r Temporary = ⊥
+
+-- the process of the child at this place ran, and what was taken is the note that it ended, after which it is restarted
+abbrev pub HasDied : Option Waiting → List Row → ℕ → Row → Type 0
+HasDied took rows place row = (p : ℕ) × (r : Reason) × IsExit took p r × IsFirstRow (HasProcess p) rows place row × (row.state ≡ Up p) × ComesBackAfter r row.spec.restart
+
+-- the child at this place waited for its next restart, and what was taken is the next try
+abbrev pub IsTriedAgain : Option Waiting → List Row → ℕ → Row → Type 0
+IsTriedAgain took rows place row = (n : ℕ) × (took ≡ Some (waiting.Retry n)) × IsFirstRow (WaitsRetry n) rows place row
+
+-- the call is to terminate the child in this row, which it names by its id or, under simple_one_for_one, by its process
+abbrev pub Terminates : Call → List Row → Row → Type 0
+Terminates (call.TerminateChild id) rows row = (place : ℕ) × IsFirstRow (HasId id) rows place row
+Terminates (call.TerminateProcess p) rows row = (place : ℕ) × IsFirstRow (HasProcess p) rows place row
+Terminates _ rows row = ⊥
+
+-- the call asks for a child of this id and specification, of which supervisors of dynamic children have one
+abbrev pub AsksForChild : Call → List ChildSpec → Row → Type 0
+AsksForChild (call.StartChild spec) specs row = (row.id ≡ Some spec.id) × (row.spec ≡ spec)
+AsksForChild call.StartDynamic specs row = (row.id ≡ None) × (slice_get specs 0 ≡ Some row.spec)
+AsksForChild _ specs row = ⊥
+
+-- a restart is about the children that the restart of this one affects: it died, or its restart is tried again. It has no
+-- process any more, and but for this and for retries that waited all children are as they were
+pub record IsRestarted (took : Option Waiting) (s t : State) (part : List Row) : Type 0 where
+  pub place : ℕ
+  pub row : Row
+  pub why : HasDied took s.rows place row ⊎ IsTriedAgain took s.rows place row
+  pub down : slice_get t.rows place ≡ Some (with_state Undefined row)
+  pub same : calm_rows t.rows ≡ calm_rows (slice_set s.rows place (with_state Undefined row))
+  pub is : part ≡ affected t.flags.strategy place t.rows
+
+-- start_child is about the child that it asks for, which is added last
+pub record IsAddedByCall (took : Option Waiting) (c : ℕ) (s t : State) (part : List Row) : Type 0 where
+  pub asked : Call
+  pub row : Row
+  pub takes : IsCall took c asked
+  pub asks : AsksForChild asked s.specs row
+  pub last : t.rows ≡ s.rows ++ row ∷ []
+  pub is : part ≡ row ∷ []
+
+-- restart_child is about the first child with the id, which has no process
+pub record IsStartedByCall (took : Option Waiting) (c : ℕ) (s t : State) (part : List Row) : Type 0 where
+  pub id : Name
+  pub place : ℕ
+  pub row : Row
+  pub takes : IsCall took c (call.RestartChild id)
+  pub named : IsFirstRow (HasId id) s.rows place row
+  pub down : row.state ≡ Undefined
+  pub same : t.rows ≡ s.rows
+  pub is : part ≡ row ∷ []
+
+-- terminate_child is about the child that the call names, by its process: the child in a row with that process
+pub record IsStoppedByCall (took : Option Waiting) (c : ℕ) (s t : State) (part : List Row) : Type 0 where
+  pub asked : Call
+  pub row : Row
+  pub takes : IsCall took c asked
+  pub named : Terminates asked s.rows row
+  pub same : t.rows ≡ s.rows
+  pub place : ℕ
+  pub other : Row
+  pub at : slice_get t.rows place ≡ Some other
+  pub one : process_number other.state ≡ process_number row.state
+  pub is : part ≡ other ∷ []
+
+-- the children that work is about which was opened in the state t, by an event that came in the state s and took this; by
+-- what is to follow the work: all at the opening and at the end of the supervisor, those that a restart affects, the one
+-- that was added, or the one that the call names
+abbrev pub IsAbout : Option Waiting → State → Option Sequel → State → List Row → Type 0
+IsAbout took s None t part = part ≡ []
+IsAbout took s (Some sequel.Ready) t part = part ≡ t.rows
+IsAbout took s (Some sequel.Nothing) t part = IsRestarted took s t part
+IsAbout took s (Some (sequel.Added c)) t part = IsAddedByCall took c s t part
+IsAbout took s (Some (sequel.Restarted c)) t part = IsStartedByCall took c s t part
+IsAbout took s (Some (sequel.Stopped c)) t part = IsStoppedByCall took c s t part
+IsAbout took s (Some (sequel.End _)) t part = part ≡ t.rows
 
 -- a child of this type is started again when it was stopped by a restart (Child Specification, restart)
 abbrev pub comes_back : Restart → Bool
@@ -204,4 +302,4 @@ start_list (Some (sequel.End _)) part = []
 
 -- these are the children that the open work is about
 abbrev pub IsPart : Progress → List Row → Type 0
-IsPart g part = IsAbout g.opened.follows g.opened.flags.strategy g.opened.rows part
+IsPart g part = IsAbout g.took g.before g.opened.follows g.opened part

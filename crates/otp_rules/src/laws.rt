@@ -16,6 +16,7 @@ ghost use Rattle.otp_rules.specs.Processes.{ProcessesOwned, ProcessesStayOwned};
 ghost use Rattle.otp_rules.specs.Rate.{RestartRate, RestartRateFromEmpty, RestartsCounted};
 ghost use Rattle.otp_rules.specs.Run.{RunGoesOn, RunsJoined};
 ghost use Rattle.otp_rules.specs.Slots.{SlotsOwned, SlotsStayOwned, SlotsTellProcesses};
+ghost use Rattle.otp_rules.specs.Taken.{WorkIsForTaken, WorkIsForTakenFromEmpty};
 ghost use Rattle.otp_rules.specs.Waits.{StartsWait};
 
 /// No event changes the flags or the specifications.
@@ -78,6 +79,18 @@ pub fn start_order()
 pub fn stop_order()
     ensures from_any { StopOrder }
     ensures from_empty { StopOrderFromEmpty }
+{}
+
+/// The children that open work is for are those that the event names by which it was opened: by what it took of the inbox,
+/// or by the first that waited. A restart is of what the restart of one child affects, by the strategy: the first child
+/// that had the process of whose end a note was taken, by itself and so that its restart type asks for it; or that waits
+/// for its next restart under the number that comes up. restart_child starts the first child with the id that the call
+/// names, which has no process; terminate_child stops the process of the first child with that id or, under
+/// simple_one_for_one, with that process; start_child starts the child that it asks for, which is added last. So it is
+/// from each state whose open work is sound.
+pub fn work_is_for_what_was_taken()
+    ensures from_any { WorkIsForTaken }
+    ensures from_empty { WorkIsForTakenFromEmpty }
 {}
 
 /// Between two events of a lawful history open work awaits an answer of a child: it has gone on as far as it can. So an event
