@@ -1,9 +1,11 @@
 -- Work that an event opens is that of the children which what it takes names, and stays in step.
-use Rattle.std.specs.Prelude.{◌≡◌, ◌⊎◌, ℕ, not, ◌+◌, ◌≤◌, ◌<◌, ◌++◌, Bool, true, false, List, [], ◌∷◌, Option, None, Some, get_or, refl, if◌then◌else◌, max, position, is_some, slice_get, slice_set, slice_range, nat_le, nat_lt, length, remove, map, take, drop, unwrap_or}
+use Rattle.std.specs.Prelude.{◌≡◌, ◌⊎◌, ℕ, not, ◌+◌, ◌≤◌, ◌<◌, ◌++◌, Bool, true, false, List, [], ◌∷◌, Option, None, Some, get_or, refl, if◌then◌else◌, max, position, is_some, slice_get, slice_set, slice_range, nat_le, nat_lt, length, remove, map, take, drop, unwrap_or, ◌&&◌, ◌||◌, count_by}
+use Rattle.std.specs.List.{list_any}
 use Rattle.std.proofs.Common.{◌∙◌, ap, sym, subst, inl, inr, ⊎_elim, arith, cond}
-use Rattle.std.proofs.lemmas.Bool.{false≢true, eq-eqb, eqb-true, cond_both}
+use Rattle.std.proofs.lemmas.Bool.{and_parts, false≢true, eq-eqb, eqb-true, cond_both}
 use Rattle.std.proofs.lemmas.List.{append_assoc, get_or-set_same, length-set, map-append, take-append-drop}
 use Rattle.std.proofs.lemmas.List.Folds.{drop_split}
+use Rattle.std.proofs.lemmas.List.Sums.{sum_by-cons, sum_by-remove, sum_by-set}
 use Rattle.std.proofs.lemmas.List.Quantifiers.{position-Some}
 use Rattle.std.proofs.lemmas.Option.{get_or_from_slice_get, slice_get-get_or, slice_get_within}
 use Rattle.std.proofs.lemmas.Slice.Eq.{bytes_eq-Decides}
@@ -15,6 +17,8 @@ use Rattle.otp_reason.specs.declared.note.Note.TheVariants as note
 use Rattle.otp_reason.specs.Quiet.{is_quiet}
 use Rattle.otp_spec.specs.declared.child.ChildSpec.{ChildSpec}
 use Rattle.otp_spec.specs.declared.flags.SupFlags.{SupFlags}
+use Rattle.otp_spec.specs.declared.flags.AutoShutdown.{AutoShutdown}
+use Rattle.otp_spec.specs.declared.flags.AutoShutdown.TheVariants.{Never, AnySignificant, AllSignificant}
 use Rattle.otp_spec.specs.declared.child.Restart.{Restart}
 use Rattle.otp_spec.specs.declared.child.Restart.TheVariants.{Permanent, Transient, Temporary}
 use Rattle.otp_spec.specs.declared.fault.SpecFault.{SpecFault}
@@ -25,7 +29,7 @@ use Rattle.otp_spec.specs.Lawful.{first_fault}
 use Rattle.otp_table.specs.declared.row.Row.{Row}
 use Rattle.otp_table.specs.declared.row.RowState.{RowState}
 use Rattle.otp_table.specs.declared.row.RowState.TheVariants.{Undefined, Starting, Up, Asked, Killed, Restarting}
-use Rattle.otp_table.specs.Rows.{awaits_retry, calm_rows, calmed, free_slot, has_id, has_number, has_process, is_awaited, row_has, with_state}
+use Rattle.otp_table.specs.Rows.{awaits_retry, calm_rows, calmed, free_slot, has_id, has_number, has_process, is_awaited, row_has, with_state, is_left, is_undefined}
 use Rattle.otp_window.specs.Period.{in_period}
 use Rattle.otp_rules.specs.declared.call.Call.{Call}
 use Rattle.otp_rules.specs.declared.call.Call.TheVariants as call
@@ -45,7 +49,7 @@ use Rattle.otp_rules.specs.declared.event.Waiting.TheVariants as waiting
 use Rattle.otp_rules.specs.declared.work.Sequel.{Sequel}
 use Rattle.otp_rules.specs.declared.work.Sequel.TheVariants as sequel
 use Rattle.otp_rules.specs.State.{Outcome, State, answer, is_busy, is_over, put_last, with_rows, with_stamps, with_work}
-use Rattle.otp_rules.specs.Places.{at_number, end_row, set_row}
+use Rattle.otp_rules.specs.Places.{at_number, end_row, set_row, is_removed}
 use Rattle.otp_rules.specs.Counts.{counts_of, which_of}
 use Rattle.otp_rules.specs.Restarts.{affected_from, affected_to, ends_by_significance, is_restarted}
 use Rattle.otp_rules.specs.Stops.{terminate}
@@ -56,8 +60,8 @@ use Rattle.otp_rules.specs.Step.{ask, decide, open_rows, resume, stamped, step, 
 use Rattle.otp_rules.specs.Run.{empty_state, state_after}
 use Rattle.otp_rules.specs.Progress.{Progress, affected, decided, ended_by, ends_together, id_bytes, is_end, is_opened, opened_now, process_number, seen, taken, went_on, AsksForChild, ComesBackAfter, HasDied, HasId, HasProcess, IsAbout, IsCall, IsExit, IsFirstRow, IsPart, IsRestarted, IsTriedAgain, Terminates, WaitsRetry}
 use Rattle.otp_rules.specs.Fit.{rows_in, HasPart, HasStops, HasWaiting, IsLimited, IsListed, IsSound, Keeps}
-use Rattle.otp_rules.specs.Taken.{WorkIsForTaken, WorkIsForTakenFromEmpty}
-use Rattle.otp_rules.proofs.Decisions.{at_row-finds, at_starting-survives, awaits_as, by_test, decide-survives, undefined_row}
+use Rattle.otp_rules.specs.Taken.{EndIsForTaken, EndIsForTakenFromEmpty, EndsBySignificance, EndsForTaken, IsEndedBy, WorkIsForTaken, WorkIsForTakenFromEmpty}
+use Rattle.otp_rules.proofs.Decisions.{StandsAt, at_row-finds, at_starting-survives, awaits_as, by_test, decide-survives, undefined_row}
 use Rattle.otp_rules.proofs.Counting.{end_row-alike, rows_in-end, times-append}
 use Rattle.otp_rules.proofs.Fitted.{affected_from_le, affected_to_more}
 use Rattle.otp_rules.proofs.Sound.{advance-sound, empty-sound, sound-survives}
@@ -70,27 +74,44 @@ abbrev began : ℕ → List Waiting → State → Outcome
 began now ws s = record { state = record s { last = now; waiting = ws }; orders = [] }
 
 -- work that an event opens where none was open is that of the children which what it takes names
+abbrev Named : Kind → State → Outcome → Type 0
+Named k s o = is_some o.state.follows ≡ true → ends_together o.state ≡ false → IsListed (opened_now s (taken k s.waiting) o.state)
+
+-- if it ends the supervisor, it is for what it takes
+abbrev Ends : Kind → State → Outcome → Type 0
+Ends k s o = (x : Ending) → o.state.follows ≡ Some (sequel.End x) → IsEndedBy k s x
+
 abbrev ForTaken : Kind → State → Outcome → Type 0
-ForTaken k s o = is_some o.state.follows ≡ true → ends_together o.state ≡ false → IsListed (opened_now s (taken k s.waiting) o.state)
+ForTaken k s o = Named k s o × Ends k s o
+
+-- work that doesn't end it
+other-ends : (k : Kind) (s : State) (o : Outcome) → is_end o.state.follows ≡ false → Ends k s o
+other-ends k s o other x is = absurd (false≢true (sym other ∙ ap is_end is))
 
 listed_by : (g : Progress) (part : List Row) → IsPart g part → IsListedAs part g.opened → IsListed g
 listed_by g part about l = (part, about, l.0, l.1, l.2, l.3, l.4, l.5)
 
 -- where no work is open, nothing is to be said
 idle-for : (k : Kind) (s : State) (o : Outcome) → o.state.follows ≡ None → ForTaken k s o
-idle-for k s o idle busy = absurd (false≢true (sym (ap (λ (f : Option Sequel). is_some f) idle) ∙ busy))
+idle-for k s o idle = (λ busy. absurd (false≢true (sym (ap (λ (f : Option Sequel). is_some f) idle) ∙ busy)), other-ends k s o (ap is_end idle))
 
 answer-for : (k : Kind) (s : State) (c : ℕ) (r : Reply) (o : Outcome) → o.state.follows ≡ None → ForTaken k s (answer c r o)
 unfolding answer
-answer-for k s c r o idle busy = absurd (false≢true (sym (ap (λ (f : Option Sequel). is_some f) idle) ∙ busy))
+answer-for k s c r o idle = (λ busy. absurd (false≢true (sym (ap (λ (f : Option Sequel). is_some f) idle) ∙ busy)), other-ends k s (answer c r o) (ap is_end idle))
 
 -- the end is of all
 end-listed : (s : State) (took : Option Waiting) (t : State) (e : Ending) → t.follows ≡ Some (sequel.End e) → IsListedWhole t → IsListed (opened_now s took t)
 end-listed s took t e is l =
     listed_by (opened_now s took t) l.0 (subst (λ (f : Option Sequel). IsAbout took s f t l.0) (sym is) (subst (λ (f : Option Sequel). IsWhole f t.rows l.0) is l.1)) l.2
 
-terminate-for : (k : Kind) (s : State) (e : Ending) (o : Outcome) → rows_in is_awaited o.state.rows ≡ 0 → ForTaken k s (terminate e o)
-terminate-for k s e o none _ plain = end-listed s (taken k s.waiting) (terminate e o).state e (terminate-follows e o) (ended-listed e o none plain).1
+terminate-ends : (k : Kind) (s : State) (e : Ending) (o : Outcome) → IsEndedBy k s e → Ends k s (terminate e o)
+terminate-ends k s e o by x is =
+    let same : ◌≡◌ {A = Option Sequel} (Some (sequel.End e)) (Some (sequel.End x)) = sym (terminate-follows e o) ∙ is in
+    let one : e ≡ x = cc in
+    subst (λ (y : Ending). IsEndedBy k s y) one by
+
+terminate-for : (k : Kind) (s : State) (e : Ending) (o : Outcome) → rows_in is_awaited o.state.rows ≡ 0 → IsEndedBy k s e → ForTaken k s (terminate e o)
+terminate-for k s e o none by = (λ _ plain. end-listed s (taken k s.waiting) (terminate e o).state e (terminate-follows e o) (ended-listed e o none plain).1, terminate-ends k s e o by)
 
 -- rows
 
@@ -183,10 +204,10 @@ restart_rows-flags : (from to place n : ℕ) (o : Outcome) → (restart_rows fro
 unfolding restart_rows
 restart_rows-flags from to place n o = refl
 
-restart_rows-for : (k : Kind) (s : State) (place n : ℕ) (row : Row) (now : ℕ) (ws : List Waiting) (stamps : List ℕ) → HasDied (taken k s.waiting) s.rows place row ⊎ IsTriedAgain (taken k s.waiting) s.rows place row
+restart_rows-named : (k : Kind) (s : State) (place n : ℕ) (row : Row) (now : ℕ) (ws : List Waiting) (stamps : List ℕ) → HasDied (taken k s.waiting) s.rows place row ⊎ IsTriedAgain (taken k s.waiting) s.rows place row
     → slice_get s.rows place ≡ Some row → rows_in is_awaited s.rows ≡ 0
-    → ForTaken k s (restart_rows (affected_from s.flags.strategy place) (affected_to s.flags.strategy place (length (slice_set s.rows place (with_state Undefined row)))) place n (with_stamps stamps (set_row place row Undefined (began now ws s))))
-restart_rows-for k s place n row now ws stamps why at none _ _ =
+    → Named k s (restart_rows (affected_from s.flags.strategy place) (affected_to s.flags.strategy place (length (slice_set s.rows place (with_state Undefined row)))) place n (with_stamps stamps (set_row place row Undefined (began now ws s))))
+restart_rows-named k s place n row now ws stamps why at none _ _ =
     let took : Option Waiting = taken k s.waiting in
     let counted : Outcome = with_stamps stamps (set_row place row Undefined (began now ws s)) in
     let rows : List Row = slice_set s.rows place (with_state Undefined row) in
@@ -219,8 +240,11 @@ restart-for k s place n row now ws why at none =
     let stamps : List ℕ = s.stamps ++ now ∷ [] in
     let counted : Outcome = with_stamps stamps (set_row place row Undefined (began now ws s)) in
     by_test (ForTaken k s) (nat_lt s.flags.intensity (in_period s.flags.period stamps now)) (terminate ending.Intensity counted) _
-    (λ _. terminate-for k s ending.Intensity counted (down_calm place row Undefined (began now ws s) at refl (omega (arith, none))))
-    (λ _. restart_rows-for k s place n row now ws stamps why at none)
+    (λ _. terminate-for k s ending.Intensity counted (down_calm place row Undefined (began now ws s) at refl (omega (arith, none))) (place, row, why))
+    (λ _.
+    let from : ℕ = affected_from s.flags.strategy place in
+    let to : ℕ = affected_to s.flags.strategy place (length (slice_set s.rows place (with_state Undefined row))) in
+    (restart_rows-named k s place n row now ws stamps why at none, other-ends k s (restart_rows from to place n counted) (ap is_end (restart_rows-follows from to place n counted))))
 
 -- notes: no work is open when they are taken here
 
@@ -236,6 +260,55 @@ comes-back r Transient h = quiet (is_quiet r) h
     quiet false h = refl
 comes-back r Temporary h = absurd (false≢true h)
 
+comes-not : (r : Reason) (x : Restart) → is_restarted x r ≡ false → ComesBackAfter r x → ⊥
+comes-not r Permanent h back = false≢true (sym h)
+comes-not r Transient h back = false≢true (sym h ∙ ap not back)
+comes-not r Temporary h back = back
+
+-- which rows count, after the end of one that did
+nothing_left : (rows : List Row) → list_any is_left rows ≡ false → count_by is_left rows ≡ 0
+nothing_left [] h = refl
+nothing_left (row ∷ rows) h =
+    let parts : (is_left row ≡ false) × (list_any is_left rows ≡ false) = or_false (is_left row) (list_any is_left rows) h in
+    let z : ◌≡◌ {A = ℕ} (cond (is_left row) 1 0) 0 = ap (λ (b : Bool). cond b 1 0) parts.0 in
+    omega (arith, sum_by-cons (λ (x : Row). cond (is_left x) 1 0) row rows, z, nothing_left rows parts.1)
+  where
+    or_false : (a b : Bool) → (a || b) ≡ false → (a ≡ false) × (b ≡ false)
+    or_false true b e = absurd (false≢true (sym e))
+    or_false false b e = (refl, e)
+
+end_row-left : (place : ℕ) (row : Row) (o : Outcome) → StandsAt place row o → count_by is_left (end_row place row o).state.rows + cond (is_left row) 1 0 ≡ count_by is_left o.state.rows
+unfolding end_row
+end_row-left place row o at =
+    let f : Row → ℕ = λ x. cond (is_left x) 1 0 in
+    let within : place < length o.state.rows = slice_get_within o.state.rows place row at in
+    let here : f (get_or o.state.rows place row) ≡ f row = ap f (get_or_from_slice_get o.state.rows place row row at) in
+    let down : f (with_state Undefined row) ≡ 0 = undefined_left row.spec.significant in
+    by_test (λ (x : Outcome). count_by is_left x.state.rows + cond (is_left row) 1 0 ≡ count_by is_left o.state.rows) (is_removed row) (with_rows (remove o.state.rows place) o) (set_row place row Undefined o)
+    (λ _. omega (arith, here, sum_by-remove f o.state.rows place row within))
+    (λ _. omega (arith, here, down, sum_by-set f o.state.rows place (with_state Undefined row) row within))
+  where
+    undefined_left : (b : Bool) → cond {A = ℕ} (b && false) 1 0 ≡ 0
+    undefined_left true = refl
+    undefined_left false = refl
+
+end_row-flags : (place : ℕ) (row : Row) (o : Outcome) → (end_row place row o).state.flags ≡ o.state.flags
+end_row-flags place row o = (end_row-alike place row o).0
+
+by-significance : (a : AutoShutdown) (p place : ℕ) (row : Row) (o : Outcome) → StandsAt place row o → row.state ≡ Up p → ends_by_significance a row (end_row place row o).state.rows ≡ true → EndsBySignificance a row o.state.rows
+by-significance Never p place row o at up h = false≢true h
+by-significance AnySignificant p place row o at up h = h
+by-significance AllSignificant p place row o at up h =
+    let parts : (row.spec.significant ≡ true) × (not (list_any is_left (end_row place row o).state.rows) ≡ true) = and_parts row.spec.significant (not (list_any is_left (end_row place row o).state.rows)) h in
+    let left : is_left row ≡ true = ap (λ (b : Bool). b && not (is_undefined row.state)) parts.0 ∙ ap (λ (t : RowState). not (is_undefined t)) up in
+    let one : ◌≡◌ {A = ℕ} (cond (is_left row) 1 0) 1 = ap (λ (b : Bool). cond b 1 0) left in
+    let none : list_any is_left (end_row place row o).state.rows ≡ false = no (list_any is_left (end_row place row o).state.rows) parts.1 in
+    (parts.0, omega (arith, one, nothing_left (end_row place row o).state.rows none, end_row-left place row o at))
+  where
+    no : (b : Bool) → not b ≡ true → b ≡ false
+    no true e = absurd (false≢true e)
+    no false e = refl
+
 death-for : (k : Kind) (s : State) (p : ℕ) (r : Reason) (place : ℕ) (row : Row) (now : ℕ) (ws : List Waiting) → s.follows ≡ None → rows_in is_awaited s.rows ≡ 0 → IsExit (taken k s.waiting) p r
     → IsFirstRow (HasProcess p) s.rows place row → row.state ≡ Up p → ForTaken k s (death p r place row (began now ws s))
 unfolding death after_end
@@ -244,8 +317,17 @@ death-for k s p r place row now ws idle none takes first up =
     let gone : Outcome = end_row place row o in
     by_test (ForTaken k s) (is_restarted row.spec.restart r) (restart p place row o) (after_end p row gone)
     (λ back. restart-for k s place p row now ws (inl (p, r, takes, first, up, comes-back r row.spec.restart back)) first.at none)
-    (λ _. by_test (ForTaken k s) (ends_by_significance gone.state.flags.auto_shutdown row gone.state.rows) (terminate (ending.Significant p) gone) gone
-    (λ _. terminate-for k s (ending.Significant p) gone (let e : rows_in is_awaited gone.state.rows + cond (is_awaited row.state) 1 0 ≡ rows_in is_awaited s.rows = rows_in-end is_awaited refl place row o first.at in omega (arith, e, none)))
+    (λ stays. by_test (ForTaken k s) (ends_by_significance gone.state.flags.auto_shutdown row gone.state.rows) (terminate (ending.Significant p) gone) gone
+    (λ ends. terminate-for k s (ending.Significant p) gone (let e : rows_in is_awaited gone.state.rows + cond (is_awaited row.state) 1 0 ≡ rows_in is_awaited s.rows = rows_in-end is_awaited refl place row o first.at in omega (arith, e, none)) (
+      r,
+      place,
+      row,
+      takes,
+      first,
+      up,
+      comes-not r row.spec.restart stays,
+      by-significance s.flags.auto_shutdown p place row o first.at up (ap (λ (x : SupFlags). ends_by_significance x.auto_shutdown row gone.state.rows) (sym (end_row-flags place row o)) ∙ ends),
+    ))
     (λ _. end-for k s place row o idle))
 
 exit_in-for : (k : Kind) (s : State) (p : ℕ) (r : Reason) (place : ℕ) (row : Row) (state : RowState) (now : ℕ) (ws : List Waiting) → s.follows ≡ None → rows_in is_awaited s.rows ≡ 0 → IsExit (taken k s.waiting) p r
@@ -312,20 +394,22 @@ unfolding add_child
 add-for k s c x id spec now ws idle takes asks =
     let o : Outcome = began now ws s in
     by_test (ForTaken k s) (nat_le MAX_CHILDREN (length s.rows)) _ _ (λ _. answer-for k s c (reply.Refused fault.TooManyChildren) o idle)
-    (λ _ _ _.
+    (λ _.
     let row : Row = new_row (free_slot s.rows) id spec in
     let t : State = (with_work [] (record { id = id; kept = None } ∷ []) (Some (sequel.Added c)) (with_rows (s.rows ++ row ∷ []) o)).state in
-    listed_by (opened_now s (taken k s.waiting) t) (row ∷ []) (record { asked = x; row = row; takes = takes; asks = asks; last = refl; is = refl }) (added-listed c id spec o))
+    (λ _ _. listed_by (opened_now s (taken k s.waiting) t) (row ∷ []) (record { asked = x; row = row; takes = takes; asks = asks; last = refl; is = refl }) (added-listed c id spec o), λ x is. cc))
 
 stop-for : (k : Kind) (s : State) (c p : ℕ) (x : Call) (place : ℕ) (row : Row) (now : ℕ) (ws : List Waiting) → IsCall (taken k s.waiting) c x → Terminates x s.rows row → slice_get s.rows place ≡ Some row → process_number row.state ≡ Some p
     → ForTaken k s (stop_process c p (began now ws s))
 unfolding stop_process
-stop-for k s c p x place row now ws takes named at has _ _ =
+stop-for k s c p x place row now ws takes named at has =
     let o : Outcome = began now ws s in
     let t : State = (with_work (p ∷ []) [] (Some (sequel.Stopped c)) o).state in
-    let l : (i : ℕ) × (other : Row) × (slice_get s.rows i ≡ Some other) × (process_number other.state ≡ Some p) × IsListedAs (other ∷ []) t = stopped-listed c p place row o at has in
-    listed_by (opened_now s (taken k s.waiting) t) (l.1 ∷ [])
-    (record { asked = x; row = row; takes = takes; named = named; same = refl; place = l.0; other = l.1; at = l.2; one = l.3 ∙ sym has; is = refl }) l.4
+    let l : (i : ℕ) × (other : Row) × (slice_get s.rows i ≡ Some other) × (process_number other.state ≡ Some p) × IsListedAs (other ∷ []) t = stopped-listed c p place row o at has in (
+      λ _ _. listed_by (opened_now s (taken k s.waiting) t) (l.1 ∷ [])
+          (record { asked = x; row = row; takes = takes; named = named; same = refl; place = l.0; other = l.1; at = l.2; one = l.3 ∙ sym has; is = refl }) l.4,
+      λ x is. cc,
+    )
 
 stop_child-for : (k : Kind) (s : State) (c : ℕ) (x : Call) (place : ℕ) (row : Row) (state : RowState) (gone : Outcome) (now : ℕ) (ws : List Waiting) → gone.state.follows ≡ None → IsCall (taken k s.waiting) c x
     → slice_get s.rows place ≡ Some row → row.state ≡ state → ((p : ℕ) → process_number row.state ≡ Some p → Terminates x s.rows row) → ForTaken k s (stop_child c state gone (began now ws s))
@@ -347,10 +431,10 @@ named-by id rows place row found at = first-row (HasId id) (has_id id) rows plac
 
 again-for : (k : Kind) (s : State) (c : ℕ) (id : Name) (place : ℕ) (row : Row) (now : ℕ) (ws : List Waiting) → IsCall (taken k s.waiting) c (call.RestartChild id) → IsFirstRow (HasId id) s.rows place row → row.state ≡ Undefined
     → ForTaken k s (with_work [] (record { id = Some id; kept = None } ∷ []) (Some (sequel.Restarted c)) (began now ws s))
-again-for k s c id place row now ws takes named down _ _ =
+again-for k s c id place row now ws takes named down =
     let o : Outcome = began now ws s in
     let t : State = (with_work [] (record { id = Some id; kept = None } ∷ []) (Some (sequel.Restarted c)) o).state in
-    listed_by (opened_now s (taken k s.waiting) t) (row ∷ []) (record { id = id; place = place; row = row; takes = takes; named = named; down = down; same = refl; is = refl }) (again-listed c id row o named.holds down)
+    (λ _ _. listed_by (opened_now s (taken k s.waiting) t) (row ∷ []) (record { id = id; place = place; row = row; takes = takes; named = named; down = down; same = refl; is = refl }) (again-listed c id row o named.holds down), λ x is. cc)
 
 -- what a call does at the child with this id, where no fault stands against it
 abbrev DoneAt : Kind → State → ℕ → Name → Call → Outcome → Type 0
@@ -469,7 +553,7 @@ decide-for : (k : Kind) (s : State) (now : ℕ) → s.follows ≡ None → rows_
 unfolding decide tick
 decide-for (kind.Opened own) s now idle none =
     let o : Outcome = began now s.waiting s in
-    by_test (ForTaken (kind.Opened own) s) (is_over s.phase) (open_rows own o) o (λ _ _ _. open-listed s None own o) (λ _. idle-for (kind.Opened own) s o idle)
+    by_test (ForTaken (kind.Opened own) s) (is_over s.phase) (open_rows own o) o (λ _. (λ _ _. open-listed s None own o, other-ends (kind.Opened own) s (open_rows own o) (ap is_end (open_rows-follows own o)))) (λ _. idle-for (kind.Opened own) s o idle)
 decide-for (kind.Took i) s now idle none = item-for (kind.Took i) s i now s.waiting idle none refl
 decide-for kind.Resumed s now idle none =
     let o : Outcome = began now s.waiting s in
@@ -481,7 +565,93 @@ decide-for kind.Stopped s now idle none =
     let o : Outcome = began now s.waiting s in
     let done : Outcome = terminate ending.Asked o in
     by_test (ForTaken kind.Stopped s) (is_busy o) o (if is_over s.phase then o else done) (λ _. idle-for kind.Stopped s o idle)
-    (λ _. by_test (ForTaken kind.Stopped s) (is_over s.phase) o done (λ _. idle-for kind.Stopped s o idle) (λ _. terminate-for kind.Stopped s ending.Asked o none))
+    (λ _. by_test (ForTaken kind.Stopped s) (is_over s.phase) o done (λ _. idle-for kind.Stopped s o idle) (λ _. terminate-for kind.Stopped s ending.Asked o none refl))
+
+-- while the supervisor opens, only a failed start ends it
+
+ready-ends : (k : Kind) (s : State) (o : Outcome) → o.state.follows ≡ Some sequel.Ready → Ends k s o
+ready-ends k s o ready = other-ends k s o (ap is_end ready)
+
+up_after-ready : (k : Kind) (s : State) (p : ℕ) (f : Option Sequel) (o : Outcome) → f ≡ Some sequel.Ready → o.state.follows ≡ Some sequel.Ready → Ends k s (up_after p f o)
+unfolding up_after
+up_after-ready k s p f o is ready = subst (λ (g : Option Sequel). Ends k s (up_after p g o)) (sym is) (ready-ends k s o ready)
+
+failed_after-ready : (k : Kind) (s : State) (r : Reason) (kept place : ℕ) (row : Row) (f : Option Sequel) (o : Outcome) → f ≡ Some sequel.Ready → IsEndedBy k s (ending.InitFailed row.spec.id) → Ends k s (failed_after r kept place row f o)
+unfolding failed_after
+failed_after-ready k s r kept place row f o is by = subst (λ (g : Option Sequel). Ends k s (failed_after r kept place row g o)) (sym is) (terminate-ends k s (ending.InitFailed row.spec.id) (set_row place row Undefined o) by)
+
+end-ready : (k : Kind) (s : State) (place : ℕ) (row : Row) (o : Outcome) → o.state.follows ≡ Some sequel.Ready → Ends k s (end_row place row o)
+end-ready k s place row o ready = ready-ends k s (end_row place row o) ((end_row-alike place row o).4 ∙ ready)
+
+exit_in-ready : (k : Kind) (s : State) (p : ℕ) (r : Reason) (place : ℕ) (row : Row) (state : RowState) (o : Outcome) → o.state.follows ≡ Some sequel.Ready → Ends k s (exit_in p r place row state o)
+unfolding exit_in
+exit_in-ready k s p r place row Undefined o ready = ready-ends k s o ready
+exit_in-ready k s p r place row (Starting _ _) o ready = ready-ends k s (put_last (waiting.Item (item.Note (note.Exit p r))) o) ready
+exit_in-ready k s p r place row (Up _) o ready =
+    by_test (Ends k s) (is_busy o) (put_last (waiting.Item (item.Note (note.Exit p r))) o) (death p r place row o)
+    (λ _. ready-ends k s (put_last (waiting.Item (item.Note (note.Exit p r))) o) ready)
+    (λ idle. absurd (false≢true (sym idle ∙ ap (λ (f : Option Sequel). is_some f) ready)))
+exit_in-ready k s p r place row (Asked _ _) o ready = end-ready k s place row o ready
+exit_in-ready k s p r place row (Killed _) o ready = end-ready k s place row o ready
+exit_in-ready k s p r place row (Restarting _) o ready = ready-ends k s o ready
+
+note-ready : (k : Kind) (s : State) (x : Note) (now : ℕ) → s.follows ≡ Some sequel.Ready → taken k s.waiting ≡ Some (waiting.Item (item.Note x)) → Ends k s (take_note x (began now s.waiting s))
+unfolding take_note take_up take_ignored take_failed take_exit at_number
+note-ready k s (note.Up p) now ready takes =
+    let o : Outcome = began now s.waiting s in
+    at_starting-survives (Ends k s) p _ o (λ q kept place row at is same. up_after-ready k s p s.follows (set_row place row (Up p) o) ready ready) (ready-ends k s o ready)
+note-ready k s (note.Ignored p) now ready takes =
+    let o : Outcome = began now s.waiting s in
+    at_starting-survives (Ends k s) p _ o (λ q kept place row at is same. end-ready k s place row o ready) (ready-ends k s o ready)
+note-ready k s (note.Failed p r) now ready takes =
+    let o : Outcome = began now s.waiting s in
+    at_starting-survives (Ends k s) p _ o
+    (λ q kept place row at is same. failed_after-ready k s r kept place row s.follows o ready
+    (ready, p, r, place, row, kept, takes, at, is ∙ ap (λ (n : ℕ). Starting n kept) (eqb-true q p same), refl))
+    (ready-ends k s o ready)
+note-ready k s (note.Exit p r) now ready takes =
+    let o : Outcome = began now s.waiting s in
+    at_row-finds (Ends k s) (row_has (has_process p)) o _ o (ready-ends k s o ready) (ready-ends k s o ready)
+    (λ place row at found. exit_in-ready k s p r place row row.state o ready)
+
+answer-ready : (k : Kind) (s : State) (c : ℕ) (r : Reply) (o : Outcome) → o.state.follows ≡ Some sequel.Ready → Ends k s (answer c r o)
+unfolding answer
+answer-ready k s c r o ready = other-ends k s (answer c r o) (ap is_end ready)
+
+decide-ready : (k : Kind) (s : State) (now : ℕ) → s.follows ≡ Some sequel.Ready → Ends k s (decide k (began now s.waiting s))
+unfolding decide take_item ask tick
+decide-ready (kind.Opened own) s now ready =
+    let o : Outcome = began now s.waiting s in
+    by_test (Ends (kind.Opened own) s) (is_over s.phase) (open_rows own o) o (λ _. ready-ends (kind.Opened own) s (open_rows own o) (open_rows-follows own o)) (λ _. ready-ends (kind.Opened own) s o ready)
+decide-ready (kind.Took (item.Note x)) s now ready =
+    let k : Kind = kind.Took (item.Note x) in
+    let o : Outcome = began now s.waiting s in
+    by_test (Ends k s) (is_over s.phase) o (take_note x o) (λ _. ready-ends k s o ready) (λ _. note-ready k s x now ready refl)
+decide-ready (kind.Took (item.Call c x)) s now ready =
+    let k : Kind = kind.Took (item.Call c x) in
+    let o : Outcome = began now s.waiting s in
+    by_test (Ends k s) (is_over s.phase) _ _ (λ _. answer-ready k s c reply.NoProc o ready)
+    (λ _. by_test (Ends k s) (is_busy o) _ _ (λ _. ready-ends k s (put_last (waiting.Item (item.Call c x)) o) ready)
+    (λ idle. absurd (false≢true (sym idle ∙ ap (λ (f : Option Sequel). is_some f) ready))))
+decide-ready kind.Resumed s now ready =
+    let o : Outcome = began now s.waiting s in
+    by_test (Ends kind.Resumed s) (is_busy o) o _ (λ _. ready-ends kind.Resumed s o ready) (λ idle. absurd (false≢true (sym idle ∙ ap (λ (f : Option Sequel). is_some f) ready)))
+decide-ready kind.Ticked s now ready = ready-ends kind.Ticked s (tick (began now s.waiting s)) ready
+decide-ready kind.Stopped s now ready =
+    let o : Outcome = began now s.waiting s in
+    by_test (Ends kind.Stopped s) (is_busy o) o _ (λ _. ready-ends kind.Stopped s o ready) (λ idle. absurd (false≢true (sym idle ∙ ap (λ (f : Option Sequel). is_some f) ready)))
+
+decided-ends : (s : State) (e : Event) → IsSound s → EndsForTaken s e
+decided-ends s e sound x = by_work s.follows refl
+  where
+    by_work : (f : Option Sequel) → s.follows ≡ f → is_opened f (decided s e).follows ≡ true → (decided s e).follows ≡ Some (sequel.End x) → IsEndedBy e.kind s x
+    by_work None idle opened is = (decide-for e.kind s (max e.reading s.last) idle (subst (λ (f : Option Sequel). IsLimited f (rows_in is_awaited s.rows)) idle sound.0)).1 x is
+    by_work (Some sequel.Ready) ready opened is = decide-ready e.kind s (max e.reading s.last) ready x is
+    by_work (Some sequel.Nothing) busy opened is = absurd (false≢true opened)
+    by_work (Some (sequel.Added _)) busy opened is = absurd (false≢true opened)
+    by_work (Some (sequel.Restarted _)) busy opened is = absurd (false≢true opened)
+    by_work (Some (sequel.Stopped _)) busy opened is = absurd (false≢true opened)
+    by_work (Some (sequel.End _)) busy opened is = absurd (false≢true opened)
 
 -- an opening that fails ends the supervisor; and else work opens where none was open
 decided-listed : (s : State) (e : Event) → IsSound s → is_opened s.follows (decided s e).follows ≡ true → ends_together (decided s e) ≡ false → IsListed (opened_now s (taken e.kind s.waiting) (decided s e))
@@ -497,7 +667,7 @@ decided-listed s e sound = by_work s.follows refl
     end_is (Some (sequel.End x)) h = (x, refl)
 
     by_work : (f : Option Sequel) → s.follows ≡ f → is_opened f (decided s e).follows ≡ true → ends_together (decided s e) ≡ false → IsListed (opened_now s (taken e.kind s.waiting) (decided s e))
-    by_work None idle opened plain = decide-for e.kind s (max e.reading s.last) idle (subst (λ (f : Option Sequel). IsLimited f (rows_in is_awaited s.rows)) idle sound.0) opened plain
+    by_work None idle opened plain = (decide-for e.kind s (max e.reading s.last) idle (subst (λ (f : Option Sequel). IsLimited f (rows_in is_awaited s.rows)) idle sound.0)).0 opened plain
     by_work (Some sequel.Ready) busy opened plain =
         let ends : (x : Ending) × ((decided s e).follows ≡ Some (sequel.End x)) = end_is (decided s e).follows opened in
         end-listed s (taken e.kind s.waiting) (decided s e) ends.0 ends.1
@@ -558,3 +728,9 @@ work_is_for_taken_law s events e sound opened plain =
 
 pub work_is_for_taken_from_empty : WorkIsForTakenFromEmpty
 work_is_for_taken_from_empty flags specs events e = work_is_for_taken_law (empty_state flags specs) events e (empty-sound flags specs)
+
+pub end_is_for_taken_law : EndIsForTaken
+end_is_for_taken_law s events e sound = decided-ends (state_after s events) e (run-sound s events sound)
+
+pub end_is_for_taken_from_empty : EndIsForTakenFromEmpty
+end_is_for_taken_from_empty flags specs events e = end_is_for_taken_law (empty_state flags specs) events e (empty-sound flags specs)

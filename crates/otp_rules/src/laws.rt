@@ -16,7 +16,7 @@ ghost use Rattle.otp_rules.specs.Processes.{ProcessesOwned, ProcessesStayOwned};
 ghost use Rattle.otp_rules.specs.Rate.{RestartRate, RestartRateFromEmpty, RestartsCounted};
 ghost use Rattle.otp_rules.specs.Run.{RunGoesOn, RunsJoined};
 ghost use Rattle.otp_rules.specs.Slots.{SlotsOwned, SlotsStayOwned, SlotsTellProcesses};
-ghost use Rattle.otp_rules.specs.Taken.{WorkIsForTaken, WorkIsForTakenFromEmpty};
+ghost use Rattle.otp_rules.specs.Taken.{EndIsForTaken, EndIsForTakenFromEmpty, WorkIsForTaken, WorkIsForTakenFromEmpty};
 ghost use Rattle.otp_rules.specs.Waits.{StartsWait};
 
 /// No event changes the flags or the specifications.
@@ -62,8 +62,9 @@ pub fn stays_fit()
 {}
 
 /// In a lawful history a child is started only in its turn, from each state that is fit. The children to start are those
-/// that the work is about, as they stood when it was opened, in start order: all at the opening, one for a call, and for
-/// a restart those that it affects and that aren't temporary. Each of them that comes before the child was started since,
+/// that the work is about, as they stood when it was opened, in start order: all at the opening, the one that a call names
+/// or asks for, and for a restart those that the restart affects of the child that died, or whose restart is tried again,
+/// and that aren't temporary. Each of them that comes before the child was started since,
 /// in that order, and has answered after that start with Up or Ignored; and each process of a child that the work is
 /// about has ended (Supervisor Behaviour, Starting a Supervisor and Restart Strategy).
 pub fn start_order()
@@ -72,25 +73,36 @@ pub fn start_order()
 {}
 
 /// A child is told to stop only in its turn, from each state whose open work is in step with what was seen of it: no
-/// answer of a child is awaited, the work is about it, and of the children that the work is about each that had a process
-/// and stands after it in start order has ended (Supervisor Behaviour, Stopping and Restart Strategy). Two things are no
-/// such order: a kill of a child that was asked and whose deadline has come, which only an event that ticks gives; and
-/// the end of a simple_one_for_one supervisor, whose children are told together by the event that ends it.
+/// answer of a child is awaited, the work is about it (of a call: it has the process that the call names, or that of
+/// the child which it names), and of the children that the work is about each that had a process and stands after it in
+/// start order has ended (Supervisor Behaviour, Stopping and Restart Strategy). Two things are no such order: a kill of
+/// a child that was asked and whose deadline has come, which only an event that ticks gives; and the end of a
+/// simple_one_for_one supervisor, whose children are told together by the event that ends it.
 pub fn stop_order()
     ensures from_any { StopOrder }
     ensures from_empty { StopOrderFromEmpty }
 {}
 
-/// The children that open work is for are those that the event names by which it was opened: by what it took of the inbox,
-/// or by the first that waited. A restart is of what the restart of one child affects, by the strategy: the first child
-/// that had the process of whose end a note was taken, by itself and so that its restart type asks for it; or that waits
-/// for its next restart under the number that comes up. restart_child starts the first child with the id that the call
-/// names, which has no process; terminate_child stops the process of the first child with that id or, under
-/// simple_one_for_one, with that process; start_child starts the child that it asks for, which is added last. So it is
-/// from each state whose open work is sound.
+/// Where an event opens work, its lists are those of the children which what the event takes names: an item of the inbox,
+/// or the first that waited. To be stopped are the processes of these children, in reverse start order, and to be started
+/// are all that such work starts. A restart is of the children that the restart of one affects, by the strategy: the first
+/// that had the process of whose end a note was taken, where its restart type asks for a restart after such an end; or the
+/// first that waited for its next restart under the number that came up. restart_child starts the first child with the id
+/// that the call names, which has no process; terminate_child stops the process of the first with that id or, under
+/// simple_one_for_one, the one that the call names; start_child starts the child that it asks for, which is added last.
+/// So it is from each state whose open work is sound. The children are those of which `start_order` and `stop_order` speak.
 pub fn work_is_for_what_was_taken()
     ensures from_any { WorkIsForTaken }
     ensures from_empty { WorkIsForTakenFromEmpty }
+{}
+
+/// Where an event ends the supervisor, so does what the event takes: by the intensity only what makes a restart due; by
+/// significance only the note that the process of a significant child ended by itself, which isn't restarted after such an
+/// end, and under all_significant only that of the last such child (Supervisor Behaviour, Automatic Shutdown); else the
+/// parent asked, or a start of the opening failed.
+pub fn end_is_for_what_was_taken()
+    ensures from_any { EndIsForTaken }
+    ensures from_empty { EndIsForTakenFromEmpty }
 {}
 
 /// Between two events of a lawful history open work awaits an answer of a child: it has gone on as far as it can. So an event
