@@ -94,11 +94,11 @@ impl<N: WordsNaming + InboxNaming> Driven<N> {
         if self.reading > MAX_READING {
             return Err(AllocError);
         }
-        let port = &mut self.port;
-        match self
-            .sup
-            .turn(rt, &self.words, port, 0, self.reading, Signal::None)
-        {
+        if self.sender.number() != self.sup.inbox().number() || self.sender.parts() == 0 {
+            return Err(AllocError);
+        }
+        let (sender, port) = (&mut self.sender, &mut self.port);
+        match self.sup.turn(rt, &self.words, sender, port, 0, self.reading, Signal::None) {
             Ok(_) => Ok(()),
             Err(_) => Err(AllocError),
         }

@@ -1,15 +1,15 @@
 //! A supervisor under its lock, over a port in memory: restarts of a child, calls, and empty turns by several threads.
-ghost use Rattle.std.specs.Prelude.{◌≡◌};
+ghost use Rattle.std.specs.Prelude.{◌≡◌, IfSome};
 ghost use Rattle.otp_spec.specs.declared.limits.TheConstants.{MAX_CHILDREN};
 
 use crate::driven::{Driven, Post};
 use crate::report::report;
-use otp_inbox::{InboxNaming, UnnamedInbox};
+use otp_inbox::{InboxNaming, Sender, UnnamedInbox};
 use otp_reason::{Reason, Text};
 use otp_rules::{Call, Item};
 use otp_signals::{OpenWords, Signal, Words, WordsNaming};
 use otp_spec::MAX_CHILDREN;
-use otp_sup::{Client, MemoryPort, Sup, TurnAnswer};
+use otp_sup::{Client, MemoryPort, Sup, TurnAnswer, TurnFault};
 use std::alloc::{AllocError, Global};
 use std::marker::Brand;
 use std::rt::Runtime;
@@ -78,15 +78,15 @@ fn measure_calls<N: WordsNaming + InboxNaming, R: Runtime + Wait>(
         words,
         owner,
         sup,
-        sender,
+        mut sender,
         mut port,
         pass: _,
         ..
     } = driven;
-    if sender.parts() == 0 {
+    let Some(calling) = cut_off(&sup, &mut sender) else {
         return Err(AllocError.into());
-    }
-    let mut client = Client::new(alloc, owner, sender);
+    };
+    let mut client = Client::new(alloc, owner, calling);
     let start = Instant::now(rt)?;
     for _ in 0..count {
         if client.number() != sup.inbox().number() {
@@ -96,17 +96,45 @@ fn measure_calls<N: WordsNaming + InboxNaming, R: Runtime + Wait>(
         if sent.is_err() {
             return Err(AllocError.into());
         }
-        let turned = sup.turn(rt, &words, &mut port, 0, 0, Signal::None);
-        if turned != Ok(TurnAnswer::Took) {
+        let turned = turn(rt, &words, &sup, &mut sender, &mut port);
+        if turned != Some(Ok(TurnAnswer::Took)) {
             return Err(AllocError.into());
         }
     }
     report(rt, "locked calls", 1, count, start)
 }
 
-/// A thread's port, and how many turns it had.
+/// A sender with one part of this one's right to send.
+fn cut_off<N: WordsNaming + InboxNaming>(
+    sup: &Sup<N, u64>,
+    sender: &mut Sender<N, Item, Post>,
+) -> Option<Sender<N, Item, Post>>
+    ensures { IfSome result (λ other. other.parts ≡ 1) }
+{
+    if sender.number() != sup.inbox().number() || sender.parts() < 2 {
+        return None;
+    }
+    Some(sup.inbox().split(sender, 1))
+}
+
+/// A turn of the supervisor, with which the sender is credited. None where the sender isn't one to it.
+fn turn<N: WordsNaming + InboxNaming, R: Wait>(
+    rt: &R,
+    words: &Words<N>,
+    sup: &Sup<N, u64>,
+    sender: &mut Sender<N, Item, Post>,
+    port: &mut MemoryPort<u64>,
+) -> Option<Result<TurnAnswer, TurnFault>> {
+    if sender.number() != sup.inbox().number() || sender.parts() == 0 {
+        return None;
+    }
+    Some(sup.turn(rt, words, sender, port, 0, 0, Signal::None))
+}
+
+/// A thread's sender and port, and how many turns it had.
 #[derive(Drop)]
-struct Hand {
+struct Hand<N: WordsNaming + InboxNaming> {
+    sender: Sender<N, Item, Post>,
     port: MemoryPort<u64>,
     turned: u64,
 }
@@ -116,11 +144,12 @@ fn turn_many<N: WordsNaming + InboxNaming, R: Wait>(
     rt: &R,
     words: &Words<N>,
     sup: &Sup<N, u64>,
-    hand: &mut Hand,
+    hand: &mut Hand<N>,
     count: u64,
 ) {
     for _ in 0..count {
-        if sup.turn(rt, words, &mut hand.port, 0, 0, Signal::None) == Ok(TurnAnswer::Quiet) {
+        let turned = turn(rt, words, sup, &mut hand.sender, &mut hand.port);
+        if turned == Some(Ok(TurnAnswer::Quiet)) {
             hand.turned = hand.turned.saturating_add(1);
         }
     }
@@ -142,7 +171,9 @@ fn measure_shared<N: WordsNaming + InboxNaming + Send + Sync, R: Runtime + Threa
     driven.begin(rt, 1)?;
     let mut hands = Vec::new(alloc);
     for _ in 0..threads {
+        let sender = cut_off(&driven.sup, &mut driven.sender).ok_or(AllocError)?;
         hands.push(Hand {
+            sender,
             port: MemoryPort::new(alloc),
             turned: 0,
         })?;
@@ -177,11 +208,21 @@ fn turn_alone<N: WordsNaming + InboxNaming, R: Wait>(
 {
     let mut driven = Driven::<N>::open(alloc, words, inbox, 1)?;
     driven.begin(rt, 1)?;
+    let Driven {
+        words,
+        owner: _,
+        sup,
+        sender,
+        port,
+        pass: _,
+        ..
+    } = driven;
     let mut hand = Hand {
-        port: MemoryPort::new(alloc),
+        sender,
+        port,
         turned: 0,
     };
-    turn_many(rt, &driven.words, &driven.sup, &mut hand, count);
+    turn_many(rt, &words, &sup, &mut hand, count);
     Ok(hand.turned)
 }
 

@@ -4,10 +4,10 @@ ghost use Rattle.otp_run.specs.Rule.{all_parts};
 
 use crate::report::report;
 use otp_bridge::BoxedSubsystem;
-use otp_job::{Body, Job, TableNo, Told, Turn};
+use otp_job::{Job, Told, Turn};
 use otp_reason::{Name, Note, Reason, Started, Text};
-use otp_spec::{ChildSpec, ChildType, MAX_INTENSITY, MAX_TABLES, Shutdown, SupFlags, SupSpec};
-use otp_tree::{Gate, Leader, MAX_HANDS, Report, Round, TablePlan, lead, run_tree};
+use otp_spec::{MAX_INTENSITY, MAX_TABLES, SupFlags};
+use otp_tree::{Gate, Leader, MAX_HANDS, Report, Round, TableDraft, TablePlan, lead, run_tree};
 use std::alloc::{AllocError, Global};
 use std::io;
 use std::rt::Runtime;
@@ -16,10 +16,10 @@ use std::thread::Threads;
 use std::time::Instant;
 
 /// So many turns each hand takes before the leader is asked again.
-const TURNS: u64 = 100_000;
+const TURNS: u64 = 5_000;
 
 /// More rounds than a full tree needs.
-const MOST_ROUNDS: u64 = 10_000;
+const MOST_ROUNDS: u64 = 200_000;
 
 const DIGITS: [u8; 16] = *b"0123456789abcdef";
 
@@ -70,52 +70,33 @@ impl<'a, R: Runtime> Gate for Rush<'a, R> {
     }
 }
 
-/// The children of a supervisor that is to be planned, and their bodies.
-#[derive(Drop)]
-struct Draft {
-    specs: Vec<ChildSpec>,
-    bodies: Vec<Body<Worker, BoxedSubsystem>>,
+type Draft = TableDraft<Worker, BoxedSubsystem>;
+
+fn add_worker(draft: &mut Draft, id: &[u8], crashes: bool) -> Result<(), AllocError> {
+    if let Some(id) = Name::new(id) {
+        draft
+            .add_worker(id, Worker { crashes })
+            .map_err(|_| AllocError)?;
+    }
+    Ok(())
 }
 
-impl Draft {
-    fn new(alloc: Global) -> Self {
-        Draft {
-            specs: Vec::new(alloc),
-            bodies: Vec::new(alloc),
-        }
+/// Adds a child that is the supervisor of this number.
+fn add_supervisor(draft: &mut Draft, id: &[u8], table: usize) -> Result<(), AllocError> {
+    if let Some(id) = Name::new(id) {
+        draft.add_supervisor(id, table)?;
     }
+    Ok(())
+}
 
-    fn add_worker(&mut self, id: &[u8], crashes: bool) -> Result<(), AllocError> {
-        if let Some(id) = Name::new(id) {
-            self.specs.push(ChildSpec::new(id, id))?;
-            self.bodies.push(Body::Worker(Worker { crashes }))?;
-        }
-        Ok(())
-    }
-
-    /// Adds a child that is the supervisor of this number.
-    fn add_supervisor(&mut self, id: &[u8], table: usize) -> Result<(), AllocError> {
-        if let Some(id) = Name::new(id) {
-            let mut spec = ChildSpec::new(id, id);
-            spec.kind = ChildType::Supervisor;
-            spec.shutdown = Shutdown::Infinity;
-            self.specs.push(spec)?;
-            self.bodies.push(Body::Sup(TableNo::new(table)))?;
-        }
-        Ok(())
-    }
-
-    /// The plan of a supervisor that restarts as often as one may.
-    fn plan(self) -> Result<Plan, AllocError> {
-        let Draft { specs, bodies } = self;
-        let flags = SupFlags {
-            intensity: MAX_INTENSITY,
-            period: 1,
-            ..SupFlags::default()
-        };
-        let supervisor = SupSpec::check(flags, specs).map_err(|_| AllocError)?;
-        Ok(TablePlan { supervisor, bodies })
-    }
+/// The plan of a supervisor that restarts as often as one may.
+fn plan(draft: Draft) -> Result<Plan, AllocError> {
+    let flags = SupFlags {
+        intensity: MAX_INTENSITY,
+        period: 1,
+        ..SupFlags::default()
+    };
+    draft.plan(flags).map_err(|_| AllocError)
 }
 
 /// The root, with the supervisors from 1 on as its first children, and so many children in all.
@@ -123,15 +104,15 @@ fn root_plan(alloc: Global, children: usize) -> Result<Plan, AllocError> {
     let mut draft = Draft::new(alloc);
     for high in DIGITS {
         for low in DIGITS {
-            let place = draft.specs.len();
+            let place = draft.len();
             if place + 1 < MAX_TABLES {
-                draft.add_supervisor(&[high, low], place + 1)?;
+                add_supervisor(&mut draft, &[high, low], place + 1)?;
             } else if place < children {
-                draft.add_worker(&[high, low], false)?;
+                add_worker(&mut draft, &[high, low], false)?;
             }
         }
     }
-    draft.plan()
+    plan(draft)
 }
 
 /// A supervisor of so many workers.
@@ -139,12 +120,12 @@ fn full_plan(alloc: Global, children: usize) -> Result<Plan, AllocError> {
     let mut draft = Draft::new(alloc);
     for high in DIGITS {
         for low in DIGITS {
-            if draft.specs.len() < children {
-                draft.add_worker(&[high, low], false)?;
+            if draft.len() < children {
+                add_worker(&mut draft, &[high, low], false)?;
             }
         }
     }
-    draft.plan()
+    plan(draft)
 }
 
 /// As many supervisors as there may be, each but the root with so many children, at most 256.
@@ -163,8 +144,8 @@ fn crashing_plans(alloc: Global) -> Result<Vec<Plan>, AllocError> {
     plans.push(root_plan(alloc, 0)?)?;
     for _ in 1..MAX_TABLES {
         let mut draft = Draft::new(alloc);
-        draft.add_worker(b"worker", true)?;
-        plans.push(draft.plan()?)?;
+        add_worker(&mut draft, b"worker", true)?;
+        plans.push(plan(draft)?)?;
     }
     Ok(plans)
 }

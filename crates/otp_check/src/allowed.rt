@@ -102,6 +102,7 @@ fn write_words(words: &[&'static str], out: &mut Vec<u8>) -> Result<(), AllocErr
 
 /// Appends which numbers are allowed.
 fn write_range(least: u64, most: u64, unit: &[u8], out: &mut Vec<u8>) -> Result<(), AllocError> {
+    out.extend_from_slice(b"a whole number, ")?;
     write_number(least, out)?;
     out.extend_from_slice(b" to ")?;
     write_number(most, out)?;

@@ -124,10 +124,10 @@ fn is_file_name(word: &str) -> bool {
     word.ends_with(".toml") || word.contains('/')
 }
 
-/// Whether the words are a file's name alone, after the program's own.
-fn is_file_alone<S: AsStr>(words: &[S]) -> bool {
+/// Whether a file's name stands in the place of a command, after the program's own.
+fn is_file_first<S: AsStr>(words: &[S]) -> bool {
     match words {
-        [_, word] => is_file_name(word.as_str()),
+        [_, word, ..] => is_file_name(word.as_str()),
         _ => false,
     }
 }
@@ -273,7 +273,7 @@ pub fn read_words<'a, S: AsStr>(alloc: Global, words: &'a [S]) -> Result<Command
     ensures asked { IfOk result (AsksFor (subcommand_of otp_app (map S.text words.entry.now))) }
     ensures handed_on { IfErr result IsHandedOn }
 {
-    if is_file_alone(words) {
+    if is_file_first(words) {
         return Err(WordsFault::FileAsCommand);
     }
     let command = otp_command(alloc)?;

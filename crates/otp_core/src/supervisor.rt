@@ -51,7 +51,7 @@ pub struct Spare {
 /// let mut next = Some(Kind::Opened(own));
 /// while let Some(kind) = next {
 ///     core.prepare()?;                                     // all memory of the event; it may be refused
-///     core.step_with(clock, kind, &mut numbers);           // decides; takes no memory
+///     core.step_with(clock, kind, &mut numbers);           // decides; by its code takes no memory
 ///     carry_out(core.effects());                           // start, ask, kill; answers by Core::reply
 ///     core.clear_effects();
 ///     next = core.next_kind(clock, is_stop_wanted)         // what comes next by itself
@@ -102,7 +102,7 @@ impl Core {
         Ok(Core::of(alloc, SupSpec::new(flags, specs)))
     }
 
-    /// The same for what was tested before: nothing is tested again or copied, and no memory is taken.
+    /// The same for what was tested before: nothing is tested again or copied, and by its code no memory is taken.
     pub fn of(alloc: Global, supervisor: SupSpec) -> Core
         ensures core { result ≡ record { base = empty_state supervisor.flags supervisor.specs; history = []; effects = []; prepared = false } }
         ensures limit { length supervisor.specs ≤ MAX_CHILDREN }

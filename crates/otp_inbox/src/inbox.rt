@@ -8,8 +8,8 @@ ghost use Rattle.otp_inbox.specs.Tokens.{all_parts, count_limit, no_shares, plus
 use crate::mail::Mail;
 use crate::naming::InboxNaming;
 use crate::rule::{
-    ALL_PARTS, COUNT_LIMIT, Credit, Credited, Cut, Drained, Held, Joined, Pass, Piece, Queue, Sent,
-    Spare, Taken,
+    ALL_PARTS, COUNT_LIMIT, Credit, Credited, Cut, Drained, Held, Joined, Looked, Pass, Piece,
+    Queue, Sent, Spare, Taken,
 };
 use crate::sender::Sender;
 use crate::taker::Taker;
@@ -77,6 +77,15 @@ impl<N: InboxNaming, P, T: Mail<P>> Inbox<N, P, T> {
         };
         taker.count = (taker.count + 1).min(COUNT_LIMIT);
         Some(item)
+    }
+
+    /// Whether it is empty, by a sender's pass. A hint: true only where it was empty at one moment of the call, which no
+    /// contract can say of a queue that others share. Two loads; it waits for nobody and takes no memory.
+    pub fn is_empty(&self, sender: &mut Sender<N, P, T>) -> bool
+        requires { sender.old.inbox ≡ self.now }
+        ensures { sender.new ≡ sender.old }
+    {
+        self.queue.is_empty_as::<Looked>(&mut sender.pass)
     }
 }
 

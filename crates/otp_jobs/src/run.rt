@@ -101,17 +101,11 @@ pub const MIN_SCHEDULERS: usize = 1;
 /// The most hands of a run.
 pub const MAX_SCHEDULERS: usize = 8;
 
-/// The hands of a run where nothing else is said.
-pub const DEFAULT_SCHEDULERS: usize = 2;
-
 /// The fewest turns of a hand in each half of a run.
 pub const MIN_TURNS: u64 = 1;
 
 /// The most turns of a hand in each half of a run.
 pub const MAX_TURNS: u64 = 10_000_000;
-
-/// The turns of a hand in each half of a run where nothing else is said.
-pub const DEFAULT_TURNS: u64 = 100_000;
 
 /// How a tree is run: with 1 to 8 hands, and 1 to 10,000,000 turns for each of them in each half of the run. And whether
 /// the report says what each supervisor counts halfway.

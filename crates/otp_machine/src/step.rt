@@ -150,8 +150,8 @@ impl Machine {
         }
     }
 
-    /// What happens now. Draws a number exactly where a child is started, and says which. Takes no memory; its orders
-    /// are put behind those that are there.
+    /// What happens now. Draws a number exactly where a child is started, and says which. By its code it takes no
+    /// memory; its orders are put behind those that are there.
     #[tactic(auto, unfolding(otp_rules::specs::Step::step_on))]
     pub fn step<N: Numbers>(&mut self, reading: u64, kind: &Kind, numbers: &mut N) -> Option<u64>
         requires memory { HasMemory self.old }

@@ -1,4 +1,4 @@
-//! Which events start a child, asked beforehand: [`needs_number`] walks the rules without a change and without memory.
+//! Which events start a child, asked beforehand: [`needs_number`] walks the rules without a change and, by its code, without memory.
 //! No step asks it; it is for callers that must have a number before they step.
 #![tactic(auto)]
 

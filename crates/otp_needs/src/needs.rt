@@ -1,7 +1,7 @@
 //! Which events start a child, asked without a change (`specs/Needs` of the rules).
 //!
 //! Each function here answers for one decision of an event whether the work that it opens, or that goes on, starts a
-//! child. None takes memory. Where an answer of a child is awaited, or nothing is left to start, that is seen at once.
+//! child. By its code none takes memory. Where an answer of a child is awaited, or nothing is left to start, that is seen at once.
 
 ghost use Rattle.std.specs.Prelude.{ℕ, Bool, Option, false, ◌≡◌, ◌≤◌, ◌<◌, All, None, Some, length, max, slice_get};
 ghost use Rattle.otp_rules.specs.Needs.{needs_number, work_starts};
@@ -379,7 +379,7 @@ fn decision_starts(machine: &Machine, kind: Kind, now: u64) -> bool
     }
 }
 
-/// Whether the event needs a number: it starts a child. Takes no memory and changes nothing.
+/// Whether the event needs a number: it starts a child. By its code it takes no memory and changes nothing.
 pub fn needs_number(machine: &Machine, reading: u64, kind: &Kind) -> bool
     requires { All (λ s. s ≤ machine.now.last) machine.now.window.stamps }
     ensures { result ≡ needs_number (outcome_of machine.now).state reading kind.now }

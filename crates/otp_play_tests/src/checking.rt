@@ -42,20 +42,20 @@ const FLAGS: [Row; 8] = [
     ),
     (
         "intensity = 1001\n",
-        &["E1: supervisor, intensity: read 1001; allowed: 0 to 1000"],
+        &["E1: supervisor, intensity: read 1001; allowed: a whole number, 0 to 1000"],
     ),
     (
         "intensity = \"3\"\n",
-        &["E13: supervisor, intensity: read \"3\"; allowed: 0 to 1000"],
+        &["E13: supervisor, intensity: read \"3\"; allowed: a whole number, 0 to 1000"],
     ),
     (
         "period = 0\n",
-        &["E1: supervisor, period: read 0; allowed: 1 to 1000000 (seconds)"],
+        &["E1: supervisor, period: read 0; allowed: a whole number, 1 to 1000000 (seconds)"],
     ),
     (
         "auto_shutdown = \"any\"\nperiod = 0\n",
         &[
-            "E1: supervisor, period: read 0; allowed: 1 to 1000000 (seconds)",
+            "E1: supervisor, period: read 0; allowed: a whole number, 1 to 1000000 (seconds)",
             "E13: supervisor, auto_shutdown: read \"any\"; allowed: \"never\", \"any_significant\", \"all_significant\"",
         ],
     ),
@@ -93,7 +93,7 @@ const KEYS: [Row; 6] = [
     (
         "[[child]]\nid = \"a\"\nstart = \"m\"\nshutdown = \"brutal\"\n",
         &[
-            "E13: child 1 (a), shutdown: read \"brutal\"; allowed: 0 to 4294967295 (milliseconds), \"brutal_kill\", \"infinity\"",
+            "E13: child 1 (a), shutdown: read \"brutal\"; allowed: a whole number, 0 to 4294967295 (milliseconds), \"brutal_kill\", \"infinity\"",
         ],
     ),
     (
@@ -165,7 +165,7 @@ const NESTED: [Row; 14] = [
     // E1, one level down.
     (
         "[[child]]\nid = \"db\"\nstart = \"m\"\n[[child]]\nid = \"pool\"\nstart = \"m\"\n[child.tree]\nintensity = 1001\n",
-        &["E1: child 2 (pool), tree, intensity: read 1001; allowed: 0 to 1000"],
+        &["E1: child 2 (pool), tree, intensity: read 1001; allowed: a whole number, 0 to 1000"],
     ),
     // E2, two levels down.
     (
@@ -204,7 +204,7 @@ const NESTED: [Row; 14] = [
         "strategy = \"simple_one_for_one\"\n[[child]]\nid = \"a\"\nstart = \"m\"\n[child.tree]\nperiod = 0\n",
         &[
             "E6: supervisor: under simple_one_for_one the one [[child]] has no tree; leave the tree out, or set another strategy",
-            "E1: child 1 (a), tree, period: read 0; allowed: 1 to 1000000 (seconds)",
+            "E1: child 1 (a), tree, period: read 0; allowed: a whole number, 1 to 1000000 (seconds)",
         ],
     ),
     // E11, of a supervisor and of a child.
@@ -251,8 +251,8 @@ const NESTED: [Row; 14] = [
         "[[child]]\nid = \"a\"\nstart = \"m\"\n[child.tree]\nperiod = 0\n[[child]]\nid = \"b\"\nstart = \"m\"\nrestart = 1\n[child.tree]\nperiod = 0\n",
         &[
             "E13: child 2 (b), restart: read 1; allowed: \"permanent\", \"transient\", \"temporary\"",
-            "E1: child 1 (a), tree, period: read 0; allowed: 1 to 1000000 (seconds)",
-            "E1: child 2 (b), tree, period: read 0; allowed: 1 to 1000000 (seconds)",
+            "E1: child 1 (a), tree, period: read 0; allowed: a whole number, 1 to 1000000 (seconds)",
+            "E1: child 2 (b), tree, period: read 0; allowed: a whole number, 1 to 1000000 (seconds)",
         ],
     ),
 ];
@@ -286,7 +286,7 @@ fn deepest_table(rt: HostRuntime) -> Result<(), Fail> {
         let text = finding.text.as_slice();
         assert!(rt;
             text.ends_with(
-                b"(a), child 1 (a), tree, period: read 0; allowed: 1 to 1000000 (seconds)",
+                b"(a), child 1 (a), tree, period: read 0; allowed: a whole number, 1 to 1000000 (seconds)",
             ),
             "{}",
             text.escape_ascii()
@@ -328,7 +328,7 @@ fn last_table(rt: HostRuntime) -> Result<(), Fail> {
     for finding in &findings {
         let text = finding.text.as_slice();
         assert!(rt;
-            text == b"E1: child 63 (c63), tree, period: read 0; allowed: 1 to 1000000 (seconds)".as_slice(),
+            text == b"E1: child 63 (c63), tree, period: read 0; allowed: a whole number, 1 to 1000000 (seconds)".as_slice(),
             "{}",
             text.escape_ascii()
         );

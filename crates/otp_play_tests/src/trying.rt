@@ -148,7 +148,7 @@ fn missed_lines(rt: HostRuntime) -> Result<(), Fail> {
         Writer::Person,
         "crash bd\n",
         "0.000 s  start db #1\n0.000 s  ready\nhelp lists what may be written here\n0.000 s  1 up, 0/3 restarts in 10 s> \
-ignored: there is no such child; which lists the children\n0.000 s  1 up, 0/3 restarts in 10 s> 0.000 s  1 up, 0/3 restarts in 10 s\n",
+ignored: there is no such child; say which to list the children\n0.000 s  1 up, 0/3 restarts in 10 s> 0.000 s  1 up, 0/3 restarts in 10 s\n",
         TryEnd::Done,
     )
 }
@@ -162,8 +162,8 @@ fn planned_for_nobody(rt: HostRuntime) -> Result<(), Fail> {
         Writer::Script,
         "ignore db\nfail bd\nignore dc\n",
         "0.000 s  start db #1\n0.000 s  ready\nline 1: ignore db\nline 2: fail bd\n\
-line 2: there is no such child; which lists the children\nline 3: ignore dc\n\
-line 3: there is no such child; which lists the children\n0.000 s  1 up, 0/3 restarts in 10 s\n\
+line 2: there is no such child; say which to list the children\nline 3: ignore dc\n\
+line 3: there is no such child; say which to list the children\n0.000 s  1 up, 0/3 restarts in 10 s\n\
 unused: ignore db (line 1)\nunused: fail bd (line 2)\nunused: ignore dc (line 3)\n",
         TryEnd::LineMissed(2, ActionEnd::NoChild),
     )?;
@@ -173,7 +173,7 @@ unused: ignore db (line 1)\nunused: fail bd (line 2)\nunused: ignore dc (line 3)
         Writer::Script,
         "fail bd\nstart bd b permanent false 5000 worker\n",
         "0.000 s  start db #1\n0.000 s  ready\nline 1: fail bd\n\
-line 1: there is no such child; which lists the children\nline 2: start bd b permanent false 5000 worker\n\
+line 1: there is no such child; say which to list the children\nline 2: start bd b permanent false 5000 worker\n\
 0.000 s  start bd #2\n0.000 s  reply 1 error start error:fail\n0.000 s  1 up, 0/3 restarts in 10 s\n",
         TryEnd::Done,
     )?;
@@ -183,7 +183,7 @@ line 1: there is no such child; which lists the children\nline 2: start bd b per
         Writer::Person,
         "ignore bd",
         "0.000 s  start db #1\n0.000 s  ready\nhelp lists what may be written here\n0.000 s  1 up, 0/3 restarts in 10 s> \
-0.000 s  1 up, 0/3 restarts in 10 s> line 1: there is no such child; which lists the children\n\
+0.000 s  1 up, 0/3 restarts in 10 s> line 1: there is no such child; say which to list the children\n\
 0.000 s  1 up, 0/3 restarts in 10 s\nunused: ignore bd (line 1)\n",
         TryEnd::Done,
     )

@@ -7,14 +7,11 @@ use Rattle.otp_table.specs.declared.row.RowState.{RowState}
 use Rattle.otp_table.specs.declared.row.RowState.TheVariants.{Undefined, Starting, Up, Asked, Killed, Restarting}
 use Rattle.otp_rules.specs.Next.{DeadlinesCome, deadline_from, deadline_of, earlier, has_come}
 use Rattle.otp_rules.specs.Step.{is_late, late_by}
+use Rattle.otp_rules.proofs.Bits.{or_false}
 
 or_assoc : (a b c : Bool) → ((a || b) || c) ≡ (a || (b || c))
 or_assoc true b c = refl
 or_assoc false b c = refl
-
-or_false : (b : Bool) → (b || false) ≡ b
-or_false true = refl
-or_false false = refl
 
 some_late : (now p d : ℕ) → is_some (late_by now p (Some d)) ≡ nat_le d now
 some_late now p d = elim (nat_le d now) as (λ b. is_some (if b then Some p else None) ≡ b) [ true ↦ refl | false ↦ refl ]

@@ -27,7 +27,7 @@ use Rattle.otp_rules.proofs.Walks.{advance-by, stop_first-by, with_stops}
 use Rattle.otp_rules.proofs.Decisions.{StandsAt, Survives, at_row-survives, decide-survives}
 use Rattle.otp_rules.proofs.Counting.{end_row-alike, tell-alike, use_exit-alike}
 use Rattle.otp_rules.proofs.Sound.{advance-sound, empty-sound, sound-survives}
-use Rattle.otp_rules.proofs.Opened.{open_rows-busy}
+use Rattle.otp_rules.proofs.WhileOpen.{open_rows-busy}
 use Rattle.otp_rules.proofs.WhileOpen.{restart-busy, terminate-follows}
 
 -- it has no rows where it has ended, and the lists of the open work are sound

@@ -35,6 +35,7 @@ use Rattle.otp_rules.specs.Starts.{is_due, start_row, start}
 use Rattle.otp_rules.specs.Work.{follow, start_first, stop_first, advance}
 use Rattle.otp_rules.specs.Deaths.{restart_rows, restart}
 use Rattle.otp_rules.specs.Step.{open_with, open_rows, tick, decide, stamped, step, step_on, kill_order, killed, late_number}
+use Rattle.otp_rules.proofs.Bits.{at_most_1}
 use Rattle.otp_rules.proofs.Walks.{advance-by, restart-by, terminate-by}
 use Rattle.otp_rules.proofs.Decisions.{StandsAt, SurvivesEvent, at_row-survives, at_number-survives, by_test, decide-survives_event}
 use Rattle.otp_rules.proofs.Counting.{end_row-quiet, stop_each-alike, use_exit-quiet}
@@ -47,10 +48,6 @@ orders-append xs ys = sum_by-append (λ (x : Effect). cond (is_order x) 1 0) xs 
 
 orders-cons : (x : Effect) (xs : List Effect) → orders_in (x ∷ xs) ≡ cond (is_order x) 1 0 + orders_in xs
 orders-cons x xs = sum_by-cons (λ (y : Effect). cond (is_order y) 1 0) x xs
-
-at_most_1 : (b : Bool) → cond b 1 0 ≤ 1
-at_most_1 true = omega arith
-at_most_1 false = omega arith
 
 one_more : (xs : List Effect) (x : Effect) → orders_in (xs ++ x ∷ []) ≤ orders_in xs + 1
 one_more xs x = omega (arith, orders-append xs (x ∷ []), orders-cons x [], at_most_1 (is_order x))

@@ -20,6 +20,7 @@ use Rattle.otp_rules.specs.Starts.{is_due}
 use Rattle.std.specs.List.{position_or_len}
 use Prim.Native.Nat.{zero, suc}
 use Rattle.otp_rules.specs.Fit.{rows_in, times, is_free, IsFree, Matches, Fits}
+use Rattle.otp_rules.proofs.Bits.{counts_none}
 use Rattle.otp_rules.proofs.Counting.{times-cons, rows_in-cons, rows_in-at, found}
 
 -- a row in front changes nothing
@@ -92,16 +93,12 @@ free-pop p ps goes (Asked _ _) other h = h
 free-pop p ps goes (Killed _) other h = h
 free-pop p ps goes (Restarting _) other h = absurd (false≢true h)
 
-no_row_has : (b : Bool) → ◌≡◌ {A = ℕ} (cond b 1 0) 0 → b ≡ false
-no_row_has true h = absurd (omega (arith, h))
-no_row_has false h = refl
-
 pub fits-pop : (p : ℕ) (ps : List ℕ) (dues : List Due) (rows : List Row) → rows_in (has_process p) rows ≡ 0 → Fits (p ∷ ps) dues rows → Fits ps dues rows
 fits-pop p ps [] rows none h = tt
 fits-pop p ps (due ∷ dues) [] none h = absurd h
 fits-pop p ps (due ∷ dues) (row ∷ rows) none (inl h) =
     let parts : rows_in (has_process p) (row ∷ rows) ≡ cond (has_process p row.state) 1 0 + rows_in (has_process p) rows = rows_in-cons (has_process p) row rows in
-    inl (h.0, free-pop p ps (is_removed row) row.state (no_row_has (has_process p row.state) (omega (arith, none, parts))) h.1, fits-pop p ps dues rows (omega (arith, none, parts)) h.2)
+    inl (h.0, free-pop p ps (is_removed row) row.state (counts_none (has_process p row.state) (omega (arith, none, parts))) h.1, fits-pop p ps dues rows (omega (arith, none, parts)) h.2)
 fits-pop p ps (due ∷ dues) (row ∷ rows) none (inr h) =
     let parts : rows_in (has_process p) (row ∷ rows) ≡ cond (has_process p row.state) 1 0 + rows_in (has_process p) rows = rows_in-cons (has_process p) row rows in
     inr (fits-pop p ps (due ∷ dues) rows (omega (arith, none, parts)) h)
@@ -112,7 +109,7 @@ only_later p i row x rows has at one =
     let there : ◌≡◌ {A = ℕ} (cond (has_process p row.state) 1 0) 1 = ap (λ (b : Bool). cond b 1 0) has in
     let more : cond (has_process p row.state) 1 0 ≤ rows_in (has_process p) rows = rows_in-at (has_process p) i row rows at in
     let split : rows_in (has_process p) (x ∷ rows) ≡ cond (has_process p x.state) 1 0 + rows_in (has_process p) rows = rows_in-cons (has_process p) x rows in
-    (no_row_has (has_process p x.state) (omega (arith, one, split, more, there)), omega (arith, one, split))
+    (counts_none (has_process p x.state) (omega (arith, one, split, more, there)), omega (arith, one, split))
 
 -- one process is stopped: its row is free from now on, or goes, and no other row has it
 pub fits-stop : (p : ℕ) (ps : List ℕ) (place : ℕ) (row : Row) (state : RowState) → has_process p row.state ≡ true → (IsFree (p ∷ ps) row → IsFree ps (with_state state row)) → (dues : List Due) (rows : List Row) → slice_get rows place ≡ Some row → rows_in (has_process p) rows ≤ 1 → Fits (p ∷ ps) dues rows → Fits ps dues (slice_set rows place (with_state state row))
@@ -163,7 +160,7 @@ free_now goes (Restarting _) calm h = absurd (false≢true h)
 none_awaits : (row : Row) (rows : List Row) → rows_in is_awaited (row ∷ rows) ≡ 0 → (is_awaited row.state ≡ false) × (rows_in is_awaited rows ≡ 0)
 none_awaits row rows h =
     let split : rows_in is_awaited (row ∷ rows) ≡ cond (is_awaited row.state) 1 0 + rows_in is_awaited rows = rows_in-cons is_awaited row rows in
-    (no_row_has (is_awaited row.state) (omega (arith, h, split)), omega (arith, h, split))
+    (counts_none (is_awaited row.state) (omega (arith, h, split)), omega (arith, h, split))
 
 pub due_there : (due : Due) (dues : List Due) (rows : List Row) → rows_in is_awaited rows ≡ 0 → Fits [] (due ∷ dues) rows → 0 < count_by (is_due due) rows
 due_there due dues [] none h = absurd h

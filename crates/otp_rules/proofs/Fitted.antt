@@ -32,6 +32,7 @@ use Rattle.otp_rules.specs.Calls.{new_row}
 use Rattle.otp_rules.specs.Step.{due_of, rows_from, open_with, open_rows, opening_specs, killed, late_number, tick}
 use Rattle.otp_rules.specs.Run.{empty_state}
 use Rattle.otp_rules.specs.Fit.{rows_in, times, IsSound, is_free, IsFree, Matches, Fits, nameless, IsNamed, IsFitted}
+use Rattle.otp_rules.proofs.Bits.{counts_none}
 use Rattle.otp_rules.proofs.States.{held_goes, told_has}
 use Rattle.otp_rules.proofs.Walks.{restart-by, terminate-by}
 use Rattle.otp_rules.proofs.Decisions.{IsIdle, StandsAt, Survives, by_test}
@@ -136,10 +137,6 @@ terminate-fitted e o h = (terminate-named e o h, fits-none (terminate e o).state
 abbrev runs_nameless : Row → Bool
 runs_nameless row = is_up row.state && is_none row.id
 
-no_one : (b : Bool) → ◌≡◌ {A = ℕ} (cond b 1 0) 0 → b ≡ false
-no_one true h = absurd (omega (arith, h))
-no_one false h = refl
-
 -- a child that is to be restarted has its row
 due-free : (ps : List ℕ) (row : Row) (state : RowState) → row.state ≡ state → is_awaited row.state ≡ false → is_temporary row.spec.restart ≡ false → runs_nameless row ≡ false
     → ((p : ℕ) → state ≡ Up p → 0 < times p ps) → is_free ps (is_temporary row.spec.restart || is_none row.id) (calmed state) ≡ true
@@ -164,7 +161,7 @@ fits-dues ps kept (row ∷ rows) calm there named =
       | true ↦ λ e. fits-front ps (dues kept rows) (with_state (calmed row.state) row) (calm_rows rows) rest
       | false ↦ λ e. inl (
         id_same row.id,
-        due-free ps row row.state refl (no_one (is_awaited row.state) (omega (arith, calm, awaits))) e (no_one (runs_nameless row) (omega (arith, named, names)))
+        due-free ps row row.state refl (counts_none (is_awaited row.state) (omega (arith, calm, awaits))) e (counts_none (runs_nameless row) (omega (arith, named, names)))
             (λ p is. let up : times p (running (row ∷ rows)) ≡ times p (p ∷ running rows) = ap (λ (s : RowState). times p (cons_option (up_number s) (running rows))) is in
             let one : ◌≡◌ {A = ℕ} (cond (p == p) 1 0) 1 = ap (λ (x : Bool). cond x 1 0) (eq-eqb p p refl) in
             omega (arith, there p, up, times-cons p p (running rows), one)),

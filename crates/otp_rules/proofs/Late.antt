@@ -28,6 +28,7 @@ use Rattle.otp_rules.specs.Progress.{Progress, no_progress}
 use Rattle.otp_rules.specs.Fit.{rows_in, Fits, IsFit}
 use Rattle.otp_rules.specs.InOrder.{Awaits, WorkAwaits}
 use Rattle.otp_rules.specs.Late.{KillsLate, TicksKillLate, TicksKillLateFromEmpty}
+use Rattle.otp_rules.proofs.Opened.{tick-follows}
 use Rattle.otp_rules.proofs.Walks.{stop_first-by, with_stops}
 use Rattle.otp_rules.proofs.Decisions.{StandsAt, by_test, decide-survives}
 use Rattle.otp_rules.proofs.Counting.{at_row-first, at_row-found, none_in, rows_in-at, rows_in-cons, rows_in-set, tick_count}
@@ -133,10 +134,6 @@ late-rows s reading (row ∷ rows) among =
 ticked-late : (s : State) (reading : ℕ) → All (KillsLate s reading) (tick (record { state = stamped reading s; orders = [] })).orders
 unfolding tick
 ticked-late s reading = late-rows s reading s.rows (λ r c. c)
-
-tick-follows : (o : Outcome) → (tick o).state.follows ≡ o.state.follows
-unfolding tick
-tick-follows o = refl
 
 -- a row that awaits an answer awaits one still
 tick-awaits : (o : Outcome) → Awaits o.state → Awaits (tick o).state

@@ -1,5 +1,6 @@
 mod Samples
 mod Worked
+mod Bits
 pub mod Keeps
 pub mod Decisions
 pub mod Walks

@@ -60,7 +60,7 @@ named n old e p is held m some =
     let F : ℕ → Type 0 = λ k. ((k ≡ n) × (is_start e ≡ true)) ⊎ (1 ≤ holders k old) in
     subst F same held
 
-stop_names : (id : Option Name) (p : ℕ) (s : Shutdown) → named_by (stop_order id p s) ≡ Some p
+pub stop_names : (id : Option Name) (p : ℕ) (s : Shutdown) → named_by (stop_order id p s) ≡ Some p
 stop_names id p BrutalKill = refl
 stop_names id p (Milliseconds m) = refl
 stop_names id p Infinity = refl

@@ -47,7 +47,7 @@ use Rattle.otp_rules.proofs.Fits.{due_there}
 use Rattle.otp_rules.proofs.Fitted.{Stands, fitted-survives}
 use Rattle.otp_rules.proofs.Numbers.{decided-distinct}
 use Rattle.otp_rules.proofs.StartTurn.{MayGoOn, stays_fit_law, used-goes_on}
-use Rattle.otp_rules.proofs.Named.{kills, late_has, open-orders}
+use Rattle.otp_rules.proofs.Named.{kills, late_has, open-orders, stop_names}
 
 -- a process that the order names is that of a row whose state passes the test
 abbrev Has : (ℕ → RowState → Bool) → List Row → Effect → Type 0
@@ -73,11 +73,6 @@ none_waits p ws none = ⊎_elim (λ (z : count_by (is_exit p) ws ≡ 0). z) (λ 
     zero_or zero = inl refl
     zero_or (suc n) = inr (omega arith)
 
-named_stop : (id : Option Name) (p : ℕ) (s : Shutdown) → named_by (stop_order id p s) ≡ Some p
-named_stop id p BrutalKill = refl
-named_stop id p (Milliseconds _) = refl
-named_stop id p Infinity = refl
-
 -- who was told has the process
 told_same : (p q : ℕ) (state : RowState) → has_process p state ≡ true → is_told q state ≡ true → q ≡ p
 told_same p q state h k = one_process p q state h (told_has q state k)
@@ -101,7 +96,7 @@ tell-told p o quiet h =
     All-push (IsTold new) o.orders (stop_order row.id p row.spec.shutdown)
     (λ j d within q some. let was = h j d within q some in (kept q was.0, was.1))
     (λ q some.
-    let same : p ≡ q = ap (λ (y : Option ℕ). unwrap_or y q) (sym (named_stop row.id p row.spec.shutdown) ∙ some) in
+    let same : p ≡ q = ap (λ (y : Option ℕ). unwrap_or y q) (sym (stop_names row.id p row.spec.shutdown) ∙ some) in
     subst (λ (n : ℕ). (0 < rows_in (is_told n) rows) × (count_by (is_exit n) o.state.waiting ≡ 0)) same
     (omega (arith, e p, one, rows_in-at (is_told p) i row o.state.rows at), quiet)))
   where
@@ -258,7 +253,7 @@ tell-placed p o h =
     let one : ◌≡◌ {A = ℕ} (cond (is_told p now) 1 0) 1 = ap (λ (b : Bool). cond b 1 0) (told-told o.state.last p row.spec.shutdown) in
     All-push (Has has_process rows) o.orders (stop_order row.id p row.spec.shutdown)
     (λ j d within. nobody has_process rows (get_or o.orders j d) (h j d within))
-    (names has_process rows (stop_order row.id p row.spec.shutdown) p (named_stop row.id p row.spec.shutdown)
+    (names has_process rows (stop_order row.id p row.spec.shutdown) p (stop_names row.id p row.spec.shutdown)
     (omega (arith, e, one, told-more rows p, rows_in-at (is_told p) i row o.state.rows at))))
 
 start-placed : (due : Due) (rest : List Due) (n : ℕ) (o : Outcome) → rows_in is_awaited o.state.rows ≡ 0 → Fits [] (due ∷ rest) o.state.rows → All NamesNone o.orders

@@ -35,6 +35,7 @@ use Rattle.otp_rules.specs.Deaths.{restart_rows, restart_or_end, restart}
 use Rattle.otp_rules.specs.Step.{kill_order, late_number, open_with, open_rows, tick, decide, stamped, step_on, step}
 use Rattle.otp_rules.specs.Needs.{NumberStartsWork, ends_wait, has_due, is_start, needs_number, work_starts}
 use Rattle.std.proofs.lemmas.List.{append-nil}
+use Rattle.otp_rules.proofs.Bits.{or_false}
 use Rattle.otp_rules.proofs.Walks.{stop_each-by, terminate-by}
 use Rattle.otp_rules.proofs.Appended.{decide-behind}
 use Rattle.otp_rules.proofs.Decisions.{Survives, at_number-survives, at_row-survives, decide-survives}
@@ -43,10 +44,6 @@ use Rattle.otp_window.specs.Period.{in_period}
 -- whether a start was ordered
 abbrev Starts : Bool → Outcome → Type 0
 Starts b o = list_any is_start o.orders ≡ b
-
-or_false : (b : Bool) → (b || false) ≡ b
-or_false true = refl
-or_false false = refl
 
 -- more orders after some that start nothing
 starts_after : (xs ys : List Effect) (b : Bool) → list_any is_start xs ≡ false → list_any is_start ys ≡ b → list_any is_start (xs ++ ys) ≡ b

@@ -319,10 +319,6 @@ new-processes : (slot : ℕ) (specs : List ChildSpec) → processes (rows_from s
 new-processes slot [] = refl
 new-processes slot (spec ∷ specs) = new-processes (slot + 1) specs
 
-pub new-awaited : (slot : ℕ) (specs : List ChildSpec) → rows_in is_awaited (rows_from slot specs) ≡ 0
-new-awaited slot [] = refl
-new-awaited slot (spec ∷ specs) = omega (arith, rows_in-cons is_awaited (new_row slot (Some spec.id) spec) (rows_from (slot + 1) specs), new-awaited (slot + 1) specs)
-
 new-ids : (slot : ℕ) (specs : List ChildSpec) → map (λ (x : Due). id_bytes x.id) (map due_of specs) ≡ map (λ (x : Row). id_bytes x.id) (rows_from slot specs)
 new-ids slot [] = refl
 new-ids slot (spec ∷ specs) = ap (λ (ids : List (Option (List ℕ))). Some (name_bytes spec.id) ∷ ids) (new-ids (slot + 1) specs)
@@ -464,10 +460,6 @@ down_calm place row state o at calm few =
 answer-fresh : (k : Kind) (f : Option Sequel) (c : ℕ) (r : Reply) (o : Outcome) → Fresh k f o → IsSound (answer c r o).state → Fresh k f (answer c r o)
 unfolding answer
 answer-fresh k f c r o x sound = (sound, x.1, x.2)
-
-pub open_rows-busy : (own : ℕ) (o : Outcome) → is_some (open_rows own o).state.follows ≡ true
-unfolding open_rows open_with
-open_rows-busy own o = refl
 
 pub open_rows-follows : (own : ℕ) (o : Outcome) → (open_rows own o).state.follows ≡ Some sequel.Ready
 unfolding open_rows open_with

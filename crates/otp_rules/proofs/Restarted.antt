@@ -34,9 +34,9 @@ use Rattle.otp_rules.specs.Rate.{restarted, restarts, restarts_by, RestartRateFr
 use Rattle.otp_rules.proofs.Walks.{restart-by}
 use Rattle.otp_rules.proofs.Decisions.{IsIdle, StandsAt, Survives, decide-survives}
 use Rattle.otp_rules.proofs.Counting.{rows_in-append, rows_in-at, rows_in-cons, rows_in-end, rows_in-set, Alike, alike, calm_awaited, drop_rows, end_row-alike, take_rows, tick_count}
-use Rattle.otp_rules.proofs.Sound.{advance-sound, awaits_nothing, empty-sound, sound-survives}
+use Rattle.otp_rules.proofs.Sound.{advance-sound, awaits_nothing, empty-sound, new_rows, sound-survives}
 use Rattle.otp_rules.proofs.WhileOpen.{Tracks, fails_opening, no_after, opens_none, terminate-follows}
-use Rattle.otp_rules.proofs.Opened.{down_calm, new-awaited, opens_nothing, opens_not_again, starting}
+use Rattle.otp_rules.proofs.Opened.{down_calm, opens_nothing, opens_not_again, starting}
 use Rattle.otp_rules.proofs.Steady.{Goes, advance-goes, terminate-goes}
 use Rattle.otp_rules.proofs.Keeps.{decide-keeps}
 use Rattle.otp_rules.proofs.Rated.{restart_rate_law}
@@ -176,7 +176,7 @@ tick-counted f times o sound same x = still-counted f times o (tick o) (alike o)
 open-counted : (b : Bool) (f : Option Sequel) (times : List ℕ) (own : ℕ) (o : Outcome) → b ≡ is_some f → b ≡ false → IsSound (open_rows own o).state → Counted f times (open_rows own o)
 unfolding open_rows open_with
 open-counted b f times own o is idle sound =
-    opens-counted b f times (open_rows own o) is idle refl sound (λ _. new-awaited 0 (opening_specs (is_simple o.state.flags.strategy) o.state.specs)) refl
+    opens-counted b f times (open_rows own o) is idle refl sound (λ _. new_rows 0 (opening_specs (is_simple o.state.flags.strategy) o.state.specs)) refl
 
 counted-survives : (k : Kind) (b : Bool) (f : Option Sequel) (times : List ℕ) → b ≡ is_some f → Survives k b (Counted f times)
 counted-survives k b f times is_base =

@@ -42,6 +42,7 @@ use Rattle.otp_spec.specs.Flags.{are_lawful_flags}
 use Rattle.otp_spec.specs.Lawful.{first_fault}
 use Rattle.otp_rules.specs.Slots.{SlotsOwned, SlotsStayOwned, SlotsTellProcesses}
 use Rattle.otp_rules.specs.Step.{rows_from, open_with, open_rows, opening_specs}
+use Rattle.otp_rules.proofs.Bits.{at_most_1}
 use Rattle.otp_rules.proofs.States.{one_process}
 use Rattle.otp_rules.proofs.Walks.{advance-by, stop_each-by, stop_first-by, terminate-by, with_stops, counted_restart}
 use Rattle.otp_rules.proofs.Keeps.{step_keeps_plan_law}
@@ -61,10 +62,6 @@ holding-append k xs ys = sum_by-append (λ (r : Row). cond (has_slot k r) 1 0) x
 
 below-cons : (m : ℕ) (row : Row) (rows : List Row) → count_by (λ (r : Row). nat_lt r.slot m) (row ∷ rows) ≡ cond (nat_lt row.slot m) 1 0 + count_by (λ (r : Row). nat_lt r.slot m) rows
 below-cons m row rows = sum_by-cons (λ (r : Row). cond (nat_lt r.slot m) 1 0) row rows
-
-at_most_1 : (b : Bool) → cond b 1 0 ≤ 1
-at_most_1 true = omega arith
-at_most_1 false = omega arith
 
 parts : (a b c : Bool) → (a ≡ true → c ≡ true) → (b ≡ true → c ≡ true) → (a ≡ true → b ≡ false) → cond a 1 0 + cond b 1 0 ≤ cond c 1 0
 parts true true c f g h = absurd (false≢true (sym (h refl)))

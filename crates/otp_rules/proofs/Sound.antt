@@ -182,7 +182,7 @@ tick-sound : (o : Outcome) → IsSound o.state → IsSound (tick o).state
 tick-sound o g = ticked o (tick o).state.rows (tick_is o) (tick_count is_awaited (λ p d. refl) o) (λ q. tick_count (runs_as q) (λ p d. refl) o) g
 
 -- new rows await nothing
-new_rows : (slot : ℕ) (specs : List ChildSpec) → rows_in is_awaited (rows_from slot specs) ≡ 0
+pub new_rows : (slot : ℕ) (specs : List ChildSpec) → rows_in is_awaited (rows_from slot specs) ≡ 0
 new_rows slot [] = refl
 new_rows slot (spec ∷ specs) = omega (arith, rows_in-cons is_awaited (new_row slot (Some spec.id) spec) (rows_from (slot + 1) specs), new_rows (slot + 1) specs)
 

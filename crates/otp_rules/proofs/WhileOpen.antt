@@ -96,7 +96,7 @@ restart-busy p place row o =
     (λ _. ap (λ (f : Option Sequel). is_some f) (terminate-follows ending.Intensity counted))
     (λ _. refl)
 
-open_rows-busy : (own : ℕ) (o : Outcome) → is_some (open_rows own o).state.follows ≡ true
+pub open_rows-busy : (own : ℕ) (o : Outcome) → is_some (open_rows own o).state.follows ≡ true
 unfolding open_rows open_with
 open_rows-busy own o = refl
 

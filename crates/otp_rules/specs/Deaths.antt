@@ -1,5 +1,10 @@
 -- A child ends by itself with no work open, or its restart is tried again
 -- (Supervisor Behaviour, Child Specification, restart, and Maximum Restart Intensity).
+--
+-- From an exit to the order that starts the child again: `take_exit` finds the row, `exit_in` goes by its state, `death` asks whether
+-- the restart type wants it again (`is_restarted`), `restart` counts the restart, `restart_or_end` asks whether it is one too many
+-- (`in_period`), `restart_rows` opens the work: whom it stops and starts (`stop_list`, `restart_list` in Restarts). Then `advance`
+-- (Work) goes on: `stop_each` (Stops) tells the children to stop, in reverse order, and `start` (Starts) starts the next.
 use Rattle.std.specs.Prelude.{ℕ, ◌++◌, ◌∷◌, Some, [], drop, if◌then◌else◌, length, nat_lt, slice_range, take}
 use Rattle.otp_table.specs.declared.row.Row.{Row}
 use Rattle.otp_table.specs.declared.row.RowState.{RowState}

@@ -46,13 +46,16 @@ pub struct Event {
 /// An order of the supervisor. A child is named by its id, if it has one, and its process number.
 #[derive(Debug, Drop)]
 pub enum Effect {
+    /// Start the child with this id (a dynamic child has none), as the process with this number.
     Start(Option<Name>, u64),
     /// Ask it to shut down.
     Ask(Option<Name>, u64),
+    /// Kill it.
     Kill(Option<Name>, u64),
     /// The call with this number was answered.
     Reply(u64),
     /// All children have been started.
     Ready,
+    /// The supervisor has ended, and all its children have.
     End(SupEnd),
 }

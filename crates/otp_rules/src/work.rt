@@ -30,7 +30,10 @@ pub enum Sequel {
 /// Whether the supervisor runs, and under which number.
 #[derive(Clone, Copy, Debug, PartialEq, Eq)]
 pub enum Phase {
+    /// It was never opened.
     Unopened,
+    /// It runs, in the process with this number.
     Open(u64),
+    /// It has ended, for this reason; this was the number of its process.
     Ended(u64, Ending),
 }

@@ -1,7 +1,7 @@
 -- Pops by a pass that has all parts, one after another.
 use Rattle.std.proofs.Common.{◌≡◌, ℕ, ◌+◌, ◌-◌, ◌≤◌, List, [], ◌∷◌, ◌++◌, length, map, refl, sym, ap, ◌∙◌, subst, arith, append_assoc, length-append}
 use Rattle.std.specs.Prelude.{sum_by}
-use Rattle.std.proofs.lemmas.List.{length-map}
+use Rattle.std.proofs.lemmas.List.{append-nil, length-map}
 use Rattle.std.proofs.lemmas.List.Sums.{sum_by-append, sum_by-cons}
 use Rattle.otp_job.specs.Processes.{ProcessState}
 use Rattle.otp_run.specs.declared.rule.View.{View}
@@ -9,10 +9,6 @@ use Rattle.otp_run.specs.Rule.{AsOften, ticket_of, view_of, all_parts, IsEmptied
 use Rattle.otp_run.specs.Deques.{OwnState}
 use Rattle.otp_run.specs.Gathers.{Popped, DrainedInto, puts_of, taken_of}
 use Rattle.otp_run.proofs.Places.{map-append}
-
-append_none : {A : Type 0} (xs : List A) → xs ++ [] ≡ xs
-append_none [] = refl
-append_none (x ∷ xs) = ap (λ l. x ∷ l) (append_none xs)
 
 module _ {J S : Type 0} where
   -- from the view v and the list old, so many pops led to the view w and the list now
@@ -61,8 +57,8 @@ module _ {J S : Type 0} where
   pub none_yet : (v : View) (old : List (ProcessState J S)) → Drains v v old old 0
   none_yet v old = record {
     popped = [];
-    listed = sym (append_none old);
-    known = ap (view_of v.parts v.put) (sym (append_none v.taken));
+    listed = sym (append-nil old);
+    known = ap (view_of v.parts v.put) (sym (append-nil v.taken));
     counted = refl;
     bounded = omega arith;
   }

@@ -110,7 +110,9 @@ impl Shutdown {
 /// What a child is (Supervisor Behaviour, "Child Specification", `type`).
 #[derive(Clone, Copy, Debug, PartialEq, Eq)]
 pub enum ChildType {
+    /// A process that has no children.
     Worker,
+    /// A supervisor.
     Supervisor,
 }
 
@@ -145,7 +147,9 @@ impl ChildType {
 /// The modules of a child: at most four, or `dynamic` (Supervisor Behaviour, "Child Specification", `modules`).
 #[derive(Clone, Copy, Debug, PartialEq, Eq)]
 pub enum Modules {
+    /// Which modules they are is not known beforehand.
     Dynamic,
+    /// An empty list, as those with names are lists of so many.
     None,
     One(Name),
     Two(Name, Name),

@@ -7,8 +7,11 @@ use thiserror::Error;
 /// The keys of a specification whose values can be unlawful.
 #[derive(Clone, Copy, Debug, PartialEq, Eq)]
 pub enum SpecKey {
+    /// The id is no lawful name.
     Id,
+    /// The name of the start function's module is none.
     Start,
+    /// One of the modules' names is none.
     Modules,
 }
 

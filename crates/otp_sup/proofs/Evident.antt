@@ -1,10 +1,9 @@
 -- Each end that an office tells is shown.
-use Rattle.std.proofs.Common.{◌≡◌, ℕ, List, [], ◌∷◌, ◌++◌, ◌≤◌, Option, None, Some, Bool, not, refl, ap, sym, ◌∙◌, subst, arith, drop}
+use Rattle.std.proofs.Common.{◌≡◌, ℕ, List, [], ◌∷◌, ◌≤◌, Option, None, Some, not, refl, ap, sym, ◌∙◌, subst, arith, drop}
 use Rattle.std.specs.Prelude.{All}
 use Rattle.std.proofs.lemmas.List.Elements.{All-append, All-nil}
 use Rattle.std.proofs.lemmas.List.Sorted.{IsNonDecreasingBy-short}
 use Rattle.otp_reason.specs.declared.note.Note.{Note}
-use Rattle.otp_reason.specs.declared.note.Note.TheVariants as note
 use Rattle.otp_spec.specs.declared.child.ChildSpec.{ChildSpec}
 use Rattle.otp_spec.specs.declared.flags.SupFlags.{SupFlags}
 use Rattle.otp_rules.specs.declared.ending.Cause.{Cause}
@@ -25,7 +24,7 @@ use Rattle.otp_core.specs.View.{state_of}
 use Rattle.otp_sup.specs.declared.orders.Sending.{Sending}
 use Rattle.otp_sup.specs.declared.orders.Sending.TheVariants as sending
 use Rattle.otp_sup.specs.Facts.{IsOffice, OfficeView, orders_along}
-use Rattle.otp_sup.specs.Flushes.{IsFirst, end_note, end_note_by, first_end, sending_of}
+use Rattle.otp_sup.specs.Flushes.{IsFirst, end_note_by, first_end, sending_of}
 use Rattle.otp_sup.specs.Letters.{Comes, Tells}
 use Rattle.otp_sup.proofs.Sends.{all_drop, all_filter}
 

@@ -23,7 +23,7 @@ use Rattle.otp_sup.specs.declared.bodies.Place.{Place}
 use Rattle.otp_sup.specs.declared.bodies.Place.TheVariants as placed
 use Rattle.otp_sup.specs.declared.port.Flushed.{Flushed}
 use Rattle.otp_sup.specs.declared.port.Flushed.TheVariants as flushed
-use Rattle.otp_sup.specs.Bodies.{are_given, are_ready, bodies_sent, count_away, has_body, is_at_home, is_away, is_away_from, is_call, is_free_place, is_home_of, is_left_of, is_nobody, is_out, is_spec, is_stray, left_home, move_first, settled, slot_started, started_by, starting_slot, without_first}
+use Rattle.otp_sup.specs.Bodies.{are_given, are_ready, bodies_sent, count_away, count_given, count_home, has_body, is_at_home, is_away, is_away_from, is_call, is_free_place, is_home_of, is_left_of, is_nobody, is_out, is_spec, is_stray, left_home, move_first, settled, slot_started, started_by, starting_slot, without_first}
 use Rattle.otp_sup.specs.Facts.{AreApart, HasBodies, IsOut, IsRunning, KeepsBodies, KeepsOffice, OfficeView, count_opened, is_unsent, orders_in, sent_of, starts_in}
 use Rattle.otp_sup.specs.Flushes.{Flushes}
 use Rattle.otp_sup.specs.Ports.{Taken}
@@ -31,7 +31,9 @@ use Rattle.otp_sup.specs.Slots.{slot_of}
 use Rattle.otp_sup.specs.Turns.{Readied}
 use Rattle.otp_sup.proofs.Calls.{readied_state}
 use Rattle.otp_sup.proofs.Homes.{or_none}
-use Rattle.otp_sup.proofs.Placed.{any_left, away_had, away_leaves, away_left, away_once, away_settled, away_when_home, away_without, given_moved, given_settled, given_without, none_away, stays_when_left}
+use Rattle.otp_sup.proofs.Placed.{any_left, away_had, away_leaves, away_left, away_settled, away_when_home, away_without, given_moved, given_settled, given_without, none_away, stays_when_left}
+use Rattle.otp_sup.proofs.Once.{any_unleft, any_unmoved, both_when_left, both_without, count_moved, count_settled, count_without, home_has_row, none_home}
+use Rattle.otp_sup.proofs.Owned.{first_own, left_own, without_own}
 use Rattle.otp_rules.proofs.Counting.{found}
 use Rattle.std.proofs.lemmas.List.Quantifiers.{position-Some}
 use Rattle.otp_sup.proofs.Slots.{slot_read}
@@ -90,9 +92,6 @@ home_ended ws p (Restarting k) h home = absurd (false≢true h)
 start_sent : (s : State) (p : ℕ) (row : Row) (kept : List Kept) → AreSlotted s.rows → AreApart s.rows → IsRunning s p row → KeepsBodies s (p ∷ []) kept → KeepsBodies s [] (move_first (is_at_home row.slot) (placed.Away row.slot) kept)
 start_sent s p row kept own apart runs k =
     let unsent : is_unsent (p ∷ []) row.state ≡ true = or_none (has_process p row.state) ∙ runs.has in
-    let none : count_away row.slot kept ≡ 0 = by_count (count_away row.slot kept) (λ some.
-    let out : IsOut s (p ∷ []) row.slot = k.away row.slot some in
-    false≢true (sym out.sent ∙ ap (λ (r : Row). is_unsent (p ∷ []) r.state) (same_slot s.rows out.row row own out.runs.among runs.among out.same) ∙ unsent)) in
     record {
       home = λ r among home. stays_when_left row.slot r.slot kept
           (λ same. false≢true (sym runs.lives ∙ home_ended s.waiting p row.state runs.has (subst (λ (x : Row). is_home s.waiting x.state ≡ true) (sym (same_slot s.rows row r own runs.among among same)) home)))
@@ -113,19 +112,13 @@ start_sent s p row kept own apart runs k =
           false≢true (sym isnt ∙ eq-eqb row.slot slot ((apart row live.0.0 p q runs.among live.0.1 runs.has live.0.3).1 (eqb-true p q same) ∙ live.0.2)) in
           omega (arith, k.out slot q live (or_none (p == q) ∙ no_start (p == q) other), away_when_home slot row.slot kept))
           (cases_Bool (row.slot == slot));
-      one_away = λ slot. ⊎_elim
-          (λ (is : (row.slot == slot) ≡ true).
-          let here : count_away row.slot (move_first (is_at_home row.slot) (placed.Away row.slot) kept) ≤ 1 = omega (arith, none, away_once row.slot kept) in
-          subst (λ (n : ℕ). count_away n (move_first (is_at_home row.slot) (placed.Away row.slot) kept) ≤ 1) (eqb-true row.slot slot is) here)
-          (λ (isnt : (row.slot == slot) ≡ false). omega (arith, k.one_away slot, away_left slot row.slot kept (λ same. false≢true (sym isnt ∙ eq-eqb row.slot slot same))))
-          (cases_Bool (row.slot == slot));
+      there = λ slot home. k.there slot (any_unmoved (is_at_home row.slot) (is_at_home slot) (placed.Away row.slot) kept (λ b. refl) home);
+      one_body = λ slot. let few = k.one_body slot in omega (arith, few, both_when_left row.slot slot kept);
       given = given_moved (is_at_home row.slot) (placed.Away row.slot) (count_opened s.flags s.specs) kept refl k.given;
+      one_given = λ n. let few = k.one_given n in omega (arith, few, count_moved n (is_at_home row.slot) (placed.Away row.slot) kept);
+      own = left_own row.slot kept k.own;
     }
   where
-    by_count : (n : ℕ) → (0 < n → ⊥) → n ≡ 0
-    by_count zero h = refl
-    by_count (suc n) h = absurd (h (omega arith))
-
     no_start : (b : Bool) → (b ≡ true → ⊥) → b ≡ false
     no_start false h = refl
     no_start true h = absurd (h refl)
@@ -212,13 +205,14 @@ append_none : (xs ys : List Effect) → xs ++ ys ≡ [] → ys ≡ []
 append_none [] ys h = h
 append_none (x ∷ xs) ys h = absurd (let e : ◌≡◌ {A = List Effect} (x ∷ (xs ++ ys)) [] = h in search (rules, e))
 
-pub first_bodies : (o : OfficeView) (kept : List Kept) → KeepsOffice o → o.core.history ≡ [] → are_ready (count_opened o.core.base.flags o.core.base.specs) kept ≡ true → HasBodies o (settled [] false kept)
-first_bodies o kept keeps none ready =
+pub first_bodies : (o : OfficeView) (kept : List Kept) → KeepsOffice o → o.core.history ≡ [] → are_ready (count_opened o.core.base.flags o.core.base.specs) kept ≡ true → ((k : ℕ) → count_given k kept ≤ 1) → HasBodies o (settled [] false kept)
+first_bodies o kept keeps none ready once =
     let s : State = state_of o.core in
     let is : s ≡ o.core.base = ap (λ h. state_after o.core.base h) none in
     let rows : s.rows ≡ [] = ap (λ (x : State). x.rows) (is ∙ keeps.begins.is) in
     let parts : (are_given (count_opened o.core.base.flags o.core.base.specs) kept ≡ true) × (not (list_any is_out kept) ≡ true) = and_parts (are_given (count_opened o.core.base.flags o.core.base.specs) kept) (not (list_any is_out kept)) ready in
     let near : (slot : ℕ) → count_away slot (settled [] false kept) ≡ 0 = λ slot. away_settled slot [] false kept ∙ none_away slot kept (none_out slot kept (isnt (list_any is_out kept) parts.1)) in
+    let bare : (slot : ℕ) → count_home slot (settled [] false kept) ≡ 0 = λ slot. none_home slot (settled [] false kept) (no_home slot) in
     let empty : o.outbox ≡ [] = append_none (sent_of o) o.outbox (keeps.orders ∙ ap (λ h. orders_in (orders_of o.core.base h)) none) in
     let Out : List Effect → Type 0 = λ l. KeepsBodies s (starts_in l) (settled [] false kept) in
     subst Out (sym empty) (record {
@@ -227,13 +221,23 @@ first_bodies o kept keeps none ready =
       one_start = tt;
       away = λ slot some. absurd (omega (arith, some, near slot));
       out = λ slot p live sent. absurd (nobody s.rows live.0.0 rows live.0.1);
-      one_away = λ slot. omega (arith, near slot);
+      there = λ slot home. absurd (false≢true (home_has_row slot [] false kept home));
+      one_body = λ slot. omega (arith, near slot, bare slot);
       given = ap (λ (x : State). are_given (count_opened x.flags x.specs) (settled [] false kept)) is ∙ given_settled [] false (count_opened o.core.base.flags o.core.base.specs) kept parts.0;
+      one_given = λ n. let few = once n in omega (arith, few, count_settled n [] false kept);
+      own = first_own kept (isnt (list_any is_out kept) parts.1);
     })
   where
     isnt : (b : Bool) → not b ≡ true → b ≡ false
     isnt true h = absurd (false≢true h)
     isnt false h = refl
+
+    no_home : (slot : ℕ) → has_body slot (settled [] false kept) ≡ false
+    no_home slot = by (has_body slot (settled [] false kept)) refl
+      where
+        by : (b : Bool) → has_body slot (settled [] false kept) ≡ b → has_body slot (settled [] false kept) ≡ false
+        by false h = h
+        by true h = absurd (false≢true (home_has_row slot [] false kept h))
 
     nobody : (rows : List Row) (row : Row) → rows ≡ [] → Contains rows row → ⊥
     nobody rows row none c = let d : Contains [] row = subst (λ (l : List Row). Contains l row) none c in omega (arith, d.1)
@@ -249,8 +253,11 @@ without_bodies t s starts kept free other k =
       one_start = k.one_start;
       away = λ slot some. k.away slot (omega (arith, some, away_without t slot kept));
       out = λ slot p live sent. omega (arith, k.out slot p live sent, away_had t slot kept (λ b is. free_near slot b.place (free b is)));
-      one_away = λ slot. omega (arith, k.one_away slot, away_without t slot kept);
+      there = λ slot home. k.there slot (any_unleft t (is_at_home slot) kept home);
+      one_body = λ slot. let few = k.one_body slot in omega (arith, few, both_without t slot kept);
       given = given_without t (count_opened s.flags s.specs) kept other k.given;
+      one_given = λ n. let few = k.one_given n in omega (arith, few, count_without n t kept);
+      own = without_own t kept k.own;
     }
   where
     free_home : (slot : ℕ) (at : Place) → is_free_place at ≡ true → is_home_of slot at ≡ false

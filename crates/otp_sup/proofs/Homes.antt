@@ -12,7 +12,6 @@ use Rattle.otp_reason.specs.declared.note.Note.TheVariants as note
 use Rattle.otp_spec.specs.Flags.{is_simple}
 use Rattle.otp_table.specs.declared.row.Row.{Row}
 use Rattle.otp_table.specs.declared.row.RowState.{RowState}
-use Rattle.otp_table.specs.declared.row.RowState.TheVariants.{Undefined, Starting, Up, Asked, Killed, Restarting}
 use Rattle.otp_table.specs.Rows.{free_slot, has_process, has_slot}
 use Rattle.otp_rules.specs.declared.event.Effect.{Effect}
 use Rattle.otp_rules.specs.declared.event.Effect.TheVariants as effect
@@ -44,12 +43,14 @@ use Rattle.otp_sup.specs.declared.bodies.Origin.TheVariants as origin
 use Rattle.otp_sup.specs.declared.bodies.Place.{Place}
 use Rattle.otp_sup.specs.declared.bodies.Place.TheVariants as placed
 use Rattle.otp_sup.specs.Letters.{is_end_note}
-use Rattle.otp_sup.specs.Bodies.{are_given, bodies_after, calls_waiting, came_for, come_home, count_away, given_in, has_body, home_of, home_or_free, is_any_waiting, is_at_home, is_heeded, is_start_item, is_start_waiting, is_taken_up, is_waited_for, is_waiting, let_go, move_first, moved, opened, place_of_call, received, settled, slot_given, slot_heeding, started_by, stray, taken_up}
+use Rattle.otp_sup.specs.Bodies.{are_given, bodies_after, calls_waiting, came_for, come_home, count_away, count_home, given_in, has_body, home_of, home_or_free, is_any_waiting, is_at_home, is_heeded, is_start_item, is_start_waiting, is_taken_up, is_waited_for, is_waiting, let_go, move_first, moved, opened, place_of_call, received, settled, slot_given, slot_heeding, started_by, stray, taken_up}
 use Rattle.otp_sup.specs.Facts.{AreApart, AreToStart, Begins, HasBodies, IsOpening, IsOut, KeepsBodies, KeepsOffice, OfficeView, count_opened, is_to_start, is_unsent, orders_in, starts_in}
 use Rattle.otp_sup.specs.Turns.{Happened}
 use Rattle.otp_sup.proofs.Calls.{later_is}
 use Rattle.otp_sup.proofs.Heeding.{Adds, Alias, Heeded, Heeder, Tells, alias, heeder, heeds_own, tells}
 use Rattle.otp_sup.proofs.Placed.{any_before, any_last, any_to, away_less, away_moved, away_no_more, away_opened, away_put, away_settled, away_when_come, away_when_up, comes_home, given_at, given_come, given_has_body, given_moved, given_opened, given_put, given_settled, some_waits, stays_when_come, stays_when_settled, stays_when_up}
+use Rattle.otp_sup.proofs.Once.{AreOfRows, count_after, none_home, one_after, there_after}
+use Rattle.otp_sup.proofs.Owned.{own_after}
 use Rattle.otp_sup.proofs.StartOrders.{event_starts}
 use Rattle.otp_rules.specs.Alive.{EndsChild, LivesIn, ProcessesLived}
 
@@ -368,7 +369,7 @@ out_after laws s reading number k kept known keeps slot some =
     let out : IsOut s [] slot = keeps.away slot (omega (arith, some, away_after slot s later k kept)) in
     let untaken : TakesEnd t.says out.p → ⊥ = λ takes.
     let heeded : Heeded s k out.p = t.ends out.p takes in
-    let none : count_away slot (bodies_after s later k kept) ≡ 0 = heeded_away s later k out.p slot kept heeded (heeded_slot s k out.p out.row known.apart heeded out.runs.among out.runs.has ∙ out.same) (keeps.one_away slot) in
+    let none : count_away slot (bodies_after s later k kept) ≡ 0 = heeded_away s later k out.p slot kept heeded (heeded_slot s k out.p out.row known.apart heeded out.runs.among out.runs.has ∙ out.same) (let few = keeps.one_body slot in omega (arith, few)) in
     omega (arith, some, none) in
     let held : IsHeldIn (step s f).state.rows out.row.slot out.p =
     ⊎_elim
@@ -500,6 +501,23 @@ to_start_after laws s reading (Some n) k known is =
     isnt false e never = e
     isnt true e never = absurd (never e)
 
+-- a slot that no row has has no body
+
+none_out_at : (s : State) (kept : List Kept) → KeepsBodies s [] kept → s.rows ≡ [] → (slot : ℕ) → count_away slot kept ≡ 0
+none_out_at s kept keeps none slot = no_more (count_away slot kept) (λ some. let out : IsOut s [] slot = keeps.away slot some in none_among s.rows out.row none out.runs.among)
+
+of_rows : (s : State) (kept : List Kept) → KeepsBodies s [] kept → AreOfRows s.rows kept
+of_rows s kept keeps slot none =
+    let home : count_home slot kept ≡ 0 = none_home slot kept (isnt (has_body slot kept) (λ h. false≢true (sym none ∙ keeps.there slot h))) in
+    let away : count_away slot kept ≡ 0 = no_more (count_away slot kept) (λ some.
+    let out : IsOut s [] slot = keeps.away slot some in
+    false≢true (sym none ∙ subst (λ (n : ℕ). list_any (has_slot n) s.rows ≡ true) out.same (slot_among s.rows out.row out.runs.among))) in
+    omega (arith, home, away)
+  where
+    isnt : (b : Bool) → (b ≡ true → ⊥) → b ≡ false
+    isnt false never = refl
+    isnt true never = absurd (never refl)
+
 -- all of it: the bodies are where the children are, after an event too
 bodies_event : Laws → (s : State) (reading : ℕ) (number : Option ℕ) (k : Kind) (kept : List Kept) → Known s number → is_some number ≡ needs_number s reading k → (IsOpening k → is_over s.phase ≡ true) → calls_waiting kept ≡ starts_waiting s.waiting → KeepsBodies s [] kept
     → starts_in (step s (record { reading = reading; number = number; kind = k })).orders ≡ at_most_one number
@@ -515,9 +533,15 @@ bodies_event laws s reading number k kept known needed opens calls keeps starts 
       one_start = to_start_after laws s reading number k known starts;
       away = λ slot some. out_after laws s reading number k kept known keeps slot some;
       out = λ slot p live sent. out_event s reading number k kept known needed keeps slot p live sent;
-      one_away = λ slot. omega (arith, away_after slot s later k kept, keeps.one_away slot);
+      there = λ slot home. there_after slot s later k kept home;
+      one_body = λ slot. one_after slot s later k kept (of_rows s kept keeps) (keeps.one_body slot) (λ own is j. none_out_at s kept keeps (known.bare (opens (opening own is))) j) (keeps.one_given slot);
       given = ap (λ (n : ℕ). are_given n (bodies_after s later k kept)) count ∙ given_after (count_opened s.flags s.specs) s later k kept keeps.given;
+      one_given = λ n. let same = count_after n s later k kept in let few = keeps.one_given n in omega (arith, same, few);
+      own = own_after s later k kept keeps.own;
     }
+  where
+    opening : (own : ℕ) → k ≡ kind.Opened own → IsOpening k
+    opening own is = subst IsOpening (sym is) tt
 
 pub bodies_happened : Laws → (old new : OfficeView) (reading : ℕ) (k : Kind) (kept : List Kept) → KeepsOffice old → Happened reading k old new → old.outbox ≡ [] → (IsOpening k → is_over (state_of old.core).phase ≡ true)
     → calls_waiting kept ≡ starts_waiting (state_of old.core).waiting → HasBodies old kept → HasBodies new (bodies_after (state_of old.core) (state_of new.core) k kept)

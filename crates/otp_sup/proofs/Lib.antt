@@ -9,6 +9,11 @@ pub mod Leaving
 pub mod More
 pub mod StartOrders
 pub mod Placed
+pub mod Once
+pub mod Owned
+pub mod OneBody
+pub mod Stored
+mod Worked
 pub mod Heeding
 pub mod Homes
 pub mod Flushing
@@ -17,3 +22,5 @@ pub mod Evident
 pub mod Telling
 pub mod Turning
 pub mod Unsent
+pub mod Shared
+pub mod Credits

@@ -16,15 +16,15 @@ use Rattle.otp_sup.specs.declared.bodies.Place.TheVariants as placed
 use Rattle.otp_sup.specs.Bodies.{are_given, calls_waiting, come_home, count_away, has_body, is_at_home, is_away, is_away_from, is_given, is_home_of, is_spec, is_waiting, is_waiting_place, move_first, opened, opened_place, place_among, place_without_line, settled, waiting_as, waiting_call, without_first}
 use Rattle.otp_sup.proofs.Keeping.{or_false}
 
-or_right : (a b : Bool) → b ≡ true → (a || b) ≡ true
+pub or_right : (a b : Bool) → b ≡ true → (a || b) ≡ true
 or_right true b h = refl
 or_right false b h = h
 
-or_left : (a b : Bool) → a ≡ true → (a || b) ≡ true
+pub or_left : (a b : Bool) → a ≡ true → (a || b) ≡ true
 or_left a b h = ap (λ (x : Bool). x || b) h
 
 -- one of the two is so
-or_split : (a b : Bool) (P : Type 0) → (a || b) ≡ true → (a ≡ true → P) → (b ≡ true → P) → P
+pub or_split : (a b : Bool) (P : Type 0) → (a || b) ≡ true → (a ≡ true → P) → (b ≡ true → P) → P
 or_split true b P h left right = left refl
 or_split false b P h left right = right h
 
@@ -270,17 +270,6 @@ away_left slot k kept other = away_moved (is_at_home k) slot (placed.Away k) kep
     isnt false h = h
     isnt true h = absurd (other (eqb-true k slot h))
 
-pub away_once : (slot : ℕ) (kept : List Kept) → count_away slot (move_first (is_at_home slot) (placed.Away slot) kept) ≤ count_away slot kept + 1
-away_once slot [] = omega arith
-away_once slot (b ∷ bs) =
-    cond_both (is_at_home slot b) (record b { place = placed.Away slot } ∷ bs) (b ∷ move_first (is_at_home slot) (placed.Away slot) bs) (λ (l : List Kept). count_away slot l ≤ count_away slot (b ∷ bs) + 1)
-    (λ _. let few : cond (is_away slot (record b { place = placed.Away slot })) 1 0 ≤ 1 = at_most (is_away slot (record b { place = placed.Away slot })) in omega (arith, few, counted_away slot b bs, counted_away slot (record b { place = placed.Away slot }) bs))
-    (λ _. omega (arith, away_once slot bs, counted_away slot b bs, counted_away slot b (move_first (is_at_home slot) (placed.Away slot) bs)))
-  where
-    at_most : (b : Bool) → cond b 1 0 ≤ 1
-    at_most true = omega arith
-    at_most false = omega arith
-
 pub away_without : (t : Kept → Bool) (slot : ℕ) (kept : List Kept) → count_away slot (without_first t kept) ≤ count_away slot kept
 away_without t slot [] = omega arith
 away_without t slot (b ∷ bs) =
@@ -380,7 +369,7 @@ given_opens k rows any (origin.Spec j) (placed.Away i) row near none h = absurd 
 given_opens k rows any (origin.Call c) at row near none h = absurd (false≢true h)
 given_opens k rows any origin.Nobody at row near none h = absurd (false≢true h)
 
-none_counted : (j : ℕ) (b : Kept) (bs : List Kept) → count_away j (b ∷ bs) ≡ 0 → (is_away j b ≡ false) × (count_away j bs ≡ 0)
+pub none_counted : (j : ℕ) (b : Kept) (bs : List Kept) → count_away j (b ∷ bs) ≡ 0 → (is_away j b ≡ false) × (count_away j bs ≡ 0)
 none_counted j b bs h = (isnt (is_away j b) refl, omega (arith, h, counted_away j b bs))
   where
     isnt : (x : Bool) → is_away j b ≡ x → is_away j b ≡ false

@@ -12,7 +12,7 @@ use Rattle.otp_sup.specs.Facts.{OfficeView}
 use Rattle.otp_sup.specs.Flushes.{IsFirst, sending_of}
 
 -- the process that is put where an order is sent so
-abbrev put_by : Option Sending → Option ℕ
+abbrev pub put_by : Option Sending → Option ℕ
 put_by None = None
 put_by (Some (sending.Start n)) = Some n
 put_by (Some (sending.Ask _)) = None

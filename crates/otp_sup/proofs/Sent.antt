@@ -1,6 +1,6 @@
 -- Which orders were sent one after another, and what the port took by them.
-use Rattle.std.specs.Prelude.{◌≡◌, ℕ, ◌+◌, ◌++◌, true, List, [], ◌∷◌, Option, None, Some, length, refl, unwrap_or}
-use Rattle.std.proofs.Common.{◌∙◌, ap, sym, subst, arith, append_assoc, append-nil}
+use Rattle.std.specs.Prelude.{◌≡◌, ℕ, ◌++◌, true, List, [], ◌∷◌, Option, None, Some, refl, unwrap_or}
+use Rattle.std.proofs.Common.{◌∙◌, ap, sym, subst, arith, append_assoc}
 use Rattle.std.proofs.lemmas.List.{length-append}
 use Rattle.otp_rules.specs.declared.event.Effect.{Effect}
 use Rattle.otp_rules.specs.declared.event.Effect.TheVariants as effect
@@ -14,7 +14,7 @@ use Rattle.otp_sup.specs.declared.port.Flushed.{Flushed}
 use Rattle.otp_sup.specs.declared.port.Flushed.TheVariants as flushed
 use Rattle.otp_signals.specs.declared.signal.Signal.TheVariants as signal
 use Rattle.otp_sup.specs.Facts.{OfficeView}
-use Rattle.otp_sup.specs.Flushes.{Flushes, IsAsked, IsPut, IsSent, IsTold, SentFirst, SentOrders, after_order, after_orders, end_note, first_end, sending_of}
+use Rattle.otp_sup.specs.Flushes.{Flushes, IsAsked, IsPut, IsSent, IsTold, SentOrders, after_order, after_orders, end_note, first_end, sending_of}
 use Rattle.otp_sup.specs.Ports.{Taken, launched, told}
 
 how_is : (a b : Sending) → Some a ≡ Some b → a ≡ b

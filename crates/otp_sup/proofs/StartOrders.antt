@@ -1,9 +1,9 @@
 -- An event's orders start the process of its number, and no other.
 use Rattle.std.specs.Prelude.{◌≡◌, ℕ, ◌++◌, ◌&&◌, not, Bool, true, false, List, [], ◌∷◌, Option, None, Some, refl, if◌then◌else◌, is_some, position}
-use Rattle.std.specs.List.{list_any}
+use Rattle.std.specs.List.{cons_option, list_any}
 use Rattle.std.proofs.Common.{◌∙◌, ap, sym}
 use Rattle.std.proofs.lemmas.Bool.{false≢true, and_parts}
-use Rattle.std.proofs.lemmas.List.Elements.{filter_map-append}
+use Rattle.std.proofs.lemmas.List.Elements.{filter-append, filter_map-append}
 use Rattle.otp_rules.specs.declared.event.Effect.{Effect}
 use Rattle.otp_rules.specs.declared.event.Effect.TheVariants as effect
 use Rattle.otp_rules.specs.declared.event.Event.{Event}
@@ -11,7 +11,9 @@ use Rattle.otp_rules.specs.declared.event.Kind.{Kind}
 use Rattle.otp_rules.specs.declared.event.Waiting.{Waiting}
 use Rattle.otp_rules.specs.declared.work.Due.{Due}
 use Rattle.otp_table.specs.Rows.{is_awaited, row_has}
-use Rattle.otp_rules.specs.Needs.{NumberStartsWork, ends_wait, has_due, is_start, needs_number, work_starts}
+use Rattle.otp_rules.specs.Effects.{is_reply}
+use Rattle.otp_rules.specs.Run.{orders_of}
+use Rattle.otp_rules.specs.Needs.{IsNumbered, NumberStartsWork, numbers_of, ends_wait, has_due, is_start, needs_number, work_starts}
 use Rattle.otp_rules.specs.Places.{at_row}
 use Rattle.otp_rules.specs.Progress.{at_most_one}
 use Rattle.otp_rules.specs.Starts.{is_due, start, start_row}
@@ -104,3 +106,19 @@ starts_one law s reading (Some n) k needed =
 
 pub event_starts : (law : NumberStartsWork) (s : State) (e : Event) → is_some e.number ≡ needs_number s e.reading e.kind → starts_in (orders_in (step s e).orders) ≡ at_most_one e.number
 event_starts law s e needed = starts_ordered (step s e).orders ∙ starts_one law s e.reading e.number e.kind needed
+
+-- along a history whose numbers are given so, the processes that its orders start are those that it numbers
+pub starts_along : (law : NumberStartsWork) (s : State) (es : List Event) → IsNumbered s es → starts_in (orders_in (orders_of s es)) ≡ numbers_of es
+starts_along law s [] numbered = refl
+starts_along law s (e ∷ es) numbered =
+    let first : List Effect = (step s e).orders in
+    let later : State = (step s e).state in
+    ap starts_in (filter-append (λ (x : Effect). not (is_reply x)) first (orders_of later es))
+    ∙ filter_map-append started_by (orders_in first) (orders_in (orders_of later es))
+    ∙ ap (λ (l : List ℕ). l ++ starts_in (orders_in (orders_of later es))) (event_starts law s e numbered.0)
+    ∙ ap (λ (l : List ℕ). at_most_one e.number ++ l) (starts_along law later es numbered.1)
+    ∙ numbers_on e.number (numbers_of es)
+  where
+    numbers_on : (n : Option ℕ) (l : List ℕ) → at_most_one n ++ l ≡ cons_option n l
+    numbers_on None l = refl
+    numbers_on (Some n) l = refl

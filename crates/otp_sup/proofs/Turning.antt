@@ -1,5 +1,5 @@
 -- A turn that took an item.
-use Rattle.std.proofs.Common.{◌≡◌, ℕ, ◌<◌, List, [], ◌∷◌, ◌++◌, Option, None, Some, ap, sym, ◌∙◌, subst}
+use Rattle.std.proofs.Common.{◌≡◌, ℕ, ◌<◌, List, [], ◌∷◌, ◌++◌, Option, None, ap, sym, ◌∙◌, subst}
 use Rattle.std.specs.Prelude.{All, MatchOption, MatchResult, Result, Ok}
 use Rattle.otp_core.specs.View.{state_of}
 use Rattle.otp_rules.specs.declared.event.Event.{Event}
@@ -15,6 +15,7 @@ use Rattle.otp_sup.specs.declared.turns.TurnFault.{TurnFault}
 use Rattle.otp_sup.specs.Facts.{OfficeView, TableView, orders_in}
 use Rattle.otp_sup.specs.Turns.{Did, Happened, IsRefusal, Readied, Refused, Took, TookOrEmpty, Turned, drawn_by, due_kind, early_answer}
 use Rattle.otp_sup.proofs.Calls.{readied_state}
+use Rattle.otp_sup.proofs.Shared.{sent_readied}
 
 -- what happened once memory was taken happened to what was there before
 pub readied_happened : (old mid new : OfficeView) (reading : ℕ) (k : Kind) → Readied old mid → Happened reading k mid new → Happened reading k old new
@@ -29,6 +30,7 @@ readied_happened old mid new reading k r h =
       outbox = h.outbox ∙ ap (λ (s : State). orders_in (step s e).orders) same;
       base = h.base ∙ r.base;
       sent = h.sent ∙ r.sent;
+      same_sent = h.same_sent ∙ sent_readied old mid r;
       owner = h.owner ∙ ap (λ (o : Holding). drawn_by h.number o) r.owner;
       first_slot = h.first_slot ∙ r.first_slot;
     }

@@ -1,6 +1,6 @@
 -- The bodies of a supervisor's children: whose each is, and where (own). A body is what a child runs; it goes with the
 -- child's process, and comes home with the note of that process's end.
-use Rattle.std.specs.Prelude.{◌≡◌, ℕ, ◌==◌, ◌<◌, Bool, true, false, not, ◌&&◌, List, [], ◌∷◌, ◌++◌, Option, Some, None, is_some, nat_lt, length, filter_map, map, slice_get, slice_set, if◌then◌else◌, count_by}
+use Rattle.std.specs.Prelude.{◌≡◌, ⊤, ℕ, ◌==◌, ◌<◌, ◌≤◌, Bool, true, false, not, ◌&&◌, List, [], ◌∷◌, ◌++◌, Option, Some, None, is_some, nat_lt, length, filter_map, map, slice_get, slice_set, if◌then◌else◌, count_by}
 use Rattle.std.specs.List.{list_any}
 use Prim.Native.Nat.{zero, suc}
 use Rattle.otp_reason.specs.declared.note.Note.{Note}
@@ -62,6 +62,10 @@ is_away slot b = is_away_from slot b.place
 -- how many bodies of the child in this slot are with its process
 abbrev pub count_away : ℕ → List Kept → ℕ
 count_away slot kept = count_by (is_away slot) kept
+
+-- how many bodies of the child in this slot are at home
+abbrev pub count_home : ℕ → List Kept → ℕ
+count_home slot kept = count_by (is_at_home slot) kept
 
 -- the child in this slot has its body at home
 abbrev pub has_body : ℕ → List Kept → Bool
@@ -250,9 +254,40 @@ abbrev pub is_spec : ℕ → Origin → Bool
 is_spec k (origin.Spec j) = j == k
 is_spec k _ = false
 
+-- the body was handed in for the specification at this place
+abbrev pub is_from : ℕ → Kept → Bool
+is_from k b = is_spec k b.origin
+
+-- how many of the bodies were
+abbrev pub count_given : ℕ → List Kept → ℕ
+count_given k kept = count_by (is_from k) kept
+
+-- the bodies that are stored are those that the list says are here, and of each specification one at most is kept
+pub record IsStored (stored : List Bool) (kept : List Kept) : Type 0 where
+  pub here : stored ≡ map (λ (b : Kept). is_here b.place) kept
+  pub once : (place : ℕ) → count_given place kept ≤ 1
+
+-- none of the bodies has that origin, if it is a specification's: of each specification there is one
+abbrev pub IsNew : Origin → List Kept → Type 0
+IsNew (origin.Spec k) kept = count_given k kept ≡ 0
+IsNew (origin.Call _) kept = ⊤
+IsNew origin.Nobody kept = ⊤
+
+abbrev pub is_own_place : Origin → Place → Bool
+is_own_place (origin.Spec j) (place.Home k) = j == k
+is_own_place (origin.Spec j) place.Waiting = false
+is_own_place (origin.Spec j) place.Free = true
+is_own_place (origin.Spec j) (place.Away k) = j == k
+is_own_place (origin.Call _) at = true
+is_own_place origin.Nobody at = true
+
+-- a body that was handed in for a specification is no child's, or that of the child in the slot of the specification's place
+abbrev pub is_own : Kept → Bool
+is_own b = is_own_place b.origin b.place
+
 -- the body that was handed in for the specification at this place
 abbrev pub is_given : ℕ → Kept → Bool
-is_given k b = is_spec k b.origin && not (is_waiting_place b.place)
+is_given k b = is_from k b && not (is_waiting_place b.place)
 
 -- the body is with a process
 abbrev pub is_out : Kept → Bool

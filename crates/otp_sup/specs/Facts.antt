@@ -1,5 +1,5 @@
 -- What an office and a table stand for, and what they keep.
-use Rattle.std.specs.Prelude.{◌≡◌, ◌==◌, ◌↔◌, ⊤, Bool, ◌∷◌, ℕ, ◌+◌, ◌<◌, ◌≤◌, true, false, not, List, [], ◌++◌, Option, Some, None, length, take, drop, All, Contains, ◌^◌}
+use Rattle.std.specs.Prelude.{◌≡◌, ◌==◌, ◌↔◌, ⊤, Bool, ◌∷◌, ℕ, ◌+◌, ◌<◌, ◌≤◌, true, false, not, ◌||◌, List, [], ◌++◌, Option, Some, None, length, take, drop, All, Contains, ◌^◌}
 use Rattle.std.specs.List.{filter, filter_map, list_any}
 use Rattle.otp_spec.specs.declared.limits.TheConstants.{MAX_CHILDREN}
 use Rattle.otp_spec.specs.declared.child.ChildSpec.{ChildSpec}
@@ -23,7 +23,7 @@ use Rattle.otp_rules.specs.Rate.{IsRated}
 use Rattle.otp_rules.specs.Slots.{AreSlotted}
 use Rattle.otp_table.specs.declared.row.Row.{Row}
 use Rattle.otp_table.specs.declared.row.RowState.{RowState}
-use Rattle.otp_table.specs.Rows.{has_process}
+use Rattle.otp_table.specs.Rows.{has_process, has_slot}
 use Rattle.otp_core.specs.View.{View, state_of}
 use Rattle.otp_counts.specs.Counts.{EndsWith, Publishing}
 use Rattle.otp_inbox.specs.Tokens.{TakerState}
@@ -34,7 +34,7 @@ use Rattle.otp_signals.specs.Signals.{word_of}
 use Rattle.otp_signals.specs.Lists.{EachBetween}
 use Rattle.otp_rules.specs.Waits.{starts_waiting}
 use Rattle.otp_sup.specs.declared.bodies.Kept.{Kept}
-use Rattle.otp_sup.specs.Bodies.{are_given, calls_waiting, count_away, has_body, started_by}
+use Rattle.otp_sup.specs.Bodies.{are_given, calls_waiting, count_away, count_given, count_home, has_body, is_own, started_by}
 use Rattle.otp_sup.specs.declared.told.ToldEnd.{ToldEnd}
 use Rattle.otp_sup.specs.Ends.{AreTold}
 
@@ -136,6 +136,10 @@ count_opened flags specs = length (opening_specs (is_simple flags.strategy) spec
 abbrev pub starts_in : List Effect → List ℕ
 starts_in orders = filter_map started_by orders
 
+-- the processes whose starts an office sent
+abbrev pub starts_sent : OfficeView → List ℕ
+starts_sent o = starts_in (sent_of o)
+
 -- two children that have processes have one slot only where they are one child, with one process
 abbrev pub AreApart : List Row → Type 0
 AreApart rows =
@@ -151,6 +155,8 @@ pub record KeepsOffice (o : OfficeView) : Type 0 where
   pub numbers : o.owner.drawn ≡ numbers_of o.core.history
   -- the orders that were sent, followed by those to be sent, are the orders that the rules give
   pub orders : sent_of o ++ o.outbox ≡ orders_along o.core
+  -- the starts among those are of the processes that its history numbers
+  pub starts : starts_in (orders_along o.core) ≡ numbers_of o.core.history
   -- each post is that of an order that was sent, or of the first that is to be sent
   pub posts : All (λ post. IsOrdered (take (o.sent + 1) (orders_along o.core)) post.1) o.owner.posts
   -- no period has more restarts than the intensity, but for the last one of a supervisor that ends by it
@@ -215,14 +221,30 @@ pub record KeepsBodies (s : State) (starts : List ℕ) (kept : List Kept) : Type
   pub away : (slot : ℕ) → 0 < count_away slot kept → IsOut s starts slot
   -- the body of each child whose process runs is away with it: its start was sent, and no Exit of it waits
   pub out : (slot p : ℕ) → LivesIn s slot p → is_to_start p starts ≡ false → 0 < count_away slot kept
-  -- and of no child two bodies are
-  pub one_away : (slot : ℕ) → count_away slot kept ≤ 1
+  -- a body at home is that of a child that there is
+  pub there : (slot : ℕ) → has_body slot kept ≡ true → list_any (has_slot slot) s.rows ≡ true
+  -- and of no child there are two bodies, at home and away together
+  pub one_body : (slot : ℕ) → count_home slot kept + count_away slot kept ≤ 1
   -- for each child of an opening a body was handed in, and is kept
   pub given : are_given (count_opened s.flags s.specs) kept ≡ true
+  -- and of no specification two bodies are kept
+  pub one_given : (k : ℕ) → count_given k kept ≤ 1
+  -- a specification's body is no other child's than that in the slot of its place, at home or away
+  pub own : All (λ (b : Kept). is_own b ≡ true) kept
+
+-- a child has one body. It is at home where the child has no process, where a note of its process's end was taken and waits,
+-- and where its start is still to be sent; else it is away with the process
+pub record HasOneBody (s : State) (starts : List ℕ) (kept : List Kept) (row : Row) : Type 0 where
+  pub one : count_home row.slot kept + count_away row.slot kept ≡ 1
+  pub home : has_body row.slot kept ≡ (is_home s.waiting row.state || is_unsent starts row.state)
 
 -- the same of an office's state and orders
 abbrev pub HasBodies : OfficeView → List Kept → Type 0
 HasBodies o kept = KeepsBodies (state_of o.core) (starts_in o.outbox) kept
+
+-- each child has one body
+abbrev pub HaveOneBody : OfficeView → List Kept → Type 0
+HaveOneBody o kept = (row : Row) → Contains (state_of o.core).rows row → HasOneBody (state_of o.core) (starts_in o.outbox) kept row
 
 pub record IsTable (t : TableView) : Type 0 where
   pub taken : t.taker.taken ≡ items_of t.office.core.history
@@ -232,6 +254,10 @@ pub record IsTable (t : TableView) : Type 0 where
   -- what was published last is what it counts
   pub counts : EndsWith (counts_of (state_of t.office.core)) t.counts.published
   pub told : AreTold t.office.core.history t.ends_told
+  -- it gave senders a share for each start that it sent
+  pub starts : t.taker.given.starts ≡ length (starts_sent t.office)
+  -- and one for each event, and for each time that it found its inbox empty
+  pub turns : t.taker.given.turns ≡ length t.office.core.history + t.taker.empty_finds
 
 -- what holds whenever the lock is free
 pub record KeepsRules (t : TableView) : Type 0 where
@@ -242,10 +268,16 @@ pub record KeepsRules (t : TableView) : Type 0 where
   pub calls : calls_waiting t.bodies ≡ starts_waiting (state_of t.office.core).waiting
   -- each body is where its child is: at home, with the start that is to be sent, or with the process
   pub bodies : HasBodies t.office t.bodies
+  -- so each child has one body, and that is at home exactly where neither its process nor the note of that one's end has it
+  pub each_body : HaveOneBody t.office t.bodies
   -- the counts that were published last are those of its children (count_children)
   pub counts : EndsWith (counts_of (state_of t.office.core)) t.counts.published
   -- the ends that it was told came with notes of its history: each is for the note's reason, and shown
   pub told : AreTold t.office.core.history t.ends_told
+  -- it gave senders a share for each start that it sent
+  pub starts : t.taker.given.starts ≡ length (starts_sent t.office)
+  -- and one for each event, and for each time that it found its inbox empty
+  pub turns : t.taker.given.turns ≡ length t.office.core.history + t.taker.empty_finds
 
 -- what contracts see of a supervisor that is out of its lock
 pub record UnlockedView : Type 0 where

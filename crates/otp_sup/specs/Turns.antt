@@ -13,7 +13,7 @@ use Rattle.otp_rules.specs.Needs.{needs_number, numbers_of}
 use Rattle.otp_rules.specs.declared.call.Reply.{Reply}
 use Rattle.otp_rules.specs.Run.{reply_of}
 use Rattle.otp_rules.specs.Step.{step}
-use Rattle.otp_rules.specs.Next.{next_kind}
+use Rattle.otp_rules.specs.Next.{next_deadline, next_kind}
 use Rattle.otp_core.specs.View.{state_of}
 use Rattle.otp_rules.specs.Counts.{counts_of}
 use Rattle.otp_counts.specs.Counts.{after_publish}
@@ -29,9 +29,10 @@ use Rattle.otp_sup.specs.Ends.{told_with}
 use Rattle.otp_sup.specs.Letters.{Comes, carries_body, one_if}
 use Rattle.otp_sup.specs.declared.bodies.Kept.{Kept}
 use Rattle.otp_sup.specs.Bodies.{bodies_after, bodies_in}
-use Rattle.otp_sup.specs.Facts.{KeepsRules, OfficeView, TableView, orders_in}
+use Rattle.otp_sup.specs.Facts.{KeepsRules, OfficeView, TableView, orders_in, sent_of}
 use Rattle.otp_sup.specs.Flushes.{SentOrders}
 use Rattle.otp_sup.specs.Ports.{Taken, carried}
+use Rattle.otp_sup.specs.Shares.{HasStarted, gave, one_turn}
 
 abbrev pub is_told : Signal → Bool
 is_told signal.None = false
@@ -84,6 +85,8 @@ pub record Happened (reading : ℕ) (kind : Kind) (old new : OfficeView) : Type 
   pub outbox : new.outbox ≡ orders_in (step (state_of old.core) (record { reading = reading; number = number; kind = kind })).orders
   pub base : new.core.base ≡ old.core.base
   pub sent : new.sent ≡ old.sent
+  -- those that were sent are the same
+  pub same_sent : sent_of new ≡ sent_of old
   pub owner : new.owner ≡ drawn_by number old.owner
   pub first_slot : new.first_slot ≡ old.first_slot
 
@@ -110,7 +113,8 @@ Published old new = new.counts ≡ after_publish (counts_of (state_of new.office
 pub record Took (reading : ℕ) (old new : TableView) : Type 0 where
   pub item : Item
   pub happened : Happened reading (kind.Took item) old.office new.office
-  pub taken : new.taker ≡ record old.taker { taken = old.taker.taken ++ item ∷ [] }
+  -- it was taken, and then a turn was credited
+  pub taken : new.taker ≡ gave one_turn (record old.taker { taken = old.taker.taken ++ item ∷ [] })
   -- each body is where the event puts it
   pub bodies : new.bodies ≡ bodies_after (state_of old.office.core) (state_of new.office.core) (kind.Took item) old.bodies
   -- exactly the body that came with the item is more
@@ -123,7 +127,7 @@ pub record Took (reading : ℕ) (old new : TableView) : Type 0 where
 
 pub record FoundEmpty (old new : TableView) : Type 0 where
   pub office : Readied old.office new.office
-  pub taker : new.taker ≡ record old.taker { empty_finds = old.taker.empty_finds + 1 }
+  pub taker : new.taker ≡ gave one_turn (record old.taker { empty_finds = old.taker.empty_finds + 1 })
   pub bodies : new.bodies ≡ old.bodies
   pub counts : new.counts ≡ old.counts
   pub ends : new.ends_told ≡ old.ends_told
@@ -142,7 +146,7 @@ TookOrEmpty reading old new answer.Full = ⊥
 pub record Did (reading : ℕ) (kind : Kind) (old new : TableView) (said : TurnAnswer) : Type 0 where
   pub answer : said ≡ answer_of kind
   pub happened : Happened reading kind old.office new.office
-  pub taker : new.taker ≡ old.taker
+  pub taker : new.taker ≡ gave one_turn old.taker
   pub bodies : new.bodies ≡ bodies_after (state_of old.office.core) (state_of new.office.core) kind old.bodies
   pub count : bodies_in new.bodies ≡ bodies_in old.bodies
   pub counts : Published old new
@@ -197,7 +201,9 @@ pub record LockedTurn (inbox number reading : ℕ) (told : Signal) (result : Res
   pub quota : early_answer old.office number ≡ None → OnOk result (0 < old.office.owner.quota)
   pub sent : SentOrders turned.office new.office before after
   pub left : (new.office.outbox ≡ []) ⊎ (refusals < later)
-  pub taker : new.taker ≡ turned.taker
+  -- a start was credited for each process that the port took
+  pub taker : new.taker ≡ record turned.taker { given = new.taker.given }
+  pub started : HasStarted (length before.processes) (length after.processes) turned.taker.given new.taker.given
   pub counts : new.counts ≡ turned.counts
   pub ends : new.ends_told ≡ turned.ends_told
   -- each body that the table has no more went with a process that the port took
@@ -209,6 +215,12 @@ pub record HasReply (call : ℕ) (found : Option Reply) : Type 0 where
   pub table : TableView
   pub rules : KeepsRules table
   pub is : reply_of call (state_of table.office.core).replies ≡ found
+
+-- this is the least deadline of the children of a table that keeps the rules
+pub record HasDeadline (found : Option ℕ) : Type 0 where
+  pub table : TableView
+  pub rules : KeepsRules table
+  pub is : found ≡ next_deadline (state_of table.office.core).rows
 
 -- a body was found exactly where a table that kept the rules had such a one
 pub record HadBody (test : Kept → Bool) (found : Bool) : Type 0 where

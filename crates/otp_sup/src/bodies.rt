@@ -1,7 +1,7 @@
 //! The bodies that a supervisor keeps: of children that have no process, and those that no child has.
-ghost use Rattle.std.specs.Prelude.{◌≡◌, ◌<◌, ◌++◌, ◌∷◌, [], true, get_or, is_some, false, length, position, remove, slice_set, Bool, IfErr, IfSome, MatchOption, None, OnOk, OnErr, Some};
+ghost use Rattle.std.specs.Prelude.{◌≡◌, ℕ, ◌<◌, ◌≤◌, ◌++◌, ◌∷◌, [], true, get_or, is_some, false, length, position, remove, slice_set, Bool, IfErr, IfSome, MatchOption, None, OnOk, OnErr, Some};
 ghost use Rattle.std.specs.List.{list_any};
-ghost use Rattle.otp_sup.specs.Bodies.{AreHere, are_ready, come_home, came_for, has_body, home_or_free, is_at_home, is_given, is_here, is_left_of, is_stray, is_waiting, move_first, opened, place_of_call, place_without_line, put_home, settled, without_first};
+ghost use Rattle.otp_sup.specs.Bodies.{AreHere, are_ready, come_home, came_for, count_given, has_body, home_or_free, IsNew, is_at_home, is_here, is_left_of, is_stray, is_waiting, move_first, opened, place_of_call, place_without_line, put_home, settled, without_first};
 ghost use Rattle.otp_sup.specs.Facts.{count_opened};
 ghost use Rattle.otp_sup.specs.Slots.{AreBelow};
 ghost use Rattle.otp_sup.specs.declared.bodies.Kept.{Kept};
@@ -10,7 +10,7 @@ ghost use Rattle.otp_sup.specs.declared.bodies.Place.TheVariants as placed;
 
 use crate::kept::{
     are_given, find_away, find_home, find_left, find_stray, find_waiting, home_or_free,
-    is_any_given, is_any_out, open_items, place_of_call, settle_items,
+    is_any_from, is_any_out, open_items, place_of_call, settle_items,
 };
 use otp_spec::SupSpec;
 use otp_table::Row;
@@ -72,15 +72,15 @@ pub struct Bodies<B: Drop> {
 }
 
 impl<B: Drop> Model for Bodies<B> {
-    ghost use Rattle.std.specs.Prelude.{◌≡◌, ◌-◌, length, map, is_some, min, vec_capacity};
-    ghost use Rattle.otp_sup.specs.Bodies.{is_here};
+    ghost use Rattle.std.specs.Prelude.{◌-◌, length, map, is_some, min, vec_capacity};
+    ghost use Rattle.otp_sup.specs.Bodies.{IsStored};
     ghost use Rattle.otp_sup.specs.Facts.{BodiesView};
 
     ghost Value = { BodiesView };
 
     ghost view = { λ b. record { kept = b.kept.items; room = min (vec_capacity b.kept - length b.kept.items) (vec_capacity b.bodies - length b.bodies.items) } };
 
-    ghost invariant = { λ b. map is_some b.bodies.items ≡ map (λ k. is_here k.place) b.kept.items };
+    ghost invariant = { λ b. IsStored (map is_some b.bodies.items) b.kept.items };
 }
 
 impl<B: Drop> Bodies<B> {
@@ -94,15 +94,22 @@ impl<B: Drop> Bodies<B> {
         }
     }
 
+    /// Of each child specification one body at most was handed in and is kept.
+    pub fn has_one_each(&self)
+        ensures { (place : ℕ) → count_given place self.now.kept ≤ 1 }
+    {
+        let _ = &self.kept;
+    }
+
     /// Hands in the body of the child specification at this place. It comes back where memory is refused, and where one was
     /// handed in for that specification before: a child has one body.
     pub fn hand_in(&mut self, place: usize, body: B) -> Result<(), B>
         ensures ok { OnOk result (self.new.kept ≡ self.old.kept ++ record { origin = origin.Spec place; place = placed.Free } ∷ []) }
         ensures back { IfErr result (λ back. back ≡ body) }
         ensures kept { OnErr result (self.new.kept ≡ self.old.kept) }
-        ensures first { OnOk result (list_any (is_given place) self.old.kept ≡ false) }
+        ensures first { OnOk result (count_given place self.old.kept ≡ 0) }
     {
-        if is_any_given(&self.kept, place) || self.prepare().is_err() {
+        if is_any_from(&self.kept, place) || self.prepare().is_err() {
             return Err(body);
         }
         self.put(Origin::Spec(place), Place::Free, body);
@@ -122,6 +129,7 @@ impl<B: Drop> Bodies<B> {
     fn put(&mut self, origin: Origin, place: Place, body: B)
         requires room { 0 < self.old.room }
         requires here { is_here place ≡ true }
+        requires new { IsNew origin self.old.kept }
         ensures { self.new.kept ≡ self.old.kept ++ record { origin = origin; place = place } ∷ [] }
     {
         self.kept.push_reserved(Kept { origin, place });

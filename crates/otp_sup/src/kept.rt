@@ -1,7 +1,7 @@
 //! Searches over the bodies that a supervisor keeps, and what an event does to all of them.
 ghost use Rattle.std.specs.Prelude.{◌≡◌, true, position};
 ghost use Rattle.std.specs.List.{list_any};
-ghost use Rattle.otp_sup.specs.Bodies.{are_given, home_or_free, is_at_home, is_given, is_here, is_away, is_left_of, is_out, is_stray, is_waiting, opened, opened_place, place_among, place_of_call, settled};
+ghost use Rattle.otp_sup.specs.Bodies.{are_given, home_or_free, is_at_home, is_from, is_given, is_here, is_away, is_left_of, is_out, is_stray, is_waiting, opened, opened_place, place_among, place_of_call, settled};
 ghost use Rattle.otp_sup.specs.Slots.{AreBelow, AreTaken};
 
 use crate::bodies::{Kept, Origin, Place};
@@ -185,6 +185,23 @@ pub(crate) fn open_items(kept: &mut Vec<Kept>, rows: &[Row])
 }
 
 /// Whether the body was handed in for the child specification at this place.
+fn is_from(kept: &Kept, place: usize) -> bool
+    ensures { result ≡ is_from place kept.now }
+{
+    match kept.origin {
+        Origin::Spec(of) => of == place,
+        Origin::Call(_) | Origin::Nobody => false,
+    }
+}
+
+/// Whether one was.
+pub(crate) fn is_any_from(kept: &[Kept], place: usize) -> bool
+    ensures { result ≡ list_any (is_from place) kept.now }
+{
+    kept.iter().any(|one| is_from(one, place))
+}
+
+/// Whether the body was, and waits with no call.
 fn is_given(kept: &Kept, place: usize) -> bool
     ensures { result ≡ is_given place kept.now }
 {
@@ -196,7 +213,7 @@ fn is_given(kept: &Kept, place: usize) -> bool
 }
 
 /// Whether one was.
-pub(crate) fn is_any_given(kept: &[Kept], place: usize) -> bool
+fn is_any_given(kept: &[Kept], place: usize) -> bool
     ensures { result ≡ list_any (is_given place) kept.now }
 {
     kept.iter().any(|one| is_given(one, place))

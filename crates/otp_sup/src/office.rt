@@ -1,14 +1,16 @@
 //! A core with the seat that draws its numbers, and its orders on their way.
-ghost use Rattle.std.specs.Prelude.{◌≡◌, ◌+◌, ◌<◌, ◌≤◌, ◌^◌, [], true, length, Contains, IsTrue, IfSome, IfErr, OnOk, MatchOption, None};
+ghost use Rattle.std.specs.Prelude.{◌≡◌, ℕ, ◌+◌, ◌<◌, ◌≤◌, ◌^◌, [], true, length, Contains, IsTrue, IfSome, IfErr, OnOk, MatchOption, None};
 ghost use Rattle.otp_spec.specs.declared.limits.TheConstants.{MAX_CHILDREN, MAX_EVENTS, MAX_READING};
 ghost use Rattle.otp_core.specs.View.{state_of};
 ghost use Rattle.otp_rules.specs.State.{own_number, is_over};
 ghost use Rattle.otp_rules.specs.Counts.{counts_of};
+ghost use Rattle.otp_rules.specs.Next.{next_deadline};
 ghost use Rattle.otp_rules.specs.Run.{reply_of};
 ghost use Rattle.otp_counts.specs.Words.{AreFew};
 ghost use Rattle.otp_signals.specs.Lists.{EachBetween};
 ghost use Rattle.otp_sup.specs.Facts.{item_of, new_office, starts_in, IsOpening, KeepsOffice};
 ghost use Rattle.otp_sup.specs.Bodies.{is_any_waiting};
+ghost use Rattle.otp_sup.specs.Shares.{HasTurned};
 ghost use Rattle.otp_sup.specs.Slots.{AreBelow};
 ghost use Rattle.otp_sup.specs.declared.turns.TurnFault.TheVariants as fault;
 ghost use Rattle.otp_sup.specs.Turns.{is_told, may_open, due_kind, early_answer, Happened, Readied, IsRefusal};
@@ -119,6 +121,7 @@ impl<N: WordsNaming> Office<N> {
         ensures answer { result ≡ early_answer self.now number }
         ensures room { result ≡ None → length self.now.core.history < MAX_EVENTS }
         ensures outbox { result ≡ None → self.now.outbox ≡ [] }
+        ensures no_turn { IfSome result (λ early. (n : ℕ) → HasTurned early n n) }
     {
         let own = own_number(self.core.phase());
         if number < own {
@@ -214,6 +217,7 @@ impl<N: WordsNaming> Office<N> {
     pub fn keeps_rules(&self)
         ensures { KeepsOffice self.now }
     {
+        laws::number_starts_work();
         laws::slots_are_owned();
         laws::processes_are_owned();
         laws::slots_tell_processes();
@@ -261,6 +265,13 @@ impl<N: WordsNaming> Office<N> {
         ensures { result ≡ is_any_waiting (state_of self.now.core) }
     {
         self.core.has_waiting()
+    }
+
+    /// The least deadline of its children ([`Core::next_deadline`]).
+    pub(crate) fn next_deadline(&self) -> Option<u64>
+        ensures { result ≡ next_deadline (state_of self.now.core).rows }
+    {
+        self.core.next_deadline()
     }
 
     /// The kept answer of the call with this number.

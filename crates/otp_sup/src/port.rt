@@ -50,13 +50,16 @@ pub enum Flushed {
 
 /// Where the processes that a supervisor starts and the notes to its parent go.
 ///
-/// Contracts see what the port took, in order, and how often it refused.
+/// Contracts see what the port took, in order, and how often it refused; and what it keeps besides, in numbers, of which
+/// these calls change nothing.
 pub trait Port<B: Drop> {
     ghost processes: { Self → List Launched };
 
     ghost notes: { Self → List ToldNote };
 
     ghost refusals: { Self → ℕ };
+
+    ghost beside: { Self → List ℕ };
 
     /// Takes a process. A refused one comes back.
     fn put(&mut self, process: NewProcess<B>) -> Result<(), NewProcess<B>>
@@ -65,7 +68,8 @@ pub trait Port<B: Drop> {
         ensures refused { OnErr result (refusals self.old < refusals self.new) }
         ensures counted { OnOk result (refusals self.new ≡ refusals self.old) }
         ensures back { IfErr result (λ back. back ≡ process) }
-        ensures notes { notes self.new ≡ notes self.old };
+        ensures notes { notes self.new ≡ notes self.old }
+        ensures beside { beside self.new ≡ beside self.old };
 
     /// Takes a note to the parent: Up, once all children have started; or Exit or Failed, when the supervisor has ended, with
     /// that end, of which the port keeps a copy. A refused note comes back.
@@ -75,7 +79,8 @@ pub trait Port<B: Drop> {
         ensures kept { OnErr result (notes self.new ≡ notes self.old) }
         ensures refused { OnErr result (refusals self.old < refusals self.new) }
         ensures counted { OnOk result (refusals self.new ≡ refusals self.old) }
-        ensures processes { processes self.new ≡ processes self.old };
+        ensures processes { processes self.new ≡ processes self.old }
+        ensures beside { beside self.new ≡ beside self.old };
 }
 
 /// A port that keeps what it takes, for whoever drives supervisors by hand. It refuses where memory is refused.
@@ -112,6 +117,8 @@ impl<B: Drop> Port<B> for MemoryPort<B> {
     ghost notes = { λ m. m.notes.items };
 
     ghost refusals = { λ m. m.refusals.count };
+
+    ghost beside = { λ _. [] };
 
     fn put(&mut self, process: NewProcess<B>) -> Result<(), NewProcess<B>>
         ensures took { OnOk result (launched_all self.new.processes.items ≡ launched_all self.old.processes.items ++ launched process.number process.slot (is_some process.body) ∷ []) }

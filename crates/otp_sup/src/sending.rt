@@ -114,6 +114,7 @@ impl<N: WordsNaming> Office<N> {
         ensures whose { IsSome result.1 → IsSome body }
         ensures back { result.0 ≡ flushed.Refused → result.1 ≡ body }
         ensures gone { result.0 ≡ flushed.Sent → IsSome (starting_slot self.old.outbox (state_of self.old.core).rows) → result.1 ≡ None }
+        ensures beside { P.beside port.new ≡ P.beside port.old }
     {
         let Some(how) = self.first() else {
             return (Flushed::Empty, body);

@@ -6,7 +6,8 @@ ghost use Rattle.otp_sup.specs.Bodies.{bodies_in, is_left_of, is_stray};
 ghost use Rattle.otp_sup.specs.Facts.{KeepsRules, starts_in};
 ghost use Rattle.otp_sup.specs.Flushes.{SentOrders, was_sent};
 ghost use Rattle.otp_sup.specs.Ports.{TookMore, carried, taken_by};
-ghost use Rattle.otp_sup.specs.Turns.{HadBody, HasReply, IsFlushed, IsOfAnother, LockedTurn, TurnedUnder};
+ghost use Rattle.otp_sup.specs.Shares.{HasStarted, HasTurned};
+ghost use Rattle.otp_sup.specs.Turns.{HadBody, HasDeadline, HasReply, IsFlushed, IsOfAnother, LockedTurn, TurnedUnder};
 ghost use Rattle.otp_sup.specs.declared.turns.TurnAnswer.TheVariants as answer;
 
 use crate::letter::Letter;
@@ -15,7 +16,7 @@ use crate::table::Table;
 use crate::told::ToldEnd;
 use crate::turns::{TurnAnswer, TurnFault};
 use otp_core::Core;
-use otp_inbox::{Inbox, InboxNaming, Taker};
+use otp_inbox::{Inbox, InboxNaming, Sender, Taker};
 use otp_rules::{Item, Reply};
 use otp_signals::{Owner, Signal, Words, WordsNaming};
 use std::alloc::AllocError;
@@ -53,19 +54,31 @@ impl<N: WordsNaming + InboxNaming, B: Drop> Sup<N, B> {
     /// the port refuses. Of what lies under a lock a caller knows its type alone: that the table keeps OTP's rules
     /// ([`Table::keeps_rules`]). So contracts say that one such table had the turn, that the port took exactly what the
     /// first of its orders put and tell, and that it still keeps the rules; not that it was the table under this lock.
+    ///
+    /// What it did is credited to the sender of whoever gives the turn. So contracts say of the sender how many turns of
+    /// the table there were, and how many starts were sent.
     pub fn turn<R: Wait, P: Port<B>>(
         &self,
         rt: &R,
         words: &Words<N>,
+        sender: &mut Sender<N, Item, Letter<B>>,
         port: &mut P,
         number: u64,
         reading: u64,
         told: Signal,
     ) -> Result<TurnAnswer, TurnFault>
-        requires { reading ≤ MAX_READING }
+        requires sender { sender.old.inbox ≡ self.now.inbox }
+        requires may_send { 0 < sender.old.parts }
+        requires reading { reading ≤ MAX_READING }
         ensures turned { TurnedUnder self.now.inbox number reading told result ⊎ ((result ≡ Ok answer.Pending) × IsOfAnother self.now.inbox) }
         ensures flushed { IsFlushed (P.refusals port.old) (P.refusals port.new) ⊎ ((result ≡ Ok answer.Pending) × IsOfAnother self.now.inbox) }
         ensures port { TookMore (taken_by (P.processes port.old) (P.notes port.old)) (taken_by (P.processes port.new) (P.notes port.new)) (P.refusals port.old) (P.refusals port.new) }
+        // The sender has a turn more exactly where the table had one,
+        ensures turns { HasTurned result sender.old.shares.turns sender.new.shares.turns }
+        // a start more for each process that the port took, and nothing else of it changed.
+        ensures starts { sender.new.shares.starts + length (P.processes port.old) ≡ sender.old.shares.starts + length (P.processes port.new) }
+        ensures sender { sender.new ≡ record sender.old { shares = sender.new.shares } }
+        ensures beside { P.beside port.new ≡ P.beside port.old }
         // All of this of one table: it had the turn, and the port took what its first orders put and tell.
         ensures one_table { LockedTurn self.now.inbox number reading told result (taken_by (P.processes port.old) (P.notes port.old)) (taken_by (P.processes port.new) (P.notes port.new)) (P.refusals port.old) (P.refusals port.new) ⊎ ((result ≡ Ok answer.Pending) × IsOfAnother self.now.inbox × (taken_by (P.processes port.new) (P.notes port.new) ≡ taken_by (P.processes port.old) (P.notes port.old))) }
     {
@@ -76,8 +89,8 @@ impl<N: WordsNaming + InboxNaming, B: Drop> Sup<N, B> {
         if table.number() != self.inbox.number() {
             return Ok(TurnAnswer::Pending);
         }
-        let answer = table.turn(rt, words, &self.inbox, number, reading, told);
-        flush_all(table, words, port);
+        let answer = table.turn(rt, words, &self.inbox, sender, number, reading, told);
+        flush_all(table, words, &self.inbox, sender, port);
         table.keeps_rules();
         answer
     }
@@ -94,6 +107,16 @@ impl<N: WordsNaming + InboxNaming, B: Drop> Sup<N, B> {
             Some(reply) => Ok(Some(reply.try_clone()?)),
             None => Ok(None),
         }
+    }
+
+    /// The least deadline of its children: see [`Table::next_deadline`].
+    pub fn next_deadline<R: Wait>(&self, rt: &R) -> Option<u64>
+        ensures { HasDeadline result }
+    {
+        let guard = self.table.lock(rt);
+        let table = &*guard;
+        table.keeps_rules();
+        table.next_deadline()
     }
 
     /// The body that the call with this number brought: see [`Table::take_box`].
@@ -236,18 +259,27 @@ fn was_sent(flushed: Flushed) -> bool
 fn flush_all<N: WordsNaming + InboxNaming, B: Drop, P: Port<B>>(
     table: &mut Table<N, B>,
     words: &Words<N>,
+    inbox: &Inbox<N, Item, Letter<B>>,
+    sender: &mut Sender<N, Item, Letter<B>>,
     port: &mut P,
 )
+    requires inbox { inbox.now ≡ table.old.taker.inbox }
+    requires sender { sender.old.inbox ≡ inbox.now }
+    requires may_send { 0 < sender.old.parts }
     ensures more { TookMore (taken_by (P.processes port.old) (P.notes port.old)) (taken_by (P.processes port.new) (P.notes port.new)) (P.refusals port.old) (P.refusals port.new) }
     ensures sent { (table.new.office.outbox ≡ []) ⊎ (P.refusals port.old < P.refusals port.new) }
     ensures orders { SentOrders table.old.office table.new.office (taken_by (P.processes port.old) (P.notes port.old)) (taken_by (P.processes port.new) (P.notes port.new)) }
-    ensures taker { table.new.taker ≡ table.old.taker }
+    ensures taker { table.new.taker ≡ record table.old.taker { given = table.new.taker.given } }
+    ensures given { HasStarted (length (P.processes port.old)) (length (P.processes port.new)) table.old.taker.given table.new.taker.given }
+    ensures sender { sender.new ≡ record sender.old { shares = sender.new.shares } }
+    ensures credited { HasStarted (length (P.processes port.old)) (length (P.processes port.new)) sender.old.shares sender.new.shares }
+    ensures beside { P.beside port.new ≡ P.beside port.old }
     ensures counts { table.new.counts ≡ table.old.counts }
     ensures ends { table.new.ends_told ≡ table.old.ends_told }
     ensures count { bodies_in table.new.bodies + carried (P.processes port.new) ≡ bodies_in table.old.bodies + carried (P.processes port.old) }
 {
-    let mut flushed = table.flush_one(words, port);
+    let mut flushed = table.flush_one(words, inbox, sender, port);
     while was_sent(flushed) {
-        flushed = table.flush_one(words, port);
+        flushed = table.flush_one(words, inbox, sender, port);
     }
 }

@@ -1,17 +1,19 @@
 //! What lies under a supervisor's lock.
 ghost use Rattle.otp_sup.specs.Letters.{Comes, carries_body};
 ghost use Rattle.std.specs.Prelude.{◌≡◌, ◌++◌, ◌∷◌, ◌+◌, ◌≤◌, ◌<◌, [], true, false, is_some, length, min, IfNone, IfOk, IfSome, MatchOption, None, OnOk, Some};
-ghost use Rattle.otp_inbox.specs.Tokens.{count_limit};
+ghost use Rattle.otp_inbox.specs.Tokens.{count_limit, no_shares};
 ghost use Rattle.std.specs.List.{list_any};
 ghost use Rattle.otp_spec.specs.declared.limits.TheConstants.{MAX_READING};
 ghost use Rattle.otp_core.specs.View.{state_of};
 ghost use Rattle.otp_rules.specs.Counts.{counts_of};
+ghost use Rattle.otp_rules.specs.Next.{next_deadline};
 ghost use Rattle.otp_rules.specs.Run.{reply_of};
 ghost use Rattle.otp_counts.specs.Counts.{after_publish, fresh_pass};
 ghost use Rattle.otp_sup.specs.Bodies.{are_ready, bodies_in, bodies_sent, is_left_of, is_stray, settled, starting_slot, without_first};
 ghost use Rattle.otp_sup.specs.Facts.{KeepsRules, count_opened, starts_in};
 ghost use Rattle.otp_sup.specs.Flushes.{Flushes};
 ghost use Rattle.otp_sup.specs.Ports.{taken_by, carried};
+ghost use Rattle.otp_sup.specs.Shares.{HasTurned, credited, gave, starts_flushed, starts_of};
 ghost use Rattle.otp_sup.specs.Turns.{Turned, early_answer};
 
 use crate::bodies::Bodies;
@@ -22,7 +24,7 @@ use crate::port::{Flushed, Port};
 use crate::told::{Evidence, ToldEnd, keep_end};
 use crate::turns::{TurnAnswer, TurnFault, answer_of};
 use otp_counts::{CountsPass, Publisher};
-use otp_inbox::{Inbox, InboxNaming, Taker};
+use otp_inbox::{Inbox, InboxNaming, Sender, Taker};
 use otp_rules::{Item, Kind, Reply};
 use otp_signals::{Signal, Words, WordsNaming};
 use std::alloc::{AllocError, Global};
@@ -71,11 +73,13 @@ impl<N: WordsNaming + InboxNaming, B: Drop> Table<N, B> {
     ) -> Self
         requires history { office.core.history ≡ [] }
         requires taken { taker.taken ≡ [] }
+        requires unused { (taker.empty_finds ≡ 0) × (taker.given ≡ no_shares) }
         requires bodies { are_ready (count_opened office.core.base.flags office.core.base.specs) bodies.kept ≡ true }
         requires counts { counts.published ≡ counts_of (state_of office.core) ∷ [] }
         ensures { result ≡ record { office = office; taker = taker; bodies = settled [] false bodies.kept; counts = counts; ends_told = [] } }
     {
         office.keeps_rules();
+        bodies.has_one_each();
         // No child has any of them yet, and no call waits.
         bodies.settle(&[], false);
         Table {
@@ -88,20 +92,25 @@ impl<N: WordsNaming + InboxNaming, B: Drop> Table<N, B> {
         }
     }
 
-    /// What is so whenever a supervisor's lock is free: its children, restart times, kept replies and sent orders are what OTP's
-    /// rules give for the history that it stores; that history holds each signal taken from its queue once, in order; no
-    /// period in it has more restarts than the intensity unless the supervisor is ending.
+    /// Whenever a supervisor's lock is free, its children, restart times, kept replies and sent orders are what OTP's rules give for the
+    /// history that it stores; that history holds each signal taken from its queue once, in order; no period in it has more restarts than the
+    /// intensity unless the supervisor is ending; and no process number is a child's in two supervisors.
     ///
-    /// Sent orders are those that it sent, followed by those still to be sent; signals are the items of its inbox; the period is
-    /// one since it was last opened (of all openings the law `restart_rate` says it); one that is ending takes, or took, the one
-    /// restart too many. And a child that is undefined or restarting has its body.
+    /// The last part is what `System::close` of otp_tree says, which gets all seats back: this call says of it that its process
+    /// numbers are those that its own seat drew. Sent orders are those that it sent, followed by those
+    /// still to be sent; signals are the items of its inbox; the period is one since it was last opened (of all openings the law
+    /// `restart_rate` says it); one that is ending takes, or took, the one restart too many.
     ///
-    /// Besides, its process numbers are those that its own seat drew. Each signal that it posted for one of them is that of
-    /// an order that was sent, or of the one to be sent next. No two of its children have one slot, or one process. A child
-    /// whose start is still to be sent has its body too. A body that is away is with a child's process; and that of a child
-    /// whose process runs is away with it: its start was sent, and no Exit of it waits. Each start call that waits has its
-    /// body with it, in their order. The counts that were published last are those of its children. And each end of a supervisor
-    /// that it was told came with a note of its history, for the note's reason, and is shown.
+    /// Each child has one body, at home or away. It is at home exactly where the child has no process, where a note of its
+    /// process's end waits, and where its start is still to be sent; else it is away with the process. A body at home or away
+    /// is that of a child that there is. Of each child specification one body at most is kept, and it is no other
+    /// child's than that in the slot of the specification's place. Each start call that waits has its body with it, in their order.
+    ///
+    /// Besides, each signal that it posted for one of its numbers is that of an order that was sent, or of the one to be sent next. No
+    /// two of its children have one slot, or one process. The counts that were published last are those of its children. And
+    /// each end of a supervisor that it was told came with a note of its history, for the note's reason, and is shown. Whoever
+    /// serves it was credited with a start for each one that it sent, and with a turn for each event and each time that its inbox
+    /// was found empty.
     pub fn keeps_rules(&self)
         ensures { KeepsRules self.now }
     {
@@ -135,20 +144,29 @@ impl<N: WordsNaming + InboxNaming, B: Drop> Table<N, B> {
     /// inbox empty. A turn keeps one body more exactly where the item that it took brought one, and each body is then where
     /// the definitions put it. With an event the counts after it are published, and nothing is published otherwise. An end
     /// that came with the item is the last of those that the supervisor was told.
+    ///
+    /// The sender is that of whoever gives the turn. It is credited with one turn in cases 6 to 11, after what was done.
     pub fn turn<R: Wait>(
         &mut self,
         rt: &R,
         words: &Words<N>,
         inbox: &Inbox<N, Item, Letter<B>>,
+        sender: &mut Sender<N, Item, Letter<B>>,
         number: u64,
         reading: u64,
         told: Signal,
     ) -> Result<TurnAnswer, TurnFault>
         requires inbox { inbox.now ≡ self.old.taker.inbox }
+        requires sender { sender.old.inbox ≡ inbox.now }
+        requires may_send { 0 < sender.old.parts }
         requires reading { reading ≤ MAX_READING }
         ensures turned { Turned number reading told self.old self.new result }
         // Beyond cases 1 to 4 nothing is done without a number for the next start.
         ensures quota { early_answer self.old.office number ≡ None → OnOk result (0 < self.old.office.owner.quota) }
+        // The sender has a turn more where there was one, which the taker gave; and nothing else of it changed.
+        ensures turns { HasTurned result sender.old.shares.turns sender.new.shares.turns }
+        ensures given { sender.new.shares.turns + self.old.taker.given.turns ≡ sender.old.shares.turns + self.new.taker.given.turns }
+        ensures sender { sender.new ≡ record sender.old { shares = record sender.old.shares { turns = sender.new.shares.turns } } }
     {
         if let Some(early) = self.office.early_answer(number) {
             return early;
@@ -167,9 +185,11 @@ impl<N: WordsNaming + InboxNaming, B: Drop> Table<N, B> {
                 None,
             );
             publish(&self.office, &mut self.counts);
+            inbox.credit(&mut self.taker, sender, 0, 1);
             return Ok(answer_of(kind));
         }
         let Some((item, body, end)) = take_item(rt, inbox, &mut self.taker) else {
+            inbox.credit(&mut self.taker, sender, 0, 1);
             return Ok(if self.office.has_ended() {
                 TurnAnswer::Ended
             } else {
@@ -188,6 +208,7 @@ impl<N: WordsNaming + InboxNaming, B: Drop> Table<N, B> {
             body,
         );
         publish(&self.office, &mut self.counts);
+        inbox.credit(&mut self.taker, sender, 0, 1);
         Ok(TurnAnswer::Took)
     }
 
@@ -205,9 +226,24 @@ impl<N: WordsNaming + InboxNaming, B: Drop> Table<N, B> {
     /// Sends the first order that is still to be sent. A start posts the process's number to its child's slot and puts
     /// the process, with the child's body; an ask and a kill post. That all have started, and the end, are told to the
     /// parent. Where the port refuses, the order stays, and so does the body; what it posts may be posted again.
-    pub fn flush_one<P: Port<B>>(&mut self, words: &Words<N>, port: &mut P) -> Flushed
+    ///
+    /// The sender, of whoever serves, is credited with a start where one was sent.
+    pub fn flush_one<P: Port<B>>(
+        &mut self,
+        words: &Words<N>,
+        inbox: &Inbox<N, Item, Letter<B>>,
+        sender: &mut Sender<N, Item, Letter<B>>,
+        port: &mut P,
+    ) -> Flushed
+        requires inbox { inbox.now ≡ self.old.taker.inbox }
+        requires sender { sender.old.inbox ≡ inbox.now }
+        requires may_send { 0 < sender.old.parts }
         ensures flushed { Flushes result self.old.office self.new.office (taken_by (P.processes port.old) (P.notes port.old)) (taken_by (P.processes port.new) (P.notes port.new)) (P.refusals port.old) (P.refusals port.new) }
-        ensures taker { self.new.taker ≡ self.old.taker }
+        // A start was given and credited exactly where one was sent.
+        ensures taker { self.new.taker ≡ gave (starts_of (starts_flushed result (starting_slot self.old.office.outbox (state_of self.old.office.core).rows))) self.old.taker }
+        ensures sender { sender.new ≡ credited (starts_of (starts_flushed result (starting_slot self.old.office.outbox (state_of self.old.office.core).rows))) sender.old }
+        ensures put { length (P.processes port.new) ≡ length (P.processes port.old) + starts_flushed result (starting_slot self.old.office.outbox (state_of self.old.office.core).rows) }
+        ensures beside { P.beside port.new ≡ P.beside port.old }
         ensures counts { self.new.counts ≡ self.old.counts }
         ensures ends { self.new.ends_told ≡ self.old.ends_told }
         // The body that the table doesn't keep any more is that of the child whose process was put,
@@ -221,6 +257,7 @@ impl<N: WordsNaming + InboxNaming, B: Drop> Table<N, B> {
         let body = leave(&mut self.bodies, slot, at);
         let (flushed, back) = self.office.flush_one(words, body, port);
         come_back(&mut self.bodies, slot, at, back);
+        credit_start(inbox, &mut self.taker, sender, flushed, slot);
         flushed
     }
 
@@ -256,6 +293,15 @@ impl<N: WordsNaming + InboxNaming, B: Drop> Table<N, B> {
             of: _,
         } = self;
         (office, taker, ends)
+    }
+
+    /// The least deadline in milliseconds of the children that were told to shut down: once the clock has come to it, a
+    /// turn kills those of them whose deadline has come. None where no child has one.
+    pub fn next_deadline(&self) -> Option<u64>
+        ensures { result ≡ next_deadline (state_of self.now.office.core).rows }
+    {
+        let _ = &self.taker;
+        self.office.next_deadline()
     }
 
     /// The kept answer to the call with this number.
@@ -302,4 +348,23 @@ fn take_item<N: InboxNaming, B: Drop, R: Wait>(
 {
     let letter = inbox.take(rt, taker)?;
     Some(letter.into_parts())
+}
+
+/// Credits a start, where the order that was sent was to start the child of this slot.
+fn credit_start<N: InboxNaming, B: Drop>(
+    inbox: &Inbox<N, Item, Letter<B>>,
+    taker: &mut Taker<N, Item, Letter<B>>,
+    sender: &mut Sender<N, Item, Letter<B>>,
+    flushed: Flushed,
+    slot: Option<usize>,
+)
+    requires inbox { taker.old.inbox ≡ inbox.now }
+    requires sender { sender.old.inbox ≡ inbox.now }
+    requires may_send { 0 < sender.old.parts }
+    ensures taker { taker.new ≡ gave (starts_of (starts_flushed flushed slot)) taker.old }
+    ensures sender { sender.new ≡ credited (starts_of (starts_flushed flushed slot)) sender.old }
+{
+    if let (Flushed::Sent, Some(_)) = (flushed, slot) {
+        inbox.credit(taker, sender, 1, 0);
+    }
 }

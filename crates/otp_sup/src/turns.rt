@@ -1,5 +1,6 @@
 //! What a turn of a supervisor answers.
-ghost use Rattle.std.specs.Prelude.{◌≡◌};
+ghost use Rattle.std.specs.Prelude.{◌≡◌, ℕ, ◌+◌, Ok};
+ghost use Rattle.otp_sup.specs.Shares.{HasTurned};
 ghost use Rattle.otp_sup.specs.Turns.{answer_of};
 
 use otp_rules::Kind;
@@ -39,7 +40,8 @@ pub enum TurnFault {
 }
 
 pub(crate) fn answer_of(kind: Kind) -> TurnAnswer
-    ensures { result ≡ answer_of kind }
+    ensures answer { result ≡ answer_of kind }
+    ensures turn { (n : ℕ) → HasTurned (Ok result) n (n + 1) }
 {
     match kind {
         Kind::Opened(_) => TurnAnswer::Opened,

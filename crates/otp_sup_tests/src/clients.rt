@@ -3,13 +3,13 @@ ghost use Rattle.std.specs.Prelude.{◌≡◌};
 
 use otp_core::History;
 use otp_counts::Publisher;
-use otp_inbox::{InboxNaming, UnnamedInbox};
+use otp_inbox::{InboxNaming, Sender, UnnamedInbox};
 use otp_rules::{Call, CountsNow, Item, Kind, Reply};
 use otp_signals::{OpenWords, Signal, Words, WordsNaming};
 use otp_spec::{SupFlags, SupSpec};
 use otp_sup::{
     Bodies, Client, Letter, MemoryPort, Office, SplitFault, SubmitCause, Sup, Table, TurnAnswer,
-    count_opened,
+    TurnFault, count_opened,
 };
 use std::alloc::Global;
 use std::marker::Brand;
@@ -31,18 +31,28 @@ fn two_clients_and_a_hand(rt: HostRuntime) -> Result<(), Fail> {
     clients_in::<Brand, _>(&rt, rt.alloc(), words, inbox)
 }
 
-// A supervisor without children, and its first client, which may draw the numbers of all calls.
+// A supervisor, its first client, and the sender of whoever serves it.
+#[derive(Drop)]
+struct Served<N: WordsNaming + InboxNaming> {
+    words: Words<N>,
+    sup: Sup<N, u64>,
+    client: Client<N, u64>,
+    sender: Sender<N, Item, Post>,
+}
+
+// A supervisor without children. The client may draw the numbers of all calls.
 fn make_one<N: WordsNaming + InboxNaming>(
     alloc: Global,
     words: OpenWords,
     inbox: UnnamedInbox<Item, Post>,
-) -> Result<(Words<N>, Sup<N, u64>, Client<N, u64>), Fail>
+) -> Result<Served<N>, Fail>
     requires words { words.words ≡ N.words }
     requires slots { words.slots ≡ 256 }
     requires inbox { inbox ≡ N.inbox 0 }
 {
     let (words, mut owner) = words.named::<N>();
-    let (inbox, taker, sender) = inbox.named::<N>(0);
+    let (inbox, taker, mut sender) = inbox.named::<N>(0);
+    let own = inbox.split(&mut sender, 1);
     let seat = words.split(&mut owner, 0..256, 100)?;
     let callers = words.split(&mut owner, 0..0, 2 * CALLS)?;
     let supervisor = SupSpec::check(SupFlags::default(), Vec::new(alloc))?;
@@ -53,8 +63,12 @@ fn make_one<N: WordsNaming + InboxNaming>(
     let office = Office::open(alloc, supervisor, seat, 0);
     let counts = Publisher::open(alloc, office.counts())?;
     let table = Table::new(alloc, office, taker, bodies, counts);
-    let client = Client::new(alloc, callers, sender);
-    Ok((words, Sup::new(inbox, table), client))
+    Ok(Served {
+        words,
+        sup: Sup::new(inbox, table),
+        client: Client::new(alloc, callers, sender),
+        sender: own,
+    })
 }
 
 fn clients_in<N: WordsNaming + InboxNaming + Send + Sync, R: Threads + Wait + Abort + Sync>(
@@ -67,9 +81,14 @@ fn clients_in<N: WordsNaming + InboxNaming + Send + Sync, R: Threads + Wait + Ab
     requires slots { words.slots ≡ 256 }
     requires inbox { inbox ≡ N.inbox 0 }
 {
-    let (words, sup, mut first) = make_one::<N>(alloc, words, inbox)?;
+    let Served {
+        words,
+        sup,
+        client: mut first,
+        mut sender,
+    } = make_one::<N>(alloc, words, inbox)?;
     let mut port = MemoryPort::new(alloc);
-    let opened = sup.turn(rt, &words, &mut port, 0, 0, Signal::None);
+    let opened = turn(rt, &sup, &words, &mut sender, &mut port);
     assert_eq!(rt; opened, Ok(TurnAnswer::Opened));
     let second = split(rt, &mut first, &words, &sup)?;
     let (shared, lent) = (&sup, &words);
@@ -80,7 +99,7 @@ fn clients_in<N: WordsNaming + InboxNaming + Send + Sync, R: Threads + Wait + Ab
             move || send_all(rt, alloc, shared, lent, first),
             move || send_all(rt, alloc, shared, lent, second),
         ),
-        move || serve(rt, shared, lent, port),
+        move || serve(rt, shared, lent, sender, port),
     );
     assert!(rt; port.processes.is_empty());
     let (first, second) = (sent.0?, sent.1?);
@@ -167,11 +186,25 @@ fn send_one<N: WordsNaming + InboxNaming, R: Wait + Abort>(
     sent.map_err(|fault| fault.cause)
 }
 
+// A turn, with which this sender is credited.
+fn turn<N: WordsNaming + InboxNaming, R: Wait + Abort>(
+    rt: &R,
+    sup: &Sup<N, u64>,
+    words: &Words<N>,
+    sender: &mut Sender<N, Item, Post>,
+    port: &mut MemoryPort<u64>,
+) -> Result<TurnAnswer, TurnFault> {
+    assert_eq!(rt; sender.number(), sup.inbox().number());
+    assert!(rt; sender.parts() > 0);
+    sup.turn(rt, words, sender, port, 0, 0, Signal::None)
+}
+
 // Takes turns until all calls were taken: no other item comes.
 fn serve<N: WordsNaming + InboxNaming, R: Wait + Abort>(
     rt: &R,
     sup: &Sup<N, u64>,
     words: &Words<N>,
+    mut sender: Sender<N, Item, Post>,
     mut port: MemoryPort<u64>,
 ) -> MemoryPort<u64> {
     let mut taken = 0u64;
@@ -179,7 +212,7 @@ fn serve<N: WordsNaming + InboxNaming, R: Wait + Abort>(
         if taken >= 2 * CALLS {
             break;
         }
-        match sup.turn(rt, words, &mut port, 0, 0, Signal::None) {
+        match turn(rt, sup, words, &mut sender, &mut port) {
             Ok(TurnAnswer::Took) => taken += 1,
             Ok(TurnAnswer::Quiet) => thread::yield_now(),
             _ => assert!(rt; false),

@@ -4,12 +4,12 @@ ghost use Rattle.std.specs.Prelude.{◌≡◌, ◌≤◌, ◌<◌, ◌^◌};
 use otp_counts::Publisher;
 use otp_inbox::{InboxNaming, Sender, UnnamedInbox};
 use otp_reason::{Name, Note, Reason, Text};
-use otp_rules::{Call, CallFault, Item, Reply};
+use otp_rules::{Call, CallFault, Cause, Item, Reply};
 use otp_signals::{OpenWords, Signal, Viewer, Words, WordsNaming};
 use otp_spec::{ChildSpec, SupFlags, SupSpec, copy_specs};
 use otp_sup::{
-    Bodies, Client, Letter, MemoryPort, Office, SubmitCause, Sup, Table, TurnAnswer, TurnFault,
-    count_opened,
+    Bodies, Client, Letter, MemoryPort, Office, SubmitCause, Sup, Table, ToldNote, TurnAnswer,
+    TurnFault, count_opened,
 };
 use std::alloc::Global;
 use std::marker::Brand;
@@ -144,7 +144,7 @@ impl<N: WordsNaming + InboxNaming, B: Drop> Driven<N, B> {
         sent.map_err(|fault| (fault.cause, fault.body))
     }
 
-    fn turn_once<R: Wait>(
+    fn turn_once<R: Wait + Abort>(
         &mut self,
         rt: &R,
         number: u64,
@@ -153,8 +153,17 @@ impl<N: WordsNaming + InboxNaming, B: Drop> Driven<N, B> {
     ) -> Result<TurnAnswer, TurnFault>
         requires { reading ≤ 2 ^ 62 }
     {
-        self.sup
-            .turn(rt, &self.words, &mut self.port, number, reading, told)
+        assert_eq!(rt; self.sender.number(), self.sup.inbox().number());
+        assert!(rt; self.sender.parts() > 0);
+        self.sup.turn(
+            rt,
+            &self.words,
+            &mut self.sender,
+            &mut self.port,
+            number,
+            reading,
+            told,
+        )
     }
 
     // Sends a letter. Where memory is refused it comes back, and is sent again.
@@ -168,6 +177,19 @@ impl<N: WordsNaming + InboxNaming, B: Drop> Driven<N, B> {
         assert_eq!(rt; self.sender.number(), self.sup.inbox().number());
         assert!(rt; self.sender.parts() > 0);
         self.sup.inbox().send(rt, &mut self.sender, letter).err()
+    }
+
+    // Whether the last note that the parent was told brings the end of a supervisor by one restart too many.
+    fn has_told_intensity(&self) -> bool {
+        match self.port.notes.last() {
+            Some(
+                ToldNote {
+                    note: _,
+                    end: Some(end),
+                },
+            ) => matches!(end.end().cause, Cause::Intensity { .. }),
+            _ => false,
+        }
     }
 
     // What the child's process sees.
@@ -342,15 +364,17 @@ fn bodies_in<N: WordsNaming + InboxNaming, R: Wait + Abort>(
 fn refused_growths(rt: HostRuntime) -> Result<(), Fail> {
     let words = OpenWords::open(rt.alloc(), 256)?;
     let inbox = UnnamedInbox::<Item, Post>::open(rt.alloc())?;
-    let bodies: (Body, Body, Body) = (
+    let bodies: (Body, Body, Body, Body, Body) = (
         Box::new(rt.alloc(), Tagged { tag: 6 })?,
         Box::new(rt.alloc(), Tagged { tag: 7 })?,
         Box::new(rt.alloc(), Tagged { tag: 8 })?,
+        Box::new(rt.alloc(), Tagged { tag: 9 })?,
+        Box::new(rt.alloc(), Tagged { tag: 10 })?,
     );
     growths_in::<Brand, _>(&rt, rt.alloc(), words, inbox, bodies)
 }
 
-// A turn, a call and the sending of an order. Of `rt try --test --fail-alloc N` the least N refuse what is opened, which
+// A turn, a call and the sending of an order, to an end by the intensity: its note takes a copy of the end. Of `rt try --test --fail-alloc N` the least N refuse what is opened, which
 // the test then tells; each of the next refuses one growth of these calls: nothing has happened, the body is back, and the
 // same call with memory then does what it would have done.
 fn growths_in<N: WordsNaming + InboxNaming, R: Wait + Abort>(
@@ -358,7 +382,7 @@ fn growths_in<N: WordsNaming + InboxNaming, R: Wait + Abort>(
     alloc: Global,
     words: OpenWords,
     inbox: UnnamedInbox<Item, Post>,
-    bodies: (Body, Body, Body),
+    bodies: (Body, Body, Body, Body, Body),
 ) -> Result<(), Fail>
     requires words { words.words ≡ N.words }
     requires slots { words.slots ≡ 256 }
@@ -366,7 +390,7 @@ fn growths_in<N: WordsNaming + InboxNaming, R: Wait + Abort>(
 {
     let x = Text::new(b"x").ok_or("a text")?;
     let id = Name::new(b"b").ok_or("a name")?;
-    let (own, second, third) = bodies;
+    let (own, second, third, fourth, fifth) = bodies;
     let mut one = make_driven::<N, Body>(alloc, words, inbox, own)?;
     assert_eq!(rt; one.turn(rt, 0, 0, Signal::None), Ok(TurnAnswer::Opened));
     assert_eq!(rt; launched(rt, &mut one, 0), Some((1, 0, 6)));
@@ -386,5 +410,16 @@ fn growths_in<N: WordsNaming + InboxNaming, R: Wait + Abort>(
     assert_eq!(rt; one.turn(rt, 0, 0, Signal::None), Ok(TurnAnswer::Took));
     let restarted = launched(rt, &mut one, 0);
     assert!(rt; matches!(restarted, Some((number, 0, 8)) if number > child));
+    let again = restarted.map(|process| process.0).unwrap_or(0);
+    one.up(rt, again);
+    assert_eq!(rt; one.turn(rt, 0, 0, Signal::None), Ok(TurnAnswer::Took));
+    one.exit(rt, again, Reason::Error(x), fourth);
+    assert_eq!(rt; one.turn(rt, 0, 0, Signal::None), Ok(TurnAnswer::Took));
+    one.exit(rt, child, Reason::Shutdown, fifth);
+    assert_eq!(rt; one.turn(rt, 0, 0, Signal::None), Ok(TurnAnswer::Took));
+    let is_told = !one.port.notes.is_empty();
+    one.send_orders(rt, 0, is_told);
+    assert!(rt; one.has_told_intensity());
+    assert_eq!(rt; told(rt, &mut one), Some(Note::Exit(0, Reason::Shutdown)));
     Ok(())
 }

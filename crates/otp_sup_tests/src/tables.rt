@@ -22,28 +22,29 @@ use std::sync::Wait;
 use std::test::*;
 
 // A body is a number here.
-type Post = Letter<u64>;
+pub(crate) type Post = Letter<u64>;
 
 // The body that was handed in for the child `a`.
 const OWN: u64 = 6;
 
 // The specification of the one child, `a`.
-fn child() -> Result<ChildSpec, Fail> {
+pub(crate) fn child() -> Result<ChildSpec, Fail> {
     let id = Name::new(b"a").ok_or("a name")?;
     Ok(ChildSpec::new(id, id))
 }
 
-// A table of the child `a`, and what a test needs to drive it.
+// A table, and what a test needs to drive it.
 #[derive(Drop)]
-struct Alone<N: WordsNaming + InboxNaming> {
+pub(crate) struct Alone<N: WordsNaming + InboxNaming> {
     words: Words<N>,
     viewer: Viewer<N>,
     inbox: Inbox<N, Item, Post>,
-    table: Table<N, u64>,
+    pub(crate) table: Table<N, u64>,
     sender: Sender<N, Item, Post>,
     port: MemoryPort<u64>,
 }
 
+// A table of the child `a`.
 fn make_alone<N: WordsNaming + InboxNaming>(
     alloc: Global,
     words: OpenWords,
@@ -53,14 +54,34 @@ fn make_alone<N: WordsNaming + InboxNaming>(
     requires slots { words.slots ≡ 256 }
     requires inbox { inbox ≡ N.inbox 0 }
 {
+    let supervisor = SupSpec::check(SupFlags::default(), copy_specs(alloc, &[child()?])?)?;
+    make_table::<N>(alloc, words, inbox, supervisor, &[OWN])
+}
+
+// A table of these children, with these bodies for the specifications.
+pub(crate) fn make_table<N: WordsNaming + InboxNaming>(
+    alloc: Global,
+    words: OpenWords,
+    inbox: UnnamedInbox<Item, Post>,
+    supervisor: SupSpec,
+    own: &[u64],
+) -> Result<Alone<N>, Fail>
+    requires words { words.words ≡ N.words }
+    requires slots { words.slots ≡ 256 }
+    requires inbox { inbox ≡ N.inbox 0 }
+{
     let (words, mut owner) = words.named::<N>();
     let seat = words.split(&mut owner, 0..256, 1000)?;
     let viewer = words.viewer(&mut owner);
     let (inbox, taker, sender) = inbox.named::<N>(0);
-    let supervisor = SupSpec::check(SupFlags::default(), copy_specs(alloc, &[child()?])?)?;
     let mut bodies = Bodies::new(alloc);
-    if bodies.hand_in(0, OWN).is_err() || !bodies.are_ready(count_opened(&supervisor)) {
-        return Err("a body was refused".into());
+    for (place, body) in own.iter().enumerate() {
+        if bodies.hand_in(place, *body).is_err() {
+            return Err("a body was refused".into());
+        }
+    }
+    if !bodies.are_ready(count_opened(&supervisor)) {
+        return Err("a body is lacking".into());
     }
     let office = Office::open(alloc, supervisor, seat, 0);
     let counts = Publisher::open(alloc, office.counts())?;
@@ -75,7 +96,7 @@ fn make_alone<N: WordsNaming + InboxNaming>(
 }
 
 impl<N: WordsNaming + InboxNaming> Alone<N> {
-    fn turn<R: Wait + Abort>(
+    pub(crate) fn turn<R: Wait + Abort>(
         &mut self,
         rt: &R,
         number: u64,
@@ -84,16 +105,44 @@ impl<N: WordsNaming + InboxNaming> Alone<N> {
     ) -> Result<TurnAnswer, TurnFault>
         requires { reading ≤ 2 ^ 62 }
     {
+        self.fits(rt);
+        self.table.turn(
+            rt,
+            &self.words,
+            &self.inbox,
+            &mut self.sender,
+            number,
+            reading,
+            told,
+        )
+    }
+
+    // The table takes from the inbox, and the sender, which is credited with what the table does, sends to it.
+    fn fits<R: Abort>(&self, rt: &R)
+        ensures table { self.now.table.taker.inbox ≡ self.now.inbox }
+        ensures sender { self.now.sender.inbox ≡ self.now.inbox }
+        ensures parts { 0 < self.now.sender.parts }
+    {
         assert_eq!(rt; self.table.number(), self.inbox.number());
+        assert_eq!(rt; self.sender.number(), self.inbox.number());
+        assert!(rt; self.sender.parts() > 0);
+    }
+
+    // Sends the first order to another port.
+    fn flush_to<R: Abort, P: Port<u64>>(&mut self, rt: &R, port: &mut P) -> Flushed {
+        self.fits(rt);
         self.table
-            .turn(rt, &self.words, &self.inbox, number, reading, told)
+            .flush_one(&self.words, &self.inbox, &mut self.sender, port)
     }
 
     // Sends orders one by one until none is left, and answers how many were sent.
-    fn flush<R: Abort>(&mut self, rt: &R) -> u64 {
+    pub(crate) fn flush<R: Abort>(&mut self, rt: &R) -> u64 {
         let mut sent = 0u64;
         for _ in 0..10 {
-            let flushed = self.table.flush_one(&self.words, &mut self.port);
+            self.fits(rt);
+            let flushed = self
+                .table
+                .flush_one(&self.words, &self.inbox, &mut self.sender, &mut self.port);
             if flushed == Flushed::Empty {
                 return sent;
             }
@@ -104,13 +153,13 @@ impl<N: WordsNaming + InboxNaming> Alone<N> {
     }
 
     // The number, the slot and the body of the process that was put; the port has it no more.
-    fn put(&mut self) -> Option<(u64, usize, u64)> {
+    pub(crate) fn put(&mut self) -> Option<(u64, usize, u64)> {
         let process = self.port.processes.pop()?;
         Some((process.number, process.slot, process.body?))
     }
 
     // The note that the parent was told; the port has it no more.
-    fn told(&mut self) -> Option<Note> {
+    pub(crate) fn told(&mut self) -> Option<Note> {
         Some(self.port.notes.pop()?.note)
     }
 
@@ -133,18 +182,17 @@ impl<N: WordsNaming + InboxNaming> Alone<N> {
         self.words.look(&mut self.viewer, 0, number)
     }
 
-    fn send<R: Wait + Abort>(&mut self, rt: &R, letter: Post) {
-        assert_eq!(rt; self.sender.number(), self.inbox.number());
-        assert!(rt; self.sender.parts() > 0);
+    pub(crate) fn send<R: Wait + Abort>(&mut self, rt: &R, letter: Post) {
+        self.fits(rt);
         assert!(rt; self.inbox.send(rt, &mut self.sender, letter).is_ok());
     }
 
-    fn up<R: Wait + Abort>(&mut self, rt: &R, number: u64) {
+    pub(crate) fn up<R: Wait + Abort>(&mut self, rt: &R, number: u64) {
         let letter = Letter::note(Note::Up(number), None);
         self.send(rt, letter);
     }
 
-    fn exit<R: Wait + Abort>(&mut self, rt: &R, number: u64, reason: Reason, body: u64) {
+    pub(crate) fn exit<R: Wait + Abort>(&mut self, rt: &R, number: u64, reason: Reason, body: u64) {
         let letter = Letter::note(Note::Exit(number, reason), Some(body));
         self.send(rt, letter);
     }
@@ -171,6 +219,7 @@ fn by_orders_in<N: WordsNaming + InboxNaming, R: Wait + Abort>(
     let x = Text::new(b"x").ok_or("a text")?;
     let mut one = make_alone::<N>(alloc, words, inbox)?;
     assert_eq!(rt; one.turn(rt, 0, 0, Signal::None), Ok(TurnAnswer::Opened));
+    assert_eq!(rt; one.turn(rt, 0, 0, Signal::None), Ok(TurnAnswer::Pending));
     assert_eq!(rt; one.flush(rt), 1);
     assert_eq!(rt; one.put(), Some((1, 0, OWN)));
     assert_eq!(rt; one.turn(rt, 0, 0, Signal::None), Ok(TurnAnswer::Quiet));
@@ -232,6 +281,8 @@ impl Port<u64> for Shut {
 
     ghost refusals = { λ p. p.refusals.count };
 
+    ghost beside = { λ _. [] };
+
     fn put(&mut self, process: NewProcess<u64>) -> Result<(), NewProcess<u64>>
         ensures took { OnOk result (launched_all self.new.processes.items ≡ launched_all self.old.processes.items ++ launched process.number process.slot (is_some process.body) ∷ []) }
         ensures kept { OnErr result (launched_all self.new.processes.items ≡ launched_all self.old.processes.items) }
@@ -284,20 +335,14 @@ fn refused_in<N: WordsNaming + InboxNaming, R: Wait + Abort>(
     };
     assert_eq!(rt; one.turn(rt, 0, 0, Signal::None), Ok(TurnAnswer::Opened));
     for _ in 0..2 {
-        assert_eq!(rt;
-            one.table.flush_one(&one.words, &mut shut),
-            Flushed::Refused
-        );
+        assert_eq!(rt; one.flush_to(rt, &mut shut), Flushed::Refused);
         assert_eq!(rt; one.turn(rt, 0, 0, Signal::None), Ok(TurnAnswer::Pending));
     }
     assert_eq!(rt; one.flush(rt), 1);
     assert_eq!(rt; one.put(), Some((1, 0, OWN)));
     one.up(rt, 1);
     assert_eq!(rt; one.turn(rt, 0, 0, Signal::None), Ok(TurnAnswer::Took));
-    assert_eq!(rt;
-        one.table.flush_one(&one.words, &mut shut),
-        Flushed::Refused
-    );
+    assert_eq!(rt; one.flush_to(rt, &mut shut), Flushed::Refused);
     assert_eq!(rt; one.flush(rt), 1);
     assert_eq!(rt; one.told(), Some(Note::Up(0)));
     Ok(())

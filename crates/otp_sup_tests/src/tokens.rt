@@ -4,7 +4,10 @@ use otp_inbox::{Inbox, InboxNaming, Sender, Taker};
 use otp_job::{Body, BoxedJob};
 use otp_rules::Item;
 use otp_signals::WordsNaming;
-use otp_sup::{Bodies, Client, Letter, MemoryPort, Office, SubmitFault, Sup, Table};
+use otp_sup::{
+    Bodies, Client, Evidence, Letter, MemoryPort, NewProcess, Office, SubmitFault, Sup, SupParts,
+    Table, ToldEnd, ToldNote, Unlocked,
+};
 
 type Boxed = Body<BoxedJob, BoxedSubsystem>;
 
@@ -34,6 +37,28 @@ pub fn supervisor_crosses<N: WordsNaming + InboxNaming + Send + Sync>(
     is_send(table);
     is_send(office);
     is_send(client);
+}
+
+// What a supervisor is taken apart into.
+pub fn parts_cross<N: WordsNaming + InboxNaming + Send + Sync>(
+    unlocked: &Unlocked<N, Boxed>,
+    parts: &SupParts<N, Boxed>,
+) {
+    is_send(unlocked);
+    is_send(parts);
+}
+
+// What a port takes, and what a parent keeps of it.
+pub fn orders_are_send(
+    process: &NewProcess<Boxed>,
+    note: &ToldNote,
+    end: &ToldEnd,
+    evidence: &Evidence,
+) {
+    is_send(process);
+    is_send(note);
+    is_send(end);
+    is_send(evidence);
 }
 
 pub fn bodies_are_send(

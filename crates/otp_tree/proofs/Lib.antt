@@ -9,3 +9,4 @@ pub mod EachRead
 pub mod There
 pub mod Leavings
 pub mod Settlings
+pub mod Begun

@@ -1,11 +1,14 @@
 -- Hands that are parted and joined again.
 use Rattle.std.proofs.Common.{◌≡◌, ℕ, zero, suc, ◌+◌, ◌<◌, List, [], ◌∷◌, ◌++◌, length, map, refl, sym, ap, ◌∙◌, subst, arith, append_assoc}
-use Rattle.std.specs.Prelude.{is_some}
 use Rattle.std.proofs.lemmas.List.{append-nil}
-use Rattle.otp_run.specs.Schedulers.{SchedulerState, out}
+use Rattle.otp_run.specs.Schedulers.{SchedulerState}
 use Rattle.otp_tree.specs.declared.parting.Rest.{Rest}
-use Rattle.otp_tree.specs.Hands.{HandView, one_if, senders_of}
-use Rattle.otp_tree.specs.Partings.{hand_of, joined, ArePaired, schedulers_of}
+use Rattle.otp_counts.specs.Counts.{Reading}
+use Rattle.otp_inbox.specs.Tokens.{SenderState}
+use Rattle.otp_rules.specs.declared.event.Item.{Item}
+use Rattle.otp_tree.specs.Begun.{HasCredited}
+use Rattle.otp_tree.specs.Hands.{HandView, RunnerView, senders_of}
+use Rattle.otp_tree.specs.Partings.{hand_of, joined, ArePaired, IsPair, schedulers_of}
 use Rattle.otp_tree.specs.Settlings.{senders_in}
 
 pub nothing_left : {A : Type 0} (xs : List A) → length xs ≡ 0 → xs ≡ []
@@ -16,6 +19,14 @@ pub zero_unless : (n : ℕ) → (0 < n → ⊥) → n ≡ 0
 zero_unless zero isnt = refl
 zero_unless (suc n) isnt = absurd (isnt (omega arith))
 
+module _ {J S : Type 0} where
+  -- a hand of what it runs processes with, its senders and its passes
+  abbrev pub of_runner : RunnerView J S → List (SenderState Item) → List Reading → HandView J S
+  of_runner w senders passes = record { scheduler = w.scheduler; senders = senders; turning = w.turning; waiting = w.waiting; resting = w.resting; unsent = w.unsent; refusals = w.refusals; passes = passes }
+
+  pub credited_by : (v w : RunnerView J S) (senders : List (SenderState Item)) → v ≡ w → HasCredited w.scheduler senders → HasCredited v.scheduler senders
+  credited_by v w senders is credited = subst (λ (r : RunnerView J S). HasCredited r.scheduler senders) (sym is) credited
+
 module _ {N J S : Type 0} where
   pub joined-push : (ss : List SchedulerState) (rs : List (Rest N J S)) (s : SchedulerState) (r : Rest N J S) → length ss ≡ length rs → joined (ss ++ s ∷ []) (rs ++ r ∷ []) ≡ joined ss rs ++ hand_of s r ∷ []
   joined-push [] [] s r many = refl
@@ -23,7 +34,7 @@ module _ {N J S : Type 0} where
   joined-push (y ∷ ss) [] s r many = absurd (omega (arith, many))
   joined-push (y ∷ ss) (x ∷ rs) s r many = ap (λ l. hand_of y x ∷ l) (joined-push ss rs s r (omega (arith, many)))
 
-  pub paired-push : (ss : List SchedulerState) (rs : List (Rest N J S)) (s : SchedulerState) (r : Rest N J S) → length ss ≡ length rs → out s ≡ one_if (is_some r.turning) + length r.waiting → ArePaired ss rs → ArePaired (ss ++ s ∷ []) (rs ++ r ∷ [])
+  pub paired-push : (ss : List SchedulerState) (rs : List (Rest N J S)) (s : SchedulerState) (r : Rest N J S) → length ss ≡ length rs → IsPair s r → ArePaired ss rs → ArePaired (ss ++ s ∷ []) (rs ++ r ∷ [])
   paired-push [] [] s r many is paired = (is, tt)
   paired-push [] (x ∷ rs) s r many is paired = absurd (omega (arith, many))
   paired-push (y ∷ ss) [] s r many is paired = absurd paired
@@ -40,7 +51,7 @@ module _ {N J S : Type 0} where
       ∙ ap (λ l. joined ss rs ++ l) (ap (λ g. g ∷ rest') is ∙ sym next)
       ∙ so_far
 
-  pub paired-more : (ss ss' : List SchedulerState) (rs rs' : List (Rest N J S)) (s : SchedulerState) (r : Rest N J S) → ss' ≡ ss ++ s ∷ [] → rs' ≡ rs ++ r ∷ [] → length ss ≡ length rs → out s ≡ one_if (is_some r.turning) + length r.waiting → ArePaired ss rs → ArePaired ss' rs'
+  pub paired-more : (ss ss' : List SchedulerState) (rs rs' : List (Rest N J S)) (s : SchedulerState) (r : Rest N J S) → ss' ≡ ss ++ s ∷ [] → rs' ≡ rs ++ r ∷ [] → length ss ≡ length rs → IsPair s r → ArePaired ss rs → ArePaired ss' rs'
   paired-more ss ss' rs rs' s r one two many is paired =
       subst (λ l. ArePaired l rs') (sym one) (subst (λ l. ArePaired (ss ++ s ∷ []) l) (sym two) (paired-push ss rs s r many is paired))
 

@@ -4,6 +4,7 @@ use Rattle.otp_inbox.specs.Tokens.{SenderState, all_parts}
 use Rattle.otp_rules.specs.declared.event.Item.{Item}
 use Rattle.otp_rules.specs.Needs.{numbers_of}
 use Rattle.otp_run.specs.Gathers.{IsAll}
+use Rattle.otp_run.specs.Lists.{AllAt}
 use Rattle.otp_signals.specs.Lists.{NoneInBoth}
 use Rattle.otp_sup.specs.Ends.{AreTold}
 use Rattle.otp_sup.specs.Facts.{Begins}
@@ -16,6 +17,7 @@ use Rattle.otp_tree.specs.declared.report.Report.{Report}
 use Rattle.otp_tree.specs.declared.whole.RunFault.{RunFault}
 use Rattle.otp_tree.specs.declared.whole.RunFault.TheVariants as run
 use Rattle.otp_tree.specs.declared.report.TableReport.{TableReport}
+use Rattle.otp_tree.specs.Begun.{HasAllStarts}
 use Rattle.otp_tree.specs.Hands.{HandView, ClientView, SystemView, senders_of}
 use Rattle.otp_tree.specs.Leavings.{HasUnsent}
 use Rattle.otp_tree.specs.Partings.{schedulers_of}
@@ -32,6 +34,8 @@ pub record IsReached (tables : ℕ) (client : ClientView) (all : List (List (Sen
   pub waits : MatchOption client.waiter ⊥ (λ w. w.inbox ≡ tables)
   pub reach : length client.senders ≡ tables + 1
   pub whole : (place : ℕ) → place < length client.senders → parts_to place all ≡ all_parts
+  -- and none of them reaches further
+  pub as_far : AllAt (λ _ senders. length senders ≡ tables + 1) all
 
 -- all parts of a tree are there
 abbrev pub IsComplete : {J S : Type 0} → SystemView → List (HandView J S) → ClientView → Type 0
@@ -97,6 +101,8 @@ module _ {J S : Type 0} where
     -- each end that one was told of another is one that the other's history gives
     pub told : AreSo report.tables.items
     pub processes : IsBalanced report
+    -- what began is the root's process, and those whose starts were sent
+    pub starts : HasAllStarts report
 
   -- a mismatch of a tree that was run whole is that of an event of its report
   abbrev pub IsRunMismatchOnly : RunFault J S → Type 0

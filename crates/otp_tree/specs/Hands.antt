@@ -14,6 +14,7 @@ use Rattle.otp_sup.specs.Ports.{launched, told}
 use Rattle.otp_sup.specs.declared.port.Launched.{Launched}
 use Rattle.otp_sup.specs.declared.port.ToldNote.{ToldNote}
 use Rattle.otp_tree.specs.declared.hand.Unsent.{Unsent}
+use Rattle.otp_tree.specs.declared.resting.Rested.{Rested}
 
 pub record HandView (J S : Type 0) : Type 0 where
   pub scheduler : SchedulerState
@@ -22,11 +23,22 @@ pub record HandView (J S : Type 0) : Type 0 where
   pub turning : Option (ProcessState J S)
   -- those that it has out and that wait until they are told something
   pub waiting : List (ProcessState J S)
+  -- those of supervisors, which it has out too and which wait until something comes for them
+  pub resting : List (Rested J S)
   -- the letter that was refused
   pub unsent : Option (Unsent J S)
   pub refusals : ℕ
   -- by which it reads the counts of each supervisor
   pub passes : List Reading
+
+-- what contracts see of what a hand runs processes with
+pub record RunnerView (J S : Type 0) : Type 0 where
+  pub scheduler : SchedulerState
+  pub turning : Option (ProcessState J S)
+  pub waiting : List (ProcessState J S)
+  pub resting : List (Rested J S)
+  pub unsent : Option (Unsent J S)
+  pub refusals : ℕ
 
 abbrev pub senders_of : {J S : Type 0} → HandView J S → List (SenderState Item)
 senders_of h = h.senders
@@ -51,8 +63,8 @@ module _ {J S : Type 0} where
   unsent_notes None = []
 
   -- the notes that a hand took and that are still to go: while a supervisor has its turn it sends none
-  abbrev pub notes_by : HandView J S → List ToldNote
-  notes_by h = unsent_notes h.unsent
+  abbrev pub notes_by : RunnerView J S → List ToldNote
+  notes_by r = unsent_notes r.unsent
 
 -- what contracts see of a client
 pub record ClientView : Type 0 where

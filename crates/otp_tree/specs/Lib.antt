@@ -1,4 +1,5 @@
 pub mod Seats
+pub mod Drafts
 pub mod Hands
 pub mod Opens
 pub mod Reports
@@ -6,6 +7,7 @@ pub mod Partings
 pub mod Sendings
 pub mod Tellings
 pub mod Waitings
+pub mod Begun
 pub mod Closes
 pub mod Gathers
 pub mod Readings

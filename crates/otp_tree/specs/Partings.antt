@@ -2,6 +2,7 @@
 use Rattle.std.specs.Prelude.{◌≡◌, ◌+◌, ⊤, List, [], ◌∷◌, length, map, is_some}
 use Rattle.otp_run.specs.Schedulers.{SchedulerState, out}
 use Rattle.otp_tree.specs.declared.parting.Rest.{Rest}
+use Rattle.otp_tree.specs.Begun.{HasCredited}
 use Rattle.otp_tree.specs.Hands.{HandView, one_if}
 
 module _ {J S : Type 0} where
@@ -15,7 +16,7 @@ module _ {J S : Type 0} where
 module _ {N J S : Type 0} where
   -- the hand of a scheduler and the rest
   abbrev pub hand_of : SchedulerState → Rest N J S → HandView J S
-  hand_of s r = record { scheduler = s; senders = r.senders; turning = r.turning; waiting = r.waiting; unsent = r.unsent; refusals = r.refusals.count; passes = r.passes.items }
+  hand_of s r = record { scheduler = s; senders = r.senders; turning = r.turning; waiting = r.waiting; resting = r.resting; unsent = r.unsent; refusals = r.refusals.count; passes = r.passes.items }
 
   -- the hands of all schedulers and their rests
   abbrev pub joined : List SchedulerState → List (Rest N J S) → List (HandView J S)
@@ -23,8 +24,13 @@ module _ {N J S : Type 0} where
   joined (s ∷ ss) [] = []
   joined (s ∷ ss) (r ∷ rs) = hand_of s r ∷ joined ss rs
 
-  -- each scheduler has its rest: out are the processes that the rest has
+  -- a scheduler and the rest are a hand: out are the processes that the rest has, and what began was credited to its senders
+  pub record IsPair (s : SchedulerState) (r : Rest N J S) : Type 0 where
+    pub out_is : out s ≡ one_if (is_some r.turning) + length r.waiting + length r.resting
+    pub credited : HasCredited s r.senders
+
+  -- each scheduler has its rest
   abbrev pub ArePaired : List SchedulerState → List (Rest N J S) → Type 0
   ArePaired [] rs = ⊤
   ArePaired (s ∷ ss) [] = ⊥
-  ArePaired (s ∷ ss) (r ∷ rs) = (out s ≡ one_if (is_some r.turning) + length r.waiting) × ArePaired ss rs
+  ArePaired (s ∷ ss) (r ∷ rs) = IsPair s r × ArePaired ss rs

@@ -1,12 +1,11 @@
--- Processes that wait until they are told something. (own)
+-- Processes that wait. (own)
 use Rattle.std.specs.Prelude.{◌≡◌, ℕ, ◌+◌, ◌<◌, List, length, slice_index_or}
 use Rattle.std.specs.List.{swap_remove}
-use Rattle.otp_job.specs.Processes.{ProcessState}
 
 -- one of those that waited was taken out, and the last took its place
-pub record IsTaken {J S : Type 0} (process : ProcessState J S) (old new : List (ProcessState J S)) : Type 0 where
+pub record IsTaken {A : Type 0} (taken : A) (old new : List A) : Type 0 where
   pub place : ℕ
   pub there : place < length old
-  pub is : process ≡ slice_index_or old place process
-  pub others : new ≡ swap_remove old place process
+  pub is : taken ≡ slice_index_or old place taken
+  pub others : new ≡ swap_remove old place taken
   pub fewer : length new + 1 ≡ length old

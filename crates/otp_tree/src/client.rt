@@ -27,14 +27,16 @@ pub struct Client<N: WordsNaming + InboxNaming, B: Drop> {
 }
 
 impl<N: WordsNaming + InboxNaming, B: Drop> Model for Client<N, B> {
-    ghost use Rattle.std.specs.Prelude.{Contains, IfSome};
+    ghost use Rattle.std.specs.Prelude.{◌≡◌, Contains, IfSome};
+    ghost use Rattle.otp_inbox.specs.Tokens.{no_shares};
+    ghost use Rattle.otp_tree.specs.Begun.{starts_credited};
     ghost use Rattle.otp_tree.specs.Hands.{ClientView};
 
     ghost Value = { ClientView };
 
     ghost view = { λ c. record { owner = c.owner; senders = c.senders; root = c.root; waiter = c.waiter } };
 
-    ghost invariant = { λ c. IfSome c.root (λ number. Contains c.owner.slots 0 × Contains c.owner.drawn number) };
+    ghost invariant = { λ c. IfSome c.root (λ number. Contains c.owner.slots 0 × Contains c.owner.drawn number) × (starts_credited c.senders ≡ 0) × IfSome c.waiter (λ w. w.given ≡ no_shares) };
 }
 
 impl<N: WordsNaming + InboxNaming, B: Drop> Client<N, B> {

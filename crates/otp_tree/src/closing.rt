@@ -7,6 +7,7 @@ ghost use Rattle.otp_run.specs.Gathers.{IsLiveTotal, begun_of, ended_of};
 ghost use Rattle.otp_run.specs.Rule.{ticket_of};
 ghost use Rattle.otp_run.specs.Lists.{AllAt};
 ghost use Rattle.otp_signals.specs.Lists.{AllIn, NoneInBoth};
+ghost use Rattle.otp_tree.specs.Begun.{HasAllStarts, starts_credited, starts_of, unsent_of};
 ghost use Rattle.otp_tree.specs.Closes.{AreApart, HasBegun, HasTold, IsAsItWas, IsComplete, IsMismatchOnly, IsMissingOnly, IsReached, IsRefusalOf, IsReportOf, all_senders, kept_in, report_in};
 ghost use Rattle.otp_tree.specs.Leavings.{AreAccounted, HasUnsent, IsLast, line_of, sent_at};
 ghost use Rattle.otp_tree.specs.Partings.{schedulers_of};
@@ -40,8 +41,8 @@ use std::vec::IntoIter;
 pub enum CloseFault<J: Drop, S: Drop, K: Drop> {
     /// E0: memory was refused.
     OutOfMemory(K),
-    /// E20: a hand is missing, or the hands aren't in the order in which the tree was opened with them, or the client
-    /// isn't the one that it was opened with.
+    /// E20: a hand is missing or another tree's, or the hands aren't in the order in which the tree was opened with them,
+    /// or the client isn't the one that it was opened with.
     Missing(K),
     /// A supervisor's lock holds another one's. It doesn't happen, since each is opened with its own and nothing moves
     /// them; but what lies under a lock is known by its type alone, which doesn't say whose it is.
@@ -84,6 +85,9 @@ pub struct Unclosed<N: WordsNaming + InboxNaming + RunNaming, J: Drop, S: Drop> 
 impl<N: WordsNaming + InboxNaming, J: Drop, S: Drop> System<N, J, S> {
     /// Takes the tree apart, and reports what it was, with what is left in each inbox.
     ///
+    /// Of each supervisor stands what [`Table::keeps_rules`](otp_sup::Table::keeps_rules) says; and no process number is a child's in
+    /// two supervisors (`apart`), since each one's seat comes home to the client's.
+    ///
     /// # Errors
     ///
     /// [`CloseFault::OutOfMemory`] (E0), [`CloseFault::Missing`] (E20) and [`CloseFault::Misplaced`] are found before
@@ -105,6 +109,9 @@ impl<N: WordsNaming + InboxNaming, J: Drop, S: Drop> System<N, J, S> {
         ensures live { IfSome (report_in result) (λ report. IsLiveTotal (schedulers_of hands.items) report.live (map ticket_of report.processes.items)) }
         ensures begun { IfSome (report_in result) (λ report. report.begun ≡ sum_by begun_of (schedulers_of hands.items)) }
         ensures ended { IfSome (report_in result) (λ report. report.ended ≡ sum_by ended_of (schedulers_of hands.items)) }
+        // What began is the root's process, and those whose starts were sent: of all starts of all histories those that were
+        // not still to be sent.
+        ensures starts { IfSome (report_in result) (λ report. HasAllStarts report) }
         // Each core began as a supervisor that was never opened.
         ensures begins { IfSome (report_in result) (λ report. All HasBegun report.tables.items) }
         // Each end of another supervisor that its history was told is for the note's reason, and shown.
@@ -178,6 +185,7 @@ fn report_of<N: WordsNaming + InboxNaming, J: Drop, S: Drop, R: Wait>(
     client: Client<N, Body<J, S>>,
 ) -> Report<J, S>
     requires loose { IsLoose client (client.senders ∷ map senders_in gathered.rests.items) loose }
+    requires begun { gathered.total.begun ≡ 1 + sum_by starts_credited (map senders_in gathered.rests.items) }
     requires reached { IsReached (length loose.sups.items) client (client.senders ∷ map senders_in gathered.rests.items) }
     ensures count { length result.tables.items ≡ length loose.sups.items }
     ensures begins { All HasBegun result.tables.items }
@@ -186,6 +194,7 @@ fn report_of<N: WordsNaming + InboxNaming, J: Drop, S: Drop, R: Wait>(
     ensures left { AreAccounted (client.senders ∷ map senders_in gathered.rests.items) result.tables.items }
     ensures last { IsLast (length loose.sups.items) (client.senders ∷ map senders_in gathered.rests.items) client.waiter result.last.items }
     ensures unsent { All HasUnsent result.tables.items }
+    ensures starts { HasAllStarts result }
     ensures live { result.live ≡ gathered.total.live }
     ensures begun { result.begun ≡ gathered.total.begun }
     ensures ended { result.ended ≡ gathered.total.ended }
@@ -238,11 +247,13 @@ fn take_all_apart<N: WordsNaming + InboxNaming, B: Drop, R: Wait>(
     requires none { tables.items ≡ [] }
     requires room { length sups.items ≤ vec_capacity tables }
     requires ready { AreReady sups.items senders.items rooms.items }
+    requires as_many { length senders.items ≡ length sups.items }
     ensures begins { All HasBegun result.items }
     ensures shown { All HasTold result.items }
     ensures apart { AreApart result.items }
     ensures left { AllAt (λ k t. AsOften (sent_at k senders.items) (line_of t)) result.items }
     ensures unsent { All HasUnsent result.items }
+    ensures starts { starts_credited senders.items + sum_by unsent_of result.items ≡ sum_by starts_of result.items }
     ensures count { length result.items ≡ length sups.items }
 {
     let mut senders = senders.into_iter();
@@ -282,6 +293,7 @@ fn take_apart<N: WordsNaming + InboxNaming, B: Drop, R: Wait>(
     ensures shown { HasTold result }
     ensures left { AsOften (all_sent sender) (line_of result) }
     ensures unsent { HasUnsent result }
+    ensures starts { sender.shares.starts + result.unsent ≡ starts_of result }
     ensures apart { NoneInBoth owner.old.drawn (numbers_of result.core.history) }
     ensures kept { AllIn owner.old.drawn owner.new.drawn }
     ensures gained { AllIn (numbers_of result.core.history) owner.new.drawn }

@@ -2,6 +2,8 @@
 ghost use Rattle.std.specs.Prelude.{◌≡◌, ◌↔◌, ℕ, ◌+◌, ◌<◌, ◌-◌, ◌^◌, length, min, IsTrue};
 ghost use Rattle.otp_inbox.specs.Tokens.{all_parts};
 ghost use Rattle.otp_tree.specs.Closes.{IsReached, all_senders};
+ghost use Rattle.otp_run.specs.Lists.{AllAt};
+ghost use Rattle.otp_tree.specs.Hands.{senders_of};
 ghost use Rattle.otp_tree.specs.Sendings.{parts_to};
 
 use crate::client::Client;
@@ -12,7 +14,7 @@ use otp_run::RunNaming;
 use otp_signals::WordsNaming;
 
 /// Whether the client is the one that a tree of so many supervisors was opened with, and it and the hands together have
-/// the whole right to send to each supervisor, and to whoever opened the tree.
+/// the whole right to send to each supervisor, and to whoever opened the tree, and to nobody else.
 pub(crate) fn is_reached<N: WordsNaming + InboxNaming + RunNaming, J: Drop, S: Drop>(
     tables: usize,
     hands: &[Hand<N, J, S>],
@@ -26,6 +28,9 @@ pub(crate) fn is_reached<N: WordsNaming + InboxNaming + RunNaming, J: Drop, S: D
     if !reaches(client, tables) {
         return false;
     }
+    if !reach_as_far(hands, client.senders.len()) {
+        return false;
+    }
     has_all_parts(hands, client)
 }
 
@@ -35,6 +40,31 @@ fn reaches<N: WordsNaming + InboxNaming, B: Drop>(client: &Client<N, B>, tables:
 {
     let count = client.senders.len();
     count > tables && count - tables == 1
+}
+
+/// Whether each hand sends to so many.
+fn reach_as_far<N: WordsNaming + InboxNaming + RunNaming, J: Drop, S: Drop>(
+    hands: &[Hand<N, J, S>],
+    count: usize,
+) -> bool
+    ensures { IsTrue result ↔ AllAt (λ _ hand. length (senders_of hand) ≡ count) hands.now }
+{
+    for place in 0..hands.len() {
+        if !sends_to(&hands[place], count) {
+            return false;
+        }
+    }
+    true
+}
+
+/// Whether the hand sends to so many.
+fn sends_to<N: WordsNaming + InboxNaming + RunNaming, J: Drop, S: Drop>(
+    hand: &Hand<N, J, S>,
+    count: usize,
+) -> bool
+    ensures { IsTrue result ↔ (length (senders_of hand.now) ≡ count) }
+{
+    hand.senders.len() == count
 }
 
 /// Whether they have the whole right to send to each of those to which the client sends.

@@ -3,9 +3,12 @@ ghost use Rattle.std.specs.Prelude.{◌≡◌, ◌↔◌, ◌<◌, ◌≤◌, �
 ghost use Rattle.otp_sup.specs.Ports.{launched, told};
 ghost use Rattle.otp_sup.specs.Letters.{Comes, carries_body};
 ghost use Rattle.otp_rules.specs.declared.event.Item.TheVariants as item;
+ghost use Rattle.otp_spec.specs.declared.limits.TheConstants.{MAX_READING};
+ghost use Rattle.otp_tree.specs.Begun.{NoneBegan};
 ghost use Rattle.otp_tree.specs.Readings.{HasRead};
 
 use crate::reading::read_at;
+use crate::resting::{Rested, Resting};
 use crate::senders::Senders;
 use crate::waiting::Waiting;
 use otp_bridge::Subsystem;
@@ -16,11 +19,10 @@ use otp_reason::Note;
 use otp_rules::{CountsNow, Item, SupEnd};
 use otp_run::{RunNaming, SHARE_LIMIT, Scheduler};
 use otp_signals::{Signal, Viewer, Words, WordsNaming};
-use otp_sup::{Letter, NewProcess, Port, evidence_of};
+use otp_sup::{Letter, NewProcess, Port, Sup, TurnAnswer, TurnFault, evidence_of};
 use otp_tally::Tally;
 use std::alloc::Global;
 use std::marker::Model;
-use std::mem;
 use std::sync::Wait;
 
 /// A letter that was not sent yet, and the number of the supervisor to which it goes.
@@ -30,47 +32,72 @@ pub(crate) struct Unsent<J: Drop, S: Drop> {
     pub letter: Letter<Body<J, S>>,
 }
 
-/// What one thread needs to serve: a scheduler, a viewer of the signals, a sender to each supervisor, and a pass to read
-/// the counts of each.
+/// What one thread needs to serve: what it runs processes with, a sender to each supervisor, and a pass to read the counts
+/// of each.
 ///
-/// It has out the process whose turn it is; where that can't be given back for want of memory it stays in the hand and comes
-/// first. So does a note that was refused. Out are also those of its processes that wait until they are told something
-/// ([`Turn::Wait`](otp_job::Turn::Wait)): they take no turns, and no other hand gets them.
+/// As many processes began at its scheduler as starts were credited to its senders, and one more, the root's, in the first
+/// hand.
 #[derive(Drop)]
 pub struct Hand<N: WordsNaming + InboxNaming + RunNaming, J: Drop, S: Drop> {
-    pub(crate) scheduler: Scheduler<N, J, S>,
-    pub(crate) viewer: Viewer<N>,
+    pub(crate) runner: Runner<N, J, S>,
     pub(crate) senders: Senders<N, Body<J, S>>,
-    pub(crate) turning: Option<Process<J, S>>,
-    pub(crate) waiting: Waiting<J, S>,
-    pub(crate) unsent: Option<Unsent<J, S>>,
-    pub(crate) refusals: Tally,
     pub(crate) passes: Vec<CountsPass>,
-    pub(crate) alloc: Global,
 }
 
 impl<N: WordsNaming + InboxNaming + RunNaming, J: Drop, S: Drop> Model for Hand<N, J, S> {
-    ghost use Rattle.std.specs.Prelude.{◌≡◌, ◌+◌, is_some, length};
-    ghost use Rattle.otp_run.specs.Schedulers.{out};
-    ghost use Rattle.otp_tree.specs.Hands.{HandView, one_if};
+    ghost use Rattle.std.specs.Prelude.{◌≡◌};
+    ghost use Rattle.otp_tree.specs.Hands.{HandView};
+    ghost use Rattle.otp_tree.specs.Begun.{HasCredited};
 
     ghost Value = { HandView J S };
 
-    ghost view = { λ h. record { scheduler = h.scheduler; senders = h.senders; turning = h.turning; waiting = h.waiting; unsent = h.unsent; refusals = h.refusals.count; passes = h.passes.items } };
+    ghost view = { λ h. record { scheduler = h.runner.scheduler; senders = h.senders; turning = h.runner.turning; waiting = h.runner.waiting; resting = h.runner.resting; unsent = h.runner.unsent; refusals = h.runner.refusals; passes = h.passes.items } };
 
-    ghost invariant = { λ h. out h.scheduler ≡ one_if (is_some h.turning) + length h.waiting };
+    ghost invariant = { λ h. HasCredited h.runner.scheduler h.senders };
 }
 
-impl<N: WordsNaming + InboxNaming + RunNaming, J: Drop, S: Drop> Port<Body<J, S>>
-    for Hand<N, J, S> {
+/// What a hand runs processes with: a scheduler, and a viewer of the signals. Supervisors give their orders to it.
+///
+/// It has out the process whose turn it is; where that can't be given back for want of memory it stays here and comes
+/// first. So does a note that was refused. Out are also those of its processes that wait: jobs until they are told something
+/// ([`Turn::Wait`](otp_job::Turn::Wait)), and supervisors that found nothing to do until something comes for them. They take no
+/// turns, and no other hand gets them.
+#[derive(Drop)]
+pub(crate) struct Runner<N: WordsNaming + RunNaming, J: Drop, S: Drop> {
+    pub scheduler: Scheduler<N, J, S>,
+    pub viewer: Viewer<N>,
+    pub turning: Option<Process<J, S>>,
+    pub waiting: Waiting<J, S>,
+    pub resting: Resting<J, S>,
+    pub unsent: Option<Unsent<J, S>>,
+    pub refusals: Tally,
+    pub alloc: Global,
+}
+
+impl<N: WordsNaming + RunNaming, J: Drop, S: Drop> Model for Runner<N, J, S> {
+    ghost use Rattle.std.specs.Prelude.{◌≡◌, ◌+◌, is_some, length};
+    ghost use Rattle.otp_run.specs.Schedulers.{out};
+    ghost use Rattle.otp_tree.specs.Hands.{RunnerView, one_if};
+
+    ghost Value = { RunnerView J S };
+
+    ghost view = { λ r. record { scheduler = r.scheduler; turning = r.turning; waiting = r.waiting; resting = r.resting; unsent = r.unsent; refusals = r.refusals.count } };
+
+    ghost invariant = { λ r. out r.scheduler ≡ one_if (is_some r.turning) + length r.waiting + length r.resting };
+}
+
+impl<N: WordsNaming + RunNaming, J: Drop, S: Drop> Port<Body<J, S>> for Runner<N, J, S> {
     ghost use Rattle.std.specs.Prelude.{map};
+    ghost use Rattle.otp_tree.specs.Begun.{beside_of};
     ghost use Rattle.otp_tree.specs.Hands.{launched_of, notes_by};
 
-    ghost processes = { λ h. map launched_of h.scheduler.own.puts };
+    ghost processes = { λ r. map launched_of r.scheduler.own.puts };
 
-    ghost notes = { λ h. notes_by h };
+    ghost notes = { λ r. notes_by r };
 
-    ghost refusals = { λ h. h.refusals };
+    ghost refusals = { λ r. r.refusals };
+
+    ghost beside = { λ r. beside_of r.scheduler };
 
     fn put(&mut self, process: NewProcess<Body<J, S>>) -> Result<(), NewProcess<Body<J, S>>>
         ensures took { OnOk result (map launched_of self.new.scheduler.own.puts ≡ map launched_of self.old.scheduler.own.puts ++ launched process.number process.slot (is_some process.body) ∷ []) }
@@ -79,6 +106,7 @@ impl<N: WordsNaming + InboxNaming + RunNaming, J: Drop, S: Drop> Port<Body<J, S>
         ensures counted { OnOk result (self.new.refusals ≡ self.old.refusals) }
         ensures back { IfErr result (λ back. back ≡ process) }
         ensures notes { notes_by self.new ≡ notes_by self.old }
+        ensures beside { beside_of self.new.scheduler ≡ beside_of self.old.scheduler }
     {
         let NewProcess { number, slot, body } = process;
         let Some(body) = body else {
@@ -108,6 +136,7 @@ impl<N: WordsNaming + InboxNaming + RunNaming, J: Drop, S: Drop> Port<Body<J, S>
         ensures refused { OnErr result (self.old.refusals < self.new.refusals) }
         ensures counted { OnOk result (self.new.refusals ≡ self.old.refusals) }
         ensures processes { map launched_of self.new.scheduler.own.puts ≡ map launched_of self.old.scheduler.own.puts }
+        ensures beside { beside_of self.new.scheduler ≡ beside_of self.old.scheduler }
     {
         let alloc = self.alloc;
         if let (None, Some(process)) = (&self.unsent, &mut self.turning) {
@@ -152,30 +181,105 @@ fn letter_of<J: Drop, S: Drop>(
 }
 
 impl<N: WordsNaming + InboxNaming + RunNaming, J: Drop, S: Drop> Hand<N, J, S> {
-    /// Makes sure that there is a process whose turn it is: one that waited and was told something, or else the next of the
-    /// run queue. False where none was found.
-    pub(crate) fn find(&mut self, words: &Words<N>) -> bool
-        ensures found { IsTrue result → is_some self.new.turning ≡ true }
+    /// Gives the processes that wait back to the run queue, as far as there is memory: each has its turn again when it comes
+    /// there, in any hand. Whoever closes a tree does this first ([`System::close`](crate::System::close)), so that they are
+    /// among the processes of the report.
+    pub fn rouse(&mut self)
         ensures unsent { self.new.unsent ≡ self.old.unsent }
         ensures passes { self.new.passes ≡ self.old.passes }
     {
-        if self.turning.is_some() {
-            return true;
+        self.runner.rouse();
+    }
+
+    /// A turn of the supervisor that runs in the process that it has out. Its sender to that supervisor is credited with what
+    /// was done.
+    pub(crate) fn turn_nested<R: Wait>(
+        &mut self,
+        rt: &R,
+        words: &Words<N>,
+        sup: &Sup<N, Body<J, S>>,
+        number: u64,
+        reading: u64,
+        told: Signal,
+    ) -> Result<TurnAnswer, TurnFault>
+        requires { reading ≤ MAX_READING }
+        ensures { self.new.passes ≡ self.old.passes }
+    {
+        if sup.inbox().number() >= self.senders.len() {
+            return Ok(TurnAnswer::Pending);
         }
-        if self.scheduler.share().ended >= SHARE_LIMIT {
-            return false;
+        self.senders
+            .turn(rt, words, sup, &mut self.runner, number, reading, told)
+    }
+
+    /// The counts of the supervisor with this number, as it published them last. None where it has no pass for one.
+    pub(crate) fn read_counts(&mut self, table: usize) -> Option<CountsNow>
+        ensures read { IfSome result (λ now. HasRead table now self.old self.new) }
+        ensures none { IfNone result (self.new ≡ self.old) }
+        ensures there { is_some result ≡ true ↔ table < length self.old.passes }
+    {
+        if table >= self.passes.len() {
+            return None;
         }
+        Some(read_at(self.passes.as_mut_slice(), table))
+    }
+}
+
+impl<N: WordsNaming + RunNaming, J: Drop, S: Drop> Runner<N, J, S> {
+    /// Gives its turn to the supervisor's process that waits at this place, if there is one.
+    pub(crate) fn wake(&mut self, place: Option<usize>)
+        requires free { self.old.turning ≡ None }
+        requires there { IfSome place (λ place. place < length self.old.resting) }
+        ensures unsent { self.new.unsent ≡ self.old.unsent }
+        ensures begun { NoneBegan self.old.scheduler self.new.scheduler }
+    {
+        let Some(place) = place else {
+            return;
+        };
+        self.turning = Some(self.resting.take_at(place).process);
+    }
+
+    /// Gives its turn to a job that waits and was told something, if it is one of those that are looked at now.
+    pub(crate) fn wake_told(&mut self, words: &Words<N>)
+        requires { self.old.turning ≡ None }
+        ensures unsent { self.new.unsent ≡ self.old.unsent }
+        ensures begun { NoneBegan self.old.scheduler self.new.scheduler }
+    {
         self.turning = self.waiting.take_told(words, &mut self.viewer);
-        if self.turning.is_none() {
-            self.turning = self.scheduler.next();
+    }
+
+    /// Gives its turn to the next process of the run queue, if there is one.
+    pub(crate) fn take_next(&mut self)
+        requires { self.old.turning ≡ None }
+        ensures unsent { self.new.unsent ≡ self.old.unsent }
+        ensures begun { NoneBegan self.old.scheduler self.new.scheduler }
+    {
+        self.turning = self.scheduler.next();
+    }
+
+    /// Lets the supervisor's process that it has out wait, until there is a letter or another signal than this one. Where memory
+    /// is refused it goes on.
+    pub(crate) fn rest(&mut self, table: usize, told: Signal)
+        ensures unsent { self.new.unsent ≡ self.old.unsent }
+        ensures begun { NoneBegan self.old.scheduler self.new.scheduler }
+    {
+        let Some(process) = self.turning.take() else {
+            return;
+        };
+        let rested = Rested {
+            process,
+            table,
+            told,
+        };
+        if let Some(back) = self.resting.keep(rested) {
+            self.turning = Some(back.process);
         }
-        self.turning.is_some()
     }
 
     /// Puts the process that it has out back into its deque, or counts its end. Where it can't be put, it stays.
     pub(crate) fn hand_back(&mut self)
         ensures unsent { self.new.unsent ≡ self.old.unsent }
-        ensures passes { self.new.passes ≡ self.old.passes }
+        ensures begun { NoneBegan self.old.scheduler self.new.scheduler }
     {
         let Some(process) = self.turning.take() else {
             return;
@@ -192,22 +296,39 @@ impl<N: WordsNaming + InboxNaming + RunNaming, J: Drop, S: Drop> Hand<N, J, S> {
         }
     }
 
-    /// Gives the processes that wait back to the run queue, as far as there is memory: each has its turn again when it comes
-    /// there, in any hand. Whoever closes a tree does this first ([`System::close`](crate::System::close)), so that they are
-    /// among the processes of the report.
-    pub fn rouse(&mut self)
+    /// Gives the processes that wait back to the run queue, as far as there is memory.
+    pub(crate) fn rouse(&mut self)
         ensures unsent { self.new.unsent ≡ self.old.unsent }
-        ensures passes { self.new.passes ≡ self.old.passes }
+        ensures begun { NoneBegan self.old.scheduler self.new.scheduler }
     {
         for _ in 0..self.waiting.len() {
             self.rouse_one();
+        }
+        for _ in 0..self.resting.len() {
+            self.rouse_supervisor();
+        }
+    }
+
+    /// Gives back one of its supervisors, if one waits.
+    fn rouse_supervisor(&mut self)
+        ensures unsent { self.new.unsent ≡ self.old.unsent }
+        ensures begun { NoneBegan self.old.scheduler self.new.scheduler }
+    {
+        if self.turning.is_some() {
+            return;
+        }
+        let Some(rested) = self.resting.pop() else {
+            return;
+        };
+        if let Err(process) = self.scheduler.give_back(rested.process) {
+            self.turning = Some(process);
         }
     }
 
     /// Gives one back, if one waits. Where memory is refused it has the hand's next turn, and no other is given back before.
     fn rouse_one(&mut self)
         ensures unsent { self.new.unsent ≡ self.old.unsent }
-        ensures passes { self.new.passes ≡ self.old.passes }
+        ensures begun { NoneBegan self.old.scheduler self.new.scheduler }
     {
         if self.turning.is_some() {
             return;
@@ -231,7 +352,7 @@ impl<N: WordsNaming + InboxNaming + RunNaming, J: Drop, S: Drop> Hand<N, J, S> {
     pub(crate) fn look(&mut self, words: &Words<N>) -> Signal
         ensures turning { self.new.turning ≡ self.old.turning }
         ensures unsent { self.new.unsent ≡ self.old.unsent }
-        ensures passes { self.new.passes ≡ self.old.passes }
+        ensures begun { NoneBegan self.old.scheduler self.new.scheduler }
     {
         let Some(process) = &self.turning else {
             return Signal::None;
@@ -242,32 +363,13 @@ impl<N: WordsNaming + InboxNaming + RunNaming, J: Drop, S: Drop> Hand<N, J, S> {
         }
         words.look(&mut self.viewer, slot, number)
     }
-
-    /// Its passes, which it has no more.
-    pub(crate) fn take_passes(&mut self) -> Vec<CountsPass>
-        ensures { result.items ≡ self.old.passes }
-    {
-        mem::replace(&mut self.passes, Vec::new(self.alloc))
-    }
-
-    /// The counts of the supervisor with this number, as it published them last. None where it has no pass for one.
-    pub(crate) fn read_counts(&mut self, table: usize) -> Option<CountsNow>
-        ensures read { IfSome result (λ now. HasRead table now self.old self.new) }
-        ensures none { IfNone result (self.new ≡ self.old) }
-        ensures there { is_some result ≡ true ↔ table < length self.old.passes }
-    {
-        if table >= self.passes.len() {
-            return None;
-        }
-        Some(read_at(self.passes.as_mut_slice(), table))
-    }
 }
 
-impl<N: WordsNaming + InboxNaming + RunNaming, J: Job, S: Subsystem> Hand<N, J, S> {
+impl<N: WordsNaming + RunNaming, J: Job, S: Subsystem> Runner<N, J, S> {
     /// A turn of the worker or the bridge that it has out.
     pub(crate) fn work(&mut self, told: Signal)
         requires { self.old.unsent ≡ None }
-        ensures { self.new.passes ≡ self.old.passes }
+        ensures { NoneBegan self.old.scheduler self.new.scheduler }
     {
         let Some(process) = self.turning.take() else {
             return;

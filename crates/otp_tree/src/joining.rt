@@ -1,7 +1,8 @@
 // The senders of all hands come home to the client's.
-ghost use Rattle.std.specs.Prelude.{◌≡◌, ℕ, ◌+◌, ◌<◌, ◌≤◌, ◌∷◌, length, map};
+ghost use Rattle.std.specs.Prelude.{◌≡◌, ℕ, ◌+◌, ◌<◌, ◌≤◌, ◌∷◌, length, map, sum_by};
 ghost use Rattle.otp_inbox.specs.Tokens.{all_parts};
 ghost use Rattle.otp_run.specs.Lists.{AllAt};
+ghost use Rattle.otp_tree.specs.Begun.{starts_credited};
 ghost use Rattle.otp_tree.specs.Sendings.{parts_to};
 ghost use Rattle.otp_tree.specs.Settlings.{ArePlaced, IsJoined, IsWhole, senders_in};
 
@@ -38,6 +39,8 @@ fn join_senders<N: WordsNaming + InboxNaming, B: Drop>(
     requires placed { ArePlaced sups.now outer.now }
     requires reach { length senders.old ≡ length sups.now + 1 }
     requires bounded { AllAt (λ k s. s.parts ≤ all_parts) senders.old }
+    requires as_far { length others ≡ length senders.old }
+    ensures starts { starts_credited senders.new ≡ starts_credited senders.old + starts_credited others }
     ensures joined { AllAt (IsJoined senders.old others) senders.new }
     ensures len { length senders.new ≡ length senders.old }
 {
@@ -59,6 +62,8 @@ pub(crate) fn join_all<N: WordsNaming + InboxNaming, J: Drop, S: Drop>(
     requires placed { ArePlaced sups.now outer.now }
     requires reach { length senders ≡ length sups.now + 1 }
     requires whole { (place : ℕ) → place < length senders → parts_to place (senders ∷ map senders_in rests.items) ≡ all_parts }
+    requires as_far { AllAt (λ _ others. length others ≡ length senders) (map senders_in rests.items) }
+    ensures starts { starts_credited result ≡ starts_credited senders + sum_by starts_credited (map senders_in rests.items) }
     ensures whole { AllAt (IsWhole (senders ∷ map senders_in rests.items)) result }
     ensures len { length result ≡ length senders }
 {
@@ -68,6 +73,7 @@ pub(crate) fn join_all<N: WordsNaming + InboxNaming, J: Drop, S: Drop>(
             senders: others,
             turning: _,
             waiting: _,
+            resting: _,
             unsent: _,
             refusals: _,
             passes: _,

@@ -1,16 +1,26 @@
 //! A tree of supervisors that runs on threads: opened, served by 1 to 8 hands, stopped, and closed with a report.
 //!
-//! A tree is a list of [`TablePlan`]s, the root first. A job is any type that is a [`otp_job::Job`]. [`run_tree`] is the whole
-//! life of a tree in one call: each hand makes so many turns in a thread of its own, the root is asked to stop, each hand
-//! makes as many turns again, and a [`Report`] says what the tree was:
+//! A job is any type that is a [`otp_job::Job`]. A supervisor is drawn up child by child ([`TableDraft`]), and a tree is the list of
+//! its supervisors' plans ([`TablePlan`]), the root first. [`run_tree`] is the whole life of a tree in one call: each hand
+//! makes so many turns in a thread of its own, the root is asked to stop, each hand makes as many turns again, and a
+//! [`Report`] says what the tree was:
 //!
 //! ```text
-//! let report = run_tree(&rt, rt.alloc(), plans, 4, &clock, 1000)?;
+//! let mut root = TableDraft::new(rt.alloc());
+//! root.add_worker(Name::new(b"db")?, Steady).ok()?;
+//! root.add_worker(Name::new(b"web")?, Steady).ok()?;
+//! let mut plans = Vec::new(rt.alloc());
+//! plans.push(root.plan(SupFlags::default()).ok()?).ok()?;
+//! let report = run_tree(&rt, rt.alloc(), plans, 4, &clock, 1000).ok()?;
 //! for table in report.tables.as_slice() {
 //!     println!("{} starts, {} restarts", table.starts(), table.restarts());
 //! }
 //! println!("{} left", report.live);
 //! ```
+//!
+//! `crates/otp_uses/src/two_workers.rt` is such a use whole, with its job; there a function of its own makes the list, whose
+//! contract says how many plans there are, since 64 are the most. A child that is a supervisor is added by its number in the list
+//! ([`TableDraft::add_supervisor`]).
 //!
 //! [`run_tree_counted`] tells besides what each supervisor counted before the stop (count_children).
 //!
@@ -38,7 +48,7 @@
 //! then it hears the answer ([`Leader::hear`]).
 //!
 //! Nothing else is to be written, and no proof: `plans` are the tree's supervisors with their jobs, each of flags and child
-//! specifications that were tested once ([`otp_spec::SupSpec::check`]), 4 the hands, `clock` is
+//! specifications that were tested once ([`TableDraft::plan`]), 4 the hands, `clock` is
 //! a [`Gate`], which is asked the time before each turn, and 100 the most rounds. At the end the tree is closed, and its report
 //! comes with the leader.
 //!
@@ -60,7 +70,9 @@ pub mod client;
 pub mod clock;
 pub mod closing;
 mod complete;
+pub mod draft;
 pub mod evidence;
+mod finding;
 pub mod hand;
 mod joining;
 pub mod opening;
@@ -68,6 +80,7 @@ mod parting;
 pub mod plan;
 mod reading;
 pub mod report;
+mod resting;
 mod rooms;
 pub mod rounds;
 pub mod senders;
@@ -83,6 +96,7 @@ pub use calling::{CallRefusal, Uncalled};
 pub use client::Client;
 pub use clock::{Gate, Millis};
 pub use closing::{CloseFault, Unclosed};
+pub use draft::{TableDraft, Unplanned};
 pub use evidence::Mismatch;
 pub use hand::Hand;
 pub use opening::{Opened, Parts, SystemFault};

@@ -4,15 +4,16 @@ ghost use Rattle.otp_spec.specs.declared.limits.TheConstants.{MAX_TABLES};
 ghost use Rattle.otp_inbox.specs.Tokens.{first_sender};
 ghost use Rattle.otp_run.specs.Lists.{AllAt};
 ghost use Rattle.otp_run.specs.Rule.{all_parts};
-ghost use Rattle.otp_run.specs.Schedulers.{out};
 ghost use Rattle.otp_signals.specs.Lists.{EachBetween, StayBelow, StayFrom};
+ghost use Rattle.otp_tree.specs.Begun.{HasRootOnly, IsIdle, starts_credited};
 ghost use Rattle.otp_tree.specs.Opens.{slots_of, first_slot};
 ghost use Rattle.otp_tree.specs.Readings.{CanRead, IsFresh};
 
 use crate::client::Client;
-use crate::hand::Hand;
+use crate::hand::{Hand, Runner};
 use crate::plan::TablePlan;
 use crate::reading::split_all;
+use crate::resting::Resting;
 use crate::senders::Senders;
 use crate::system::System;
 use crate::waiting::Waiting;
@@ -231,26 +232,38 @@ fn seat<N: InboxNaming, B: Drop>(
 ) -> Result<Senders<N, B>, AllocError>
     requires seated { AllAt (λ k s. s ≡ first_sender k) senders.items }
     requires outer { outer ≡ first_sender (length senders.items) }
+    ensures { IfOk result (λ all. starts_credited all ≡ 0) }
 {
     senders.push(outer)?;
     Ok(Senders { list: senders })
 }
 
-/// Puts the root's process, if that is still to be put.
+/// Puts the root's process into the deque of the first scheduler.
 fn begin<N: RunNaming, J: Drop, S: Drop>(
-    scheduler: &mut Scheduler<N, J, S>,
-    root: &mut Option<Process<J, S>>,
+    schedulers: &mut [Scheduler<N, J, S>],
+    root: Process<J, S>,
 ) -> Result<(), AllocError>
-    requires { out scheduler.old ≡ 0 }
-    ensures { OnOk result (out scheduler.new ≡ 0) }
+    requires { AllAt IsIdle schedulers.old }
+    ensures { OnOk result (AllAt (λ _ s. HasRootOnly s) schedulers.new) }
 {
-    let Some(process) = root.take() else {
+    if schedulers.is_empty() {
         return Ok(());
-    };
-    match scheduler.put(process) {
+    }
+    match schedulers[0].put(root) {
         Ok(()) => Ok(()),
         Err(_) => Err(AllocError),
     }
+}
+
+/// The same of a whole list: of one that was lent as a slice in the midst of a function the prover knows nothing after.
+fn begin_first<N: RunNaming, J: Drop, S: Drop>(
+    schedulers: &mut Vec<Scheduler<N, J, S>>,
+    root: Process<J, S>,
+) -> Result<(), AllocError>
+    requires { AllAt IsIdle schedulers.old.items }
+    ensures { OnOk result (AllAt (λ _ s. HasRootOnly s) schedulers.new.items) }
+{
+    begin(schedulers, root)
 }
 
 /// A hand of a scheduler, with a viewer, a sender to each supervisor and a pass to the counts of each, which are split off.
@@ -262,24 +275,29 @@ fn make_hand<N: WordsNaming + InboxNaming + RunNaming, J: Drop, S: Drop>(
     passes: &mut Vec<CountsPass>,
     viewer: Viewer<N>,
 ) -> Result<Hand<N, J, S>, SystemFault>
-    requires { out scheduler ≡ 0 }
+    requires { HasRootOnly scheduler }
     ensures fresh { IfOk result (λ hand. IsFresh passes.old.items hand) }
     ensures same { OnOk result (passes.new.items ≡ passes.old.items) }
+    ensures starts { starts_credited senders.new ≡ starts_credited senders.old }
 {
     let Some(senders) = system.split_senders(alloc, senders, 1)? else {
         return Err(SystemFault::OutOfMemory);
     };
     let passes = split_all(alloc, passes)?;
-    Ok(Hand {
+    let runner = Runner {
         scheduler,
         viewer,
-        senders,
         turning: None,
         waiting: Waiting::new(alloc),
+        resting: Resting::new(alloc),
         unsent: None,
         refusals: Tally::new(),
-        passes,
         alloc,
+    };
+    Ok(Hand {
+        runner,
+        senders,
+        passes,
     })
 }
 
@@ -293,15 +311,15 @@ fn make_hands<N: WordsNaming + InboxNaming + RunNaming, J: Drop, S: Drop>(
     mut viewer: Viewer<N>,
     root: Process<J, S>,
 ) -> Result<Vec<Hand<N, J, S>>, SystemFault>
-    requires { AllAt (λ k s. out s ≡ 0) schedulers.items }
+    requires { AllAt IsIdle schedulers.items }
     ensures hands { IfOk result (λ hands. CanRead (length passes.old.items) hands.items) }
     ensures same { OnOk result (passes.new.items ≡ passes.old.items) }
+    ensures starts { starts_credited senders.new ≡ starts_credited senders.old }
 {
+    let mut schedulers = schedulers;
+    begin_first(&mut schedulers, root)?;
     let mut hands = Vec::new(alloc);
-    let mut root = Some(root);
     for scheduler in schedulers {
-        let mut scheduler = scheduler;
-        begin(&mut scheduler, &mut root)?;
         let own = system.words.split_viewer(&mut viewer);
         let hand = make_hand(alloc, system, scheduler, senders, passes, own)?;
         keep(&mut hands, hand)?;

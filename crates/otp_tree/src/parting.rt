@@ -1,14 +1,16 @@
 // Hands are parted into their schedulers and the rest, and joined again.
-ghost use Rattle.std.specs.Prelude.{◌≡◌, ◌≤◌, [], length, map, sum_by, vec_capacity, IfOk, IfErr, OnOk};
+ghost use Rattle.std.specs.Prelude.{◌≡◌, ◌+◌, ◌≤◌, [], length, map, sum_by, vec_capacity, IfOk, IfErr, OnOk};
 ghost use Rattle.otp_run.specs.Gathers.{IsAll, IsLiveTotal, begun_of, ended_of};
 ghost use Rattle.otp_run.specs.Rule.{ticket_of};
+ghost use Rattle.otp_tree.specs.Begun.{starts_credited};
 ghost use Rattle.otp_tree.specs.Gathers.{IsHandsRefused};
 ghost use Rattle.otp_tree.specs.Hands.{senders_of};
 ghost use Rattle.otp_tree.specs.Partings.{joined, schedulers_of, ArePaired};
 ghost use Rattle.otp_tree.specs.Settlings.{senders_in};
 
 use crate::closing::Refusal;
-use crate::hand::{Hand, Unsent};
+use crate::hand::{Hand, Runner, Unsent};
+use crate::resting::Resting;
 use crate::senders::Senders;
 use crate::waiting::Waiting;
 use otp_counts::CountsPass;
@@ -26,6 +28,7 @@ pub(crate) struct Rest<N: WordsNaming + InboxNaming, J: Drop, S: Drop> {
     pub senders: Senders<N, Body<J, S>>,
     pub turning: Option<Process<J, S>>,
     pub waiting: Waiting<J, S>,
+    pub resting: Resting<J, S>,
     pub unsent: Option<Unsent<J, S>>,
     pub refusals: Tally,
     pub passes: Vec<CountsPass>,
@@ -76,6 +79,8 @@ pub(crate) fn gather_hands<N: WordsNaming + InboxNaming + RunNaming, J: Drop, S:
     ensures all { OnOk result (IsAll (schedulers_of hands.items)) }
     ensures total { IfOk result (λ g. IsLiveTotal (schedulers_of hands.items) g.total.live (map ticket_of g.total.left.items)) }
     ensures begun { IfOk result (λ g. g.total.begun ≡ sum_by begun_of (schedulers_of hands.items)) }
+    // They are all hands, so one of them had the root's process.
+    ensures starts { IfOk result (λ g. g.total.begun ≡ 1 + sum_by starts_credited (map senders_in g.rests.items)) }
     ensures ended { IfOk result (λ g. g.total.ended ≡ sum_by ended_of (schedulers_of hands.items)) }
     ensures senders { IfOk result (λ g. map senders_in g.rests.items ≡ map senders_of hands.items) }
     ensures refused { IfErr result (λ fault. fault.hands.items ≡ hands.items) }
@@ -131,22 +136,27 @@ fn part_all<N: WordsNaming + InboxNaming + RunNaming, J: Drop, S: Drop>(
 {
     for hand in hands {
         let Hand {
+            runner,
+            senders,
+            passes,
+        } = hand;
+        let Runner {
             scheduler,
             viewer,
-            senders,
             turning,
             waiting,
+            resting,
             unsent,
             refusals,
-            passes,
             alloc,
-        } = hand;
+        } = runner;
         schedulers.push_reserved(scheduler);
         rests.push_reserved(Rest {
             viewer,
             senders,
             turning,
             waiting,
+            resting,
             unsent,
             refusals,
             passes,
@@ -176,21 +186,26 @@ fn rejoin_all<N: WordsNaming + InboxNaming + RunNaming, J: Drop, S: Drop>(
             senders,
             turning,
             waiting,
+            resting,
             unsent,
             refusals,
             passes,
             alloc,
         } = rest;
-        hands.push_reserved(Hand {
+        let runner = Runner {
             scheduler,
             viewer,
-            senders,
             turning,
             waiting,
+            resting,
             unsent,
             refusals,
-            passes,
             alloc,
+        };
+        hands.push_reserved(Hand {
+            runner,
+            senders,
+            passes,
         });
     }
 }

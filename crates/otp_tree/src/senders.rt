@@ -1,6 +1,8 @@
 //! Senders to each supervisor of a tree.
-ghost use Rattle.std.specs.Prelude.{◌≡◌, ◌<◌, ◌++◌, ◌∷◌, [], is_some, length, min, ◌==◌, IfErr, IfSome, OnErr, OnOk, Some, slice_get, slice_set};
+ghost use Rattle.std.specs.Prelude.{◌≡◌, ◌+◌, ◌<◌, ◌≤◌, ◌++◌, ◌∷◌, [], is_some, length, min, ◌==◌, IfErr, IfSome, OnErr, OnOk, Some, slice_get, slice_set};
 ghost use Rattle.otp_inbox.specs.Tokens.{SenderState, count_limit, no_shares};
+ghost use Rattle.otp_spec.specs.declared.limits.TheConstants.{MAX_READING};
+ghost use Rattle.otp_tree.specs.Begun.{starts_credited};
 ghost use Rattle.otp_tree.specs.Leavings.{sent_at};
 ghost use Rattle.otp_tree.specs.Seats.{Seated};
 ghost use Rattle.otp_tree.specs.Sendings.{parts_at};
@@ -11,7 +13,8 @@ ghost use Rattle.otp_rules.specs.Homes.{is_start_call};
 
 use otp_inbox::{Inbox, InboxNaming, Sender};
 use otp_rules::{Call, Item};
-use otp_sup::Letter;
+use otp_signals::{Signal, Words, WordsNaming};
+use otp_sup::{Letter, Port, Sup, TurnAnswer, TurnFault};
 use std::alloc::Global;
 use std::marker::Model;
 use std::sync::Wait;
@@ -63,9 +66,43 @@ impl<N: InboxNaming, B: Drop> Senders<N, B> {
         ensures back { IfErr result (λ back. back ≡ letter) }
         ensures refused { OnErr result (self.new ≡ self.old) }
         ensures len { length self.new ≡ length self.old }
+        ensures starts { starts_credited self.new ≡ starts_credited self.old }
     {
         let place = inbox.number();
         inbox.send(rt, &mut self.list[place], letter)
+    }
+
+    /// A turn of a supervisor, whose orders go to this port. The sender to it is credited with what was done.
+    pub(crate) fn turn<R: Wait, P: Port<B>>(
+        &mut self,
+        rt: &R,
+        words: &Words<N>,
+        sup: &Sup<N, B>,
+        port: &mut P,
+        number: u64,
+        reading: u64,
+        told: Signal,
+    ) -> Result<TurnAnswer, TurnFault>
+    where
+        N: WordsNaming,
+        requires reaches { sup.now.inbox < length self.old }
+        requires reading { reading ≤ MAX_READING }
+        // A start was credited for each process that the port took, of which it keeps the rest as it was.
+        ensures starts { starts_credited self.new + length (P.processes port.old) ≡ starts_credited self.old + length (P.processes port.new) }
+        ensures beside { P.beside port.new ≡ P.beside port.old }
+    {
+        let place = sup.inbox().number();
+        let sender = &mut self.list[place];
+        sup.turn(rt, words, sender, port, number, reading, told)
+    }
+
+    /// Whether there is a letter in the inbox of a supervisor. A hint ([`Inbox::is_empty`]).
+    pub(crate) fn has_letter(&mut self, inbox: &Inbox<N, Item, Letter<B>>) -> bool
+        requires { inbox.now < length self.old }
+        ensures { self.new ≡ self.old }
+    {
+        let place = inbox.number();
+        !inbox.is_empty(&mut self.list[place])
     }
 
     /// Sends a call under this number to a supervisor. Where memory is refused its body comes back, and nothing changes.
@@ -84,6 +121,7 @@ impl<N: InboxNaming, B: Drop> Senders<N, B> {
             OnOk result (self.new ≡ slice_set self.old inbox.now (record s { sent = s.sent ++ item.Call number call ∷ [] })) }
         ensures back { IfErr result (λ back. back ≡ body) }
         ensures refused { OnErr result (self.new ≡ self.old) }
+        ensures starts { starts_credited self.new ≡ starts_credited self.old }
     {
         let letter = match Letter::call(alloc, number, call, body) {
             Ok(letter) => letter,
@@ -138,6 +176,7 @@ impl<N: InboxNaming, B: Drop> Senders<N, B> {
         requires belongs { other.inbox ≡ inbox.now }
         ensures joined { (s : SenderState Item) → slice_get self.old inbox.now ≡ Some s → self.new ≡ slice_set self.old inbox.now (with_sender other s) }
         ensures len { length self.new ≡ length self.old }
+        ensures starts { starts_credited self.new ≡ starts_credited self.old + other.shares.starts }
     {
         let place = inbox.number();
         inbox.join(&mut self.list[place], other);
@@ -152,6 +191,7 @@ impl<N: InboxNaming, B: Drop> Senders<N, B> {
         requires { 0 < parts }
         ensures new { IfSome result (λ s. s ≡ record { inbox = inbox.now; parts = parts; sent = []; joined = []; shares = no_shares }) }
         ensures len { length self.new ≡ length self.old }
+        ensures starts { starts_credited self.new ≡ starts_credited self.old }
     {
         let place = inbox.number();
         if place >= self.list.len() {

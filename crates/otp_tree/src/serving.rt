@@ -9,7 +9,8 @@ use otp_bridge::Subsystem;
 use otp_inbox::InboxNaming;
 use otp_job::Job;
 use otp_run::RunNaming;
-use otp_signals::WordsNaming;
+use otp_signals::{Signal, WordsNaming};
+use otp_sup::TurnAnswer;
 use std::sync::Wait;
 use std::thread;
 use std::thread::Threads;
@@ -45,23 +46,46 @@ impl<N: WordsNaming + InboxNaming, J: Job, S: Subsystem> System<N, J, S> {
         requires { reading ≤ MAX_READING }
         ensures { hand.new.passes ≡ hand.old.passes }
     {
-        if !self.send_unsent(rt, hand) || !hand.find(&self.words) {
+        if !self.send_unsent(rt, hand) || !self.find(hand) {
             return;
         }
-        let told = hand.look(&self.words);
-        match hand.nested() {
-            Some((table, number)) => {
-                if let Some(sup) = self.sups.get(table) {
-                    // A port's contract doesn't say what else it keeps, so the passes don't go with it.
-                    let passes = hand.take_passes();
-                    let _ = sup.turn(rt, &self.words, hand, number, reading, told);
-                    hand.passes = passes;
-                }
-            }
-            None => hand.work(told),
+        let told = hand.runner.look(&self.words);
+        match hand.runner.nested() {
+            Some((table, number)) => self.supervise(rt, hand, table, number, reading, told),
+            None => hand.runner.work(told),
         }
         if self.send_unsent(rt, hand) {
-            hand.hand_back();
+            hand.runner.hand_back();
+        }
+    }
+
+    /// A turn of this supervisor, whose process a hand has out. Where it finds nothing to do, and none of its children has a
+    /// deadline, the process waits from then on.
+    fn supervise<R: Wait>(
+        &self,
+        rt: &R,
+        hand: &mut Hand<N, J, S>,
+        table: usize,
+        number: u64,
+        reading: u64,
+        told: Signal,
+    )
+    where
+        N: RunNaming,
+        requires { reading ≤ MAX_READING }
+        ensures { hand.new.passes ≡ hand.old.passes }
+    {
+        let Some(sup) = self.sups.get(table) else {
+            return;
+        };
+        let begun = hand.runner.scheduler.share().begun;
+        let answer = hand.turn_nested(rt, &self.words, sup, number, reading, told);
+        if answer == Ok(TurnAnswer::Quiet) {
+            if sup.next_deadline(rt).is_none() {
+                hand.runner.rest(table, told);
+            }
+        } else if hand.runner.scheduler.share().begun == begun {
+            hand.runner.waiting.notice();
         }
     }
 
@@ -72,18 +96,21 @@ impl<N: WordsNaming + InboxNaming, J: Job, S: Subsystem> System<N, J, S> {
         ensures sent { IsTrue result → hand.new.unsent ≡ None }
         ensures passes { hand.new.passes ≡ hand.old.passes }
     {
-        let Some(Unsent { table, letter }) = hand.unsent.take() else {
+        let Some(Unsent { table, letter }) = hand.runner.unsent.take() else {
             return true;
         };
         let inbox = self.inbox_of(table);
         if inbox.number() >= hand.senders.len() {
-            hand.unsent = Some(Unsent { table, letter });
+            hand.runner.unsent = Some(Unsent { table, letter });
             return false;
         }
         match hand.senders.send(rt, inbox, letter) {
-            Ok(()) => true,
+            Ok(()) => {
+                hand.runner.resting.call(table);
+                true
+            }
             Err(letter) => {
-                hand.unsent = Some(Unsent { table, letter });
+                hand.runner.unsent = Some(Unsent { table, letter });
                 false
             }
         }

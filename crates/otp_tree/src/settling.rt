@@ -34,7 +34,9 @@ pub(crate) fn settle<N: InboxNaming, B: Drop, R: Wait>(
     requires sends { sender.inbox ≡ inbox.now }
     requires whole { sender.parts ≡ all_parts }
     requires room { IsRoom (length (all_sent sender)) (length taker.taken) room }
-    ensures { AsOften (all_sent sender) (taker.taken ++ result.items) }
+    ensures left { AsOften (all_sent sender) (taker.taken ++ result.items) }
+    // What the sender was credited with is what the taker gave.
+    ensures shares { sender.shares ≡ taker.given }
 {
     let LeftRoom { mut letters, items } = room;
     inbox.drain_into(rt, taker, sender, &mut letters);

@@ -1,8 +1,9 @@
 //! The tree: its supervisors, which the hands share.
-ghost use Rattle.std.specs.Prelude.{◌≡◌, ◌↔◌, ◌<◌, ◌≤◌, is_some, length, true, IfNone, IfSome};
+ghost use Rattle.std.specs.Prelude.{◌≡◌, ◌↔◌, ◌<◌, ◌≤◌, is_some, length, true, IfNone, IfOk, IfSome};
 ghost use Rattle.otp_signals.specs.Holdings.{after_post};
 ghost use Rattle.otp_signals.specs.Signals.{word_of};
 ghost use Rattle.otp_signals.specs.declared.signal.Signal.TheVariants.{Shutdown};
+ghost use Rattle.otp_tree.specs.Begun.{starts_credited};
 ghost use Rattle.otp_tree.specs.Hands.{Heard};
 ghost use Rattle.otp_tree.specs.Readings.{HasRead};
 
@@ -109,6 +110,9 @@ impl<N: WordsNaming + InboxNaming, J: Drop, S: Drop> System<N, J, S> {
     ) -> Result<Option<Senders<N, Body<J, S>>>, AllocError>
         requires { 0 < parts }
         ensures len { length senders.new ≡ length senders.old }
+        // The new ones were credited with nothing, and the others have what they had.
+        ensures none { IfOk result (λ split. IfSome split (λ s. starts_credited s ≡ 0)) }
+        ensures starts { starts_credited senders.new ≡ starts_credited senders.old }
     {
         let mut list = Vec::new(alloc);
         for place in 0..senders.len() {

@@ -7,12 +7,15 @@ use otp_signals::{Viewer, Words, WordsNaming};
 use std::alloc::Global;
 use std::marker::Model;
 
-/// How many of those that began to wait last are looked at in each turn: a supervisor that stops its children begins with the
+/// How many of those that began to wait last are looked at in a turn: a supervisor that stops its children begins with the
 /// one that was started last.
 const NEWEST: usize = 8;
 
-/// How many of the others are looked at in each turn, one after the other.
+/// How many of the others are looked at in a turn, one after the other, after a supervisor may have told one of them something.
 const OTHERS: usize = 24;
+
+/// How many of them are looked at in each other turn.
+const FEW: usize = 4;
 
 /// The processes of a hand that have nothing to do until their supervisors tell them something. They take no turns; in each
 /// turn of the hand it is looked whether some of them were told something.
@@ -21,6 +24,8 @@ pub(crate) struct Waiting<J: Drop, S: Drop> {
     list: Vec<Process<J, S>>,
     // The place of the first that is looked at in the next turn, of those that are not the newest.
     next: usize,
+    // In how many turns more the newest, and many of the others, are looked at.
+    alert: usize,
 }
 
 impl<J: Drop, S: Drop> Model for Waiting<J, S> {
@@ -40,6 +45,7 @@ impl<J: Drop, S: Drop> Waiting<J, S> {
         Waiting {
             list: Vec::new(alloc),
             next: 0,
+            alert: 0,
         }
     }
 
@@ -68,6 +74,13 @@ impl<J: Drop, S: Drop> Waiting<J, S> {
         self.list.pop()
     }
 
+    /// Notes that a supervisor may have told one of them something: it is looked at all of them in the next turns.
+    pub fn notice(&mut self)
+        ensures { self.new ≡ self.old }
+    {
+        self.alert = self.list.len() / OTHERS + 1;
+    }
+
     /// Takes out one that was told something, if that is one of those that are looked at now.
     pub fn take_told<N: WordsNaming>(
         &mut self,
@@ -76,18 +89,55 @@ impl<J: Drop, S: Drop> Waiting<J, S> {
     ) -> Option<Process<J, S>>
         ensures { MatchOption result (self.new ≡ self.old) (λ process. IsTaken process self.old self.new) }
     {
-        let len = self.list.len();
-        let newest = len.saturating_sub(NEWEST);
-        let from = self.next.min(newest);
-        let to = from.saturating_add(OTHERS).min(newest);
-        self.next = if to < newest { to } else { 0 };
-        let waiting = self.list.as_slice();
-        let place = match find_told(words, viewer, waiting, newest, len) {
-            Some(place) => place,
-            None => find_told(words, viewer, waiting, from, to)?,
-        };
+        let place = self.find_told(words, viewer)?;
         Some(self.list.swap_remove(place))
     }
+
+    /// The place of one that was told something, if that is one of those that are looked at now.
+    fn find_told<N: WordsNaming>(
+        &mut self,
+        words: &Words<N>,
+        viewer: &mut Viewer<N>,
+    ) -> Option<usize>
+        ensures same { self.new ≡ self.old }
+        ensures place { IfSome result (λ place. place < length self.old) }
+    {
+        let len = self.list.len();
+        let (newest, many) = if self.alert == 0 {
+            (len, FEW)
+        } else {
+            (len.saturating_sub(NEWEST), OTHERS)
+        };
+        self.alert = self.alert.saturating_sub(1);
+        let from = self.next.min(newest);
+        let to = from.saturating_add(many).min(newest);
+        self.next = if to < newest { to } else { 0 };
+        let waiting = self.list.as_slice();
+        match find_told_last(words, viewer, waiting, newest, len) {
+            Some(place) => Some(place),
+            None => find_told(words, viewer, waiting, from, to),
+        }
+    }
+}
+
+/// The last of the processes at these places that was told something.
+fn find_told_last<N: WordsNaming, J: Drop, S: Drop>(
+    words: &Words<N>,
+    viewer: &mut Viewer<N>,
+    waiting: &[Process<J, S>],
+    from: usize,
+    to: usize,
+) -> Option<usize>
+    requires { to ≤ length waiting.now }
+    ensures { IfSome result (λ place. place < length waiting.now) }
+{
+    for back in from..to {
+        let place = to - 1 - (back - from);
+        if is_told(words, viewer, &waiting[place]) {
+            return Some(place);
+        }
+    }
+    None
 }
 
 /// The first of the processes at these places that was told something.

@@ -1,47 +1,40 @@
 //! What a supervisor of a test's tree is made of, child by child.
 
 use otp_bridge::BoxedSubsystem;
-use otp_job::{Body, TableNo};
 use otp_reason::Name;
-use otp_spec::{ChildSpec, ChildType, Shutdown, SupFlags, SupSpec};
-use otp_tree::TablePlan;
-use std::alloc::Global;
+use otp_spec::SupFlags;
+use otp_tree::{TableDraft, TablePlan, Unplanned};
+use std::alloc::{AllocError, Global};
 use std::test::*;
 
+/// What a supervisor of a test's tree is made of, child by child.
 #[derive(Drop)]
 pub struct Draft<J: Drop> {
-    specs: Vec<ChildSpec>,
-    bodies: Vec<Body<J, BoxedSubsystem>>,
+    children: TableDraft<J, BoxedSubsystem>,
 }
 
 impl<J: Drop> Draft<J> {
     pub fn new(alloc: Global) -> Self {
         Draft {
-            specs: Vec::new(alloc),
-            bodies: Vec::new(alloc),
+            children: TableDraft::new(alloc),
         }
     }
 
     /// How many children there are so far.
     pub fn len(&self) -> usize {
-        self.specs.len()
+        self.children.len()
     }
 
     pub fn add_worker(&mut self, id: &[u8], job: J) -> Result<(), Fail> {
         let id = Name::new(id).ok_or("a name")?;
-        self.specs.push(ChildSpec::new(id, id))?;
-        self.bodies.push(Body::Worker(job))?;
+        self.children.add_worker(id, job).map_err(|_| AllocError)?;
         Ok(())
     }
 
     /// Adds a child that is the supervisor of this number.
     pub fn add_supervisor(&mut self, id: &[u8], table: usize) -> Result<(), Fail> {
         let id = Name::new(id).ok_or("a name")?;
-        let mut spec = ChildSpec::new(id, id);
-        spec.kind = ChildType::Supervisor;
-        spec.shutdown = Shutdown::Infinity;
-        self.specs.push(spec)?;
-        self.bodies.push(Body::Sup(TableNo::new(table)))?;
+        self.children.add_supervisor(id, table)?;
         Ok(())
     }
 
@@ -52,8 +45,9 @@ impl<J: Drop> Draft<J> {
 
     /// The plan of a supervisor with these flags.
     pub fn plan_with(self, flags: SupFlags) -> Result<TablePlan<J, BoxedSubsystem>, Fail> {
-        let Draft { specs, bodies } = self;
-        let supervisor = SupSpec::check(flags, specs)?;
-        Ok(TablePlan { supervisor, bodies })
+        match self.children.plan(flags) {
+            Ok(plan) => Ok(plan),
+            Err(Unplanned { fault, draft: _ }) => Err(fault.into()),
+        }
     }
 }

@@ -12,6 +12,8 @@ mod drafts;
 #[cfg(test)]
 mod meetings;
 #[cfg(test)]
+mod rests;
+#[cfg(test)]
 mod tokens;
 #[cfg(test)]
 mod trees;

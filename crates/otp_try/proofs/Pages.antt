@@ -52,11 +52,6 @@ pub puts_remark : {T E : Type 0} (r : Result T E) (tells : Bool) (a b : List Sea
 puts_remark (Ok _) tells a b x y text said stands is ok err = adds_remark tells a b x y said stands (ok ∙ ap (λ (t : List ℕ). x ++ t) is)
 puts_remark (Err _) tells a b x y text said stands is ok err = (a, adds_nothing tells a a x y refl err)
 
--- so much of what came next as went well, behind what came first
-pub some-then : (tells : Bool) (a b : List Seated) (x y z : List ℕ) → Adds tells a b x y → ((stood : List Seated) × Adds tells b stood y z)
-    → (stood : List Seated) × Adds tells a stood x z
-some-then tells a b x y z first (stood, second) = (stood, adds-then tells a b stood x y z first second)
-
 -- nothing was put on the page, and then what became of the next
 pub adds_to-after : {T E : Type 0} (r : Result T E) (tells : Bool) (a b c : List Seated) (x y z : List ℕ) → b ≡ a → y ≡ x → AddsTo r tells b c y z
     → AddsTo r tells a c x z
@@ -87,10 +82,6 @@ adds_told tells a b c sheet written page mid text new empty told kept is put sta
     subst (λ (s : List Seated). Adds tells a s page new) (sym stands)
     (adds_sheet tells a b sheet written page new empty told
     (put ∙ ap (λ (t : List ℕ). t ++ shown tells text) kept ∙ ap (λ (t : List ℕ). page ++ shown tells t) is))
-
--- the supervisors stand as before
-pub still : (tells : Bool) (a b : List Seated) (x y : List ℕ) → b ≡ a → Adds tells a a x y → Adds tells a b x y
-still tells a b x y stands added = subst (λ (s : List Seated). Adds tells a s x y) (sym stands) added
 
 -- some pieces, and then what became of the next, in which the supervisors stood still
 pub adds_still : {T E : Type 0} (r : Result T E) (tells : Bool) (a b c : List Seated) (x y z : List ℕ) → Adds tells a b x y → c ≡ b → AddsTo r tells b b y z

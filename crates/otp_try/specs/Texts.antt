@@ -9,21 +9,21 @@ use Rattle.otp_try.specs.declared.trial.ActionEnd.TheVariants as taken
 -- what would be read in the place of what stands there
 unfoldable pub fault_text : ScriptFault → List ℕ
 fault_text fault.UnknownWord = codes "unknown word: a line is one of crash, exit, fail, ignore, hang, stop, at TIME, +TIME, or a call (start, restart, delete, terminate, get, which, count)"
-fault_text fault.BadTime = codes "no time: after `at` or `+` comes one as 10s, 500ms, 2m or, in milliseconds, 500"
-fault_text fault.BadChild = codes "no child: here comes a child's id, or a process number as #3"
-fault_text fault.BadName = codes "no child's id: here comes one of 1 to 32 bytes of a-z A-Z 0-9 _ - ."
-fault_text fault.BadReason = codes "no reason: here comes normal, shutdown, shutdown:TEXT, kill, killed, noproc or error:TEXT"
+fault_text fault.BadTime = codes "not a time: after at or + write one like 10s, 500ms, 2m, or 500 (milliseconds)"
+fault_text fault.BadChild = codes "not a child: write its id, or a process number like #3"
+fault_text fault.BadName = codes "not a child's id: write 1 to 32 bytes of a-z A-Z 0-9 _ - ."
+fault_text fault.BadReason = codes "not a reason: write normal, shutdown, shutdown:TEXT, kill, killed, noproc or error:TEXT"
 fault_text fault.BadCall = codes "no such call: docs/FORMATS.md has the words of each"
-fault_text fault.TooManyWords = codes "more words than the line may have"
+fault_text fault.TooManyWords = codes "more words than the line may have; a comment has a line of its own"
 fault_text fault.TooLong = codes "more than 512 bytes"
 
 -- why an action did nothing; nothing where it was taken
 unfoldable pub taken_text : ActionEnd → List ℕ
 taken_text taken.Done = []
-taken_text taken.NoProcess = codes "ignored: this child has no process now; restart ID starts it again, which lists what runs"
-taken_text taken.NoChild = codes "ignored: there is no such child; which lists the children"
+taken_text taken.NoProcess = codes "ignored: this child has no process now; say restart ID to start it again, or which to list what runs"
+taken_text taken.NoChild = codes "ignored: there is no such child; say which to list the children"
 taken_text taken.TooLate = codes "ignored: that time has gone by; +TIME counts from the line before"
-taken_text taken.Ended = codes "ignored: the supervisor has ended; the line of its end says why"
+taken_text taken.Ended = codes "ignored: the supervisor has ended; the line of its end says why (--timeline shows none)"
 taken_text taken.NoIds = codes "ignored: children of simple_one_for_one have no ids, so no start of one can be planned"
 
 -- what a person may write at the prompt: what goes wrong
@@ -36,7 +36,7 @@ help_requests = codes "hang CHILD             it doesn't end when it is next ask
 
 -- how the clock is moved, and how a child is named
 unfoldable pub help_names : List ℕ
-help_names = codes "at 10s, +500ms         the clock goes there, alone or before other words\nCHILD is an id, or a process number as #3; below the root it has its path, as\nsub/x. The end of the input ends the trial.\n"
+help_names = codes "at 10s, +500ms         the clock goes there, alone or before other words\nCHILD is an id, or a process number as #3; below the root it has its path, as\nsub/x. The end of the input (Ctrl-D) ends the trial.\n"
 
 -- what a person may write at the prompt
 unfoldable pub help_text : List ℕ

@@ -20,7 +20,7 @@ calls of the supervisor\n";
 pub(crate) const HELP_NAMES: &str = "\
 at 10s, +500ms         the clock goes there, alone or before other words\n\
 CHILD is an id, or a process number as #3; below the root it has its path, as\n\
-sub/x. The end of the input ends the trial.\n";
+sub/x. The end of the input (Ctrl-D) ends the trial.\n";
 
 /// What a person is told first.
 pub(crate) const WELCOME: &str = "help lists what may be written here\n";

@@ -64,7 +64,7 @@ fn write_unknown(number: u64, out: &mut Vec<u8>) -> Result<(), AllocError>
     ensures { OnOk result (out.new.items ≡ out.old.items ++ unknown_text number) }
 {
     write_line_number(number, out)?;
-    out.extend_from_slice(b": there is no such child; which lists the children\n")
+    out.extend_from_slice(b": there is no such child; say which to list the children\n")
 }
 
 /// Appends that the line with this number names a child which isn't there, if it does.

@@ -100,7 +100,7 @@ pub enum ScriptFault {
     BadReason,
     /// The words of the call are others.
     BadCall,
-    /// There are more words than the line may have.
+    /// There are more words than the line may have; a comment has a line of its own.
     TooManyWords,
     /// It has more than 512 bytes.
     TooLong,
@@ -116,14 +116,14 @@ impl ScriptFault {
             ScriptFault::UnknownWord =>
                 "unknown word: a line is one of crash, exit, fail, ignore, hang, stop, at TIME, +TIME, or a call (start, restart, delete, terminate, get, which, count)",
             ScriptFault::BadTime =>
-                "no time: after `at` or `+` comes one as 10s, 500ms, 2m or, in milliseconds, 500",
-            ScriptFault::BadChild => "no child: here comes a child's id, or a process number as #3",
-            ScriptFault::BadName =>
-                "no child's id: here comes one of 1 to 32 bytes of a-z A-Z 0-9 _ - .",
+                "not a time: after at or + write one like 10s, 500ms, 2m, or 500 (milliseconds)",
+            ScriptFault::BadChild => "not a child: write its id, or a process number like #3",
+            ScriptFault::BadName => "not a child's id: write 1 to 32 bytes of a-z A-Z 0-9 _ - .",
             ScriptFault::BadReason =>
-                "no reason: here comes normal, shutdown, shutdown:TEXT, kill, killed, noproc or error:TEXT",
+                "not a reason: write normal, shutdown, shutdown:TEXT, kill, killed, noproc or error:TEXT",
             ScriptFault::BadCall => "no such call: docs/FORMATS.md has the words of each",
-            ScriptFault::TooManyWords => "more words than the line may have",
+            ScriptFault::TooManyWords =>
+                "more words than the line may have; a comment has a line of its own",
             ScriptFault::TooLong => "more than 512 bytes",
         }
     }

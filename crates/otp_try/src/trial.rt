@@ -69,11 +69,12 @@ impl ActionEnd {
         match self {
             ActionEnd::Done => "",
             ActionEnd::NoProcess =>
-                "ignored: this child has no process now; restart ID starts it again, which lists what runs",
-            ActionEnd::NoChild => "ignored: there is no such child; which lists the children",
+                "ignored: this child has no process now; say restart ID to start it again, or which to list what runs",
+            ActionEnd::NoChild => "ignored: there is no such child; say which to list the children",
             ActionEnd::TooLate =>
                 "ignored: that time has gone by; +TIME counts from the line before",
-            ActionEnd::Ended => "ignored: the supervisor has ended; the line of its end says why",
+            ActionEnd::Ended =>
+                "ignored: the supervisor has ended; the line of its end says why (--timeline shows none)",
             ActionEnd::NoIds =>
                 "ignored: children of simple_one_for_one have no ids, so no start of one can be planned",
         }

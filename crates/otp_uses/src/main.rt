@@ -1,5 +1,6 @@
-//! Five worked uses, short enough to copy: a supervisor that is driven by hand, an inbox between two threads, a signal
-//! from one thread to another, a tree of supervisors that two hands serve, and a job whose process is taken turn by turn.
+//! Six worked uses, short enough to copy: a tree of two workers that is run in one call, a supervisor that is driven by hand, an
+//! inbox between two threads, a signal from one thread to another, a tree that is served turn by turn, and a job whose process
+//! is taken turn by turn.
 //!
 //! Each use of what threads share is a function that is generic in a name. The call of it at `Brand`, here in `main`, picks
 //! the name: whose inbox, words or deques. A file of `proofs/` says which one that is (`proofs/main/Invariants.antt`).
@@ -10,6 +11,7 @@ mod mailbox;
 mod signalling;
 mod supervising;
 mod tree;
+mod two_workers;
 
 use countdown::{Countdown, run_all, step};
 use mailbox::{Number, exchange};
@@ -22,11 +24,18 @@ use std::alloc::{AllocError, Global};
 use std::io;
 use std::marker::Brand;
 use tree::{Run, up_and_down};
+use two_workers::run_two_workers;
 
 /// How many numbers are sent.
 const COUNT: usize = 1000;
 
 fn main(rt: HostRuntime) -> io::Result<()> {
+    match run_two_workers(&rt, rt.alloc()) {
+        Some((starts, live)) => println!(rt;
+            "two workers: {starts} starts, {live} processes are left"
+        )?,
+        None => println!(rt; "the tree was not run")?,
+    }
     supervise(rt)?;
     let inbox = UnnamedInbox::<usize, Number>::open(rt.alloc())?;
     let came = exchange::<Brand, _>(&rt, rt.alloc(), inbox, COUNT)?;

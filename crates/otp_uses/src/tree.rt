@@ -8,9 +8,11 @@ use otp_reason::{Name, Note, Reason, Started};
 use otp_rules::{Call, CountsNow, Reply};
 use otp_run::RunNaming;
 use otp_signals::WordsNaming;
-use otp_spec::{ChildSpec, SpecFault, SupFlags, SupSpec};
-use otp_tree::{Client, Hand, Millis, Session, System, SystemFault, TablePlan, with_system};
-use std::alloc::{AllocError, Global};
+use otp_spec::{SpecFault, SupFlags};
+use otp_tree::{
+    Client, Hand, Millis, Session, System, SystemFault, TableDraft, TablePlan, with_system,
+};
+use std::alloc::Global;
 use std::sync::Wait;
 
 /// Waits until it is asked to shut down.
@@ -46,47 +48,28 @@ pub enum NoRun {
     OutOfMemory,
 }
 
-impl From<SpecFault> for NoRun {
-    fn from(fault: SpecFault) -> Self {
-        NoRun::Unlawful(fault)
-    }
-}
-
 impl From<SystemFault> for NoRun {
     fn from(fault: SystemFault) -> Self {
         NoRun::NotOpened(fault)
     }
 }
 
-impl From<AllocError> for NoRun {
-    fn from(_: AllocError) -> Self {
-        NoRun::OutOfMemory
-    }
-}
-
-type SteadyBody = Body<Steady, BoxedSubsystem>;
-
-/// Two children, and a steady worker for each.
-fn children(alloc: Global) -> Result<(Vec<ChildSpec>, Vec<SteadyBody>), AllocError> {
-    let mut specs = Vec::new(alloc);
-    let mut bodies: Vec<SteadyBody> = Vec::new(alloc);
-    for id in [b"a", b"b"] {
-        if let Some(id) = Name::new(id) {
-            specs.push(ChildSpec::new(id, id))?;
-            bodies.push(Body::Worker(Steady))?;
-        }
-    }
-    Ok((specs, bodies))
-}
-
 /// The plan of a tree: one supervisor, of two steady workers.
 fn plans(alloc: Global) -> Result<Vec<TablePlan<Steady, BoxedSubsystem>>, NoRun>
     ensures { IfOk result (λ plans. length plans.items ≡ 1) }
 {
-    let (specs, bodies) = children(alloc)?;
-    let supervisor = SupSpec::check(SupFlags::default(), specs)?;
+    let mut root = TableDraft::new(alloc);
+    for id in [b"a", b"b"] {
+        if let Some(id) = Name::new(id) {
+            root.add_worker(id, Steady).map_err(|_| NoRun::OutOfMemory)?;
+        }
+    }
+    let plan = match root.plan(SupFlags::default()) {
+        Ok(plan) => plan,
+        Err(back) => return Err(NoRun::Unlawful(back.fault)),
+    };
     let mut plans = Vec::new(alloc);
-    match plans.push(TablePlan { supervisor, bodies }) {
+    match plans.push(plan) {
         Ok(()) => Ok(plans),
         Err(_) => Err(NoRun::OutOfMemory),
     }

@@ -1044,7 +1044,7 @@ line 5: +1s crash db
 4.000 s  ask cache #11
 4.000 s  end shutdown: more than 3 restarts within 10 s: at 1.000 s, 2.000 s, 3.000 s, 4.000 s
 line 6: +1s crash db
-line 6: ignored: the supervisor has ended; the line of its end says why
+line 6: ignored: the supervisor has ended; the line of its end says why (--timeline shows none)
 status 5
 "##,
     ),
@@ -1076,7 +1076,7 @@ line 2: terminate db
 0.000 s  ask db #1
 0.000 s  reply 1 ok
 line 3: crash db
-line 3: ignored: this child has no process now; restart ID starts it again, which lists what runs
+line 3: ignored: this child has no process now; say restart ID to start it again, or which to list what runs
 status 5
 "##,
     ),
@@ -1089,7 +1089,7 @@ status 5
 0.000 s  ready
 line 2: restart bd
 0.000 s  reply 1 error not_found
-line 2: there is no such child; which lists the children
+line 2: there is no such child; say which to list the children
 line 3: hang db
 line 4: terminate db
 0.000 s  ask db #1
@@ -1151,7 +1151,7 @@ status 0
 0.000 s  start web #3
 0.000 s  ready
 line 2: fail bd
-line 2: there is no such child; which lists the children
+line 2: there is no such child; say which to list the children
 line 3: crash cache
 0.000 s  ask web #3
 0.000 s  ask db #1
@@ -1162,7 +1162,7 @@ line 4: ignore web
 0.000 s  3 up, 1/3 restarts in 10 s
 unused: fail bd (line 2)
 unused: ignore web (line 4)
-line 2: ignored: there is no such child; which lists the children
+line 2: ignored: there is no such child; say which to list the children
 status 5
 "##,
     ),
@@ -1207,7 +1207,7 @@ db                            #1      #4      #7     #10       -
 cache                         #2      #5      #8     #11       -
 web                           #3      #6      #9     #12       -
 restarts in 10 s             0/3     1/3     2/3     3/3       -
-line 6: ignored: the supervisor has ended; the line of its end says why
+line 6: ignored: the supervisor has ended; the line of its end says why (--timeline shows none)
 status 5
 "##,
     ),
@@ -1371,7 +1371,7 @@ status 0
         "-",
         r##"table 0 starts 2 restarts 0 end none
 table 1 starts 2 restarts 0 end none
-live 4
+live 3
 one_for_one, 2 restarts in 60 s, table 0: 2 starts, 0 restarts, runs
 |-- db    up #2
 `-- pool  starting #3
@@ -1477,7 +1477,7 @@ status 0
         "-",
         r##"slip_key.toml: E11: child 3 (web): unknown key restrt; allowed: id start restart significant shutdown type modules tree; did you mean restart?
 slip_word.toml: E13: supervisor, strategy: read "one_for_al"; allowed: "one_for_one", "one_for_all", "rest_for_one", "simple_one_for_one"; did you mean one_for_all?
-slip_number.toml: E1: supervisor, intensity: read 1001; allowed: 0 to 1000
+slip_number.toml: E1: supervisor, intensity: read 1001; allowed: a whole number, 0 to 1000
 slip_twice.toml: E3: child 2 (db): an earlier child has this id; each id stands once
 slip_nested.toml: E11: child 2 (pool), child 2 (b): unknown key restat; allowed: id start restart significant shutdown type modules tree; did you mean restart?
 slip_quote.toml: E10: TOML parse error at line 4, column 9: invalid string; a text stands between two quotes, on one line

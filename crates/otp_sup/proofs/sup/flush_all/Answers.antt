@@ -1,4 +1,7 @@
-use Rattle.std.proofs.Common.{arith, sym, ◌∙◌}
+use Rattle.std.proofs.Common.{ap, arith, sym, ◌∙◌}
+use Rattle.otp_inbox.specs.Tokens.{SenderState, TakerState}
+use Rattle.otp_rules.specs.declared.event.Item.{Item}
+use Rattle.otp_sup.proofs.Credits.{credited_again, credited_only, started_again, started_one, taken_again, taken_only}
 use Rattle.otp_sup.proofs.More.{flushes_last, flushes_less, flushes_more, last_sent, more_again}
 use Rattle.otp_sup.proofs.Sent.{sent_again, sent_none}
 use Rattle.otp_sup.proofs.sup.flush_all.Goals as goal
@@ -8,7 +11,11 @@ loop-table-init g c =
     record {
       more = flushes_more c.flush_one-flushed.result _ _ _ _ _ _ c.flush_one-flushed.ensures.flushed;
       orders = sent_again c.flush_one-flushed.result _ _ _ _ _ _ _ _ (sent_none _ _) c.flush_one-flushed.ensures.flushed;
-      taker = c.flush_one-flushed.ensures.taker;
+      taker = taken_only _ _ _ c.flush_one-flushed.ensures.taker;
+      given = started_one _ _ _ _ _ (ap (λ (t : TakerState Item). t.given) c.flush_one-flushed.ensures.taker) c.flush_one-flushed.ensures.put;
+      sender = credited_only _ _ _ c.flush_one-flushed.ensures.sender;
+      credited = started_one _ _ _ _ _ (ap (λ (s : SenderState Item). s.shares) c.flush_one-flushed.ensures.sender) c.flush_one-flushed.ensures.put;
+      beside = c.flush_one-flushed.ensures.beside;
       counts = c.flush_one-flushed.ensures.counts;
       ends = c.flush_one-flushed.ensures.ends;
       count = c.flush_one-flushed.ensures.count;
@@ -21,7 +28,11 @@ loop-table-preserved g c =
     record {
       more = more_again _ _ _ _ _ _ c.loop-table.invariant.more (flushes_more c.flush_one-flushed-in-loop-table.result _ _ _ _ _ _ c.flush_one-flushed-in-loop-table.ensures.flushed);
       orders = sent_again c.flush_one-flushed-in-loop-table.result _ _ _ _ _ _ _ _ c.loop-table.invariant.orders c.flush_one-flushed-in-loop-table.ensures.flushed;
-      taker = c.flush_one-flushed-in-loop-table.ensures.taker ∙ c.loop-table.invariant.taker;
+      taker = taken_again c.args.table.now.taker c.loop-table.table.taker c.flush_one-flushed-in-loop-table.new.self.taker c.loop-table.invariant.taker (taken_only _ _ _ c.flush_one-flushed-in-loop-table.ensures.taker);
+      given = started_again _ _ _ _ _ _ c.loop-table.invariant.given (started_one _ _ _ _ _ (ap (λ (t : TakerState Item). t.given) c.flush_one-flushed-in-loop-table.ensures.taker) c.flush_one-flushed-in-loop-table.ensures.put);
+      sender = credited_again c.args.sender.now c.loop-table.sender c.flush_one-flushed-in-loop-table.new.sender c.loop-table.invariant.sender (credited_only _ _ _ c.flush_one-flushed-in-loop-table.ensures.sender);
+      credited = started_again _ _ _ _ _ _ c.loop-table.invariant.credited (started_one _ _ _ _ _ (ap (λ (s : SenderState Item). s.shares) c.flush_one-flushed-in-loop-table.ensures.sender) c.flush_one-flushed-in-loop-table.ensures.put);
+      beside = c.flush_one-flushed-in-loop-table.ensures.beside ∙ c.loop-table.invariant.beside;
       counts = c.flush_one-flushed-in-loop-table.ensures.counts ∙ c.loop-table.invariant.counts;
       ends = c.flush_one-flushed-in-loop-table.ensures.ends ∙ c.loop-table.invariant.ends;
       count = c.flush_one-flushed-in-loop-table.ensures.count ∙ c.loop-table.invariant.count;

@@ -1,7 +1,11 @@
 use Rattle.std.proofs.Common.{◌≡◌, ◌+◌, ◌<◌, ◌∷◌, ◌++◌, List, length, map, sym, ap, ◌∙◌, subst, arith}
-use Rattle.std.specs.Prelude.{MatchOption, Some, sum_by}
+use Rattle.std.specs.Prelude.{IfSome, MatchOption, Some, sum_by}
 use Rattle.otp_inbox.specs.Lists.{AsOften}
-use Rattle.otp_inbox.specs.Tokens.{all_sent}
+use Rattle.otp_inbox.specs.declared.rule.Shares.{Shares}
+use Rattle.otp_inbox.specs.Tokens.{TakerState, all_sent, no_shares}
+use Rattle.otp_rules.specs.declared.event.Item.{Item}
+use Rattle.otp_tree.specs.Begun.{starts_credited}
+use Rattle.otp_tree.proofs.Begun.{as_far_as, others_as_far, starts_push}
 use Rattle.otp_run.specs.Lists.{AllAt}
 use Rattle.otp_run.proofs.Places.{each_at}
 use Rattle.otp_tree.specs.Leavings.{line_of, sent_at, sent_to}
@@ -71,4 +75,29 @@ returns-clause-last g c =
     let sent = (last_whole all c.args.loose.sups.items c.args.loose.outer _ _ c.join_all.result c.requires.loose.placed l.all l.seated whole many).1.0 in
     let waits = sym (ap (λ v. v.waiter) c.client.view_is) ∙ c.in-Some.is in
     subst (λ o. MatchOption o ⊥ (λ w. AsOften (sent_to tables all) (w.taken ++ c.settle.result.items))) (sym waits)
-    (λ weight. ap (sum_by weight) (sym sent) ∙ c.settle.ensures weight)
+    (λ weight. ap (sum_by weight) (sym sent) ∙ c.settle.ensures.left weight)
+
+pub join_all-requires-clause-as_far : goal.join_all-requires-clause-as_far
+join_all-requires-clause-as_far g c =
+    let reach = ap (λ v. length v.senders) c.client.view_is ∙ c.requires.reached.reach in
+    as_far_as _ _ _ (sym reach) (others_as_far _ _ _ c.requires.reached.as_far)
+
+pub take_all_apart-requires-clause-as_many : goal.take_all_apart-requires-clause-as_many
+take_all_apart-requires-clause-as_many g c =
+    let rests = c.args.gathered.rests.items in
+    let whole = subst (λ v. AllAt (IsWhole (v.senders ∷ map senders_in rests)) c.join_all.result) c.client.view_is c.join_all.ensures.whole in
+    let many = c.join_all.ensures.len ∙ ap (λ v. length v.senders) c.client.view_is ∙ c.requires.reached.reach in
+    let l = c.into_last-senders.ensures in
+    (others_whole (c.args.client.senders ∷ map senders_in rests) c.args.loose.sups.items _ _ c.join_all.result l.all whole many).1
+
+pub returns-clause-starts : goal.returns-clause-starts
+returns-clause-starts g c =
+    let joined = c.join_all.ensures.starts in
+    let none = c.client.invariant.1 in
+    let cut = sym (ap starts_credited c.into_last-senders.ensures.all) ∙ starts_push c.into_last-senders.result.0.items c.into_last-senders.result.1 in
+    let last = ap (λ (s : Shares). s.starts) c.settle.ensures.shares in
+    let waits = subst (λ o. IfSome o (λ (w : TakerState Item). w.given ≡ no_shares)) c.in-Some.is c.client.invariant.2 in
+    let given = ap (λ (s : Shares). s.starts) waits in
+    let all = c.take_all_apart.ensures.starts in
+    let begun = c.requires.begun in
+    omega (arith, joined, none, cut, last, given, all, begun)

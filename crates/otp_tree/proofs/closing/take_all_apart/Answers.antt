@@ -8,6 +8,7 @@ use Rattle.otp_tree.specs.Leavings.{HasUnsent, line_of, sent_at, sent_in}
 use Rattle.otp_tree.specs.Settlings.{IsReady}
 use Rattle.otp_tree.proofs.Apart.{all-more, length-more, seen-more, apart-more}
 use Rattle.otp_tree.proofs.Settlings.{all_ready, more_next, next_at, next_behind, room_ready, sender_ready}
+use Rattle.otp_tree.proofs.Begun.{apart_starts, none_left}
 use Rattle.otp_tree.proofs.closing.take_all_apart.Goals as goal
 
 pub next_of-sender-requires : goal.next_of-sender-requires
@@ -74,8 +75,20 @@ loop-sup-preserved g c =
       apart = apart-more _ _ _ old one apart.apart i.seen i.apart;
       seen = seen-more _ _ _ old new one apart.kept apart.gained i.seen;
       unsent = all-more HasUnsent _ _ _ one i.unsent apart.unsent;
+      starts = apart_starts c.args.senders.items _ _ _ _ _ _ one sender apart.starts i.starts;
       done = subst (λ l. AllAt (λ k t. AsOften (sent_at k c.args.senders.items) (line_of t)) l) (sym one) (push_at (λ k t. AsOften (sent_at k c.args.senders.items) (line_of t)) _ _ i.done (subst (λ o. AsOften (sent_in o) (line_of c.take_apart.result)) (sym (next_at c.args.senders.items n _ _ _ i.senders sender)) apart.left));
       sups = ap (λ n. drop n c.args.sups.items) long ∙ next_behind c.args.sups.items n _ _ _ i.sups next;
       senders = ap (λ n. drop n c.args.senders.items) long ∙ next_behind c.args.senders.items n _ _ _ i.senders sender;
       rooms = ap (λ n. drop n c.args.rooms.items) long ∙ next_behind c.args.rooms.items n _ _ _ i.rooms room_of;
     }
+
+pub returns-clause-starts : goal.returns-clause-starts
+returns-clause-starts g c =
+    let i = c.loop-sup.invariant in
+    let none = (c.in-None.ensures {u = tt}).steps.0 in
+    let left = i.left in
+    let count = i.count in
+    let many = c.requires.as_many in
+    let starts = i.starts in
+    let rest = none_left c.args.senders.items (length c.loop-sup.tables.items) c.loop-sup.senders.rest.items (omega (arith, none, left, count, many)) i.senders in
+    omega (arith, starts, rest)

@@ -1,7 +1,8 @@
 use Rattle.std.proofs.Common.{◌≡◌, ◌+◌, ◌≤◌, ◌++◌, drop, length}
-use Rattle.std.specs.Prelude.{All, vec_capacity, vec_len}
+use Rattle.std.specs.Prelude.{All, sum_by, vec_capacity, vec_len}
 use Rattle.otp_inbox.specs.Lists.{AsOften}
 use Rattle.otp_run.specs.Lists.{AllAt}
+use Rattle.otp_tree.specs.Begun.{starts_credited, starts_of, unsent_of}
 use Rattle.otp_tree.specs.Closes.{AreApart, HasBegun, HasTold}
 use Rattle.otp_tree.specs.Leavings.{HasUnsent, line_of, sent_at}
 use Rattle.otp_tree.proofs.Apart.{Seen}
@@ -20,6 +21,7 @@ invariant-loop-sup g l =
       apart : AreApart l.tables.items;
       seen : All (Seen l.owner.drawn) l.tables.items;
       unsent : All HasUnsent l.tables.items;
+      starts : starts_credited l.fn.senders.items + sum_by unsent_of l.tables.items ≡ sum_by starts_of l.tables.items + starts_credited l.senders.rest.items;
       done : AllAt (λ k t. AsOften (sent_at k l.fn.senders.items) (line_of t)) l.tables.items;
       sups : drop (length l.tables.items) l.fn.sups.items ≡ l.sup-iterator.rest.items;
       senders : drop (length l.tables.items) l.fn.senders.items ≡ l.senders.rest.items;

@@ -1,9 +1,12 @@
-use Rattle.std.proofs.Common.{◌≡◌, ◌≤◌, ◌∷◌, ◌++◌, [], length, map, refl, sym, ap, ◌∙◌, subst, arith, append_assoc, append-nil}
+use Rattle.std.proofs.Common.{◌≡◌, ◌+◌, ◌≤◌, ◌∷◌, ◌++◌, [], length, map, refl, sym, ap, ◌∙◌, subst, arith, append_assoc, append-nil}
 use Rattle.otp_inbox.specs.Tokens.{all_parts}
 use Rattle.otp_run.specs.Lists.{AllAt}
 use Rattle.otp_run.proofs.Places.{each_at, map-append}
 use Rattle.otp_tree.specs.Settlings.{HasAll, senders_in}
 use Rattle.otp_tree.proofs.Leavings.{few_parts, has_more, has_one, has_whole}
+use Rattle.otp_tree.proofs.Begun.{credited_push, reaches_as_far}
+use Rattle.otp_tree.specs.Begun.{starts_credited}
+use Rattle.std.specs.Prelude.{sum_by}
 use Rattle.otp_tree.proofs.Partings.{nothing_left}
 use Rattle.otp_tree.proofs.joining.join_all.Goals as goal
 
@@ -15,6 +18,7 @@ loop-rest-init g c =
     record {
       has = has_one c.args.senders (few_parts c.args.senders (map senders_in c.args.rests.items) c.requires.whole);
       len = refl;
+      starts = omega arith;
       all = gives.0;
       left = omega (arith, gives.1, items, ok);
     }
@@ -34,6 +38,11 @@ loop-rest-preserved g c =
     record {
       has = subst (λ l. AllAt (HasAll (c.args.senders ∷ l)) c.join_senders.new.senders) (sym (map-append senders_in before (r ∷ []))) (has_more (c.args.senders ∷ map senders_in before) c.loop-rest.senders r.senders c.join_senders.new.senders i.has c.join_senders.ensures.joined);
       len = c.join_senders.ensures.len ∙ i.len;
+      starts =
+          let one = c.join_senders.ensures.starts in
+          let so_far = i.starts in
+          let more = credited_push before r in
+          omega (arith, one, so_far, more);
       all = append_assoc before (r ∷ []) c.next.new.self.rest.items ∙ ap (λ l. before ++ l) (sym next) ∙ i.all;
       left = omega arith;
     }
@@ -47,3 +56,21 @@ returns-clause-whole g c =
     let all = sym (append-nil before) ∙ ap (λ l. before ++ l) (sym (nothing_left c.loop-rest.rest-iterator.rest.items (omega arith))) ∙ i.all in
     has_whole (c.args.senders ∷ map senders_in c.args.rests.items) (length c.args.senders) c.loop-rest.senders i.len c.requires.whole
     (subst (λ l. AllAt (HasAll (c.args.senders ∷ map senders_in l)) c.loop-rest.senders) all i.has)
+
+pub join_senders-requires-clause-as_far : goal.join_senders-requires-clause-as_far
+join_senders-requires-clause-as_far g c =
+    let i = c.loop-rest.invariant in
+    let next = (c.in-Some.ensures {u = tt}).steps.0 in
+    let before = c.loop-rest.yielded in
+    let len = i.len in
+    let far = reaches_as_far (length c.args.senders) c.in-Some.rest c.next.new.self.rest.items before c.args.rests.items (ap (λ l. before ++ l) (sym next) ∙ i.all) c.requires.as_far in
+    omega (arith, far, len)
+
+pub returns-clause-starts : goal.returns-clause-starts
+returns-clause-starts g c =
+    let i = c.loop-rest.invariant in
+    let none = (c.in-None.ensures {u = tt}).steps.0 in
+    let left = i.left in
+    let before = c.loop-rest.yielded in
+    let all = sym (append-nil before) ∙ ap (λ l. before ++ l) (sym (nothing_left c.loop-rest.rest-iterator.rest.items (omega arith))) ∙ i.all in
+    i.starts ∙ ap (λ l. starts_credited c.args.senders + sum_by starts_credited (map senders_in l)) all

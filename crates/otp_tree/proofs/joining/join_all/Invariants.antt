@@ -1,4 +1,6 @@
-use Rattle.std.proofs.Common.{◌≡◌, ◌∷◌, ◌++◌, length, map}
+use Rattle.std.proofs.Common.{◌≡◌, ◌+◌, ◌∷◌, ◌++◌, length, map}
+use Rattle.std.specs.Prelude.{sum_by}
+use Rattle.otp_tree.specs.Begun.{starts_credited}
 use Rattle.otp_run.specs.Lists.{AllAt}
 use Rattle.otp_tree.specs.Settlings.{HasAll, senders_in}
 use Rattle.otp_tree.proofs.joining.join_all.Given as goal
@@ -8,6 +10,7 @@ invariant-loop-rest g l =
     record {
       has : AllAt (HasAll (l.fn.senders ∷ map senders_in l.yielded)) l.senders;
       len : length l.senders ≡ length l.fn.senders;
+      starts : starts_credited l.senders ≡ starts_credited l.fn.senders + sum_by starts_credited (map senders_in l.yielded);
       all : l.yielded ++ l.rest-iterator.rest.items ≡ l.fn.rests.items;
       left : l.rest-iterator.rest.len ≡ length l.rest-iterator.rest.items;
     }

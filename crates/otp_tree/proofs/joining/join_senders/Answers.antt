@@ -1,4 +1,5 @@
-use Rattle.std.proofs.Common.{◌≡◌, ◌+◌, ◌<◌, ◌≤◌, ◌∷◌, ◌++◌, [], length, set, sym, ap, ◌∙◌, subst, arith, append_assoc}
+use Rattle.std.proofs.Common.{◌≡◌, ◌+◌, ◌<◌, ◌≤◌, ◌∷◌, ◌++◌, [], length, set, sym, ap, ◌∙◌, subst, arith, append_assoc, length-append}
+use Rattle.otp_tree.proofs.Begun.{starts_push}
 use Rattle.std.specs.Prelude.{Some, slice_get}
 use Rattle.otp_run.specs.Lists.{AllAt}
 use Rattle.otp_tree.specs.Seats.{Seated}
@@ -28,6 +29,11 @@ loop-sender-preserved-then-place-len g c =
     record {
       joined = subst (λ l. AllAt (IsJoined old (before ++ x ∷ [])) l) (sym new) (joined_more old before now x s.0 s.1 i.joined);
       len = c.join_at.ensures.len ∙ i.len;
+      starts =
+          let one = c.join_at.ensures.starts in
+          let so_far = i.starts in
+          let more = starts_push before x in
+          omega (arith, one, so_far, more);
       all = all;
     }
 
@@ -47,5 +53,12 @@ loop-sender-preserved g c =
     record {
       joined = joined_past old before now x (omega arith) i.joined;
       len = i.len;
+      starts =
+          let len = i.len in
+          let as_far = c.requires.as_far in
+          let whole = ap length all in
+          let long = length-append (before ++ x ∷ []) c.next.new.self.rest.items in
+          let one = length-append before (x ∷ []) in
+          absurd (omega (arith, number, seat, size, test, len, as_far, whole, long, one));
       all = all;
     }

@@ -1,4 +1,5 @@
-use Rattle.std.proofs.Common.{◌≡◌, ◌++◌, length}
+use Rattle.std.proofs.Common.{◌≡◌, ◌+◌, ◌++◌, length}
+use Rattle.otp_tree.specs.Begun.{starts_credited}
 use Rattle.otp_run.specs.Lists.{AllAt}
 use Rattle.otp_tree.specs.Settlings.{IsJoined}
 use Rattle.otp_tree.proofs.joining.join_senders.Given as goal
@@ -8,5 +9,6 @@ invariant-loop-sender g l =
     record {
       joined : AllAt (IsJoined l.initial.senders l.yielded) l.senders;
       len : length l.senders ≡ length l.initial.senders;
+      starts : starts_credited l.senders ≡ starts_credited l.initial.senders + starts_credited l.yielded;
       all : l.yielded ++ l.sender-iterator.rest.items ≡ l.fn.others;
     }

@@ -1,13 +1,14 @@
 use Rattle.std.proofs.Common.{◌≡◌}
 use Rattle.otp_run.specs.Lists.{AllAt}
-use Rattle.otp_run.specs.Schedulers.{out}
+use Rattle.otp_tree.specs.Begun.{HasRootOnly, starts_credited}
 use Rattle.otp_tree.specs.Readings.{IsFresh}
 use Rattle.otp_tree.proofs.opening.make_hands.Given as goal
 
 abbrev pub invariant-loop-scheduler : goal.invariant-loop-scheduler
 invariant-loop-scheduler g l =
     record {
-      idle : AllAt (λ k s. out s ≡ 0) l.scheduler-iterator.rest.items;
+      idle : AllAt (λ k s. HasRootOnly s) l.scheduler-iterator.rest.items;
       same : l.passes.items ≡ l.initial.passes.items;
+      starts : starts_credited l.senders ≡ starts_credited l.initial.senders;
       fresh : AllAt (λ _ h. IsFresh l.initial.passes.items h) l.hands.items;
     }

@@ -2,7 +2,7 @@ use Rattle.std.proofs.Common.{◌≡◌, ℕ, ◌+◌, [], ◌∷◌, length, ma
 use Rattle.std.proofs.lemmas.List.{length-map}
 use Rattle.otp_tree.specs.Hands.{senders_of}
 use Rattle.otp_tree.specs.Partings.{scheduler_of, schedulers_of}
-use Rattle.otp_tree.proofs.Partings.{parted-more, paired-more, parted-all, schedulers-joined, senders-joined}
+use Rattle.otp_tree.proofs.Partings.{credited_by, of_runner, parted-more, paired-more, parted-all, schedulers-joined, senders-joined}
 use Rattle.otp_tree.proofs.parting.part_all.Goals as goal
 
 pub loop-hand-preserved : goal.loop-hand-preserved
@@ -24,8 +24,8 @@ loop-hand-preserved g c =
     let capacity = c.push_reserved.ensures.capacity in
     let capacity_too = c.push_reserved-in-loop-hand.ensures.capacity in
     record {
-      hands = parted-more _ _ _ _ _ _ _ _ _ _ one two c.hand.view_is next many i.hands;
-      paired = paired-more _ _ _ _ _ _ one two many c.hand.invariant i.paired;
+      hands = parted-more _ _ _ _ _ _ _ _ _ _ one two (ap (λ w. of_runner w c.hand.inside.senders c.hand.inside.passes.items) c.runner.view_is ∙ c.hand.view_is) next many i.hands;
+      paired = paired-more _ _ _ _ _ _ one two many (record { out_is = c.runner.invariant; credited = credited_by _ _ c.hand.inside.senders c.runner.view_is c.hand.invariant }) i.paired;
       many = long ∙ length-append _ _ ∙ ap (λ n. n + 1) many ∙ sym (length-append _ _) ∙ sym long_too;
       left = omega arith;
       room = omega arith;

@@ -1,8 +1,9 @@
-use Rattle.std.proofs.Common.{◌≡◌, List, ap, sym, ◌∙◌, get_or}
+use Rattle.std.proofs.Common.{◌≡◌, List, ap, ◌∙◌, get_or, map}
+use Rattle.std.specs.Prelude.{is_some}
 use Rattle.otp_sup.specs.declared.bodies.Kept.{Kept}
 use Rattle.otp_sup.specs.Facts.{BodiesView}
 use Rattle.otp_sup.specs.Bodies.{is_here}
-use Rattle.otp_sup.proofs.Keeping.{changed_here}
+use Rattle.otp_sup.proofs.Stored.{stored_moved}
 use Rattle.otp_sup.proofs.bodies.Bodies.move_to.Goals as goal
 
 pub invariant_of-self : goal.invariant_of-self
@@ -11,4 +12,4 @@ invariant_of-self g c =
     let now : Kept = c.index_mut.result.now in
     let here : is_here now.place ≡ is_here c.args.to = ap (λ (k : Kept). is_here k.place) c.index_mut.ensures.value
     ∙ ap (λ (v : BodiesView). is_here (get_or v.kept c.args.at now).place) c.self.view_is ∙ c.requires.here now in
-    c.self.invariant ∙ sym (changed_here xs c.args.at now c.args.to c.index_mut.ensures.value here)
+    stored_moved (map is_some c.self.inside.bodies.items) xs c.args.at now c.args.to c.index_mut.ensures.value here c.self.invariant

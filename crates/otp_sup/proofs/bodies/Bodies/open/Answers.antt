@@ -1,9 +1,11 @@
-use Rattle.std.proofs.Common.{List, ap, sym, ◌∙◌, map}
+use Rattle.std.proofs.Common.{List, sym, subst, map}
+use Rattle.std.specs.Prelude.{is_some}
 use Rattle.otp_sup.specs.declared.bodies.Kept.{Kept}
-use Rattle.otp_sup.specs.Bodies.{is_here}
-use Rattle.otp_sup.proofs.Keeping.{opened_here}
+use Rattle.otp_sup.specs.Bodies.{IsStored}
+use Rattle.otp_sup.proofs.Stored.{stored_opened}
 use Rattle.otp_sup.proofs.bodies.Bodies.open.Goals as goal
 
 pub invariant_of-self : goal.invariant_of-self
 invariant_of-self g c =
-    c.self.invariant ∙ sym (opened_here c.args.rows.now c.self.inside.kept.items) ∙ ap (λ (l : List Kept). map (λ (k : Kept). is_here k.place) l) (sym c.open_items.ensures)
+    let Of : List Kept → Type 0 = λ l. IsStored (map is_some c.self.inside.bodies.items) l in
+    subst Of (sym c.open_items.ensures) (stored_opened (map is_some c.self.inside.bodies.items) c.args.rows.now c.self.inside.kept.items c.self.invariant)

@@ -8,6 +8,7 @@ use Rattle.otp_rules.specs.State.{State}
 use Rattle.otp_core.specs.View.{state_of}
 use Rattle.otp_sup.specs.Facts.{Begins, KeepsOffice, orders_along}
 use Rattle.otp_sup.proofs.Slots.{unslotted}
+use Rattle.otp_sup.proofs.StartOrders.{starts_along}
 use Rattle.otp_sup.proofs.office.Office.keeps_rules.Goals as goal
 
 pub returns : goal.returns
@@ -30,6 +31,7 @@ returns g c =
       lawful = c.history.ensures.lawful;
       numbers = i.numbers;
       orders = ap (λ (l : List Effect). take sent all ++ l) i.orders ∙ take-append-drop sent all;
+      starts = starts_along c.number_starts_work.ensures core.base core.history c.history.ensures.lawful.0;
       posts = i.posts;
       rate = c.kept_restarts.ensures.rate;
       slots = slots;

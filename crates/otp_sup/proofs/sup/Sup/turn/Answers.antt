@@ -15,6 +15,7 @@ returns-clause-one_table g c =
       sent = c.flush_all.ensures.orders;
       left = c.flush_all.ensures.sent;
       taker = c.flush_all.ensures.taker;
+      started = c.flush_all.ensures.given;
       counts = c.flush_all.ensures.counts;
       ends = c.flush_all.ensures.ends;
       count = c.flush_all.ensures.count;

@@ -1,4 +1,4 @@
-use Rattle.std.proofs.Common.{◌≡◌, List, Option, ℕ, ap, refl, sym, ◌∙◌, subst, IsSome}
+use Rattle.std.proofs.Common.{◌≡◌, List, Option, ℕ, ap, arith, length, refl, sym, ◌∙◌, subst, IsSome}
 use Rattle.otp_core.specs.View.{View, state_of}
 use Rattle.otp_counts.specs.Counts.{EndsWith}
 use Rattle.otp_rules.specs.Counts.{counts_of}
@@ -9,6 +9,10 @@ use Rattle.otp_sup.proofs.Flushing.{bodies_flushed, start_leaves}
 use Rattle.otp_sup.specs.declared.bodies.Kept.{Kept}
 use Rattle.otp_sup.proofs.Calls.{sent_calls}
 use Rattle.otp_sup.proofs.Telling.{told_same}
+use Rattle.otp_inbox.specs.Tokens.{TakerState}
+use Rattle.otp_rules.specs.declared.event.Item.{Item}
+use Rattle.otp_sup.specs.Shares.{starts_flushed}
+use Rattle.otp_sup.proofs.Shared.{starts_sent_on}
 use Rattle.otp_sup.proofs.Leaving.{Left, flushes_core, flushes_none, left_or_not}
 use Rattle.otp_sup.proofs.table.Table.flush_one.Goals as goal
 
@@ -34,7 +38,7 @@ invariant_of-self g c =
     let Has : List Kept → Type 0 = λ l. HasBodies c.flush_one-flushed.new.self l in
     let Slot : Option ℕ → Type 0 = λ o. HasBodies c.flush_one-flushed.new.self (bodies_sent c.flush_one-flushed.result.0 o c.self.inside.bodies.kept) in
     record {
-      taken = c.self.invariant.taken ∙ ap (λ (v : View). items_of v.history) (sym core);
+      taken = ap (λ (t : TakerState Item). t.taken) c.credit_start.ensures.taker ∙ c.self.invariant.taken ∙ ap (λ (v : View). items_of v.history) (sym core);
       calls = ap (λ (l : List Kept). calls_waiting l) is
           ∙ sent_calls c.flush_one-flushed.result.0 slot c.self.inside.bodies.kept
           ∙ c.self.invariant.calls
@@ -42,6 +46,18 @@ invariant_of-self g c =
       bodies = subst Has (sym is) (subst Slot (sym c.starting_slot-slot.ensures) (bodies_flushed _ _ _ _ _ _ _ c.self.inside.bodies.kept c.keeps_rules.ensures sent.flushed c.self.invariant.bodies));
       counts = subst (λ (v : View). EndsWith (counts_of (state_of v)) c.self.inside.counts.published) (sym core) c.self.invariant.counts;
       told = told_same _ _ _ _ (ap (λ (v : View). v.history) core) refl c.self.invariant.told;
+      starts =
+          let given = ap (λ (t : TakerState Item). t.given.starts) c.credit_start.ensures.taker in
+          let more = starts_sent_on _ _ _ _ _ _ _ c.keeps_rules.ensures sent.flushed in
+          let same = ap (λ (o : Option ℕ). starts_flushed c.flush_one-flushed.result.0 o) c.starting_slot-slot.ensures in
+          let before = c.self.invariant.starts in
+          omega (arith, given, more, same, before);
+      turns =
+          let given = ap (λ (t : TakerState Item). t.given.turns) c.credit_start.ensures.taker in
+          let finds = ap (λ (t : TakerState Item). t.empty_finds) c.credit_start.ensures.taker in
+          let events = ap (λ (v : View). length v.history) core in
+          let before = c.self.invariant.turns in
+          omega (arith, given, finds, events, before);
     }
 
 pub flush_one-flushed-requires : goal.flush_one-flushed-requires

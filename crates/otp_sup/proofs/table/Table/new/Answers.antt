@@ -1,10 +1,13 @@
-use Rattle.std.proofs.Common.{List, [], ap, refl, rules, sym, subst, ◌∙◌, false}
+use Rattle.std.proofs.Common.{List, [], ap, arith, length, refl, sym, subst, ◌∙◌, false}
 use Rattle.otp_sup.specs.declared.bodies.Kept.{Kept}
 use Rattle.otp_sup.proofs.Flushing.{first_bodies}
 use Rattle.otp_sup.specs.Bodies.{calls_waiting}
 use Rattle.otp_sup.specs.Facts.{HasBodies, items_of}
 use Rattle.otp_sup.proofs.Calls.{nothing_waits, settled_calls}
 use Rattle.otp_sup.proofs.Telling.{none_told, told_same}
+use Rattle.otp_sup.proofs.Shared.{none_sent}
+use Rattle.otp_inbox.specs.declared.rule.Shares.{Shares}
+use Rattle.otp_rules.specs.declared.event.Event.{Event}
 use Rattle.otp_sup.proofs.table.Table.new.Goals as goal
 
 pub invariant_of-result : goal.invariant_of-result
@@ -13,7 +16,13 @@ invariant_of-result g c =
     record {
       taken = c.requires.taken ∙ sym (ap items_of c.requires.history);
       calls = ap calls_waiting c.settle.ensures ∙ settled_calls [] false c.args.bodies.kept ∙ sym (nothing_waits c.args.office c.keeps_rules.ensures.begins c.requires.history);
-      bodies = subst Has (sym c.settle.ensures) (first_bodies c.args.office c.args.bodies.kept c.keeps_rules.ensures c.requires.history c.requires.bodies);
+      bodies = subst Has (sym c.settle.ensures) (first_bodies c.args.office c.args.bodies.kept c.keeps_rules.ensures c.requires.history c.requires.bodies c.has_one_each.ensures);
       counts = ([], c.requires.counts);
       told = told_same _ _ [] _ refl c.new.ensures.items (none_told c.args.office.core.history);
+      starts = ap (λ (s : Shares). s.starts) c.requires.unused.1 ∙ sym (none_sent c.args.office c.requires.history);
+      turns =
+          let given = ap (λ (s : Shares). s.turns) c.requires.unused.1 in
+          let finds = c.requires.unused.0 in
+          let events = ap (λ (l : List Event). length l) c.requires.history in
+          omega (arith, given, finds, events);
     }

@@ -1,4 +1,4 @@
-use Rattle.std.proofs.Common.{◌≤◌, arith}
+use Rattle.std.proofs.Common.{arith}
 use Rattle.otp_sup.proofs.Unsent.{few_to_start}
 use Rattle.otp_sup.proofs.table.Table.unsent_starts.Goals as goal
 

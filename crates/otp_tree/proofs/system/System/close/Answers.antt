@@ -3,6 +3,7 @@ use Rattle.std.specs.Prelude.{IfSome, IsTrue, OnSome}
 use Rattle.otp_tree.specs.declared.closing.Refusal.TheVariants as refusal
 use Rattle.otp_run.specs.Gathers.{IsLiveTotal, begun_of, ended_of}
 use Rattle.otp_run.specs.Rule.{ticket_of}
+use Rattle.otp_tree.specs.Begun.{HasAllStarts}
 use Rattle.otp_tree.specs.Closes.{AreApart, HasBegun, HasTold, IsAsItWas, IsComplete, all_senders, kept_in}
 use Rattle.otp_tree.specs.Leavings.{AreAccounted, HasUnsent, IsLast}
 use Rattle.otp_tree.specs.Partings.{schedulers_of}
@@ -164,3 +165,12 @@ returns-then-not-is_reached-clause-last g c = refused-report refusal.Missing c.a
 
 pub returns-then-not-is_reached-clause-unsent : goal.returns-then-not-is_reached-clause-unsent
 returns-then-not-is_reached-clause-unsent g c = refused-report refusal.Missing c.args.self c.args.hands.items c.args.client c.refuse.result (λ report. All HasUnsent report.tables.items) c.refuse.ensures
+
+pub returns-in-Err-clause-starts : goal.returns-in-Err-clause-starts
+returns-in-Err-clause-starts g c = refused-report c.in-Err.field-0.cause c.in-Err.field-0.system c.args.hands.items c.args.client c.refuse-in-Err.result (λ report. HasAllStarts report) c.refuse-in-Err.ensures
+
+pub returns-in-Err-gather_hands-clause-starts : goal.returns-in-Err-gather_hands-clause-starts
+returns-in-Err-gather_hands-clause-starts g c = refused-report c.in-Err-gather_hands.field-0.cause c.lock.result c.in-Err-gather_hands.field-0.hands.items c.args.client c.refuse-in-Err-gather_hands.result (λ report. HasAllStarts report) c.refuse-in-Err-gather_hands.ensures
+
+pub returns-then-not-is_reached-clause-starts : goal.returns-then-not-is_reached-clause-starts
+returns-then-not-is_reached-clause-starts g c = refused-report refusal.Missing c.args.self c.args.hands.items c.args.client c.refuse.result (λ report. HasAllStarts report) c.refuse.ensures

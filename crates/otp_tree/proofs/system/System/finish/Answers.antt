@@ -19,4 +19,5 @@ returns-in-Ok-clause-report g c =
         balance = e.begun ∙ total.balance ∙ ap (λ n. n + report.live) (sym e.ended);
         left = omega (arith, total.live_is, length-map report.processes.items ticket_of);
       };
+      starts = e.starts;
     }

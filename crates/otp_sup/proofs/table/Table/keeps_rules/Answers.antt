@@ -1,0 +1,19 @@
+use Rattle.std.proofs.Common.{subst}
+use Rattle.otp_core.specs.View.{state_of}
+use Rattle.otp_sup.specs.Facts.{KeepsRules, starts_in}
+use Rattle.otp_sup.proofs.OneBody.{one_body_each}
+use Rattle.otp_sup.proofs.table.Table.keeps_rules.Goals as goal
+
+pub returns : goal.returns
+returns g c =
+    subst KeepsRules c.self.view_is (record {
+      office = c.keeps_rules.ensures;
+      taken = c.self.invariant.taken;
+      calls = c.self.invariant.calls;
+      bodies = c.self.invariant.bodies;
+      each_body = one_body_each (state_of c.self.inside.office.core) (starts_in c.self.inside.office.outbox) c.self.inside.bodies.kept c.self.invariant.bodies;
+      counts = c.self.invariant.counts;
+      told = c.self.invariant.told;
+      starts = c.self.invariant.starts;
+      turns = c.self.invariant.turns;
+    })

@@ -1,0 +1,146 @@
+//! Which process has a hand's next turn.
+ghost use Rattle.std.specs.Prelude.{◌≡◌, ◌<◌, ◌≤◌, length, is_some, true, IfSome, IsTrue};
+
+use crate::hand::Hand;
+use crate::resting::Rested;
+use crate::senders::Senders;
+use crate::system::System;
+use otp_inbox::InboxNaming;
+use otp_job::Body;
+use otp_run::{RunNaming, SHARE_LIMIT};
+use otp_signals::{Viewer, WordsNaming};
+
+impl<N: WordsNaming + InboxNaming, J: Drop, S: Drop> System<N, J, S> {
+    /// Makes sure that a hand has a process whose turn it is. The first that is there of these: the supervisor to which the
+    /// hand has just sent a letter, if that waits in this hand; one of a few supervisors that wait, for which something has
+    /// come; one of some jobs that wait, which was told something; the next of the run queue; and where that has none, of all
+    /// supervisors that wait and of many jobs. False where none was found.
+    ///
+    /// A process waits only after a turn in which it had nothing to do, and that turn it has from the run queue: so those that
+    /// wait don't keep the run queue's from their turns.
+    pub(crate) fn find(&self, hand: &mut Hand<N, J, S>) -> bool
+    where
+        N: RunNaming,
+        ensures found { IsTrue result → is_some hand.new.turning ≡ true }
+        ensures unsent { hand.new.unsent ≡ hand.old.unsent }
+        ensures passes { hand.new.passes ≡ hand.old.passes }
+    {
+        if hand.runner.turning.is_some() {
+            return true;
+        }
+        if hand.runner.scheduler.share().ended >= SHARE_LIMIT {
+            return false;
+        }
+        self.find_waiting(hand);
+        if hand.runner.turning.is_none() {
+            hand.runner.take_next();
+        }
+        if hand.runner.turning.is_none() {
+            self.find_at_leisure(hand);
+        }
+        hand.runner.turning.is_some()
+    }
+
+    /// One that waits and for which something has come, if it is found with few looks.
+    fn find_waiting(&self, hand: &mut Hand<N, J, S>)
+    where
+        N: RunNaming,
+        ensures unsent { hand.new.unsent ≡ hand.old.unsent }
+        ensures passes { hand.new.passes ≡ hand.old.passes }
+    {
+        if hand.runner.turning.is_some() {
+            return;
+        }
+        let called = hand.runner.resting.called_place();
+        hand.runner.wake(called);
+        if hand.runner.turning.is_some() {
+            return;
+        }
+        let (from, to) = hand.runner.resting.next_places();
+        let due = self.find_due(hand, from, to);
+        hand.runner.wake(due);
+        if hand.runner.turning.is_some() {
+            return;
+        }
+        hand.runner.wake_told(&self.words);
+    }
+
+    /// One that waits and for which something has come, where the hand has nothing else to do.
+    fn find_at_leisure(&self, hand: &mut Hand<N, J, S>)
+    where
+        N: RunNaming,
+        ensures unsent { hand.new.unsent ≡ hand.old.unsent }
+        ensures passes { hand.new.passes ≡ hand.old.passes }
+    {
+        if hand.runner.turning.is_some() {
+            return;
+        }
+        let all = hand.runner.resting.len();
+        let due = self.find_due(hand, 0, all);
+        hand.runner.wake(due);
+        if hand.runner.turning.is_some() {
+            return;
+        }
+        hand.runner.waiting.notice();
+        hand.runner.wake_told(&self.words);
+    }
+
+    /// The first of the supervisors that wait at these places of the hand, for which something has come.
+    fn find_due(&self, hand: &mut Hand<N, J, S>, from: usize, to: usize) -> Option<usize>
+    where
+        N: RunNaming,
+        requires { to ≤ length hand.old.resting }
+        ensures place { IfSome result (λ place. place < length hand.old.resting) }
+        ensures resting { hand.new.resting ≡ hand.old.resting }
+        ensures turning { hand.new.turning ≡ hand.old.turning }
+        ensures unsent { hand.new.unsent ≡ hand.old.unsent }
+        ensures passes { hand.new.passes ≡ hand.old.passes }
+    {
+        find_due(
+            self,
+            &mut hand.runner.viewer,
+            &mut hand.senders,
+            hand.runner.resting.as_slice(),
+            from,
+            to,
+        )
+    }
+}
+
+/// The first of the supervisors at these places for which something has come.
+fn find_due<N: WordsNaming + InboxNaming, J: Drop, S: Drop>(
+    system: &System<N, J, S>,
+    viewer: &mut Viewer<N>,
+    senders: &mut Senders<N, Body<J, S>>,
+    resting: &[Rested<J, S>],
+    from: usize,
+    to: usize,
+) -> Option<usize>
+    requires { to ≤ length resting.now }
+    ensures place { IfSome result (λ place. place < length resting.now) }
+    ensures senders { senders.new ≡ senders.old }
+{
+    for place in from..to {
+        if has_come(system, viewer, senders, &resting[place]) {
+            return Some(place);
+        }
+    }
+    None
+}
+
+/// Whether something has come for a supervisor that waits: a letter, or a signal that it didn't know of.
+fn has_come<N: WordsNaming + InboxNaming, J: Drop, S: Drop>(
+    system: &System<N, J, S>,
+    viewer: &mut Viewer<N>,
+    senders: &mut Senders<N, Body<J, S>>,
+    rested: &Rested<J, S>,
+) -> bool
+    ensures { senders.new ≡ senders.old }
+{
+    let (slot, number) = (rested.process.slot(), rested.process.number());
+    if slot < system.words.slots() && system.words.look(viewer, slot, number) != rested.told {
+        return true;
+    }
+    let inbox = system.inbox_of(rested.table);
+    inbox.number() < senders.len() && senders.has_letter(inbox)
+}

@@ -1,0 +1,83 @@
+//! A tree of jobs of one's own, whole: two workers under a supervisor, served by two threads.
+ghost use Rattle.std.specs.Prelude.{◌≡◌, true, length, IfOk};
+
+use otp_bridge::BoxedSubsystem;
+use otp_job::{Job, Told, Turn};
+use otp_reason::{Name, Reason, Started};
+use otp_spec::SupFlags;
+use otp_tree::{Gate, TableDraft, TablePlan, run_tree};
+use std::alloc::{AllocError, Global};
+use std::sync::Wait;
+use std::thread::Threads;
+
+/// Waits until it is asked to shut down.
+#[derive(Drop)]
+struct Steady;
+
+impl Job for Steady {
+    ghost is_trapping = { λ _. true };
+
+    fn traps(&self) -> bool {
+        true
+    }
+
+    fn start(&mut self, _number: u64) -> Started {
+        Started::Up
+    }
+
+    fn turn(&mut self, told: Told) -> Turn {
+        match told {
+            Told::Shutdown => Turn::End(Reason::Shutdown),
+            Told::Nothing => Turn::Wait,
+        }
+    }
+}
+
+/// A clock that stands still: here no time is to pass.
+#[derive(Drop)]
+struct Still;
+
+impl Gate for Still {
+    fn before_turn(&self, _hand: usize) -> u64 {
+        0
+    }
+}
+
+type Plan = TablePlan<Steady, BoxedSubsystem>;
+
+/// The plan of the tree: one supervisor, of two workers.
+fn plans(alloc: Global) -> Result<Vec<Plan>, AllocError>
+    ensures { IfOk result (λ plans. length plans.items ≡ 1) }
+{
+    let mut root = TableDraft::new(alloc);
+    for id in [b"db", b"ui"] {
+        if let Some(id) = Name::new(id) {
+            root.add_worker(id, Steady).map_err(|_| AllocError)?;
+        }
+    }
+    let plan = match root.plan(SupFlags::default()) {
+        Ok(plan) => plan,
+        Err(_) => return Err(AllocError),
+    };
+    let mut plans = Vec::new(alloc);
+    match plans.push(plan) {
+        Ok(()) => Ok(plans),
+        Err(_) => Err(AllocError),
+    }
+}
+
+/// Runs the tree: each of two threads makes a thousand turns, the root is asked to shut down, and each makes a thousand turns
+/// more. How many children were started, and how many processes are left; None where memory or a thread was refused.
+pub fn run_two_workers<R>(rt: &R, alloc: Global) -> Option<(u64, u64)>
+where
+    R: Threads + Wait + Sync,
+{
+    let Ok(plans) = plans(alloc) else {
+        return None;
+    };
+    let Ok(report) = run_tree(rt, alloc, plans, 2, &Still, 1000) else {
+        return None;
+    };
+    let table = report.tables.first()?;
+    Some((table.starts(), report.live))
+}
