@@ -105,7 +105,7 @@ fn root_plan(alloc: Global, children: usize) -> Result<Plan, AllocError> {
     for high in DIGITS {
         for low in DIGITS {
             let place = draft.len();
-            if place + 1 < MAX_TABLES {
+            if place < MAX_TABLES - 1 {
                 add_supervisor(&mut draft, &[high, low], place + 1)?;
             } else if place < children {
                 add_worker(&mut draft, &[high, low], false)?;
