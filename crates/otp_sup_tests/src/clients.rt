@@ -1,15 +1,14 @@
 // Calls that two clients send from threads of their own, while a third thread takes turns of the supervisor.
 ghost use Rattle.std.specs.Prelude.{◌≡◌};
 
+use crate::fixtures::seat_table;
 use otp_core::History;
-use otp_counts::Publisher;
 use otp_inbox::{InboxNaming, Sender, UnnamedInbox};
 use otp_rules::{Call, CountsNow, Item, Kind, Reply};
 use otp_signals::{OpenWords, Signal, Words, WordsNaming};
 use otp_spec::{SupFlags, SupSpec};
 use otp_sup::{
-    Bodies, Client, Letter, MemoryPort, Office, SplitFault, SubmitCause, Sup, Table, TurnAnswer,
-    TurnFault, count_opened,
+    Bodies, Client, Letter, MemoryPort, SplitFault, SubmitCause, Sup, TurnAnswer, TurnFault,
 };
 use std::alloc::Global;
 use std::marker::Brand;
@@ -56,13 +55,7 @@ fn make_one<N: WordsNaming + InboxNaming>(
     let seat = words.split(&mut owner, 0..256, 100)?;
     let callers = words.split(&mut owner, 0..0, 2 * CALLS)?;
     let supervisor = SupSpec::check(SupFlags::default(), Vec::new(alloc))?;
-    let bodies = Bodies::new(alloc);
-    if !bodies.are_ready(count_opened(&supervisor)) {
-        return Err("a body is wanted".into());
-    }
-    let office = Office::open(alloc, supervisor, seat, 0);
-    let counts = Publisher::open(alloc, office.counts())?;
-    let table = Table::new(alloc, office, taker, bodies, counts);
+    let table = seat_table(alloc, supervisor, Bodies::new(alloc), seat, taker)?;
     Ok(Served {
         words,
         sup: Sup::new(inbox, table),

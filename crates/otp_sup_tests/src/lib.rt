@@ -9,6 +9,8 @@ mod bodies;
 #[cfg(test)]
 mod clients;
 #[cfg(test)]
+mod fixtures;
+#[cfg(test)]
 mod supervisors;
 #[cfg(test)]
 mod tables;

@@ -1,15 +1,14 @@
 // Supervisors under a lock, driven by hand over a port in memory.
 ghost use Rattle.std.specs.Prelude.{◌≡◌, ◌≤◌, ◌<◌, ◌^◌};
 
-use otp_counts::Publisher;
+use crate::fixtures::seat_table;
 use otp_inbox::{InboxNaming, Sender, UnnamedInbox};
 use otp_reason::{Name, Note, Reason, Text};
 use otp_rules::{Call, CallFault, Cause, Item, Reply};
 use otp_signals::{OpenWords, Signal, Viewer, Words, WordsNaming};
 use otp_spec::{ChildSpec, SupFlags, SupSpec, copy_specs};
 use otp_sup::{
-    Bodies, Client, Letter, MemoryPort, Office, SubmitCause, Sup, Table, ToldNote, TurnAnswer,
-    TurnFault, count_opened,
+    Bodies, Client, Letter, MemoryPort, SubmitCause, Sup, ToldNote, TurnAnswer, TurnFault,
 };
 use std::alloc::Global;
 use std::marker::Brand;
@@ -72,12 +71,11 @@ fn make_driven<N: WordsNaming + InboxNaming, B: Drop>(
     let client = Client::new(alloc, owner, inbox.split(&mut sender, 1));
     let supervisor = SupSpec::check(SupFlags::default(), copy_specs(alloc, &[child()?])?)?;
     let mut bodies = Bodies::new(alloc);
-    if bodies.hand_in(0, body).is_err() || !bodies.are_ready(count_opened(&supervisor)) {
+    if bodies.hand_in(0, body).is_err() {
         return Err("a body was refused".into());
     }
-    let office = Office::open(alloc, supervisor, seat, 0);
-    let counts = Publisher::open(alloc, office.counts())?;
-    let sup = Sup::new(inbox, Table::new(alloc, office, taker, bodies, counts));
+    let table = seat_table(alloc, supervisor, bodies, seat, taker)?;
+    let sup = Sup::new(inbox, table);
     Ok(Driven {
         words,
         viewer,
@@ -388,38 +386,82 @@ fn growths_in<N: WordsNaming + InboxNaming, R: Wait + Abort>(
     requires slots { words.slots ≡ 256 }
     requires inbox { inbox ≡ N.inbox 0 }
 {
-    let x = Text::new(b"x").ok_or("a text")?;
-    let id = Name::new(b"b").ok_or("a name")?;
     let (own, second, third, fourth, fifth) = bodies;
     let mut one = make_driven::<N, Body>(alloc, words, inbox, own)?;
+    opens(rt, &mut one);
+    let child = starts_another(rt, &mut one, second)?;
+    let again = restarts(rt, &mut one, child, third)?;
+    gives_up(rt, &mut one, again, child, (fourth, fifth))
+}
+
+// It opens, and its child starts.
+fn opens<N: WordsNaming + InboxNaming, R: Wait + Abort>(rt: &R, one: &mut Driven<N, Body>) {
     assert_eq!(rt; one.turn(rt, 0, 0, Signal::None), Ok(TurnAnswer::Opened));
-    assert_eq!(rt; launched(rt, &mut one, 0), Some((1, 0, 6)));
+    assert_eq!(rt; launched(rt, one, 0), Some((1, 0, 6)));
     one.up(rt, 1);
+    takes(rt, one);
+    assert_eq!(rt; told(rt, one), Some(Note::Up(0)));
+}
+
+// A turn, which takes the item that was sent last.
+fn takes<N: WordsNaming + InboxNaming, R: Wait + Abort>(rt: &R, one: &mut Driven<N, Body>) {
     assert_eq!(rt; one.turn(rt, 0, 0, Signal::None), Ok(TurnAnswer::Took));
-    assert_eq!(rt; told(rt, &mut one), Some(Note::Up(0)));
-    let call = one.call(rt, Call::StartChild(ChildSpec::new(id, id)), Some(second));
-    assert_eq!(rt; one.turn(rt, 0, 0, Signal::None), Ok(TurnAnswer::Took));
-    let started = launched(rt, &mut one, 0);
+}
+
+// A call starts a second child: the number of its process.
+fn starts_another<N: WordsNaming + InboxNaming, R: Wait + Abort>(
+    rt: &R,
+    one: &mut Driven<N, Body>,
+    body: Body,
+) -> Result<u64, Fail> {
+    let id = Name::new(b"b").ok_or("a name")?;
+    let call = one.call(rt, Call::StartChild(ChildSpec::new(id, id)), Some(body));
+    takes(rt, one);
+    let started = launched(rt, one, 0);
     assert!(rt; matches!(started, Some((_, 1, 7))));
     let child = started.map(|process| process.0).unwrap_or(0);
     one.up(rt, child);
-    assert_eq!(rt; one.turn(rt, 0, 0, Signal::None), Ok(TurnAnswer::Took));
+    takes(rt, one);
     let reply = one.sup.reply(rt, call)?;
     assert!(rt; matches!(reply, Some(Reply::OkProcess(number)) if number == child));
-    one.exit(rt, 1, Reason::Error(x), third);
-    assert_eq!(rt; one.turn(rt, 0, 0, Signal::None), Ok(TurnAnswer::Took));
-    let restarted = launched(rt, &mut one, 0);
+    Ok(child)
+}
+
+// The first child is restarted: the number of its new process.
+fn restarts<N: WordsNaming + InboxNaming, R: Wait + Abort>(
+    rt: &R,
+    one: &mut Driven<N, Body>,
+    child: u64,
+    body: Body,
+) -> Result<u64, Fail> {
+    let x = Text::new(b"x").ok_or("a text")?;
+    one.exit(rt, 1, Reason::Error(x), body);
+    takes(rt, one);
+    let restarted = launched(rt, one, 0);
     assert!(rt; matches!(restarted, Some((number, 0, 8)) if number > child));
     let again = restarted.map(|process| process.0).unwrap_or(0);
     one.up(rt, again);
-    assert_eq!(rt; one.turn(rt, 0, 0, Signal::None), Ok(TurnAnswer::Took));
-    one.exit(rt, again, Reason::Error(x), fourth);
-    assert_eq!(rt; one.turn(rt, 0, 0, Signal::None), Ok(TurnAnswer::Took));
-    one.exit(rt, child, Reason::Shutdown, fifth);
-    assert_eq!(rt; one.turn(rt, 0, 0, Signal::None), Ok(TurnAnswer::Took));
+    takes(rt, one);
+    Ok(again)
+}
+
+// A second crash is one too many: the other child is asked, and then the parent is told the end.
+fn gives_up<N: WordsNaming + InboxNaming, R: Wait + Abort>(
+    rt: &R,
+    one: &mut Driven<N, Body>,
+    again: u64,
+    child: u64,
+    bodies: (Body, Body),
+) -> Result<(), Fail> {
+    let (first, second) = bodies;
+    let x = Text::new(b"x").ok_or("a text")?;
+    one.exit(rt, again, Reason::Error(x), first);
+    takes(rt, one);
+    one.exit(rt, child, Reason::Shutdown, second);
+    takes(rt, one);
     let is_told = !one.port.notes.is_empty();
     one.send_orders(rt, 0, is_told);
     assert!(rt; one.has_told_intensity());
-    assert_eq!(rt; told(rt, &mut one), Some(Note::Exit(0, Reason::Shutdown)));
+    assert_eq!(rt; told(rt, one), Some(Note::Exit(0, Reason::Shutdown)));
     Ok(())
 }

@@ -4,15 +4,14 @@ ghost use Rattle.otp_rules.specs.declared.event.Item.TheVariants as item;
 ghost use Rattle.otp_sup.specs.Letters.{Comes};
 ghost use Rattle.otp_sup.specs.Ports.{launched, launched_all, told};
 
-use otp_counts::Publisher;
+use crate::fixtures::seat_table;
 use otp_inbox::{Inbox, InboxNaming, Sender, UnnamedInbox};
 use otp_reason::{Name, Note, Reason, Text};
 use otp_rules::{Call, CallFault, Cause, Item, Reply, SupEnd};
 use otp_signals::{OpenWords, Signal, Viewer, Words, WordsNaming};
 use otp_spec::{ChildSpec, SupFlags, SupSpec, copy_specs};
 use otp_sup::{
-    Bodies, Flushed, Letter, MemoryPort, NewProcess, Office, Port, Table, ToldNote, TurnAnswer,
-    TurnFault, count_opened,
+    Bodies, Flushed, Letter, MemoryPort, NewProcess, Port, Table, ToldNote, TurnAnswer, TurnFault,
 };
 use otp_tally::Tally;
 use std::alloc::Global;
@@ -58,6 +57,17 @@ fn make_alone<N: WordsNaming + InboxNaming>(
     make_table::<N>(alloc, words, inbox, supervisor, &[OWN])
 }
 
+// These bodies, each for the child specification at its place.
+fn hand_in_all(alloc: Global, own: &[u64]) -> Result<Bodies<u64>, Fail> {
+    let mut bodies = Bodies::new(alloc);
+    for (place, body) in own.iter().enumerate() {
+        if bodies.hand_in(place, *body).is_err() {
+            return Err("a body was refused".into());
+        }
+    }
+    Ok(bodies)
+}
+
 // A table of these children, with these bodies for the specifications.
 pub(crate) fn make_table<N: WordsNaming + InboxNaming>(
     alloc: Global,
@@ -74,22 +84,12 @@ pub(crate) fn make_table<N: WordsNaming + InboxNaming>(
     let seat = words.split(&mut owner, 0..256, 1000)?;
     let viewer = words.viewer(&mut owner);
     let (inbox, taker, sender) = inbox.named::<N>(0);
-    let mut bodies = Bodies::new(alloc);
-    for (place, body) in own.iter().enumerate() {
-        if bodies.hand_in(place, *body).is_err() {
-            return Err("a body was refused".into());
-        }
-    }
-    if !bodies.are_ready(count_opened(&supervisor)) {
-        return Err("a body is lacking".into());
-    }
-    let office = Office::open(alloc, supervisor, seat, 0);
-    let counts = Publisher::open(alloc, office.counts())?;
+    let table = seat_table(alloc, supervisor, hand_in_all(alloc, own)?, seat, taker)?;
     Ok(Alone {
         words,
         viewer,
         inbox,
-        table: Table::new(alloc, office, taker, bodies, counts),
+        table,
         sender,
         port: MemoryPort::new(alloc),
     })
