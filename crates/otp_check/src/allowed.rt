@@ -8,29 +8,66 @@ use otp_spec::{
 use otp_text::write_number;
 use std::alloc::{AllocError, Global};
 
-/// The keys of a supervisor.
-pub(crate) fn flag_keys() -> [&'static str; 5] {
-    [
-        FlagKey::Strategy.name(),
-        FlagKey::Intensity.name(),
-        FlagKey::Period.name(),
-        FlagKey::AutoShutdown.name(),
-        FlagKey::Child.name(),
-    ]
+/// The keys of a supervisor, in the order in which they are told.
+const FLAG_KEYS: [FlagKey; 5] = [
+    FlagKey::Strategy,
+    FlagKey::Intensity,
+    FlagKey::Period,
+    FlagKey::AutoShutdown,
+    FlagKey::Child,
+];
+
+/// The keys of a child, in the order in which they are told.
+const CHILD_KEYS: [ChildKey; 8] = [
+    ChildKey::Id,
+    ChildKey::Start,
+    ChildKey::Restart,
+    ChildKey::Significant,
+    ChildKey::Shutdown,
+    ChildKey::Kind,
+    ChildKey::Modules,
+    ChildKey::Tree,
+];
+
+/// A key of a table of a tree file.
+#[derive(Clone, Copy, Debug, PartialEq, Eq)]
+pub(crate) enum Key {
+    /// Of a supervisor's table.
+    Flag(FlagKey),
+    /// Of a child's table.
+    Child(ChildKey),
 }
 
-/// The keys of a child.
+impl Key {
+    /// The key as the file has it.
+    pub fn name(self) -> &'static str {
+        match self {
+            Key::Flag(key) => key.name(),
+            Key::Child(key) => key.name(),
+        }
+    }
+
+    /// The key of a supervisor that is written so.
+    pub fn of_flag(text: &str) -> Option<Key> {
+        let key = FLAG_KEYS.iter().find(|key| key.name() == text)?;
+        Some(Key::Flag(*key))
+    }
+
+    /// The key of a child that is written so.
+    pub fn of_child(text: &str) -> Option<Key> {
+        let key = CHILD_KEYS.iter().find(|key| key.name() == text)?;
+        Some(Key::Child(*key))
+    }
+}
+
+/// The keys of a supervisor, as the file has them.
+pub(crate) fn flag_keys() -> [&'static str; 5] {
+    FLAG_KEYS.map(|key| key.name())
+}
+
+/// The keys of a child, as the file has them.
 pub(crate) fn child_keys() -> [&'static str; 8] {
-    [
-        ChildKey::Id.name(),
-        ChildKey::Start.name(),
-        ChildKey::Restart.name(),
-        ChildKey::Significant.name(),
-        ChildKey::Shutdown.name(),
-        ChildKey::Kind.name(),
-        ChildKey::Modules.name(),
-        ChildKey::Tree.name(),
-    ]
+    CHILD_KEYS.map(|key| key.name())
 }
 
 /// Those of these values that have a word.
@@ -48,9 +85,9 @@ fn words_of(
 }
 
 /// The words that a key may have.
-pub(crate) fn words_at(alloc: Global, key: &str) -> Result<Vec<&'static str>, AllocError> {
+pub(crate) fn words_at(alloc: Global, key: Key) -> Result<Vec<&'static str>, AllocError> {
     match key {
-        "strategy" => Vec::from_slice(
+        Key::Flag(FlagKey::Strategy) => Vec::from_slice(
             alloc,
             &[
                 Strategy::OneForOne.word(),
@@ -59,7 +96,7 @@ pub(crate) fn words_at(alloc: Global, key: &str) -> Result<Vec<&'static str>, Al
                 Strategy::SimpleOneForOne.word(),
             ],
         ),
-        "auto_shutdown" => Vec::from_slice(
+        Key::Flag(FlagKey::AutoShutdown) => Vec::from_slice(
             alloc,
             &[
                 AutoShutdown::Never.word(),
@@ -67,7 +104,7 @@ pub(crate) fn words_at(alloc: Global, key: &str) -> Result<Vec<&'static str>, Al
                 AutoShutdown::AllSignificant.word(),
             ],
         ),
-        "restart" => Vec::from_slice(
+        Key::Child(ChildKey::Restart) => Vec::from_slice(
             alloc,
             &[
                 Restart::Permanent.word(),
@@ -75,15 +112,15 @@ pub(crate) fn words_at(alloc: Global, key: &str) -> Result<Vec<&'static str>, Al
                 Restart::Temporary.word(),
             ],
         ),
-        "shutdown" => words_of(
+        Key::Child(ChildKey::Shutdown) => words_of(
             alloc,
             &[Shutdown::BrutalKill.word(), Shutdown::Infinity.word()],
         ),
-        "type" => Vec::from_slice(
+        Key::Child(ChildKey::Kind) => Vec::from_slice(
             alloc,
             &[ChildType::Worker.word(), ChildType::Supervisor.word()],
         ),
-        "modules" => words_of(alloc, &[Modules::Dynamic.word()]),
+        Key::Child(ChildKey::Modules) => words_of(alloc, &[Modules::Dynamic.word()]),
         _ => Ok(Vec::new(alloc)),
     }
 }
@@ -111,26 +148,30 @@ fn write_range(least: u64, most: u64, unit: &[u8], out: &mut Vec<u8>) -> Result<
 
 /// Appends what a key may have whose words are these.
 pub(crate) fn write_allowed(
-    key: &str,
+    key: Key,
     words: &[&'static str],
     out: &mut Vec<u8>,
 ) -> Result<(), AllocError> {
     match key {
-        "intensity" => write_range(0, MAX_INTENSITY, b"", out),
-        "period" => write_range(1, MAX_PERIOD, b" (seconds)", out),
-        "shutdown" => {
+        Key::Flag(FlagKey::Intensity) => write_range(0, MAX_INTENSITY, b"", out),
+        Key::Flag(FlagKey::Period) => write_range(1, MAX_PERIOD, b" (seconds)", out),
+        Key::Child(ChildKey::Shutdown) => {
             write_range(0, MAX_SHUTDOWN, b" (milliseconds), ", out)?;
             write_words(words, out)
         }
-        "modules" => {
+        Key::Child(ChildKey::Modules) => {
             out.extend_from_slice(b"an array of at most 4 names, or ")?;
             write_words(words, out)
         }
-        "child" => out.extend_from_slice(b"an array of tables, each [[child]]"),
-        "id" | "start" => out.extend_from_slice(b"a name: 1 to 32 bytes of a-z A-Z 0-9 _ - ."),
-        "significant" => out.extend_from_slice(b"true, false"),
-        "tree" => out.extend_from_slice(b"a table, which says a supervisor of its own"),
-        "strategy" | "auto_shutdown" | "restart" | "type" => write_words(words, out),
-        _ => out.extend_from_slice(b"what docs/FORMATS.md says"),
+        Key::Flag(FlagKey::Child) => out.extend_from_slice(b"an array of tables, each [[child]]"),
+        Key::Child(ChildKey::Id | ChildKey::Start) => out.extend_from_slice(
+            b"a name: 1 to 32 bytes of a-z A-Z 0-9 _ - .",
+        ),
+        Key::Child(ChildKey::Significant) => out.extend_from_slice(b"true, false"),
+        Key::Child(ChildKey::Tree) => out.extend_from_slice(
+            b"a table, which says a supervisor of its own",
+        ),
+        Key::Flag(FlagKey::Strategy | FlagKey::AutoShutdown)
+        | Key::Child(ChildKey::Restart | ChildKey::Kind) => write_words(words, out),
     }
 }

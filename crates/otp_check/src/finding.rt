@@ -2,11 +2,11 @@
 
 ghost use Rattle.std.specs.Prelude.{◌≡◌, IfOk};
 
-use crate::allowed::{words_at, write_allowed};
+use crate::allowed::{Key, words_at, write_allowed};
 use crate::near::nearest;
 use crate::owner::{Owner, write_owner};
 use crate::shown::{write_shown, write_value};
-use otp_file::TreeFault;
+use otp_file::{FlagKey, TreeFault};
 use otp_text::write_number;
 use std::alloc::{AllocError, Global};
 use toml::Value;
@@ -55,7 +55,8 @@ pub(crate) fn of_table(
     Ok(Finding { fault, text })
 }
 
-/// A fault at a key that may not stand in its table.
+/// A fault at a key that may not stand in its table. Behind those that may stands the nearest of them; or of a key that a
+/// supervisor may have, and a child not, where it belongs.
 pub(crate) fn of_unknown(
     alloc: Global,
     fault: TreeFault,
@@ -70,7 +71,10 @@ pub(crate) fn of_unknown(
     text.extend_from_slice(b": unknown key ")?;
     write_shown(key, &mut text)?;
     write_keys(keys, &mut text)?;
-    write_nearest(alloc, key, keys, &mut text)?;
+    match Key::of_flag(key) {
+        Some(meant) => write_home(meant, &mut text)?,
+        None => write_nearest(alloc, key, keys, &mut text)?,
+    }
     Ok(Finding { fault, text })
 }
 
@@ -79,14 +83,14 @@ pub(crate) fn of_value(
     alloc: Global,
     fault: TreeFault,
     owner: &Owner<'_>,
-    key: &str,
+    key: Key,
     value: &Value,
 ) -> Result<Finding, AllocError>
     ensures { IfOk result (λ finding. finding.fault ≡ fault) }
 {
     let mut text = Vec::new(alloc);
     write_head(&fault, owner, &mut text)?;
-    write_between(b", ", key.as_bytes(), b": read ", &mut text)?;
+    write_between(b", ", key.name().as_bytes(), b": read ", &mut text)?;
     write_value(alloc, value, &mut text)?;
     text.extend_from_slice(b"; allowed: ")?;
     let words = words_at(alloc, key)?;
@@ -105,6 +109,22 @@ fn write_keys(keys: &[&'static str], out: &mut Vec<u8>) -> Result<(), AllocError
         out.extend_from_slice(key.as_bytes())?;
     }
     Ok(())
+}
+
+/// Appends where a key of a supervisor belongs that stands in a child's table: in a file whatever is written below a
+/// `[[child]]` is that child's.
+fn write_home(key: Key, out: &mut Vec<u8>) -> Result<(), AllocError> {
+    if key == Key::Flag(FlagKey::Child) {
+        return out.extend_from_slice(
+            b"; children of a child stand in its tree: write [[child.tree.child]]",
+        );
+    }
+    write_between(
+        b"; ",
+        key.name().as_bytes(),
+        b" belongs to the supervisor: write it before the first [[child]]",
+        out,
+    )
 }
 
 /// Appends the word that was meant, where one is near.

@@ -1,6 +1,6 @@
 //! What `read_tree` says of a part of a document.
 
-use otp_file::{TreeFault, read_tree};
+use otp_file::{ChildKey, FlagKey, TreeFault, read_tree};
 use otp_spec::MAX_CHILDREN;
 use std::alloc::{AllocError, Global};
 use toml::{Table, Value};
@@ -10,7 +10,7 @@ const MOST_COUNTED: usize = MAX_CHILDREN + 1;
 
 /// The tree of a child that has one.
 pub(crate) fn tree_of(child: &Value) -> Option<&Table> {
-    child.as_table()?.get("tree")?.as_table()
+    child.as_table()?.get(ChildKey::Tree.name())?.as_table()
 }
 
 /// The first fault of a document with this top table; none where it can't be printed.
@@ -52,7 +52,7 @@ fn judge_children(
     mut table: Table,
     children: Vec<Value>,
 ) -> Result<Option<TreeFault>, AllocError> {
-    let key = String::from_str(alloc, "child")?;
+    let key = String::from_str(alloc, FlagKey::Child.name())?;
     drop(table.insert(key, Value::Array(children))?);
     judge(alloc, &table)
 }
@@ -72,14 +72,19 @@ fn judge_only_child(
 fn lawful_child(alloc: Global) -> Result<Table, AllocError> {
     let name = Value::string(alloc, "a")?;
     let mut child = Table::new(alloc);
-    put(alloc, &mut child, "id", &name)?;
-    put(alloc, &mut child, "start", &name)?;
+    put(alloc, &mut child, ChildKey::Id.name(), &name)?;
+    put(alloc, &mut child, ChildKey::Start.name(), &name)?;
     Ok(child)
 }
 
 /// Puts the tree of a supervisor of which nothing is said.
 fn put_bare_tree(alloc: Global, child: &mut Table) -> Result<(), AllocError> {
-    put(alloc, child, "tree", &Value::Table(Table::new(alloc)))
+    put(
+        alloc,
+        child,
+        ChildKey::Tree.name(),
+        &Value::Table(Table::new(alloc)),
+    )
 }
 
 /// The fault of a child that has this value at this key, and else a lawful id and start.
@@ -97,11 +102,11 @@ pub(crate) fn judge_key(
 pub(crate) fn judge_names(alloc: Global, child: &Table) -> Result<Option<TreeFault>, AllocError> {
     let name = Value::string(alloc, "a")?;
     let mut names = Table::new(alloc);
-    if child.get("id").is_some() {
-        put(alloc, &mut names, "id", &name)?;
+    if child.get(ChildKey::Id.name()).is_some() {
+        put(alloc, &mut names, ChildKey::Id.name(), &name)?;
     }
-    if child.get("start").is_some() {
-        put(alloc, &mut names, "start", &name)?;
+    if child.get(ChildKey::Start.name()).is_some() {
+        put(alloc, &mut names, ChildKey::Start.name(), &name)?;
     }
     judge_only_child(alloc, Table::new(alloc), names)
 }
@@ -110,7 +115,7 @@ pub(crate) fn judge_names(alloc: Global, child: &Table) -> Result<Option<TreeFau
 fn without_tree(alloc: Global, child: &Table) -> Result<Table, AllocError> {
     let mut copy = Table::new(alloc);
     for (key, value) in child.iter() {
-        if key.as_str() == "tree" && value.is_table() {
+        if key.as_str() == ChildKey::Tree.name() && value.is_table() {
             put_bare_tree(alloc, &mut copy)?;
         } else {
             put(alloc, &mut copy, key.as_str(), value)?;
@@ -127,7 +132,7 @@ pub(crate) fn judge_child(
 ) -> Result<Option<TreeFault>, AllocError> {
     let mut table = Table::new(alloc);
     if let Some(value) = auto_shutdown {
-        put(alloc, &mut table, "auto_shutdown", value)?;
+        put(alloc, &mut table, FlagKey::AutoShutdown.name(), value)?;
     }
     judge_only_child(alloc, table, without_tree(alloc, child)?)
 }
@@ -140,7 +145,7 @@ pub(crate) fn judge_count(
 ) -> Result<Option<TreeFault>, AllocError> {
     let mut table = Table::new(alloc);
     if let Some(value) = strategy {
-        put(alloc, &mut table, "strategy", value)?;
+        put(alloc, &mut table, FlagKey::Strategy.name(), value)?;
     }
     let mut copies = Vec::new(alloc);
     for child in children.iter().take(MOST_COUNTED) {

@@ -1,12 +1,12 @@
 //! All parts of a document, one by one.
 
 use crate::advice::{what_lacks, what_simple, what_unlawful};
-use crate::allowed::{child_keys, flag_keys};
+use crate::allowed::{Key, child_keys, flag_keys};
 use crate::finding::{Finding, of_table, of_unknown, of_value};
 use crate::judging::{judge_child, judge_count, judge_flag, judge_key, judge_names, tree_of};
 use crate::owner::{Owner, write_child};
 use crate::places::{moved_to, place_of};
-use otp_file::{ChildKey, FaultPlace, MAX_DEPTH, TableFault, TreeFault};
+use otp_file::{ChildKey, FaultPlace, FlagKey, MAX_DEPTH, TableFault, TreeFault};
 use otp_spec::{MAX_CHILDREN, MAX_TABLES, SpecFault};
 use std::alloc::{AllocError, Global};
 use toml::{Table, Value};
@@ -59,11 +59,14 @@ impl Scanning {
 
     /// The value at a key of a supervisor.
     fn scan_flag(&mut self, owner: &Owner<'_>, key: &str, value: &Value) -> Result<(), AllocError> {
-        let finding = match judge_flag(self.alloc, key, value)? {
-            Some(fault @ TreeFault::UnknownKey(_)) => {
+        let Some(fault) = judge_flag(self.alloc, key, value)? else {
+            return Ok(());
+        };
+        let finding = match (fault, Key::of_flag(key)) {
+            (TreeFault::UnknownKey(_), _) => {
                 of_unknown(self.alloc, fault, owner, key, &flag_keys())?
             }
-            Some(fault @ (TreeFault::WrongKind(_) | TreeFault::BadFlag(_))) => {
+            (TreeFault::WrongKind(_) | TreeFault::BadFlag(_), Some(key)) => {
                 of_value(self.alloc, fault, owner, key, value)?
             }
             _ => return Ok(()),
@@ -74,7 +77,7 @@ impl Scanning {
     /// The keys of a supervisor, but for its children.
     fn scan_flags(&mut self, owner: &Owner<'_>, table: &Table) -> Result<(), AllocError> {
         for (key, value) in table.iter() {
-            if key.as_str() != "child" || value.as_array().is_none() {
+            if key.as_str() != FlagKey::Child.name() || value.as_array().is_none() {
                 self.scan_flag(owner, key.as_str(), value)?;
             }
         }
@@ -89,16 +92,18 @@ impl Scanning {
         key: &str,
         value: &Value,
     ) -> Result<(), AllocError> {
-        if key == "tree" && value.is_table() {
+        if key == ChildKey::Tree.name() && value.is_table() {
             return Ok(());
         }
         let Some(fault) = judge_key(self.alloc, key, value)? else {
             return Ok(());
         };
         let fault = moved_to(fault, index);
-        let finding = match fault {
-            TreeFault::UnknownKey(_) => of_unknown(self.alloc, fault, owner, key, &child_keys())?,
-            TreeFault::WrongKind(_) | TreeFault::BadSpec { .. } => {
+        let finding = match (fault, Key::of_child(key)) {
+            (TreeFault::UnknownKey(_), _) => {
+                of_unknown(self.alloc, fault, owner, key, &child_keys())?
+            }
+            (TreeFault::WrongKind(_) | TreeFault::BadSpec { .. }, Some(key)) => {
                 of_value(self.alloc, fault, owner, key, value)?
             }
             _ => return Ok(()),
@@ -133,8 +138,9 @@ impl Scanning {
         match fault {
             TreeFault::Unlawful(_) | TreeFault::NestedNotInfinity { .. } => Ok(true),
             TreeFault::WrongKind(FaultPlace::ChildKey(_, ChildKey::Kind)) => {
-                match child.get("type") {
-                    Some(kind) => Ok(judge_key(self.alloc, "type", kind)?.is_none()),
+                let key = ChildKey::Kind.name();
+                match child.get(key) {
+                    Some(kind) => Ok(judge_key(self.alloc, key, kind)?.is_none()),
                     None => Ok(false),
                 }
             }
@@ -221,19 +227,19 @@ impl Scanning {
     fn scan_table(&mut self, path: &[u8], table: &Table) -> Result<(), AllocError> {
         let owner = Owner::Supervisor(path);
         self.scan_flags(&owner, table)?;
-        let children = match table.get("child") {
+        let children = match table.get(FlagKey::Child.name()) {
             None => &[],
             Some(Value::Array(children)) => children.as_slice(),
             Some(_) => return Ok(()),
         };
-        self.scan_children(path, table.get("auto_shutdown"), children)?;
-        self.scan_count(&owner, table.get("strategy"), children)
+        self.scan_children(path, table.get(FlagKey::AutoShutdown.name()), children)?;
+        self.scan_count(&owner, table.get(FlagKey::Strategy.name()), children)
     }
 }
 
 /// The id of a child, where it is a text.
 fn id_of(child: &Value) -> Option<&str> {
-    child.as_table()?.get("id")?.as_str()
+    child.as_table()?.get(ChildKey::Id.name())?.as_str()
 }
 
 /// Whether one of these children has this id.
@@ -260,7 +266,7 @@ fn scan_below(
     }
     scanning.tables = scanning.tables.saturating_add(1);
     scanning.scan_table(path, table)?;
-    let Some(Value::Array(children)) = table.get("child") else {
+    let Some(Value::Array(children)) = table.get(FlagKey::Child.name()) else {
         return Ok(());
     };
     for (index, child) in children.iter().enumerate().take(MAX_CHILDREN) {

@@ -15,7 +15,7 @@ use Rattle.otp_console.specs.Limited.{HasLimits}
 use Rattle.otp_console.specs.Running.{IsTreeRun}
 use Rattle.otp_console.specs.Statuses.{status_of, sentence_of}
 use Rattle.otp_console.specs.declared.ending.ProgramEnd.{ProgramEnd}
-use Rattle.otp_console.specs.declared.ending.ProgramEnd.TheVariants.{Done, WordsRefused, NoCommand, WordNotText, FileAsCommand, TreeNotRead, FileNotRead, TreeRefused, UnknownStart, WrongBody, CloseMismatch, CloseMissing, FaultsFound, LineRefused, ScriptRefused, ScriptMissed, HistoryFull, InputFailed, OutputFailed, OutOfMemory}
+use Rattle.otp_console.specs.declared.ending.ProgramEnd.TheVariants.{Done, WordsRefused, NoCommand, WordNotText, FileAsCommand, TreeNotRead, FileNotRead, TreeRefused, NoTree, UnknownStart, WrongBody, CloseMismatch, CloseMissing, FaultsFound, LineRefused, ScriptRefused, ScriptMissed, HistoryFull, InputFailed, OutputFailed, OutOfMemory}
 use Rattle.otp_console.specs.declared.files.TheConstants.{LARGEST_TREE}
 use Rattle.otp_console.specs.declared.words.Command.{Command}
 use Rattle.otp_console.specs.declared.words.Command.TheVariants as command
@@ -36,6 +36,7 @@ IsRun FileAsCommand file old new = ⊥
 IsRun TreeNotRead file old new = ⊥
 IsRun FileNotRead file old new = ⊥
 IsRun (TreeRefused why) file old new = (new ≡ old) × IsFirstFault why file
+IsRun (NoTree why) file old new = ⊥
 IsRun (UnknownStart name) file old new = ⊥
 IsRun WrongBody file old new = ⊥
 IsRun CloseMismatch file old new = ⊥
@@ -73,7 +74,7 @@ IsSmall file = length file ≤ LARGEST_TREE
 -- a tree was tried by the lines of a script; want of memory may end it before, and says nothing of the file
 abbrev pub IsTrial : ProgramEnd → List ℕ → Devices → Devices → Type 0
 IsTrial Done file old new = HasTree file
-IsTrial (TreeRefused why) file old new = (new ≡ old) × IsFirstFault why file
+IsTrial (NoTree why) file old new = (new ≡ old) × IsFirstFault why file
 IsTrial (ScriptRefused line why) file old new = HasTree file
 IsTrial (ScriptMissed line why) file old new = HasTree file
 IsTrial HistoryFull file old new = HasTree file
@@ -88,7 +89,7 @@ IsWritten ending well failures_before failures_now = (ending ≡ well) ⊎ ((end
 
 -- what is said of a tree could not be: the file says none, there is no memory, or the writer failed
 abbrev pub IsNotSaid : ProgramEnd → List ℕ → Written → Written → Type 0
-IsNotSaid (TreeRefused why) file old new = (new ≡ old) × IsFirstFault why file
+IsNotSaid (NoTree why) file old new = (new ≡ old) × IsFirstFault why file
 IsNotSaid OutputFailed file old new = HasTree file × (old.failures < new.failures)
 IsNotSaid OutOfMemory file old new = new ≡ old
 IsNotSaid _ file old new = ⊥

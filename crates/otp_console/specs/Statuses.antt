@@ -14,7 +14,7 @@ use Rattle.otp_try.specs.Texts.{fault_text, taken_text}
 use Rattle.otp_try.specs.declared.play.TryEnd.{TryEnd}
 use Rattle.otp_try.specs.declared.play.TryEnd.TheVariants as trial
 use Rattle.otp_console.specs.declared.ending.ProgramEnd.{ProgramEnd}
-use Rattle.otp_console.specs.declared.ending.ProgramEnd.TheVariants.{Done, WordsRefused, NoCommand, WordNotText, FileAsCommand, TreeNotRead, FileNotRead, TreeRefused, UnknownStart, WrongBody, CloseMismatch, CloseMissing, FaultsFound, LineRefused, ScriptRefused, ScriptMissed, HistoryFull, InputFailed, OutputFailed, OutOfMemory}
+use Rattle.otp_console.specs.declared.ending.ProgramEnd.TheVariants.{Done, WordsRefused, NoCommand, WordNotText, FileAsCommand, TreeNotRead, FileNotRead, TreeRefused, NoTree, UnknownStart, WrongBody, CloseMismatch, CloseMissing, FaultsFound, LineRefused, ScriptRefused, ScriptMissed, HistoryFull, InputFailed, OutputFailed, OutOfMemory}
 
 -- 0: done. 1: the tree, or a file. 2: the words. 3: the lines of the input. 4: the machine. 5: a line of a script
 abbrev pub status_of : ProgramEnd → ℕ
@@ -26,6 +26,7 @@ status_of FileAsCommand = 2
 status_of TreeNotRead = 1
 status_of FileNotRead = 1
 status_of (TreeRefused _) = 1
+status_of (NoTree _) = 1
 status_of (UnknownStart _) = 1
 status_of WrongBody = 1
 status_of CloseMismatch = 4
@@ -58,6 +59,7 @@ sentence_of FileAsCommand = codes "error: a file in the place of a command: say 
 sentence_of TreeNotRead = codes "tree not read\n"
 sentence_of FileNotRead = []
 sentence_of (TreeRefused why) = codes "tree refused: E" ++ decimal (code_of why) ++ codes "\n"
+sentence_of (NoTree why) = codes "tree refused: E" ++ decimal (code_of why) ++ codes "; otp check FILE tells why\n"
 sentence_of (UnknownStart name) = codes "unknown start " ++ name_bytes name ++ codes "\n"
 sentence_of WrongBody = codes "tree refused: E19\n"
 sentence_of CloseMismatch = codes "close refused: E17\n"
@@ -98,6 +100,11 @@ ending_of_try trial.OutOfMemory = OutOfMemory
 abbrev pub ending_of_tree : TreeFault → ProgramEnd
 ending_of_tree fault.OutOfMemory = OutOfMemory
 ending_of_tree why = TreeRefused why
+
+-- the same where the user is told who explains the fault
+abbrev pub ending_of_no_tree : TreeFault → ProgramEnd
+ending_of_no_tree fault.OutOfMemory = OutOfMemory
+ending_of_no_tree why = NoTree why
 
 -- how the program ends that didn't run a tree
 abbrev pub ending_of_run : FileRunFault → ProgramEnd

@@ -80,7 +80,7 @@ pub fn draw_file<W: Output>(alloc: Global, file: &[u8], output: &mut W) -> Progr
 {
     let tree = match read_tree(alloc, file) {
         Ok(tree) => tree,
-        Err(fault) => return ProgramEnd::of_tree(fault),
+        Err(fault) => return ProgramEnd::of_no_tree(fault),
     };
     let mut picture = Vec::new(alloc);
     let Ok(()) = draw(alloc, &tree, &mut picture) else {

@@ -28,7 +28,7 @@ pub fn console<R: Input, W: Output>(
 
 impl ProgramEnd {
     ghost use Rattle.std.specs.Prelude.{◌≡◌};
-    ghost use Rattle.otp_console.specs.Statuses.{ending_of, ending_of_tree};
+    ghost use Rattle.otp_console.specs.Statuses.{ending_of, ending_of_tree, ending_of_no_tree};
 
     /// The end of a run of `sim`.
     fn of_sim(end: SimEnd) -> Self
@@ -51,6 +51,16 @@ impl ProgramEnd {
         match fault {
             TreeFault::OutOfMemory => ProgramEnd::OutOfMemory,
             _ => ProgramEnd::TreeRefused(fault),
+        }
+    }
+
+    /// The same of a command whose user is told who explains the fault.
+    pub(crate) fn of_no_tree(fault: TreeFault) -> Self
+        ensures { result ≡ ending_of_no_tree fault }
+    {
+        match fault {
+            TreeFault::OutOfMemory => ProgramEnd::OutOfMemory,
+            _ => ProgramEnd::NoTree(fault),
         }
     }
 }

@@ -33,8 +33,10 @@ pub enum ProgramEnd {
     TreeNotRead,
     /// A file can't be read, and it was told which and why.
     FileNotRead,
-    /// The tree file says no tree.
+    /// The tree file of `sim` or `run` says no tree.
     TreeRefused(TreeFault),
+    /// The tree file of `try`, `tree` or `limits` says no tree, and `check` tells why.
+    NoTree(TreeFault),
     /// The start of a child that has no tree is no word of a worked job.
     UnknownStart(Name),
     /// E19: a worker's job stands where a supervisor is wanted.
@@ -66,6 +68,7 @@ impl ProgramEnd {
         match self {
             ProgramEnd::Done => 0,
             ProgramEnd::TreeNotRead | ProgramEnd::TreeRefused(_) => 1,
+            ProgramEnd::NoTree(_) => 1,
             ProgramEnd::UnknownStart(_) | ProgramEnd::WrongBody => 1,
             ProgramEnd::FileNotRead | ProgramEnd::FaultsFound => 1,
             ProgramEnd::WordsRefused | ProgramEnd::NoCommand | ProgramEnd::WordNotText => 2,
@@ -139,6 +142,12 @@ fn write_sentence<E: Output>(errors: &mut E, ending: ProgramEnd) -> Result<(), F
         ProgramEnd::TreeRefused(fault) => {
             write_numbered(errors, b"tree refused: E", u64::from(fault.code()), b"\n")
         }
+        ProgramEnd::NoTree(fault) => write_numbered(
+            errors,
+            b"tree refused: E",
+            u64::from(fault.code()),
+            b"; otp check FILE tells why\n",
+        ),
         ProgramEnd::UnknownStart(name) => {
             write_three(errors, b"unknown start ", name.as_bytes(), b"\n")
         }

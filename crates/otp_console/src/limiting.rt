@@ -19,7 +19,7 @@ pub fn limit_file<W: Output>(alloc: Global, file: &[u8], output: &mut W) -> Prog
 {
     let tree = match read_tree(alloc, file) {
         Ok(tree) => tree,
-        Err(fault) => return ProgramEnd::of_tree(fault),
+        Err(fault) => return ProgramEnd::of_no_tree(fault),
     };
     let mut table = Vec::new(alloc);
     match write_tree_limits(alloc, &tree, &mut table) {

@@ -25,7 +25,7 @@ pub fn try_file<R: Input, W: Output>(
 {
     let tree = match read_tree(alloc, file) {
         Ok(tree) => tree,
-        Err(fault) => return ProgramEnd::of_tree(fault),
+        Err(fault) => return ProgramEnd::of_no_tree(fault),
     };
     ProgramEnd::of_try(try_tree(alloc, tree, writer, shows, script, output))
 }

@@ -38,7 +38,7 @@ Joins true place old new = (number : ℕ) × Begins place (kind.Took (item.Call 
 -- a tree whose root was opened, with all that followed, and a supervisor of it that has a child
 pub record OpensTree (tree : Tree) (place : ℕ) (new : List Seated) : Type 0 where
   pub planted : List Seated
-  pub is_planted : IsPlanted tree planted
+  pub is_planted : IsPlanted false tree planted
   pub opened : List Seated
   pub opens : Begins 0 (kind.Opened 0) planted opened
   pub joins : Joins (is_joined (slice_get opened place)) place opened new

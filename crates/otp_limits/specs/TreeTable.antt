@@ -15,9 +15,9 @@ use Rattle.otp_limits.specs.declared.table.TheConstants.{WIDTH, INDENT}
 use Rattle.otp_limits.specs.declared.tree.TreeCost.{TreeCost}
 use Rattle.otp_limits.specs.declared.tree_table.TheConstants.{NAMES, WHO}
 
--- at most so many bytes of a text: its last ones
+-- a text, or of one that is longer than so many bytes, its last ones behind dots
 unfoldable pub clip : ℕ → List ℕ → List ℕ
-clip width text = drop (length text - width) text
+clip width text = if nat_le (length text) width then text else codes "..." ++ drop (length text - (width - 3)) text
 
 -- the name of a child of a supervisor with this path
 abbrev pub below : List ℕ → Name → List ℕ

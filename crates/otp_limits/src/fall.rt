@@ -66,7 +66,7 @@ fn join(trial: &mut Trial, place: usize, page: &mut Vec<u8>) -> Result<(), Halt>
 fn open(alloc: Global, tree: &TreeSpec, place: usize, page: &mut Vec<u8>) -> Result<Trial, Halt>
     ensures { IfOk result (λ trial. OpensTree tree.now place trial) }
 {
-    let mut trial = Trial::open(alloc, tree, page)?;
+    let mut trial = Trial::open(alloc, tree, false, page)?;
     if place >= trial.seats().len() {
         return Err(Halt::OutOfMemory);
     }

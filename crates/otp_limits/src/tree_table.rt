@@ -29,13 +29,19 @@ const WHO: usize = 10;
 const TITLES: &[u8] =
     b"child                     burst      interval  stops  starts    root  gives up\n";
 
-/// Appends at most so many bytes of a text: its last ones.
+/// What stands before a text of which the beginning is left out.
+const CUT: &[u8] = b"...";
+
+/// Appends a text, or of one that is longer than so many bytes, its last ones behind dots.
 #[tactic(auto, unfolding(crate::specs::TreeTable::clip))]
 fn write_clipped(width: usize, text: &[u8], out: &mut Vec<u8>) -> Result<(), AllocError>
     ensures { OnOk result (out.new.items ≡ out.old.items ++ clip width text.now) }
 {
-    let from = text.len().saturating_sub(width);
-    out.extend_from_slice(&text[from..])
+    if text.len() <= width {
+        return out.extend_from_slice(text);
+    }
+    out.extend_from_slice(CUT)?;
+    out.extend_from_slice(&text[text.len() - width.saturating_sub(3)..])
 }
 
 /// The name of a child of a supervisor with this path.
@@ -254,7 +260,7 @@ fn write_all_damage(
 }
 
 /// Appends a table of what failures of the children of a tree cost, and then what each stops and starts again, and whom it
-/// ends. No line has more than 80 columns: of a name that is longer stand the last bytes.
+/// ends. No line has more than 80 columns: of a name that is longer stand the last bytes, behind dots.
 ///
 /// # Errors
 ///

@@ -67,7 +67,7 @@ fn faults_of_flags(rt: HostRuntime) -> Result<(), Fail> {
     finds(&rt, rt.alloc(), &FLAGS)
 }
 
-const KEYS: [Row; 6] = [
+const KEYS: [Row; 10] = [
     (
         "[[child]]\nid = \"a\"\nstart = \"m\"\n[[child]]\nid = \"b\"\nstart = \"m\"\n[[child]]\nid = \"c\"\nstart = \"m\"\nrestrt = \"permanent\"\n",
         &[
@@ -100,6 +100,34 @@ const KEYS: [Row; 6] = [
         "[[child]]\nid = \"a\"\nstart = \"m\"\ntype = \"workr\"\n",
         &[
             "E13: child 1 (a), type: read \"workr\"; allowed: \"worker\", \"supervisor\"; did you mean worker?",
+        ],
+    ),
+    // A key of the supervisor that was written behind a child.
+    (
+        "[[child]]\nid = \"a\"\nstart = \"m\"\nstrategy = \"one_for_all\"\n",
+        &[
+            "E11: child 1 (a): unknown key strategy; allowed: id start restart significant shutdown type modules tree; strategy belongs to the supervisor: write it before the first [[child]]",
+        ],
+    ),
+    (
+        "[[child]]\nid = \"a\"\nstart = \"m\"\nintensity = 3\nperiod = 10\nauto_shutdown = \"never\"\n",
+        &[
+            "E11: child 1 (a): unknown key auto_shutdown; allowed: id start restart significant shutdown type modules tree; auto_shutdown belongs to the supervisor: write it before the first [[child]]",
+            "E11: child 1 (a): unknown key intensity; allowed: id start restart significant shutdown type modules tree; intensity belongs to the supervisor: write it before the first [[child]]",
+            "E11: child 1 (a): unknown key period; allowed: id start restart significant shutdown type modules tree; period belongs to the supervisor: write it before the first [[child]]",
+        ],
+    ),
+    (
+        "[[child]]\nid = \"a\"\nstart = \"m\"\n[[child.child]]\nid = \"b\"\nstart = \"m\"\n",
+        &[
+            "E11: child 1 (a): unknown key child; allowed: id start restart significant shutdown type modules tree; children of a child stand in its tree: write [[child.tree.child]]",
+        ],
+    ),
+    // One that no table has gets no such hint.
+    (
+        "[[child]]\nid = \"a\"\nstart = \"m\"\nintensities = 3\n",
+        &[
+            "E11: child 1 (a): unknown key intensities; allowed: id start restart significant shutdown type modules tree",
         ],
     ),
 ];

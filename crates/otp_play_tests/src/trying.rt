@@ -35,10 +35,25 @@ fn plays_on(
     told: &str,
     end: TryEnd,
 ) -> Result<(), Fail> {
+    let shows = Shows::Orders;
+    shows_on(rt, alloc, tree, writer, shows, script, told, end)
+}
+
+/// The same, with orders or a picture.
+fn shows_on(
+    rt: &impl Abort,
+    alloc: Global,
+    tree: &str,
+    writer: Writer,
+    shows: Shows,
+    script: &str,
+    told: &str,
+    end: TryEnd,
+) -> Result<(), Fail> {
     let tree = read_tree(alloc, tree.as_bytes()).map_err(|_| "a tree")?;
     let mut input = Counted::new(script.as_bytes());
     let mut output = Counted::new(Vec::new(alloc));
-    let ended = try_tree(alloc, tree, writer, Shows::Orders, &mut input, &mut output);
+    let ended = try_tree(alloc, tree, writer, shows, &mut input, &mut output);
     let text = output.into_device();
     assert_eq!(rt; text.as_slice(), told.as_bytes());
     assert_eq!(rt; ended, end);
@@ -54,7 +69,7 @@ fn four_crashes(rt: HostRuntime) -> Result<(), Fail> {
         Writer::Script,
         "# four crashes\nat 1s crash db\r\n+1s crash db\nat 3s   crash  db error:x\n\nat 4s crash db\n",
         "0.000 s  start db #1\n0.000 s  ready\n\
-line 2: at 1s crash db\r\n1.000 s  start db #2\n\
+line 2: at 1s crash db\n1.000 s  start db #2\n\
 line 3: +1s crash db\n2.000 s  start db #3\n\
 line 4: at 3s   crash  db error:x\n3.000 s  start db #4\n\
 line 6: at 4s crash db\n\
@@ -148,7 +163,7 @@ fn missed_lines(rt: HostRuntime) -> Result<(), Fail> {
         Writer::Person,
         "crash bd\n",
         "0.000 s  start db #1\n0.000 s  ready\nhelp lists what may be written here\n0.000 s  1 up, 0/3 restarts in 10 s> \
-ignored: there is no such child; say which to list the children\n0.000 s  1 up, 0/3 restarts in 10 s> 0.000 s  1 up, 0/3 restarts in 10 s\n",
+ignored: there is no such child; say which to list the children\n0.000 s  1 up, 0/3 restarts in 10 s> \n0.000 s  1 up, 0/3 restarts in 10 s\n",
         TryEnd::Done,
     )
 }
@@ -183,7 +198,7 @@ line 1: there is no such child; say which to list the children\nline 2: start bd
         Writer::Person,
         "ignore bd",
         "0.000 s  start db #1\n0.000 s  ready\nhelp lists what may be written here\n0.000 s  1 up, 0/3 restarts in 10 s> \
-0.000 s  1 up, 0/3 restarts in 10 s> line 1: there is no such child; say which to list the children\n\
+0.000 s  1 up, 0/3 restarts in 10 s> \nline 1: there is no such child; say which to list the children\n\
 0.000 s  1 up, 0/3 restarts in 10 s\nunused: ignore bd (line 1)\n",
         TryEnd::Done,
     )
@@ -288,6 +303,161 @@ awaits the end of sub #1\nawaits the end of sub/x #2 until 5.000 s\n",
     )
 }
 
+/// A supervisor that ends with a significant child names it, also where its row is gone; one without an id by its process.
+#[test]
+fn significant_children(rt: HostRuntime) -> Result<(), Fail> {
+    let alloc = rt.alloc();
+    let transient =
+        "auto_shutdown = \"any_significant\"\n[[child]]\nid = \"a\"\nstart = \"a\"\nrestart = \"transient\"\nsignificant = true\n[[child]]\nid = \"b\"\nstart = \"b\"\n";
+    plays_on(
+        &rt,
+        alloc,
+        transient,
+        Writer::Script,
+        "crash a\nexit a normal\n",
+        "0.000 s  start a #1\n0.000 s  start b #2\n0.000 s  ready\nline 1: crash a\n0.000 s  start a #3\n\
+line 2: exit a normal\n0.000 s  ask b #2\n0.000 s  end shutdown: significant child a ended\n\
+0.000 s  the supervisor has ended\n",
+        TryEnd::Done,
+    )?;
+    let nested =
+        "[[child]]\nid = \"sub\"\nstart = \"s\"\nrestart = \"temporary\"\n[child.tree]\nauto_shutdown = \"all_significant\"\n\
+[[child.tree.child]]\nid = \"x\"\nstart = \"x\"\nrestart = \"temporary\"\nsignificant = true\n";
+    plays_on(
+        &rt,
+        alloc,
+        nested,
+        Writer::Script,
+        "crash sub/x\n",
+        "0.000 s  start sub #1\n0.000 s  start sub/x #2\n0.000 s  sub/ ready\n0.000 s  ready\nline 1: crash sub/x\n\
+0.000 s  sub/ end shutdown: significant child sub/x ended\n0.000 s  no children, 0/1 restarts in 5 s\n",
+        TryEnd::Done,
+    )?;
+    let dynamic =
+        "strategy = \"simple_one_for_one\"\nauto_shutdown = \"any_significant\"\n[[child]]\nid = \"w\"\nstart = \"w\"\nrestart = \"temporary\"\nsignificant = true\n";
+    plays_on(
+        &rt,
+        alloc,
+        dynamic,
+        Writer::Script,
+        "start\nstart\ncrash #2\n",
+        "0.000 s  ready\nline 1: start\n0.000 s  start - #1\n0.000 s  reply 1 ok #1\nline 2: start\n0.000 s  start - #2\n\
+0.000 s  reply 2 ok #2\nline 3: crash #2\n0.000 s  ask - #1\n0.000 s  end shutdown: significant child #2 ended\n\
+0.000 s  the supervisor has ended\n",
+        TryEnd::Done,
+    )
+}
+
+/// Where a run is drawn the ends of supervisors are told, with their causes, and no other order.
+#[test]
+fn drawn_ends(rt: HostRuntime) -> Result<(), Fail> {
+    shows_on(
+        &rt,
+        rt.alloc(),
+        NESTED,
+        Writer::Script,
+        Shows::Timeline { is_coloured: false },
+        "at 1s crash sub/x\ncrash sub/x\nfail y\nrestart z\n",
+        "#N runs as process N, +#N starts, -#N is to end; retry: its start failed\n\
+1.000 s  sub/ end shutdown: more than 1 restart within 5 s: at 1.000 s, 1.000 s\n\
+line                       start       1       2       3       4\n\
+seconds                    0.000   1.000   1.000   1.000   1.000\n\
+sub                           #1      #1      #4      #4      #4\n\
+restarts in 10 s             0/1     0/1     1/1     1/1     1/1\n\
+sub/x                         #2      #3      #5      #5      #5\n\
+sub/restarts in 5 s          0/1     1/1     0/1     0/1     0/1\n\
+1.000 s  1 up, 1/1 restarts in 10 s\n1.000 s  sub/ 1 up, 0/1 restarts in 5 s\nunused: fail y (line 3)\n",
+        TryEnd::LineMissed(3, ActionEnd::NoChild),
+    )
+}
+
+/// Supervisors below one another with long names, and the child of the last.
+const LONG: &str =
+    "child = [{id = \"second_supervisor_below_root\", start = \"m\", tree = {child = [{id = \"third_supervisor_below_the_root\", \
+start = \"m\", tree = {child = [{id = \"eighteen_letters_x\", start = \"m\"}]}}]}}]";
+
+/// What is drawn of them, and how they stand at the end.
+const LONG_DRAWN: &str =
+    "#N runs as process N, +#N starts, -#N is to end; retry: its start failed\nline                       start       1       2       3\nseconds                    0.000   0.000   0.000   0.000\nsecond_supervisor_below_root\n                              #1      #1      #1      #1\nrestarts in 5 s              0/1     0/1     0/1     0/1\nsecond_supervisor_below_root/third_supervisor_below_the_root\n                              #2      #2      #2      #2\nsecond_supervisor_below_root/restarts in 5 s\n                             0/1     0/1     0/1     0/1\nsecond_supervisor_below_root/third_supervisor_below_the_root/eighteen_letters_x\n                              #3      #3      #3     -#3\nsecond_supervisor_below_root/third_supervisor_below_the_root/restarts in 5 s\n                             0/1     0/1     0/1     0/1\n0.000 s  1 up, 0/1 restarts in 5 s\n0.000 s  second_supervisor_below_root/ 1 up, 0/1 restarts in 5 s\n0.000 s  second_supervisor_below_root/...e_root/ 1 stopping, 0/1 restarts in 5 s\nawaits the end of second_supervisor_be...oot/eighteen_letters_x #3 until 5.000 s\nunused: fail second_supervisor_below_r...ow_the_root/eighteen_letters_x (line 2)\n";
+
+/// No line below a picture has more than 80 columns: of a longer one the middle is left out.
+#[test]
+fn long_paths(rt: HostRuntime) -> Result<(), Fail> {
+    shows_on(
+        &rt,
+        rt.alloc(),
+        LONG,
+        Writer::Script,
+        Shows::Timeline { is_coloured: false },
+        "hang second_supervisor_below_root/third_supervisor_below_the_root/eighteen_letters_x\nfail second_supervisor_below_root/third_supervisor_below_the_root/eighteen_letters_x\nterminate second_supervisor_below_root/third_supervisor_below_the_root/eighteen_letters_x\n",
+        LONG_DRAWN,
+        TryEnd::Done,
+    )
+}
+
+/// Words of calls stand between spaces or tabs as all others do, and a comment may stand behind them.
+#[test]
+fn spaces_and_comments(rt: HostRuntime) -> Result<(), Fail> {
+    plays(
+        &rt,
+        rt.alloc(),
+        Writer::Script,
+        "  terminate   db # by hand\n\tstart\tbd  b permanent  false 5000\tworker\t# one more\n\
+crash #2  # 3 is none\n  # nothing\n+1s#\n",
+        "0.000 s  start db #1\n0.000 s  ready\nline 1:   terminate   db # by hand\n0.000 s  ask db #1\n\
+0.000 s  reply 1 ok\nline 2: \tstart\tbd  b permanent  false 5000\tworker\t# one more\n0.000 s  start bd #2\n\
+0.000 s  reply 2 ok #2\nline 3: crash #2  # 3 is none\n0.000 s  start bd #3\n",
+        TryEnd::LineRefused(5, ScriptFault::BadTime),
+    )
+}
+
+/// A CR before the LF is of the end of a line: it isn't counted among its bytes, and isn't told.
+#[test]
+fn returns_at_ends(rt: HostRuntime) -> Result<(), Fail> {
+    let alloc = rt.alloc();
+    let mut line = String::from_str(alloc, "hang db #")?;
+    for _ in line.len()..512 {
+        line.push('x').map_err(|_| "a line")?;
+    }
+    let script = format!(in alloc; "{line}\r\nhang db\r")?;
+    let told = format!(in alloc;
+        "0.000 s  start db #1\n0.000 s  ready\nline 1: {line}\nline 2: hang db\n0.000 s  1 up, 0/3 restarts in 10 s\n\
+unused: hang db (line 1)\nunused: hang db (line 2)\n"
+    )?;
+    plays(
+        &rt,
+        alloc,
+        Writer::Script,
+        script.as_str(),
+        told.as_str(),
+        TryEnd::Done,
+    )?;
+    for end in ["x\n", "\rx\n", "x\r\n", "\r"] {
+        let script = format!(in alloc; "{line}{end}")?;
+        let ended = if end == "\r" {
+            TryEnd::Done
+        } else {
+            TryEnd::LineRefused(1, ScriptFault::TooLong)
+        };
+        let told = if end == "\r" {
+            format!(in alloc;
+                "0.000 s  start db #1\n0.000 s  ready\nline 1: {line}\n0.000 s  1 up, 0/3 restarts in 10 s\nunused: hang db (line 1)\n"
+            )?
+        } else {
+            String::from_str(alloc, "0.000 s  start db #1\n0.000 s  ready\n")?
+        };
+        plays(
+            &rt,
+            alloc,
+            Writer::Script,
+            script.as_str(),
+            told.as_str(),
+            ended,
+        )?;
+    }
+    Ok(())
+}
+
 /// Each word of a script.
 #[test]
 fn words(rt: HostRuntime) -> Result<(), Fail> {
@@ -302,13 +472,17 @@ fn words(rt: HostRuntime) -> Result<(), Fail> {
     let step = read_step(b"+250ms ignore db").map_err(|_| "a line")?;
     assert_eq!(rt; step.when, When::After(250));
     assert_eq!(rt; step.action, Action::Start(db, NextStart::Ignore));
-    let refused: [(&[u8], ScriptFault); 6] = [
+    let refused: [(&[u8], ScriptFault); 10] = [
         (b"at soon", ScriptFault::BadTime),
         (b"crash", ScriptFault::BadChild),
         (b"fail #1", ScriptFault::BadName),
         (b"exit db badly", ScriptFault::BadReason),
         (b"get", ScriptFault::BadCall),
         (b"hang db now", ScriptFault::TooManyWords),
+        (b"stop #3", ScriptFault::TooManyWords),
+        (b"count  #3 #", ScriptFault::BadCall),
+        (b"which#", ScriptFault::UnknownWord),
+        (b"crash # db", ScriptFault::BadChild),
     ];
     for (line, fault) in refused {
         assert_eq!(rt; read_step(line), Err(fault));

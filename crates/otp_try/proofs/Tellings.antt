@@ -1,18 +1,38 @@
 -- What is told of moves that are made one after another.
 use Rattle.std.specs.Prelude.{◌≡◌, ℕ, List, [], ◌∷◌, ◌++◌, Some, None, refl, slice_set}
 use Rattle.std.proofs.Common.{◌∙◌, ap, sym, subst, append_assoc, append-nil}
+use Rattle.otp_rules.specs.declared.event.Effect.{Effect}
 use Rattle.otp_rules.specs.declared.event.Event.{Event}
 use Rattle.otp_rules.specs.declared.event.Kind.{Kind}
 use Rattle.otp_rules.specs.Run.{state_after}
 use Rattle.otp_rules.specs.State.{State}
 use Rattle.otp_rules.specs.Step.{step}
-use Rattle.otp_try.specs.Played.{Begins, Happens, IsAt, Lead, Move, Seated, Tells, TellsFirst, move_text, seat_after, state_in, story}
+use Rattle.otp_try.specs.Played.{Begins, Happens, IsAt, Lead, Move, Seated, Tells, TellsFirst, move_text, seat_after, starts_of, state_in, story}
+use Rattle.otp_try.specs.Starts.{started_by, starts_in}
 use Rattle.otp_try.specs.Story.{event_text}
+use Rattle.otp_try.specs.declared.starts.Started.{Started}
 
 -- the state after one event more
 pub pushed : (s : State) (es : List Event) (e : Event) → state_after s (es ++ e ∷ []) ≡ (step (state_after s es) e).state
 pushed s [] e = refl
 pushed s (x ∷ xs) e = pushed (step s x).state xs e
+
+-- the starts after one event more
+pub started_more : (s : State) (es : List Event) (e : Event) → started_by s (es ++ e ∷ []) ≡ started_by s es ++ starts_in (step (state_after s es) e).orders
+started_more s [] e = append-nil (starts_in (step s e).orders)
+started_more s (x ∷ xs) e =
+    ap (λ (more : List Started). starts_in (step s x).orders ++ more) (started_more (step s x).state xs e)
+    ∙ sym (append_assoc (starts_in (step s x).orders) (started_by (step s x).state xs) (starts_in (step (state_after (step s x).state xs) e).orders))
+
+-- those that are kept, with those of one event more behind them
+pub started_after : (s t : State) (history longer : List Event) (e : Event) (kept new : List Started) (orders : List Effect) → kept ≡ started_by s history → t ≡ s
+    → longer ≡ history ++ e ∷ [] → orders ≡ (step (state_after s history) e).orders → new ≡ kept ++ starts_in orders → new ≡ started_by t longer
+started_after s t history longer e kept new orders are same more given put =
+    put
+    ∙ ap (λ (starts : List Started). starts ++ starts_in orders) are
+    ∙ ap (λ (xs : List Effect). started_by s history ++ starts_in xs) given
+    ∙ sym (started_more s history e)
+    ∙ sym (ap (λ (base : State). started_by base longer) same ∙ ap (λ (events : List Event). started_by s events) more)
 
 lead-append : (a b c : List Seated) (xs ys : List Move) → Lead a xs b → Lead b ys c → Lead a (xs ++ ys) c
 lead-append a b c [] ys first second = subst (λ (s : List Seated). Lead s ys c) first second
@@ -56,7 +76,7 @@ unfolding move_text
 tells-event a b place k old new x y here (e, kind, is, told) set = (
   record { place = place; seat = old; event = Some e } ∷ [],
   (here, set ∙ ap (λ (seat : Seated). slice_set a place seat) is),
-  told ∙ ap (λ (text : List ℕ). x ++ text) (sym (append-nil (event_text old.path (state_in old) e))),
+  told ∙ ap (λ (text : List ℕ). x ++ text) (sym (append-nil (event_text old.tells old.path (starts_of old) (state_in old) e))),
 )
 
 pub begins-event : (a b : List Seated) (place : ℕ) (k : Kind) (old new : Seated) (x y : List ℕ) → IsAt a place old → Happens k old new x y → b ≡ slice_set a place new
@@ -74,7 +94,7 @@ first-event a b place k old new x y here (e, kind, is, told) set = (
   [],
   (here, set ∙ ap (λ (seat : Seated). slice_set a place seat) is),
   kind,
-  told ∙ ap (λ (text : List ℕ). x ++ text) (sym (append-nil (event_text old.path (state_in old) e))),
+  told ∙ ap (λ (text : List ℕ). x ++ text) (sym (append-nil (event_text old.tells old.path (starts_of old) (state_in old) e))),
 )
 
 -- and what is told after it

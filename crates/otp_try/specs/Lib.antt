@@ -1,4 +1,6 @@
+pub mod Starts
 pub mod Story
+pub mod Fit
 pub mod World
 pub mod Played
 pub mod Inside

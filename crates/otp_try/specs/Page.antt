@@ -1,11 +1,13 @@
--- What is put on the page of a trial: all orders of its supervisors, in order, and remarks between them (own).
+-- What is put on the page of a trial: the orders of its supervisors, in order, all of them or the ends alone, and remarks between
+-- them (own).
 use Rattle.std.specs.Prelude.{◌≡◌, ℕ, Bool, true, false, List, [], ◌∷◌, ◌++◌, codes, slice_set}
 use Rattle.otp_timeline.specs.declared.moment.Moment.{Moment}
+use Rattle.otp_try.specs.Fit.{fit}
 use Rattle.otp_try.specs.Played.{IsAt, Move, Seated, move_text, seat_after}
 use Rattle.otp_try.specs.Prompt.{prompt_text, standings_text}
 use Rattle.otp_try.specs.Sketched.{picture}
 use Rattle.otp_try.specs.Story.{number_after}
-use Rattle.otp_try.specs.Texts.{fault_text, help_text, legend_text, taken_text, welcome_text}
+use Rattle.otp_try.specs.Texts.{farewell_text, fault_text, help_text, legend_text, taken_text, welcome_text}
 use Rattle.otp_try.specs.Unused.{unused_text}
 use Rattle.otp_try.specs.declared.play.Writer.{Writer}
 use Rattle.otp_try.specs.declared.play.Writer.TheVariants as writer
@@ -25,9 +27,11 @@ pub data Remark : Type 0 where
   Heading : Bool → ℕ → List ℕ → Remark
   -- why a line can't be read
   Fault : ScriptFault → Remark
-  -- behind what a line did: whether it names nobody, and what became of it
-  Verdict : Writer → ℕ → Bool → ActionEnd → Remark
+  -- behind what a line did, if that is told: whether it names nobody, and what became of it
+  Verdict : Bool → Writer → ℕ → Bool → ActionEnd → Remark
   Prompt : Writer → ℕ → Remark
+  -- where the input ends: the end of the line of the prompt
+  Farewell : Remark
   -- at the end: how the supervisors stand at this time, of which these have a process, and the plans of which nothing came
   Summary : ℕ → List Bool → List Plan → List Hang → Remark
   -- how these supervisors stood at these moments
@@ -61,6 +65,11 @@ unfoldable pub verdict_text : Writer → ℕ → Bool → ActionEnd → List ℕ
 verdict_text writer number is_unknown taken.Done = known_text number is_unknown
 verdict_text writer number is_unknown why = reply_text writer (taken_text why)
 
+-- a text, if it is shown
+unfoldable pub shown : Bool → List ℕ → List ℕ
+shown false text = []
+shown true text = text
+
 -- the picture of these moments, if there are some
 unfoldable pub drawing : Bool → List Seated → List Moment → List ℕ
 drawing is_coloured seats [] = []
@@ -70,11 +79,20 @@ drawing is_coloured seats (moment ∷ moments) = picture is_coloured seats (mome
 unfoldable pub fault_line : ScriptFault → List ℕ
 fault_line why = fault_text why ++ codes "\n"
 
--- what stands at the end of a run: how its supervisors stand, what they await, and what was planned and never came
-unfoldable pub summary_text : ℕ → List Seated → List Bool → List Plan → List Hang → List ℕ
-summary_text now seats running plans hanging = standings_text now seats running ++ unused_text seats plans hanging
+-- what is to be said at the end of a run: how its supervisors stand, what they await, and what was planned and never came
+unfoldable pub whole_text : ℕ → List Seated → List Bool → List Plan → List Hang → List ℕ
+whole_text now seats running plans hanging = standings_text now seats running ++ unused_text seats plans hanging
 
 -- a text says so of these supervisors, of which the root has a process
+abbrev pub IsWhole : List Seated → List ℕ → Type 0
+IsWhole seats text =
+    (now : ℕ) × (others : List Bool) × (plans : List Plan) × (hanging : List Hang) × (text ≡ whole_text now seats (true ∷ others) plans hanging)
+
+-- what stands at the end of a run: the same in lines of at most 80 columns
+unfoldable pub summary_text : ℕ → List Seated → List Bool → List Plan → List Hang → List ℕ
+summary_text now seats running plans hanging = fit [] (whole_text now seats running plans hanging)
+
+-- the same of a text
 abbrev pub IsSummary : List Seated → List ℕ → Type 0
 IsSummary seats text =
     (now : ℕ) × (others : List Bool) × (plans : List Plan) × (hanging : List Hang) × (text ≡ summary_text now seats (true ∷ others) plans hanging)
@@ -86,8 +104,9 @@ remark_text Help seats = help_text
 remark_text Legend seats = legend_text
 remark_text (Heading has_heading number line) seats = heading_line has_heading number line
 remark_text (Fault why) seats = fault_line why
-remark_text (Verdict writer number is_unknown taken) seats = verdict_text writer number is_unknown taken
+remark_text (Verdict is_told writer number is_unknown taken) seats = shown is_told (verdict_text writer number is_unknown taken)
 remark_text (Prompt writer now) seats = prompt_text writer seats now
+remark_text Farewell seats = farewell_text
 remark_text (Summary now running plans hanging) seats = summary_text now seats running plans hanging
 remark_text (Picture is_coloured drawn moments) seats = drawing is_coloured drawn moments
 
@@ -102,19 +121,14 @@ Leads seats [] after = after ≡ seats
 Leads seats (Moved m ∷ ps) after = IsAt seats m.place m.seat × Leads (slice_set seats m.place (seat_after m)) ps after
 Leads seats (Said r ∷ ps) after = Leads seats ps after
 
--- a text, if it is shown
-unfoldable pub shown : Bool → List ℕ → List ℕ
-shown false text = []
-shown true text = text
-
--- the text of pieces, from these supervisors on: of each move the lines of all its orders, if orders are told
-abbrev pub pieces_text : Bool → List Seated → List Piece → List ℕ
-pieces_text tells seats [] = []
-pieces_text tells seats (Moved m ∷ ps) = shown tells (move_text m) ++ pieces_text tells (slice_set seats m.place (seat_after m)) ps
-pieces_text tells seats (Said r ∷ ps) = remark_text r seats ++ pieces_text tells seats ps
+-- the text of pieces, from these supervisors on: of each move the lines of those of its orders that are told
+abbrev pub pieces_text : List Seated → List Piece → List ℕ
+pieces_text seats [] = []
+pieces_text seats (Moved m ∷ ps) = move_text m ++ pieces_text (slice_set seats m.place (seat_after m)) ps
+pieces_text seats (Said r ∷ ps) = remark_text r seats ++ pieces_text seats ps
 
 -- the run went on so, and its pieces were put behind the text, in order: no move of the supervisors is left out
-pub record Adds (tells : Bool) (old new : List Seated) (before after : List ℕ) : Type 0 where
+pub record Adds (old new : List Seated) (before after : List ℕ) : Type 0 where
   pub pieces : List Piece
   pub lead : Leads old pieces new
-  pub text : after ≡ before ++ pieces_text tells old pieces
+  pub text : after ≡ before ++ pieces_text old pieces

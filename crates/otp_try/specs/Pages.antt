@@ -4,7 +4,7 @@ use Rattle.std.specs.Io.KnownBytes.{Appends}
 use Rattle.otp_file.specs.Trees.{Tree}
 use Rattle.otp_rules.specs.declared.event.Kind.TheVariants as kind
 use Rattle.otp_sim.specs.Devices.{AppendsPart}
-use Rattle.otp_try.specs.Page.{Adds, IsSummary, Leads, Piece, pieces_text, shown}
+use Rattle.otp_try.specs.Page.{Adds, IsSummary, Leads, Piece, pieces_text}
 use Rattle.otp_try.specs.Played.{IsPlanted, Seated, TellsFirst}
 use Rattle.otp_try.specs.declared.early.EarlyEnd.{EarlyEnd}
 use Rattle.otp_try.specs.declared.early.EarlyEnd.TheVariants as early
@@ -16,29 +16,29 @@ use Rattle.otp_try.specs.declared.sketch.Shows.{Shows}
 use Rattle.otp_try.specs.declared.sketch.Shows.TheVariants as shows
 
 -- whole pieces were put on the page: all of what was done, or, where it went wrong, the pieces of a beginning of it
-abbrev pub AddsTo : {T E : Type 0} → Result T E → Bool → List Seated → List Seated → List ℕ → List ℕ → Type 0
-AddsTo (Ok _) tells old new before after = Adds tells old new before after
-AddsTo (Err _) tells old new before after = (stood : List Seated) × Adds tells old stood before after
+abbrev pub AddsTo : {T E : Type 0} → Result T E → List Seated → List Seated → List ℕ → List ℕ → Type 0
+AddsTo (Ok _) old new before after = Adds old new before after
+AddsTo (Err _) old new before after = (stood : List Seated) × Adds old stood before after
 
 -- the run went on so: its pieces were put on the page in order, and of the page's text some is written, and the rest is left
-pub record Wrote (tells : Bool) (old new : List Seated) (page left : List ℕ) (before now : Option (List ℕ)) : Type 0 where
+pub record Wrote (old new : List Seated) (page left : List ℕ) (before now : Option (List ℕ)) : Type 0 where
   pub pieces : List Piece
   pub lead : Leads old pieces new
   pub written : List ℕ
   pub appended : Appends before now written
-  pub text : written ++ left ≡ page ++ pieces_text tells old pieces
+  pub text : written ++ left ≡ page ++ pieces_text old pieces
 
 -- of such a text a beginning is written, since the writer failed
-pub record WrotePart (tells : Bool) (old : List Seated) (page : List ℕ) (before now : Option (List ℕ)) : Type 0 where
+pub record WrotePart (old : List Seated) (page : List ℕ) (before now : Option (List ℕ)) : Type 0 where
   pub pieces : List Piece
   pub stood : List Seated
   pub lead : Leads old pieces stood
-  pub part : AppendsPart before now (page ++ pieces_text tells old pieces)
+  pub part : AppendsPart before now (page ++ pieces_text old pieces)
 
 -- how far a run came that ended early
-abbrev pub StopsSo : EarlyEnd → Bool → List Seated → List ℕ → List ℕ → Option (List ℕ) → Option (List ℕ) → Type 0
-StopsSo early.OutputFailed tells old page left before now = WrotePart tells old page before now
-StopsSo _ tells old page left before now = (stood : List Seated) × Wrote tells old stood page left before now
+abbrev pub StopsSo : EarlyEnd → List Seated → List ℕ → List ℕ → Option (List ℕ) → Option (List ℕ) → Type 0
+StopsSo early.OutputFailed old page left before now = WrotePart old page before now
+StopsSo _ old page left before now = (stood : List Seated) × Wrote old stood page left before now
 
 -- how such a run is said to end
 unfoldable pub end_of : EarlyEnd → TryEnd
@@ -49,22 +49,22 @@ end_of early.InputFailed = InputFailed
 end_of early.OutputFailed = OutputFailed
 end_of early.OutOfMemory = OutOfMemory
 
-abbrev pub Ran : {T : Type 0} → Result T EarlyEnd → Bool → List Seated → List Seated → List ℕ → List ℕ → Option (List ℕ) → Option (List ℕ) → Type 0
-Ran (Ok _) tells old new page left before now = Wrote tells old new page left before now
-Ran (Err end) tells old new page left before now = StopsSo end tells old page left before now
+abbrev pub Ran : {T : Type 0} → Result T EarlyEnd → List Seated → List Seated → List ℕ → List ℕ → Option (List ℕ) → Option (List ℕ) → Type 0
+Ran (Ok _) old new page left before now = Wrote old new page left before now
+Ran (Err end) old new page left before now = StopsSo end old page left before now
 
 -- behind pieces without a move a summary was put on the page, of the supervisors as they stand
-pub record Closing (tells : Bool) (seats : List Seated) (before after : List ℕ) : Type 0 where
+pub record Closing (seats : List Seated) (before after : List ℕ) : Type 0 where
   pub middle : List ℕ
-  pub adds : Adds tells seats seats before middle
+  pub adds : Adds seats seats before middle
   pub summary : List ℕ
   pub sums : IsSummary seats summary
   pub text : after ≡ middle ++ summary
 
 -- a run was summed up; or, where that went wrong, whole pieces were put on the page
-abbrev pub SumsUp : {T E : Type 0} → Result T E → Bool → List Seated → List ℕ → List ℕ → Type 0
-SumsUp (Ok _) tells seats before after = Closing tells seats before after
-SumsUp (Err _) tells seats before after = (stood : List Seated) × Adds tells seats stood before after
+abbrev pub SumsUp : {T E : Type 0} → Result T E → List Seated → List ℕ → List ℕ → Type 0
+SumsUp (Ok _) seats before after = Closing seats before after
+SumsUp (Err _) seats before after = (stood : List Seated) × Adds seats stood before after
 
 -- the last of a run that ended well was written, or a beginning of it
 abbrev pub WritesOut : TryEnd → List ℕ → Option (List ℕ) → Option (List ℕ) → Type 0
@@ -73,7 +73,7 @@ WritesOut OutputFailed text before now = AppendsPart before now text
 WritesOut _ text before now = ⊥
 
 -- all of the run was written, and behind its last piece how its supervisors stand, where all of its moves have led them
-pub record Concluded (tells : Bool) (old : List Seated) (page : List ℕ) (before now : Option (List ℕ)) : Type 0 where
+pub record Concluded (old : List Seated) (page : List ℕ) (before now : Option (List ℕ)) : Type 0 where
   pub pieces : List Piece
   pub stood : List Seated
   pub lead : Leads old pieces stood
@@ -81,15 +81,15 @@ pub record Concluded (tells : Bool) (old : List Seated) (page : List ℕ) (befor
   pub sums : IsSummary stood summary
   pub written : List ℕ
   pub appended : Appends before now written
-  pub text : written ≡ page ++ pieces_text tells old pieces ++ summary
+  pub text : written ≡ page ++ pieces_text old pieces ++ summary
 
 -- a run from these supervisors on ended so, and nothing is left on the page: all its pieces were written, or the writer failed
-abbrev pub Ended : TryEnd → Bool → List Seated → List ℕ → Option (List ℕ) → Option (List ℕ) → Type 0
-Ended Done tells old page before now = Concluded tells old page before now
-Ended OutputFailed tells old page before now = WrotePart tells old page before now
-Ended _ tells old page before now = (stood : List Seated) × Wrote tells old stood page [] before now
+abbrev pub Ended : TryEnd → List Seated → List ℕ → Option (List ℕ) → Option (List ℕ) → Type 0
+Ended Done old page before now = Concluded old page before now
+Ended OutputFailed old page before now = WrotePart old page before now
+Ended _ old page before now = (stood : List Seated) × Wrote old stood page [] before now
 
--- whether orders are told: where a script is drawn, they are not
+-- whether all orders are told: where a script is drawn, the ends of supervisors alone are
 abbrev pub tells_orders : Writer → Shows → Bool
 tells_orders writer.Person _ = true
 tells_orders writer.Script shows.Orders = true
@@ -107,15 +107,15 @@ Unopened HistoryFull before now = now ≡ before
 Unopened OutOfMemory before now = now ≡ before
 Unopened _ before now = ⊥
 
--- a run of the supervisors of a tree, of which none was ever opened: first the root is opened, with all that follows from it,
--- and then come its pieces
+-- a run of the supervisors of a tree, of which none was ever opened, and all are told or of each its ends alone: first the root is
+-- opened, with all that follows from it, and then come its pieces
 pub record Played (end : TryEnd) (tree : Tree) (tells : Bool) (before now : Option (List ℕ)) : Type 0 where
   pub planted : List Seated
-  pub is : IsPlanted tree planted
+  pub is : IsPlanted tells tree planted
   pub opened : List Seated
   pub opening : List ℕ
   pub opens : TellsFirst 0 (kind.Opened 0) planted opened [] opening
-  pub ended : Ended end tells opened (shown tells opening) before now
+  pub ended : Ended end opened opening before now
 
 -- a tree was tried: what is written is such a run
 abbrev pub Tries : TryEnd → Tree → Bool → Option (List ℕ) → Option (List ℕ) → Type 0

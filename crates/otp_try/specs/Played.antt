@@ -26,12 +26,15 @@ use Rattle.otp_try.specs.declared.finding.Found.{Found}
 use Rattle.otp_try.specs.declared.finding.Found.TheVariants as found
 use Rattle.otp_try.specs.declared.trial.ActionEnd.{ActionEnd}
 use Rattle.otp_try.specs.declared.trial.ActionEnd.TheVariants as taken
+use Rattle.otp_try.specs.Starts.{started_by}
 use Rattle.otp_try.specs.Story.{event_text}
+use Rattle.otp_try.specs.declared.starts.Started.{Started}
 
--- a supervisor of the tree: what stands in front of the names of its children, as `sub/`, and its events since it was
--- last started
+-- a supervisor of the tree: what stands in front of the names of its children, as `sub/`, whether all its orders are told or
+-- its ends alone, and its events since it was last started
 pub record Seated : Type 0 where
   pub path : List ℕ
+  pub tells : Bool
   pub base : State
   pub history : List Event
 
@@ -39,14 +42,18 @@ pub record Seated : Type 0 where
 abbrev pub state_in : Seated → State
 state_in p = state_after p.base p.history
 
--- a supervisor that was never opened
-abbrev pub unplayed : List ℕ → SupFlags → List ChildSpec → Seated
-unplayed path flags specs = record { path = path; base = empty_state flags specs; history = [] }
+-- the starts that it ordered
+abbrev pub starts_of : Seated → List Started
+starts_of p = started_by p.base p.history
 
--- an event of this kind happened to a supervisor, and the text tells its orders
+-- a supervisor that was never opened
+abbrev pub unplayed : Bool → List ℕ → SupFlags → List ChildSpec → Seated
+unplayed tells path flags specs = record { path = path; tells = tells; base = empty_state flags specs; history = [] }
+
+-- an event of this kind happened to a supervisor, and the text tells those of its orders that are told
 abbrev pub Happens : Kind → Seated → Seated → List ℕ → List ℕ → Type 0
 Happens k old new before after =
-    (e : Event) × (e.kind ≡ k) × (new ≡ record old { history = old.history ++ e ∷ [] }) × (after ≡ before ++ event_text old.path (state_in old) e)
+    (e : Event) × (e.kind ≡ k) × (new ≡ record old { history = old.history ++ e ∷ [] }) × (after ≡ before ++ event_text old.tells old.path (starts_of old) (state_in old) e)
 
 -- what happens to the supervisor at a place, which stood so: an event, or it is there anew and was never opened
 pub record Move : Type 0 where
@@ -63,9 +70,9 @@ seat_after m = record m.seat { history = history_after m.event m.seat.history }
 
 abbrev pub text_of_event : Option Event → Seated → List ℕ
 text_of_event None seat = []
-text_of_event (Some e) seat = event_text seat.path (state_in seat) e
+text_of_event (Some e) seat = event_text seat.tells seat.path (starts_of seat) (state_in seat) e
 
--- the lines of all orders of a move
+-- the lines of those orders of a move that are told
 unfoldable pub move_text : Move → List ℕ
 move_text m = text_of_event m.event m.seat
 
@@ -79,11 +86,12 @@ abbrev pub Lead : List Seated → List Move → List Seated → Type 0
 Lead seats [] after = after ≡ seats
 Lead seats (m ∷ ms) after = IsAt seats m.place m.seat × Lead (slice_set seats m.place (seat_after m)) ms after
 
--- the lines of all orders of these moves, in order
+-- the same of these moves, in order
 abbrev pub story : List Move → List ℕ
 story ms = flat_map move_text ms
 
--- moves were made, and of them the text tells all orders of all supervisors, in order, and nothing else
+-- moves were made, and of them the text tells all orders of the supervisors that are told, and the ends of the others, in
+-- order, and nothing else
 abbrev pub Tells : List Seated → List Seated → List ℕ → List ℕ → Type 0
 Tells old new before after = (ms : List Move) × Lead old ms new × (after ≡ before ++ story ms)
 
@@ -114,7 +122,7 @@ abbrev pub Begins : ℕ → Kind → List Seated → List Seated → Type 0
 Begins place k old new = (seat : Seated) × (e : Event) × (ms : List Move)
     × Lead old (record { place = place; seat = seat; event = Some e } ∷ ms) new × (e.kind ≡ k)
 
--- and the text tells all orders of that event, and then of the moves after it
+-- and the text tells the orders of that event, and then of the moves after it
 abbrev pub TellsFirst : ℕ → Kind → List Seated → List Seated → List ℕ → List ℕ → Type 0
 TellsFirst place k old new before after = (seat : Seated) × (e : Event) × (ms : List Move)
     × Lead old (record { place = place; seat = seat; event = Some e } ∷ ms) new × (e.kind ≡ k)
@@ -171,22 +179,23 @@ PlansAt place old answer = (seat : Seated) → IsAt old place seat → answer �
 abbrev pub EndsAt : ℕ → Reason → Child → List Seated → ActionEnd → List Seated → Type 0
 EndsAt place r c old answer new = (seat : Seated) → IsAt old place seat → Ends place r (found_for c (state_in seat).rows) old answer new
 
--- a supervisor for each of these tables, in their order, that was never opened
-abbrev pub ArePlanted : List Table → List Seated → Type 0
-ArePlanted [] [] = Unit {0}
-ArePlanted [] (seat ∷ seats) = ⊥
-ArePlanted (table ∷ tables) [] = ⊥
-ArePlanted (table ∷ tables) (seat ∷ seats) = (seat ≡ unplayed seat.path table.flags table.specs) × ArePlanted tables seats
+-- a supervisor for each of these tables, in their order, that was never opened, and is told or not
+abbrev pub ArePlanted : Bool → List Table → List Seated → Type 0
+ArePlanted tells [] [] = Unit {0}
+ArePlanted tells [] (seat ∷ seats) = ⊥
+ArePlanted tells (table ∷ tables) [] = ⊥
+ArePlanted tells (table ∷ tables) (seat ∷ seats) = (seat ≡ unplayed tells seat.path table.flags table.specs) × ArePlanted tells tables seats
 
 -- those were put behind the supervisors that were there
-abbrev pub AddsTables : List Table → List Seated → List Seated → Type 0
-AddsTables tables old new = (more : List Seated) × (new ≡ old ++ more) × ArePlanted tables more
+abbrev pub AddsTables : Bool → List Table → List Seated → List Seated → Type 0
+AddsTables tells tables old new = (more : List Seated) × (new ≡ old ++ more) × ArePlanted tells tables more
 
 -- the same of a tree, of which the root's children have this in front of their names
-abbrev pub AddsTree : List ℕ → Tree → List Seated → List Seated → Type 0
-AddsTree path tree old new =
-    (more : List Seated) × (new ≡ old ++ unplayed path tree.flags tree.specs ∷ more) × ArePlanted tree.below more
+abbrev pub AddsTree : Bool → List ℕ → Tree → List Seated → List Seated → Type 0
+AddsTree tells path tree old new =
+    (more : List Seated) × (new ≡ old ++ unplayed tells path tree.flags tree.specs ∷ more) × ArePlanted tells tree.below more
 
--- the supervisors of a tree, of which none was ever opened: one for each table, by their numbers
-abbrev pub IsPlanted : Tree → List Seated → Type 0
-IsPlanted tree seats = AddsTree [] tree [] seats
+-- the supervisors of a tree, of which none was ever opened: one for each table, by their numbers; all are told, or of each its
+-- ends alone
+abbrev pub IsPlanted : Bool → Tree → List Seated → Type 0
+IsPlanted tells tree seats = AddsTree tells [] tree [] seats

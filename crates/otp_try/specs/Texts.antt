@@ -14,7 +14,7 @@ fault_text fault.BadChild = codes "not a child: write its id, or a process numbe
 fault_text fault.BadName = codes "not a child's id: write 1 to 32 bytes of a-z A-Z 0-9 _ - ."
 fault_text fault.BadReason = codes "not a reason: write normal, shutdown, shutdown:TEXT, kill, killed, noproc or error:TEXT"
 fault_text fault.BadCall = codes "no such call: docs/FORMATS.md has the words of each"
-fault_text fault.TooManyWords = codes "more words than the line may have; a comment has a line of its own"
+fault_text fault.TooManyWords = codes "more words than the line may have; a comment begins with # after a blank"
 fault_text fault.TooLong = codes "more than 512 bytes"
 
 -- why an action did nothing; nothing where it was taken
@@ -23,7 +23,7 @@ taken_text taken.Done = []
 taken_text taken.NoProcess = codes "ignored: this child has no process now; say restart ID to start it again, or which to list what runs"
 taken_text taken.NoChild = codes "ignored: there is no such child; say which to list the children"
 taken_text taken.TooLate = codes "ignored: that time has gone by; +TIME counts from the line before"
-taken_text taken.Ended = codes "ignored: the supervisor has ended; the line of its end says why (--timeline shows none)"
+taken_text taken.Ended = codes "ignored: the supervisor has ended; the line of its end says why"
 taken_text taken.NoIds = codes "ignored: children of simple_one_for_one have no ids, so no start of one can be planned"
 
 -- what a person may write at the prompt: what goes wrong
@@ -45,6 +45,10 @@ help_text = help_failures ++ help_requests ++ help_names
 -- what a person is told first
 unfoldable pub welcome_text : List ℕ
 welcome_text = codes "help lists what may be written here\n"
+
+-- what ends the line of the prompt where the input ends
+unfoldable pub farewell_text : List ℕ
+farewell_text = codes "\n"
 
 -- what the cells of a picture mean
 unfoldable pub legend_text : List ℕ

@@ -1,8 +1,8 @@
 //! A line of the input, played on a trial: its heading, what it does, and what became of it.
 
-ghost use Rattle.std.specs.Prelude.{Bool, true, List, ◌≡◌, ◌≤◌, ◌<◌, ◌++◌, OnOk, IfSome, length};
+ghost use Rattle.std.specs.Prelude.{Bool, List, ◌≡◌, ◌≤◌, ◌<◌, ◌++◌, OnOk, IfSome, length};
 ghost use Rattle.otp_spec.specs.declared.limits.TheConstants.{MAX_READING};
-ghost use Rattle.otp_try.specs.Page.{Adds, heading_line, known_text, line_number, reply_text, unknown_text, verdict_text};
+ghost use Rattle.otp_try.specs.Page.{Adds, heading_line, known_text, line_number, reply_text, shown, unknown_text, verdict_text};
 ghost use Rattle.otp_try.specs.Played.{Tells};
 
 use crate::early::EarlyEnd;
@@ -16,10 +16,12 @@ use otp_reason::Name;
 use otp_spec::MAX_READING;
 use std::alloc::AllocError;
 
-/// A line of the input: who wrote it, and its number, counted from 1.
+/// A line of the input: who wrote it, whether what it does is told in full, and its number, counted from 1.
 #[derive(Clone, Copy, Debug, PartialEq, Eq)]
 pub(crate) struct Line {
     pub writer: Writer,
+    /// All orders are told, with a heading, and not the ends of supervisors alone.
+    pub tells: bool,
     pub number: u64,
 }
 
@@ -200,13 +202,25 @@ impl Line {
     fn write_heading(self, line: &[u8], step: Step<'_>, out: &mut Vec<u8>) -> Result<(), AllocError>
         ensures { OnOk result ((has_heading : Bool) × (out.new.items ≡ out.old.items ++ heading_line has_heading self.number line.now)) }
     {
-        let has_heading = self.writer == Writer::Script && !is_silent(step);
+        let has_heading = self.tells && self.writer == Writer::Script && !is_silent(step);
         write_heading_line(has_heading, self.number, line, out)
+    }
+
+    /// Appends what became of the line, if that is told.
+    #[tactic(auto, unfolding(crate::specs::Page::shown))]
+    fn write_verdict(self, outcome: Outcome, out: &mut Vec<u8>) -> Result<(), AllocError>
+        ensures { OnOk result (out.new.items ≡ out.old.items ++ shown self.tells (verdict_text self.writer self.number outcome.is_unknown outcome.taken)) }
+    {
+        if self.tells {
+            self.write_whole_verdict(outcome, out)
+        } else {
+            Ok(())
+        }
     }
 
     /// Appends what became of the line: that it names nobody, or why it did nothing.
     #[tactic(auto, unfolding(crate::specs::Page::verdict_text))]
-    fn write_verdict(self, outcome: Outcome, out: &mut Vec<u8>) -> Result<(), AllocError>
+    fn write_whole_verdict(self, outcome: Outcome, out: &mut Vec<u8>) -> Result<(), AllocError>
         ensures { OnOk result (out.new.items ≡ out.old.items ++ verdict_text self.writer self.number outcome.is_unknown outcome.taken) }
     {
         match outcome.taken {
@@ -227,7 +241,8 @@ impl Line {
         }
     }
 
-    /// Plays a line that was read: appended are its heading, all orders of what it does, in order, and what became of it.
+    /// Plays a line that was read: appended are its heading, the orders of what it does, in order, and what became of it; or the
+    /// ends of supervisors alone.
     /// The answer is how the run ends behind it, if it does.
     ///
     /// # Errors
@@ -240,7 +255,7 @@ impl Line {
         step: Step<'_>,
         out: &mut Vec<u8>,
     ) -> Result<Option<EarlyEnd>, Halt>
-        ensures { OnOk result (Adds true trial.old trial.new out.old.items out.new.items) }
+        ensures { OnOk result (Adds trial.old trial.new out.old.items out.new.items) }
     {
         self.write_heading(line, step, out)?;
         let outcome = do_step(trial, step, out)?;

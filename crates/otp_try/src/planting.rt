@@ -1,6 +1,6 @@
 //! The supervisors of a tree, each with its path.
 
-ghost use Rattle.std.specs.Prelude.{◌≡◌, ◌++◌, [], ◌∷◌, IfOk, IfSome, OnOk};
+ghost use Rattle.std.specs.Prelude.{◌≡◌, ◌++◌, [], ◌∷◌, true, IfOk, IfSome, OnOk};
 ghost use Rattle.otp_try.specs.Played.{AddsTree, IsPlanted, unplayed};
 
 use crate::seat::Seat;
@@ -35,12 +35,12 @@ fn spec_of(supervisor: &SupSpec, nested: &[usize], number: usize) -> Option<Chil
 }
 
 /// A supervisor that was never opened, with this path, of which a tree says what it is opened with.
-fn seat_of(alloc: Global, path: &[u8], supervisor: &SupSpec) -> Result<Seat, Halt>
-    ensures { IfOk result (λ seat. seat ≡ unplayed path.now supervisor.now.flags supervisor.now.specs) }
+fn seat_of(alloc: Global, path: &[u8], tells: bool, supervisor: &SupSpec) -> Result<Seat, Halt>
+    ensures { IfOk result (λ seat. seat ≡ unplayed tells path.now supervisor.now.flags supervisor.now.specs) }
 {
     let mut name = Vec::new(alloc);
     name.extend_from_slice(path)?;
-    Seat::new(alloc, name, supervisor.try_clone(alloc)?)
+    Seat::new(alloc, name, tells, supervisor.try_clone(alloc)?)
 }
 
 impl Plants {
@@ -60,16 +60,17 @@ impl Plants {
         alloc: Global,
         tree: &TreeSpec,
         path: &[u8],
+        tells: bool,
         home: Home,
         levels: usize,
     ) -> Result<(), Halt>
-        ensures { OnOk result (AddsTree path.now tree.now self.old.seats.items self.new.seats.items) }
+        ensures { OnOk result (AddsTree tells path.now tree.now self.old.seats.items self.new.seats.items) }
     {
         // No tree that a file says has more levels.
         let Some(left) = levels.checked_sub(1) else {
             return Err(Halt::OutOfMemory);
         };
-        let seat = seat_of(alloc, path, tree.supervisor())?;
+        let seat = seat_of(alloc, path, tells, tree.supervisor())?;
         let place = self.add(seat, home)?;
         let trees = tree.trees();
         for number in 0..trees.len() {
@@ -82,6 +83,7 @@ impl Plants {
                 alloc,
                 &trees[number],
                 below.as_slice(),
+                tells,
                 Home::new(place, Some(spec)),
                 left,
             )?;
@@ -90,15 +92,15 @@ impl Plants {
     }
 }
 
-/// The supervisors of a tree, which has as many levels as a file may have at the most.
-pub(crate) fn plant(alloc: Global, tree: &TreeSpec) -> Result<Plants, Halt>
-    ensures { IfOk result (λ plants. IsPlanted tree.now plants.seats.items) }
+/// The supervisors of a tree, which has as many levels as a file may have at the most. All orders are told, or ends alone.
+pub(crate) fn plant(alloc: Global, tree: &TreeSpec, tells: bool) -> Result<Plants, Halt>
+    ensures { IfOk result (λ plants. IsPlanted tells tree.now plants.seats.items) }
 {
     let mut plants = Plants {
         seats: Vec::new(alloc),
         homes: Vec::new(alloc),
     };
-    plants.add_tree(alloc, tree, &[], Home::new(0, None), MAX_DEPTH)?;
+    plants.add_tree(alloc, tree, &[], tells, Home::new(0, None), MAX_DEPTH)?;
     Ok(plants)
 }
 
@@ -108,8 +110,8 @@ pub(crate) fn plant(alloc: Global, tree: &TreeSpec) -> Result<Plants, Halt>
 ///
 /// Where memory is refused.
 pub fn plant_seats(alloc: Global, tree: &TreeSpec) -> Result<Vec<Seat>, Halt>
-    ensures { IfOk result (λ seats. IsPlanted tree.now seats.items) }
+    ensures { IfOk result (λ seats. IsPlanted true tree.now seats.items) }
 {
-    let Plants { seats, homes: _ } = plant(alloc, tree)?;
+    let Plants { seats, homes: _ } = plant(alloc, tree, true)?;
     Ok(seats)
 }

@@ -1,8 +1,8 @@
 //! A script that is played to its end, line by line.
 
-ghost use Rattle.std.specs.Prelude.{ℕ, List, [], ◌++◌, Bool, true, Option, ◌≡◌, ◌≤◌, IfOk, OnOk, OnErr, length, vec_len};
+ghost use Rattle.std.specs.Prelude.{ℕ, List, [], ◌++◌, Bool, Option, ◌≡◌, ◌≤◌, IfOk, OnOk, OnErr, length, vec_len};
 ghost use Rattle.otp_timeline.specs.declared.moment.Moment.{Moment};
-ghost use Rattle.otp_try.specs.Page.{Adds, drawing, shown};
+ghost use Rattle.otp_try.specs.Page.{Adds, drawing};
 ghost use Rattle.otp_try.specs.Pages.{AddsTo, Ended, Ran, StopsSo, SumsUp, Tries, WritesOut, Wrote, tells_orders};
 ghost use Rattle.otp_try.specs.Played.{Seated};
 
@@ -15,6 +15,7 @@ use crate::seat::Seat;
 use crate::sketch::{Shows, Sketch};
 use crate::trial::{ActionEnd, Halt, Trial};
 use crate::unused::line_of_unknown;
+use crate::words::strip_return;
 use otp_file::TreeSpec;
 use otp_sim::{Input, Output, PIECE, write_all};
 use otp_text::LONGEST_LINE;
@@ -50,7 +51,7 @@ pub enum Writer {
 #[derive(Clone, Copy, Debug, PartialEq, Eq)]
 struct Settings {
     writer: Writer,
-    /// Orders are told, and not drawn alone.
+    /// All orders are told, and not the ends of supervisors alone.
     tells: bool,
 }
 
@@ -80,21 +81,12 @@ impl Play {
         }
     }
 
-    /// Puts what a line did on the page, if orders are told. The run ends so behind it, if it does.
-    #[tactic(auto, unfolding(crate::specs::Page::shown))]
-    fn tell(
-        &mut self,
-        settings: Settings,
-        told: &[u8],
-        end: Option<EarlyEnd>,
-    ) -> Result<Option<EarlyEnd>, EarlyEnd>
-        ensures ok { OnOk result (self.new.page.items ≡ self.old.page.items ++ shown settings.tells told.now) }
+    /// Puts what a line did on the page. The run ends so behind it, if it does.
+    fn tell(&mut self, told: &[u8], end: Option<EarlyEnd>) -> Result<Option<EarlyEnd>, EarlyEnd>
+        ensures ok { OnOk result (self.new.page.items ≡ self.old.page.items ++ told.now) }
         ensures err { OnErr result (self.new.page.items ≡ self.old.page.items) }
         ensures same { self.new.trial ≡ self.old.trial }
     {
-        if !settings.tells {
-            return Ok(end);
-        }
         match self.put(told) {
             Ok(()) => Ok(end),
             Err(why) => Err(why),
@@ -103,7 +95,7 @@ impl Play {
 
     /// Puts a remark on the page.
     fn remark(&mut self, topic: Topic) -> Result<(), EarlyEnd>
-        ensures { (tells : Bool) → AddsTo result tells self.old.trial self.new.trial self.old.page.items self.new.page.items }
+        ensures { AddsTo result self.old.trial self.new.trial self.old.page.items self.new.page.items }
     {
         match topic.text(self.alloc, &self.trial) {
             Ok(text) => self.put(text.as_slice()),
@@ -123,7 +115,7 @@ impl Play {
 
     /// What is not drawn yet is put on the page, if a picture is wanted.
     fn draw(&mut self) -> Result<(), EarlyEnd>
-        ensures drawn { (tells : Bool) (seats : List Seated) → AddsTo result tells seats seats self.old.page.items self.new.page.items }
+        ensures drawn { (seats : List Seated) → AddsTo result seats seats self.old.page.items self.new.page.items }
         ensures same { self.new.trial ≡ self.old.trial }
     {
         match self.picture() {
@@ -172,7 +164,7 @@ impl Play {
 
     /// How the supervisors stand after this line is a column of the picture, which is drawn once it is as wide as it may be.
     fn add_moment(&mut self, line: u64) -> Result<(), EarlyEnd>
-        ensures drawn { (tells : Bool) (seats : List Seated) → AddsTo result tells seats seats self.old.page.items self.new.page.items }
+        ensures drawn { (seats : List Seated) → AddsTo result seats seats self.old.page.items self.new.page.items }
         ensures same { self.new.trial ≡ self.old.trial }
     {
         match self.keep_moment(line) {
@@ -183,7 +175,7 @@ impl Play {
 
     /// What is not drawn yet is put on the page, if the picture is as wide as it may be.
     fn draw_full(&mut self, is_full: bool) -> Result<(), EarlyEnd>
-        ensures drawn { (tells : Bool) (seats : List Seated) → AddsTo result tells seats seats self.old.page.items self.new.page.items }
+        ensures drawn { (seats : List Seated) → AddsTo result seats seats self.old.page.items self.new.page.items }
         ensures same { self.new.trial ≡ self.old.trial }
     {
         if is_full { self.draw() } else { Ok(()) }
@@ -200,15 +192,15 @@ impl Play {
 
     /// A line of the input: what it does is put on the page.
     fn take_line(&mut self, settings: Settings, line: &[u8]) -> Result<(), EarlyEnd>
-        ensures { AddsTo result settings.tells self.old.trial self.new.trial self.old.page.items self.new.page.items }
+        ensures { AddsTo result self.old.trial self.new.trial self.old.page.items self.new.page.items }
     {
         self.begin_line();
-        self.serve_line(settings, line)
+        self.serve_line(settings, strip_return(line))
     }
 
     /// The line that has begun: a person may ask for help; else it is played.
     fn serve_line(&mut self, settings: Settings, line: &[u8]) -> Result<(), EarlyEnd>
-        ensures { AddsTo result settings.tells self.old.trial self.new.trial self.old.page.items self.new.page.items }
+        ensures { AddsTo result self.old.trial self.new.trial self.old.page.items self.new.page.items }
     {
         if settings.writer == Writer::Person && is_help(line) {
             return self.remark(Topic::Help);
@@ -221,7 +213,7 @@ impl Play {
 
     /// A line that can't be read.
     fn refuse(&mut self, settings: Settings, fault: ScriptFault) -> Result<(), EarlyEnd>
-        ensures { AddsTo result settings.tells self.old.trial self.new.trial self.old.page.items self.new.page.items }
+        ensures { AddsTo result self.old.trial self.new.trial self.old.page.items self.new.page.items }
     {
         if settings.writer == Writer::Script {
             return Err(EarlyEnd::LineRefused(self.lines, fault));
@@ -231,7 +223,7 @@ impl Play {
 
     /// A line that was read is played, and drawn where a picture is wanted.
     fn take_step(&mut self, settings: Settings, line: &[u8], step: Step<'_>) -> Result<(), EarlyEnd>
-        ensures { AddsTo result settings.tells self.old.trial self.new.trial self.old.page.items self.new.page.items }
+        ensures { AddsTo result self.old.trial self.new.trial self.old.page.items self.new.page.items }
     {
         match self.play_step(settings, line, step) {
             Ok(end) => self.end_step(step, end),
@@ -241,7 +233,7 @@ impl Play {
 
     /// The end of a line, or of the run: how the supervisors stand is a column of the picture, unless the line says nothing.
     fn end_step(&mut self, step: Step<'_>, end: Option<EarlyEnd>) -> Result<(), EarlyEnd>
-        ensures drawn { (tells : Bool) (seats : List Seated) → AddsTo result tells seats seats self.old.page.items self.new.page.items }
+        ensures drawn { (seats : List Seated) → AddsTo result seats seats self.old.page.items self.new.page.items }
         ensures same { self.new.trial ≡ self.old.trial }
     {
         match end {
@@ -251,18 +243,18 @@ impl Play {
         }
     }
 
-    /// A line that was read is played, and told if orders are. The answer is how the run ends behind it, if it does.
+    /// A line that was read is played, and told. The answer is how the run ends behind it, if it does.
     fn play_step(
         &mut self,
         settings: Settings,
         line: &[u8],
         step: Step<'_>,
     ) -> Result<Option<EarlyEnd>, EarlyEnd>
-        ensures { AddsTo result settings.tells self.old.trial self.new.trial self.old.page.items self.new.page.items }
+        ensures { AddsTo result self.old.trial self.new.trial self.old.page.items self.new.page.items }
     {
         let mut told = Vec::new(self.alloc);
         match self.play_on(settings, line, step, &mut told) {
-            Ok(end) => self.tell(settings, told.as_slice(), end),
+            Ok(end) => self.tell(told.as_slice(), end),
             Err(halt) => Err(EarlyEnd::from(halt)),
         }
     }
@@ -275,11 +267,12 @@ impl Play {
         step: Step<'_>,
         told: &mut Vec<u8>,
     ) -> Result<Option<EarlyEnd>, Halt>
-        ensures told { OnOk result (Adds true self.old.trial self.new.trial told.old.items told.new.items) }
+        ensures told { OnOk result (Adds self.old.trial self.new.trial told.old.items told.new.items) }
         ensures page { self.new.page.items ≡ self.old.page.items }
     {
         let place = Line {
             writer: settings.writer,
+            tells: settings.tells,
             number: self.lines,
         };
         place.play(&mut self.trial, line, step, told)
@@ -287,7 +280,7 @@ impl Play {
 
     /// What stands before the first line: how to go on, for a person; what a picture means, and its first column.
     fn begin(&mut self, settings: Settings) -> Result<(), EarlyEnd>
-        ensures { AddsTo result settings.tells self.old.trial self.new.trial self.old.page.items self.new.page.items }
+        ensures { AddsTo result self.old.trial self.new.trial self.old.page.items self.new.page.items }
     {
         match self.welcome(settings) {
             Ok(()) => self.begin_picture(),
@@ -297,7 +290,7 @@ impl Play {
 
     /// What a picture means, and its first column, if one is wanted.
     fn begin_picture(&mut self) -> Result<(), EarlyEnd>
-        ensures { (tells : Bool) → AddsTo result tells self.old.trial self.new.trial self.old.page.items self.new.page.items }
+        ensures { AddsTo result self.old.trial self.new.trial self.old.page.items self.new.page.items }
     {
         match self.write_legend() {
             Ok(()) => self.add_moment(0),
@@ -307,7 +300,7 @@ impl Play {
 
     /// Puts how to go on on the page, for a person.
     fn welcome(&mut self, settings: Settings) -> Result<(), EarlyEnd>
-        ensures { AddsTo result settings.tells self.old.trial self.new.trial self.old.page.items self.new.page.items }
+        ensures { AddsTo result self.old.trial self.new.trial self.old.page.items self.new.page.items }
     {
         match settings.writer {
             Writer::Script => Ok(()),
@@ -317,7 +310,7 @@ impl Play {
 
     /// Puts what the cells of a picture mean on the page, if one is wanted.
     fn write_legend(&mut self) -> Result<(), EarlyEnd>
-        ensures { (tells : Bool) → AddsTo result tells self.old.trial self.new.trial self.old.page.items self.new.page.items }
+        ensures { AddsTo result self.old.trial self.new.trial self.old.page.items self.new.page.items }
     {
         if self.sketch.is_some() {
             self.remark(Topic::Legend)
@@ -328,7 +321,7 @@ impl Play {
 
     /// Puts the prompt on the page, for a person.
     fn prompt(&mut self, settings: Settings) -> Result<(), EarlyEnd>
-        ensures { AddsTo result settings.tells self.old.trial self.new.trial self.old.page.items self.new.page.items }
+        ensures { AddsTo result self.old.trial self.new.trial self.old.page.items self.new.page.items }
     {
         match settings.writer {
             Writer::Script => Ok(()),
@@ -336,9 +329,29 @@ impl Play {
         }
     }
 
+    /// The end of the input, behind the prompt that a person saw, and the last line, if there is one.
+    fn end_input(&mut self, settings: Settings, last: &[u8]) -> Result<(), EarlyEnd>
+        ensures { AddsTo result self.old.trial self.new.trial self.old.page.items self.new.page.items }
+    {
+        match self.leave_prompt(settings) {
+            Ok(()) => self.take_last(settings, last),
+            Err(end) => Err(end),
+        }
+    }
+
+    /// Ends the line of the prompt, for a person.
+    fn leave_prompt(&mut self, settings: Settings) -> Result<(), EarlyEnd>
+        ensures { AddsTo result self.old.trial self.new.trial self.old.page.items self.new.page.items }
+    {
+        match settings.writer {
+            Writer::Script => Ok(()),
+            Writer::Person => self.remark(Topic::Farewell),
+        }
+    }
+
     /// The last line, if there is one.
     fn take_last(&mut self, settings: Settings, last: &[u8]) -> Result<(), EarlyEnd>
-        ensures { AddsTo result settings.tells self.old.trial self.new.trial self.old.page.items self.new.page.items }
+        ensures { AddsTo result self.old.trial self.new.trial self.old.page.items self.new.page.items }
     {
         if last.is_empty() {
             Ok(())
@@ -351,7 +364,7 @@ impl Play {
 impl Play {
     /// What is on the page is written, and gone from it.
     fn hand_out<W: Output>(&mut self, output: &mut W) -> Result<(), EarlyEnd>
-        ensures ran { (tells : Bool) (seats : List Seated) → Ran result tells seats seats self.old.page.items self.new.page.items (W.contents output.old) (W.contents output.new) }
+        ensures ran { (seats : List Seated) → Ran result seats seats self.old.page.items self.new.page.items (W.contents output.old) (W.contents output.new) }
         ensures empty { OnOk result (self.new.page.items ≡ []) }
         ensures same { self.new.trial ≡ self.old.trial }
     {
@@ -364,7 +377,7 @@ impl Play {
 
     /// What is on the page is written, if it is much.
     fn hand_out_much<W: Output>(&mut self, output: &mut W) -> Result<(), EarlyEnd>
-        ensures ran { (tells : Bool) (seats : List Seated) → Ran result tells seats seats self.old.page.items self.new.page.items (W.contents output.old) (W.contents output.new) }
+        ensures ran { (seats : List Seated) → Ran result seats seats self.old.page.items self.new.page.items (W.contents output.old) (W.contents output.new) }
         ensures same { self.new.trial ≡ self.old.trial }
     {
         if self.page.len() < PIECE {
@@ -381,7 +394,7 @@ impl Play {
         byte: u8,
         output: &mut W,
     ) -> Result<(), EarlyEnd>
-        ensures { Ran result settings.tells self.old.trial self.new.trial self.old.page.items self.new.page.items (W.contents output.old) (W.contents output.new) }
+        ensures { Ran result self.old.trial self.new.trial self.old.page.items self.new.page.items (W.contents output.old) (W.contents output.new) }
     {
         if byte != b'\n' {
             return keep(kept, byte);
@@ -403,7 +416,7 @@ impl Play {
         piece: &[u8],
         output: &mut W,
     ) -> Result<(), EarlyEnd>
-        ensures { Ran result settings.tells self.old.trial self.new.trial self.old.page.items self.new.page.items (W.contents output.old) (W.contents output.new) }
+        ensures { Ran result self.old.trial self.new.trial self.old.page.items self.new.page.items (W.contents output.old) (W.contents output.new) }
     {
         for byte in piece {
             if let Err(end) = self.take_byte(settings, kept, *byte, output) {
@@ -424,7 +437,7 @@ impl Play {
         output: &mut W,
     ) -> Result<bool, EarlyEnd>
         requires { PIECE ≤ length buffer.old }
-        ensures ran { Ran result settings.tells self.old.trial self.new.trial self.old.page.items self.new.page.items (W.contents output.old) (W.contents output.new) }
+        ensures ran { Ran result self.old.trial self.new.trial self.old.page.items self.new.page.items (W.contents output.old) (W.contents output.new) }
         ensures size { length buffer.new ≡ length buffer.old }
     {
         match self.ask(settings, output) {
@@ -443,7 +456,7 @@ impl Play {
         output: &mut W,
     ) -> Result<bool, EarlyEnd>
         requires { PIECE ≤ length buffer.old }
-        ensures ran { Ran result settings.tells self.old.trial self.new.trial self.old.page.items self.new.page.items (W.contents output.old) (W.contents output.new) }
+        ensures ran { Ran result self.old.trial self.new.trial self.old.page.items self.new.page.items (W.contents output.old) (W.contents output.new) }
         ensures size { length buffer.new ≡ length buffer.old }
     {
         let Ok(count) = input.read(buffer) else {
@@ -460,7 +473,7 @@ impl Play {
 
     /// What is told is written, a prompt behind it for a person.
     fn ask<W: Output>(&mut self, settings: Settings, output: &mut W) -> Result<(), EarlyEnd>
-        ensures { Ran result settings.tells self.old.trial self.new.trial self.old.page.items self.new.page.items (W.contents output.old) (W.contents output.new) }
+        ensures { Ran result self.old.trial self.new.trial self.old.page.items self.new.page.items (W.contents output.old) (W.contents output.new) }
     {
         match self.prompt(settings) {
             Ok(()) => self.hand_out(output),
@@ -475,7 +488,7 @@ impl Play {
         input: &mut R,
         output: &mut W,
     ) -> Result<(), EarlyEnd>
-        ensures { Ran result settings.tells self.old.trial self.new.trial self.old.page.items self.new.page.items (W.contents output.old) (W.contents output.new) }
+        ensures { Ran result self.old.trial self.new.trial self.old.page.items self.new.page.items (W.contents output.old) (W.contents output.new) }
     {
         match self.begin(settings) {
             Ok(()) => self.open_input(settings, input, output),
@@ -490,7 +503,7 @@ impl Play {
         input: &mut R,
         output: &mut W,
     ) -> Result<(), EarlyEnd>
-        ensures { Ran result settings.tells self.old.trial self.new.trial self.old.page.items self.new.page.items (W.contents output.old) (W.contents output.new) }
+        ensures { Ran result self.old.trial self.new.trial self.old.page.items self.new.page.items (W.contents output.old) (W.contents output.new) }
     {
         let Ok(mut buffer) = zeros(self.alloc, PIECE) else {
             return Err(EarlyEnd::OutOfMemory);
@@ -507,13 +520,13 @@ impl Play {
         output: &mut W,
     ) -> Result<(), EarlyEnd>
         requires { PIECE ≤ length buffer.old }
-        ensures { Ran result settings.tells self.old.trial self.new.trial self.old.page.items self.new.page.items (W.contents output.old) (W.contents output.new) }
+        ensures { Ran result self.old.trial self.new.trial self.old.page.items self.new.page.items (W.contents output.old) (W.contents output.new) }
     {
         let mut kept = Vec::new(self.alloc);
         for _ in 0..u64::MAX {
             match self.serve(settings, &mut kept, buffer, input, output) {
                 Ok(true) => {}
-                Ok(false) => return self.take_last(settings, kept.as_slice()),
+                Ok(false) => return self.end_input(settings, kept.as_slice()),
                 Err(end) => return Err(end),
             }
         }
@@ -522,7 +535,7 @@ impl Play {
 
     /// The end of a run that ended early: what is not drawn is drawn where there is memory, and all that is told is written.
     fn write_last<W: Output>(&mut self, end: EarlyEnd, output: &mut W) -> TryEnd
-        ensures { (tells : Bool) (seats : List Seated) → Ended result tells seats self.old.page.items (W.contents output.old) (W.contents output.new) }
+        ensures { (seats : List Seated) → Ended result seats self.old.page.items (W.contents output.old) (W.contents output.new) }
     {
         let _drawn = self.draw();
         let Ok(()) = self.hand_out(output) else {
@@ -533,7 +546,7 @@ impl Play {
 
     /// The end of a run that ended early: where the writer failed, nothing more is written.
     fn close_early<W: Output>(&mut self, end: EarlyEnd, output: &mut W) -> TryEnd
-        ensures { (tells : Bool) (seats : List Seated) (page : List ℕ) (before : Option (List ℕ)) → StopsSo end tells seats page self.old.page.items before (W.contents output.old) → Ended result tells seats page before (W.contents output.new) }
+        ensures { (seats : List Seated) (page : List ℕ) (before : Option (List ℕ)) → StopsSo end seats page self.old.page.items before (W.contents output.old) → Ended result seats page before (W.contents output.new) }
     {
         match end {
             EarlyEnd::OutputFailed => TryEnd::OutputFailed,
@@ -554,7 +567,7 @@ impl Play {
 
     /// Puts on the page how the supervisors stand, what they await, and what the script planned and the run never came to.
     fn put_summary(&mut self, settings: Settings) -> Result<(), EarlyEnd>
-        ensures { (tells : Bool) → SumsUp result tells self.old.trial self.old.page.items self.new.page.items }
+        ensures { SumsUp result self.old.trial self.old.page.items self.new.page.items }
     {
         let Ok(text) = summary_of(self.alloc, &self.trial) else {
             return Err(EarlyEnd::OutOfMemory);
@@ -567,7 +580,7 @@ impl Play {
 
     /// What stands behind the last line: the rest of the picture, if one is wanted, and how the supervisors stand.
     fn sum_up(&mut self, settings: Settings) -> Result<(), EarlyEnd>
-        ensures { (tells : Bool) → SumsUp result tells self.old.trial self.old.page.items self.new.page.items }
+        ensures { SumsUp result self.old.trial self.old.page.items self.new.page.items }
     {
         match self.draw() {
             Ok(()) => self.put_summary(settings),
@@ -587,7 +600,7 @@ impl Play {
 
     /// The end of a run of which all lines were played: it is told how the supervisors stand, and what they await.
     fn conclude<W: Output>(&mut self, settings: Settings, output: &mut W) -> TryEnd
-        ensures { (tells : Bool) (seats : List Seated) (page : List ℕ) (before : Option (List ℕ)) → Wrote tells seats self.old.trial page self.old.page.items before (W.contents output.old) → Ended result tells seats page before (W.contents output.new) }
+        ensures { (seats : List Seated) (page : List ℕ) (before : Option (List ℕ)) → Wrote seats self.old.trial page self.old.page.items before (W.contents output.old) → Ended result seats page before (W.contents output.new) }
     {
         match self.sum_up(settings) {
             Ok(()) => self.write_out(output),
@@ -602,7 +615,7 @@ impl Play {
         input: &mut R,
         output: &mut W,
     ) -> TryEnd
-        ensures { Ended result settings.tells self.old.trial self.old.page.items (W.contents output.old) (W.contents output.new) }
+        ensures { Ended result self.old.trial self.old.page.items (W.contents output.old) (W.contents output.new) }
     {
         match self.run(settings, input, output) {
             Ok(()) => self.conclude(settings, output),
@@ -620,9 +633,10 @@ fn picture_of(alloc: Global, sketch: &Sketch, seats: &[Seat]) -> Result<Vec<u8>,
     Ok(text)
 }
 
-/// Keeps a byte of a line that goes on: of a line that is too long no more than shows that.
+/// Keeps a byte of a line that goes on: of a line that is too long no more than shows that, whether its last byte is a CR
+/// or not.
 fn keep(kept: &mut Vec<u8>, byte: u8) -> Result<(), EarlyEnd> {
-    if kept.len() > LONGEST_LINE {
+    if kept.len() > LONGEST_LINE + 1 {
         return Ok(());
     }
     match kept.push(byte) {
@@ -646,7 +660,7 @@ fn sketch_of(alloc: Global, shows: Shows) -> Option<Sketch> {
     }
 }
 
-/// Whether orders are told: where a script is drawn, they are not.
+/// Whether all orders are told: where a script is drawn, the ends of supervisors alone are.
 fn tells_orders(writer: Writer, shows: Shows) -> bool
     ensures { result ≡ tells_orders writer shows }
 {
@@ -656,19 +670,8 @@ fn tells_orders(writer: Writer, shows: Shows) -> bool
     }
 }
 
-/// What is on the page before the first line: what the supervisors ordered as they started, if orders are told.
-#[tactic(auto, unfolding(crate::specs::Page::shown))]
-fn page_of(alloc: Global, settings: Settings, told: Vec<u8>) -> Vec<u8>
-    ensures { result.items ≡ shown settings.tells told.items }
-{
-    if settings.tells {
-        told
-    } else {
-        Vec::new(alloc)
-    }
-}
-
-/// Plays the lines of the input on the supervisors of a tree, and writes what they order, or a picture of the run.
+/// Plays the lines of the input on the supervisors of a tree, and writes what they order, or a picture of the run and why
+/// supervisors ended.
 ///
 /// Where the run ends early, what was told before is written all the same: all that the lines before told, and of the last
 /// one, unless memory was refused within it or a history was full, what it did.
@@ -687,7 +690,7 @@ pub fn try_tree<R: Input, W: Output>(
         tells: tells_orders(writer, shows),
     };
     let mut told = Vec::new(alloc);
-    let trial = match Trial::open(alloc, &tree, &mut told) {
+    let trial = match Trial::open(alloc, &tree, settings.tells, &mut told) {
         Ok(trial) => trial,
         Err(halt) => return EarlyEnd::from(halt).told(),
     };
@@ -695,7 +698,7 @@ pub fn try_tree<R: Input, W: Output>(
         alloc,
         trial,
         lines: 0,
-        page: page_of(alloc, settings, told),
+        page: told,
         sketch: sketch_of(alloc, shows),
     };
     play.play(settings, input, output)

@@ -1,10 +1,11 @@
 //! What is told of a trial beside the orders.
 
 ghost use Rattle.std.specs.Prelude.{ℕ, Bool, true, List, ◌∷◌, ◌≡◌, ◌++◌, IfOk, OnOk};
-ghost use Rattle.otp_try.specs.Page.{IsSummary, Remark, fault_line, remark_text};
+ghost use Rattle.otp_try.specs.Page.{IsSummary, IsWhole, Remark, fault_line, remark_text};
 ghost use Rattle.otp_try.specs.Prompt.{standings_text};
-ghost use Rattle.otp_try.specs.Texts.{help_failures, help_names, help_requests, help_text, legend_text, welcome_text};
+ghost use Rattle.otp_try.specs.Texts.{farewell_text, help_failures, help_names, help_requests, help_text, legend_text, welcome_text};
 
+use crate::fit::fit;
 use crate::help::{HELP_FAILURES, HELP_NAMES, HELP_REQUESTS, WELCOME};
 use crate::play::Writer;
 use crate::prompt::{write_prompt, write_standings};
@@ -27,6 +28,8 @@ pub(crate) enum Topic {
     Fault(ScriptFault),
     /// The prompt, for a person.
     Prompt,
+    /// The end of the line of the prompt, where the input ends.
+    Farewell,
 }
 
 /// Appends what a person is told first.
@@ -79,6 +82,14 @@ fn write_legend(out: &mut Vec<u8>) -> Result<(), AllocError>
     out.extend_from_slice(LEGEND)
 }
 
+/// Appends the end of the line of the prompt.
+#[tactic(auto, unfolding(crate::specs::Texts::farewell_text))]
+fn write_farewell(out: &mut Vec<u8>) -> Result<(), AllocError>
+    ensures { OnOk result (out.new.items ≡ out.old.items ++ farewell_text) }
+{
+    out.extend_from_slice(b"\n")
+}
+
 /// Appends why a line can't be read.
 #[tactic(auto, unfolding(crate::specs::Page::fault_line))]
 fn write_fault(fault: ScriptFault, out: &mut Vec<u8>) -> Result<(), AllocError>
@@ -99,6 +110,7 @@ impl Topic {
             Topic::Legend => write_legend(out),
             Topic::Fault(fault) => write_fault(fault, out),
             Topic::Prompt => write_prompt(Writer::Person, trial.seats(), trial.time(), out),
+            Topic::Farewell => write_farewell(out),
         }
     }
 
@@ -122,19 +134,20 @@ fn write_all_standings(trial: &Trial, out: &mut Vec<u8>) -> Result<(), AllocErro
 }
 
 /// Appends what stands at the end of a run: how the supervisors stand, what they await, and what the script planned and the run
-/// never came to.
+/// never came to, in lines of any length.
 fn write_summary(trial: &Trial, out: &mut Vec<u8>) -> Result<(), AllocError>
-    ensures { OnOk result ((summary : List ℕ) × IsSummary trial.now summary × (out.new.items ≡ out.old.items ++ summary)) }
+    ensures { OnOk result ((whole : List ℕ) × IsWhole trial.now whole × (out.new.items ≡ out.old.items ++ whole)) }
 {
     write_all_standings(trial, out)?;
     write_unused(trial.world(), trial.seats(), out)
 }
 
-/// What stands at the end of a run.
+/// What stands at the end of a run, in lines of at most 80 columns.
 pub(crate) fn summary_of(alloc: Global, trial: &Trial) -> Result<Vec<u8>, AllocError>
-    ensures { IfOk result (λ text. IsSummary trial.now text.items) }
+    ensures { IfOk result (λ lines. IsSummary trial.now lines.items) }
 {
-    let mut text = Vec::new(alloc);
-    write_summary(trial, &mut text)?;
-    Ok(text)
+    let mut whole = Vec::new(alloc);
+    write_summary(trial, &mut whole)?;
+    let lines = fit(alloc, whole.as_slice())?;
+    Ok(lines)
 }

@@ -3,7 +3,7 @@
 ghost use Rattle.std.specs.Prelude.{◌≡◌};
 ghost use Rattle.otp_try.specs.Texts.{fault_text};
 
-use crate::words::{end_of_path, next_word, strip_end, strip_start};
+use crate::words::{Spaced, end_of_path, next_word, strip_comment, strip_end};
 use otp_reason::{Name, Reason, Text};
 use otp_rules::Call;
 use otp_spec::MAX_READING;
@@ -100,7 +100,7 @@ pub enum ScriptFault {
     BadReason,
     /// The words of the call are others.
     BadCall,
-    /// There are more words than the line may have; a comment has a line of its own.
+    /// There are more words than the line may have.
     TooManyWords,
     /// It has more than 512 bytes.
     TooLong,
@@ -123,7 +123,7 @@ impl ScriptFault {
                 "not a reason: write normal, shutdown, shutdown:TEXT, kill, killed, noproc or error:TEXT",
             ScriptFault::BadCall => "no such call: docs/FORMATS.md has the words of each",
             ScriptFault::TooManyWords =>
-                "more words than the line may have; a comment has a line of its own",
+                "more words than the line may have; a comment begins with # after a blank",
             ScriptFault::TooLong => "more than 512 bytes",
         }
     }
@@ -136,7 +136,7 @@ impl fmt::Display for ScriptFault {
 }
 
 /// Reads a line, without its LF. Empty lines and lines that begin with `#` say nothing; spaces, tabs and a CR at the end
-/// don't count.
+/// don't count, nor does a comment, which begins with a `#` that has a space before it and no digit behind it.
 ///
 /// # Errors
 ///
@@ -145,7 +145,7 @@ pub fn read_step(line: &[u8]) -> Result<Step<'_>, ScriptFault> {
     if line.len() > LONGEST_LINE {
         return Err(ScriptFault::TooLong);
     }
-    let (when, rest) = read_when(strip_end(line))?;
+    let (when, rest) = read_when(strip_end(strip_comment(line)))?;
     let said = read_said(rest)?;
     Ok(Step {
         when,
@@ -222,7 +222,7 @@ fn read_action(line: &[u8]) -> Result<Said<'_>, ScriptFault> {
         b"restart" | b"delete" | b"terminate" | b"get" if is_path_next(rest) => read_call(
             word, rest,
         ),
-        _ => read_plain(strip_start(line)),
+        _ => read_plain(line),
     }
 }
 
@@ -366,9 +366,9 @@ fn read_hang(line: &[u8]) -> Result<Said<'_>, ScriptFault> {
     })
 }
 
-/// What has the same form as a line of `sim`: `stop`, and the calls.
+/// What has the same form as a line of `sim`, but for the spaces between its words: `stop`, and the calls.
 fn read_plain<'a>(line: &[u8]) -> Result<Said<'a>, ScriptFault> {
-    match read_line(line) {
+    match read_line(Spaced::of(line).as_slice()) {
         Some(Line::Stop) => Ok(to_root(Action::Stop)),
         Some(Line::Call(call)) => Ok(to_root(Action::Call(call))),
         Some(_) => Err(ScriptFault::UnknownWord),

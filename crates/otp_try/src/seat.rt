@@ -8,6 +8,7 @@ ghost use Rattle.otp_rules.specs.State.{is_over};
 ghost use Rattle.otp_spec.specs.declared.limits.TheConstants.{MAX_READING};
 ghost use Rattle.otp_try.specs.Played.{Happens, state_in, unplayed};
 
+use crate::starts::{Started, put_starts};
 use crate::telling::tell;
 use crate::trial::Halt;
 use otp_core::{Core, Counter};
@@ -25,8 +26,14 @@ pub struct Seat {
     /// What stands in front of the names of its children: the ids of the supervisors from the root's child on, each with
     /// a `/` behind it.
     path: Vec<u8>,
+    /// All its orders are told, and not its ends alone.
+    tells: bool,
     supervisor: SupSpec,
     core: Core,
+    /// The starts that it ordered since its own last start.
+    starts: Vec<Started>,
+    /// All of them are kept: memory was not refused in the midst of what happened last. Else nothing more happens.
+    is_whole: bool,
 }
 
 impl Model for Seat {
@@ -50,14 +57,22 @@ fn core_of(alloc: Global, supervisor: &SupSpec) -> Result<Core, Halt>
 
 impl Seat {
     /// A supervisor that was never opened.
-    pub(crate) fn new(alloc: Global, path: Vec<u8>, supervisor: SupSpec) -> Result<Self, Halt>
-        ensures { IfOk result (λ seat. seat ≡ unplayed path.items supervisor.flags supervisor.specs) }
+    pub(crate) fn new(
+        alloc: Global,
+        path: Vec<u8>,
+        tells: bool,
+        supervisor: SupSpec,
+    ) -> Result<Self, Halt>
+        ensures { IfOk result (λ seat. seat ≡ unplayed tells path.items supervisor.flags supervisor.specs) }
     {
         let core = core_of(alloc, &supervisor)?;
         Ok(Seat {
             path,
+            tells,
             supervisor,
             core,
+            starts: Vec::new(alloc),
+            is_whole: true,
         })
     }
 
@@ -66,10 +81,12 @@ impl Seat {
         ensures { OnOk result (self.new ≡ record self.old { history = [] }) }
     {
         self.core = core_of(alloc, &self.supervisor)?;
+        self.starts.clear();
+        self.is_whole = true;
         Ok(())
     }
 
-    /// Something happens at this time, and all its orders are told. A child that is started gets the next number after
+    /// Something happens at this time, and its orders are told, all of them or its end alone. A child that is started gets the next number after
     /// `last`; the answer is the last number then.
     pub(crate) fn happen(
         &mut self,
@@ -82,6 +99,9 @@ impl Seat {
         requires { time ≤ MAX_READING }
         ensures { OnOk result (Happens kind self.old self.new out.old.items out.new.items) }
     {
+        if !self.is_whole {
+            return Err(Halt::OutOfMemory);
+        }
         if self.core.is_full() {
             return Err(Halt::HistoryFull);
         }
@@ -92,8 +112,20 @@ impl Seat {
         self.core.prepare()?;
         self.core.clear_effects();
         let mut numbers = Counter { last };
+        self.is_whole = false;
         self.core.step_with(time, kind, &mut numbers);
-        tell(time, self.path.as_slice(), &self.core, printer, out)?;
+        let starts = self.starts.as_slice();
+        tell(
+            time,
+            self.path.as_slice(),
+            self.tells,
+            starts,
+            &self.core,
+            printer,
+            out,
+        )?;
+        put_starts(self.core.effects(), &mut self.starts)?;
+        self.is_whole = true;
         Ok(numbers.last)
     }
 

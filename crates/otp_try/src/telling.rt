@@ -2,8 +2,9 @@
 
 ghost use Rattle.std.specs.Prelude.{◌≡◌, ◌++◌, OnOk};
 ghost use Rattle.otp_core.specs.View.{state_of};
-ghost use Rattle.otp_try.specs.Story.{cause_text, child_order, end_text, heading, limit_text, number_after, number_between, order_text, restarts_text, restarts_word, told_line, told_lines};
+ghost use Rattle.otp_try.specs.Story.{cause_text, child_order, end_text, heading, id_text, is_told, limit_text, line_if, number_after, order_text, restarts_text, restarts_word, significant_text, started_between, started_text, told_line, told_lines};
 
+use crate::starts::{Started, start_of};
 use crate::time::{write_time, write_times};
 use otp_core::Core;
 use otp_reason::Name;
@@ -53,29 +54,92 @@ fn write_restarts(flags: &SupFlags, stamps: &[u64], out: &mut Vec<u8>) -> Result
     write_times(stamps, out)
 }
 
-/// Appends a process number between two words.
-#[tactic(auto, unfolding(crate::specs::Story::number_between))]
+/// Appends a child with its path, or where it has no id its process.
+#[tactic(auto, unfolding(crate::specs::Story::id_text))]
+fn write_id(
+    path: &[u8],
+    id: Option<Name>,
+    process: u64,
+    out: &mut Vec<u8>,
+) -> Result<(), AllocError>
+    ensures { OnOk result (out.new.items ≡ out.old.items ++ id_text path.now id process) }
+{
+    match id {
+        None => write_process(process, out),
+        Some(id) => {
+            out.extend_from_slice(path)?;
+            write_name(&id, out)
+        }
+    }
+}
+
+/// Appends the child for which a process was started.
+#[tactic(auto, unfolding(crate::specs::Story::started_text))]
+fn write_started(
+    path: &[u8],
+    started: Option<Started>,
+    process: u64,
+    out: &mut Vec<u8>,
+) -> Result<(), AllocError>
+    ensures { OnOk result (out.new.items ≡ out.old.items ++ started_text path.now started process) }
+{
+    match started {
+        None => write_process(process, out),
+        Some(started) => write_id(path, started.id, process, out),
+    }
+}
+
+/// Appends the child for which a process was started, between two words.
+#[tactic(auto, unfolding(crate::specs::Story::started_between))]
 fn write_between(
     before: &[u8],
-    number: u64,
+    path: &[u8],
+    started: Option<Started>,
+    process: u64,
     after: &[u8],
     out: &mut Vec<u8>,
 ) -> Result<(), AllocError>
-    ensures { OnOk result (out.new.items ≡ out.old.items ++ number_between before.now number after.now) }
+    ensures { OnOk result (out.new.items ≡ out.old.items ++ started_between before.now path.now started process after.now) }
 {
     out.extend_from_slice(before)?;
-    write_process(number, out)?;
+    write_started(path, started, process, out)?;
     out.extend_from_slice(after)
+}
+
+/// Appends which significant child of the supervisor with this path ended.
+#[tactic(auto, unfolding(crate::specs::Story::significant_text))]
+fn write_significant(
+    path: &[u8],
+    starts: &[Started],
+    process: u64,
+    out: &mut Vec<u8>,
+) -> Result<(), AllocError>
+    ensures { OnOk result (out.new.items ≡ out.old.items ++ significant_text path.now starts.now process) }
+{
+    let started = start_of(starts, process);
+    write_between(
+        b"significant child ",
+        path,
+        started,
+        process,
+        b" ended",
+        out,
+    )
 }
 
 /// Appends why a supervisor ends.
 #[tactic(auto, unfolding(crate::specs::Story::cause_text))]
-fn write_cause(cause: &Cause, out: &mut Vec<u8>) -> Result<(), AllocError>
-    ensures { OnOk result (out.new.items ≡ out.old.items ++ cause_text cause.now) }
+fn write_cause(
+    path: &[u8],
+    starts: &[Started],
+    cause: &Cause,
+    out: &mut Vec<u8>,
+) -> Result<(), AllocError>
+    ensures { OnOk result (out.new.items ≡ out.old.items ++ cause_text path.now starts.now cause.now) }
 {
     match cause {
         Cause::Intensity { flags, stamps } => write_restarts(flags, stamps.as_slice(), out),
-        Cause::Significant(number) => write_between(b"significant child ", *number, b" ended", out),
+        Cause::Significant(process) => write_significant(path, starts, *process, out),
         Cause::Asked => out.extend_from_slice(b"asked to stop"),
         Cause::InitFailed(id) => {
             out.extend_from_slice(b"child ")?;
@@ -87,13 +151,18 @@ fn write_cause(cause: &Cause, out: &mut Vec<u8>) -> Result<(), AllocError>
 
 /// Appends why a supervisor ends, behind the reason.
 #[tactic(auto, unfolding(crate::specs::Story::end_text))]
-fn write_end(end: &SupEnd, out: &mut Vec<u8>) -> Result<(), AllocError>
-    ensures { OnOk result (out.new.items ≡ out.old.items ++ end_text end.now) }
+fn write_end(
+    path: &[u8],
+    starts: &[Started],
+    end: &SupEnd,
+    out: &mut Vec<u8>,
+) -> Result<(), AllocError>
+    ensures { OnOk result (out.new.items ≡ out.old.items ++ end_text path.now starts.now end.now) }
 {
     out.extend_from_slice(b"end ")?;
     write_reason(&end.reason, out)?;
     out.extend_from_slice(b": ")?;
-    write_cause(&end.cause, out)?;
+    write_cause(path, starts, &end.cause, out)?;
     out.extend_from_slice(b"\n")
 }
 
@@ -134,12 +203,13 @@ pub(crate) fn write_heading(path: &[u8], out: &mut Vec<u8>) -> Result<(), AllocE
 #[tactic(auto, unfolding(crate::specs::Story::order_text))]
 fn write_order(
     path: &[u8],
+    starts: &[Started],
     core: &Core,
     order: &Effect,
     printer: &mut Printer,
     out: &mut Vec<u8>,
 ) -> Result<(), AllocError>
-    ensures { OnOk result (out.new.items ≡ out.old.items ++ order_text path.now order.now (state_of core.now).replies) }
+    ensures { OnOk result (out.new.items ≡ out.old.items ++ order_text path.now starts.now order.now (state_of core.now).replies) }
 {
     match order {
         Effect::Start(name, number) => write_child_order(b"start ", path, name, *number, out),
@@ -155,7 +225,7 @@ fn write_order(
         }
         Effect::End(end) => {
             write_heading(path, out)?;
-            write_end(end, out)
+            write_end(path, starts, end, out)
         }
     }
 }
@@ -165,45 +235,93 @@ fn write_order(
 fn write_told(
     time: u64,
     path: &[u8],
+    starts: &[Started],
     core: &Core,
     order: &Effect,
     printer: &mut Printer,
     out: &mut Vec<u8>,
 ) -> Result<(), AllocError>
-    ensures { OnOk result (out.new.items ≡ out.old.items ++ told_line time path.now (state_of core.now).replies order.now) }
+    ensures { OnOk result (out.new.items ≡ out.old.items ++ told_line time path.now starts.now (state_of core.now).replies order.now) }
 {
     write_time(time, out)?;
     out.extend_from_slice(b"  ")?;
-    write_order(path, core, order, printer, out)
+    write_order(path, starts, core, order, printer, out)
 }
 
-/// Appends the lines of the orders that the core of the supervisor with this path gave at this time.
+/// Whether an order is told: all are, or an end alone.
+#[tactic(auto, unfolding(crate::specs::Story::is_told))]
+fn is_told(tells: bool, order: &Effect) -> bool
+    ensures { result ≡ is_told tells order.now }
+{
+    match order {
+        Effect::Start(..) | Effect::Ask(..) | Effect::Kill(..) => tells,
+        Effect::Reply(_) | Effect::Ready => tells,
+        Effect::End(_) => true,
+    }
+}
+
+/// Appends the line of an order that was given at this time, if it is told.
+#[tactic(auto, unfolding(crate::specs::Story::line_if))]
+fn write_line_if(
+    time: u64,
+    path: &[u8],
+    tells: bool,
+    starts: &[Started],
+    core: &Core,
+    order: &Effect,
+    printer: &mut Printer,
+    out: &mut Vec<u8>,
+) -> Result<(), AllocError>
+    ensures { OnOk result (out.new.items ≡ out.old.items ++ line_if tells time path.now starts.now (state_of core.now).replies order.now) }
+{
+    if is_told(tells, order) {
+        write_told(time, path, starts, core, order, printer, out)
+    } else {
+        Ok(())
+    }
+}
+
+/// Appends the lines of those orders that are told, which the core of the supervisor with this path gave at this time.
 #[tactic(auto, unfolding(crate::specs::Story::told_lines))]
 fn write_all(
     time: u64,
     path: &[u8],
+    tells: bool,
+    starts: &[Started],
     core: &Core,
     orders: &[Effect],
     printer: &mut Printer,
     out: &mut Vec<u8>,
 ) -> Result<(), AllocError>
-    ensures { OnOk result (out.new.items ≡ out.old.items ++ told_lines time path.now (state_of core.now).replies orders.now) }
+    ensures { OnOk result (out.new.items ≡ out.old.items ++ told_lines tells time path.now starts.now (state_of core.now).replies orders.now) }
 {
     for order in orders {
-        write_told(time, path, core, order, printer, out)?;
+        write_line_if(time, path, tells, starts, core, order, printer, out)?;
     }
     Ok(())
 }
 
-/// Appends the lines of the orders of a core that were not cleared, given at this time.
+/// Appends the lines of the orders of a core that were not cleared, given at this time: of all, or of its end alone. Before,
+/// it had ordered these starts.
 pub(crate) fn tell(
     time: u64,
     path: &[u8],
+    tells: bool,
+    starts: &[Started],
     core: &Core,
     printer: &mut Printer,
     out: &mut Vec<u8>,
 ) -> Result<(), AllocError>
-    ensures { OnOk result (out.new.items ≡ out.old.items ++ told_lines time path.now (state_of core.now).replies core.now.effects) }
+    ensures { OnOk result (out.new.items ≡ out.old.items ++ told_lines tells time path.now starts.now (state_of core.now).replies core.now.effects) }
 {
-    write_all(time, path, core, core.effects(), printer, out)
+    write_all(
+        time,
+        path,
+        tells,
+        starts,
+        core,
+        core.effects(),
+        printer,
+        out,
+    )
 }

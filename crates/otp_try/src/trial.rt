@@ -73,8 +73,7 @@ impl ActionEnd {
             ActionEnd::NoChild => "ignored: there is no such child; say which to list the children",
             ActionEnd::TooLate =>
                 "ignored: that time has gone by; +TIME counts from the line before",
-            ActionEnd::Ended =>
-                "ignored: the supervisor has ended; the line of its end says why (--timeline shows none)",
+            ActionEnd::Ended => "ignored: the supervisor has ended; the line of its end says why",
             ActionEnd::NoIds =>
                 "ignored: children of simple_one_for_one have no ids, so no start of one can be planned",
         }
@@ -113,16 +112,22 @@ impl Model for Trial {
 }
 
 impl Trial {
-    /// A tree whose root was opened, and whose children have started as far as they do.
+    /// A tree whose root was opened, and whose children have started as far as they do. All orders are told, or the ends of
+    /// supervisors alone.
     ///
     /// # Errors
     ///
     /// Where memory is refused.
-    pub fn open(alloc: Global, tree: &TreeSpec, out: &mut Vec<u8>) -> Result<Self, Halt>
-        ensures opened { IfOk result (λ trial. (before : List Seated) × IsPlanted tree.now before × Tells before trial out.old.items out.new.items × Begins 0 (kind.Opened 0) before trial) }
-        ensures told { IfOk result (λ trial. (before : List Seated) × IsPlanted tree.now before × TellsFirst 0 (kind.Opened 0) before trial out.old.items out.new.items) }
+    pub fn open(
+        alloc: Global,
+        tree: &TreeSpec,
+        tells: bool,
+        out: &mut Vec<u8>,
+    ) -> Result<Self, Halt>
+        ensures opened { IfOk result (λ trial. (before : List Seated) × IsPlanted tells tree.now before × Tells before trial out.old.items out.new.items × Begins 0 (kind.Opened 0) before trial) }
+        ensures told { IfOk result (λ trial. (before : List Seated) × IsPlanted tells tree.now before × TellsFirst 0 (kind.Opened 0) before trial out.old.items out.new.items) }
     {
-        let plants = plant(alloc, tree)?;
+        let plants = plant(alloc, tree, tells)?;
         if plants.seats.is_empty() {
             return Err(Halt::OutOfMemory);
         }

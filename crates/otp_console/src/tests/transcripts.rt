@@ -1044,7 +1044,7 @@ line 5: +1s crash db
 4.000 s  ask cache #11
 4.000 s  end shutdown: more than 3 restarts within 10 s: at 1.000 s, 2.000 s, 3.000 s, 4.000 s
 line 6: +1s crash db
-line 6: ignored: the supervisor has ended; the line of its end says why (--timeline shows none)
+line 6: ignored: the supervisor has ended; the line of its end says why
 status 5
 "##,
     ),
@@ -1170,6 +1170,10 @@ status 5
         "try --timeline nested.toml nested_given_up.script",
         "-",
         r##"#N runs as process N, +#N starts, -#N is to end; retry: its start failed
+2.000 s  pool/ end shutdown: more than 1 restart within 10 s: at 1.000 s, 2.000 s
+4.000 s  pool/ end shutdown: more than 1 restart within 10 s: at 3.000 s, 4.000 s
+6.000 s  pool/ end shutdown: more than 1 restart within 10 s: at 5.000 s, 6.000 s
+6.000 s  end shutdown: more than 2 restarts within 60 s: at 2.000 s, 4.000 s, 6.000 s
 line                       start       2       3       4       5       6       7
 seconds                    0.000   1.000   2.000   3.000   4.000   5.000   6.000
 db                            #1      #1      #1      #1      #1      #1       -
@@ -1201,13 +1205,14 @@ status 0
         "try --timeline storm.toml storm_given_up.script",
         "-",
         r##"#N runs as process N, +#N starts, -#N is to end; retry: its start failed
+4.000 s  end shutdown: more than 3 restarts within 10 s: at 1.000 s, 2.000 s, 3.000 s, 4.000 s
 line                       start       2       3       4       5
 seconds                    0.000   1.000   2.000   3.000   4.000
 db                            #1      #4      #7     #10       -
 cache                         #2      #5      #8     #11       -
 web                           #3      #6      #9     #12       -
 restarts in 10 s             0/3     1/3     2/3     3/3       -
-line 6: ignored: the supervisor has ended; the line of its end says why (--timeline shows none)
+line 6: ignored: the supervisor has ended; the line of its end says why
 status 5
 "##,
     ),

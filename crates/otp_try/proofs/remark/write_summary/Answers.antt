@@ -1,12 +1,12 @@
 use Rattle.std.proofs.Common.{◌≡◌, ◌++◌, List, OnOk, subst}
 use Rattle.otp_try.specs.Played.{Seated}
 use Rattle.otp_try.specs.Unused.{unused_text}
-use Rattle.otp_try.proofs.Pages.{some_summary}
+use Rattle.otp_try.proofs.Pages.{some_whole}
 use Rattle.otp_try.proofs.remark.write_summary.Goals as goal
 
 pub returns : goal.returns
 returns c =
-    some_summary c.write_unused.result c.args.trial.now c.in_ok-write_all_standings.ensures.0 c.in_ok-write_all_standings.ensures.1 c.world.result.now.starts.items c.world.result.now.hanging.items
+    some_whole c.write_unused.result c.args.trial.now c.in_ok-write_all_standings.ensures.0 c.in_ok-write_all_standings.ensures.1 c.world.result.now.starts.items c.world.result.now.hanging.items
     c.args.out.now.items c.write_all_standings.new.out.items c.write_unused.new.out.items c.in_ok-write_all_standings.ensures.2
     (subst (λ (s : List Seated). OnOk c.write_unused.result (c.write_unused.new.out.items ≡ c.write_all_standings.new.out.items ++ unused_text s c.world.result.now.starts.items c.world.result.now.hanging.items))
     c.seats.ensures c.write_unused.ensures)

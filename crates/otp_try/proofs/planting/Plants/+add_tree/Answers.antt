@@ -16,7 +16,7 @@ loop-number-preserved t c =
     let is : get_or trees number tree ≡ tree = sym c.index-trees-number.is in
     let more : take (number + 1) trees ≡ take number trees ++ tree ∷ [] =
     ap (λ (n : ℕ). take n trees) next ∙ take-suc trees number tree c.loop-number-test.true ∙ ap (λ (x : Tree). take number trees ++ x ∷ []) is in
-    subst (λ (ts : List Table). AddsTables ts c.add.new.self.seats.items c.add_tree.new.self.seats.items)
+    subst (λ (ts : List Table). AddsTables c.args.tells ts c.add.new.self.seats.items c.add_tree.new.self.seats.items)
     (sym (ap (λ (xs : List Tree). flat_map tables_of xs) more ∙ tables_more (take number trees) tree))
-    (adds-then c.as_slice.result.now tree (flat_map tables_of (take number trees)) c.add.new.self.seats.items c.loop-number.self.seats.items c.add_tree.new.self.seats.items
+    (adds-then c.args.tells c.as_slice.result.now tree (flat_map tables_of (take number trees)) c.add.new.self.seats.items c.loop-number.self.seats.items c.add_tree.new.self.seats.items
     c.loop-number.invariant c.in_ok-add_tree.ensures)

@@ -9,4 +9,4 @@ decreases-add_tree l = l.levels
 
 abbrev pub invariant-loop-number : goal.invariant-loop-number
 invariant-loop-number l =
-    AddsTables (flat_map tables_of (take l.number l.trees)) l.initial.self.seats.items l.self.seats.items
+    AddsTables l.tells (flat_map tables_of (take l.number l.trees)) l.initial.self.seats.items l.self.seats.items

@@ -3,4 +3,4 @@ use Rattle.otp_try.proofs.Pieces.{adds_nothing}
 use Rattle.otp_try.proofs.play.Play.refuse.Goals as goal
 
 pub returns-then-eq : goal.returns-then-eq
-returns-then-eq c = (c.args.self.now.trial, adds_nothing c.args.settings.tells c.args.self.now.trial c.args.self.now.trial c.args.self.now.page.items c.args.self.now.page.items refl refl)
+returns-then-eq c = (c.args.self.now.trial, adds_nothing c.args.self.now.trial c.args.self.now.trial c.args.self.now.page.items c.args.self.now.page.items refl refl)

@@ -1,6 +1,6 @@
 use Rattle.std.proofs.Common.{List, ap, refl}
 use Rattle.otp_try.specs.Page.{remark_text}
-use Rattle.otp_try.specs.Page.Remark.{Fault, Help, Legend, Prompt, Welcome}
+use Rattle.otp_try.specs.Page.Remark.{Farewell, Fault, Help, Legend, Prompt, Welcome}
 use Rattle.otp_try.specs.Played.{Seated}
 use Rattle.otp_try.specs.Prompt.{prompt_text}
 use Rattle.otp_try.specs.declared.play.Writer.TheVariants as writer
@@ -28,3 +28,7 @@ unfolding remark_text
 returns-in-Prompt c =
     some_remark c.write_prompt.result c.args.trial.now c.args.out.now.items c.write_prompt.new.out.items (prompt_text writer.Person c.seats.result.now c.time.result)
     (Prompt writer.Person c.time.result) (ap (λ (s : List Seated). prompt_text writer.Person s c.time.result) c.seats.ensures) c.write_prompt.ensures
+
+pub returns-in-Farewell : goal.returns-in-Farewell
+unfolding remark_text
+returns-in-Farewell c = some_remark c.write_farewell.result c.args.trial.now c.args.out.now.items c.write_farewell.new.out.items _ Farewell refl c.write_farewell.ensures
