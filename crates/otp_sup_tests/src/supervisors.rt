@@ -276,21 +276,50 @@ fn one_child_in<N: WordsNaming + InboxNaming + Send + Sync, R: Wait + Abort>(
     let (own, second, third) = bodies;
     let mut one = make_driven::<N, Body>(alloc, words, inbox, own)?;
     crosses_threads(&one);
+    opens_under_its_number(rt, &mut one);
+    crashes_once(rt, &mut one, Reason::Error(x), second);
+    is_stopped(rt, &mut one, third);
+    opens_again(rt, &mut one);
+    Ok(())
+}
+
+// It opens under its number, and its child starts; a turn under another number is refused.
+fn opens_under_its_number<N: WordsNaming + InboxNaming, R: Wait + Abort>(
+    rt: &R,
+    one: &mut Driven<N, Body>,
+) {
     assert_eq!(rt; one.turn(rt, 0, 0, Signal::None), Ok(TurnAnswer::Opened));
-    assert_eq!(rt; launched(rt, &mut one, 0), Some((1, 0, 6)));
+    assert_eq!(rt; launched(rt, one, 0), Some((1, 0, 6)));
     assert_eq!(rt; one.turn(rt, 0, 0, Signal::None), Ok(TurnAnswer::Quiet));
     assert_eq!(rt;
         one.turn(rt, 3, 0, Signal::None),
         Err(TurnFault::WrongNumber)
     );
     one.up(rt, 1);
-    assert_eq!(rt; one.turn(rt, 0, 0, Signal::None), Ok(TurnAnswer::Took));
-    assert_eq!(rt; told(rt, &mut one), Some(Note::Up(0)));
-    one.exit(rt, 1, Reason::Error(x), second);
+    takes(rt, one);
+    assert_eq!(rt; told(rt, one), Some(Note::Up(0)));
+}
+
+// Its child crashes, and is restarted with the body that came home.
+fn crashes_once<N: WordsNaming + InboxNaming, R: Wait + Abort>(
+    rt: &R,
+    one: &mut Driven<N, Body>,
+    reason: Reason,
+    body: Body,
+) {
+    one.exit(rt, 1, reason, body);
     assert_eq!(rt; one.turn(rt, 0, 1000, Signal::None), Ok(TurnAnswer::Took));
-    assert_eq!(rt; launched(rt, &mut one, 0), Some((2, 0, 7)));
+    assert_eq!(rt; launched(rt, one, 0), Some((2, 0, 7)));
     one.up(rt, 2);
     assert_eq!(rt; one.turn(rt, 0, 1000, Signal::None), Ok(TurnAnswer::Took));
+}
+
+// It is asked to stop, asks its child, kills it at the deadline, and ends.
+fn is_stopped<N: WordsNaming + InboxNaming, R: Wait + Abort>(
+    rt: &R,
+    one: &mut Driven<N, Body>,
+    body: Body,
+) {
     assert_eq!(rt; one.signal(rt, 2), Signal::None);
     assert_eq!(rt;
         one.turn(rt, 0, 1000, Signal::Shutdown),
@@ -299,16 +328,18 @@ fn one_child_in<N: WordsNaming + InboxNaming + Send + Sync, R: Wait + Abort>(
     assert_eq!(rt; one.signal(rt, 2), Signal::Shutdown);
     assert_eq!(rt; one.turn(rt, 0, 6000, Signal::None), Ok(TurnAnswer::Ticked));
     assert_eq!(rt; one.signal(rt, 2), Signal::Kill);
-    one.exit(rt, 2, Reason::Killed, third);
+    one.exit(rt, 2, Reason::Killed, body);
     assert_eq!(rt; one.turn(rt, 0, 6000, Signal::None), Ok(TurnAnswer::Took));
-    assert_eq!(rt; told(rt, &mut one), Some(Note::Exit(0, Reason::Shutdown)));
+    assert_eq!(rt; told(rt, one), Some(Note::Exit(0, Reason::Shutdown)));
     assert_eq!(rt; one.turn(rt, 0, 6000, Signal::None), Ok(TurnAnswer::Ended));
-    // Under a greater number it opens again, with the body that came home.
+}
+
+// Under a greater number it opens again, with the body that came home.
+fn opens_again<N: WordsNaming + InboxNaming, R: Wait + Abort>(rt: &R, one: &mut Driven<N, Body>) {
     assert_eq!(rt; one.turn(rt, 9, 6000, Signal::None), Ok(TurnAnswer::Opened));
-    assert_eq!(rt; launched(rt, &mut one, 9), Some((3, 0, 8)));
+    assert_eq!(rt; launched(rt, one, 9), Some((3, 0, 8)));
     assert_eq!(rt; one.turn(rt, 0, 6000, Signal::None), Ok(TurnAnswer::Ended));
     assert!(rt; one.port.notes.is_empty());
-    Ok(())
 }
 
 #[test]
