@@ -20,4 +20,5 @@ all_idle count schedulers all = each_at (λ k s. s ≡ opened count k) IsIdle sc
   index = ap (λ (s : SchedulerState). s.own.index) is;
   none_out = ap out is ∙ opened_out count j;
   none_begun = ap (λ (s : SchedulerState). s.begun) is;
+  none_ended = ap (λ (s : SchedulerState). s.ended) is;
 })

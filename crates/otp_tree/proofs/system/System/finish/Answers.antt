@@ -20,4 +20,5 @@ returns-in-Ok-clause-report g c =
         left = omega (arith, total.live_is, length-map report.processes.items ticket_of);
       };
       starts = e.starts;
+      ends = e.ends;
     }
