@@ -5,7 +5,6 @@ use Rattle.std.proofs.lemmas.List.Sums.{sum_by-append, sum_by-cons, sum_by-set, 
 use Rattle.otp_inbox.specs.Lists.{AsOften, together}
 use Rattle.otp_inbox.specs.Tokens.{SenderState, all_sent, first_sender, sent_lists}
 use Rattle.otp_rules.specs.declared.event.Item.{Item}
-use Rattle.otp_run.proofs.Places.{each_at, map-append}
 use Rattle.otp_run.specs.Gathers.{ended_of}
 use Rattle.otp_run.specs.Lists.{AllAt}
 use Rattle.otp_run.specs.Schedulers.{SchedulerState}

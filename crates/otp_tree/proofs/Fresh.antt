@@ -1,5 +1,5 @@
 -- A scheduler that was just opened has done nothing.
-use Rattle.std.proofs.Common.{◌≡◌, ℕ, ◌+◌, ◌-◌, List, [], ◌∷◌, length, map, refl, ap, ◌∙◌, arith}
+use Rattle.std.proofs.Common.{◌≡◌, ℕ, ◌-◌, List, [], ◌∷◌, length, map, refl, ap, ◌∙◌}
 use Rattle.otp_run.specs.Deques.{fresh_victim, stolen}
 use Rattle.otp_run.specs.Opens.{opened}
 use Rattle.otp_run.specs.Lists.{AllAt}

@@ -1,5 +1,5 @@
 -- How the inboxes of a tree are emptied. (own)
-use Rattle.std.specs.Prelude.{◌≡◌, ℕ, ◌+◌, ◌≤◌, List, [], ◌++◌, Option, MatchOption, IfSome, length, map, slice_get, min, vec_capacity}
+use Rattle.std.specs.Prelude.{◌≡◌, ℕ, ◌+◌, ◌≤◌, List, [], ◌++◌, Option, MatchOption, IfSome, length, slice_get, min, vec_capacity}
 use Rattle.otp_inbox.specs.Tokens.{SenderState, TakerState, all_parts, all_sent, plus, sent_lists}
 use Rattle.otp_rules.specs.declared.event.Item.{Item}
 use Rattle.otp_run.specs.Lists.{AllAt}

@@ -1,8 +1,8 @@
-use Rattle.std.proofs.Common.{◌≡◌, ◌+◌, ◌-◌, ◌^◌, ◌<◌, ◌∷◌, ◌++◌, List, length, map, min, sym, ap, ◌∙◌, subst, arith}
-use Rattle.std.specs.Prelude.{IfSome, MatchOption, Some, sum_by}
+use Rattle.std.proofs.Common.{◌≡◌, ◌-◌, ◌^◌, ◌∷◌, ◌++◌, length, map, min, sym, ap, ◌∙◌, subst, arith}
+use Rattle.std.specs.Prelude.{IfSome, MatchOption, sum_by}
 use Rattle.otp_inbox.specs.Lists.{AsOften}
 use Rattle.otp_inbox.specs.declared.rule.Shares.{Shares}
-use Rattle.otp_inbox.specs.Tokens.{TakerState, all_sent, no_shares}
+use Rattle.otp_inbox.specs.Tokens.{TakerState, no_shares}
 use Rattle.otp_rules.specs.declared.event.Item.{Item}
 use Rattle.std.proofs.lemmas.List.Sums.{sum_by-append, sum_by_push}
 use Rattle.otp_tree.specs.Begun.{starts_credited}

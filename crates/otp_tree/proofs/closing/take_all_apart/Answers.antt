@@ -1,11 +1,9 @@
-use Rattle.std.proofs.Common.{◌≡◌, ◌+◌, ◌<◌, ◌∷◌, ◌++◌, drop, length, sym, ap, ◌∙◌, subst, arith}
-use Rattle.std.specs.Prelude.{MatchOption, slice_get}
+use Rattle.std.proofs.Common.{drop, length, sym, ap, ◌∙◌, subst, arith}
 use Rattle.otp_inbox.specs.Lists.{AsOften}
 use Rattle.otp_run.specs.Lists.{AllAt}
 use Rattle.otp_run.proofs.Places.{push_at}
 use Rattle.otp_tree.specs.Closes.{HasBegun, HasTold}
 use Rattle.otp_tree.specs.Leavings.{HasUnsent, line_of, sent_at, sent_in}
-use Rattle.otp_tree.specs.Settlings.{IsReady}
 use Rattle.otp_tree.proofs.Apart.{all-more, length-more, seen-more, apart-more}
 use Rattle.otp_tree.proofs.Settlings.{all_ready, more_next, next_at, next_behind, room_ready, sender_ready}
 use Rattle.otp_tree.proofs.Begun.{apart_starts, none_left}

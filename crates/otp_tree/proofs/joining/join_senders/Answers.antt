@@ -1,8 +1,8 @@
-use Rattle.std.proofs.Common.{◌≡◌, ◌+◌, ◌<◌, ◌≤◌, ◌∷◌, ◌++◌, [], length, set, sym, ap, ◌∙◌, subst, arith, append_assoc, length-append}
+use Rattle.std.proofs.Common.{◌≡◌, ◌∷◌, ◌++◌, [], length, set, sym, ap, ◌∙◌, subst, arith, append_assoc, length-append}
 use Rattle.std.proofs.lemmas.List.Sums.{sum_by_push}
 use Rattle.otp_tree.specs.Ended.{end_share}
 use Rattle.otp_tree.proofs.Begun.{starts_push}
-use Rattle.std.specs.Prelude.{Some, slice_get}
+use Rattle.std.specs.Prelude.{slice_get}
 use Rattle.otp_run.specs.Lists.{AllAt}
 use Rattle.otp_tree.specs.Seats.{Seated}
 use Rattle.otp_tree.specs.Settlings.{IsJoined, with_sender}
