@@ -1,7 +1,7 @@
 -- Starts that were credited to senders, and processes that began.
-use Rattle.std.proofs.Common.{◌≡◌, ℕ, zero, suc, ◌+◌, ◌<◌, ◌≤◌, List, [], ◌∷◌, ◌++◌, Option, Some, None, drop, length, map, set, refl, sym, ap, ◌∙◌, subst, arith, rules}
+use Rattle.std.proofs.Common.{◌≡◌, ℕ, zero, suc, ◌+◌, ◌<◌, List, [], ◌∷◌, ◌++◌, drop, length, map, refl, sym, ap, ◌∙◌, subst, arith}
 use Rattle.std.specs.Prelude.{sum_by}
-use Rattle.std.proofs.lemmas.List.Sums.{sum_by-append, sum_by-cons}
+use Rattle.std.proofs.lemmas.List.Sums.{sum_by-append, sum_by-cons, sum_by_push}
 use Rattle.otp_inbox.specs.Tokens.{SenderState}
 use Rattle.otp_rules.specs.declared.event.Item.{Item}
 use Rattle.otp_inbox.specs.Tokens.{first_sender}
@@ -21,24 +21,25 @@ use Rattle.otp_tree.specs.Settlings.{senders_in}
 pub starts_push : (xs : List (SenderState Item)) (x : SenderState Item) → starts_credited (xs ++ x ∷ []) ≡ starts_credited xs + start_share x
 starts_push xs x = let all = sum_by-append start_share xs (x ∷ []) in let one = sum_by-cons start_share x [] in omega (arith, all, one)
 
-pub credited_push : {N J S : Type 0} (rs : List (Rest N J S)) (r : Rest N J S) → sum_by starts_credited (map senders_in (rs ++ r ∷ [])) ≡ sum_by starts_credited (map senders_in rs) + starts_credited r.senders
-credited_push rs r =
-    let all = ap (sum_by starts_credited) (map-append senders_in rs (r ∷ [])) in
-    let both = sum_by-append starts_credited (map senders_in rs) (r.senders ∷ []) in
-    let one = sum_by-cons starts_credited r.senders [] in
-    omega (arith, all, both, one)
+-- and the senders of one hand more
+pub hand_push : {N J S : Type 0} (f : List (SenderState Item) → ℕ) (rs : List (Rest N J S)) (r : Rest N J S) → sum_by f (map senders_in (rs ++ r ∷ [])) ≡ sum_by f (map senders_in rs) + f r.senders
+hand_push f rs r = ap (sum_by f) (map-append senders_in rs (r ∷ [])) ∙ sum_by_push f (map senders_in rs) r.senders
 
--- the first senders were credited with nothing
-pub none_credited : (xs : List (SenderState Item)) → AllAt (λ k s. s ≡ first_sender k) xs → starts_credited xs ≡ 0
-none_credited xs all = none xs (each_at (λ k s. s ≡ first_sender k) (λ k s. start_share s ≡ 0) xs all (λ j x within is. ap start_share is))
+-- the first senders have nothing of what no first sender has
+pub none_each : (f : SenderState Item → ℕ) → ((k : ℕ) → f (first_sender k) ≡ 0) → (xs : List (SenderState Item)) → AllAt (λ k s. s ≡ first_sender k) xs → sum_by f xs ≡ 0
+none_each f none xs all = add_up xs (each_at (λ k s. s ≡ first_sender k) (λ k s. f s ≡ 0) xs all (λ j x within is. ap f is ∙ none j))
   where
-    none : (ys : List (SenderState Item)) → AllAt (λ k s. start_share s ≡ 0) ys → starts_credited ys ≡ 0
-    none [] h = refl
-    none (y ∷ ys) h =
-        let all = sum_by-cons start_share y ys in
+    add_up : (ys : List (SenderState Item)) → AllAt (λ k s. f s ≡ 0) ys → sum_by f ys ≡ 0
+    add_up [] h = refl
+    add_up (y ∷ ys) h =
+        let all = sum_by-cons f y ys in
         let first = h 0 in
-        let rest = none ys (λ k. h (suc k)) in
+        let rest = add_up ys (λ k. h (suc k)) in
         omega (arith, all, first, rest)
+
+-- they were credited with nothing
+pub none_credited : (xs : List (SenderState Item)) → AllAt (λ k s. s ≡ first_sender k) xs → starts_credited xs ≡ 0
+none_credited xs all = none_each start_share (λ k. refl) xs all
 
 -- hands that reach as far as the client
 

@@ -1,5 +1,5 @@
 -- A scheduler that was just opened has done nothing.
-use Rattle.std.proofs.Common.{◌≡◌, ℕ, ◌+◌, ◌-◌, List, [], ◌∷◌, length, map, refl, ap, ◌∙◌, arith}
+use Rattle.std.proofs.Common.{◌≡◌, ℕ, ◌-◌, List, [], ◌∷◌, length, map, refl, ap, ◌∙◌}
 use Rattle.otp_run.specs.Deques.{fresh_victim, stolen}
 use Rattle.otp_run.specs.Opens.{opened}
 use Rattle.otp_run.specs.Lists.{AllAt}
@@ -20,4 +20,5 @@ all_idle count schedulers all = each_at (λ k s. s ≡ opened count k) IsIdle sc
   index = ap (λ (s : SchedulerState). s.own.index) is;
   none_out = ap out is ∙ opened_out count j;
   none_begun = ap (λ (s : SchedulerState). s.begun) is;
+  none_ended = ap (λ (s : SchedulerState). s.ended) is;
 })

@@ -37,7 +37,7 @@ module _ {P : Type 0} where
   together-append [] yss = refl
   together-append (xs ∷ xss) yss = ap (λ l. xs ++ l) (together-append xss yss) ∙ sym (append_assoc xs (together xss) (together yss))
 
-sent_joined : (x s : SenderState Item) → all_sent (with_sender x s) ≡ all_sent s ++ all_sent x
+pub sent_joined : (x s : SenderState Item) → all_sent (with_sender x s) ≡ all_sent s ++ all_sent x
 sent_joined x s = ap (λ l. s.sent ++ l) (together-append s.joined (sent_lists x)) ∙ sym (append_assoc s.sent (together s.joined) (all_sent x))
 
 -- nothing was joined yet

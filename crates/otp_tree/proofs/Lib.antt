@@ -10,3 +10,4 @@ pub mod There
 pub mod Leavings
 pub mod Settlings
 pub mod Begun
+pub mod Ended

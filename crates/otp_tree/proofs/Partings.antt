@@ -1,5 +1,5 @@
 -- Hands that are parted and joined again.
-use Rattle.std.proofs.Common.{◌≡◌, ℕ, zero, suc, ◌+◌, ◌<◌, List, [], ◌∷◌, ◌++◌, length, map, refl, sym, ap, ◌∙◌, subst, arith, append_assoc}
+use Rattle.std.proofs.Common.{◌≡◌, ℕ, zero, suc, ◌<◌, List, [], ◌∷◌, ◌++◌, length, map, refl, sym, ap, ◌∙◌, subst, arith, append_assoc}
 use Rattle.std.proofs.lemmas.List.{append-nil}
 use Rattle.otp_run.specs.Schedulers.{SchedulerState}
 use Rattle.otp_tree.specs.declared.parting.Rest.{Rest}
@@ -7,6 +7,7 @@ use Rattle.otp_counts.specs.Counts.{Reading}
 use Rattle.otp_inbox.specs.Tokens.{SenderState}
 use Rattle.otp_rules.specs.declared.event.Item.{Item}
 use Rattle.otp_tree.specs.Begun.{HasCredited}
+use Rattle.otp_tree.specs.Ended.{HasEnded}
 use Rattle.otp_tree.specs.Hands.{HandView, RunnerView, senders_of}
 use Rattle.otp_tree.specs.Partings.{hand_of, joined, ArePaired, IsPair, schedulers_of}
 use Rattle.otp_tree.specs.Settlings.{senders_in}
@@ -26,6 +27,9 @@ module _ {J S : Type 0} where
 
   pub credited_by : (v w : RunnerView J S) (senders : List (SenderState Item)) → v ≡ w → HasCredited w.scheduler senders → HasCredited v.scheduler senders
   credited_by v w senders is credited = subst (λ (r : RunnerView J S). HasCredited r.scheduler senders) (sym is) credited
+
+  pub ended_by : (v w : RunnerView J S) (senders : List (SenderState Item)) → v ≡ w → HasEnded w.scheduler senders w.unsent → HasEnded v.scheduler senders v.unsent
+  ended_by v w senders is ended = subst (λ (r : RunnerView J S). HasEnded r.scheduler senders r.unsent) (sym is) ended
 
 module _ {N J S : Type 0} where
   pub joined-push : (ss : List SchedulerState) (rs : List (Rest N J S)) (s : SchedulerState) (r : Rest N J S) → length ss ≡ length rs → joined (ss ++ s ∷ []) (rs ++ r ∷ []) ≡ joined ss rs ++ hand_of s r ∷ []

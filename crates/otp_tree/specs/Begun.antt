@@ -1,9 +1,9 @@
 -- How many processes began in a hand, and how many starts were credited to its senders. (own)
-use Rattle.std.specs.Prelude.{◌≡◌, ℕ, ◌+◌, ◌-◌, List, [], ◌∷◌, zero, suc, length, sum_by}
+use Rattle.std.specs.Prelude.{◌≡◌, ℕ, ◌+◌, List, zero, suc, length, sum_by}
 use Rattle.otp_inbox.specs.Tokens.{SenderState}
 use Rattle.otp_rules.specs.declared.event.Item.{Item}
 use Rattle.otp_rules.specs.Needs.{numbers_of}
-use Rattle.otp_run.specs.Schedulers.{SchedulerState, given_back, out, puts}
+use Rattle.otp_run.specs.Schedulers.{SchedulerState, out}
 use Rattle.otp_tree.specs.declared.report.Report.{Report}
 use Rattle.otp_tree.specs.declared.report.TableReport.{TableReport}
 
@@ -27,10 +27,6 @@ HasCredited s senders = s.begun ≡ root_at s.own.index + starts_credited sender
 abbrev pub NoneBegan : SchedulerState → SchedulerState → Type 0
 NoneBegan old new = (new.begun ≡ old.begun) × (new.own.index ≡ old.own.index)
 
--- what a new process that is put doesn't change: the scheduler's place, and by how much what it put and what began differ
-abbrev pub beside_of : SchedulerState → List ℕ
-beside_of s = s.own.index ∷ given_back s ∷ (s.begun - length (puts s)) ∷ []
-
 -- the starts of a supervisor's history, and those of them that were still to be sent
 abbrev pub starts_of : TableReport → ℕ
 starts_of t = length (numbers_of t.core.history)
@@ -47,8 +43,10 @@ pub record IsIdle (place : ℕ) (s : SchedulerState) : Type 0 where
   pub index : s.own.index ≡ place
   pub none_out : out s ≡ 0
   pub none_begun : s.begun ≡ 0
+  pub none_ended : s.ended ≡ 0
 
--- nothing is out, and nothing began but the root's process, at the first scheduler
+-- nothing is out, nothing has ended, and nothing began but the root's process, at the first scheduler
 pub record HasRootOnly (s : SchedulerState) : Type 0 where
   pub none_out : out s ≡ 0
   pub begun : s.begun ≡ root_at s.own.index
+  pub none_ended : s.ended ≡ 0

@@ -7,7 +7,6 @@ use Rattle.otp_rules.specs.declared.call.Call.{Call}
 use Rattle.otp_rules.specs.declared.call.Call.TheVariants as call
 use Rattle.otp_rules.specs.declared.event.Item.{Item}
 use Rattle.otp_rules.specs.declared.event.Item.TheVariants as item
-use Rattle.otp_rules.specs.Homes.{is_start_call}
 use Rattle.otp_signals.specs.Holdings.{after_draw}
 use Rattle.otp_spec.specs.declared.child.ChildType.{ChildType}
 use Rattle.otp_spec.specs.declared.child.ChildType.TheVariants as kind

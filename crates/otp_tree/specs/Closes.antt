@@ -18,6 +18,7 @@ use Rattle.otp_tree.specs.declared.whole.RunFault.{RunFault}
 use Rattle.otp_tree.specs.declared.whole.RunFault.TheVariants as run
 use Rattle.otp_tree.specs.declared.report.TableReport.{TableReport}
 use Rattle.otp_tree.specs.Begun.{HasAllStarts}
+use Rattle.otp_tree.specs.Ended.{HasAllEnds}
 use Rattle.otp_tree.specs.Hands.{HandView, ClientView, SystemView, senders_of}
 use Rattle.otp_tree.specs.Leavings.{HasUnsent}
 use Rattle.otp_tree.specs.Partings.{schedulers_of}
@@ -103,6 +104,9 @@ module _ {J S : Type 0} where
     pub processes : IsBalanced report
     -- what began is the root's process, and those whose starts were sent
     pub starts : HasAllStarts report
+    -- as many ended as end notes are among what the supervisors took and left, were told whoever opened the tree, or were still
+    -- to be sent
+    pub ends : HasAllEnds report
 
   -- a mismatch of a tree that was run whole is that of an event of its report
   abbrev pub IsRunMismatchOnly : RunFault J S → Type 0

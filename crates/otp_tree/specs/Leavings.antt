@@ -1,7 +1,7 @@
 -- What was sent to the inboxes of a tree, and what is left in them at its close. (own)
-use Rattle.std.specs.Prelude.{◌≡◌, ℕ, ◌+◌, ◌≤◌, List, [], ◌++◌, Option, Some, None, MatchOption, length, map, slice_get, min, vec_capacity}
+use Rattle.std.specs.Prelude.{◌≡◌, ℕ, ◌≤◌, List, [], ◌++◌, Option, Some, None, MatchOption, length, map, slice_get}
 use Rattle.otp_inbox.specs.Lists.{AsOften, together}
-use Rattle.otp_inbox.specs.Tokens.{SenderState, TakerState, all_parts, all_sent}
+use Rattle.otp_inbox.specs.Tokens.{SenderState, TakerState, all_sent}
 use Rattle.otp_rules.specs.declared.event.Effect.{Effect}
 use Rattle.otp_rules.specs.declared.event.Item.{Item}
 use Rattle.otp_run.specs.Lists.{AllAt}

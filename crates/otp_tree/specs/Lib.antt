@@ -8,6 +8,7 @@ pub mod Sendings
 pub mod Tellings
 pub mod Waitings
 pub mod Begun
+pub mod Ended
 pub mod Closes
 pub mod Gathers
 pub mod Readings

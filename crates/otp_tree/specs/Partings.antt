@@ -3,6 +3,7 @@ use Rattle.std.specs.Prelude.{◌≡◌, ◌+◌, ⊤, List, [], ◌∷◌, leng
 use Rattle.otp_run.specs.Schedulers.{SchedulerState, out}
 use Rattle.otp_tree.specs.declared.parting.Rest.{Rest}
 use Rattle.otp_tree.specs.Begun.{HasCredited}
+use Rattle.otp_tree.specs.Ended.{HasEnded}
 use Rattle.otp_tree.specs.Hands.{HandView, one_if}
 
 module _ {J S : Type 0} where
@@ -24,10 +25,12 @@ module _ {N J S : Type 0} where
   joined (s ∷ ss) [] = []
   joined (s ∷ ss) (r ∷ rs) = hand_of s r ∷ joined ss rs
 
-  -- a scheduler and the rest are a hand: out are the processes that the rest has, and what began was credited to its senders
+  -- a scheduler and the rest are a hand: out are the processes that the rest has, what began was credited to its senders, and
+  -- the notes of what ended were sent, or are still to be sent
   pub record IsPair (s : SchedulerState) (r : Rest N J S) : Type 0 where
     pub out_is : out s ≡ one_if (is_some r.turning) + length r.waiting + length r.resting
     pub credited : HasCredited s r.senders
+    pub ended : HasEnded s r.senders r.unsent
 
   -- each scheduler has its rest
   abbrev pub ArePaired : List SchedulerState → List (Rest N J S) → Type 0

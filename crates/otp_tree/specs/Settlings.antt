@@ -1,5 +1,5 @@
 -- How the inboxes of a tree are emptied. (own)
-use Rattle.std.specs.Prelude.{◌≡◌, ℕ, ◌+◌, ◌≤◌, List, [], ◌++◌, Option, MatchOption, IfSome, length, map, slice_get, min, vec_capacity}
+use Rattle.std.specs.Prelude.{◌≡◌, ℕ, ◌+◌, ◌≤◌, List, [], ◌++◌, Option, MatchOption, IfSome, length, slice_get, min, vec_capacity}
 use Rattle.otp_inbox.specs.Tokens.{SenderState, TakerState, all_parts, all_sent, plus, sent_lists}
 use Rattle.otp_rules.specs.declared.event.Item.{Item}
 use Rattle.otp_run.specs.Lists.{AllAt}
@@ -7,6 +7,7 @@ use Rattle.otp_sup.specs.Facts.{UnlockedView}
 use Rattle.otp_tree.specs.declared.parting.Rest.{Rest}
 use Rattle.otp_tree.specs.declared.rooms.LeftRoom.{LeftRoom}
 use Rattle.otp_tree.specs.declared.unlocking.Loose.{Loose}
+use Rattle.otp_tree.specs.Ended.{ends_held}
 use Rattle.otp_tree.specs.Hands.{ClientView}
 use Rattle.otp_tree.specs.Leavings.{sent_at, sent_to}
 use Rattle.otp_tree.specs.Sendings.{parts_at, parts_to}
@@ -30,6 +31,10 @@ IsWhole all k s = (all_sent s ≡ sent_to k all) × (s.parts ≡ all_parts)
 module _ {N J S : Type 0} where
   abbrev pub senders_in : Rest N J S → List (SenderState Item)
   senders_in r = r.senders
+
+  -- the end note that was still to be sent
+  abbrev pub held_in : Rest N J S → ℕ
+  held_in r = ends_held r.unsent
 
 module _ {B : Type 0} where
   -- room for what is left where so many items were sent and so many taken

@@ -15,7 +15,7 @@ use otp_sup::Letter;
 use std::marker::Model;
 
 /// What a user of the tree needs: numbers for calls, a sender to each supervisor, and the first client's right to stop
-/// the root.
+/// the root. It sends no note of an end.
 #[derive(Drop)]
 pub struct Client<N: WordsNaming + InboxNaming, B: Drop> {
     pub(crate) owner: Owner<N>,
@@ -24,19 +24,22 @@ pub struct Client<N: WordsNaming + InboxNaming, B: Drop> {
     pub(crate) root: Option<u64>,
     /// What the first client takes the root's notes by.
     pub(crate) waiter: Option<Taker<N, Item, Letter<B>>>,
+    /// How many ends of the root it took by that.
+    pub(crate) heard: u64,
 }
 
 impl<N: WordsNaming + InboxNaming, B: Drop> Model for Client<N, B> {
     ghost use Rattle.std.specs.Prelude.{◌≡◌, Contains, IfSome};
     ghost use Rattle.otp_inbox.specs.Tokens.{no_shares};
     ghost use Rattle.otp_tree.specs.Begun.{starts_credited};
+    ghost use Rattle.otp_tree.specs.Ended.{CountsHeard, ends_sent};
     ghost use Rattle.otp_tree.specs.Hands.{ClientView};
 
     ghost Value = { ClientView };
 
     ghost view = { λ c. record { owner = c.owner; senders = c.senders; root = c.root; waiter = c.waiter } };
 
-    ghost invariant = { λ c. IfSome c.root (λ number. Contains c.owner.slots 0 × Contains c.owner.drawn number) × (starts_credited c.senders ≡ 0) × IfSome c.waiter (λ w. w.given ≡ no_shares) };
+    ghost invariant = { λ c. IfSome c.root (λ number. Contains c.owner.slots 0 × Contains c.owner.drawn number) × (starts_credited c.senders ≡ 0) × IfSome c.waiter (λ w. w.given ≡ no_shares) × (ends_sent c.senders ≡ 0) × IfSome c.waiter (CountsHeard c.heard) };
 }
 
 impl<N: WordsNaming + InboxNaming, B: Drop> Client<N, B> {

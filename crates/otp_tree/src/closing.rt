@@ -8,17 +8,18 @@ ghost use Rattle.otp_run.specs.Rule.{ticket_of};
 ghost use Rattle.otp_run.specs.Lists.{AllAt};
 ghost use Rattle.otp_signals.specs.Lists.{AllIn, NoneInBoth};
 ghost use Rattle.otp_tree.specs.Begun.{HasAllStarts, starts_credited, starts_of, unsent_of};
+ghost use Rattle.otp_tree.specs.Ended.{HasAllEnds, HasHeard, ends_of, ends_sent, held_by};
 ghost use Rattle.otp_tree.specs.Closes.{AreApart, HasBegun, HasTold, IsAsItWas, IsComplete, IsMismatchOnly, IsMissingOnly, IsReached, IsRefusalOf, IsReportOf, all_senders, kept_in, report_in};
 ghost use Rattle.otp_tree.specs.Leavings.{AreAccounted, HasUnsent, IsLast, line_of, sent_at};
 ghost use Rattle.otp_tree.specs.Partings.{schedulers_of};
-ghost use Rattle.otp_tree.specs.Settlings.{AreReady, IsLoose, IsReady, senders_in};
+ghost use Rattle.otp_tree.specs.Settlings.{AreReady, IsLoose, IsReady, held_in, senders_in};
 ghost use Rattle.otp_tree.specs.Tellings.{AreSo};
 
 use crate::client::Client;
 use crate::complete::is_reached;
 use crate::evidence::Mismatch;
 use crate::hand::Hand;
-use crate::joining::join_all;
+use crate::joining::{Joined, join_all};
 use crate::parting::{Gathered, HandsFault, gather_hands};
 use crate::report::{Report, TableReport};
 use crate::rooms::LeftRoom;
@@ -88,6 +89,10 @@ impl<N: WordsNaming + InboxNaming, J: Drop, S: Drop> System<N, J, S> {
     /// Of each supervisor stands what [`Table::keeps_rules`](otp_sup::Table::keeps_rules) says; and no process number is a child's in
     /// two supervisors (`apart`), since each one's seat comes home to the client's.
     ///
+    /// What began and what ended adds up: as many processes began as starts were sent, and the root's (`starts`), and as many ended
+    /// as notes of ends were made (`ends`): a supervisor took the note or left it, or whoever opened the tree did, or a hand had it
+    /// still to send.
+    ///
     /// # Errors
     ///
     /// [`CloseFault::OutOfMemory`] (E0), [`CloseFault::Missing`] (E20) and [`CloseFault::Misplaced`] are found before
@@ -112,6 +117,11 @@ impl<N: WordsNaming + InboxNaming, J: Drop, S: Drop> System<N, J, S> {
         // What began is the root's process, and those whose starts were sent: of all starts of all histories those that were
         // not still to be sent.
         ensures starts { IfSome (report_in result) (λ report. HasAllStarts report) }
+        // As many ended as notes of ends are among what the supervisors took and left, were told whoever opened the tree, or were
+        // still to be sent.
+        ensures ends { IfSome (report_in result) (λ report. HasAllEnds report) }
+        ensures heard { IfSome (report_in result) (λ report. HasHeard client.waiter report.heard) }
+        ensures held { IfSome (report_in result) (λ report. report.held ≡ sum_by held_by hands.items) }
         // Each core began as a supervisor that was never opened.
         ensures begins { IfSome (report_in result) (λ report. All HasBegun report.tables.items) }
         // Each end of another supervisor that its history was told is for the note's reason, and shown.
@@ -186,6 +196,7 @@ fn report_of<N: WordsNaming + InboxNaming, J: Drop, S: Drop, R: Wait>(
 ) -> Report<J, S>
     requires loose { IsLoose client (client.senders ∷ map senders_in gathered.rests.items) loose }
     requires begun { gathered.total.begun ≡ 1 + sum_by starts_credited (map senders_in gathered.rests.items) }
+    requires ended { gathered.total.ended ≡ sum_by ends_sent (map senders_in gathered.rests.items) + sum_by held_in gathered.rests.items }
     requires reached { IsReached (length loose.sups.items) client (client.senders ∷ map senders_in gathered.rests.items) }
     ensures count { length result.tables.items ≡ length loose.sups.items }
     ensures begins { All HasBegun result.tables.items }
@@ -195,6 +206,9 @@ fn report_of<N: WordsNaming + InboxNaming, J: Drop, S: Drop, R: Wait>(
     ensures last { IsLast (length loose.sups.items) (client.senders ∷ map senders_in gathered.rests.items) client.waiter result.last.items }
     ensures unsent { All HasUnsent result.tables.items }
     ensures starts { HasAllStarts result }
+    ensures ends { HasAllEnds result }
+    ensures heard { HasHeard client.waiter result.heard }
+    ensures held { result.held ≡ sum_by held_in gathered.rests.items }
     ensures live { result.live ≡ gathered.total.live }
     ensures begun { result.begun ≡ gathered.total.begun }
     ensures ended { result.ended ≡ gathered.total.ended }
@@ -221,8 +235,10 @@ fn report_of<N: WordsNaming + InboxNaming, J: Drop, S: Drop, R: Wait>(
         senders,
         root: _,
         waiter,
+        heard,
     } = client;
-    let (senders, sender) = join_all(sups.as_slice(), &outer, senders, rests).into_last();
+    let Joined { senders, held } = join_all(sups.as_slice(), &outer, senders, rests);
+    let (senders, sender) = senders.into_last();
     let Some(waiter) = waiter else { unreachable!() };
     Report {
         tables: take_all_apart(rt, &words, sups, senders, rooms, owner, tables),
@@ -231,6 +247,8 @@ fn report_of<N: WordsNaming + InboxNaming, J: Drop, S: Drop, R: Wait>(
         ended,
         processes: left,
         last: settle(rt, &outer, waiter, sender, room),
+        heard,
+        held,
     }
 }
 
@@ -254,6 +272,7 @@ fn take_all_apart<N: WordsNaming + InboxNaming, B: Drop, R: Wait>(
     ensures left { AllAt (λ k t. AsOften (sent_at k senders.items) (line_of t)) result.items }
     ensures unsent { All HasUnsent result.items }
     ensures starts { starts_credited senders.items + sum_by unsent_of result.items ≡ sum_by starts_of result.items }
+    ensures ends { ends_sent senders.items ≡ sum_by ends_of result.items }
     ensures count { length result.items ≡ length sups.items }
 {
     let mut senders = senders.into_iter();

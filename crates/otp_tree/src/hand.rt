@@ -1,10 +1,11 @@
 //! What one thread needs to serve a tree.
-ghost use Rattle.std.specs.Prelude.{◌≡◌, ◌↔◌, ◌<◌, ◌≤◌, ◌^◌, ◌++◌, ◌∷◌, [], None, Some, is_some, true, false, option_copied, IsTrue, OnErr, OnOk, IfErr, IfNone, IfSome, length};
+ghost use Rattle.std.specs.Prelude.{◌≡◌, ◌↔◌, ◌+◌, ◌<◌, ◌≤◌, ◌^◌, ◌++◌, ◌∷◌, [], None, Some, is_some, true, false, option_copied, IsTrue, OnErr, OnOk, IfErr, IfNone, IfSome, length};
 ghost use Rattle.otp_sup.specs.Ports.{launched, told};
 ghost use Rattle.otp_sup.specs.Letters.{Comes, carries_body};
 ghost use Rattle.otp_rules.specs.declared.event.Item.TheVariants as item;
 ghost use Rattle.otp_spec.specs.declared.limits.TheConstants.{MAX_READING};
 ghost use Rattle.otp_tree.specs.Begun.{NoneBegan};
+ghost use Rattle.otp_tree.specs.Ended.{NoneEnded, end_of, ends_held};
 ghost use Rattle.otp_tree.specs.Readings.{HasRead};
 
 use crate::reading::read_at;
@@ -14,7 +15,7 @@ use crate::waiting::Waiting;
 use otp_bridge::Subsystem;
 use otp_counts::CountsPass;
 use otp_inbox::InboxNaming;
-use otp_job::{After, Body, EndNote, Job, Process, one_turn};
+use otp_job::{After, Body, EndNote, Job, Process, Spent, TableNo, one_turn};
 use otp_reason::Note;
 use otp_rules::{CountsNow, Item, SupEnd};
 use otp_run::{RunNaming, SHARE_LIMIT, Scheduler};
@@ -36,7 +37,7 @@ pub(crate) struct Unsent<J: Drop, S: Drop> {
 /// of each.
 ///
 /// As many processes began at its scheduler as starts were credited to its senders, and one more, the root's, in the first
-/// hand.
+/// hand. As many ended there as its senders sent end notes, and one more where it still has one to send.
 #[derive(Drop)]
 pub struct Hand<N: WordsNaming + InboxNaming + RunNaming, J: Drop, S: Drop> {
     pub(crate) runner: Runner<N, J, S>,
@@ -48,12 +49,13 @@ impl<N: WordsNaming + InboxNaming + RunNaming, J: Drop, S: Drop> Model for Hand<
     ghost use Rattle.std.specs.Prelude.{◌≡◌};
     ghost use Rattle.otp_tree.specs.Hands.{HandView};
     ghost use Rattle.otp_tree.specs.Begun.{HasCredited};
+    ghost use Rattle.otp_tree.specs.Ended.{HasEnded};
 
     ghost Value = { HandView J S };
 
     ghost view = { λ h. record { scheduler = h.runner.scheduler; senders = h.senders; turning = h.runner.turning; waiting = h.runner.waiting; resting = h.runner.resting; unsent = h.runner.unsent; refusals = h.runner.refusals; passes = h.passes.items } };
 
-    ghost invariant = { λ h. HasCredited h.runner.scheduler h.senders };
+    ghost invariant = { λ h. HasCredited h.runner.scheduler h.senders × HasEnded h.runner.scheduler h.senders h.runner.unsent };
 }
 
 /// What a hand runs processes with: a scheduler, and a viewer of the signals. Supervisors give their orders to it.
@@ -88,7 +90,7 @@ impl<N: WordsNaming + RunNaming, J: Drop, S: Drop> Model for Runner<N, J, S> {
 
 impl<N: WordsNaming + RunNaming, J: Drop, S: Drop> Port<Body<J, S>> for Runner<N, J, S> {
     ghost use Rattle.std.specs.Prelude.{map};
-    ghost use Rattle.otp_tree.specs.Begun.{beside_of};
+    ghost use Rattle.otp_tree.specs.Ended.{beside_of};
     ghost use Rattle.otp_tree.specs.Hands.{launched_of, notes_by};
 
     ghost processes = { λ r. map launched_of r.scheduler.own.puts };
@@ -97,7 +99,7 @@ impl<N: WordsNaming + RunNaming, J: Drop, S: Drop> Port<Body<J, S>> for Runner<N
 
     ghost refusals = { λ r. r.refusals };
 
-    ghost beside = { λ r. beside_of r.scheduler };
+    ghost beside = { λ r. beside_of r };
 
     fn put(&mut self, process: NewProcess<Body<J, S>>) -> Result<(), NewProcess<Body<J, S>>>
         ensures took { OnOk result (map launched_of self.new.scheduler.own.puts ≡ map launched_of self.old.scheduler.own.puts ++ launched process.number process.slot (is_some process.body) ∷ []) }
@@ -106,7 +108,7 @@ impl<N: WordsNaming + RunNaming, J: Drop, S: Drop> Port<Body<J, S>> for Runner<N
         ensures counted { OnOk result (self.new.refusals ≡ self.old.refusals) }
         ensures back { IfErr result (λ back. back ≡ process) }
         ensures notes { notes_by self.new ≡ notes_by self.old }
-        ensures beside { beside_of self.new.scheduler ≡ beside_of self.old.scheduler }
+        ensures beside { beside_of self.new ≡ beside_of self.old }
     {
         let NewProcess { number, slot, body } = process;
         let Some(body) = body else {
@@ -136,13 +138,11 @@ impl<N: WordsNaming + RunNaming, J: Drop, S: Drop> Port<Body<J, S>> for Runner<N
         ensures refused { OnErr result (self.old.refusals < self.new.refusals) }
         ensures counted { OnOk result (self.new.refusals ≡ self.old.refusals) }
         ensures processes { map launched_of self.new.scheduler.own.puts ≡ map launched_of self.old.scheduler.own.puts }
-        ensures beside { beside_of self.new.scheduler ≡ beside_of self.old.scheduler }
+        ensures beside { beside_of self.new ≡ beside_of self.old }
     {
-        let alloc = self.alloc;
-        if let (None, Some(process)) = (&self.unsent, &mut self.turning) {
-            if let Some(letter) = letter_of(alloc, note, end, process) {
-                let table = process.table();
-                self.unsent = Some(Unsent { table, letter });
+        if self.unsent.is_none() {
+            if let Some(unsent) = self.letter_of(note, end) {
+                self.unsent = Some(unsent);
                 return Ok(());
             }
         }
@@ -159,25 +159,63 @@ fn nested_in<J: Drop, S: Drop>(turning: &Option<Process<J, S>>) -> usize {
     }
 }
 
-/// The letter that tells a supervisor's parent of its start, or its end with what shows it. With its end its number goes
-/// home; None where that has gone already, or where memory is refused.
-fn letter_of<J: Drop, S: Drop>(
-    alloc: Global,
-    note: Note,
-    end: Option<&SupEnd>,
-    process: &mut Process<J, S>,
-) -> Option<Letter<Body<J, S>>>
-    requires { Comes (item.Note note) (option_copied end) }
-    ensures letter { IfSome result (λ letter. letter.item ≡ item.Note note) }
-    ensures end { IfSome result (λ letter. letter.end ≡ option_copied end.entry) }
-    ensures ticket { process.new.ticket ≡ process.old.ticket }
+/// The number of the supervisor that ran in a process, and what is left of the process: it has ended. A process in which no
+/// supervisor runs comes back.
+fn end_nested<J: Drop, S: Drop>(
+    mut process: Process<J, S>,
+) -> Result<(TableNo, Spent), Process<J, S>>
+    ensures { IfErr result (λ back. back ≡ process) }
 {
-    let end = evidence_of(alloc, note, end).ok()?;
-    let body = match note {
-        Note::Up(_) => None,
-        _ => Some(Body::Sup(process.take_table()?)),
+    let Some(table) = process.take_table() else {
+        return Err(process);
     };
-    Some(Letter::with_end(note, body, end))
+    match process.retire() {
+        Ok(spent) => Ok((table, spent)),
+        Err(_) => unreachable!(),
+    }
+}
+
+impl<N: WordsNaming + RunNaming, J: Drop, S: Drop> Runner<N, J, S> {
+    /// The letter that tells the parent of the supervisor whose turn it is of its start, or its end with what shows it. With
+    /// its end its number goes home, and its process ends. None, and nothing changes, where it has gone already, or where
+    /// memory is refused.
+    fn letter_of(&mut self, note: Note, end: Option<&SupEnd>) -> Option<Unsent<J, S>>
+        requires { Comes (item.Note note) (option_copied end) }
+        ensures item { IfSome result (λ u. u.letter.item ≡ item.Note note) }
+        ensures end { IfSome result (λ u. u.letter.end ≡ option_copied end.entry) }
+        ensures unsent { self.new.unsent ≡ self.old.unsent }
+        ensures refusals { self.new.refusals ≡ self.old.refusals }
+        ensures puts { self.new.scheduler.own ≡ self.old.scheduler.own }
+        ensures begun { self.new.scheduler.begun ≡ self.old.scheduler.begun }
+        ensures ended { self.new.scheduler.ended ≡ self.old.scheduler.ended + ends_held result }
+    {
+        let process = self.turning.take()?;
+        let table = process.table();
+        let Ok(end) = evidence_of(self.alloc, note, end) else {
+            self.turning = Some(process);
+            return None;
+        };
+        if let Note::Up(_) = note {
+            self.turning = Some(process);
+            let letter = Letter::with_end(note, None, end);
+            return Some(Unsent { table, letter });
+        }
+        if self.scheduler.share().ended >= SHARE_LIMIT {
+            self.turning = Some(process);
+            return None;
+        }
+        match end_nested(process) {
+            Ok((number, remains)) => {
+                self.scheduler.finish(remains);
+                let letter = Letter::with_end(note, Some(Body::Sup(number)), end);
+                Some(Unsent { table, letter })
+            }
+            Err(process) => {
+                self.turning = Some(process);
+                None
+            }
+        }
+    }
 }
 
 impl<N: WordsNaming + InboxNaming + RunNaming, J: Drop, S: Drop> Hand<N, J, S> {
@@ -232,6 +270,7 @@ impl<N: WordsNaming + RunNaming, J: Drop, S: Drop> Runner<N, J, S> {
         requires there { IfSome place (λ place. place < length self.old.resting) }
         ensures unsent { self.new.unsent ≡ self.old.unsent }
         ensures begun { NoneBegan self.old.scheduler self.new.scheduler }
+        ensures ended { NoneEnded self.old.scheduler self.new.scheduler }
     {
         let Some(place) = place else {
             return;
@@ -244,6 +283,7 @@ impl<N: WordsNaming + RunNaming, J: Drop, S: Drop> Runner<N, J, S> {
         requires { self.old.turning ≡ None }
         ensures unsent { self.new.unsent ≡ self.old.unsent }
         ensures begun { NoneBegan self.old.scheduler self.new.scheduler }
+        ensures ended { NoneEnded self.old.scheduler self.new.scheduler }
     {
         self.turning = self.waiting.take_told(words, &mut self.viewer);
     }
@@ -253,6 +293,7 @@ impl<N: WordsNaming + RunNaming, J: Drop, S: Drop> Runner<N, J, S> {
         requires { self.old.turning ≡ None }
         ensures unsent { self.new.unsent ≡ self.old.unsent }
         ensures begun { NoneBegan self.old.scheduler self.new.scheduler }
+        ensures ended { NoneEnded self.old.scheduler self.new.scheduler }
     {
         self.turning = self.scheduler.next();
     }
@@ -262,6 +303,7 @@ impl<N: WordsNaming + RunNaming, J: Drop, S: Drop> Runner<N, J, S> {
     pub(crate) fn rest(&mut self, table: usize, told: Signal)
         ensures unsent { self.new.unsent ≡ self.old.unsent }
         ensures begun { NoneBegan self.old.scheduler self.new.scheduler }
+        ensures ended { NoneEnded self.old.scheduler self.new.scheduler }
     {
         let Some(process) = self.turning.take() else {
             return;
@@ -276,21 +318,15 @@ impl<N: WordsNaming + RunNaming, J: Drop, S: Drop> Runner<N, J, S> {
         }
     }
 
-    /// Puts the process that it has out back into its deque, or counts its end. Where it can't be put, it stays.
+    /// Puts the process that it has out back into its deque. Where it can't be put, it stays.
     pub(crate) fn hand_back(&mut self)
         ensures unsent { self.new.unsent ≡ self.old.unsent }
         ensures begun { NoneBegan self.old.scheduler self.new.scheduler }
+        ensures ended { NoneEnded self.old.scheduler self.new.scheduler }
     {
         let Some(process) = self.turning.take() else {
             return;
         };
-        if !process.has_body() && self.scheduler.share().ended < SHARE_LIMIT {
-            match process.retire() {
-                Ok(spent) => self.scheduler.finish(spent),
-                Err(process) => self.turning = Some(process),
-            }
-            return;
-        }
         if let Err(process) = self.scheduler.give_back(process) {
             self.turning = Some(process);
         }
@@ -300,6 +336,7 @@ impl<N: WordsNaming + RunNaming, J: Drop, S: Drop> Runner<N, J, S> {
     pub(crate) fn rouse(&mut self)
         ensures unsent { self.new.unsent ≡ self.old.unsent }
         ensures begun { NoneBegan self.old.scheduler self.new.scheduler }
+        ensures ended { NoneEnded self.old.scheduler self.new.scheduler }
     {
         for _ in 0..self.waiting.len() {
             self.rouse_one();
@@ -313,6 +350,7 @@ impl<N: WordsNaming + RunNaming, J: Drop, S: Drop> Runner<N, J, S> {
     fn rouse_supervisor(&mut self)
         ensures unsent { self.new.unsent ≡ self.old.unsent }
         ensures begun { NoneBegan self.old.scheduler self.new.scheduler }
+        ensures ended { NoneEnded self.old.scheduler self.new.scheduler }
     {
         if self.turning.is_some() {
             return;
@@ -329,6 +367,7 @@ impl<N: WordsNaming + RunNaming, J: Drop, S: Drop> Runner<N, J, S> {
     fn rouse_one(&mut self)
         ensures unsent { self.new.unsent ≡ self.old.unsent }
         ensures begun { NoneBegan self.old.scheduler self.new.scheduler }
+        ensures ended { NoneEnded self.old.scheduler self.new.scheduler }
     {
         if self.turning.is_some() {
             return;
@@ -353,6 +392,7 @@ impl<N: WordsNaming + RunNaming, J: Drop, S: Drop> Runner<N, J, S> {
         ensures turning { self.new.turning ≡ self.old.turning }
         ensures unsent { self.new.unsent ≡ self.old.unsent }
         ensures begun { NoneBegan self.old.scheduler self.new.scheduler }
+        ensures ended { NoneEnded self.old.scheduler self.new.scheduler }
     {
         let Some(process) = &self.turning else {
             return Signal::None;
@@ -369,7 +409,9 @@ impl<N: WordsNaming + RunNaming, J: Job, S: Subsystem> Runner<N, J, S> {
     /// A turn of the worker or the bridge that it has out.
     pub(crate) fn work(&mut self, told: Signal)
         requires { self.old.unsent ≡ None }
-        ensures { NoneBegan self.old.scheduler self.new.scheduler }
+        ensures begun { NoneBegan self.old.scheduler self.new.scheduler }
+        // It ended exactly where its end note is to be sent.
+        ensures ended { self.new.scheduler.ended ≡ self.old.scheduler.ended + ends_held self.new.unsent }
     {
         let Some(process) = self.turning.take() else {
             return;
@@ -403,6 +445,7 @@ impl<N: WordsNaming + RunNaming, J: Job, S: Subsystem> Runner<N, J, S> {
 /// The letter that a process has started.
 fn started<J: Drop, S: Drop>(note: Note) -> Letter<Body<J, S>>
     requires { carries_body (item.Note note) ≡ false }
+    ensures { end_of result.item ≡ 0 }
 {
     Letter::note(note, None)
 }
@@ -410,6 +453,7 @@ fn started<J: Drop, S: Drop>(note: Note) -> Letter<Body<J, S>>
 /// The letter of a process's end, which brings the body home.
 fn ended<J: Drop, S: Drop>(end: EndNote<J, S>) -> Letter<Body<J, S>>
     requires { carries_body (item.Note end.note) ≡ true }
+    ensures { end_of result.item ≡ 1 }
 {
     let EndNote { note, body } = end;
     Letter::note(note, Some(body))

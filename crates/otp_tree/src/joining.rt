@@ -1,11 +1,13 @@
 // The senders of all hands come home to the client's.
-ghost use Rattle.std.specs.Prelude.{◌≡◌, ℕ, ◌+◌, ◌<◌, ◌≤◌, ◌∷◌, length, map, sum_by};
+ghost use Rattle.std.specs.Prelude.{◌≡◌, ℕ, ◌+◌, ◌-◌, ◌^◌, ◌<◌, ◌≤◌, ◌∷◌, length, map, min, sum_by};
 ghost use Rattle.otp_inbox.specs.Tokens.{all_parts};
 ghost use Rattle.otp_run.specs.Lists.{AllAt};
 ghost use Rattle.otp_tree.specs.Begun.{starts_credited};
+ghost use Rattle.otp_tree.specs.Ended.{ends_sent};
 ghost use Rattle.otp_tree.specs.Sendings.{parts_to};
-ghost use Rattle.otp_tree.specs.Settlings.{ArePlaced, IsJoined, IsWhole, senders_in};
+ghost use Rattle.otp_tree.specs.Settlings.{ArePlaced, IsJoined, IsWhole, held_in, senders_in};
 
+use crate::ending::count_held;
 use crate::parting::Rest;
 use crate::senders::Senders;
 use otp_inbox::{Inbox, InboxNaming};
@@ -41,6 +43,7 @@ fn join_senders<N: WordsNaming + InboxNaming, B: Drop>(
     requires bounded { AllAt (λ k s. s.parts ≤ all_parts) senders.old }
     requires as_far { length others ≡ length senders.old }
     ensures starts { starts_credited senders.new ≡ starts_credited senders.old + starts_credited others }
+    ensures ends { ends_sent senders.new ≡ ends_sent senders.old + ends_sent others }
     ensures joined { AllAt (IsJoined senders.old others) senders.new }
     ensures len { length senders.new ≡ length senders.old }
 {
@@ -52,21 +55,31 @@ fn join_senders<N: WordsNaming + InboxNaming, B: Drop>(
     }
 }
 
+/// Senders that know all that was sent, and how many end notes hands had still to send: 2^64 - 1 where they would be more.
+#[derive(Drop)]
+pub(crate) struct Joined<N: WordsNaming + InboxNaming, J: Drop, S: Drop> {
+    pub senders: Senders<N, Body<J, S>>,
+    pub held: u64,
+}
+
 /// Joins the senders of all hands to the client's, so that each knows all that was sent to its supervisor.
 pub(crate) fn join_all<N: WordsNaming + InboxNaming, J: Drop, S: Drop>(
     sups: &[Unlocked<N, Body<J, S>>],
     outer: &Inbox<N, Item, Letter<Body<J, S>>>,
     mut senders: Senders<N, Body<J, S>>,
     rests: Vec<Rest<N, J, S>>,
-) -> Senders<N, Body<J, S>>
+) -> Joined<N, J, S>
     requires placed { ArePlaced sups.now outer.now }
     requires reach { length senders ≡ length sups.now + 1 }
     requires whole { (place : ℕ) → place < length senders → parts_to place (senders ∷ map senders_in rests.items) ≡ all_parts }
     requires as_far { AllAt (λ _ others. length others ≡ length senders) (map senders_in rests.items) }
-    ensures starts { starts_credited result ≡ starts_credited senders + sum_by starts_credited (map senders_in rests.items) }
-    ensures whole { AllAt (IsWhole (senders ∷ map senders_in rests.items)) result }
-    ensures len { length result ≡ length senders }
+    ensures starts { starts_credited result.senders ≡ starts_credited senders + sum_by starts_credited (map senders_in rests.items) }
+    ensures ends { ends_sent result.senders ≡ ends_sent senders + sum_by ends_sent (map senders_in rests.items) }
+    ensures held { result.held ≡ min (sum_by held_in rests.items) (2 ^ 64 - 1) }
+    ensures whole { AllAt (IsWhole (senders ∷ map senders_in rests.items)) result.senders }
+    ensures len { length result.senders ≡ length senders }
 {
+    let mut held: u64 = 0;
     for rest in rests {
         let Rest {
             viewer: _,
@@ -74,12 +87,13 @@ pub(crate) fn join_all<N: WordsNaming + InboxNaming, J: Drop, S: Drop>(
             turning: _,
             waiting: _,
             resting: _,
-            unsent: _,
+            unsent,
             refusals: _,
             passes: _,
             alloc: _,
         } = rest;
         join_senders(sups, outer, &mut senders, others);
+        held = held.saturating_add(count_held(unsent));
     }
-    senders
+    Joined { senders, held }
 }

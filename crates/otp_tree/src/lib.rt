@@ -71,6 +71,7 @@ pub mod clock;
 pub mod closing;
 mod complete;
 pub mod draft;
+mod ending;
 pub mod evidence;
 mod finding;
 pub mod hand;

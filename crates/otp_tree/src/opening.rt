@@ -6,6 +6,7 @@ ghost use Rattle.otp_run.specs.Lists.{AllAt};
 ghost use Rattle.otp_run.specs.Rule.{all_parts};
 ghost use Rattle.otp_signals.specs.Lists.{EachBetween, StayBelow, StayFrom};
 ghost use Rattle.otp_tree.specs.Begun.{HasRootOnly, IsIdle, starts_credited};
+ghost use Rattle.otp_tree.specs.Ended.{ends_sent};
 ghost use Rattle.otp_tree.specs.Opens.{slots_of, first_slot};
 ghost use Rattle.otp_tree.specs.Readings.{CanRead, IsFresh};
 
@@ -232,7 +233,8 @@ fn seat<N: InboxNaming, B: Drop>(
 ) -> Result<Senders<N, B>, AllocError>
     requires seated { AllAt (λ k s. s ≡ first_sender k) senders.items }
     requires outer { outer ≡ first_sender (length senders.items) }
-    ensures { IfOk result (λ all. starts_credited all ≡ 0) }
+    ensures starts { IfOk result (λ all. starts_credited all ≡ 0) }
+    ensures ends { IfOk result (λ all. ends_sent all ≡ 0) }
 {
     senders.push(outer)?;
     Ok(Senders { list: senders })
@@ -279,6 +281,7 @@ fn make_hand<N: WordsNaming + InboxNaming + RunNaming, J: Drop, S: Drop>(
     ensures fresh { IfOk result (λ hand. IsFresh passes.old.items hand) }
     ensures same { OnOk result (passes.new.items ≡ passes.old.items) }
     ensures starts { starts_credited senders.new ≡ starts_credited senders.old }
+    ensures ends { ends_sent senders.new ≡ ends_sent senders.old }
 {
     let Some(senders) = system.split_senders(alloc, senders, 1)? else {
         return Err(SystemFault::OutOfMemory);
@@ -315,6 +318,7 @@ fn make_hands<N: WordsNaming + InboxNaming + RunNaming, J: Drop, S: Drop>(
     ensures hands { IfOk result (λ hands. CanRead (length passes.old.items) hands.items) }
     ensures same { OnOk result (passes.new.items ≡ passes.old.items) }
     ensures starts { starts_credited senders.new ≡ starts_credited senders.old }
+    ensures ends { ends_sent senders.new ≡ ends_sent senders.old }
 {
     let mut schedulers = schedulers;
     begin_first(&mut schedulers, root)?;
@@ -386,6 +390,7 @@ impl<J: Drop, S: Drop> Parts<J, S> {
             senders,
             root: Some(root),
             waiter: Some(waiter),
+            heard: 0,
         };
         Ok(Opened {
             system,

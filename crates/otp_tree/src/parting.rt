@@ -3,10 +3,11 @@ ghost use Rattle.std.specs.Prelude.{◌≡◌, ◌+◌, ◌≤◌, [], length, m
 ghost use Rattle.otp_run.specs.Gathers.{IsAll, IsLiveTotal, begun_of, ended_of};
 ghost use Rattle.otp_run.specs.Rule.{ticket_of};
 ghost use Rattle.otp_tree.specs.Begun.{starts_credited};
+ghost use Rattle.otp_tree.specs.Ended.{ends_sent, held_by};
 ghost use Rattle.otp_tree.specs.Gathers.{IsHandsRefused};
 ghost use Rattle.otp_tree.specs.Hands.{senders_of};
 ghost use Rattle.otp_tree.specs.Partings.{joined, schedulers_of, ArePaired};
-ghost use Rattle.otp_tree.specs.Settlings.{senders_in};
+ghost use Rattle.otp_tree.specs.Settlings.{held_in, senders_in};
 
 use crate::closing::Refusal;
 use crate::hand::{Hand, Runner, Unsent};
@@ -82,7 +83,10 @@ pub(crate) fn gather_hands<N: WordsNaming + InboxNaming + RunNaming, J: Drop, S:
     // They are all hands, so one of them had the root's process.
     ensures starts { IfOk result (λ g. g.total.begun ≡ 1 + sum_by starts_credited (map senders_in g.rests.items)) }
     ensures ended { IfOk result (λ g. g.total.ended ≡ sum_by ended_of (schedulers_of hands.items)) }
+    // The notes of what ended were sent, or are still to be sent.
+    ensures ends { IfOk result (λ g. g.total.ended ≡ sum_by ends_sent (map senders_in g.rests.items) + sum_by held_in g.rests.items) }
     ensures senders { IfOk result (λ g. map senders_in g.rests.items ≡ map senders_of hands.items) }
+    ensures held { IfOk result (λ g. sum_by held_in g.rests.items ≡ sum_by held_by hands.items) }
     ensures refused { IfErr result (λ fault. fault.hands.items ≡ hands.items) }
     ensures missing { IfErr result (λ fault. IsHandsRefused (schedulers_of hands.items) fault.cause) }
 {
@@ -132,6 +136,7 @@ fn part_all<N: WordsNaming + InboxNaming + RunNaming, J: Drop, S: Drop>(
     ensures many { length schedulers.new.items ≡ length rests.new.items }
     ensures same { schedulers_of hands.items ≡ schedulers.new.items }
     ensures senders { map senders_in rests.new.items ≡ map senders_of hands.items }
+    ensures held { sum_by held_in rests.new.items ≡ sum_by held_by hands.items }
     ensures count { length schedulers.new.items ≡ length hands.items }
 {
     for hand in hands {

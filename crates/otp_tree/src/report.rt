@@ -103,4 +103,8 @@ pub struct Report<J: Drop, S: Drop> {
     pub processes: Vec<Process<J, S>>,
     /// What whoever opened the tree hadn't taken of what the root told.
     pub last: Vec<Item>,
+    /// How many ends of the root whoever opened the tree had taken ([`System::root_note`](crate::System::root_note)).
+    pub heard: u64,
+    /// How many ends hands had still to tell, since their letters had been refused. Bodies that came with them are dropped.
+    pub held: u64,
 }

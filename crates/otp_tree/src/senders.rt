@@ -3,6 +3,7 @@ ghost use Rattle.std.specs.Prelude.{◌≡◌, ◌+◌, ◌<◌, ◌≤◌, ◌+
 ghost use Rattle.otp_inbox.specs.Tokens.{SenderState, count_limit, no_shares};
 ghost use Rattle.otp_spec.specs.declared.limits.TheConstants.{MAX_READING};
 ghost use Rattle.otp_tree.specs.Begun.{starts_credited};
+ghost use Rattle.otp_tree.specs.Ended.{end_of, end_share, ends_sent};
 ghost use Rattle.otp_tree.specs.Leavings.{sent_at};
 ghost use Rattle.otp_tree.specs.Seats.{Seated};
 ghost use Rattle.otp_tree.specs.Sendings.{parts_at};
@@ -67,6 +68,7 @@ impl<N: InboxNaming, B: Drop> Senders<N, B> {
         ensures refused { OnErr result (self.new ≡ self.old) }
         ensures len { length self.new ≡ length self.old }
         ensures starts { starts_credited self.new ≡ starts_credited self.old }
+        ensures ends { OnOk result (ends_sent self.new ≡ ends_sent self.old + end_of letter.item) }
     {
         let place = inbox.number();
         inbox.send(rt, &mut self.list[place], letter)
@@ -90,6 +92,8 @@ impl<N: InboxNaming, B: Drop> Senders<N, B> {
         // A start was credited for each process that the port took, of which it keeps the rest as it was.
         ensures starts { starts_credited self.new + length (P.processes port.old) ≡ starts_credited self.old + length (P.processes port.new) }
         ensures beside { P.beside port.new ≡ P.beside port.old }
+        // It sends nothing.
+        ensures ends { ends_sent self.new ≡ ends_sent self.old }
     {
         let place = sup.inbox().number();
         let sender = &mut self.list[place];
@@ -122,6 +126,7 @@ impl<N: InboxNaming, B: Drop> Senders<N, B> {
         ensures back { IfErr result (λ back. back ≡ body) }
         ensures refused { OnErr result (self.new ≡ self.old) }
         ensures starts { starts_credited self.new ≡ starts_credited self.old }
+        ensures ends { ends_sent self.new ≡ ends_sent self.old }
     {
         let letter = match Letter::call(alloc, number, call, body) {
             Ok(letter) => letter,
@@ -177,6 +182,7 @@ impl<N: InboxNaming, B: Drop> Senders<N, B> {
         ensures joined { (s : SenderState Item) → slice_get self.old inbox.now ≡ Some s → self.new ≡ slice_set self.old inbox.now (with_sender other s) }
         ensures len { length self.new ≡ length self.old }
         ensures starts { starts_credited self.new ≡ starts_credited self.old + other.shares.starts }
+        ensures ends { ends_sent self.new ≡ ends_sent self.old + end_share other }
     {
         let place = inbox.number();
         inbox.join(&mut self.list[place], other);
@@ -192,6 +198,7 @@ impl<N: InboxNaming, B: Drop> Senders<N, B> {
         ensures new { IfSome result (λ s. s ≡ record { inbox = inbox.now; parts = parts; sent = []; joined = []; shares = no_shares }) }
         ensures len { length self.new ≡ length self.old }
         ensures starts { starts_credited self.new ≡ starts_credited self.old }
+        ensures ends { ends_sent self.new ≡ ends_sent self.old }
     {
         let place = inbox.number();
         if place >= self.list.len() {

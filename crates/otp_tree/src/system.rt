@@ -4,10 +4,12 @@ ghost use Rattle.otp_signals.specs.Holdings.{after_post};
 ghost use Rattle.otp_signals.specs.Signals.{word_of};
 ghost use Rattle.otp_signals.specs.declared.signal.Signal.TheVariants.{Shutdown};
 ghost use Rattle.otp_tree.specs.Begun.{starts_credited};
+ghost use Rattle.otp_tree.specs.Ended.{ends_sent};
 ghost use Rattle.otp_tree.specs.Hands.{Heard};
 ghost use Rattle.otp_tree.specs.Readings.{HasRead};
 
 use crate::client::Client;
+use crate::ending::count_end;
 use crate::hand::Hand;
 use crate::senders::Senders;
 use otp_inbox::{Inbox, InboxNaming};
@@ -75,7 +77,10 @@ impl<N: WordsNaming + InboxNaming, J: Drop, S: Drop> System<N, J, S> {
         }
         let letter = self.outer.take(rt, waiter)?;
         match letter.into_parts().0 {
-            Item::Note(note) => Some(note),
+            Item::Note(note) => {
+                client.heard = client.heard.saturating_add(count_end(note));
+                Some(note)
+            }
             Item::Call(..) => None,
         }
     }
@@ -110,9 +115,11 @@ impl<N: WordsNaming + InboxNaming, J: Drop, S: Drop> System<N, J, S> {
     ) -> Result<Option<Senders<N, Body<J, S>>>, AllocError>
         requires { 0 < parts }
         ensures len { length senders.new ≡ length senders.old }
-        // The new ones were credited with nothing, and the others have what they had.
+        // The new ones were credited with nothing and sent no end, and the others have what they had.
         ensures none { IfOk result (λ split. IfSome split (λ s. starts_credited s ≡ 0)) }
+        ensures none_sent { IfOk result (λ split. IfSome split (λ s. ends_sent s ≡ 0)) }
         ensures starts { starts_credited senders.new ≡ starts_credited senders.old }
+        ensures ends { ends_sent senders.new ≡ ends_sent senders.old }
     {
         let mut list = Vec::new(alloc);
         for place in 0..senders.len() {

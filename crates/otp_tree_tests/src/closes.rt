@@ -143,9 +143,12 @@ fn count_left(report: &Report<Steady, BoxedSubsystem>) -> u64 {
     left
 }
 
-// How many ends of processes were told: those that supervisors took, those that they left, and the root's own.
+// How many ends of processes were told: those that supervisors took, those that they left, the root's own, and those that hands
+// had still to tell.
 fn count_ends(report: &Report<Steady, BoxedSubsystem>) -> u64 {
-    let mut ends = ends_in(report.last.as_slice());
+    let mut ends = ends_in(report.last.as_slice())
+        .saturating_add(report.heard)
+        .saturating_add(report.held);
     for table in report.tables.as_slice() {
         ends = ends
             .saturating_add(ends_taken(table))

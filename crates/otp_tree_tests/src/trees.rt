@@ -168,7 +168,10 @@ fn live_with<R: Threads + Wait + Abort + Sync>(
     };
     leader.check(rt);
     match report {
-        Ok(report) => check_ended(rt, &report),
+        Ok(report) => {
+            check_ended(rt, &report);
+            assert_eq!(rt; (report.heard, report.held, report.last.len()), (1, 0, 0));
+        }
         Err(_why) => return Err("the tree was not closed".into()),
     }
     Ok(())

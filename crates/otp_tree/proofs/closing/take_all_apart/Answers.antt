@@ -1,14 +1,13 @@
-use Rattle.std.proofs.Common.{◌≡◌, ◌+◌, ◌<◌, ◌∷◌, ◌++◌, drop, length, sym, ap, ◌∙◌, subst, arith}
-use Rattle.std.specs.Prelude.{MatchOption, slice_get}
+use Rattle.std.proofs.Common.{drop, length, sym, ap, ◌∙◌, subst, arith}
 use Rattle.otp_inbox.specs.Lists.{AsOften}
 use Rattle.otp_run.specs.Lists.{AllAt}
 use Rattle.otp_run.proofs.Places.{push_at}
 use Rattle.otp_tree.specs.Closes.{HasBegun, HasTold}
 use Rattle.otp_tree.specs.Leavings.{HasUnsent, line_of, sent_at, sent_in}
-use Rattle.otp_tree.specs.Settlings.{IsReady}
 use Rattle.otp_tree.proofs.Apart.{all-more, length-more, seen-more, apart-more}
 use Rattle.otp_tree.proofs.Settlings.{all_ready, more_next, next_at, next_behind, room_ready, sender_ready}
 use Rattle.otp_tree.proofs.Begun.{apart_starts, none_left}
+use Rattle.otp_tree.proofs.Ended.{told_each}
 use Rattle.otp_tree.proofs.closing.take_all_apart.Goals as goal
 
 pub next_of-sender-requires : goal.next_of-sender-requires
@@ -92,3 +91,12 @@ returns-clause-starts g c =
     let starts = i.starts in
     let rest = none_left c.args.senders.items (length c.loop-sup.tables.items) c.loop-sup.senders.rest.items (omega (arith, none, left, count, many)) i.senders in
     omega (arith, starts, rest)
+
+pub returns-clause-ends : goal.returns-clause-ends
+returns-clause-ends g c =
+    let i = c.loop-sup.invariant in
+    let none = (c.in-None.ensures {u = tt}).steps.0 in
+    let left = i.left in
+    let count = i.count in
+    let many = c.requires.as_many in
+    told_each c.args.senders.items c.loop-sup.tables.items (omega (arith, none, left, count, many)) i.done

@@ -1,4 +1,4 @@
-use Rattle.std.proofs.Common.{◌≡◌, ◌+◌, ◌≤◌, ◌++◌, drop, length}
+use Rattle.std.proofs.Common.{◌≡◌, ◌+◌, ◌≤◌, drop, length}
 use Rattle.std.specs.Prelude.{All, sum_by, vec_capacity, vec_len}
 use Rattle.otp_inbox.specs.Lists.{AsOften}
 use Rattle.otp_run.specs.Lists.{AllAt}

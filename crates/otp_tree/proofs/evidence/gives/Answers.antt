@@ -1,10 +1,10 @@
-use Rattle.std.proofs.Common.{◌≡◌, ℕ, true, false, ◌<◌, Some, length, ap, sym, ◌∙◌, arith, rules}
+use Rattle.std.proofs.Common.{ℕ, false, ◌<◌, Some, length, ap, sym, ◌∙◌, arith, rules}
 use Rattle.std.specs.Prelude.{IsTrue}
 use Rattle.std.proofs.lemmas.Option.{slice_get-get_or}
 use Rattle.otp_rules.specs.declared.ending.SupEnd.{SupEnd}
 use Rattle.otp_tree.specs.Tellings.{IsEndUnder}
 use Rattle.otp_tree.proofs.Below.{below-more, below-all}
-use Rattle.otp_tree.proofs.There.{none_there, there_at}
+use Rattle.otp_tree.proofs.There.{none_there}
 use Rattle.otp_tree.proofs.evidence.gives.Goals as goal
 
 pub loop-place-preserved : goal.loop-place-preserved

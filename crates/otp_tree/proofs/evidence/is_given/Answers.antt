@@ -1,11 +1,11 @@
-use Rattle.std.proofs.Common.{◌≡◌, true, false, ◌<◌, Some, length, ap, sym, ◌∙◌, arith, rules}
+use Rattle.std.proofs.Common.{false, ◌<◌, Some, length, ap, sym, ◌∙◌, arith, rules}
 use Rattle.std.specs.Prelude.{IsTrue}
 use Rattle.std.proofs.lemmas.Option.{slice_get-get_or}
 use Rattle.otp_core.specs.View.{state_of}
 use Rattle.otp_tree.specs.declared.report.TableReport.{TableReport}
 use Rattle.otp_tree.specs.Tellings.{Gives}
 use Rattle.otp_tree.proofs.Below.{below-more, below-all}
-use Rattle.otp_tree.proofs.There.{none_there, there_at}
+use Rattle.otp_tree.proofs.There.{none_there}
 use Rattle.otp_tree.proofs.evidence.is_given.Goals as goal
 
 pub loop-table-preserved : goal.loop-table-preserved

@@ -1,12 +1,14 @@
-use Rattle.std.proofs.Common.{◌≡◌, ◌+◌, ◌≤◌, ◌∷◌, ◌++◌, [], length, map, refl, sym, ap, ◌∙◌, subst, arith, append_assoc, append-nil}
+use Rattle.std.proofs.Common.{◌+◌, ◌-◌, ◌^◌, ◌≤◌, ◌∷◌, ◌++◌, [], length, map, min, refl, sym, ap, ◌∙◌, subst, arith, append_assoc, append-nil}
 use Rattle.otp_inbox.specs.Tokens.{all_parts}
 use Rattle.otp_run.specs.Lists.{AllAt}
 use Rattle.otp_run.proofs.Places.{each_at, map-append}
-use Rattle.otp_tree.specs.Settlings.{HasAll, senders_in}
+use Rattle.otp_tree.specs.Settlings.{HasAll, held_in, senders_in}
 use Rattle.otp_tree.proofs.Leavings.{few_parts, has_more, has_one, has_whole}
-use Rattle.otp_tree.proofs.Begun.{credited_push, reaches_as_far}
+use Rattle.otp_tree.proofs.Begun.{hand_push, reaches_as_far}
 use Rattle.otp_tree.specs.Begun.{starts_credited}
+use Rattle.otp_tree.specs.Ended.{ends_sent}
 use Rattle.std.specs.Prelude.{sum_by}
+use Rattle.std.proofs.lemmas.List.Sums.{sum_by_push}
 use Rattle.otp_tree.proofs.Partings.{nothing_left}
 use Rattle.otp_tree.proofs.joining.join_all.Goals as goal
 
@@ -19,6 +21,8 @@ loop-rest-init g c =
       has = has_one c.args.senders (few_parts c.args.senders (map senders_in c.args.rests.items) c.requires.whole);
       len = refl;
       starts = omega arith;
+      ends = omega arith;
+      held = omega arith;
       all = gives.0;
       left = omega (arith, gives.1, items, ok);
     }
@@ -41,8 +45,19 @@ loop-rest-preserved g c =
       starts =
           let one = c.join_senders.ensures.starts in
           let so_far = i.starts in
-          let more = credited_push before r in
+          let more = hand_push starts_credited before r in
           omega (arith, one, so_far, more);
+      ends =
+          let one = c.join_senders.ensures.ends in
+          let so_far = i.ends in
+          let more = hand_push ends_sent before r in
+          omega (arith, one, so_far, more);
+      held =
+          let one = c.count_held.ensures in
+          let so_far = i.held in
+          let sum = c.saturating_add-held.ensures in
+          let more = sum_by_push held_in before r in
+          omega (arith, one, so_far, sum, more);
       all = append_assoc before (r ∷ []) c.next.new.self.rest.items ∙ ap (λ l. before ++ l) (sym next) ∙ i.all;
       left = omega arith;
     }
@@ -74,3 +89,21 @@ returns-clause-starts g c =
     let before = c.loop-rest.yielded in
     let all = sym (append-nil before) ∙ ap (λ l. before ++ l) (sym (nothing_left c.loop-rest.rest-iterator.rest.items (omega arith))) ∙ i.all in
     i.starts ∙ ap (λ l. starts_credited c.args.senders + sum_by starts_credited (map senders_in l)) all
+
+pub returns-clause-ends : goal.returns-clause-ends
+returns-clause-ends g c =
+    let i = c.loop-rest.invariant in
+    let none = (c.in-None.ensures {u = tt}).steps.0 in
+    let left = i.left in
+    let before = c.loop-rest.yielded in
+    let all = sym (append-nil before) ∙ ap (λ l. before ++ l) (sym (nothing_left c.loop-rest.rest-iterator.rest.items (omega arith))) ∙ i.all in
+    i.ends ∙ ap (λ l. ends_sent c.args.senders + sum_by ends_sent (map senders_in l)) all
+
+pub returns-clause-held : goal.returns-clause-held
+returns-clause-held g c =
+    let i = c.loop-rest.invariant in
+    let none = (c.in-None.ensures {u = tt}).steps.0 in
+    let left = i.left in
+    let before = c.loop-rest.yielded in
+    let all = sym (append-nil before) ∙ ap (λ l. before ++ l) (sym (nothing_left c.loop-rest.rest-iterator.rest.items (omega arith))) ∙ i.all in
+    i.held ∙ ap (λ l. min (sum_by held_in l) (2 ^ 64 - 1)) all

@@ -1,6 +1,8 @@
-use Rattle.std.proofs.Common.{◌≡◌, ◌+◌, ◌<◌, ◌≤◌, ◌∷◌, ◌++◌, [], length, set, sym, ap, ◌∙◌, subst, arith, append_assoc, length-append}
+use Rattle.std.proofs.Common.{◌≡◌, ◌∷◌, ◌++◌, [], length, set, sym, ap, ◌∙◌, subst, arith, append_assoc, length-append}
+use Rattle.std.proofs.lemmas.List.Sums.{sum_by_push}
+use Rattle.otp_tree.specs.Ended.{end_share}
 use Rattle.otp_tree.proofs.Begun.{starts_push}
-use Rattle.std.specs.Prelude.{Some, slice_get}
+use Rattle.std.specs.Prelude.{slice_get}
 use Rattle.otp_run.specs.Lists.{AllAt}
 use Rattle.otp_tree.specs.Seats.{Seated}
 use Rattle.otp_tree.specs.Settlings.{IsJoined, with_sender}
@@ -34,6 +36,11 @@ loop-sender-preserved-then-place-len g c =
           let so_far = i.starts in
           let more = starts_push before x in
           omega (arith, one, so_far, more);
+      ends =
+          let one = c.join_at.ensures.ends in
+          let so_far = i.ends in
+          let more = sum_by_push end_share before x in
+          omega (arith, one, so_far, more);
       all = all;
     }
 
@@ -50,15 +57,16 @@ loop-sender-preserved g c =
     let number = c.number-place.ensures in
     let size = c.len.ensures in
     let test = c.if-place-len.false in
+    let as_far = c.requires.as_far in
+    let len = i.len in
+    let whole = ap length all in
+    let long = length-append (before ++ x ∷ []) c.next.new.self.rest.items in
+    let one = length-append before (x ∷ []) in
+    let none : ⊥ = omega (arith, number, seat, size, test, len, as_far, whole, long, one) in
     record {
       joined = joined_past old before now x (omega arith) i.joined;
       len = i.len;
-      starts =
-          let len = i.len in
-          let as_far = c.requires.as_far in
-          let whole = ap length all in
-          let long = length-append (before ++ x ∷ []) c.next.new.self.rest.items in
-          let one = length-append before (x ∷ []) in
-          absurd (omega (arith, number, seat, size, test, len, as_far, whole, long, one));
+      starts = absurd none;
+      ends = absurd none;
       all = all;
     }

@@ -14,6 +14,7 @@ loop-scheduler-init g c =
       idle = subst (AllAt (λ k s. HasRootOnly s)) (sym gives.0) begun;
       same = refl;
       starts = refl;
+      ends = refl;
       fresh = subst (AllAt (λ _ h. IsFresh c.args.passes.now.items h)) (sym c.new-hands.ensures.items) (λ k. tt);
     }
 
@@ -28,6 +29,7 @@ loop-scheduler-preserved g c =
       idle = λ k. let step : slice_get c.loop-scheduler.scheduler-iterator.rest.items (suc k) ≡ slice_get c.next.new.self.rest.items k = ap (λ l. slice_get l (suc k)) e in rw step at (i.idle (suc k));
       same = made.same ∙ i.same;
       starts = made.starts ∙ i.starts;
+      ends = made.ends ∙ i.ends;
       fresh = subst (AllAt (λ _ h. IsFresh firsts h)) (sym kept) (push_at (λ _ h. IsFresh firsts h) _ _ i.fresh (made.fresh ∙ ap (map renewed) i.same));
     }
 
@@ -42,4 +44,5 @@ returns g c = record {
   hands = record { passes = c.args.passes.now.items; many = refl; fresh = c.loop-scheduler.invariant.fresh };
   same = c.loop-scheduler.invariant.same;
   starts = c.loop-scheduler.invariant.starts;
+  ends = c.loop-scheduler.invariant.ends;
 }

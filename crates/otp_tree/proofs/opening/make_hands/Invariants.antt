@@ -1,6 +1,7 @@
 use Rattle.std.proofs.Common.{◌≡◌}
 use Rattle.otp_run.specs.Lists.{AllAt}
 use Rattle.otp_tree.specs.Begun.{HasRootOnly, starts_credited}
+use Rattle.otp_tree.specs.Ended.{ends_sent}
 use Rattle.otp_tree.specs.Readings.{IsFresh}
 use Rattle.otp_tree.proofs.opening.make_hands.Given as goal
 
@@ -10,5 +11,6 @@ invariant-loop-scheduler g l =
       idle : AllAt (λ k s. HasRootOnly s) l.scheduler-iterator.rest.items;
       same : l.passes.items ≡ l.initial.passes.items;
       starts : starts_credited l.senders ≡ starts_credited l.initial.senders;
+      ends : ends_sent l.senders ≡ ends_sent l.initial.senders;
       fresh : AllAt (λ _ h. IsFresh l.initial.passes.items h) l.hands.items;
     }

@@ -1,6 +1,6 @@
 use Rattle.std.proofs.Common.{◌≡◌, suc, ◌+◌, Some, length, arith, ap, sym, ◌∙◌, subst, add-zero, length-append}
 use Rattle.std.specs.Prelude.{slice_get}
-use Rattle.otp_inbox.specs.Tokens.{SenderState, first_sender}
+use Rattle.otp_inbox.specs.Tokens.{first_sender}
 use Rattle.otp_rules.specs.declared.event.Item.{Item}
 use Rattle.otp_run.specs.Lists.{AllAt}
 use Rattle.otp_run.proofs.Places.{push_at}

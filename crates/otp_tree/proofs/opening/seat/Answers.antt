@@ -1,12 +1,23 @@
 use Rattle.std.proofs.Common.{ap, arith, ◌∙◌}
+use Rattle.std.proofs.lemmas.List.Sums.{sum_by_push}
 use Rattle.otp_tree.specs.Begun.{start_share, starts_credited}
+use Rattle.otp_tree.specs.Ended.{end_share, ends_sent}
 use Rattle.otp_tree.proofs.Begun.{none_credited, starts_push}
+use Rattle.otp_tree.proofs.Ended.{none_sent}
 use Rattle.otp_tree.proofs.opening.seat.Goals as goal
 
-pub returns : goal.returns
-returns g c =
+pub returns-clause-starts : goal.returns-clause-starts
+returns-clause-starts g c =
     let items = (c.in_ok-push.ensures {u = tt}).items in
     let all = ap starts_credited items ∙ starts_push c.args.senders.items c.args.outer in
     let firsts = none_credited c.args.senders.items c.requires.seated in
     let last = ap start_share c.requires.outer in
+    omega (arith, all, firsts, last)
+
+pub returns-clause-ends : goal.returns-clause-ends
+returns-clause-ends g c =
+    let items = (c.in_ok-push.ensures {u = tt}).items in
+    let all = ap ends_sent items ∙ sum_by_push end_share c.args.senders.items c.args.outer in
+    let firsts = none_sent c.args.senders.items c.requires.seated in
+    let last = ap end_share c.requires.outer in
     omega (arith, all, firsts, last)

@@ -3,6 +3,7 @@ use Rattle.std.specs.Prelude.{sum_by}
 use Rattle.otp_tree.specs.Begun.{starts_credited}
 use Rattle.otp_tree.specs.Settlings.{senders_in}
 use Rattle.otp_tree.proofs.Begun.{begun_together, one_root}
+use Rattle.otp_tree.proofs.Ended.{ended_together}
 use Rattle.otp_run.specs.Gathers.{IsAll}
 use Rattle.otp_run.specs.Schedulers.{SchedulerState}
 use Rattle.otp_tree.proofs.parting.gather_hands.Goals as goal
@@ -23,3 +24,8 @@ returns-in-Ok-gather-clause-starts g c =
     (c.in-Ok-gather.ensures {u = tt}).begun
     ∙ begun_together c.part_all.new.schedulers.items c.part_all.new.rests.items c.part_all.ensures.paired c.part_all.ensures.many
     ∙ ap (λ n. n + sum_by starts_credited (map senders_in c.part_all.new.rests.items)) (one_root c.part_all.new.schedulers.items whole)
+
+pub returns-in-Ok-gather-clause-ends : goal.returns-in-Ok-gather-clause-ends
+returns-in-Ok-gather-clause-ends g c =
+    (c.in-Ok-gather.ensures {u = tt}).ended
+    ∙ ended_together c.part_all.new.schedulers.items c.part_all.new.rests.items c.part_all.ensures.paired c.part_all.ensures.many

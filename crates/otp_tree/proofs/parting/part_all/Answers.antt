@@ -1,8 +1,11 @@
-use Rattle.std.proofs.Common.{◌≡◌, ℕ, ◌+◌, [], ◌∷◌, length, map, sym, ap, ◌∙◌, arith, length-append}
+use Rattle.std.proofs.Common.{◌+◌, length, map, sym, ap, ◌∙◌, arith, length-append}
 use Rattle.std.proofs.lemmas.List.{length-map}
+use Rattle.std.specs.Prelude.{sum_by}
+use Rattle.otp_tree.specs.Ended.{held_by}
 use Rattle.otp_tree.specs.Hands.{senders_of}
+use Rattle.otp_tree.proofs.Ended.{held_together}
 use Rattle.otp_tree.specs.Partings.{scheduler_of, schedulers_of}
-use Rattle.otp_tree.proofs.Partings.{credited_by, of_runner, parted-more, paired-more, parted-all, schedulers-joined, senders-joined}
+use Rattle.otp_tree.proofs.Partings.{credited_by, ended_by, of_runner, parted-more, paired-more, parted-all, schedulers-joined, senders-joined}
 use Rattle.otp_tree.proofs.parting.part_all.Goals as goal
 
 pub loop-hand-preserved : goal.loop-hand-preserved
@@ -25,7 +28,7 @@ loop-hand-preserved g c =
     let capacity_too = c.push_reserved-in-loop-hand.ensures.capacity in
     record {
       hands = parted-more _ _ _ _ _ _ _ _ _ _ one two (ap (λ w. of_runner w c.hand.inside.senders c.hand.inside.passes.items) c.runner.view_is ∙ c.hand.view_is) next many i.hands;
-      paired = paired-more _ _ _ _ _ _ one two many (record { out_is = c.runner.invariant; credited = credited_by _ _ c.hand.inside.senders c.runner.view_is c.hand.invariant }) i.paired;
+      paired = paired-more _ _ _ _ _ _ one two many (record { out_is = c.runner.invariant; credited = credited_by _ _ c.hand.inside.senders c.runner.view_is c.hand.invariant.0; ended = ended_by _ _ c.hand.inside.senders c.runner.view_is c.hand.invariant.1 }) i.paired;
       many = long ∙ length-append _ _ ∙ ap (λ n. n + 1) many ∙ sym (length-append _ _) ∙ sym long_too;
       left = omega arith;
       room = omega arith;
@@ -47,3 +50,6 @@ returns-clause-count g c = sym (ap length (returns-clause-same g c)) ∙ length-
 
 pub returns-clause-senders : goal.returns-clause-senders
 returns-clause-senders g c = senders-joined c.loop-hand.schedulers.items c.loop-hand.rests.items c.loop-hand.invariant.paired c.loop-hand.invariant.many ∙ ap (λ l. map senders_of l) (returns-clause-hands g c)
+
+pub returns-clause-held : goal.returns-clause-held
+returns-clause-held g c = held_together c.loop-hand.schedulers.items c.loop-hand.rests.items c.loop-hand.invariant.paired c.loop-hand.invariant.many ∙ ap (λ l. sum_by held_by l) (returns-clause-hands g c)

@@ -1,4 +1,4 @@
-use Rattle.std.proofs.Common.{◌≡◌, refl, sym, ap, ◌∙◌, arith, length}
+use Rattle.std.proofs.Common.{refl, sym, ap, ◌∙◌, arith, length}
 use Rattle.std.proofs.lemmas.Bool.{false≢true}
 use Rattle.otp_tree.proofs.Partings.{has-rest, joined-more, paired-cons, zero_unless}
 use Rattle.otp_tree.proofs.parting.rejoin_all.Goals as goal

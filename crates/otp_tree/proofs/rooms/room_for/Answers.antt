@@ -1,4 +1,4 @@
-use Rattle.std.proofs.Common.{◌≡◌, refl, arith}
+use Rattle.std.proofs.Common.{refl, arith}
 use Rattle.otp_tree.proofs.Settlings.{roomier}
 use Rattle.otp_tree.proofs.rooms.room_for.Goals as goal
 

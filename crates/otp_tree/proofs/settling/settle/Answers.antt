@@ -1,4 +1,4 @@
-use Rattle.std.proofs.Common.{◌≡◌, ◌+◌, ◌≤◌, ◌++◌, length, map, ap, arith, length-append}
+use Rattle.std.proofs.Common.{◌++◌, length, map, ap, arith, length-append}
 use Rattle.std.proofs.lemmas.List.{length-map}
 use Rattle.otp_inbox.specs.Tokens.{all_sent, added}
 use Rattle.otp_tally.proofs.Sums.{sum_by-one}

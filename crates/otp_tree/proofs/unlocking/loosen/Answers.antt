@@ -1,4 +1,4 @@
-use Rattle.std.proofs.Common.{◌≡◌, ◌≤◌, length, sym, ap, ◌∙◌, subst, arith}
+use Rattle.std.proofs.Common.{length, sym, ap, ◌∙◌, subst, arith}
 use Rattle.otp_tree.specs.Closes.{all_senders}
 use Rattle.otp_tree.specs.Settlings.{AreRooms, IsLastRoom}
 use Rattle.otp_tree.proofs.unlocking.loosen.Goals as goal

@@ -1,5 +1,6 @@
 use Rattle.std.specs.Prelude.{◌≡◌}
 use Rattle.otp_tree.specs.Begun.{NoneBegan}
+use Rattle.otp_tree.specs.Ended.{NoneEnded}
 use Rattle.otp_tree.proofs.hand.Runner.rouse.Given as goal
 
 abbrev pub invariant-loop : goal.invariant-loop
@@ -7,6 +8,7 @@ invariant-loop g l =
     record {
       unsent : l.self.unsent ≡ l.fn.self.unsent;
       begun : NoneBegan l.fn.self.scheduler l.self.scheduler;
+      ended : NoneEnded l.fn.self.scheduler l.self.scheduler;
     }
 
 abbrev pub invariant-loop-2 : goal.invariant-loop-2
@@ -14,4 +16,5 @@ invariant-loop-2 g l =
     record {
       unsent : l.self.unsent ≡ l.fn.self.unsent;
       begun : NoneBegan l.fn.self.scheduler l.self.scheduler;
+      ended : NoneEnded l.fn.self.scheduler l.self.scheduler;
     }

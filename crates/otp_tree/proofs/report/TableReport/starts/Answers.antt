@@ -1,4 +1,4 @@
-use Rattle.std.proofs.Common.{◌≡◌, arith}
+use Rattle.std.proofs.Common.{arith}
 use Rattle.otp_tree.proofs.Starts.{starts-more}
 use Rattle.otp_tree.proofs.report.TableReport.starts.Goals as goal
 

@@ -4,6 +4,7 @@ use Rattle.otp_tree.specs.declared.closing.Refusal.TheVariants as refusal
 use Rattle.otp_run.specs.Gathers.{IsLiveTotal, begun_of, ended_of}
 use Rattle.otp_run.specs.Rule.{ticket_of}
 use Rattle.otp_tree.specs.Begun.{HasAllStarts}
+use Rattle.otp_tree.specs.Ended.{HasAllEnds, HasHeard, held_by}
 use Rattle.otp_tree.specs.Closes.{AreApart, HasBegun, HasTold, IsAsItWas, IsComplete, all_senders, kept_in}
 use Rattle.otp_tree.specs.Leavings.{AreAccounted, HasUnsent, IsLast}
 use Rattle.otp_tree.specs.Partings.{schedulers_of}
@@ -174,3 +175,30 @@ returns-in-Err-gather_hands-clause-starts g c = refused-report c.in-Err-gather_h
 
 pub returns-then-not-is_reached-clause-starts : goal.returns-then-not-is_reached-clause-starts
 returns-then-not-is_reached-clause-starts g c = refused-report refusal.Missing c.args.self c.args.hands.items c.args.client c.refuse.result (λ report. HasAllStarts report) c.refuse.ensures
+
+pub returns-in-Err-clause-ends : goal.returns-in-Err-clause-ends
+returns-in-Err-clause-ends g c = refused-report c.in-Err.field-0.cause c.in-Err.field-0.system c.args.hands.items c.args.client c.refuse-in-Err.result (λ report. HasAllEnds report) c.refuse-in-Err.ensures
+
+pub returns-in-Err-clause-heard : goal.returns-in-Err-clause-heard
+returns-in-Err-clause-heard g c = refused-report c.in-Err.field-0.cause c.in-Err.field-0.system c.args.hands.items c.args.client c.refuse-in-Err.result (λ report. HasHeard c.args.client.waiter report.heard) c.refuse-in-Err.ensures
+
+pub returns-in-Err-clause-held : goal.returns-in-Err-clause-held
+returns-in-Err-clause-held g c = refused-report c.in-Err.field-0.cause c.in-Err.field-0.system c.args.hands.items c.args.client c.refuse-in-Err.result (λ report. report.held ≡ sum_by held_by c.args.hands.items) c.refuse-in-Err.ensures
+
+pub returns-in-Err-gather_hands-clause-ends : goal.returns-in-Err-gather_hands-clause-ends
+returns-in-Err-gather_hands-clause-ends g c = refused-report c.in-Err-gather_hands.field-0.cause c.lock.result c.in-Err-gather_hands.field-0.hands.items c.args.client c.refuse-in-Err-gather_hands.result (λ report. HasAllEnds report) c.refuse-in-Err-gather_hands.ensures
+
+pub returns-in-Err-gather_hands-clause-heard : goal.returns-in-Err-gather_hands-clause-heard
+returns-in-Err-gather_hands-clause-heard g c = refused-report c.in-Err-gather_hands.field-0.cause c.lock.result c.in-Err-gather_hands.field-0.hands.items c.args.client c.refuse-in-Err-gather_hands.result (λ report. HasHeard c.args.client.waiter report.heard) c.refuse-in-Err-gather_hands.ensures
+
+pub returns-in-Err-gather_hands-clause-held : goal.returns-in-Err-gather_hands-clause-held
+returns-in-Err-gather_hands-clause-held g c = refused-report c.in-Err-gather_hands.field-0.cause c.lock.result c.in-Err-gather_hands.field-0.hands.items c.args.client c.refuse-in-Err-gather_hands.result (λ report. report.held ≡ sum_by held_by c.args.hands.items) c.refuse-in-Err-gather_hands.ensures
+
+pub returns-then-not-is_reached-clause-ends : goal.returns-then-not-is_reached-clause-ends
+returns-then-not-is_reached-clause-ends g c = refused-report refusal.Missing c.args.self c.args.hands.items c.args.client c.refuse.result (λ report. HasAllEnds report) c.refuse.ensures
+
+pub returns-then-not-is_reached-clause-heard : goal.returns-then-not-is_reached-clause-heard
+returns-then-not-is_reached-clause-heard g c = refused-report refusal.Missing c.args.self c.args.hands.items c.args.client c.refuse.result (λ report. HasHeard c.args.client.waiter report.heard) c.refuse.ensures
+
+pub returns-then-not-is_reached-clause-held : goal.returns-then-not-is_reached-clause-held
+returns-then-not-is_reached-clause-held g c = refused-report refusal.Missing c.args.self c.args.hands.items c.args.client c.refuse.result (λ report. report.held ≡ sum_by held_by c.args.hands.items) c.refuse.ensures

@@ -1,4 +1,4 @@
-use Rattle.std.proofs.Common.{◌≡◌, ◌+◌, ◌∙◌, ap, sym, arith}
+use Rattle.std.proofs.Common.{◌+◌, ◌∙◌, ap, sym, arith}
 use Rattle.std.proofs.lemmas.List.{length-map}
 use Rattle.otp_run.specs.Rule.{ticket_of}
 use Rattle.otp_tree.proofs.system.System.finish.Goals as goal
@@ -20,4 +20,5 @@ returns-in-Ok-clause-report g c =
         left = omega (arith, total.live_is, length-map report.processes.items ticket_of);
       };
       starts = e.starts;
+      ends = e.ends;
     }

@@ -1,6 +1,8 @@
-use Rattle.std.proofs.Common.{◌≡◌, ◌+◌, ◌<◌, ◌∷◌, [], ap, arith, length, length-append, sym, subst, ◌∙◌}
+use Rattle.std.proofs.Common.{◌≡◌, ◌<◌, ◌∷◌, [], ap, arith, length, length-append, sym, subst, ◌∙◌}
+use Rattle.std.proofs.lemmas.List.Sums.{sum_by_push}
 use Rattle.otp_run.proofs.Places.{push_at}
 use Rattle.otp_tree.specs.Begun.{start_share, starts_credited}
+use Rattle.otp_tree.specs.Ended.{end_share, ends_sent}
 use Rattle.otp_tree.specs.Seats.{Seated}
 use Rattle.otp_tree.proofs.Begun.{starts_push}
 use Rattle.otp_tree.proofs.system.System.split_senders.Goals as goal
@@ -23,10 +25,15 @@ loop-place-preserved g c =
     let longer = ap length items ∙ length-append list (x ∷ []) in
     let more = ap starts_credited items ∙ starts_push list x in
     let none = ap start_share new in
-    let so_far = i.3 in (
+    let so_far = i.3 in
+    let more_ends = ap ends_sent items ∙ sum_by_push end_share list x in
+    let none_sent = ap end_share new in
+    let sent_so_far = i.5 in (
       subst Seated (sym items) (push_at (λ k s. (s.inbox ≡ k) × (0 < s.parts)) list x i.0 (seat, has)),
       omega (arith, longer, long),
       c.split_at.ensures.len ∙ i.2,
       omega (arith, more, none, so_far),
       c.split_at.ensures.starts ∙ i.4,
+      omega (arith, more_ends, none_sent, sent_so_far),
+      c.split_at.ensures.ends ∙ i.6,
     )
