@@ -53,9 +53,9 @@ pub join_ends : (list : List (SenderState Item)) (k : ℕ) (old new other : Send
 join_ends list k old new other within at joined own =
     let changed = set_ends list k old new within at in
     let more : end_share new ≡ end_share old + end_share other =
-        ap (λ (l : List (List Item)). sum_by end_of (new.sent ++ together l)) joined
-        ∙ ap (λ (l : List Item). sum_by end_of (l ++ together (old.joined ++ sent_lists other))) own
-        ∙ joined_ends other old
+    ap (λ (l : List (List Item)). sum_by end_of (new.sent ++ together l)) joined
+    ∙ ap (λ (l : List Item). sum_by end_of (l ++ together (old.joined ++ sent_lists other))) own
+    ∙ joined_ends other old
     in
     omega (arith, changed, more)
 
