@@ -25,6 +25,58 @@ fn takes<N: WordsNaming + InboxNaming, R: Wait + Abort>(rt: &R, one: &mut Alone<
     assert_eq!(rt; one.turn(rt, 0, 0, Signal::None), Ok(TurnAnswer::Took));
 }
 
+// It opens, and gives so many orders.
+fn opens<N: WordsNaming + InboxNaming, R: Wait + Abort>(rt: &R, one: &mut Alone<N>, orders: u64) {
+    assert_eq!(rt; one.turn(rt, 0, 0, Signal::None), Ok(TurnAnswer::Opened));
+    assert_eq!(rt; one.flush(rt), orders);
+}
+
+// The process that was put has this number, this slot and this body.
+fn gets<N: WordsNaming + InboxNaming, R: Wait + Abort>(
+    rt: &R,
+    one: &mut Alone<N>,
+    process: (u64, usize, u64),
+) {
+    assert_eq!(rt; one.put(), Some(process));
+}
+
+// The process ends, its body comes with its note, and as many orders follow.
+fn ends<N: WordsNaming + InboxNaming, R: Wait + Abort>(
+    rt: &R,
+    one: &mut Alone<N>,
+    number: u64,
+    reason: Reason,
+    body: u64,
+    orders: u64,
+) {
+    one.exit(rt, number, reason, body);
+    takes(rt, one);
+    assert_eq!(rt; one.flush(rt), orders);
+}
+
+// The body of the call 40 that can be had back now.
+fn gives_back<N: WordsNaming + InboxNaming, R: Wait + Abort>(
+    rt: &R,
+    one: &mut Alone<N>,
+    body: Option<u64>,
+) {
+    assert_eq!(rt; one.table.take_box(40), body);
+}
+
+// A call of this number starts a child, which has this process with the call's body.
+fn starts_dynamic<N: WordsNaming + InboxNaming, R: Wait + Abort>(
+    rt: &R,
+    alloc: Global,
+    one: &mut Alone<N>,
+    call: u64,
+    process: (u64, usize, u64),
+) -> Result<(), Fail> {
+    let letter = Letter::call(alloc, call, Call::StartDynamic, Some(process.2));
+    starts(rt, one, letter)?;
+    gets(rt, one, process);
+    Ok(())
+}
+
 // The process says that it runs, and as many orders follow.
 fn comes_up<N: WordsNaming + InboxNaming, R: Wait + Abort>(
     rt: &R,
@@ -78,21 +130,16 @@ fn own_bodies_in<N: WordsNaming + InboxNaming, R: Wait + Abort>(
     };
     let supervisor = SupSpec::check(flags, copy_specs(alloc, &[child()?, second()?])?)?;
     let mut one = make_table::<N>(alloc, words, inbox, supervisor, &[6, 7])?;
-    assert_eq!(rt; one.turn(rt, 0, 0, Signal::None), Ok(TurnAnswer::Opened));
-    assert_eq!(rt; one.flush(rt), 1);
-    assert_eq!(rt; one.put(), Some((1, 0, 6)));
+    opens(rt, &mut one, 1);
+    gets(rt, &mut one, (1, 0, 6));
     comes_up(rt, &mut one, 1, 1);
-    assert_eq!(rt; one.put(), Some((2, 1, 7)));
+    gets(rt, &mut one, (2, 1, 7));
     comes_up(rt, &mut one, 2, 1);
-    one.exit(rt, 1, Reason::Error(x), 8);
-    takes(rt, &mut one);
-    assert_eq!(rt; one.flush(rt), 1);
-    one.exit(rt, 2, Reason::Shutdown, 9);
-    takes(rt, &mut one);
-    assert_eq!(rt; one.flush(rt), 1);
-    assert_eq!(rt; one.put(), Some((3, 0, 8)));
+    ends(rt, &mut one, 1, Reason::Error(x), 8, 1);
+    ends(rt, &mut one, 2, Reason::Shutdown, 9, 1);
+    gets(rt, &mut one, (3, 0, 8));
     comes_up(rt, &mut one, 3, 1);
-    assert_eq!(rt; one.put(), Some((4, 1, 9)));
+    gets(rt, &mut one, (4, 1, 9));
     Ok(())
 }
 
@@ -117,21 +164,20 @@ fn failed_start_in<N: WordsNaming + InboxNaming, R: Wait + Abort>(
     let x = Text::new(b"x").ok_or("a text")?;
     let supervisor = SupSpec::check(SupFlags::default(), copy_specs(alloc, &[child()?])?)?;
     let mut one = make_table::<N>(alloc, words, inbox, supervisor, &[6])?;
-    assert_eq!(rt; one.turn(rt, 0, 0, Signal::None), Ok(TurnAnswer::Opened));
-    assert_eq!(rt; one.flush(rt), 1);
-    assert_eq!(rt; one.put(), Some((1, 0, 6)));
+    opens(rt, &mut one, 1);
+    gets(rt, &mut one, (1, 0, 6));
     comes_up(rt, &mut one, 1, 1);
     let call = Letter::call(alloc, 40, Call::StartChild(second()?), Some(9));
     starts(rt, &mut one, call)?;
-    assert_eq!(rt; one.put(), Some((2, 1, 9)));
-    assert_eq!(rt; one.table.take_box(40), None);
+    gets(rt, &mut one, (2, 1, 9));
+    gives_back(rt, &mut one, None);
     let failed = Letter::note(Note::Failed(2, Reason::Error(x)), Some(10));
     one.send(rt, failed);
     takes(rt, &mut one);
     assert_eq!(rt; one.flush(rt), 0);
     assert!(rt; matches!(one.table.reply(40), Some(Reply::Refused(_))));
-    assert_eq!(rt; one.table.take_box(40), Some(10));
-    assert_eq!(rt; one.table.take_box(40), None);
+    gives_back(rt, &mut one, Some(10));
+    gives_back(rt, &mut one, None);
     Ok(())
 }
 
@@ -164,34 +210,16 @@ fn gone_child_in<N: WordsNaming + InboxNaming, R: Wait + Abort>(
     };
     let supervisor = SupSpec::check(flags, copy_specs(alloc, &[spec])?)?;
     let mut one = make_table::<N>(alloc, words, inbox, supervisor, &[])?;
-    assert_eq!(rt; one.turn(rt, 0, 0, Signal::None), Ok(TurnAnswer::Opened));
-    assert_eq!(rt; one.flush(rt), 1);
-    starts(
-        rt,
-        &mut one,
-        Letter::call(alloc, 40, Call::StartDynamic, Some(9)),
-    )?;
-    assert_eq!(rt; one.put(), Some((1, 0, 9)));
+    opens(rt, &mut one, 0);
+    starts_dynamic(rt, alloc, &mut one, 40, (1, 0, 9))?;
     comes_up(rt, &mut one, 1, 0);
-    starts(
-        rt,
-        &mut one,
-        Letter::call(alloc, 41, Call::StartDynamic, Some(10)),
-    )?;
-    assert_eq!(rt; one.put(), Some((2, 1, 10)));
+    starts_dynamic(rt, alloc, &mut one, 41, (2, 1, 10))?;
     comes_up(rt, &mut one, 2, 0);
-    assert_eq!(rt; one.table.take_box(40), None);
-    one.exit(rt, 1, Reason::Normal, 11);
-    takes(rt, &mut one);
-    assert_eq!(rt; one.flush(rt), 0);
-    starts(
-        rt,
-        &mut one,
-        Letter::call(alloc, 42, Call::StartDynamic, Some(12)),
-    )?;
-    assert_eq!(rt; one.put(), Some((3, 0, 12)));
-    assert_eq!(rt; one.table.take_box(40), Some(11));
-    assert_eq!(rt; one.table.take_box(40), None);
+    gives_back(rt, &mut one, None);
+    ends(rt, &mut one, 1, Reason::Normal, 11, 0);
+    starts_dynamic(rt, alloc, &mut one, 42, (3, 0, 12))?;
+    gives_back(rt, &mut one, Some(11));
+    gives_back(rt, &mut one, None);
     assert_eq!(rt; one.table.take_stray(), None);
     Ok(())
 }

@@ -218,12 +218,30 @@ fn by_orders_in<N: WordsNaming + InboxNaming, R: Wait + Abort>(
 {
     let x = Text::new(b"x").ok_or("a text")?;
     let mut one = make_alone::<N>(alloc, words, inbox)?;
+    opens(rt, &mut one);
+    comes_up(rt, &mut one);
+    crashes(rt, &mut one, Reason::Error(x));
+    is_asked(rt, &mut one);
+    is_killed(rt, &mut one);
+    ends(rt, &mut one);
+    let (office, _, _) = one.table.into_parts();
+    let (core, _) = office.into_parts();
+    assert_eq!(rt; core.history().len(), 7);
+    Ok(())
+}
+
+// It opens, and starts its child; nothing else happens then.
+fn opens<N: WordsNaming + InboxNaming, R: Wait + Abort>(rt: &R, one: &mut Alone<N>) {
     assert_eq!(rt; one.turn(rt, 0, 0, Signal::None), Ok(TurnAnswer::Opened));
     assert_eq!(rt; one.turn(rt, 0, 0, Signal::None), Ok(TurnAnswer::Pending));
     assert_eq!(rt; one.flush(rt), 1);
     assert_eq!(rt; one.put(), Some((1, 0, OWN)));
     assert_eq!(rt; one.turn(rt, 0, 0, Signal::None), Ok(TurnAnswer::Quiet));
     assert_eq!(rt; one.flush(rt), 0);
+}
+
+// A turn under another number is refused; its child runs, and its parent is told.
+fn comes_up<N: WordsNaming + InboxNaming, R: Wait + Abort>(rt: &R, one: &mut Alone<N>) {
     assert_eq!(rt;
         one.turn(rt, 3, 0, Signal::None),
         Err(TurnFault::WrongNumber)
@@ -233,13 +251,25 @@ fn by_orders_in<N: WordsNaming + InboxNaming, R: Wait + Abort>(
     assert_eq!(rt; one.turn(rt, 0, 0, Signal::None), Ok(TurnAnswer::Took));
     assert_eq!(rt; one.flush(rt), 1);
     assert_eq!(rt; one.told(), Some(Note::Up(0)));
-    one.exit(rt, 1, Reason::Error(x), 7);
+}
+
+// Its child crashes, and is restarted with the body that came home.
+fn crashes<N: WordsNaming + InboxNaming, R: Wait + Abort>(
+    rt: &R,
+    one: &mut Alone<N>,
+    reason: Reason,
+) {
+    one.exit(rt, 1, reason, 7);
     assert_eq!(rt; one.turn(rt, 0, 1000, Signal::None), Ok(TurnAnswer::Took));
     assert_eq!(rt; one.flush(rt), 1);
     assert_eq!(rt; one.put(), Some((2, 0, 7)));
     one.up(rt, 2);
     assert_eq!(rt; one.turn(rt, 0, 1000, Signal::None), Ok(TurnAnswer::Took));
     assert_eq!(rt; one.flush(rt), 0);
+}
+
+// It is told to stop: its child sees the shutdown once the order was sent.
+fn is_asked<N: WordsNaming + InboxNaming, R: Wait + Abort>(rt: &R, one: &mut Alone<N>) {
     assert_eq!(rt;
         one.turn(rt, 0, 1000, Signal::Shutdown),
         Ok(TurnAnswer::Stopped)
@@ -247,21 +277,25 @@ fn by_orders_in<N: WordsNaming + InboxNaming, R: Wait + Abort>(
     assert_eq!(rt; one.signal(rt, 2), Signal::None);
     assert_eq!(rt; one.flush(rt), 1);
     assert_eq!(rt; one.signal(rt, 2), Signal::Shutdown);
+}
+
+// The deadline has come.
+fn is_killed<N: WordsNaming + InboxNaming, R: Wait + Abort>(rt: &R, one: &mut Alone<N>) {
     assert_eq!(rt; one.turn(rt, 0, 6000, Signal::None), Ok(TurnAnswer::Ticked));
     assert_eq!(rt; one.flush(rt), 1);
     assert_eq!(rt; one.signal(rt, 2), Signal::Kill);
     one.exit(rt, 2, Reason::Killed, 8);
     assert_eq!(rt; one.turn(rt, 0, 6000, Signal::None), Ok(TurnAnswer::Took));
+}
+
+// Its child has ended: it has ended, and tells it.
+fn ends<N: WordsNaming + InboxNaming, R: Wait + Abort>(rt: &R, one: &mut Alone<N>) {
     assert_eq!(rt; one.flush(rt), 1);
     assert!(rt; one.has_told_asked());
     assert_eq!(rt; one.told(), Some(Note::Exit(0, Reason::Shutdown)));
     assert_eq!(rt; one.turn(rt, 0, 6000, Signal::None), Ok(TurnAnswer::Ended));
     assert_eq!(rt; one.flush(rt), 0);
     assert!(rt; one.port.processes.is_empty() && one.port.notes.is_empty());
-    let (office, _, _) = one.table.into_parts();
-    let (core, _) = office.into_parts();
-    assert_eq!(rt; core.history().len(), 7);
-    Ok(())
 }
 
 // A port that takes nothing.
@@ -367,20 +401,30 @@ fn start_call_in<N: WordsNaming + InboxNaming, R: Wait + Abort>(
     requires inbox { inbox ≡ N.inbox 0 }
 {
     let mut one = make_alone::<N>(alloc, words, inbox)?;
+    runs(rt, &mut one);
+    let Ok(letter) = Letter::call(alloc, 40, Call::StartChild(child()?), Some(9)) else {
+        return Err("memory was refused".into());
+    };
+    one.send(rt, letter);
+    gives_back(rt, &mut one);
+    Ok(())
+}
+
+// It opens, and its child runs.
+fn runs<N: WordsNaming + InboxNaming, R: Wait + Abort>(rt: &R, one: &mut Alone<N>) {
     assert_eq!(rt; one.turn(rt, 0, 0, Signal::None), Ok(TurnAnswer::Opened));
     assert_eq!(rt; one.flush(rt), 1);
     one.up(rt, 1);
     assert_eq!(rt; one.turn(rt, 0, 0, Signal::None), Ok(TurnAnswer::Took));
     assert_eq!(rt; one.flush(rt), 1);
-    let Ok(letter) = Letter::call(alloc, 40, Call::StartChild(child()?), Some(9)) else {
-        return Err("memory was refused".into());
-    };
-    one.send(rt, letter);
+}
+
+// The call is refused, and its body comes back once.
+fn gives_back<N: WordsNaming + InboxNaming, R: Wait + Abort>(rt: &R, one: &mut Alone<N>) {
     assert_eq!(rt; one.turn(rt, 0, 0, Signal::None), Ok(TurnAnswer::Took));
     assert_eq!(rt; one.flush(rt), 0);
     let reply = one.table.reply(40);
     assert!(rt; matches!(reply, Some(Reply::Refused(CallFault::AlreadyStarted(1)))));
     assert_eq!(rt; one.table.take_box(40), Some(9));
     assert_eq!(rt; one.table.take_box(40), None);
-    Ok(())
 }
