@@ -25,10 +25,10 @@ fn takes<N: WordsNaming + InboxNaming, R: Wait + Abort>(rt: &R, one: &mut Alone<
     assert_eq!(rt; one.turn(rt, 0, 0, Signal::None), Ok(TurnAnswer::Took));
 }
 
-// It opens, and gives so many orders.
-fn opens<N: WordsNaming + InboxNaming, R: Wait + Abort>(rt: &R, one: &mut Alone<N>, orders: u64) {
+// It opens, and gives one order: its first start, or that it is ready where it has no child.
+fn opens<N: WordsNaming + InboxNaming, R: Wait + Abort>(rt: &R, one: &mut Alone<N>) {
     assert_eq!(rt; one.turn(rt, 0, 0, Signal::None), Ok(TurnAnswer::Opened));
-    assert_eq!(rt; one.flush(rt), orders);
+    assert_eq!(rt; one.flush(rt), 1);
 }
 
 // The process that was put has this number, this slot and this body.
@@ -130,7 +130,7 @@ fn own_bodies_in<N: WordsNaming + InboxNaming, R: Wait + Abort>(
     };
     let supervisor = SupSpec::check(flags, copy_specs(alloc, &[child()?, second()?])?)?;
     let mut one = make_table::<N>(alloc, words, inbox, supervisor, &[6, 7])?;
-    opens(rt, &mut one, 1);
+    opens(rt, &mut one);
     gets(rt, &mut one, (1, 0, 6));
     comes_up(rt, &mut one, 1, 1);
     gets(rt, &mut one, (2, 1, 7));
@@ -164,7 +164,7 @@ fn failed_start_in<N: WordsNaming + InboxNaming, R: Wait + Abort>(
     let x = Text::new(b"x").ok_or("a text")?;
     let supervisor = SupSpec::check(SupFlags::default(), copy_specs(alloc, &[child()?])?)?;
     let mut one = make_table::<N>(alloc, words, inbox, supervisor, &[6])?;
-    opens(rt, &mut one, 1);
+    opens(rt, &mut one);
     gets(rt, &mut one, (1, 0, 6));
     comes_up(rt, &mut one, 1, 1);
     let call = Letter::call(alloc, 40, Call::StartChild(second()?), Some(9));
@@ -210,7 +210,7 @@ fn gone_child_in<N: WordsNaming + InboxNaming, R: Wait + Abort>(
     };
     let supervisor = SupSpec::check(flags, copy_specs(alloc, &[spec])?)?;
     let mut one = make_table::<N>(alloc, words, inbox, supervisor, &[])?;
-    opens(rt, &mut one, 0);
+    opens(rt, &mut one);
     starts_dynamic(rt, alloc, &mut one, 40, (1, 0, 9))?;
     comes_up(rt, &mut one, 1, 0);
     starts_dynamic(rt, alloc, &mut one, 41, (2, 1, 10))?;
