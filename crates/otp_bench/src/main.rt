@@ -23,7 +23,7 @@ use std::alloc::AllocError;
 use std::process::ExitCode;
 use std::time::Instant;
 use std::{env, io};
-use trees::Rush;
+use trees::{Even, Rush};
 
 fn main(rt: HostRuntime) -> io::Result<ExitCode> {
     let mut words = env::args(&rt)?.skip(1);
@@ -44,11 +44,10 @@ fn main(rt: HostRuntime) -> io::Result<ExitCode> {
         "words" => signal_words::measure(&rt, rt.alloc(), threads, count)?,
         "supervisors" => supervisors::measure(&rt, rt.alloc(), threads, count)?,
         "trees" => {
-            let gate = Rush {
-                rt: &rt,
-                begun: Instant::now(&rt)?,
-            };
-            trees::measure(&rt, rt.alloc(), &gate, threads, count)?;
+            let begun = Instant::now(&rt)?;
+            let even = Even { rt: &rt, begun };
+            let rush = Rush { rt: &rt, begun };
+            trees::measure(&rt, rt.alloc(), &even, &rush, threads, count)?;
         }
         "puts" => jobs::measure_puts(&rt, rt.alloc(), count)?,
         "turns" => {

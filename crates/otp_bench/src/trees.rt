@@ -70,6 +70,25 @@ impl<'a, R: Runtime> Gate for Rush<'a, R> {
     }
 }
 
+/// A clock as any other: a child that is asked to end has all of its time for that.
+#[derive(Drop)]
+pub struct Even<'a, R> {
+    pub rt: &'a R,
+    pub begun: Instant,
+}
+
+impl<'a, R: Runtime> Gate for Even<'a, R> {
+    fn before_turn(&self, _hand: usize) -> u64 {
+        let Ok(passed) = self.begun.elapsed(self.rt) else {
+            return 0;
+        };
+        match u64::try_from(passed.as_millis()) {
+            Ok(reading) => reading.min(1 << 62),
+            Err(_) => 0,
+        }
+    }
+}
+
 type Draft = TableDraft<Worker, BoxedSubsystem>;
 
 fn add_worker(draft: &mut Draft, id: &[u8], crashes: bool) -> Result<(), AllocError> {
@@ -181,20 +200,26 @@ fn children_for(count: u64) -> usize {
     }
 }
 
-/// Measures a full tree on so many threads: started, and stopped once all are up; and restarts, while all threads together take
-/// so many turns, and as many again in which all is stopped.
-pub fn measure<R: Runtime + Threads + Wait + Sync, G: Gate + Sync>(
+/// Measures a full tree on so many threads, by an even clock: started, and stopped once all are up; and restarts, by one that
+/// rushes, while all threads together take so many turns, and as many again in which all is stopped.
+pub fn measure<R, E, G>(
     rt: &R,
     alloc: Global,
-    gate: &G,
+    even: &E,
+    rush: &G,
     threads: usize,
     count: u64,
-) -> io::Result<()> {
+) -> io::Result<()>
+where
+    R: Runtime + Threads + Wait + Sync,
+    E: Gate + Sync,
+    G: Gate + Sync,
+{
     if threads == 0 || threads > MAX_HANDS {
         return Ok(());
     }
-    measure_full(rt, alloc, gate, threads, children_for(count))?;
-    measure_restarts(rt, alloc, gate, threads, count)
+    measure_full(rt, alloc, even, threads, children_for(count))?;
+    measure_restarts(rt, alloc, rush, threads, count)
 }
 
 fn measure_full<R: Runtime + Threads + Wait + Sync, G: Gate + Sync>(
