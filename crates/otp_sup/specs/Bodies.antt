@@ -168,6 +168,11 @@ home_or_free (Some slot) = place.Home slot
 abbrev pub given_in : ℕ → List Row → Option ℕ
 given_in slot rows = if list_any (has_slot slot) rows then Some slot else None
 
+-- the slot, where there is one and a row has it
+abbrev pub given_among : Option ℕ → List Row → Option ℕ
+given_among None rows = None
+given_among (Some slot) rows = given_in slot rows
+
 -- the least slot that no row had, where a row has it now
 abbrev pub slot_given : List Row → List Row → Option ℕ
 slot_given before rows = given_in (free_slot before) rows
@@ -213,10 +218,22 @@ home_by s kind.Resumed = None
 home_by s kind.Ticked = None
 home_by s kind.Stopped = None
 
+-- the event may make a child for a call that brought a body
+abbrev pub may_seat : State → Kind → Bool
+may_seat s (kind.Opened _) = false
+may_seat s (kind.Took x) = is_start_item x
+may_seat s kind.Resumed = is_taken_up s
+may_seat s kind.Ticked = false
+may_seat s kind.Stopped = false
+
+-- the slot that such a child gets
+abbrev pub free_for : State → Kind → Option ℕ
+free_for s k = if may_seat s k then Some (free_slot s.rows) else None
+
 -- what an event of this kind is about to do with bodies, as far as it can be known before it
 pub record IsPlan (s : State) (k : Kind) (plan : Plan) : Type 0 where
   pub home : plan.home ≡ home_by s k
-  pub free : plan.free ≡ free_slot s.rows
+  pub free : plan.free ≡ free_for s k
   pub waits : plan.waits ≡ is_waited_for s
   pub taken_up : plan.is_taken_up ≡ is_taken_up s
 

@@ -1,5 +1,5 @@
 //! Searches over the bodies that a supervisor keeps, and what an event does to all of them.
-ghost use Rattle.std.specs.Prelude.{◌≡◌, true, position};
+ghost use Rattle.std.specs.Prelude.{◌≡◌, true, position, IsTrue};
 ghost use Rattle.std.specs.List.{list_any};
 ghost use Rattle.otp_sup.specs.Bodies.{are_given, home_or_free, is_at_home, is_from, is_given, is_here, is_away, is_left_of, is_out, is_stray, is_waiting, opened, opened_place, place_among, place_of_call, settled};
 ghost use Rattle.otp_sup.specs.Slots.{AreBelow, AreTaken};
@@ -144,12 +144,37 @@ fn settle_all(kept: &mut [Kept], rows: &[Row], is_any_waiting: bool)
     }
 }
 
-/// The same for the whole list.
+/// Whether one look tells that the body stays where it is once these are the rows: a child is mostly at the place of its slot.
+fn is_seen_to_stay(one: &Kept, rows: &[Row], is_any_waiting: bool) -> bool
+    ensures { IsTrue result → place_among rows.now is_any_waiting one.now.place ≡ one.now.place }
+{
+    match one.place {
+        Place::Home(slot) => slot < rows.len() && rows[slot].slot == slot,
+        Place::Waiting => is_any_waiting,
+        Place::Free | Place::Away(_) => true,
+    }
+}
+
+/// Whether a look at each tells that all stay.
+fn are_seen_to_stay(kept: &[Kept], rows: &[Row], is_any_waiting: bool) -> bool
+    ensures { IsTrue result → settled rows.now is_any_waiting kept.now ≡ kept.now }
+{
+    for one in kept {
+        if !is_seen_to_stay(one, rows, is_any_waiting) {
+            return false;
+        }
+    }
+    true
+}
+
+/// The same for the whole list. Mostly no child has gone, which is seen without marking the slots of all.
 pub(crate) fn settle_items(kept: &mut Vec<Kept>, rows: &[Row], is_any_waiting: bool)
     requires { AreBelow rows.now }
     ensures { kept.new.items ≡ settled rows.now is_any_waiting kept.old.items }
 {
-    settle_all(kept, rows, is_any_waiting);
+    if !are_seen_to_stay(kept, rows, is_any_waiting) {
+        settle_all(kept, rows, is_any_waiting);
+    }
 }
 
 /// Where the body is once a supervisor was opened with these rows, whose slots are those marked.

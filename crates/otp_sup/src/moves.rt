@@ -5,7 +5,7 @@ ghost use Rattle.otp_core.specs.View.{state_of};
 ghost use Rattle.otp_rules.specs.State.{State, is_over};
 ghost use Rattle.otp_rules.specs.Waits.{starts_waiting};
 ghost use Rattle.otp_table.specs.declared.row.Row.{Row};
-ghost use Rattle.otp_sup.specs.Bodies.{CanComeBack, IsPlan, bodies_after, bodies_in, brings_body, calls_waiting, came_for, has_body, is_at_home, left_home, let_go, moved, place_of_call, slot_given, taken_up};
+ghost use Rattle.otp_sup.specs.Bodies.{CanComeBack, IsPlan, bodies_after, bodies_in, brings_body, calls_waiting, came_for, given_among, has_body, is_at_home, left_home, let_go, moved, place_of_call, taken_up};
 ghost use Rattle.otp_sup.specs.declared.bodies.Kept.{Kept};
 ghost use Rattle.otp_sup.specs.declared.bodies.Origin.TheVariants as origin;
 ghost use Rattle.otp_sup.specs.Letters.{one_if};
@@ -71,7 +71,7 @@ fn move_bodies<B: Drop>(
 )
     requires space { 0 < bodies.old.room }
     requires carries { is_some body ≡ brings_body kind.now }
-    ensures { (s : State) (rows : List Row) → IsPlan s kind.now plan.now → slot ≡ slot_given s.rows rows → bodies.new.kept ≡ moved s rows kind.now bodies.old.kept }
+    ensures { (s : State) (rows : List Row) → IsPlan s kind.now plan.now → slot ≡ given_among plan.now.free rows → bodies.new.kept ≡ moved s rows kind.now bodies.old.kept }
 {
     match kind {
         Kind::Took(Item::Note(_)) => come(bodies, plan.home, body),

@@ -1,7 +1,7 @@
 //! What an event is about to do with bodies, as far as it can be known before it.
 ghost use Rattle.std.specs.Prelude.{◌≡◌};
 ghost use Rattle.otp_core.specs.View.{state_of};
-ghost use Rattle.otp_sup.specs.Bodies.{IsPlan, given_in, home_of, is_start_item, is_start_waiting, is_taken_up, is_waited_for};
+ghost use Rattle.otp_sup.specs.Bodies.{IsPlan, free_for, given_among, home_of, is_start_item, is_start_waiting, is_taken_up, is_waited_for, may_seat};
 
 use crate::client::is_start_call;
 use crate::office::Office;
@@ -16,8 +16,8 @@ use otp_table::free_slot;
 pub(crate) struct Plan {
     /// The slot of the child whose body comes home.
     pub home: Option<usize>,
-    /// The slot that a new child gets.
-    pub free: usize,
+    /// The slot that a new child gets, where the event may make one for a call that brought a body.
+    pub free: Option<usize>,
     /// A start call waits.
     pub waits: bool,
     /// The first start call that waits is taken up.
@@ -51,6 +51,28 @@ impl<N: WordsNaming> Office<N> {
         slot_heeding(note, self.core.rows())
     }
 
+    /// Whether an event may make a child for a call that brought a body.
+    fn may_seat(&self, kind: &Kind) -> bool
+        ensures { result ≡ may_seat (state_of self.now.core) kind.now }
+    {
+        match kind {
+            Kind::Took(item) => is_start_item(item),
+            Kind::Resumed => self.is_taken_up(),
+            Kind::Opened(_) | Kind::Ticked | Kind::Stopped => false,
+        }
+    }
+
+    /// The slot that such a child gets. It is searched for only where there may be one, as that walks over all children.
+    fn free_for(&self, kind: &Kind) -> Option<usize>
+        ensures { result ≡ free_for (state_of self.now.core) kind.now }
+    {
+        if self.may_seat(kind) {
+            Some(free_slot(self.rows()))
+        } else {
+            None
+        }
+    }
+
     /// What an event is about to do with bodies, as far as it can be known before it.
     pub(crate) fn plan(&self, kind: &Kind) -> Plan
         ensures { IsPlan (state_of self.now.core) kind.now result }
@@ -61,18 +83,19 @@ impl<N: WordsNaming> Office<N> {
         };
         Plan {
             home,
-            free: free_slot(self.rows()),
+            free: self.free_for(kind),
             waits: self.is_waited_for(),
             is_taken_up: self.is_taken_up(),
         }
     }
 
     /// The slot that a call's child was given, if a row has it now.
-    pub(crate) fn slot_given(&self, free: usize) -> Option<usize>
-        ensures { result ≡ given_in free (state_of self.now.core).rows }
+    pub(crate) fn slot_given(&self, free: Option<usize>) -> Option<usize>
+        ensures { result ≡ given_among free (state_of self.now.core).rows }
     {
-        if has_slot(self.core.rows(), free) {
-            Some(free)
+        let slot = free?;
+        if has_slot(self.core.rows(), slot) {
+            Some(slot)
         } else {
             None
         }

@@ -1,6 +1,6 @@
-use Rattle.std.proofs.Common.{ℕ, List, ap, sym, subst, ◌∙◌}
+use Rattle.std.proofs.Common.{List, ap, sym, subst, ◌∙◌}
 use Rattle.otp_core.specs.View.{state_of}
-use Rattle.otp_sup.specs.Bodies.{bodies_in, calls_waiting, given_in, let_go}
+use Rattle.otp_sup.specs.Bodies.{bodies_in, calls_waiting, let_go}
 use Rattle.otp_sup.specs.declared.bodies.Kept.{Kept}
 use Rattle.otp_sup.specs.Facts.{HasBodies}
 use Rattle.otp_sup.proofs.Calls.{calls_happened}
@@ -12,31 +12,27 @@ pub returns-clause-bodies : goal.returns-clause-bodies
 returns-clause-bodies g c =
     let s = state_of c.args.office.now.core in
     let later = state_of c.happen.new.self.core in
-    let slot = c.slot_given-slot.ensures ∙ ap (λ (n : ℕ). given_in n later.rows) c.plan-plan.ensures.free in
-    c.let_go.ensures ∙ ap (λ (l : List Kept). let_go later c.args.kind l) (c.move_bodies.ensures s later.rows c.plan-plan.ensures slot)
+    c.let_go.ensures ∙ ap (λ (l : List Kept). let_go later c.args.kind l) (c.move_bodies.ensures s later.rows c.plan-plan.ensures c.slot_given-slot.ensures)
 
 pub returns-clause-count : goal.returns-clause-count
 returns-clause-count g c =
     let s = state_of c.args.office.now.core in
     let later = state_of c.happen.new.self.core in
-    let slot = c.slot_given-slot.ensures ∙ ap (λ (n : ℕ). given_in n later.rows) c.plan-plan.ensures.free in
-    ap (λ (l : List Kept). bodies_in l) (c.let_go.ensures ∙ ap (λ (l : List Kept). let_go later c.args.kind l) (c.move_bodies.ensures s later.rows c.plan-plan.ensures slot))
+    ap (λ (l : List Kept). bodies_in l) (c.let_go.ensures ∙ ap (λ (l : List Kept). let_go later c.args.kind l) (c.move_bodies.ensures s later.rows c.plan-plan.ensures c.slot_given-slot.ensures))
     ∙ count_after s later c.args.kind c.args.bodies.now.kept
 
 pub returns-clause-calls : goal.returns-clause-calls
 returns-clause-calls g c = λ same.
     let s = state_of c.args.office.now.core in
     let later = state_of c.happen.new.self.core in
-    let slot = c.slot_given-slot.ensures ∙ ap (λ (n : ℕ). given_in n later.rows) c.plan-plan.ensures.free in
-    ap (λ (l : List Kept). calls_waiting l) (c.let_go.ensures ∙ ap (λ (l : List Kept). let_go later c.args.kind l) (c.move_bodies.ensures s later.rows c.plan-plan.ensures slot))
+    ap (λ (l : List Kept). calls_waiting l) (c.let_go.ensures ∙ ap (λ (l : List Kept). let_go later c.args.kind l) (c.move_bodies.ensures s later.rows c.plan-plan.ensures c.slot_given-slot.ensures))
     ∙ calls_happened c.args.office.now c.happen.new.self c.args.reading c.args.kind c.args.bodies.now.kept c.runs_are_joined.ensures.one_more c.start_calls_wait.ensures c.happen.ensures same
 
 pub returns-clause-homes : goal.returns-clause-homes
 returns-clause-homes g c = λ same has.
     let s = state_of c.args.office.now.core in
     let later = state_of c.happen.new.self.core in
-    let slot = c.slot_given-slot.ensures ∙ ap (λ (n : ℕ). given_in n later.rows) c.plan-plan.ensures.free in
-    let is = c.let_go.ensures ∙ ap (λ (l : List Kept). let_go later c.args.kind l) (c.move_bodies.ensures s later.rows c.plan-plan.ensures slot) in
+    let is = c.let_go.ensures ∙ ap (λ (l : List Kept). let_go later c.args.kind l) (c.move_bodies.ensures s later.rows c.plan-plan.ensures c.slot_given-slot.ensures) in
     let laws : Laws = record {
       goes_on = c.runs_are_joined.ensures.one_more;
       homes = c.homes_are_kept.ensures.from_any;
