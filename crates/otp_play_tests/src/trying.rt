@@ -109,6 +109,63 @@ fn hanging_child(rt: HostRuntime) -> Result<(), Fail> {
     )
 }
 
+const TWO: &str = "intensity = 5\nperiod = 10\n[[child]]\nid = \"db\"\nstart = \"db\"\n\
+[[child]]\nid = \"web\"\nstart = \"web\"\n";
+
+/// A process ends once: while its end waits for a child that is being stopped, a second crash of it is refused, and no
+/// restart is counted for it. That its end waits is told.
+#[test]
+fn process_that_has_ended(rt: HostRuntime) -> Result<(), Fail> {
+    let began =
+        "0.000 s  start db #1\n0.000 s  start web #2\n0.000 s  ready\nline 1: hang db\nline 2: terminate db\n\
+0.000 s  ask db #1\nline 3: crash web\n";
+    let waits = format!(in rt.alloc();
+        "{began}0.000 s  1 up, 1 stopping, 0/5 restarts in 10 s\nawaits the end of db #1 until 5.000 s\n\
+what came since waits until that is done\n"
+    )?;
+    plays_on(
+        &rt,
+        rt.alloc(),
+        TWO,
+        Writer::Script,
+        "hang db\nterminate db\ncrash web",
+        waits.as_str(),
+        TryEnd::Done,
+    )?;
+    let refused = format!(in rt.alloc(); "{began}line 4: crash #2\n")?;
+    plays_on(
+        &rt,
+        rt.alloc(),
+        TWO,
+        Writer::Script,
+        "hang db\nterminate db\ncrash web\ncrash #2",
+        refused.as_str(),
+        TryEnd::LineMissed(4, ActionEnd::EndWaits),
+    )
+}
+
+/// Of many restarts the first three times are told, and the last.
+#[test]
+fn many_restarts(rt: HostRuntime) -> Result<(), Fail> {
+    plays_on(
+        &rt,
+        rt.alloc(),
+        TWO,
+        Writer::Script,
+        "+1s crash db\n+1s crash db\n+1s crash db\n+1s crash db\n+1s crash db\n+1s crash db\n",
+        "0.000 s  start db #1\n0.000 s  start web #2\n0.000 s  ready\n\
+line 1: +1s crash db\n1.000 s  start db #3\n\
+line 2: +1s crash db\n2.000 s  start db #4\n\
+line 3: +1s crash db\n3.000 s  start db #5\n\
+line 4: +1s crash db\n4.000 s  start db #6\n\
+line 5: +1s crash db\n5.000 s  start db #7\n\
+line 6: +1s crash db\n6.000 s  ask web #2\n\
+6.000 s  end shutdown: more than 5 restarts within 10 s: at 1.000 s, 2.000 s, 3.000 s, .., 6.000 s\n\
+6.000 s  the supervisor has ended\n",
+        TryEnd::Done,
+    )
+}
+
 /// A stop that comes while a child is being stopped waits for that, and is not forgotten.
 #[test]
 fn stop_while_work_is_open(rt: HostRuntime) -> Result<(), Fail> {

@@ -1,12 +1,12 @@
 -- What a supervisor awaits of its children, a line for each of which it awaits something (own).
-use Rattle.std.specs.Prelude.{ℕ, List, [], ◌++◌, Option, Some, None, codes}
+use Rattle.std.specs.Prelude.{ℕ, Bool, true, false, List, [], ◌++◌, Option, Some, None, codes}
 use Rattle.std.specs.List.{flat_map}
 use Rattle.otp_reason.specs.declared.name.Name.{Name}
 use Rattle.otp_table.specs.declared.row.Row.{Row}
 use Rattle.otp_table.specs.declared.row.RowState.{RowState}
 use Rattle.otp_table.specs.declared.row.RowState.TheVariants.{Undefined, Starting, Up, Asked, Killed, Restarting}
 use Rattle.otp_text.specs.Values.{child_name_text, process_text}
-use Rattle.otp_try.specs.Story.{time_text}
+use Rattle.otp_try.specs.Story.{heading, time_text}
 
 -- until when, if there is a deadline
 unfoldable pub until_text : Option ℕ → List ℕ
@@ -35,5 +35,14 @@ abbrev pub awaited_of : List ℕ → Row → List ℕ
 awaited_of path row = awaited_in path row.id row.state
 
 -- the lines of the children of the supervisor with this path, in start order
-unfoldable pub awaited_text : List ℕ → List Row → List ℕ
-awaited_text path rows = flat_map (awaited_of path) rows
+unfoldable pub children_awaited : List ℕ → List Row → List ℕ
+children_awaited path rows = flat_map (awaited_of path) rows
+
+-- and that events wait until then, where some do
+unfoldable pub waiting_text : List ℕ → Bool → List ℕ
+waiting_text path false = []
+waiting_text path true = heading path ++ codes "what came since waits until that is done\n"
+
+-- what the supervisor with this path awaits
+unfoldable pub awaited_text : List ℕ → List Row → Bool → List ℕ
+awaited_text path rows waits = children_awaited path rows ++ waiting_text path waits

@@ -1,7 +1,8 @@
 -- A tree that is tried: its supervisors, each with its events so far, and how calls of a trial add to them (own).
-use Rattle.std.specs.Prelude.{◌≡◌, ℕ, ◌<◌, Bool, true, false, List, [], ◌∷◌, ◌++◌, Option, Some, None, if◌then◌else◌, length, position, slice_get, slice_index_or, slice_set}
-use Rattle.std.specs.List.{flat_map}
+use Rattle.std.specs.Prelude.{◌≡◌, ℕ, ◌<◌, ◌==◌, ◌&&◌, nat_lt, Bool, true, false, List, [], ◌∷◌, ◌++◌, Option, Some, None, if◌then◌else◌, length, position, slice_get, slice_index_or, slice_set}
+use Rattle.std.specs.List.{flat_map, list_any}
 use Rattle.otp_file.specs.Trees.{Table, Tree}
+use Rattle.otp_reason.specs.declared.note.Note.{Note}
 use Rattle.otp_reason.specs.declared.note.Note.TheVariants as note
 use Rattle.otp_reason.specs.declared.reason.Reason.{Reason}
 use Rattle.otp_rules.specs.declared.event.Event.{Event}
@@ -128,11 +129,40 @@ TellsFirst place k old new before after = (seat : Seated) × (e : Event) × (ms 
     × Lead old (record { place = place; seat = seat; event = Some e } ∷ ms) new × (e.kind ≡ k)
     × (after ≡ before ++ story (record { place = place; seat = seat; event = Some e } ∷ ms))
 
+-- the note tells the end of this process
+unfoldable pub tells_end_of : ℕ → Note → Bool
+tells_end_of p (note.Up _) = false
+tells_end_of p (note.Ignored n) = n == p
+tells_end_of p (note.Failed n _) = n == p
+tells_end_of p (note.Exit n _) = n == p
+
+-- an event of this kind told it
+unfoldable pub told_end_of : ℕ → Kind → Bool
+told_end_of p (kind.Opened _) = false
+told_end_of p (kind.Took (item.Note x)) = tells_end_of p x
+told_end_of p (kind.Took (item.Call _ _)) = false
+told_end_of p kind.Resumed = false
+told_end_of p kind.Ticked = false
+told_end_of p kind.Stopped = false
+
+abbrev pub was_end_of : ℕ → Event → Bool
+was_end_of p e = told_end_of p e.kind
+
+-- something waits until no work is open, and the end of this process was told: of a child that still has the process it
+-- is among what waits
+unfoldable pub has_end_waiting : Seated → ℕ → Bool
+has_end_waiting seat p = nat_lt 0 (length (state_in seat).waiting) && list_any (was_end_of p) seat.history
+
+-- the end of this process is what happens first, unless it waits already; then nothing happens
+unfoldable pub EndsUnless : Bool → ℕ → ℕ → Reason → List Seated → ActionEnd → List Seated → Type 0
+EndsUnless true place p r old answer new = (answer ≡ taken.EndWaits) × (new ≡ old)
+EndsUnless false place p r old answer new = (answer ≡ taken.Done) × Begins place (kind.Took (item.Note (note.Exit p r))) old new
+
 -- the end of that process is what happens first; or nothing happens, and the answer says why
-unfoldable pub Ends : ℕ → Reason → Found → List Seated → ActionEnd → List Seated → Type 0
-Ends place r (found.Process p) old answer new = (answer ≡ taken.Done) × Begins place (kind.Took (item.Note (note.Exit p r))) old new
-Ends place r found.NoProcess old answer new = (answer ≡ taken.NoProcess) × (new ≡ old)
-Ends place r found.NoChild old answer new = (answer ≡ taken.NoChild) × (new ≡ old)
+unfoldable pub Ends : ℕ → Reason → Seated → Found → List Seated → ActionEnd → List Seated → Type 0
+Ends place r seat (found.Process p) old answer new = EndsUnless (has_end_waiting seat p) place p r old answer new
+Ends place r seat found.NoProcess old answer new = (answer ≡ taken.NoProcess) × (new ≡ old)
+Ends place r seat found.NoChild old answer new = (answer ≡ taken.NoChild) × (new ≡ old)
 
 -- the root has ended, or was never opened
 unfoldable pub is_root_over : List Seated → Bool
@@ -161,7 +191,7 @@ Stops false place old answer new = (answer ≡ taken.Done) × StopsFirst place o
 -- what an action of a script, which is said to the supervisor at this place, does first
 unfoldable pub Acts : Action → ℕ → Seated → List Seated → ActionEnd → List Seated → Type 0
 Acts action.Nothing place seat old answer new = (answer ≡ taken.Done) × (new ≡ old)
-Acts (action.Exit c r) place seat old answer new = Ends place r (found_for c (state_in seat).rows) old answer new
+Acts (action.Exit c r) place seat old answer new = Ends place r seat (found_for c (state_in seat).rows) old answer new
 Acts (action.Start _ _) place seat old answer new = (answer ≡ end_of_plan old seat) × (new ≡ old)
 Acts (action.Hang c) place seat old answer new = new ≡ old
 Acts action.Stop place seat old answer new = Stops (is_root_over old) place old answer new
@@ -177,7 +207,11 @@ PlansAt place old answer = (seat : Seated) → IsAt old place seat → answer �
 
 -- the process that is meant is that of this child of the supervisor at this place
 abbrev pub EndsAt : ℕ → Reason → Child → List Seated → ActionEnd → List Seated → Type 0
-EndsAt place r c old answer new = (seat : Seated) → IsAt old place seat → Ends place r (found_for c (state_in seat).rows) old answer new
+EndsAt place r c old answer new = (seat : Seated) → IsAt old place seat → Ends place r seat (found_for c (state_in seat).rows) old answer new
+
+-- it is this process
+abbrev pub EndsProcessAt : ℕ → ℕ → Reason → List Seated → ActionEnd → List Seated → Type 0
+EndsProcessAt place p r old answer new = (seat : Seated) → IsAt old place seat → EndsUnless (has_end_waiting seat p) place p r old answer new
 
 -- a supervisor for each of these tables, in their order, that was never opened, and is told or not
 abbrev pub ArePlanted : Bool → List Table → List Seated → Type 0

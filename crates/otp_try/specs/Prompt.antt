@@ -1,5 +1,5 @@
 -- What is shown of the supervisors of a trial: the prompt, and what stands at the end of a run (own).
-use Rattle.std.specs.Prelude.{ℕ, Bool, true, false, List, [], ◌∷◌, ◌++◌, codes, drop, if◌then◌else◌}
+use Rattle.std.specs.Prelude.{ℕ, Bool, true, false, List, [], ◌∷◌, ◌++◌, codes, drop, if◌then◌else◌, length, nat_lt}
 use Rattle.otp_rules.specs.Ends.{last_stamps}
 use Rattle.otp_rules.specs.State.{is_over}
 use Rattle.otp_try.specs.Awaiting.{awaited_text}
@@ -42,7 +42,7 @@ standing_lines now (seat ∷ seats) (is_running ∷ running) = standing_line now
 
 -- what a supervisor awaits, if it has a process
 unfoldable pub awaited_by : Seated → Bool → List ℕ
-awaited_by seat true = awaited_text seat.path (state_in seat).rows
+awaited_by seat true = awaited_text seat.path (state_in seat).rows (nat_lt 0 (length (state_in seat).waiting))
 awaited_by seat false = []
 
 -- what supervisors await, of which these have a process

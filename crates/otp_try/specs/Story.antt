@@ -1,5 +1,5 @@
 -- What is told of a run: each order as a line, at the time at which it was given, with the path of its supervisor (own).
-use Rattle.std.specs.Prelude.{ℕ, ◌==◌, Bool, true, List, [], ◌∷◌, ◌++◌, Option, Some, None, codes, decimal, if◌then◌else◌}
+use Rattle.std.specs.Prelude.{ℕ, ◌==◌, ◌-◌, get_or, length, nat_le, take, Bool, true, List, [], ◌∷◌, ◌++◌, Option, Some, None, codes, decimal, if◌then◌else◌}
 use Rattle.std.specs.List.{flat_map}
 use Rattle.otp_reason.specs.declared.name.Name.{Name}
 use Rattle.otp_reason.specs.Names.{name_bytes}
@@ -35,6 +35,17 @@ unfoldable pub times_text : List ℕ → List ℕ
 times_text [] = []
 times_text (time ∷ times) = time_text time ++ flat_map next_time_text times
 
+-- more times than these are not all written: the first three and the last are
+abbrev pub most_times : ℕ
+most_times = 5
+
+unfoldable pub cut_times_text : List ℕ → List ℕ
+cut_times_text times = times_text (take 3 times) ++ codes ", .." ++ next_time_text (get_or times (length times - 1) 0)
+
+-- times with commas between, where they are many the first and the last of them
+unfoldable pub few_times_text : List ℕ → List ℕ
+few_times_text times = if nat_le (length times) most_times then times_text times else cut_times_text times
+
 -- a number after a word
 unfoldable pub number_after : List ℕ → ℕ → List ℕ
 number_after before number = before ++ decimal number
@@ -50,7 +61,7 @@ limit_text flags =
 
 -- more restarts than the intensity within the period, and when they were
 unfoldable pub restarts_text : SupFlags → List ℕ → List ℕ
-restarts_text flags stamps = limit_text flags ++ codes " s: at " ++ times_text stamps
+restarts_text flags stamps = limit_text flags ++ codes " s: at " ++ few_times_text stamps
 
 -- a child with its path; one without an id by the number of its process
 unfoldable pub id_text : List ℕ → Option Name → ℕ → List ℕ

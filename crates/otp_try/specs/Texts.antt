@@ -21,6 +21,7 @@ fault_text fault.TooLong = codes "more than 512 bytes"
 unfoldable pub taken_text : ActionEnd → List ℕ
 taken_text taken.Done = []
 taken_text taken.NoProcess = codes "ignored: this child has no process now; say restart ID to start it again, or which to list what runs"
+taken_text taken.EndWaits = codes "ignored: this process has ended already; its supervisor takes that up once no work is open"
 taken_text taken.NoChild = codes "ignored: there is no such child; say which to list the children"
 taken_text taken.TooLate = codes "ignored: that time has gone by; +TIME counts from the line before"
 taken_text taken.Ended = codes "ignored: the supervisor has ended; the line of its end says why"

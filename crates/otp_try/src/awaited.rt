@@ -1,8 +1,9 @@
 //! What a supervisor awaits of its children.
 
 ghost use Rattle.std.specs.Prelude.{◌≡◌, ◌++◌, OnOk};
-ghost use Rattle.otp_try.specs.Awaiting.{awaited_in, awaited_line, awaited_of, awaited_text, process_of_child, until_text};
+ghost use Rattle.otp_try.specs.Awaiting.{awaited_in, awaited_line, awaited_of, awaited_text, children_awaited, process_of_child, until_text, waiting_text};
 
+use crate::telling::write_heading;
 use crate::time::write_time;
 use otp_reason::Name;
 use otp_table::{Row, RowState};
@@ -96,10 +97,36 @@ fn write_awaited_in(
     }
 }
 
-/// Appends a line for each child of which something is awaited, of the supervisor with this path.
+/// Appends that events wait until what is awaited is done, where some do.
+#[tactic(auto, unfolding(crate::specs::Awaiting::waiting_text))]
+fn write_waiting(path: &[u8], waits: bool, out: &mut Vec<u8>) -> Result<(), AllocError>
+    ensures { OnOk result (out.new.items ≡ out.old.items ++ waiting_text path.now waits) }
+{
+    if !waits {
+        return Ok(());
+    }
+    write_heading(path, out)?;
+    out.extend_from_slice(b"what came since waits until that is done\n")
+}
+
+/// Appends what the supervisor with this path awaits of its children, and whether events wait until then.
 #[tactic(auto, unfolding(crate::specs::Awaiting::awaited_text))]
-pub(crate) fn write_awaited(path: &[u8], rows: &[Row], out: &mut Vec<u8>) -> Result<(), AllocError>
-    ensures { OnOk result (out.new.items ≡ out.old.items ++ awaited_text path.now rows.now) }
+pub(crate) fn write_awaited(
+    path: &[u8],
+    rows: &[Row],
+    waits: bool,
+    out: &mut Vec<u8>,
+) -> Result<(), AllocError>
+    ensures { OnOk result (out.new.items ≡ out.old.items ++ awaited_text path.now rows.now waits) }
+{
+    write_children(path, rows, out)?;
+    write_waiting(path, waits, out)
+}
+
+/// Appends a line for each child of which something is awaited, of the supervisor with this path.
+#[tactic(auto, unfolding(crate::specs::Awaiting::children_awaited))]
+fn write_children(path: &[u8], rows: &[Row], out: &mut Vec<u8>) -> Result<(), AllocError>
+    ensures { OnOk result (out.new.items ≡ out.old.items ++ children_awaited path.now rows.now) }
 {
     for row in rows {
         write_awaited_in(path, &row.id, row.state, out)?;

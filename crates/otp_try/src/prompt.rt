@@ -99,7 +99,7 @@ fn write_awaited_by(seat: &Seat, is_running: bool, out: &mut Vec<u8>) -> Result<
     if !is_running {
         return Ok(());
     }
-    write_awaited(seat.path(), seat.rows(), out)
+    write_awaited(seat.path(), seat.rows(), seat.has_waiting(), out)
 }
 
 /// Appends what the supervisors await, of which each has a process or not.

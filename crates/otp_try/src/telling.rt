@@ -5,7 +5,7 @@ ghost use Rattle.otp_core.specs.View.{state_of};
 ghost use Rattle.otp_try.specs.Story.{cause_text, child_order, end_text, heading, id_text, is_told, limit_text, line_if, number_after, order_text, restarts_text, restarts_word, significant_text, started_between, started_text, told_line, told_lines};
 
 use crate::starts::{Started, start_of};
-use crate::time::{write_time, write_times};
+use crate::time::{write_few_times, write_time};
 use otp_core::Core;
 use otp_reason::Name;
 use otp_rules::{Cause, Effect, SupEnd};
@@ -51,7 +51,7 @@ fn write_restarts(flags: &SupFlags, stamps: &[u64], out: &mut Vec<u8>) -> Result
 {
     write_limit(flags, out)?;
     out.extend_from_slice(b" s: at ")?;
-    write_times(stamps, out)
+    write_few_times(stamps, out)
 }
 
 /// Appends a child with its path, or where it has no id its process.

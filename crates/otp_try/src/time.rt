@@ -1,8 +1,8 @@
 //! Times as they are told.
 
-ghost use Rattle.std.specs.Prelude.{◌≡◌, ◌++◌, OnOk};
+ghost use Rattle.std.specs.Prelude.{◌≡◌, ◌++◌, ◌<◌, length, OnOk};
 ghost use Rattle.std.specs.List.{flat_map};
-ghost use Rattle.otp_try.specs.Story.{next_time_text, time_text, times_text};
+ghost use Rattle.otp_try.specs.Story.{cut_times_text, few_times_text, most_times, next_time_text, time_text, times_text};
 
 use otp_timeline::write_seconds;
 use std::alloc::AllocError;
@@ -37,7 +37,7 @@ fn write_next_times(times: &[u64], out: &mut Vec<u8>) -> Result<(), AllocError>
 
 /// Appends times with commas between.
 #[tactic(auto, unfolding(crate::specs::Story::times_text))]
-pub(crate) fn write_times(times: &[u64], out: &mut Vec<u8>) -> Result<(), AllocError>
+fn write_times(times: &[u64], out: &mut Vec<u8>) -> Result<(), AllocError>
     ensures { OnOk result (out.new.items ≡ out.old.items ++ times_text times.now) }
 {
     match times {
@@ -46,5 +46,31 @@ pub(crate) fn write_times(times: &[u64], out: &mut Vec<u8>) -> Result<(), AllocE
             write_time(*first, out)?;
             write_next_times(rest, out)
         }
+    }
+}
+
+/// Of more times than these not all are written.
+const MOST_TIMES: usize = 5;
+
+/// Appends the first three and the last of many times.
+#[tactic(auto, unfolding(crate::specs::Story::cut_times_text))]
+fn write_cut_times(times: &[u64], out: &mut Vec<u8>) -> Result<(), AllocError>
+    requires { most_times < length times.now }
+    ensures { OnOk result (out.new.items ≡ out.old.items ++ cut_times_text times.now) }
+{
+    write_times(&times[..3], out)?;
+    out.extend_from_slice(b", ..")?;
+    write_next_time(times[times.len() - 1], out)
+}
+
+/// Appends times with commas between, where they are many the first and the last of them.
+#[tactic(auto, unfolding(crate::specs::Story::few_times_text))]
+pub(crate) fn write_few_times(times: &[u64], out: &mut Vec<u8>) -> Result<(), AllocError>
+    ensures { OnOk result (out.new.items ≡ out.old.items ++ few_times_text times.now) }
+{
+    if times.len() <= MOST_TIMES {
+        write_times(times, out)
+    } else {
+        write_cut_times(times, out)
     }
 }

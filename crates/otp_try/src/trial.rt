@@ -5,7 +5,7 @@ ghost use Rattle.otp_reason.specs.declared.note.Note.TheVariants as note;
 ghost use Rattle.otp_rules.specs.declared.event.Item.TheVariants as item;
 ghost use Rattle.otp_rules.specs.declared.event.Kind.TheVariants as kind;
 ghost use Rattle.otp_spec.specs.declared.limits.TheConstants.{MAX_READING};
-ghost use Rattle.otp_try.specs.Played.{ActsAt, Begins, EndsAt, IsPlanted, PlansAt, Seated, Stops, StopsFirst, Tells, TellsFirst, is_root_over};
+ghost use Rattle.otp_try.specs.Played.{ActsAt, Begins, EndsAt, EndsProcessAt, IsPlanted, PlansAt, Seated, Stops, StopsFirst, Tells, TellsFirst, is_root_over};
 ghost use Rattle.otp_try.specs.Sketched.{moment_of};
 ghost use Rattle.otp_try.specs.Texts.{taken_text};
 ghost use Rattle.otp_try.specs.declared.trial.ActionEnd.TheVariants.{Done};
@@ -50,6 +50,8 @@ pub enum ActionEnd {
     Done,
     /// The child that it means has no process. Nothing happened.
     NoProcess,
+    /// The process that it means has ended already, which its supervisor takes up once no work is open. Nothing happened.
+    EndWaits,
     /// There is no child that it could mean. Nothing happened.
     NoChild,
     /// Its time has gone by. Nothing happened.
@@ -70,6 +72,8 @@ impl ActionEnd {
             ActionEnd::Done => "",
             ActionEnd::NoProcess =>
                 "ignored: this child has no process now; say restart ID to start it again, or which to list what runs",
+            ActionEnd::EndWaits =>
+                "ignored: this process has ended already; its supervisor takes that up once no work is open",
             ActionEnd::NoChild => "ignored: there is no such child; say which to list the children",
             ActionEnd::TooLate =>
                 "ignored: that time has gone by; +TIME counts from the line before",
@@ -403,6 +407,26 @@ impl Trial {
         )
     }
 
+    /// The process of this number ends, unless its end was told already and waits: a process ends once.
+    #[tactic(auto, unfolding(crate::specs::Played::EndsUnless))]
+    fn end_found(
+        &mut self,
+        place: usize,
+        process: u64,
+        reason: Reason,
+        out: &mut Vec<u8>,
+    ) -> Result<ActionEnd, Halt>
+        requires { place < length self.old }
+        ensures told { OnOk result (Tells self.old self.new out.old.items out.new.items) }
+        ensures ends { IfOk result (λ taken. EndsProcessAt place process reason self.old taken self.new) }
+    {
+        if self.seats[place].has_end_waiting(process) {
+            return Ok(ActionEnd::EndWaits);
+        }
+        self.end_number(place, process, reason, out)?;
+        Ok(ActionEnd::Done)
+    }
+
     /// The process of a child of the supervisor at this place ends.
     #[tactic(auto, unfolding(crate::specs::Played::Ends))]
     fn end_process(
@@ -417,10 +441,7 @@ impl Trial {
         ensures ends { IfOk result (λ taken. EndsAt place reason child.now self.old taken self.new) }
     {
         match found_for(child, self.seats[place].rows()) {
-            Found::Process(process) => {
-                self.end_number(place, process, reason, out)?;
-                Ok(ActionEnd::Done)
-            }
+            Found::Process(process) => self.end_found(place, process, reason, out),
             Found::NoProcess => Ok(ActionEnd::NoProcess),
             Found::NoChild => Ok(ActionEnd::NoChild),
         }
