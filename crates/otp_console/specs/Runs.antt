@@ -36,7 +36,7 @@ IsRun FileAsCommand file old new = ⊥
 IsRun TreeNotRead file old new = ⊥
 IsRun FileNotRead file old new = ⊥
 IsRun (TreeRefused why) file old new = (new ≡ old) × IsFirstFault why file
-IsRun (NoTree why) file old new = ⊥
+IsRun (NoTree why named) file old new = ⊥
 IsRun (UnknownStart name) file old new = ⊥
 IsRun WrongBody file old new = ⊥
 IsRun CloseMismatch file old new = ⊥
@@ -71,58 +71,59 @@ Answers _ old new = ⊥
 abbrev pub IsSmall : List ℕ → Type 0
 IsSmall file = length file ≤ LARGEST_TREE
 
--- a tree was tried by the lines of a script; want of memory may end it before, and says nothing of the file
-abbrev pub IsTrial : ProgramEnd → List ℕ → Devices → Devices → Type 0
-IsTrial Done file old new = HasTree file
-IsTrial (NoTree why) file old new = (new ≡ old) × IsFirstFault why file
-IsTrial (ScriptRefused line why) file old new = HasTree file
-IsTrial (ScriptMissed line why) file old new = HasTree file
-IsTrial HistoryFull file old new = HasTree file
-IsTrial InputFailed file old new = HasTree file
-IsTrial OutputFailed file old new = HasTree file
-IsTrial OutOfMemory file old new = (new ≡ old) ⊎ HasTree file
-IsTrial _ file old new = ⊥
+-- the tree of the file of this name was tried by the lines of a script; want of memory may end it before, and says nothing of
+-- the file
+abbrev pub IsTrial : List ℕ → ProgramEnd → List ℕ → Devices → Devices → Type 0
+IsTrial name Done file old new = HasTree file
+IsTrial name (NoTree why named) file old new = (new ≡ old) × ((named.now ≡ name) × IsFirstFault why file)
+IsTrial name (ScriptRefused line why) file old new = HasTree file
+IsTrial name (ScriptMissed line why) file old new = HasTree file
+IsTrial name HistoryFull file old new = HasTree file
+IsTrial name InputFailed file old new = HasTree file
+IsTrial name OutputFailed file old new = HasTree file
+IsTrial name OutOfMemory file old new = (new ≡ old) ⊎ HasTree file
+IsTrial name _ file old new = ⊥
 
 -- a text was written, and so it ends well; or the writer failed
 abbrev pub IsWritten : ProgramEnd → ProgramEnd → ℕ → ℕ → Type 0
 IsWritten ending well failures_before failures_now = (ending ≡ well) ⊎ ((ending ≡ OutputFailed) × (failures_before < failures_now))
 
--- what is said of a tree could not be: the file says none, there is no memory, or the writer failed
-abbrev pub IsNotSaid : ProgramEnd → List ℕ → Written → Written → Type 0
-IsNotSaid (NoTree why) file old new = (new ≡ old) × IsFirstFault why file
-IsNotSaid OutputFailed file old new = HasTree file × (old.failures < new.failures)
-IsNotSaid OutOfMemory file old new = new ≡ old
-IsNotSaid _ file old new = ⊥
+-- what is said of the tree of the file of this name could not be: the file says none, there is no memory, or the writer failed
+abbrev pub IsNotSaid : List ℕ → ProgramEnd → List ℕ → Written → Written → Type 0
+IsNotSaid name (NoTree why named) file old new = (new ≡ old) × ((named.now ≡ name) × IsFirstFault why file)
+IsNotSaid name OutputFailed file old new = HasTree file × (old.failures < new.failures)
+IsNotSaid name OutOfMemory file old new = new ≡ old
+IsNotSaid name _ file old new = ⊥
 
 -- a tree was drawn
-abbrev pub IsDrawn : ProgramEnd → List ℕ → Written → Written → Type 0
-IsDrawn Done file old new = HasTree file
-IsDrawn ending file old new = IsNotSaid ending file old new
+abbrev pub IsDrawn : List ℕ → ProgramEnd → List ℕ → Written → Written → Type 0
+IsDrawn name Done file old new = HasTree file
+IsDrawn name ending file old new = IsNotSaid name ending file old new
 
 -- the limits of a tree were written
-abbrev pub IsLimited : ProgramEnd → List ℕ → Written → Written → Type 0
-IsLimited Done file old new = (text : List ℕ) × (HasLimits file text × Appends old.bytes new.bytes text)
-IsLimited HistoryFull file old new = (new ≡ old) × HasTree file
-IsLimited ending file old new = IsNotSaid ending file old new
+abbrev pub IsLimited : List ℕ → ProgramEnd → List ℕ → Written → Written → Type 0
+IsLimited name Done file old new = (text : List ℕ) × (HasLimits file text × Appends old.bytes new.bytes text)
+IsLimited name HistoryFull file old new = (new ≡ old) × HasTree file
+IsLimited name ending file old new = IsNotSaid name ending file old new
 
 -- the script is in another file, of which nothing of the input is read: that can't be read, or the tree was tried by it
-abbrev pub IsTrialOf : Option (List ℕ) → ProgramEnd → List ℕ → Devices → Devices → Type 0
-IsTrialOf None ending file old new = IsTrial ending file old new
-IsTrialOf (Some script) ending file old new =
+abbrev pub IsTrialOf : List ℕ → Option (List ℕ) → ProgramEnd → List ℕ → Devices → Devices → Type 0
+IsTrialOf name None ending file old new = IsTrial name ending file old new
+IsTrialOf name (Some script) ending file old new =
     ((ending ≡ FileNotRead) × (new ≡ old)) ⊎ ((ending ≡ OutOfMemory) × (new ≡ old))
-    ⊎ (IsTrial ending file old new × IsUnread old new)
+    ⊎ (IsTrial name ending file old new × IsUnread old new)
 
--- a tree file was used so
-abbrev pub IsUsed : Usage → ProgramEnd → List ℕ → Devices → Devices → Type 0
-IsUsed (usage.Try script writer is_drawn) ending file old new = IsTrialOf (option_map (λ name. name.now) script) ending file old new
-IsUsed usage.Draw ending file old new = IsUnread old new × IsDrawn ending file (writer_of old) (writer_of new)
-IsUsed usage.Limit ending file old new = IsUnread old new × IsLimited ending file (writer_of old) (writer_of new)
+-- the tree file of this name was used so
+abbrev pub IsUsed : List ℕ → Usage → ProgramEnd → List ℕ → Devices → Devices → Type 0
+IsUsed name (usage.Try script writer is_drawn) ending file old new = IsTrialOf name (option_map (λ script. script.now) script) ending file old new
+IsUsed name usage.Draw ending file old new = IsUnread old new × IsDrawn name ending file (writer_of old) (writer_of new)
+IsUsed name usage.Limit ending file old new = IsUnread old new × IsLimited name ending file (writer_of old) (writer_of new)
 
--- the same of a file whose bytes are known to be so: it can't be read, or it was used
-abbrev pub Uses : (List ℕ → Type 0) → Usage → ProgramEnd → Devices → Devices → Type 0
-Uses Holds usage ending old new =
+-- the same of a file of which it is known what bytes it may hold: it can't be read, or it was used
+abbrev pub Uses : (List ℕ → List ℕ → Type 0) → List ℕ → Usage → ProgramEnd → Devices → Devices → Type 0
+Uses Holds name usage ending old new =
     ((ending ≡ FileNotRead) × (new ≡ old)) ⊎ ((ending ≡ OutOfMemory) × (new ≡ old))
-    ⊎ ((file : List ℕ) × ((Holds file × IsSmall file) × IsUsed usage ending file old new))
+    ⊎ ((file : List ℕ) × ((Holds name file × IsSmall file) × IsUsed name usage ending file old new))
 
 -- a file was checked: nothing is written to be wrong in it exactly where it says a tree
 abbrev pub IsChecked : ProgramEnd → List ℕ → Written → Written → Type 0
@@ -183,7 +184,7 @@ Does Holds (command.Check files) ending old new =
     IsUnread old new × ChecksAll (λ name. Holds name.now) files.items ending (writer_of old) (writer_of new)
 Does Holds (command.Run file settings is_drawn) ending old new =
     IsUnread old new × RunsTree (Holds file.now) settings.counted ending (writer_of old) (writer_of new)
-Does Holds (command.Use file usage) ending old new = Uses (Holds file.now) usage ending old new
+Does Holds (command.Use file usage) ending old new = Uses Holds file.now usage ending old new
 
 -- a picture of the tree that is run is told besides, where the command asks for it
 abbrev pub draws : Command → Bool

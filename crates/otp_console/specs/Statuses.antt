@@ -1,5 +1,6 @@
 -- The exit statuses, and what is told of them (own).
 use Rattle.std.specs.Prelude.{◌≡◌, ℕ, List, [], ◌++◌, codes, decimal}
+use Rattle.std.specs.Borrow.{Bor}
 use Rattle.std.specs.declared.io.ErrorKind.{ErrorKind}
 use Rattle.std.specs.declared.io.ErrorKind.TheVariants as system
 use Rattle.otp_file.specs.Faults.{code_of}
@@ -26,7 +27,7 @@ status_of FileAsCommand = 2
 status_of TreeNotRead = 1
 status_of FileNotRead = 1
 status_of (TreeRefused _) = 1
-status_of (NoTree _) = 1
+status_of (NoTree _ _) = 1
 status_of (UnknownStart _) = 1
 status_of WrongBody = 1
 status_of CloseMismatch = 4
@@ -48,6 +49,10 @@ line_text line why = codes "line " ++ decimal line ++ codes ": " ++ why ++ codes
 abbrev pub not_read_text : List ℕ → List ℕ → List ℕ
 not_read_text name why = (codes "error: " ++ name ++ codes " can't be read: ") ++ why ++ codes "\n"
 
+-- what a tree is refused for, and the command that tells why
+abbrev pub no_tree_text : ℕ → List ℕ → List ℕ
+no_tree_text code name = codes "tree refused: E" ++ decimal code ++ codes "; otp check " ++ name ++ codes " tells why\n"
+
 -- the line on standard error, its end included: none where all went well, where it was told before why the words
 -- are refused or a file can't be read, or where faults were written to the output
 abbrev pub sentence_of : ProgramEnd → List ℕ
@@ -59,7 +64,7 @@ sentence_of FileAsCommand = codes "error: a file in the place of a command: say 
 sentence_of TreeNotRead = codes "tree not read\n"
 sentence_of FileNotRead = []
 sentence_of (TreeRefused why) = codes "tree refused: E" ++ decimal (code_of why) ++ codes "\n"
-sentence_of (NoTree why) = codes "tree refused: E" ++ decimal (code_of why) ++ codes "; otp check FILE tells why\n"
+sentence_of (NoTree why name) = no_tree_text (code_of why) name.now
 sentence_of (UnknownStart name) = codes "unknown start " ++ name_bytes name ++ codes "\n"
 sentence_of WrongBody = codes "tree refused: E19\n"
 sentence_of CloseMismatch = codes "close refused: E17\n"
@@ -101,10 +106,10 @@ abbrev pub ending_of_tree : TreeFault → ProgramEnd
 ending_of_tree fault.OutOfMemory = OutOfMemory
 ending_of_tree why = TreeRefused why
 
--- the same where the user is told who explains the fault
-abbrev pub ending_of_no_tree : TreeFault → ProgramEnd
-ending_of_no_tree fault.OutOfMemory = OutOfMemory
-ending_of_no_tree why = NoTree why
+-- the same of the file of a name, where the user is told who explains the fault
+abbrev pub ending_of_no_tree : TreeFault → Bor (List ℕ) → ProgramEnd
+ending_of_no_tree fault.OutOfMemory name = OutOfMemory
+ending_of_no_tree why name = NoTree why name
 
 -- how the program ends that didn't run a tree
 abbrev pub ending_of_run : FileRunFault → ProgramEnd

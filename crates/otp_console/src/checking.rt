@@ -11,7 +11,12 @@ use otp_sim::{Failed, Output, write_all};
 use std::alloc::Global;
 
 /// Writes all that is wrong in a file, a line for each fault, that for which its tree is refused first.
-pub fn check_file<W: Output>(alloc: Global, name: &str, file: &[u8], output: &mut W) -> ProgramEnd
+pub fn check_file<'a, W: Output>(
+    alloc: Global,
+    name: &'a str,
+    file: &[u8],
+    output: &mut W,
+) -> ProgramEnd<'a>
     ensures { IsChecked result file.now
         (record { bytes = W.contents output.old; failures = W.failures output.old })
         (record { bytes = W.contents output.new; failures = W.failures output.new }) }
@@ -26,7 +31,12 @@ pub fn check_file<W: Output>(alloc: Global, name: &str, file: &[u8], output: &mu
 }
 
 /// Writes that nothing is wrong in a file.
-fn write_lawful<W: Output>(alloc: Global, name: &str, file: &[u8], output: &mut W) -> ProgramEnd
+fn write_lawful<'a, W: Output>(
+    alloc: Global,
+    name: &'a str,
+    file: &[u8],
+    output: &mut W,
+) -> ProgramEnd<'a>
     ensures { IsWritten result Done (W.failures output.old) (W.failures output.new) }
 {
     let what = if says_nothing(alloc, file) {
@@ -41,7 +51,7 @@ fn write_lawful<W: Output>(alloc: Global, name: &str, file: &[u8], output: &mut 
 }
 
 /// Writes what is wrong in a file.
-fn write_faults<W: Output>(name: &str, faults: &[Finding], output: &mut W) -> ProgramEnd
+fn write_faults<'a, W: Output>(name: &'a str, faults: &[Finding], output: &mut W) -> ProgramEnd<'a>
     ensures { IsWritten result FaultsFound (W.failures output.old) (W.failures output.new) }
 {
     match write_lines(name, faults, output) {
@@ -73,14 +83,19 @@ fn write_line<W: Output>(name: &str, text: &[u8], output: &mut W) -> Result<(), 
 }
 
 /// Draws the tree that a file says.
-pub fn draw_file<W: Output>(alloc: Global, file: &[u8], output: &mut W) -> ProgramEnd
-    ensures { IsDrawn result file.now
+pub fn draw_file<'a, W: Output>(
+    alloc: Global,
+    name: &'a str,
+    file: &[u8],
+    output: &mut W,
+) -> ProgramEnd<'a>
+    ensures { IsDrawn name.now result file.now
         (record { bytes = W.contents output.old; failures = W.failures output.old })
         (record { bytes = W.contents output.new; failures = W.failures output.new }) }
 {
     let tree = match read_tree(alloc, file) {
         Ok(tree) => tree,
-        Err(fault) => return ProgramEnd::of_no_tree(fault),
+        Err(fault) => return ProgramEnd::of_no_tree(fault, name),
     };
     let mut picture = Vec::new(alloc);
     let Ok(()) = draw(alloc, &tree, &mut picture) else {

@@ -8,12 +8,12 @@ use otp_sim::{Input, Output, SimEnd, sim};
 use std::alloc::Global;
 
 /// Reads the tree of a file, plays the lines of the input on its supervisor, and writes the orders to the output.
-pub fn console<R: Input, W: Output>(
+pub fn console<'a, R: Input, W: Output>(
     alloc: Global,
     file: &[u8],
     input: &mut R,
     output: &mut W,
-) -> ProgramEnd
+) -> ProgramEnd<'a>
     ensures { IsRun result file.now
         (record { left = R.remaining input.old; written = W.contents output.old; read_failures = R.failures input.old; write_failures = W.failures output.old })
         (record { left = R.remaining input.new; written = W.contents output.new; read_failures = R.failures input.new; write_failures = W.failures output.new }) }
@@ -26,7 +26,7 @@ pub fn console<R: Input, W: Output>(
     ProgramEnd::of_sim(sim(alloc, supervisor, input, output))
 }
 
-impl ProgramEnd {
+impl<'a> ProgramEnd<'a> {
     ghost use Rattle.std.specs.Prelude.{◌≡◌};
     ghost use Rattle.otp_console.specs.Statuses.{ending_of, ending_of_tree, ending_of_no_tree};
 
@@ -55,12 +55,12 @@ impl ProgramEnd {
     }
 
     /// The same of a command whose user is told who explains the fault.
-    pub(crate) fn of_no_tree(fault: TreeFault) -> Self
-        ensures { result ≡ ending_of_no_tree fault }
+    pub(crate) fn of_no_tree(fault: TreeFault, name: &'a str) -> Self
+        ensures { result ≡ ending_of_no_tree fault name.entry }
     {
         match fault {
             TreeFault::OutOfMemory => ProgramEnd::OutOfMemory,
-            _ => ProgramEnd::NoTree(fault),
+            _ => ProgramEnd::NoTree(fault, name),
         }
     }
 }

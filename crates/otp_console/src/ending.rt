@@ -4,7 +4,7 @@ ghost use Rattle.std.specs.Prelude.{◌≡◌, ◌⊎◌, ◌≤◌, ◌<◌, �
 ghost use Rattle.std.specs.IoError.{error_kind};
 ghost use Rattle.std.specs.Io.KnownBytes.{Appends};
 ghost use Rattle.otp_console.specs.Runs.{IsTold, goes_on, worse};
-ghost use Rattle.otp_console.specs.Statuses.{IsOfFile, line_text, sentence_of, status_of};
+ghost use Rattle.otp_console.specs.Statuses.{IsOfFile, line_text, no_tree_text, sentence_of, status_of};
 ghost use Rattle.otp_console.specs.declared.ending.ProgramEnd.TheVariants.{OutOfMemory, TreeNotRead};
 
 use crate::files::write_three;
@@ -18,7 +18,7 @@ use std::io::ErrorKind;
 
 /// How the program ends.
 #[derive(Clone, Copy, Debug, PartialEq, Eq)]
-pub enum ProgramEnd {
+pub enum ProgramEnd<'a> {
     /// All was done, or the help was shown that the words ask for.
     Done,
     /// `clap` refuses the words, and its text was told.
@@ -35,8 +35,8 @@ pub enum ProgramEnd {
     FileNotRead,
     /// The tree file of `sim` or `run` says no tree.
     TreeRefused(TreeFault),
-    /// The tree file of `try`, `tree` or `limits` says no tree, and `check` tells why.
-    NoTree(TreeFault),
+    /// The tree file of this name, of `try`, `tree` or `limits`, says no tree, and `check` tells why.
+    NoTree(TreeFault, &'a str),
     /// The start of a child that has no tree is no word of a worked job.
     UnknownStart(Name),
     /// E19: a worker's job stands where a supervisor is wanted.
@@ -60,7 +60,7 @@ pub enum ProgramEnd {
     OutOfMemory,
 }
 
-impl ProgramEnd {
+impl<'a> ProgramEnd<'a> {
     /// The exit status.
     pub fn status(&self) -> u8
         ensures { result ≡ status_of self.now }
@@ -68,7 +68,7 @@ impl ProgramEnd {
         match self {
             ProgramEnd::Done => 0,
             ProgramEnd::TreeNotRead | ProgramEnd::TreeRefused(_) => 1,
-            ProgramEnd::NoTree(_) => 1,
+            ProgramEnd::NoTree(..) => 1,
             ProgramEnd::UnknownStart(_) | ProgramEnd::WrongBody => 1,
             ProgramEnd::FileNotRead | ProgramEnd::FaultsFound => 1,
             ProgramEnd::WordsRefused | ProgramEnd::NoCommand | ProgramEnd::WordNotText => 2,
@@ -88,8 +88,8 @@ impl ProgramEnd {
     }
 
     /// How two checks end, one after the other.
-    pub(crate) fn worse(self, next: ProgramEnd) -> Self
-        ensures { result ≡ worse self next }
+    pub(crate) fn worse(self, next: Self) -> Self
+        ensures { result ≡ worse self.entry next.entry }
     {
         match next {
             ProgramEnd::Done => self,
@@ -110,9 +110,9 @@ impl ProgramEnd {
 }
 
 /// Tells on standard error how the program ends, if not well, and gives the exit status.
-pub fn tell<E: Output>(errors: &mut E, ending: ProgramEnd) -> u8
-    ensures status { result ≡ status_of ending }
-    ensures told { IsTold (sentence_of ending) (E.contents errors.old) (E.contents errors.new) (E.failures errors.old) (E.failures errors.new) }
+pub fn tell<E: Output>(errors: &mut E, ending: ProgramEnd<'_>) -> u8
+    ensures status { result ≡ status_of ending.entry }
+    ensures told { IsTold (sentence_of ending.entry) (E.contents errors.old) (E.contents errors.new) (E.failures errors.old) (E.failures errors.new) }
     ensures kept { E.failures errors.old ≤ E.failures errors.new }
 {
     // Where nothing can be told, the status alone says it.
@@ -121,8 +121,8 @@ pub fn tell<E: Output>(errors: &mut E, ending: ProgramEnd) -> u8
 }
 
 /// Writes the line that tells of the ending, if there is one.
-fn write_sentence<E: Output>(errors: &mut E, ending: ProgramEnd) -> Result<(), Failed>
-    ensures ok { OnOk result (Appends (E.contents errors.old) (E.contents errors.new) (sentence_of ending)) }
+fn write_sentence<E: Output>(errors: &mut E, ending: ProgramEnd<'_>) -> Result<(), Failed>
+    ensures ok { OnOk result (Appends (E.contents errors.old) (E.contents errors.new) (sentence_of ending.entry)) }
     ensures kept { E.failures errors.old ≤ E.failures errors.new }
     ensures failed { OnErr result (E.failures errors.old < E.failures errors.new) }
 {
@@ -142,12 +142,7 @@ fn write_sentence<E: Output>(errors: &mut E, ending: ProgramEnd) -> Result<(), F
         ProgramEnd::TreeRefused(fault) => {
             write_numbered(errors, b"tree refused: E", u64::from(fault.code()), b"\n")
         }
-        ProgramEnd::NoTree(fault) => write_numbered(
-            errors,
-            b"tree refused: E",
-            u64::from(fault.code()),
-            b"; otp check FILE tells why\n",
-        ),
+        ProgramEnd::NoTree(fault, name) => write_no_tree(errors, u64::from(fault.code()), name),
         ProgramEnd::UnknownStart(name) => {
             write_three(errors, b"unknown start ", name.as_bytes(), b"\n")
         }
@@ -164,6 +159,22 @@ fn write_sentence<E: Output>(errors: &mut E, ending: ProgramEnd) -> Result<(), F
     }
 }
 
+/// Writes what a tree is refused for, and which command tells why.
+fn write_no_tree<E: Output>(errors: &mut E, code: u64, name: &str) -> Result<(), Failed>
+    ensures ok { OnOk result (Appends (E.contents errors.old) (E.contents errors.new) (no_tree_text code name.now)) }
+    ensures kept { E.failures errors.old ≤ E.failures errors.new }
+    ensures failed { OnErr result (E.failures errors.old < E.failures errors.new) }
+{
+    write_named(
+        errors,
+        b"tree refused: E",
+        code,
+        b"; otp check ",
+        name.as_bytes(),
+        b" tells why\n",
+    )
+}
+
 /// Writes what is wrong with a line of a script.
 fn write_line_fault<E: Output>(errors: &mut E, line: u64, why: &str) -> Result<(), Failed>
     ensures ok { OnOk result (Appends (E.contents errors.old) (E.contents errors.new) (line_text line why.now)) }
@@ -173,6 +184,24 @@ fn write_line_fault<E: Output>(errors: &mut E, line: u64, why: &str) -> Result<(
     write_numbered(errors, b"line ", line, b": ")?;
     write_all(errors, why.as_bytes())?;
     write_all(errors, b"\n")
+}
+
+/// Writes a number and a name between texts.
+fn write_named<E: Output>(
+    errors: &mut E,
+    front: &[u8],
+    number: u64,
+    middle: &[u8],
+    name: &[u8],
+    back: &[u8],
+) -> Result<(), Failed>
+    ensures ok { OnOk result (Appends (E.contents errors.old) (E.contents errors.new) (front.now ++ decimal number ++ middle.now ++ name.now ++ back.now)) }
+    ensures kept { E.failures errors.old ≤ E.failures errors.new }
+    ensures failed { OnErr result (E.failures errors.old < E.failures errors.new) }
+{
+    write_numbered(errors, front, number, middle)?;
+    write_all(errors, name)?;
+    write_all(errors, back)
 }
 
 /// Writes a number between two texts. It takes no memory, which may be what is wanting.

@@ -28,6 +28,10 @@ pub trait TreeFiles {
     fn read(&self, name: &str) -> io::Result<Vec<u8>>
         ensures { IfOk result (λ file. holds self.now name.now file.items) };
 
+    /// The bytes of a tree file of this name. Of more than a tree file may have not all are read.
+    fn read_tree(&self, name: &str) -> io::Result<Vec<u8>>
+        ensures { IfOk result (λ file. holds self.now name.now file.items) };
+
     /// The bytes of standard input, which is the file `-`. Of more than a tree file may have not all are read.
     fn read_input(&self) -> io::Result<Vec<u8>>
         ensures { IfOk result (λ file. holds self.now (codes "-") file.items) };
@@ -49,29 +53,35 @@ fn read_named<F: TreeFiles>(files: &F, name: &str) -> io::Result<Vec<u8>>
     }
 }
 
+/// The same of a tree file, of which no more bytes are read than show that it has too many.
+fn read_tree_named<F: TreeFiles>(files: &F, name: &str) -> io::Result<Vec<u8>>
+    ensures { IfOk result (λ file. F.holds files.now name.now file.items) }
+{
+    match name.as_bytes() {
+        b"-" => files.read_input(),
+        _ => files.read_tree(name),
+    }
+}
+
 /// The bytes of a file; `-` is standard input.
 ///
 /// # Errors
 ///
 /// [`ProgramEnd::FileNotRead`], once it is told on `errors` which file can't be read and why, and [`ProgramEnd::OutOfMemory`].
-pub(crate) fn read_file<F: TreeFiles, E: Output>(
+pub(crate) fn read_file<'a, F: TreeFiles, E: Output>(
     files: &F,
-    name: &str,
+    name: &'a str,
     errors: &mut E,
-) -> Result<Vec<u8>, ProgramEnd>
+) -> Result<Vec<u8>, ProgramEnd<'a>>
     ensures holds { IfOk result (λ file. F.holds files.now name.now file.items) }
     ensures silent { OnOk result (errors.new ≡ errors.old) }
     ensures ending { IfErr result (λ ending. (ending ≡ FileNotRead) ⊎ (ending ≡ OutOfMemory)) }
     ensures first { IfErr result (λ ending. (drawn : Bool) → TellsFirst drawn ending (E.contents errors.old) (E.contents errors.new) (E.failures errors.old) (E.failures errors.new)) }
     ensures kept { E.failures errors.old ≤ E.failures errors.new }
 {
-    let error = match read_named(files, name) {
-        Ok(file) => return Ok(file),
-        Err(error) => error,
-    };
-    match error.kind() {
-        ErrorKind::OutOfMemory => Err(ProgramEnd::OutOfMemory),
-        kind => Err(tell_not_read(errors, name, why(kind))),
+    match read_named(files, name) {
+        Ok(file) => Ok(file),
+        Err(error) => Err(tell_error(errors, name, &error)),
     }
 }
 
@@ -80,11 +90,11 @@ pub(crate) fn read_file<F: TreeFiles, E: Output>(
 /// # Errors
 ///
 /// Those of [`read_file`], and [`ProgramEnd::FileNotRead`] where it is larger, once that is told.
-pub(crate) fn read_tree_file<F: TreeFiles, E: Output>(
+pub(crate) fn read_tree_file<'a, F: TreeFiles, E: Output>(
     files: &F,
-    name: &str,
+    name: &'a str,
     errors: &mut E,
-) -> Result<Vec<u8>, ProgramEnd>
+) -> Result<Vec<u8>, ProgramEnd<'a>>
     ensures holds { IfOk result (λ file. F.holds files.now name.now file.items) }
     ensures small { IfOk result (λ file. vec_len file ≤ LARGEST_TREE) }
     ensures silent { OnOk result (errors.new ≡ errors.old) }
@@ -92,7 +102,10 @@ pub(crate) fn read_tree_file<F: TreeFiles, E: Output>(
     ensures first { IfErr result (λ ending. (drawn : Bool) → TellsFirst drawn ending (E.contents errors.old) (E.contents errors.new) (E.failures errors.old) (E.failures errors.new)) }
     ensures kept { E.failures errors.old ≤ E.failures errors.new }
 {
-    let file = read_file(files, name, errors)?;
+    let file = match read_tree_named(files, name) {
+        Ok(file) => file,
+        Err(error) => return Err(tell_error(errors, name, &error)),
+    };
     if file.len() > LARGEST_TREE {
         return Err(tell_not_read(errors, name, TOO_LARGE));
     }
@@ -105,11 +118,11 @@ pub(crate) fn read_tree_file<F: TreeFiles, E: Output>(
 /// # Errors
 ///
 /// [`ProgramEnd::TreeNotRead`] and [`ProgramEnd::OutOfMemory`]; for standard input those of [`read_tree_file`].
-pub(crate) fn read_run_file<F: TreeFiles, E: Output>(
+pub(crate) fn read_run_file<'a, F: TreeFiles, E: Output>(
     files: &F,
-    name: &str,
+    name: &'a str,
     errors: &mut E,
-) -> Result<Vec<u8>, ProgramEnd>
+) -> Result<Vec<u8>, ProgramEnd<'a>>
     ensures holds { IfOk result (λ file. F.holds files.now name.now file.items) }
     ensures silent { OnOk result (errors.new ≡ errors.old) }
     ensures ending { IfErr result IsUnreadEnd }
@@ -125,8 +138,20 @@ pub(crate) fn read_run_file<F: TreeFiles, E: Output>(
     }
 }
 
+/// The end where a file can't be read, once it is told which and why, if not for want of memory.
+fn tell_error<'a, E: Output>(errors: &mut E, name: &'a str, error: &io::Error) -> ProgramEnd<'a>
+    ensures ending { (result ≡ FileNotRead) ⊎ (result ≡ OutOfMemory) }
+    ensures first { (drawn : Bool) → TellsFirst drawn result (E.contents errors.old) (E.contents errors.new) (E.failures errors.old) (E.failures errors.new) }
+    ensures kept { E.failures errors.old ≤ E.failures errors.new }
+{
+    match error.kind() {
+        ErrorKind::OutOfMemory => ProgramEnd::OutOfMemory,
+        kind => tell_not_read(errors, name, why(kind)),
+    }
+}
+
 /// Tells which file can't be read, and why.
-fn tell_not_read<E: Output>(errors: &mut E, name: &str, why: &str) -> ProgramEnd
+fn tell_not_read<'a, E: Output>(errors: &mut E, name: &'a str, why: &str) -> ProgramEnd<'a>
     ensures ending { result ≡ FileNotRead }
     ensures first { (drawn : Bool) → TellsFirst drawn result (E.contents errors.old) (E.contents errors.new) (E.failures errors.old) (E.failures errors.new) }
     ensures kept { E.failures errors.old ≤ E.failures errors.new }

@@ -6,7 +6,9 @@ use crate::running::Pool;
 use crate::screen::Screen;
 use crate::words::words_of;
 use otp_sim::Counted;
+use std::alloc::Global;
 use std::env::VarError;
+use std::fs::File;
 use std::io::{IsTerminal, Read};
 use std::process::ExitCode;
 use std::sync::Wait;
@@ -43,6 +45,15 @@ fn is_unset(variable: Result<String, VarError>) -> bool {
     }
 }
 
+/// Reads as many bytes as a tree file may have, and one.
+fn read_most<R: Read + Drop>(alloc: Global, from: R) -> io::Result<Vec<u8>> {
+    let most = LARGEST_TREE as u64;
+    let mut bytes = Vec::new(alloc);
+    let mut input = from.take(most.saturating_add(1));
+    input.read_to_end(&mut bytes)?;
+    Ok(bytes)
+}
+
 /// The files of the system, of which nothing is known beforehand.
 impl TreeFiles for HostRuntime {
     ghost holds = { λ _ _ _. Unit {0} };
@@ -51,12 +62,12 @@ impl TreeFiles for HostRuntime {
         fs::read(self, name)
     }
 
+    fn read_tree(&self, name: &str) -> io::Result<Vec<u8>> {
+        read_most(self.alloc(), File::open(self, name)?)
+    }
+
     fn read_input(&self) -> io::Result<Vec<u8>> {
-        let most = LARGEST_TREE as u64;
-        let mut bytes = Vec::new(self.alloc());
-        let mut input = self.stdin().take(most.saturating_add(1));
-        input.read_to_end(&mut bytes)?;
-        Ok(bytes)
+        read_most(self.alloc(), self.stdin())
     }
 
     fn is_terminal(&self) -> bool {

@@ -12,14 +12,19 @@ use otp_try::Halt;
 use std::alloc::Global;
 
 /// Reads the tree of a file, plays crashes of each child of its supervisors, and writes what they cost.
-pub fn limit_file<W: Output>(alloc: Global, file: &[u8], output: &mut W) -> ProgramEnd
-    ensures { IsLimited result file.now
+pub fn limit_file<'a, W: Output>(
+    alloc: Global,
+    name: &'a str,
+    file: &[u8],
+    output: &mut W,
+) -> ProgramEnd<'a>
+    ensures { IsLimited name.now result file.now
         (record { bytes = W.contents output.old; failures = W.failures output.old })
         (record { bytes = W.contents output.new; failures = W.failures output.new }) }
 {
     let tree = match read_tree(alloc, file) {
         Ok(tree) => tree,
-        Err(fault) => return ProgramEnd::of_no_tree(fault),
+        Err(fault) => return ProgramEnd::of_no_tree(fault, name),
     };
     let mut table = Vec::new(alloc);
     match write_tree_limits(alloc, &tree, &mut table) {
@@ -32,7 +37,7 @@ pub fn limit_file<W: Output>(alloc: Global, file: &[u8], output: &mut W) -> Prog
     }
 }
 
-impl ProgramEnd {
+impl<'a> ProgramEnd<'a> {
     /// The end for a core that can't be played on.
     fn of_halt(halt: Halt) -> Self
         ensures { result ≡ ending_of_halt halt }

@@ -47,20 +47,20 @@ where
         (record { left = R.remaining input.new; written = W.contents output.new; read_failures = R.failures input.new; write_failures = W.failures output.new })
         (E.contents errors.old) (E.contents errors.new) (E.failures errors.old) (E.failures errors.new) }
 {
-    let ending = obey(pool, alloc, words, files, input, output, errors);
+    let ending = obey(pool, alloc, &words, files, input, output, errors);
     tell(errors, ending)
 }
 
 /// Does what the words ask for, the program's own name first, or answers them.
-fn obey<H, G, F, R, W, E>(
+fn obey<'a, H, G, F, R, W, E>(
     pool: &Pool<'_, H, G>,
     alloc: Global,
-    words: Result<Vec<String>, WordsFault>,
+    words: &'a Result<Vec<String>, WordsFault>,
     files: &F,
     input: &mut R,
     output: &mut W,
     errors: &mut E,
-) -> ProgramEnd
+) -> ProgramEnd<'a>
 where
     H: Threads + Wait + Sync,
     G: Gate + Sync,
@@ -76,24 +76,24 @@ where
 {
     let words = match words {
         Ok(words) => words,
-        Err(fault) => return answer(alloc, &fault, output, errors),
+        Err(fault) => return answer(alloc, fault, output, errors),
     };
-    match read_words(alloc, &words) {
+    match read_words(alloc, words) {
         Ok(command) => do_command(pool, alloc, command, files, input, output, errors),
         Err(fault) => answer(alloc, &fault, output, errors),
     }
 }
 
 /// Does what a command asks for.
-pub fn do_command<H, G, F, R, W, E>(
+pub fn do_command<'a, H, G, F, R, W, E>(
     pool: &Pool<'_, H, G>,
     alloc: Global,
-    command: Command<'_>,
+    command: Command<'a>,
     files: &F,
     input: &mut R,
     output: &mut W,
     errors: &mut E,
-) -> ProgramEnd
+) -> ProgramEnd<'a>
 where
     H: Threads + Wait + Sync,
     G: Gate + Sync,
@@ -126,13 +126,13 @@ where
 }
 
 /// Plays the lines of the input on the supervisor of a file.
-fn simulate<F: TreeFiles, R: Input, W: Output>(
+fn simulate<'a, F: TreeFiles, R: Input, W: Output>(
     alloc: Global,
     files: &F,
-    name: &str,
+    name: &'a str,
     input: &mut R,
     output: &mut W,
-) -> ProgramEnd
+) -> ProgramEnd<'a>
     ensures { Simulates (F.holds files.now name.now) result
         (record { left = R.remaining input.old; written = W.contents output.old; read_failures = R.failures input.old; write_failures = W.failures output.old })
         (record { left = R.remaining input.new; written = W.contents output.new; read_failures = R.failures input.new; write_failures = W.failures output.new }) }
@@ -144,16 +144,16 @@ fn simulate<F: TreeFiles, R: Input, W: Output>(
 }
 
 /// Runs the tree of a file on threads.
-fn run_named<H, G, F, W, E>(
+fn run_named<'a, H, G, F, W, E>(
     pool: &Pool<'_, H, G>,
     alloc: Global,
     files: &F,
-    name: &str,
+    name: &'a str,
     settings: Settings,
     is_drawn: bool,
     output: &mut W,
     errors: &mut E,
-) -> ProgramEnd
+) -> ProgramEnd<'a>
 where
     H: Threads + Wait + Sync,
     G: Gate + Sync,
@@ -173,38 +173,39 @@ where
 }
 
 /// Uses the tree file of this name.
-fn use_named<F: TreeFiles, R: Input, W: Output, E: Output>(
+fn use_named<'a, F: TreeFiles, R: Input, W: Output, E: Output>(
     alloc: Global,
     files: &F,
-    name: &str,
-    usage: Usage<'_>,
+    name: &'a str,
+    usage: Usage<'a>,
     input: &mut R,
     output: &mut W,
     errors: &mut E,
-) -> ProgramEnd
-    ensures done { Uses (F.holds files.now name.now) usage.entry result
+) -> ProgramEnd<'a>
+    ensures done { Uses (F.holds files.now) name.now usage.entry result
         (record { left = R.remaining input.old; written = W.contents output.old; read_failures = R.failures input.old; write_failures = W.failures output.old })
         (record { left = R.remaining input.new; written = W.contents output.new; read_failures = R.failures input.new; write_failures = W.failures output.new }) }
     ensures first { TellsFirst false result (E.contents errors.old) (E.contents errors.new) (E.failures errors.old) (E.failures errors.new) }
     ensures kept { E.failures errors.old ≤ E.failures errors.new }
 {
     match read_tree_file(files, name, errors) {
-        Ok(file) => use_file(alloc, files, &file, usage, input, output, errors),
+        Ok(file) => use_file(alloc, files, name, &file, usage, input, output, errors),
         Err(ending) => ending,
     }
 }
 
 /// Uses a tree file that was read.
-fn use_file<F: TreeFiles, R: Input, W: Output, E: Output>(
+fn use_file<'a, F: TreeFiles, R: Input, W: Output, E: Output>(
     alloc: Global,
     files: &F,
+    name: &'a str,
     file: &[u8],
-    usage: Usage<'_>,
+    usage: Usage<'a>,
     input: &mut R,
     output: &mut W,
     errors: &mut E,
-) -> ProgramEnd
-    ensures done { IsUsed usage.entry result file.now
+) -> ProgramEnd<'a>
+    ensures done { IsUsed name.now usage.entry result file.now
         (record { left = R.remaining input.old; written = W.contents output.old; read_failures = R.failures input.old; write_failures = W.failures output.old })
         (record { left = R.remaining input.new; written = W.contents output.new; read_failures = R.failures input.new; write_failures = W.failures output.new }) }
     ensures first { TellsFirst false result (E.contents errors.old) (E.contents errors.new) (E.failures errors.old) (E.failures errors.new) }
@@ -218,6 +219,7 @@ fn use_file<F: TreeFiles, R: Input, W: Output, E: Output>(
         } => try_by(
             alloc,
             files,
+            name,
             file,
             script,
             writer,
@@ -226,34 +228,43 @@ fn use_file<F: TreeFiles, R: Input, W: Output, E: Output>(
             output,
             errors,
         ),
-        Usage::Draw => draw_file(alloc, file, output),
-        Usage::Limit => limit_file(alloc, file, output),
+        Usage::Draw => draw_file(alloc, name, file, output),
+        Usage::Limit => limit_file(alloc, name, file, output),
     }
 }
 
 /// Tries the tree of a file by the lines of a script, which is another file or the input.
-fn try_by<F: TreeFiles, R: Input, W: Output, E: Output>(
+fn try_by<'a, F: TreeFiles, R: Input, W: Output, E: Output>(
     alloc: Global,
     files: &F,
+    name: &'a str,
     file: &[u8],
-    script: Option<&str>,
+    script: Option<&'a str>,
     writer: Writer,
     shows: Shows,
     input: &mut R,
     output: &mut W,
     errors: &mut E,
-) -> ProgramEnd
-    ensures done { IsTrialOf (option_map (λ script. script.now) script.entry) result file.now
+) -> ProgramEnd<'a>
+    ensures done { IsTrialOf name.now (option_map (λ script. script.now) script.entry) result file.now
         (record { left = R.remaining input.old; written = W.contents output.old; read_failures = R.failures input.old; write_failures = W.failures output.old })
         (record { left = R.remaining input.new; written = W.contents output.new; read_failures = R.failures input.new; write_failures = W.failures output.new }) }
     ensures first { TellsFirst false result (E.contents errors.old) (E.contents errors.new) (E.failures errors.old) (E.failures errors.new) }
     ensures kept { E.failures errors.old ≤ E.failures errors.new }
 {
     let Some(script) = script else {
-        return try_file(alloc, file, writer_at(files, writer), shows, input, output);
+        return try_file(
+            alloc,
+            name,
+            file,
+            writer_at(files, writer),
+            shows,
+            input,
+            output,
+        );
     };
     match read_file(files, script, errors) {
-        Ok(lines) => try_lines(alloc, file, writer, shows, &lines, output),
+        Ok(lines) => try_lines(alloc, name, file, writer, shows, &lines, output),
         Err(ending) => ending,
     }
 }
@@ -279,30 +290,31 @@ fn shows_of<F: TreeFiles>(files: &F, is_drawn: bool) -> Shows {
 }
 
 /// Tries the tree of a file by these lines.
-fn try_lines<W: Output>(
+fn try_lines<'a, W: Output>(
     alloc: Global,
+    name: &'a str,
     file: &[u8],
     writer: Writer,
     shows: Shows,
     lines: &[u8],
     output: &mut W,
-) -> ProgramEnd
-    ensures { (left : Option (List ℕ)) (failures : ℕ) → IsTrial result file.now
+) -> ProgramEnd<'a>
+    ensures { (left : Option (List ℕ)) (failures : ℕ) → IsTrial name.now result file.now
         (record { left = left; written = W.contents output.old; read_failures = failures; write_failures = W.failures output.old })
         (record { left = left; written = W.contents output.new; read_failures = failures; write_failures = W.failures output.new }) }
 {
     let mut script = Counted::new(lines);
-    try_file(alloc, file, writer, shows, &mut script, output)
+    try_file(alloc, name, file, writer, shows, &mut script, output)
 }
 
 /// Checks files, one after the other, as long as they can be read and it can be written what is wrong in them.
-fn check_all<F: TreeFiles, W: Output, E: Output>(
+fn check_all<'a, F: TreeFiles, W: Output, E: Output>(
     alloc: Global,
     files: &F,
-    names: &[&str],
+    names: &[&'a str],
     output: &mut W,
     errors: &mut E,
-) -> ProgramEnd
+) -> ProgramEnd<'a>
     ensures done { ChecksAll (λ name. F.holds files.now name.now) names.now result
         (record { bytes = W.contents output.old; failures = W.failures output.old })
         (record { bytes = W.contents output.new; failures = W.failures output.new }) }
@@ -321,13 +333,13 @@ fn check_all<F: TreeFiles, W: Output, E: Output>(
 }
 
 /// Checks a file.
-fn check_named<F: TreeFiles, W: Output, E: Output>(
+fn check_named<'a, F: TreeFiles, W: Output, E: Output>(
     alloc: Global,
     files: &F,
-    name: &str,
+    name: &'a str,
     output: &mut W,
     errors: &mut E,
-) -> ProgramEnd
+) -> ProgramEnd<'a>
     ensures done { Checks (F.holds files.now name.now) result
         (record { bytes = W.contents output.old; failures = W.failures output.old })
         (record { bytes = W.contents output.new; failures = W.failures output.new }) }
@@ -342,12 +354,12 @@ fn check_named<F: TreeFiles, W: Output, E: Output>(
 }
 
 /// Answers words that ask for nothing that is done: they are refused, or ask for help.
-fn answer<W: Output, E: Output>(
+fn answer<'a, W: Output, E: Output>(
     alloc: Global,
     fault: &WordsFault,
     output: &mut W,
     errors: &mut E,
-) -> ProgramEnd
+) -> ProgramEnd<'a>
     ensures ending { EndsFor fault.now result }
     ensures done { (left : Option (List ℕ)) (failures : ℕ) → Answers result
         (record { left = left; written = W.contents output.old; read_failures = failures; write_failures = W.failures output.old })
@@ -365,12 +377,12 @@ fn answer<W: Output, E: Output>(
 }
 
 /// Writes a text of `clap`: help to the output, and why the words are refused to standard error.
-fn show<W: Output, E: Output>(
+fn show<'a, W: Output, E: Output>(
     alloc: Global,
     error: &Error,
     output: &mut W,
     errors: &mut E,
-) -> ProgramEnd
+) -> ProgramEnd<'a>
     ensures ending { EndsFor (Clap error.now) result }
     ensures done { (left : Option (List ℕ)) (failures : ℕ) → Answers result
         (record { left = left; written = W.contents output.old; read_failures = failures; write_failures = W.failures output.old })

@@ -24,7 +24,7 @@ pub struct Pool<'a, H, G> {
 
 /// Reads the tree of a file, runs it with worked jobs, and writes the report, with the counts where the settings say so. The
 /// output is the same where a picture of the tree is wanted; that is told besides.
-pub fn run_file<H, G, W, E>(
+pub fn run_file<'a, H, G, W, E>(
     pool: &Pool<'_, H, G>,
     alloc: Global,
     file: &[u8],
@@ -32,7 +32,7 @@ pub fn run_file<H, G, W, E>(
     is_drawn: bool,
     output: &mut W,
     errors: &mut E,
-) -> ProgramEnd
+) -> ProgramEnd<'a>
 where
     H: Threads + Wait + Sync,
     G: Gate + Sync,
@@ -66,7 +66,7 @@ where
     }
 }
 
-impl ProgramEnd {
+impl<'a> ProgramEnd<'a> {
     /// The end for a tree that was not run.
     fn of_run(fault: FileRunFault) -> Self
         ensures { result ≡ ending_of_run fault }

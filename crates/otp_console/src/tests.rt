@@ -15,7 +15,7 @@ mod rows;
 mod transcripts;
 
 /// What is told of an ending, without its end of line, and then its status.
-fn said(alloc: Global, ending: ProgramEnd) -> Result<String, AllocError> {
+fn said(alloc: Global, ending: ProgramEnd<'_>) -> Result<String, AllocError> {
     let mut errors = Counted::new(Vec::new(alloc));
     let status = tell(&mut errors, ending);
     let line = errors.into_device();

@@ -11,26 +11,27 @@ use otp_try::{Shows, TryEnd, Writer, try_tree};
 use std::alloc::Global;
 
 /// Reads the tree of a file, and plays the lines of a script on its supervisor.
-pub fn try_file<R: Input, W: Output>(
+pub fn try_file<'a, R: Input, W: Output>(
     alloc: Global,
+    name: &'a str,
     file: &[u8],
     writer: Writer,
     shows: Shows,
     script: &mut R,
     output: &mut W,
-) -> ProgramEnd
-    ensures { IsTrial result file.now
+) -> ProgramEnd<'a>
+    ensures { IsTrial name.now result file.now
         (record { left = R.remaining script.old; written = W.contents output.old; read_failures = R.failures script.old; write_failures = W.failures output.old })
         (record { left = R.remaining script.new; written = W.contents output.new; read_failures = R.failures script.new; write_failures = W.failures output.new }) }
 {
     let tree = match read_tree(alloc, file) {
         Ok(tree) => tree,
-        Err(fault) => return ProgramEnd::of_no_tree(fault),
+        Err(fault) => return ProgramEnd::of_no_tree(fault, name),
     };
     ProgramEnd::of_try(try_tree(alloc, tree, writer, shows, script, output))
 }
 
-impl ProgramEnd {
+impl<'a> ProgramEnd<'a> {
     /// The end of a trial.
     fn of_try(end: TryEnd) -> Self
         ensures { result ≡ ending_of_try end }

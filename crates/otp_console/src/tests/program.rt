@@ -40,6 +40,10 @@ impl<'a> TreeFiles for Shelf<'a> {
         }
     }
 
+    fn read_tree(&self, name: &str) -> io::Result<Vec<u8>> {
+        self.read(name)
+    }
+
     fn read_input(&self) -> io::Result<Vec<u8>> {
         Ok(Vec::from_slice(self.alloc, self.text.as_bytes())?)
     }
@@ -88,6 +92,10 @@ impl TreeFiles for Folder {
             Some(bytes) => Ok(bytes),
             None => Err(Error::from(ErrorKind::NotFound)),
         }
+    }
+
+    fn read_tree(&self, name: &str) -> io::Result<Vec<u8>> {
+        self.read(name)
     }
 
     fn read_input(&self) -> io::Result<Vec<u8>> {
@@ -467,6 +475,7 @@ fn checks_and_pictures(rt: HostRuntime) -> Result<(), Fail> {
         (["limits", "tree"], TREE, LIMITS, "", 0),
         (["limits", "three"], TREE, "", NO_FILE, 1),
         (["limits", "tree"], "period = 0\n", "", BAD_FLAG, 1),
+        (["limits", "-"], "period = 0\n", "", BAD_INPUT, 1),
         (["run", "tree"], "perod = 1\n", "", "tree refused: E11\n", 1),
     ];
     for (words, tree, printed, told, status) in rows {
@@ -504,9 +513,11 @@ const UNKNOWN_KEY: &str =
 const NOTHING_STANDS: &str =
     "tree: warning: nothing stands in it, which is a supervisor with no children\n";
 
-const BAD_FLAG: &str = "tree refused: E1; otp check FILE tells why\n";
+const BAD_FLAG: &str = "tree refused: E1; otp check tree tells why\n";
 
-const BAD_KEY: &str = "tree refused: E11; otp check FILE tells why\n";
+const BAD_INPUT: &str = "tree refused: E1; otp check - tells why\n";
+
+const BAD_KEY: &str = "tree refused: E11; otp check tree tells why\n";
 
 const NO_FILE: &str = "error: three can't be read: there is no such file\n";
 
