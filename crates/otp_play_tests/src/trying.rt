@@ -220,7 +220,7 @@ fn missed_lines(rt: HostRuntime) -> Result<(), Fail> {
         Writer::Person,
         "crash bd\n",
         "0.000 s  start db #1\n0.000 s  ready\nhelp lists what may be written here\n0.000 s  1 up, 0/3 restarts in 10 s> \
-ignored: there is no such child; say which to list the children\n0.000 s  1 up, 0/3 restarts in 10 s> \n0.000 s  1 up, 0/3 restarts in 10 s\n",
+ignored: there is no such child; which lists the root's, PATH/ which those below\n0.000 s  1 up, 0/3 restarts in 10 s> \n0.000 s  1 up, 0/3 restarts in 10 s\n",
         TryEnd::Done,
     )
 }
@@ -234,8 +234,8 @@ fn planned_for_nobody(rt: HostRuntime) -> Result<(), Fail> {
         Writer::Script,
         "ignore db\nfail bd\nignore dc\n",
         "0.000 s  start db #1\n0.000 s  ready\nline 1: ignore db\nline 2: fail bd\n\
-line 2: there is no such child; say which to list the children\nline 3: ignore dc\n\
-line 3: there is no such child; say which to list the children\n0.000 s  1 up, 0/3 restarts in 10 s\n\
+line 2: there is no such child; which lists the root's, PATH/ which those below\nline 3: ignore dc\n\
+line 3: there is no such child; which lists the root's, PATH/ which those below\n0.000 s  1 up, 0/3 restarts in 10 s\n\
 unused: ignore db (line 1)\nunused: fail bd (line 2)\nunused: ignore dc (line 3)\n",
         TryEnd::LineMissed(2, ActionEnd::NoChild),
     )?;
@@ -245,7 +245,7 @@ unused: ignore db (line 1)\nunused: fail bd (line 2)\nunused: ignore dc (line 3)
         Writer::Script,
         "fail bd\nstart bd b permanent false 5000 worker\n",
         "0.000 s  start db #1\n0.000 s  ready\nline 1: fail bd\n\
-line 1: there is no such child; say which to list the children\nline 2: start bd b permanent false 5000 worker\n\
+line 1: there is no such child; which lists the root's, PATH/ which those below\nline 2: start bd b permanent false 5000 worker\n\
 0.000 s  start bd #2\n0.000 s  reply 1 error start error:fail\n0.000 s  1 up, 0/3 restarts in 10 s\n",
         TryEnd::Done,
     )?;
@@ -255,7 +255,7 @@ line 1: there is no such child; say which to list the children\nline 2: start bd
         Writer::Person,
         "ignore bd",
         "0.000 s  start db #1\n0.000 s  ready\nhelp lists what may be written here\n0.000 s  1 up, 0/3 restarts in 10 s> \
-0.000 s  1 up, 0/3 restarts in 10 s> \nline 1: there is no such child; say which to list the children\n\
+0.000 s  1 up, 0/3 restarts in 10 s> \nline 1: there is no such child; which lists the root's, PATH/ which those below\n\
 0.000 s  1 up, 0/3 restarts in 10 s\nunused: ignore bd (line 1)\n",
         TryEnd::Done,
     )
@@ -340,6 +340,76 @@ line 5: crash sub/x\n1.000 s  start sub/x #5\n\
 1.000 s  end shutdown: more than 1 restart within 10 s: at 0.000 s, 1.000 s\n1.000 s  the supervisor has ended\n\
 unused: hang sub/#4 (line 3)\n",
         TryEnd::Done,
+    )
+}
+
+/// A line that is said to a supervisor which isn't there, or has no process, says so, and not that a child is missing.
+#[test]
+fn missed_supervisors(rt: HostRuntime) -> Result<(), Fail> {
+    let opened =
+        "0.000 s  start sub #1\n0.000 s  start sub/x #2\n0.000 s  sub/ ready\n0.000 s  ready\n";
+    for line in [
+        "crash pool/x",
+        "pool/ which",
+        "fail sub/x/y",
+        "hang sub/x/#2",
+        "restart pool/x",
+    ] {
+        let script = format!(in rt.alloc(); "{line}\n")?;
+        let told = format!(in rt.alloc(); "{opened}line 1: {line}\n")?;
+        plays_on(
+            &rt,
+            rt.alloc(),
+            NESTED,
+            Writer::Script,
+            script.as_str(),
+            told.as_str(),
+            TryEnd::LineMissed(1, ActionEnd::NoSupervisor),
+        )?;
+    }
+    for line in [
+        "crash sub/x",
+        "sub/ which",
+        "ignore sub/x",
+        "sub/ stop",
+        "restart sub/x",
+    ] {
+        let script = format!(in rt.alloc(); "terminate sub\n{line}\n")?;
+        let told = format!(in rt.alloc();
+            "{opened}line 1: terminate sub\n0.000 s  ask sub #1\n0.000 s  ask sub/x #2\n\
+0.000 s  sub/ end shutdown: asked to stop\n0.000 s  reply 1 ok\nline 2: {line}\n"
+        )?;
+        plays_on(
+            &rt,
+            rt.alloc(),
+            NESTED,
+            Writer::Script,
+            script.as_str(),
+            told.as_str(),
+            TryEnd::LineMissed(2, ActionEnd::NotRunning),
+        )?;
+    }
+    plays_on(
+        &rt,
+        rt.alloc(),
+        NESTED,
+        Writer::Script,
+        "crash sub/y\n",
+        format!(in rt.alloc(); "{opened}line 1: crash sub/y\n")?.as_str(),
+        TryEnd::LineMissed(1, ActionEnd::NoChild),
+    )?;
+    plays_on(
+        &rt,
+        rt.alloc(),
+        NESTED,
+        Writer::Script,
+        "terminate sub\ncrash sub\n",
+        format!(in rt.alloc();
+            "{opened}line 1: terminate sub\n0.000 s  ask sub #1\n0.000 s  ask sub/x #2\n\
+0.000 s  sub/ end shutdown: asked to stop\n0.000 s  reply 1 ok\nline 2: crash sub\n"
+        )?
+        .as_str(),
+        TryEnd::LineMissed(2, ActionEnd::NoProcess),
     )
 }
 
@@ -529,17 +599,46 @@ fn words(rt: HostRuntime) -> Result<(), Fail> {
     let step = read_step(b"+250ms ignore db").map_err(|_| "a line")?;
     assert_eq!(rt; step.when, When::After(250));
     assert_eq!(rt; step.action, Action::Start(db, NextStart::Ignore));
-    let refused: [(&[u8], ScriptFault); 10] = [
+    let refused: [(&[u8], ScriptFault); 30] = [
         (b"at soon", ScriptFault::BadTime),
-        (b"crash", ScriptFault::BadChild),
+        (b"at 05s", ScriptFault::BadTime),
+        (b"at", ScriptFault::BadTime),
+        (b"+s", ScriptFault::BadTime),
+        (b"+4611686018427387905", ScriptFault::LargeTime),
+        (b"at 1000000000001s stop", ScriptFault::LargeTime),
+        (b"at 99999999999999999999999m", ScriptFault::LargeTime),
+        (b"crash", ScriptFault::MissingChild),
+        (b"hang  ", ScriptFault::MissingChild),
+        (b"sub/ exit", ScriptFault::MissingChild),
+        (b"crash sub/", ScriptFault::BadChild),
+        (b"fail", ScriptFault::MissingName),
+        (b"ignore # db", ScriptFault::MissingName),
         (b"fail #1", ScriptFault::BadName),
         (b"exit db badly", ScriptFault::BadReason),
+        (b"exit db", ScriptFault::MissingReason),
+        (b"crash db error:", ScriptFault::BadReason),
+        (
+            b"crash db error:0123456789012345678901234567890123456789012345678901234567890123 x",
+            ScriptFault::TooManyWords,
+        ),
+        (
+            b"crash db error:01234567890123456789012345678901234567890123456789012345678901234",
+            ScriptFault::LongReason,
+        ),
+        (
+            b"fail db shutdown:01234567890123456789012345678901234567890123456789012345678901234",
+            ScriptFault::LongReason,
+        ),
         (b"get", ScriptFault::BadCall),
+        (b"which all", ScriptFault::BadCall),
+        (b"start x y", ScriptFault::BadCall),
+        (b"restart pool/sub/x/", ScriptFault::BadCall),
+        (b"restrat x", ScriptFault::UnknownWord),
         (b"hang db now", ScriptFault::TooManyWords),
         (b"stop #3", ScriptFault::TooManyWords),
         (b"count  #3 #", ScriptFault::BadCall),
         (b"which#", ScriptFault::UnknownWord),
-        (b"crash # db", ScriptFault::BadChild),
+        (b"crash # db", ScriptFault::MissingChild),
     ];
     for (line, fault) in refused {
         assert_eq!(rt; read_step(line), Err(fault));

@@ -48,7 +48,7 @@ heading_line true number line = line_number number ++ codes ": " ++ line ++ code
 
 -- that a line names a child which isn't there
 unfoldable pub unknown_text : ℕ → List ℕ
-unknown_text number = line_number number ++ codes ": there is no such child; say which to list the children\n"
+unknown_text number = line_number number ++ codes ": there is no such child; which lists the root's, PATH/ which those below\n"
 
 -- of a line that was taken: whether it names a child which isn't there
 unfoldable pub known_text : ℕ → Bool → List ℕ

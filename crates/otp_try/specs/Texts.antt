@@ -8,21 +8,28 @@ use Rattle.otp_try.specs.declared.trial.ActionEnd.TheVariants as taken
 
 -- what would be read in the place of what stands there
 unfoldable pub fault_text : ScriptFault → List ℕ
-fault_text fault.UnknownWord = codes "unknown word: a line is one of crash, exit, fail, ignore, hang, stop, at TIME, +TIME, or a call (start, restart, delete, terminate, get, which, count)"
+fault_text fault.UnknownWord = codes "unknown word; help at the prompt lists the words, as does docs/FORMATS.md"
 fault_text fault.BadTime = codes "not a time: after at or + write one like 10s, 500ms, 2m, or 500 (milliseconds)"
+fault_text fault.LargeTime = codes "too large a time: write at most 1000000000000s"
+fault_text fault.MissingChild = codes "a child is missing: write its id, or a process number like #3"
 fault_text fault.BadChild = codes "not a child: write its id, or a process number like #3"
+fault_text fault.MissingName = codes "a child's id is missing: write 1 to 32 bytes of a-z A-Z 0-9 _ - ."
 fault_text fault.BadName = codes "not a child's id: write 1 to 32 bytes of a-z A-Z 0-9 _ - ."
+fault_text fault.MissingReason = codes "a reason is missing: write one like normal, shutdown, kill or error:TEXT"
 fault_text fault.BadReason = codes "not a reason: write normal, shutdown, shutdown:TEXT, kill, killed, noproc or error:TEXT"
-fault_text fault.BadCall = codes "no such call: docs/FORMATS.md has the words of each"
+fault_text fault.LongReason = codes "too long a reason: behind error: or shutdown: stand 1 to 64 bytes"
+fault_text fault.BadCall = codes "this call has other words behind it: docs/FORMATS.md"
 fault_text fault.TooManyWords = codes "more words than the line may have; a comment begins with # after a blank"
 fault_text fault.TooLong = codes "more than 512 bytes"
 
 -- why an action did nothing; nothing where it was taken
 unfoldable pub taken_text : ActionEnd → List ℕ
 taken_text taken.Done = []
-taken_text taken.NoProcess = codes "ignored: this child has no process now; say restart ID to start it again, or which to list what runs"
+taken_text taken.NoProcess = codes "ignored: this child has no process now; say restart ID to start it again"
 taken_text taken.EndWaits = codes "ignored: this process has ended already; its supervisor takes that up once no work is open"
-taken_text taken.NoChild = codes "ignored: there is no such child; say which to list the children"
+taken_text taken.NoChild = codes "ignored: there is no such child; which lists the root's, PATH/ which those below"
+taken_text taken.NoSupervisor = codes "ignored: there is no supervisor of this path; write ids from the root's child on"
+taken_text taken.NotRunning = codes "ignored: this supervisor has no process now; restart ID starts it, if not temporary"
 taken_text taken.TooLate = codes "ignored: that time has gone by; +TIME counts from the line before"
 taken_text taken.Ended = codes "ignored: the supervisor has ended; the line of its end says why"
 taken_text taken.NoIds = codes "ignored: children of simple_one_for_one have no ids, so no start of one can be planned"

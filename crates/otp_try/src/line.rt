@@ -66,7 +66,9 @@ fn write_unknown(number: u64, out: &mut Vec<u8>) -> Result<(), AllocError>
     ensures { OnOk result (out.new.items ≡ out.old.items ++ unknown_text number) }
 {
     write_line_number(number, out)?;
-    out.extend_from_slice(b": there is no such child; say which to list the children\n")
+    out.extend_from_slice(
+        b": there is no such child; which lists the root's, PATH/ which those below\n",
+    )
 }
 
 /// Appends that the line with this number names a child which isn't there, if it does.
@@ -161,10 +163,10 @@ fn act(trial: &mut Trial, step: Step<'_>, out: &mut Vec<u8>) -> Result<ActionEnd
     ensures { OnOk result (Tells trial.old trial.new out.old.items out.new.items) }
 {
     let Some(place) = place_of(trial, step) else {
-        return Ok(unless_ended(trial, ActionEnd::NoChild));
+        return Ok(unless_ended(trial, ActionEnd::NoSupervisor));
     };
     if !trial.has_process(place) {
-        return Ok(unless_ended(trial, ActionEnd::NoProcess));
+        return Ok(unless_ended(trial, ActionEnd::NotRunning));
     }
     let taken = trial.act(place, step.action, out)?;
     match taken {

@@ -28,8 +28,8 @@ pub enum TryEnd {
     Done,
     /// The line with this number, counted from 1, can't be read.
     LineRefused(u64, ScriptFault),
-    /// The line with this number could do nothing: the child that it means is not there or has no process, its time has
-    /// gone by, or the supervisor has ended.
+    /// The line with this number could do nothing: the child or the supervisor that it means is not there or has no process,
+    /// its time has gone by, or the root has ended.
     LineMissed(u64, ActionEnd),
     /// The history has no room for another event.
     HistoryFull,

@@ -4,7 +4,7 @@ ghost use Rattle.std.specs.Prelude.{◌≡◌};
 ghost use Rattle.otp_try.specs.Texts.{fault_text};
 
 use crate::words::{Spaced, end_of_path, next_word, strip_comment, strip_end};
-use otp_reason::{Name, Reason, Text};
+use otp_reason::{Name, Reason, TEXT_SIZE, Text};
 use otp_rules::Call;
 use otp_spec::MAX_READING;
 use otp_text::{LONGEST_LINE, Line, read_line, read_name, read_number, read_reason};
@@ -92,12 +92,22 @@ pub enum ScriptFault {
     UnknownWord,
     /// A time was wanted.
     BadTime,
+    /// A time is larger than one may say.
+    LargeTime,
+    /// A child was wanted, and the line ends there.
+    MissingChild,
     /// A child was wanted.
     BadChild,
+    /// A child's id was wanted, and the line ends there.
+    MissingName,
     /// A child's id was wanted.
     BadName,
+    /// A reason was wanted, and the line ends there.
+    MissingReason,
     /// A reason was wanted.
     BadReason,
+    /// The text of a reason has more bytes than one may have.
+    LongReason,
     /// The words of the call are others.
     BadCall,
     /// There are more words than the line may have.
@@ -114,14 +124,23 @@ impl ScriptFault {
     {
         match self {
             ScriptFault::UnknownWord =>
-                "unknown word: a line is one of crash, exit, fail, ignore, hang, stop, at TIME, +TIME, or a call (start, restart, delete, terminate, get, which, count)",
+                "unknown word; help at the prompt lists the words, as does docs/FORMATS.md",
             ScriptFault::BadTime =>
                 "not a time: after at or + write one like 10s, 500ms, 2m, or 500 (milliseconds)",
+            ScriptFault::LargeTime => "too large a time: write at most 1000000000000s",
+            ScriptFault::MissingChild =>
+                "a child is missing: write its id, or a process number like #3",
             ScriptFault::BadChild => "not a child: write its id, or a process number like #3",
+            ScriptFault::MissingName =>
+                "a child's id is missing: write 1 to 32 bytes of a-z A-Z 0-9 _ - .",
             ScriptFault::BadName => "not a child's id: write 1 to 32 bytes of a-z A-Z 0-9 _ - .",
+            ScriptFault::MissingReason =>
+                "a reason is missing: write one like normal, shutdown, kill or error:TEXT",
             ScriptFault::BadReason =>
                 "not a reason: write normal, shutdown, shutdown:TEXT, kill, killed, noproc or error:TEXT",
-            ScriptFault::BadCall => "no such call: docs/FORMATS.md has the words of each",
+            ScriptFault::LongReason =>
+                "too long a reason: behind error: or shutdown: stand 1 to 64 bytes",
+            ScriptFault::BadCall => "this call has other words behind it: docs/FORMATS.md",
             ScriptFault::TooManyWords =>
                 "more words than the line may have; a comment begins with # after a blank",
             ScriptFault::TooLong => "more than 512 bytes",
@@ -182,7 +201,17 @@ fn read_time(word: &[u8]) -> Result<u64, ScriptFault> {
     let most = if unit == 1 { MAX_READING } else { MOST_MINUTES };
     match read_number(most, digits) {
         Some(number) => Ok(number * unit),
-        None => Err(ScriptFault::BadTime),
+        None => Err(fault_of_time(digits)),
+    }
+}
+
+/// Why the digits of a time can't be read: they say too much, or no number.
+fn fault_of_time(digits: &[u8]) -> ScriptFault {
+    match digits {
+        [b'1'..=b'9', others @ ..] if others.iter().all(|byte| byte.is_ascii_digit()) => {
+            ScriptFault::LargeTime
+        }
+        _ => ScriptFault::BadTime,
     }
 }
 
@@ -243,7 +272,7 @@ fn is_path_next(line: &[u8]) -> bool {
 /// A child and what is left after it.
 fn read_child(line: &[u8]) -> Result<(Meant<'_>, &[u8]), ScriptFault> {
     let Some((word, rest)) = next_word(line) else {
-        return Err(ScriptFault::BadChild);
+        return Err(ScriptFault::MissingChild);
     };
     let (path, name) = split_path(word);
     let child = match name {
@@ -259,7 +288,7 @@ fn read_child(line: &[u8]) -> Result<(Meant<'_>, &[u8]), ScriptFault> {
 /// A child's id with its path, and what is left after them.
 fn read_id(line: &[u8]) -> Result<(&[u8], Name, &[u8]), ScriptFault> {
     let Some((word, rest)) = next_word(line) else {
-        return Err(ScriptFault::BadName);
+        return Err(ScriptFault::MissingName);
     };
     let (path, name) = split_path(word);
     match read_name(name) {
@@ -292,10 +321,26 @@ fn read_last_reason(line: &[u8]) -> Result<Option<Reason>, ScriptFault> {
         return Ok(None);
     };
     let Some(reason) = read_reason(word) else {
-        return Err(ScriptFault::BadReason);
+        return Err(fault_of_reason(word));
     };
     end_of(rest)?;
     Ok(Some(reason))
+}
+
+/// What stands behind `shutdown:` or `error:`.
+fn text_of_reason(word: &[u8]) -> Option<&[u8]> {
+    match word.strip_prefix(b"shutdown:") {
+        Some(text) => Some(text),
+        None => word.strip_prefix(b"error:"),
+    }
+}
+
+/// Why a word is no reason: its text is too long, or it is another word.
+fn fault_of_reason(word: &[u8]) -> ScriptFault {
+    match text_of_reason(word) {
+        Some(text) if text.len() > TEXT_SIZE => ScriptFault::LongReason,
+        _ => ScriptFault::BadReason,
+    }
 }
 
 /// That no word is left.
@@ -332,7 +377,7 @@ fn read_exit(line: &[u8]) -> Result<Said<'_>, ScriptFault> {
             path: meant.path,
             action: Action::Exit(meant.child, reason),
         }),
-        None => Err(ScriptFault::BadReason),
+        None => Err(ScriptFault::MissingReason),
     }
 }
 

@@ -54,6 +54,10 @@ pub enum ActionEnd {
     EndWaits,
     /// There is no child that it could mean. Nothing happened.
     NoChild,
+    /// There is no supervisor with its path. Nothing happened.
+    NoSupervisor,
+    /// The supervisor that it means has no process. Nothing happened.
+    NotRunning,
     /// Its time has gone by. Nothing happened.
     TooLate,
     /// The supervisor has ended, and has no children. Nothing happened.
@@ -71,10 +75,15 @@ impl ActionEnd {
         match self {
             ActionEnd::Done => "",
             ActionEnd::NoProcess =>
-                "ignored: this child has no process now; say restart ID to start it again, or which to list what runs",
+                "ignored: this child has no process now; say restart ID to start it again",
             ActionEnd::EndWaits =>
                 "ignored: this process has ended already; its supervisor takes that up once no work is open",
-            ActionEnd::NoChild => "ignored: there is no such child; say which to list the children",
+            ActionEnd::NoChild =>
+                "ignored: there is no such child; which lists the root's, PATH/ which those below",
+            ActionEnd::NoSupervisor =>
+                "ignored: there is no supervisor of this path; write ids from the root's child on",
+            ActionEnd::NotRunning =>
+                "ignored: this supervisor has no process now; restart ID starts it, if not temporary",
             ActionEnd::TooLate =>
                 "ignored: that time has gone by; +TIME counts from the line before",
             ActionEnd::Ended => "ignored: the supervisor has ended; the line of its end says why",

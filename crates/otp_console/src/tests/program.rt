@@ -265,9 +265,9 @@ fn lines_at_a_terminal(rt: HostRuntime) -> Result<(), Fail> {
     let lines = "crash a\nfrob\ncrash b\ncrash  a # again\nstop\n";
     let shown = "0.000 s  start a #1\n0.000 s  ready\nhelp lists what may be written here\n\
 0.000 s  1 up, 0/1 restarts in 5 s> 0.000 s  start a #2\n\
-0.000 s  1 up, 1/1 restarts in 5 s> unknown word: a line is one of crash, exit, fail, ignore, hang, stop, at TIME, +TIME, \
-or a call (start, restart, delete, terminate, get, which, count)\n\
-0.000 s  1 up, 1/1 restarts in 5 s> ignored: there is no such child; say which to list the children\n\
+0.000 s  1 up, 1/1 restarts in 5 s> unknown word; help at the prompt lists the words, \
+as does docs/FORMATS.md\n\
+0.000 s  1 up, 1/1 restarts in 5 s> ignored: there is no such child; which lists the root's, PATH/ which those below\n\
 0.000 s  1 up, 1/1 restarts in 5 s> 0.000 s  end shutdown: more than 1 restart within 5 s: at 0.000 s, 0.000 s\n\
 0.000 s  the supervisor has ended> ignored: the supervisor has ended; the line of its end says why\n\
 0.000 s  the supervisor has ended> \n0.000 s  the supervisor has ended\nstatus 0\n";
@@ -299,7 +299,7 @@ or a call (start, restart, delete, terminate, get, which, count)\n\
         (false, false),
         "crash b\n",
         "0.000 s  start a #1\n0.000 s  ready\nline 1: crash b\n\
-line 1: ignored: there is no such child; say which to list the children\nstatus 5\n",
+line 1: ignored: there is no such child; which lists the root's, PATH/ which those below\nstatus 5\n",
     )?;
     shows_at(
         &rt,

@@ -1061,7 +1061,7 @@ line 2: crash db
 0.000 s  start db #4
 0.000 s  start cache #5
 0.000 s  start web #6
-line 3: unknown word: a line is one of crash, exit, fail, ignore, hang, stop, at TIME, +TIME, or a call (start, restart, delete, terminate, get, which, count)
+line 3: unknown word; help at the prompt lists the words, as does docs/FORMATS.md
 status 5
 "##,
     ),
@@ -1076,7 +1076,7 @@ line 2: terminate db
 0.000 s  ask db #1
 0.000 s  reply 1 ok
 line 3: crash db
-line 3: ignored: this child has no process now; say restart ID to start it again, or which to list what runs
+line 3: ignored: this child has no process now; say restart ID to start it again
 status 5
 "##,
     ),
@@ -1089,7 +1089,7 @@ status 5
 0.000 s  ready
 line 2: restart bd
 0.000 s  reply 1 error not_found
-line 2: there is no such child; say which to list the children
+line 2: there is no such child; which lists the root's, PATH/ which those below
 line 3: hang db
 line 4: terminate db
 0.000 s  ask db #1
@@ -1151,7 +1151,7 @@ status 0
 0.000 s  start web #3
 0.000 s  ready
 line 2: fail bd
-line 2: there is no such child; say which to list the children
+line 2: there is no such child; which lists the root's, PATH/ which those below
 line 3: crash cache
 0.000 s  ask web #3
 0.000 s  ask db #1
@@ -1162,7 +1162,7 @@ line 4: ignore web
 0.000 s  3 up, 1/3 restarts in 10 s
 unused: fail bd (line 2)
 unused: ignore web (line 4)
-line 2: ignored: there is no such child; say which to list the children
+line 2: ignored: there is no such child; which lists the root's, PATH/ which those below
 status 5
 "##,
     ),
