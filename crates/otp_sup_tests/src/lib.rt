@@ -5,8 +5,6 @@
 #![tactic(auto)]
 
 #[cfg(test)]
-mod bodies;
-#[cfg(test)]
 mod clients;
 #[cfg(test)]
 mod fixtures;
