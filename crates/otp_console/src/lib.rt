@@ -19,6 +19,3 @@ pub mod trying;
 pub mod words;
 
 pub use host::otp;
-
-#[cfg(test)]
-mod tests;

@@ -3,7 +3,7 @@ ghost use Rattle.std.specs.Prelude.{◌≡◌, ◌↔◌, ◌+◌, ◌-◌, ◌<
 ghost use Rattle.otp_run.specs.declared.scheduler.TheConstants.{SHARE_LIMIT};
 ghost use Rattle.otp_run.specs.Deques.{fresh_victim, missed, robbed, TakenFrom};
 ghost use Rattle.otp_run.specs.Opens.{unused};
-ghost use Rattle.otp_run.specs.Schedulers.{out, Found, IsPlaced, nothing_found};
+ghost use Rattle.otp_run.specs.Schedulers.{out, Found, IsPlaced, found_own, nothing_found, own_missed};
 
 use crate::deque::{OwnDeque, Victim};
 use crate::naming::RunNaming;
@@ -125,6 +125,17 @@ impl<N: RunNaming, J: Drop, S: Drop> Scheduler<N, J, S> {
     {
         let _ = spent.into_number();
         self.share.ended += 1;
+    }
+
+    /// The first process of its own deque, with no try at the others. None where it gave nothing.
+    #[tactic(auto, unfolding(crate::specs::Schedulers::out))]
+    pub fn next_own(&mut self) -> Option<Process<J, S>>
+        ensures found { IfSome result (λ process. self.new ≡ found_own self.old process.ticket) }
+        ensures out { IfSome result (λ process. out self.new ≡ out self.old + 1) }
+        ensures none { IfNone result (self.new ≡ record self.old { own = own_missed self.old }) }
+        ensures none_out { IfNone result (out self.new ≡ out self.old) }
+    {
+        self.own.pop()
     }
 
     /// The next process: the first of its own deque; else of one try at each other in rising index from its own on,

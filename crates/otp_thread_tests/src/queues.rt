@@ -174,6 +174,32 @@ fn order_of_thefts<N: RunNaming, R: Abort>(
     Ok(())
 }
 
+fn own_alone<N: RunNaming, R: Abort>(
+    rt: &R,
+    alloc: Global,
+    queue: RunQueue<BoxedJob, BoxedSubsystem>,
+) -> Result<(), Fail>
+    requires { AllAt (λ k id. id ≡ N.deque k) queue }
+{
+    let mut schedulers = queue.named::<N>(alloc)?;
+    assert_eq!(rt; schedulers.len(), 2);
+    put_all(rt, alloc, &mut schedulers[0], 0, 2);
+    assert!(rt; schedulers[1].next_own().is_none());
+    for wanted in [0, 1] {
+        let found = schedulers[0].next_own();
+        assert_eq!(rt; found.map(|process| process.number()), Some(wanted));
+    }
+    assert!(rt; schedulers[0].next_own().is_none());
+    Ok(())
+}
+
+#[test]
+fn next_own_leaves_the_others_alone(rt: HostRuntime) -> Result<(), Fail> {
+    let alloc = rt.alloc();
+    let queue = RunQueue::open(alloc, 2)?;
+    own_alone::<Brand, _>(&rt, alloc, queue)
+}
+
 #[test]
 fn next_tries_the_others_in_rising_order(rt: HostRuntime) -> Result<(), Fail> {
     let alloc = rt.alloc();

@@ -13,8 +13,8 @@ use otp_signals::{Viewer, WordsNaming};
 impl<N: WordsNaming + InboxNaming, J: Drop, S: Drop> System<N, J, S> {
     /// Makes sure that a hand has a process whose turn it is. The first that is there of these: the supervisor to which the
     /// hand has just sent a letter, if that waits in this hand; one of a few supervisors that wait, for which something has
-    /// come; one of some jobs that wait, which was told something; the next of the run queue; and where that has none, of all
-    /// supervisors that wait and of many jobs. False where none was found.
+    /// come; one of some jobs that wait, which was told something; the next of the run queue (of other hands' deques now and then
+    /// only, while they have none); and where there is none, of all supervisors that wait and of many jobs. False where none was found.
     ///
     /// A process waits only after a turn in which it had nothing to do, and that turn it has from the run queue: so those that
     /// wait don't keep the run queue's from their turns.

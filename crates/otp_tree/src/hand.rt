@@ -26,6 +26,10 @@ use std::alloc::Global;
 use std::marker::Model;
 use std::sync::Wait;
 
+/// After a try at all other deques that gave nothing, so many looks into the hand's own come before the next. A hand with nothing
+/// to do that tried in each turn would take the one process that has something to do from hand to hand, and its memory with it.
+const THEFT_PAUSE: u32 = 256;
+
 /// A letter that was not sent yet, and the number of the supervisor to which it goes.
 #[derive(Drop)]
 pub(crate) struct Unsent<J: Drop, S: Drop> {
@@ -73,6 +77,8 @@ pub(crate) struct Runner<N: WordsNaming + RunNaming, J: Drop, S: Drop> {
     pub resting: Resting<J, S>,
     pub unsent: Option<Unsent<J, S>>,
     pub refusals: Tally,
+    // How many looks into its own deque come before it tries the others again.
+    pub theft_pause: u32,
     pub alloc: Global,
 }
 
@@ -288,14 +294,25 @@ impl<N: WordsNaming + RunNaming, J: Drop, S: Drop> Runner<N, J, S> {
         self.turning = self.waiting.take_told(words, &mut self.viewer);
     }
 
-    /// Gives its turn to the next process of the run queue, if there is one.
+    /// Gives its turn to the next process of the run queue, if there is one: of its own deque, or else of the others, but for a while after
+    /// those had none.
     pub(crate) fn take_next(&mut self)
         requires { self.old.turning ≡ None }
         ensures unsent { self.new.unsent ≡ self.old.unsent }
         ensures begun { NoneBegan self.old.scheduler self.new.scheduler }
         ensures ended { NoneEnded self.old.scheduler self.new.scheduler }
     {
-        self.turning = self.scheduler.next();
+        if self.theft_pause == 0 {
+            self.turning = self.scheduler.next();
+            if self.turning.is_none() {
+                self.theft_pause = THEFT_PAUSE;
+            }
+            return;
+        }
+        self.turning = self.scheduler.next_own();
+        if self.turning.is_none() {
+            self.theft_pause -= 1;
+        }
     }
 
     /// Lets the supervisor's process that it has out wait, until there is a letter or another signal than this one. Where memory

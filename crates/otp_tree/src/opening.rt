@@ -295,6 +295,7 @@ fn make_hand<N: WordsNaming + InboxNaming + RunNaming, J: Drop, S: Drop>(
         resting: Resting::new(alloc),
         unsent: None,
         refusals: Tally::new(),
+        theft_pause: 0,
         alloc,
     };
     Ok(Hand {

@@ -153,6 +153,7 @@ fn part_all<N: WordsNaming + InboxNaming + RunNaming, J: Drop, S: Drop>(
             resting,
             unsent,
             refusals,
+            theft_pause: _,
             alloc,
         } = runner;
         schedulers.push_reserved(scheduler);
@@ -205,6 +206,7 @@ fn rejoin_all<N: WordsNaming + InboxNaming + RunNaming, J: Drop, S: Drop>(
             resting,
             unsent,
             refusals,
+            theft_pause: 0,
             alloc,
         };
         hands.push_reserved(Hand {

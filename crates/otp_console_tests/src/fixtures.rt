@@ -1,21 +1,14 @@
-//! What no clause says: that the format is the one that was meant, the texts and the words, and that runs succeed.
+//! Input played, and what was written and told of it.
 
-use crate::console::console;
-use crate::ending::{ProgramEnd, tell};
-use otp_file::TreeFault;
+use otp_console::console::console;
+use otp_console::ending::{ProgramEnd, tell};
 use otp_sim::Counted;
 use std::alloc::{AllocError, Global};
 use std::process::Abort;
 use std::test::Fail;
 
-mod devices;
-mod long;
-mod program;
-mod rows;
-mod transcripts;
-
 /// What is told of an ending, without its end of line, and then its status.
-fn said(alloc: Global, ending: ProgramEnd<'_>) -> Result<String, AllocError> {
+pub(crate) fn said(alloc: Global, ending: ProgramEnd<'_>) -> Result<String, AllocError> {
     let mut errors = Counted::new(Vec::new(alloc));
     let status = tell(&mut errors, ending);
     let line = errors.into_device();
@@ -24,7 +17,7 @@ fn said(alloc: Global, ending: ProgramEnd<'_>) -> Result<String, AllocError> {
 }
 
 /// Plays the lines, and compares what is printed and how the program ends.
-fn plays(
+pub(crate) fn plays(
     rt: &impl Abort,
     alloc: Global,
     tree: &str,
@@ -42,19 +35,8 @@ fn plays(
     Ok(())
 }
 
-/// A tree file need not be a text.
-#[test]
-fn bytes_that_are_no_text(rt: HostRuntime) -> Result<(), Fail> {
-    let mut reader = Counted::new(b"".as_slice());
-    let mut writer = Counted::new(Vec::new(rt.alloc()));
-    let ended = console(rt.alloc(), b"period = 5 # \xff\n", &mut reader, &mut writer);
-    assert_eq!(rt; ended, ProgramEnd::TreeRefused(TreeFault::NotToml));
-    assert!(rt; writer.into_device().is_empty());
-    Ok(())
-}
-
 /// What was written and told, and the status.
-fn with_status(
+pub(crate) fn with_status(
     alloc: Global,
     written: Vec<u8>,
     told: Vec<u8>,

@@ -1,6 +1,10 @@
 //! Worked rows, from the bytes of a tree file and of the input to the bytes of the output.
 
-use super::plays;
+use crate::fixtures::plays;
+use otp_console::console::console;
+use otp_console::ending::ProgramEnd;
+use otp_file::TreeFault;
+use otp_sim::Counted;
 use std::test::Fail;
 
 /// Each row: the tree file, the lines, what is printed, and the text and status of the end.
@@ -199,5 +203,16 @@ fn worked_rows(rt: HostRuntime) -> Result<(), Fail> {
     for (tree, lines, printed, end) in ROWS {
         plays(&rt, rt.alloc(), tree, lines, printed, end)?;
     }
+    Ok(())
+}
+
+/// A tree file need not be a text.
+#[test]
+fn bytes_that_are_no_text(rt: HostRuntime) -> Result<(), Fail> {
+    let mut reader = Counted::new(b"".as_slice());
+    let mut writer = Counted::new(Vec::new(rt.alloc()));
+    let ended = console(rt.alloc(), b"period = 5 # \xff\n", &mut reader, &mut writer);
+    assert_eq!(rt; ended, ProgramEnd::TreeRefused(TreeFault::NotToml));
+    assert!(rt; writer.into_device().is_empty());
     Ok(())
 }

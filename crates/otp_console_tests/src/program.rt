@@ -1,11 +1,11 @@
 //! Runs of the whole program, with words and files that are made up: its status, and what it tells on which stream.
 
-use crate::files::TreeFiles;
-use crate::program::run;
-use crate::running::Pool;
-use crate::tests::transcripts::{FILES, TRANSCRIPTS};
-use crate::tests::with_status;
-use crate::words::WordsFault;
+use crate::fixtures::with_status;
+use crate::transcripts::{FILES, TRANSCRIPTS};
+use otp_console::files::TreeFiles;
+use otp_console::program::run;
+use otp_console::running::Pool;
+use otp_console::words::WordsFault;
 use otp_sim::Counted;
 use otp_tree::Gate;
 use std::alloc::{AllocError, Global};

@@ -1,7 +1,7 @@
 //! The transcripts of the repository. `examples/check --table` writes this file from theirs.
 
 /// The name of each file that they name, and its text.
-pub(super) const FILES: [(&str, &str); 46] = [
+pub(crate) const FILES: [(&str, &str); 46] = [
     (
         "all_significant.events",
         r##"up 1
@@ -752,7 +752,7 @@ start = "nap"
 ];
 
 /// The words, the file of the lines of standard input or `-`, and what is written and told, with the status.
-pub(super) const TRANSCRIPTS: [(&str, &str, &str); 41] = [
+pub(crate) const TRANSCRIPTS: [(&str, &str, &str); 41] = [
     (
         "sim all_significant.toml",
         "all_significant.events",

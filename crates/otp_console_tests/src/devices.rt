@@ -1,8 +1,8 @@
 //! Readers and writers that fail in mid-stream, that watch one another, and that count their calls.
 
-use super::said;
-use crate::console::console;
-use crate::ending::ProgramEnd;
+use crate::fixtures::said;
+use otp_console::console::console;
+use otp_console::ending::ProgramEnd;
 use otp_sim::Counted;
 use std::cell::Cell;
 use std::io::{Error, ErrorKind, Read, Write};

@@ -1,6 +1,6 @@
 //! Worked rows at the limits: their files, lines and outputs are made by loops.
 
-use super::plays;
+use crate::fixtures::plays;
 use std::alloc::{AllocError, Global};
 use std::fmt::Write;
 use std::test::Fail;
