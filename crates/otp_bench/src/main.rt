@@ -23,7 +23,7 @@ use std::alloc::AllocError;
 use std::process::ExitCode;
 use std::time::Instant;
 use std::{env, io};
-use trees::{Even, Rush};
+use trees::Clock;
 
 fn main(rt: HostRuntime) -> io::Result<ExitCode> {
     let mut words = env::args(&rt)?.skip(1);
@@ -45,8 +45,16 @@ fn main(rt: HostRuntime) -> io::Result<ExitCode> {
         "supervisors" => supervisors::measure(&rt, rt.alloc(), threads, count)?,
         "trees" => {
             let begun = Instant::now(&rt)?;
-            let even = Even { rt: &rt, begun };
-            let rush = Rush { rt: &rt, begun };
+            let even = Clock {
+                rt: &rt,
+                begun,
+                rushes: false,
+            };
+            let rush = Clock {
+                rt: &rt,
+                begun,
+                rushes: true,
+            };
             trees::measure(&rt, rt.alloc(), &even, &rush, threads, count)?;
         }
         "puts" => jobs::measure_puts(&rt, rt.alloc(), count)?,

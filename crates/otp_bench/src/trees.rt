@@ -51,38 +51,26 @@ impl Job for Worker {
 
 type Plan = TablePlan<Worker, BoxedSubsystem>;
 
-/// A clock whose milliseconds are nanoseconds: so no period has many restarts.
+/// A clock. By an even one a millisecond is one, so a child that is asked to end has all of its time for that. By one that rushes a nanosecond
+/// is told as a millisecond, so no period has many restarts.
 #[derive(Drop)]
-pub struct Rush<'a, R> {
+pub struct Clock<'a, R> {
     pub rt: &'a R,
     pub begun: Instant,
+    pub rushes: bool,
 }
 
-impl<'a, R: Runtime> Gate for Rush<'a, R> {
+impl<'a, R: Runtime> Gate for Clock<'a, R> {
     fn before_turn(&self, _hand: usize) -> u64 {
         let Ok(passed) = self.begun.elapsed(self.rt) else {
             return 0;
         };
-        match u64::try_from(passed.as_nanos()) {
-            Ok(reading) => reading.min(1 << 62),
-            Err(_) => 0,
-        }
-    }
-}
-
-/// A clock as any other: a child that is asked to end has all of its time for that.
-#[derive(Drop)]
-pub struct Even<'a, R> {
-    pub rt: &'a R,
-    pub begun: Instant,
-}
-
-impl<'a, R: Runtime> Gate for Even<'a, R> {
-    fn before_turn(&self, _hand: usize) -> u64 {
-        let Ok(passed) = self.begun.elapsed(self.rt) else {
-            return 0;
+        let reading = if self.rushes {
+            passed.as_nanos()
+        } else {
+            passed.as_millis()
         };
-        match u64::try_from(passed.as_millis()) {
+        match u64::try_from(reading) {
             Ok(reading) => reading.min(1 << 62),
             Err(_) => 0,
         }
@@ -202,17 +190,16 @@ fn children_for(count: u64) -> usize {
 
 /// Measures a full tree on so many threads, by an even clock: started, and stopped once all are up; and restarts, by one that
 /// rushes, while all threads together take so many turns, and as many again in which all is stopped.
-pub fn measure<R, E, G>(
+pub fn measure<R, G>(
     rt: &R,
     alloc: Global,
-    even: &E,
+    even: &G,
     rush: &G,
     threads: usize,
     count: u64,
 ) -> io::Result<()>
 where
     R: Runtime + Threads + Wait + Sync,
-    E: Gate + Sync,
     G: Gate + Sync,
 {
     if threads == 0 || threads > MAX_HANDS {

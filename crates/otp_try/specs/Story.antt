@@ -16,6 +16,7 @@ use Rattle.otp_rules.specs.Step.{step}
 use Rattle.otp_spec.specs.declared.flags.SupFlags.{SupFlags}
 use Rattle.otp_text.specs.Effects.{effect_line}
 use Rattle.otp_text.specs.Values.{child_name_text, process_text, reason_text}
+use Rattle.otp_try.specs.declared.time.TheConstants.{MOST_TIMES}
 use Rattle.otp_try.specs.Starts.{start_of}
 use Rattle.otp_try.specs.declared.script.Child.{Child}
 use Rattle.otp_try.specs.declared.script.Child.TheVariants as child
@@ -35,16 +36,13 @@ unfoldable pub times_text : List ℕ → List ℕ
 times_text [] = []
 times_text (time ∷ times) = time_text time ++ flat_map next_time_text times
 
--- more times than these are not all written: the first three and the last are
-abbrev pub most_times : ℕ
-most_times = 5
-
+-- of many times the first three and the last are written
 unfoldable pub cut_times_text : List ℕ → List ℕ
 cut_times_text times = times_text (take 3 times) ++ codes ", .." ++ next_time_text (get_or times (length times - 1) 0)
 
 -- times with commas between, where they are many the first and the last of them
 unfoldable pub few_times_text : List ℕ → List ℕ
-few_times_text times = if nat_le (length times) most_times then times_text times else cut_times_text times
+few_times_text times = if nat_le (length times) MOST_TIMES then times_text times else cut_times_text times
 
 -- a number after a word
 unfoldable pub number_after : List ℕ → ℕ → List ℕ

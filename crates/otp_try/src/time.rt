@@ -2,7 +2,8 @@
 
 ghost use Rattle.std.specs.Prelude.{◌≡◌, ◌++◌, ◌<◌, length, OnOk};
 ghost use Rattle.std.specs.List.{flat_map};
-ghost use Rattle.otp_try.specs.Story.{cut_times_text, few_times_text, most_times, next_time_text, time_text, times_text};
+ghost use Rattle.otp_try.specs.declared.time.TheConstants.{MOST_TIMES};
+ghost use Rattle.otp_try.specs.Story.{cut_times_text, few_times_text, next_time_text, time_text, times_text};
 
 use otp_timeline::write_seconds;
 use std::alloc::AllocError;
@@ -55,7 +56,7 @@ const MOST_TIMES: usize = 5;
 /// Appends the first three and the last of many times.
 #[tactic(auto, unfolding(crate::specs::Story::cut_times_text))]
 fn write_cut_times(times: &[u64], out: &mut Vec<u8>) -> Result<(), AllocError>
-    requires { most_times < length times.now }
+    requires { MOST_TIMES < length times.now }
     ensures { OnOk result (out.new.items ≡ out.old.items ++ cut_times_text times.now) }
 {
     write_times(&times[..3], out)?;

@@ -7,9 +7,10 @@ use otp_rules::{Effect, Item, Kind};
 use otp_spec::{ChildSpec, Strategy, SupFlags};
 use std::alloc::{AllocError, Global};
 use std::collections::VecDeque;
+use std::io;
 
 /// A supervisor of three children, where those that were started after one that crashed are restarted with it.
-pub fn open(alloc: Global) -> Result<Core, AllocError> {
+pub fn open(alloc: Global) -> io::Result<Core> {
     let mut specs = Vec::new(alloc);
     for id in [b"db".as_slice(), b"cache", b"web"] {
         let name = Name::new(id).ok_or(AllocError)?;
@@ -25,19 +26,19 @@ pub fn open(alloc: Global) -> Result<Core, AllocError> {
 }
 
 /// A process of a child ends by an error.
-pub fn crash(alloc: Global, core: &mut Core, number: u64) -> Result<(), AllocError> {
+pub fn crash(alloc: Global, core: &mut Core, number: u64) -> io::Result<()> {
     let text = Text::new(b"crash").ok_or(AllocError)?;
     let note = Note::Exit(number, Reason::Error(text));
     drive(alloc, core, Kind::Took(Item::Note(note)))
 }
 
 /// The supervisor is told to end, and stops its children.
-pub fn stop(alloc: Global, core: &mut Core) -> Result<(), AllocError> {
+pub fn stop(alloc: Global, core: &mut Core) -> io::Result<()> {
     drive(alloc, core, Kind::Stopped)
 }
 
 /// Something happens, and all that follows, until nothing does.
-fn drive(alloc: Global, core: &mut Core, first: Kind) -> Result<(), AllocError> {
+fn drive(alloc: Global, core: &mut Core, first: Kind) -> io::Result<()> {
     let mut inbox = VecDeque::new(alloc);
     let mut next = Some(first);
     for _ in 0..MAX_EVENTS {
@@ -51,20 +52,25 @@ fn drive(alloc: Global, core: &mut Core, first: Kind) -> Result<(), AllocError> 
             None => inbox.pop_front().map(|note| Kind::Took(Item::Note(note))),
         };
     }
-    Ok(())
+    Err(no_room())
 }
 
 /// One event: its memory first, and then the step, which draws a number where it starts a child. The clock stands still.
-fn happen(core: &mut Core, kind: Kind) -> Result<(), AllocError> {
+/// An error where the history holds no more, or no number is left.
+fn happen(core: &mut Core, kind: Kind) -> io::Result<()> {
     core.prepare()?;
     let mut numbers = Counter {
         last: core.last_number(),
     };
     if core.is_full() || numbers.last == u64::MAX {
-        return Ok(());
+        return Err(no_room());
     }
     core.step_with(0, kind, &mut numbers);
     Ok(())
+}
+
+fn no_room() -> io::Error {
+    io::Error::from(io::ErrorKind::StorageFull)
 }
 
 /// The orders are carried out: what the children tell of that comes into the inbox.
