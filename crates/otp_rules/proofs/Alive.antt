@@ -284,7 +284,7 @@ TakesFirst k p old = (k ≡ kind.Resumed) × (is_first_exit p old.state.waiting 
 stays-survives : (D : Type 0) (k : Kind) (G : Item → Type 0) (old : Outcome) (slot p m : ℕ) → (TakesFirst k p old → D) → SurvivesEvent k G old (Stays D slot p m)
 stays-survives D k G old slot p m ends =
     record {
-      answered = λ c r o h. answer-stays D slot p m c r o h;
+      answered = λ c r o quiet h. answer-stays D slot p m c r o h;
       taken = λ w ws resumed idle runs is h. (
         (
           h.0.0,
@@ -324,12 +324,12 @@ stays-survives D k G old slot p m ends =
           let no : ◌≡◌ {A = ℕ} (cond (is_live slot p row) 1 0) 0 = ap (λ (b : Bool). cond b 1 0) (never (has_slot slot row)) in
           stays-less D slot p m o (with_work [] (record { id = id; kept = None } ∷ []) (Some (sequel.Added c)) (with_rows (o.state.rows ++ row ∷ []) o)) (less p) (omega arith)
           (omega (arith, no, sum_by-append (λ (r : Row). cond (is_live slot p r) 1 0) o.state.rows (row ∷ []), sum_by-cons (λ (r : Row). cond (is_live slot p r) 1 0) row [])) h;
-      starts_again = λ c id place row o u idle runs at has is h. h;
+      starts_again = λ c id place row o u idle runs at has is noted found h. h;
       removed = λ place row o u idle runs at down h.
           let less : NoMore o (with_rows (remove o.state.rows place) o) = remove-no_more place row o o at (same_less o) in
           stays-less D slot p m o (with_rows (remove o.state.rows place) o) (less p) (omega arith) (remove-fewer slot p place row o at) h;
       given_up = λ place row o u idle runs at down h. set-stays D slot p m place row Undefined o at (λ x has. absurd (false≢true has)) h;
-      stops_child = λ c q place row o u idle runs at up h. h;
+      stops_child = λ c q place row o u idle runs at up has got h. h;
     }
   where
     never : (b : Bool) → (b && false) ≡ false

@@ -37,7 +37,7 @@ use Rattle.otp_rules.specs.Deaths.{restart_rows, restart}
 use Rattle.otp_rules.specs.Step.{open_with, open_rows, tick, decide, stamped, step, step_on, kill_order, killed, late_number}
 use Rattle.otp_rules.proofs.Bits.{at_most_1}
 use Rattle.otp_rules.proofs.Walks.{advance-by, restart-by, terminate-by}
-use Rattle.otp_rules.proofs.Decisions.{StandsAt, SurvivesEvent, at_row-survives, at_number-survives, by_test, decide-survives_event}
+use Rattle.otp_rules.proofs.Decisions.{StandsAt, SurvivesEvent, ends_unmoved, same_orders, same_work, at_row-survives, at_number-survives, by_test, decide-survives_event}
 use Rattle.otp_rules.proofs.Counting.{end_row-quiet, stop_each-alike, use_exit-quiet}
 
 abbrev pub orders_in : List Effect → ℕ
@@ -174,31 +174,31 @@ few-survive k G old none other =
     let removes : (place : ℕ) (row : Row) (o : Outcome) → StandsAt place row o → length (remove o.state.rows place) ≤ length o.state.rows =
     λ place row o at. let e : length (remove o.state.rows place) + 1 ≡ length o.state.rows = length-remove o.state.rows place (slice_get_within o.state.rows place row at) in omega (arith, e) in
     record {
-      answered = λ c r o h. answer-few old c r o h;
+      answered = λ c r o quiet h. answer-few old c r o h;
       taken = λ w ws resumed idle runs is h. h;
       call_waits = λ c call o u busy g h. h;
       exit_waits = λ p r o u g h. h;
-      up = λ p place row q kept o u at is same g h. (h.0, λ _. omega (arith, h.1 u.1, set place row (Up p) o));
-      up_closed = λ p place row q kept c o u at is same follows g h. (h.0, λ _. omega (arith, h.1 u.1, set place row (Up p) o));
-      ignored = λ p place row q kept o u at is same g h. end-few old place row o u.1 at h;
+      up = λ p place row q kept o u at is same g h. (h.0, λ _. omega (arith, h.1 (same_work old o u), set place row (Up p) o));
+      up_closed = λ p place row q kept c o u at is same follows g h. (h.0, λ _. omega (arith, h.1 (same_work old o u), set place row (Up p) o));
+      ignored = λ p place row q kept o u at is same g h. end-few old place row o (same_work old o u) at h;
       opening_failed = λ place row q kept o u runs at is follows g h.
-          ends-few old (ending.InitFailed row.spec.id) (set_row place row Undefined o) (still o u.0) (omega (arith, h.1 u.1, set place row Undefined o));
-      restart_failed = λ place row q kept o u at is follows g h. (h.0, λ _. omega (arith, h.1 u.1, set place row (Restarting kept) o));
-      added_failed = λ place row q kept c o u at is follows g h. (h.0, λ _. omega (arith, h.1 u.1, removes place row o at));
-      restarted_failed = λ place row q kept c o u at is follows g h. (h.0, λ _. omega (arith, h.1 u.1, set place row Undefined o));
-      stopped = λ p r place row o u at told g h. end-few old place row o u.1 at h;
-      died = λ p place row o u idle runs at is g h. end-few old place row o u.1 at h;
+          ends-few old (ending.InitFailed row.spec.id) (set_row place row Undefined o) (still o (same_orders old o u)) (omega (arith, h.1 (same_work old o u), set place row Undefined o));
+      restart_failed = λ place row q kept o u at is follows g h. (h.0, λ _. omega (arith, h.1 (same_work old o u), set place row (Restarting kept) o));
+      added_failed = λ place row q kept c o u at is follows g h. (h.0, λ _. omega (arith, h.1 (same_work old o u), removes place row o at));
+      restarted_failed = λ place row q kept c o u at is follows g h. (h.0, λ _. omega (arith, h.1 (same_work old o u), set place row Undefined o));
+      stopped = λ p r place row o u at told g h. end-few old place row o (same_work old o u) at h;
+      died = λ p place row o u idle runs at is g h. end-few old place row o (same_work old o u) at h;
       restarts = λ p place row o u idle runs at is h.
           let new = restart-adds p place row o in
-          (omega (arith, new.0, still o u.0, h.1 u.1), λ same. absurd (false≢true (sym idle.0 ∙ sym same ∙ new.1)));
-      ends = λ e o u other_end idle runs h. ends-few old e o (still o u.0) (h.1 u.1);
+          (omega (arith, new.0, still o (same_orders old o u), h.1 (same_work old o u)), λ same. absurd (false≢true (sym idle.0 ∙ sym same ∙ new.1)));
+      ends = λ e o u other_end idle runs h. let same = ends_unmoved k G old e o u in ends-few old e o (still o same.0) (h.1 same.1);
       ticks = λ is h. tick-few old none;
       opens = λ own is over h. absurd (other own is);
       adds = λ c id spec o u idle runs named few got h. (h.0, λ same. absurd (false≢true (sym idle.0 ∙ sym same)));
-      starts_again = λ c id place row o u idle runs at has is h. (h.0, λ _. h.1 u.1);
-      removed = λ place row o u idle runs at down h. (h.0, λ _. omega (arith, h.1 u.1, removes place row o at));
-      given_up = λ place row o u idle runs at down h. (h.0, λ _. omega (arith, h.1 u.1, set place row Undefined o));
-      stops_child = λ c p place row o u idle runs at up h. (h.0, λ _. h.1 u.1);
+      starts_again = λ c id place row o u idle runs at has is noted found h. (h.0, λ _. h.1 (same_work old o u));
+      removed = λ place row o u idle runs at down h. (h.0, λ _. omega (arith, h.1 (same_work old o u), removes place row o at));
+      given_up = λ place row o u idle runs at down h. (h.0, λ _. omega (arith, h.1 (same_work old o u), set place row Undefined o));
+      stops_child = λ c p place row o u idle runs at up has got h. (h.0, λ _. h.1 (same_work old o u));
     }
 
 -- an opening orders nothing itself

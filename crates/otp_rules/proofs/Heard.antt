@@ -117,7 +117,7 @@ exit_put D G p q r ws got brings h waits =
 heard-survives : (k : Kind) (G : Item → Type 0) (old : Outcome) (p : ℕ) → SurvivesEvent k G old (IsHeard G old p)
 heard-survives k G old p =
     record {
-      answered = λ c r o h w. h (answer-less p c r o w);
+      answered = λ c r o quiet h w. h (answer-less p c r o w);
       taken = λ x xs resumed idle runs is h w. inl (subst (λ (ws : List Waiting). list_any (is_ended p) ws ≡ true) (sym is) (or_right (is_ended p x) (list_any (is_ended p) xs) w));
       call_waits = λ c x o u busy g h w. h (quiet_more o.state.waiting (waiting.Item (item.Call c x)) (λ q. refl) p w);
       exit_waits = λ q r o u g h w. exit_put (Waits p old ⊎ BringsExit G p) G p q r o.state.waiting g (λ b. inr b) h w;
@@ -135,10 +135,10 @@ heard-survives k G old p =
       ticks = λ is h w. h (tick-less p old w);
       opens = λ own is over h w. h (open-less p own old w);
       adds = λ c id spec o u idle runs named few got h. h;
-      starts_again = λ c id place row o u idle runs at has is h. h;
+      starts_again = λ c id place row o u idle runs at has is noted found h. h;
       removed = λ place row o u idle runs at down h. h;
       given_up = λ place row o u idle runs at down h. h;
-      stops_child = λ c q place row o u idle runs at up h. h;
+      stops_child = λ c q place row o u idle runs at up has got h. h;
     }
 
 pub decided-heard : (k : Kind) (old : Outcome) (p : ℕ) → IsHeard (Brings k old.state.waiting) old p (decide k old)

@@ -45,7 +45,7 @@ use Rattle.otp_rules.specs.Homes.{Brings, ComesHome, EndsProcess, HomesKept, Hom
 use Rattle.otp_rules.specs.Fit.{rows_in}
 use Rattle.otp_rules.proofs.States.{told_has}
 use Rattle.otp_rules.proofs.Walks.{advance-by, restart-by, stop_each-by, stop_first-by, terminate-by, with_stops}
-use Rattle.otp_rules.proofs.Decisions.{BringsExit, BringsFailure, StandsAt, SurvivesEvent, at_row-survives, at_number-survives, by_test, decide-survives_event, is_down}
+use Rattle.otp_rules.proofs.Decisions.{BringsExit, BringsFailure, Dies, StandsAt, SurvivesEvent, at_row-survives, at_number-survives, by_test, decide-survives_event, is_down}
 use Rattle.std.specs.Prelude.{length}
 use Rattle.otp_rules.specs.Run.{empty_state, state_after}
 use Rattle.std.proofs.Common.{cond}
@@ -422,7 +422,7 @@ known-survives : (what : Kind) (G : Item → Type 0) (old : Outcome) → Survive
 known-survives what G old =
     let s : State = old.state in
     record {
-      answered = λ c r o h. answer-known what s G c r o h;
+      answered = λ c r o quiet h. answer-known what s G c r o h;
       taken = λ w ws resumed idle runs is h.
           less_known what s G (w ∷ ws) ws (λ p k. or_right (is_ended p w) (list_any (is_ended p) ws) k) s.rows (of_waiting what s G old (w ∷ ws) is h);
       call_waits = λ c call o u busy g h. put-known what s G (waiting.Item (item.Call c call)) o (λ p. refl) h;
@@ -452,18 +452,18 @@ known-survives what G old =
       died = λ p place row o u idle runs at is noted h. ended what s G place row o at (inr (exits G row p is noted)) h;
       restarts = λ p place row o u idle runs at is h.
           restart-known what s G p place row o at
-          (⊎_elim (λ up. inr (exits G row p up.0 up.1)) (λ down. inl (ap (λ (t : RowState). is_home o.state.waiting t) down)) is) h;
+          (⊎_elim (λ (up : Dies G p place row o true). inr (exits G row p up.0 (up.1.0, up.1.1))) (λ down. inl (ap (λ (t : RowState). is_home o.state.waiting t) down.0)) is) h;
       ends = λ e o u other idle runs h. terminate-known what s G e o h;
       ticks = λ is h. tick-known what s G old h;
       opens = λ own is over h. opening-known what s G own old refl is over;
       adds = λ c id spec o u idle runs named few got h.
           each-append (Known what s G o.state.waiting) o.state.rows (new_row (free_slot o.state.rows) id spec ∷ []) h
-          (inr (inl (record { c = c; x = got.0.0; start = got.0.1; brought = got.0.2; free = ap (λ (l : List Row). free_slot l) got.1 })), tt);
-      starts_again = λ c id place row o u idle runs at has is h. h;
+          (inr (inl (record { c = c; x = got.0; start = got.1; brought = got.2; free = ap (λ (y : Outcome). free_slot y.state.rows) u })), tt);
+      starts_again = λ c id place row o u idle runs at has is noted found h. h;
       removed = λ place row o u idle runs at down h. each-remove (Known what s G o.state.waiting) o.state.rows place h;
       given_up = λ place row o u idle runs at down h.
           down-known what s G o.state.waiting place row Undefined o.state.rows refl at (inl (down_home o.state.waiting row.state down)) h;
-      stops_child = λ c p place row o u idle runs at up h. h;
+      stops_child = λ c p place row o u idle runs at up has got h. h;
     }
 
 -- what is left to say of a row: that it is at home, or that the event starts it

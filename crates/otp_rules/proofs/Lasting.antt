@@ -46,7 +46,7 @@ use Rattle.otp_rules.specs.InOrder.{Finishes, IsBare, IsInOrder, StaysInOrder}
 use Rattle.otp_rules.specs.Lives.{EndComesLast, EndComesLastFrom, HasEnded, IsHeldIn, ProcessesStay, ProcessesStayFrom}
 use Rattle.otp_rules.proofs.States.{one_process, told_has}
 use Rattle.otp_rules.proofs.Walks.{advance-by, stop_each-by, stop_first-by, terminate-by, with_stops, counted_restart}
-use Rattle.otp_rules.proofs.Decisions.{BringsExit, SurvivesEvent, StandsAt, at_row-survives, at_number-survives, by_test, decide-survives_event, is_down}
+use Rattle.otp_rules.proofs.Decisions.{BringsExit, Dies, SurvivesEvent, StandsAt, at_row-survives, at_number-survives, by_test, decide-survives_event, is_down}
 use Rattle.otp_rules.proofs.Counting.{none_in, remove_count, rows_in-cons, set_count}
 use Rattle.otp_rules.proofs.EndedRows.{step-bare}
 use Rattle.otp_rules.proofs.Calm.{step-calm}
@@ -237,7 +237,7 @@ lasts-survives : (k : Kind) (G : Item → Type 0) (old : Outcome) (slot p : ℕ)
 lasts-survives k G old slot p bare =
     let D : Type 0 = Ended G old p in
     record {
-      answered = λ c r o h. (λ w. h.0 (answer-less p c r o w), answer-has D slot p c r o h.1);
+      answered = λ c r o quiet h. (λ w. h.0 (answer-less p c r o w), answer-has D slot p c r o h.1);
       taken = λ x xs resumed idle runs is h. (λ w. inl (subst (λ (ws : List Waiting). list_any (is_ended p) ws ≡ true) (sym is) (or_right (is_ended p x) (list_any (is_ended p) xs) w)), h.1);
       call_waits = λ c x o u busy g h. (λ w. h.0 (quiet_more o.state.waiting (waiting.Item (item.Call c x)) (λ q. refl) p w), h.1);
       exit_waits = λ q r o u g h. (λ w. exit_put D G p q r o.state.waiting g (λ b. inr (note.Exit p b.0, b.1, refl)) h.0 w, h.1);
@@ -261,17 +261,17 @@ lasts-survives k G old slot p bare =
       died = λ q place row o u idle runs at is g h. end-lasts D slot p place row o at (by_note G old p q (note.Exit q g.0) row refl g.1 (up_has q row is)) h;
       restarts = λ q place row o u idle runs at is h.
           restart-lasts D slot p q place row o at
-          (λ mine. ⊎_elim (λ (up : (row.state ≡ Up q) × BringsExit G q). by_note G old p q (note.Exit q up.1.0) row refl up.1.1 (up_has q row up.0) mine)
-          (λ down. absurd (no_process p row.state (ap (λ (t : RowState). is_down t) down) mine)) is) h;
+          (λ mine. ⊎_elim (λ (up : Dies G q place row o true). by_note G old p q (note.Exit q up.1.0) row refl up.1.1 (up_has q row up.0) mine)
+          (λ down. absurd (no_process p row.state (ap (λ (t : RowState). is_down t) down.0) mine)) is) h;
       ends = λ e o u other idle runs h. terminate-lasts D slot p e o h;
       ticks = λ is h. (λ w. h.0 (tick-less p old w), tick-has D slot p old h.1);
       opens = λ own is over h. open-lasts D slot p own old (bare over) h;
       adds = λ c id spec o u idle runs named few got h.
           (h.0, has_more D slot p o.state.rows (o.state.rows ++ new_row (free_slot o.state.rows) id spec ∷ []) (omega (arith, sum_by-append (λ (r : Row). cond (is_live slot p r) 1 0) o.state.rows (new_row (free_slot o.state.rows) id spec ∷ []))) h.1);
-      starts_again = λ c id place row o u idle runs at has is h. h;
+      starts_again = λ c id place row o u idle runs at has is noted found h. h;
       removed = λ place row o u idle runs at down h. (h.0, remove-has D slot p place row o at (λ mine. absurd (no_process p row.state down mine)) h.1);
       given_up = λ place row o u idle runs at down h. (h.0, set-has D slot p place row Undefined o at (λ mine. absurd (no_process p row.state down mine)) h.1);
-      stops_child = λ c q place row o u idle runs at up h. h;
+      stops_child = λ c q place row o u idle runs at up has got h. h;
     }
 
 -- a row that has the process runs, or an answer of it is awaited

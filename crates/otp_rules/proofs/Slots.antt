@@ -290,7 +290,7 @@ open-slots own o few =
 slots-survive : (k : Kind) (G : Item → Type 0) (old : Outcome) → length old.state.specs ≤ MAX_CHILDREN → SurvivesEvent k G old AllSlotted
 slots-survive k G old few =
     record {
-      answered = λ c r o h. answer-slots c r o h;
+      answered = λ c r o quiet h. answer-slots c r o h;
       taken = λ w ws resumed idle runs is h. h;
       call_waits = λ c call o u busy g h. h;
       exit_waits = λ p r o u got h. h;
@@ -309,10 +309,10 @@ slots-survive k G old few =
       ticks = λ is h. tick-slots old h;
       opens = λ own is over h. open-slots own old few;
       adds = λ c id spec o u idle runs named room got h. added-slots o.state.rows (new_row (free_slot o.state.rows) id spec) room refl h;
-      starts_again = λ c id place row o u idle runs at has is h. h;
+      starts_again = λ c id place row o u idle runs at has is noted found h. h;
       removed = λ place row o u idle runs at down h. remove-slotted place row o.state.rows at h;
       given_up = λ place row o u idle runs at down h. set-slotted place row Undefined o.state.rows at h;
-      stops_child = λ c p place row o u idle runs at up h. h;
+      stops_child = λ c p place row o u idle runs at up has got h. h;
     }
 
 follow-slots : (f : Option Sequel) (o : Outcome) → AllSlotted o → AllSlotted (follow f o)
