@@ -54,7 +54,8 @@ use Rattle.otp_rules.specs.Fit.{next_number, rows_in, is_starting, IsLimited, Is
 use Rattle.otp_rules.specs.Progress.{is_end}
 use Rattle.otp_rules.specs.InOrder.{is_stop, Finishes, IsBare, IsCalm, IsInOrder}
 use Rattle.otp_rules.specs.Alive.{EndsChild, LivesIn, ProcessesLived, ProcessesLivedFrom, is_told_by}
-use Rattle.otp_rules.proofs.Walks.{advance-by, stop_each-by, stop_first-by, terminate-by, with_stops, counted_restart}
+use Rattle.otp_rules.proofs.GoesOn.{GoesOn, advance-on}
+use Rattle.otp_rules.proofs.Walks.{stop_each-by, terminate-by, with_stops, counted_restart}
 use Rattle.otp_rules.proofs.Decisions.{SurvivesEvent, StandsAt, at_row-survives, at_number-survives, by_test, decide-survives_event}
 use Rattle.otp_rules.proofs.Counting.{at_row-found, end_row-quiet, put_count, remove_count, rows_in-at, rows_in-cons, rows_in-end, rows_in-set, set_count, tick_count, use_exit-quiet, rows_in-apart}
 use Rattle.otp_rules.proofs.Finishing.{AreOne, not_starting, zero_or_more}
@@ -551,33 +552,23 @@ start-goes D slot p m due n o h =
     or_true true = refl
     or_true false = refl
 
-follow-stays : (D : Type 0) (slot p m : ℕ) (f : Option Sequel) (o : Outcome) → Stays D slot p m o → Stays D slot p m (follow f o)
-unfolding follow end_all refuse_all answer
-follow-stays D slot p m None o h = h
-follow-stays D slot p m (Some sequel.Ready) o h = h
-follow-stays D slot p m (Some sequel.Nothing) o h = h
-follow-stays D slot p m (Some (sequel.Added c)) o h = h
-follow-stays D slot p m (Some (sequel.Restarted c)) o h = h
-follow-stays D slot p m (Some (sequel.Stopped c)) o h = h
-follow-stays D slot p m (Some (sequel.End e)) o h = ((omega arith, λ some. absurd (omega (arith, some))), omega arith)
-
-start_first-goes : (D : Type 0) (slot p m : ℕ) (dues : List Due) (n : ℕ) (o : Outcome) → Stays D slot p m o → Goes D slot p m n (start_first dues n o)
-unfolding start_first
-start_first-goes D slot p m [] n o h = inl (follow-stays D slot p m o.state.follows o h)
-start_first-goes D slot p m (due ∷ dues) n o h = start-goes D slot p m due n (with_work o.state.to_stop dues o.state.follows o) h
-
-stop_first-goes : (D : Type 0) (slot p m : ℕ) (qs : List ℕ) (n : ℕ) (o : Outcome) → Stays D slot p m o → Goes D slot p m n (stop_first qs n o)
-stop_first-goes D slot p m qs n =
-    stop_first-by (λ _. Stays D slot p m) (Goes D slot p m n) n (λ o h. start_first-goes D slot p m o.state.to_start n o h)
-    (λ q rest o _ h. use_exit-stays D slot p m q (with_stops rest o) h) (λ q rest o h. inl (tell-stays D slot p m q (with_stops rest o) h)) qs
-
-advance-goes_on : (D : Type 0) (slot p m n : ℕ) (o : Outcome) → Stays D slot p m o → Goes D slot p m n (advance n o)
-advance-goes_on D slot p m n o h =
-    advance-by (Goes D slot p m n) n o (inl h) (λ busy _. stop_first-goes D slot p m o.state.to_stop n o h)
+going : (D : Type 0) (slot p m n : ℕ) → GoesOn n (λ _. Stays D slot p m) (Goes D slot p m n)
+unfolding answer end_all refuse_all
+going D slot p m n =
+    record {
+      uses = λ q rest o _ h. use_exit-stays D slot p m q (with_stops rest o) h;
+      tells = λ q rest o h. inl (tell-stays D slot p m q (with_stops rest o) h);
+      starts = λ due dues o _ h. start-goes D slot p m due n (with_work o.state.to_stop dues o.state.follows o) h;
+      closes = λ o h. inl h;
+      answers = λ c r o h. inl h;
+      ready = λ o h. inl h;
+      ends = λ e o _ h. inl ((omega arith, λ some. absurd (omega (arith, some))), omega arith);
+    }
 
 step-goes_on : (D : Type 0) (slot p m : ℕ) (s : State) (e : Event) → Stays D slot p m (decide e.kind (record { state = stamped e.reading s; orders = [] })) → Goes D slot p m (unwrap_or e.number 0) (step s e)
 unfolding step step_on
-step-goes_on D slot p m s e h = advance-goes_on D slot p m (unwrap_or e.number 0) (decide e.kind (record { state = stamped e.reading s; orders = [] })) h
+step-goes_on D slot p m s e h =
+    advance-on (unwrap_or e.number 0) (λ _. Stays D slot p m) (Goes D slot p m (unwrap_or e.number 0)) (going D slot p m (unwrap_or e.number 0)) (decide e.kind (record { state = stamped e.reading s; orders = [] })) (inl h) (λ _ _. h)
 
 -- an event that starts a child has its number
 is_own_number : (s : State) (e : Event) (p : ℕ) → is_some e.number ≡ needs_number s e.reading e.kind → list_any is_start (step s e).orders ≡ true → (unwrap_or e.number 0 == p) ≡ true → e.number ≡ Some p

@@ -35,8 +35,9 @@ use Rattle.otp_rules.specs.Starts.{is_due, start_row, start}
 use Rattle.otp_rules.specs.Work.{follow, start_first, stop_first, advance}
 use Rattle.otp_rules.specs.Deaths.{restart_rows, restart}
 use Rattle.otp_rules.specs.Step.{open_with, open_rows, tick, decide, stamped, step, step_on, kill_order, killed, late_number}
+use Rattle.otp_rules.proofs.GoesOn.{GoesOn, advance-on}
 use Rattle.otp_rules.proofs.Bits.{at_most_1}
-use Rattle.otp_rules.proofs.Walks.{advance-by, restart-by, terminate-by}
+use Rattle.otp_rules.proofs.Walks.{restart-by, terminate-by, with_stops}
 use Rattle.otp_rules.proofs.Decisions.{StandsAt, SurvivesEvent, ends_unmoved, same_orders, same_work, at_row-survives, at_number-survives, by_test, decide-survives_event}
 use Rattle.otp_rules.proofs.Counting.{end_row-quiet, stop_each-alike, use_exit-quiet}
 
@@ -227,40 +228,28 @@ decide-few k o none = by_kind k refl
     by_kind kind.Stopped is = other_kind (λ own as_opened. absurd (search (rules, sym is ∙ as_opened)))
 
 -- work that goes on gives one order at most
-follow-one : (f : Option Sequel) (o : Outcome) → orders_in (follow f o).orders ≤ orders_in o.orders + 1
-unfolding follow end_all refuse_all answer
-follow-one None o = omega arith
-follow-one (Some sequel.Ready) o = one_more o.orders effect.Ready
-follow-one (Some sequel.Nothing) o = omega arith
-follow-one (Some (sequel.Added c)) o = one_more o.orders (effect.Reply c)
-follow-one (Some (sequel.Restarted c)) o = one_more o.orders (effect.Reply c)
-follow-one (Some (sequel.Stopped c)) o = one_more o.orders (effect.Reply c)
-follow-one (Some (sequel.End e)) o =
-    let refused : List Effect = filter_map refusal o.state.waiting in
-    let none : orders_in refused ≡ 0 = refusals-few o.state.waiting in
-    omega (arith, none, orders-append o.orders refused, one_more (o.orders ++ refused) (effect.End (sup_end_of o.state.flags o.state.stamps e)))
-
-start_first-one : (dues : List Due) (n : ℕ) (o : Outcome) → orders_in (start_first dues n o).orders ≤ orders_in o.orders + 1
-unfolding start_first start start_row
-start_first-one [] n o = follow-one o.state.follows o
-start_first-one (due ∷ dues) n o =
-    let left : Outcome = with_work o.state.to_stop dues o.state.follows o in
-    at_row-survives (λ (x : Outcome). orders_in (x.orders ++ effect.Start due.id n ∷ []) ≤ orders_in o.orders + 1) (is_due due) left (start_row due n) left
-    (one_more o.orders (effect.Start due.id n)) (one_more o.orders (effect.Start due.id n)) (λ i row at has. one_more o.orders (effect.Start due.id n))
-
-stop_first-one : (ps : List ℕ) (n : ℕ) (o : Outcome) → orders_in (stop_first ps n o).orders ≤ orders_in o.orders + 1
-unfolding stop_first
-stop_first-one [] n o = start_first-one o.state.to_start n o
-stop_first-one (p ∷ ps) n o =
-    let place : Option ℕ = position (is_exit p) o.state.waiting in
-    let left : Outcome = with_work ps o.state.to_start o.state.follows o in
-    by_test (λ (x : Outcome). orders_in x.orders ≤ orders_in o.orders + 1) (is_some place) (stop_first ps n (use_exit p place left)) (tell p left)
-    (λ _. let first = use_exit-adds p place left in omega (arith, first.0, stop_first-one ps n (use_exit p place left)))
-    (λ _. (tell-adds p left).0)
+going-one : (n : ℕ) (old : Outcome) → GoesOn n (λ _ x. orders_in x.orders ≤ orders_in old.orders) (λ x. orders_in x.orders ≤ orders_in old.orders + 1)
+unfolding start start_row answer end_all refuse_all
+going-one n old =
+    record {
+      uses = λ p rest o _ h. let first = use_exit-adds p (position (is_exit p) o.state.waiting) (with_stops rest o) in omega (arith, first.0, h);
+      tells = λ p rest o h. omega (arith, (tell-adds p (with_stops rest o)).0, h);
+      starts = λ due dues o _ h.
+          let left : Outcome = with_work o.state.to_stop dues o.state.follows o in
+          let more : orders_in (o.orders ++ effect.Start due.id n ∷ []) ≤ orders_in old.orders + 1 = omega (arith, one_more o.orders (effect.Start due.id n), h) in
+          at_row-survives (λ (x : Outcome). orders_in (x.orders ++ effect.Start due.id n ∷ []) ≤ orders_in old.orders + 1) (is_due due) left (start_row due n) left more more (λ i row at has. more);
+      closes = λ o h. omega (arith, h);
+      answers = λ c r o h. omega (arith, h, one_more o.orders (effect.Reply c));
+      ready = λ o h. omega (arith, h, one_more o.orders effect.Ready);
+      ends = λ e o _ h.
+          let refused : List Effect = filter_map refusal o.state.waiting in
+          let none : orders_in refused ≡ 0 = refusals-few o.state.waiting in
+          omega (arith, h, none, orders-append o.orders refused, one_more (o.orders ++ refused) (effect.End (sup_end_of o.state.flags o.state.stamps e)));
+    }
 
 advance-one : (n : ℕ) (o : Outcome) → orders_in (advance n o).orders ≤ orders_in o.orders + 1
 advance-one n o =
-    advance-by (λ (x : Outcome). orders_in x.orders ≤ orders_in o.orders + 1) n o (omega arith) (λ _ _. stop_first-one o.state.to_stop n o)
+    advance-on n (λ _ x. orders_in x.orders ≤ orders_in o.orders) (λ x. orders_in x.orders ≤ orders_in o.orders + 1) (going-one n o) o (omega arith) (λ _ _. omega arith)
 
 pub orders_few_law : OrdersFew
 unfolding step step_on

@@ -39,7 +39,8 @@ use Rattle.otp_rules.specs.Fit.{rows_in}
 use Rattle.otp_rules.specs.Progress.{IsIn, at_most_one}
 use Rattle.otp_rules.specs.InOrder.{AreGiven}
 use Rattle.otp_rules.specs.Lives.{EndsAreHeard, EndsTellStarted, EndsTellStartedFrom, IsHeld, TakesEnd}
-use Rattle.otp_rules.proofs.Walks.{restart-by, terminate-by}
+use Rattle.otp_rules.proofs.GoesOn.{GoesOn, advance-on}
+use Rattle.otp_rules.proofs.Walks.{restart-by, stop_each-by, terminate-by, with_stops}
 use Rattle.otp_rules.proofs.Decisions.{BringsExit, SurvivesEvent, StandsAt, at_row-survives, at_number-survives, by_test, decide-survives, decide-survives_event}
 use Rattle.otp_rules.proofs.Counting.{end_row-quiet, none_in, rows_in-at, times-append, times-cons, use_exit-quiet}
 use Rattle.otp_rules.proofs.Homes.{none_has, or_cases, or_right, quiet_more, without_less}
@@ -64,13 +65,8 @@ use_exit-less p q place o left same h =
     (subst (λ (ws : List Waiting). list_any (is_ended p) ws ≡ true) ((use_exit-quiet q place left).0 ∙ ap (λ (ws : List Waiting). without ws place) same) h)
 
 stop_each-less : (p : ℕ) (qs : List ℕ) (o : Outcome) → Less p o (stop_each qs o)
-unfolding stop_each
-stop_each-less p [] o = λ h. h
-stop_each-less p (q ∷ qs) o =
-    let place : Option ℕ = position (is_exit q) o.state.waiting in
-    by_test (Less p o) (is_some place) (stop_each qs (use_exit q place o)) (stop_each qs (tell q o))
-    (λ _ h. use_exit-less p q place o o refl (stop_each-less p qs (use_exit q place o) h))
-    (λ _ h. tell-less p q o (stop_each-less p qs (tell q o) h))
+stop_each-less p qs o =
+    stop_each-by (Less p o) (λ q x _ h w. h (use_exit-less p q (position (is_exit q) x.state.waiting) x x refl w)) (λ q x _ h w. h (tell-less p q x w)) qs o (λ w. w)
 
 pub terminate-less : (p : ℕ) (e : Ending) (o : Outcome) → Less p o (terminate e o)
 terminate-less p e o =
@@ -147,40 +143,21 @@ decided-heard k old p =
     decide-survives_event k G old (IsHeard G old p) (heard-survives k G old p) (λ i b idle. b) (λ w. inl w)
 
 -- no more ends wait when the work goes on
-pub follow-less : (p : ℕ) (f : Option Sequel) (o : Outcome) → Less p o (follow f o)
-unfolding follow end_all refuse_all answer
-follow-less p None o h = h
-follow-less p (Some sequel.Ready) o h = h
-follow-less p (Some sequel.Nothing) o h = h
-follow-less p (Some (sequel.Added c)) o h = h
-follow-less p (Some (sequel.Restarted c)) o h = h
-follow-less p (Some (sequel.Stopped c)) o h = h
-follow-less p (Some (sequel.End e)) o h = absurd (false≢true h)
-
-start_first-less : (p : ℕ) (dues : List Due) (n : ℕ) (o : Outcome) → Less p o (start_first dues n o)
-unfolding start_first start start_row
-start_first-less p [] n o = follow-less p o.state.follows o
-start_first-less p (due ∷ dues) n o =
-    let left : Outcome = with_work o.state.to_stop dues o.state.follows o in
-    at_row-survives (Less p o) (is_due due) left (start_row due n) left (λ h. h) (λ h. h) (λ i row at has h. h)
-
-stop_first-less : (p : ℕ) (qs : List ℕ) (n : ℕ) (o : Outcome) → Less p o (stop_first qs n o)
-unfolding stop_first
-stop_first-less p [] n o = start_first-less p o.state.to_start n o
-stop_first-less p (q ∷ qs) n o =
-    let place : Option ℕ = position (is_exit q) o.state.waiting in
-    let left : Outcome = with_work qs o.state.to_start o.state.follows o in
-    by_test (Less p o) (is_some place) (stop_first qs n (use_exit q place left)) (tell q left)
-    (λ _ h. use_exit-less p q place o left refl (stop_first-less p qs n (use_exit q place left) h))
-    (λ _. tell-less p q left)
+going-less : (p n : ℕ) (old : Outcome) → GoesOn n (λ _. Less p old) (Less p old)
+unfolding start start_row answer end_all refuse_all
+going-less p n old =
+    record {
+      uses = λ q rest o _ h w. h (use_exit-less p q (position (is_exit q) o.state.waiting) o (with_stops rest o) refl w);
+      tells = λ q rest o h w. h (tell-less p q (with_stops rest o) w);
+      starts = λ due dues o _ h. let left : Outcome = with_work o.state.to_stop dues o.state.follows o in at_row-survives (Less p old) (is_due due) left (start_row due n) left h h (λ i row at has. h);
+      closes = λ o h. h;
+      answers = λ c r o h. h;
+      ready = λ o h. h;
+      ends = λ e o _ h w. absurd (false≢true w);
+    }
 
 advance-less : (p n : ℕ) (o : Outcome) → Less p o (advance n o)
-unfolding advance
-advance-less p n o =
-    let go : Outcome = stop_first o.state.to_stop n o in
-    by_test (Less p o) (is_busy o) (if list_any (row_has is_awaited) o.state.rows then o else go) o
-    (λ _. by_test (Less p o) (list_any (row_has is_awaited) o.state.rows) o go (λ _ h. h) (λ _. stop_first-less p o.state.to_stop n o))
-    (λ _ h. h)
+advance-less p n o = advance-on n (λ _. Less p o) (Less p o) (going-less p n o) o (λ h. h) (λ _ _ h. h)
 
 pub any_held : (p : ℕ) (rows : List Row) → list_any (row_has (has_process p)) rows ≡ true → IsHeld rows p
 any_held p [] h = absurd (false≢true h)

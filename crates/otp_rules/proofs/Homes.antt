@@ -43,8 +43,9 @@ use Rattle.otp_rules.specs.Calls.{new_row}
 use Rattle.otp_rules.specs.Step.{open_rows, open_with, opening_specs, rows_from, tick, decide, stamped, step, step_on, killed, late_number}
 use Rattle.otp_rules.specs.Homes.{Brings, ComesHome, EndsProcess, HomesKept, HomesKeptFrom, IsAdded, IsNewNumber, IsFirst, IsOpened, WasThere, end_number, is_ended, is_home, is_start_call, is_started}
 use Rattle.otp_rules.specs.Fit.{rows_in}
+use Rattle.otp_rules.proofs.GoesOn.{GoesOn, advance-on}
 use Rattle.otp_rules.proofs.States.{told_has}
-use Rattle.otp_rules.proofs.Walks.{advance-by, restart-by, stop_each-by, stop_first-by, terminate-by, with_stops}
+use Rattle.otp_rules.proofs.Walks.{restart-by, stop_each-by, terminate-by, with_stops}
 use Rattle.otp_rules.proofs.Decisions.{BringsExit, BringsFailure, Dies, StandsAt, SurvivesEvent, at_row-survives, at_number-survives, by_test, decide-survives_event, is_down}
 use Rattle.std.specs.Prelude.{length}
 use Rattle.otp_rules.specs.Run.{empty_state, state_after}
@@ -487,16 +488,6 @@ AllTold what s G n o = Each (Told what s G n o.state.waiting) o.state.rows
 known-told : (what : Kind) (s : State) (G : Item → Type 0) (n : Option ℕ) → IsNewNumber n s.rows → (o : Outcome) → AllKnown what s G o → AllTold what s G n o
 known-told what s G n free o h = each-more (Known what s G o.state.waiting) (Told what s G n o.state.waiting) (λ row k. told-known what s G n o.state.waiting free row k) o.state.rows h
 
-follow-told : (what : Kind) (s : State) (G : Item → Type 0) (n : Option ℕ) (f : Option Sequel) (o : Outcome) → AllTold what s G n o → AllTold what s G n (follow f o)
-unfolding follow end_all refuse_all answer
-follow-told what s G n None o h = h
-follow-told what s G n (Some sequel.Ready) o h = h
-follow-told what s G n (Some sequel.Nothing) o h = h
-follow-told what s G n (Some (sequel.Added c)) o h = h
-follow-told what s G n (Some (sequel.Restarted c)) o h = h
-follow-told what s G n (Some (sequel.Stopped c)) o h = h
-follow-told what s G n (Some (sequel.End e)) o h = tt
-
 undefined_home : (ws : List Waiting) (state : RowState) → is_undefined state ≡ true → is_home ws state ≡ true
 undefined_home ws Undefined h = refl
 undefined_home ws (Starting _ _) h = absurd (false≢true h)
@@ -521,19 +512,21 @@ start-told what s G n free due o h =
     of_row row (inr (inl f)) home = λ _. inr (inl (record { c = f.c; x = f.x; start = f.start; brought = f.brought; free = f.free }))
     of_row row (inr (inr o)) home = λ _. inr (inr (record { own = o.own; opening = o.opening; over = o.over; place = o.place }))
 
-start_first-told : (what : Kind) (s : State) (G : Item → Type 0) (n : Option ℕ) → IsNewNumber n s.rows → (dues : List Due) (o : Outcome) → AllKnown what s G o → AllTold what s G n (start_first dues (unwrap_or n 0) o)
-unfolding start_first
-start_first-told what s G n free [] o h = follow-told what s G n o.state.follows o (known-told what s G n free o h)
-start_first-told what s G n free (due ∷ dues) o h = start-told what s G n free due (with_work o.state.to_stop dues o.state.follows o) h
-
-stop_first-told : (what : Kind) (s : State) (G : Item → Type 0) (n : Option ℕ) → IsNewNumber n s.rows → (ps : List ℕ) (o : Outcome) → AllKnown what s G o → AllTold what s G n (stop_first ps (unwrap_or n 0) o)
-stop_first-told what s G n free ps =
-    stop_first-by (λ _. AllKnown what s G) (AllTold what s G n) (unwrap_or n 0) (λ o h. start_first-told what s G n free o.state.to_start o h)
-    (λ p rest o some h. use_exit-known what s G p o (with_stops rest o) refl refl some h) (λ p rest o h. known-told what s G n free (tell p (with_stops rest o)) (tell-known what s G p (with_stops rest o) h)) ps
+going-told : (what : Kind) (s : State) (G : Item → Type 0) (n : Option ℕ) → IsNewNumber n s.rows → GoesOn (unwrap_or n 0) (λ _. AllKnown what s G) (AllTold what s G n)
+unfolding answer end_all refuse_all
+going-told what s G n free =
+    record {
+      uses = λ p rest o some h. use_exit-known what s G p o (with_stops rest o) refl refl some h;
+      tells = λ p rest o h. known-told what s G n free (tell p (with_stops rest o)) (tell-known what s G p (with_stops rest o) h);
+      starts = λ due dues o _ h. start-told what s G n free due (with_work o.state.to_stop dues o.state.follows o) h;
+      closes = λ o h. known-told what s G n free o h;
+      answers = λ c r o h. known-told what s G n free o h;
+      ready = λ o h. known-told what s G n free o h;
+      ends = λ e o _ h. tt;
+    }
 
 advance-told : (what : Kind) (s : State) (G : Item → Type 0) (n : Option ℕ) → IsNewNumber n s.rows → (o : Outcome) → AllKnown what s G o → AllTold what s G n (advance (unwrap_or n 0) o)
-advance-told what s G n free o h =
-    advance-by (AllTold what s G n) (unwrap_or n 0) o (known-told what s G n free o h) (λ _ _. stop_first-told what s G n free o.state.to_stop o h)
+advance-told what s G n free o h = advance-on (unwrap_or n 0) (λ _. AllKnown what s G) (AllTold what s G n) (going-told what s G n free) o (known-told what s G n free o h) (λ _ _. h)
 
 ends_it : (x : Note) (p : ℕ) → end_number x ≡ Some p → is_ended p (waiting.Item (item.Note x)) ≡ true
 ends_it (note.Up _) p h = absurd (search (rules, h))

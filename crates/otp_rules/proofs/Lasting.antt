@@ -44,8 +44,9 @@ use Rattle.otp_rules.specs.Fit.{next_number, rows_in, runs_as, times, IsDistinct
 use Rattle.otp_rules.specs.Progress.{is_end, no_progress}
 use Rattle.otp_rules.specs.InOrder.{Finishes, IsBare, IsInOrder, StaysInOrder}
 use Rattle.otp_rules.specs.Lives.{EndComesLast, EndComesLastFrom, HasEnded, IsHeldIn, ProcessesStay, ProcessesStayFrom}
+use Rattle.otp_rules.proofs.GoesOn.{GoesOn, advance-on}
 use Rattle.otp_rules.proofs.States.{one_process, told_has}
-use Rattle.otp_rules.proofs.Walks.{advance-by, stop_each-by, stop_first-by, terminate-by, with_stops, counted_restart}
+use Rattle.otp_rules.proofs.Walks.{stop_each-by, terminate-by, with_stops, counted_restart}
 use Rattle.otp_rules.proofs.Decisions.{BringsExit, Dies, SurvivesEvent, StandsAt, at_row-survives, at_number-survives, by_test, decide-survives_event, is_down}
 use Rattle.otp_rules.proofs.Counting.{none_in, remove_count, rows_in-cons, set_count}
 use Rattle.otp_rules.proofs.EndedRows.{step-bare}
@@ -296,44 +297,37 @@ live_counts slot p (row ∷ rows) =
     one (Killed x) b = omega (arith, at_most (b && (x == p)))
     one (Restarting _) b = omega (arith, with_slot b false)
 
-follow-lasts : (D : Type 0) (slot p : ℕ) (f : Option Sequel) (o : Outcome) → (is_end f ≡ true → lives slot p o.state.rows ≡ 0) → Lasts D slot p o → Lasts D slot p (follow f o)
-unfolding follow end_all refuse_all answer
-follow-lasts D slot p None o none h = h
-follow-lasts D slot p (Some sequel.Ready) o none h = h
-follow-lasts D slot p (Some sequel.Nothing) o none h = h
-follow-lasts D slot p (Some (sequel.Added c)) o none h = h
-follow-lasts D slot p (Some (sequel.Restarted c)) o none h = h
-follow-lasts D slot p (Some (sequel.Stopped c)) o none h = h
-follow-lasts D slot p (Some (sequel.End e)) o none h = (λ w. absurd (false≢true w), ⊎_elim (λ (some : 0 < lives slot p o.state.rows). absurd (omega (arith, some, none refl))) (λ d. inr d) h.1)
-
-start_first-lasts : (D : Type 0) (slot p : ℕ) (dues : List Due) (n : ℕ) (o : Outcome) → (is_end o.state.follows ≡ true → lives slot p o.state.rows ≡ 0) → Lasts D slot p o → Lasts D slot p (start_first dues n o)
-unfolding start_first start start_row
-start_first-lasts D slot p [] n o none h = follow-lasts D slot p o.state.follows o none h
-start_first-lasts D slot p (due ∷ dues) n o none h =
-    let left : Outcome = with_work o.state.to_stop dues o.state.follows o in
-    at_row-survives (Lasts D slot p) (is_due due) left (start_row due n) left h h
-    (λ i row at has. (h.0, set-has D slot p i row (Starting n (unwrap_or due.kept n)) left at (λ mine. absurd (undefined_none row.state (and_parts _ (is_undefined row.state) has).1 mine)) h.1))
-  where
-    undefined_none : (state : RowState) → is_undefined state ≡ true → has_process p state ≡ true → ⊥
-    undefined_none Undefined u h = false≢true h
-    undefined_none (Starting _ _) u h = false≢true u
-    undefined_none (Up _) u h = false≢true u
-    undefined_none (Asked _ _) u h = false≢true u
-    undefined_none (Killed _) u h = false≢true u
-    undefined_none (Restarting _) u h = false≢true u
+undefined_none : (p : ℕ) (state : RowState) → is_undefined state ≡ true → has_process p state ≡ true → ⊥
+undefined_none p Undefined u h = false≢true h
+undefined_none p (Starting _ _) u h = false≢true u
+undefined_none p (Up _) u h = false≢true u
+undefined_none p (Asked _ _) u h = false≢true u
+undefined_none p (Killed _) u h = false≢true u
+undefined_none p (Restarting _) u h = false≢true u
 
 -- nothing is left to stop and nothing is awaited, so no row has a process where the supervisor ends
 none_lives : (slot p : ℕ) (o : Outcome) → Stops [] o → is_end o.state.follows ≡ true → lives slot p o.state.rows ≡ 0
 none_lives slot p o h e = let z : times p [] ≡ 0 = refl in omega (arith, live_counts slot p o.state.rows, (h.2 e).0 p, h.0.1, z)
 
-stop_first-lasts : (D : Type 0) (slot p : ℕ) (qs : List ℕ) (n : ℕ) (o : Outcome) → Stops qs o → Lasts D slot p o → Lasts D slot p (stop_first qs n o)
-stop_first-lasts D slot p qs n o s h =
-    stop_first-by (λ ps x. Stops ps x × Lasts D slot p x) (Lasts D slot p) n (λ x g. start_first-lasts D slot p x.state.to_start n x (none_lives slot p x g.0) g.1)
-    (λ q rest x some g. (used-stops q rest x g.0, use_exit-lasts D slot p q x (with_stops rest x) refl refl some g.1)) (λ q rest x g. tell-lasts D slot p q (with_stops rest x) g.1) qs o (s, h)
+going-lasts : (D : Type 0) (slot p n : ℕ) → GoesOn n (λ ps x. Stops ps x × Lasts D slot p x) (Lasts D slot p)
+unfolding start start_row answer end_all refuse_all
+going-lasts D slot p n =
+    record {
+      uses = λ q rest o some g. (used-stops q rest o g.0, use_exit-lasts D slot p q o (with_stops rest o) refl refl some g.1);
+      tells = λ q rest o g. tell-lasts D slot p q (with_stops rest o) g.1;
+      starts = λ due dues o _ g.
+          let left : Outcome = with_work o.state.to_stop dues o.state.follows o in
+          at_row-survives (Lasts D slot p) (is_due due) left (start_row due n) left g.1 g.1
+          (λ i row at has. (g.1.0, set-has D slot p i row (Starting n (unwrap_or due.kept n)) left at (λ mine. absurd (undefined_none p row.state (and_parts _ (is_undefined row.state) has).1 mine)) g.1.1));
+      closes = λ o g. g.1;
+      answers = λ c r o g. g.1;
+      ready = λ o g. g.1;
+      ends = λ e o is g. (λ w. absurd (false≢true w), ⊎_elim (λ (some : 0 < lives slot p o.state.rows). absurd (omega (arith, some, none_lives slot p o g.0 (ap is_end is)))) (λ d. inr d) g.1.1);
+    }
 
 advance-lasts : (D : Type 0) (slot p n : ℕ) (o : Outcome) → IsSound o.state → AreOne o → Finishes o.state → Lasts D slot p o → Lasts D slot p (advance n o)
 advance-lasts D slot p n o sound one finishes h =
-    advance-by (Lasts D slot p) n o h (λ busy none. stop_first-lasts D slot p o.state.to_stop n o ((sound, none_in is_awaited o.state.rows none, refl, busy), one, finishes) h)
+    advance-on n (λ ps x. Stops ps x × Lasts D slot p x) (Lasts D slot p) (going-lasts D slot p n) o h (λ busy none. (((sound, none_in is_awaited o.state.rows none, refl, busy), one, finishes), h))
 
 step-finishes : (m : ℕ) (s : State) (e : Event) → IsInOrder m s → Finishes (step s e).state
 unfolding step step_on

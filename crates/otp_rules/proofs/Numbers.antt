@@ -33,7 +33,8 @@ use Rattle.otp_rules.specs.Calls.{new_row}
 use Rattle.otp_rules.specs.Step.{rows_from, open_with, open_rows, opening_specs, tick, decide, stamped, step, step_on}
 use Rattle.otp_rules.specs.Progress.{decided}
 use Rattle.otp_rules.specs.Fit.{rows_in, IsDistinct}
-use Rattle.otp_rules.proofs.Walks.{advance-by, restart-by, stop_each-by, terminate-by, counted_restart}
+use Rattle.otp_rules.proofs.GoesOn.{GoesOn, advance-on}
+use Rattle.otp_rules.proofs.Walks.{restart-by, stop_each-by, terminate-by, counted_restart, with_stops}
 use Rattle.otp_rules.proofs.Decisions.{StandsAt, Survives, at_row-survives, at_number-survives, by_test, decide-survives}
 use Rattle.otp_rules.proofs.Counting.{rows_in-cons, rows_in-append, remove_count, rows_in-set, rows_in-end, rows_in-map, tick_count}
 use Rattle.std.proofs.lemmas.List.Folds.{drop_split, list_any-append}
@@ -217,34 +218,21 @@ started-grown due n o =
     or_true true = refl
     or_true false = refl
 
-pub follow-no_more : (f : Option Sequel) (o : Outcome) → NoMore o (follow f o)
-unfolding follow end_all refuse_all answer
-follow-no_more None o q = omega arith
-follow-no_more (Some sequel.Ready) o q = omega arith
-follow-no_more (Some sequel.Nothing) o q = omega arith
-follow-no_more (Some (sequel.Added c)) o q = omega arith
-follow-no_more (Some (sequel.Restarted c)) o q = omega arith
-follow-no_more (Some (sequel.Stopped c)) o q = omega arith
-follow-no_more (Some (sequel.End e)) o q = omega arith
-
-start_first-grown : (dues : List Due) (n : ℕ) (o : Outcome) → Grown n o (start_first dues n o)
-unfolding start_first
-start_first-grown [] n o = inl (follow-no_more o.state.follows o)
-start_first-grown (due ∷ dues) n o = started-grown due n (with_work o.state.to_stop dues o.state.follows o)
-
-stop_first-grown : (ps : List ℕ) (n : ℕ) (o : Outcome) → Grown n o (stop_first ps n o)
-unfolding stop_first
-stop_first-grown [] n o = start_first-grown o.state.to_start n o
-stop_first-grown (p ∷ ps) n o =
-    let place : Option ℕ = position (is_exit p) o.state.waiting in
-    let left : Outcome = with_work ps o.state.to_start o.state.follows o in
-    by_test (Grown n o) (is_some place) (stop_first ps n (use_exit p place left)) (tell p left)
-    (λ _. grown-chain n o (use_exit p place left) (stop_first ps n (use_exit p place left)) (use_exit-no_more p place o left (λ q. omega arith)) (stop_first-grown ps n (use_exit p place left)))
-    (λ _. inl (tell-no_more p o left (λ q. omega arith)))
+going-grown : (n : ℕ) (old : Outcome) → GoesOn n (λ _. NoMore old) (Grown n old)
+unfolding answer end_all refuse_all
+going-grown n old =
+    record {
+      uses = λ p rest o _ h. use_exit-no_more p (position (is_exit p) o.state.waiting) old (with_stops rest o) h;
+      tells = λ p rest o h. inl (tell-no_more p old (with_stops rest o) h);
+      starts = λ due dues o _ h. grown-chain n old (with_work o.state.to_stop dues o.state.follows o) (start due n (with_work o.state.to_stop dues o.state.follows o)) h (started-grown due n (with_work o.state.to_stop dues o.state.follows o));
+      closes = λ o h. inl h;
+      answers = λ c r o h. inl h;
+      ready = λ o h. inl h;
+      ends = λ e o _ h. inl (λ q. omega arith);
+    }
 
 advance-grown : (n : ℕ) (o : Outcome) → Grown n o (advance n o)
-advance-grown n o =
-    advance-by (Grown n o) n o (inl (λ q. omega arith)) (λ _ _. stop_first-grown o.state.to_stop n o)
+advance-grown n o = advance-on n (λ _. NoMore o) (Grown n o) (going-grown n o) o (inl (λ q. omega arith)) (λ _ _ q. omega arith)
 
 pub decided-distinct : (m : ℕ) (s : State) (e : Event) → IsDistinct m s → IsDistinct m (decided s e)
 decided-distinct m s e d =

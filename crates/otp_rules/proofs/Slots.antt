@@ -42,9 +42,10 @@ use Rattle.otp_spec.specs.Flags.{are_lawful_flags}
 use Rattle.otp_spec.specs.Lawful.{first_fault}
 use Rattle.otp_rules.specs.Slots.{SlotsOwned, SlotsStayOwned, SlotsTellProcesses}
 use Rattle.otp_rules.specs.Step.{rows_from, open_with, open_rows, opening_specs}
+use Rattle.otp_rules.proofs.GoesOn.{GoesOn, advance-on}
 use Rattle.otp_rules.proofs.Bits.{at_most_1}
 use Rattle.otp_rules.proofs.States.{one_process}
-use Rattle.otp_rules.proofs.Walks.{advance-by, stop_each-by, stop_first-by, terminate-by, with_stops, counted_restart}
+use Rattle.otp_rules.proofs.Walks.{stop_each-by, terminate-by, with_stops, counted_restart}
 use Rattle.otp_rules.proofs.Keeps.{step_keeps_plan_law}
 use Rattle.otp_rules.proofs.Numbers.{restart-within}
 use Rattle.otp_rules.proofs.Counting.{set_count, remove_count}
@@ -315,38 +316,28 @@ slots-survive k G old few =
       stops_child = λ c p place row o u idle runs at up has got h. h;
     }
 
-follow-slots : (f : Option Sequel) (o : Outcome) → AllSlotted o → AllSlotted (follow f o)
-unfolding follow end_all refuse_all answer
-follow-slots None o h = h
-follow-slots (Some sequel.Ready) o h = h
-follow-slots (Some sequel.Nothing) o h = h
-follow-slots (Some (sequel.Added c)) o h = h
-follow-slots (Some (sequel.Restarted c)) o h = h
-follow-slots (Some (sequel.Stopped c)) o h = h
-follow-slots (Some (sequel.End e)) o h = (λ k. omega arith, λ k high. refl)
-
-start_first-slots : (dues : List Due) (n : ℕ) (o : Outcome) → AllSlotted o → AllSlotted (start_first dues n o)
-unfolding start_first start start_row
-start_first-slots [] n o h = follow-slots o.state.follows o h
-start_first-slots (due ∷ dues) n o h =
-    at_row-survives AllSlotted (is_due due) (with_work o.state.to_stop dues o.state.follows o) (start_row due n) (with_work o.state.to_stop dues o.state.follows o) h h
-    (λ i row at has. set-slotted i row (Starting n (unwrap_or due.kept n)) o.state.rows at h)
-
-stop_first-slots : (ps : List ℕ) (n : ℕ) (o : Outcome) → AllSlotted o → AllSlotted (stop_first ps n o)
-stop_first-slots ps n =
-    stop_first-by (λ _. AllSlotted) AllSlotted n (λ o h. start_first-slots o.state.to_start n o h)
-    (λ p rest o _ h. use_exit-slots p (position (is_exit p) o.state.waiting) (with_stops rest o) h) (λ p rest o h. tell-slots p (with_stops rest o) h) ps
-
-advance-slots : (n : ℕ) (o : Outcome) → AllSlotted o → AllSlotted (advance n o)
-advance-slots n o h =
-    advance-by AllSlotted n o h (λ _ _. stop_first-slots o.state.to_stop n o h)
+going-slots : (n : ℕ) → GoesOn n (λ _. AllSlotted) AllSlotted
+unfolding start start_row answer end_all refuse_all
+going-slots n =
+    record {
+      uses = λ p rest o _ h. use_exit-slots p (position (is_exit p) o.state.waiting) (with_stops rest o) h;
+      tells = λ p rest o h. tell-slots p (with_stops rest o) h;
+      starts = λ due dues o _ h.
+          let left : Outcome = with_work o.state.to_stop dues o.state.follows o in
+          at_row-survives AllSlotted (is_due due) left (start_row due n) left h h (λ i row at has. set-slotted i row (Starting n (unwrap_or due.kept n)) o.state.rows at h);
+      closes = λ o h. h;
+      answers = λ c r o h. h;
+      ready = λ o h. h;
+      ends = λ e o _ h. (λ k. omega arith, λ k high. refl);
+    }
 
 step-slots : (s : State) (e : Event) → length s.specs ≤ MAX_CHILDREN → Slotted s.rows → Slotted (step s e).state.rows
 unfolding step step_on
 step-slots s e few h =
     let start : Outcome = record { state = stamped e.reading s; orders = [] } in
-    advance-slots (unwrap_or e.number 0) (decide e.kind start)
-    (decide-survives_event e.kind (λ (i : Item). Unit {0}) start AllSlotted (slots-survive e.kind (λ (i : Item). Unit {0}) start few) (λ i b idle. tt) h)
+    let n : ℕ = unwrap_or e.number 0 in
+    let d : AllSlotted (decide e.kind start) = decide-survives_event e.kind (λ (i : Item). Unit {0}) start AllSlotted (slots-survive e.kind (λ (i : Item). Unit {0}) start few) (λ i b idle. tt) h in
+    advance-on n (λ _. AllSlotted) AllSlotted (going-slots n) (decide e.kind start) d (λ _ _. d)
 
 pub run-slots : (s : State) (es : List Event) → length s.specs ≤ MAX_CHILDREN → Slotted s.rows → Slotted (state_after s es).rows
 run-slots s [] few h = h

@@ -35,7 +35,8 @@ use Rattle.otp_rules.specs.Calls.{take_call}
 use Rattle.otp_rules.specs.Step.{ask, open_rows, open_with, resume, take_item, tick, decide, stamped, step, step_on}
 use Rattle.otp_rules.specs.Homes.{Brings}
 use Rattle.otp_rules.specs.Waits.{StartsWait, start_in, start_waiting, starts_left, starts_waiting}
-use Rattle.otp_rules.proofs.Walks.{advance-by, restart-by, stop_each-by, terminate-by}
+use Rattle.otp_rules.proofs.GoesOn.{GoesOn, advance-on}
+use Rattle.otp_rules.proofs.Walks.{restart-by, stop_each-by, terminate-by, with_stops}
 use Rattle.otp_rules.proofs.Decisions.{SurvivesEvent, at_row-survives, at_number-survives, by_test, decide-survives_event, same_work, take_waiting-survives}
 use Rattle.otp_rules.proofs.Counting.{end_row-quiet, use_exit-quiet}
 use Prim.Native.Nat.{zero, suc}
@@ -215,36 +216,21 @@ decide-left kind.Stopped old = decided-same kind.Stopped old (λ resumed. absurd
 abbrev Left : Outcome → Outcome → Type 0
 Left o new = Same o new ⊎ ((new.state.waiting ≡ []) × (is_over new.state.phase ≡ true))
 
-follow-left : (f : Option Sequel) (o : Outcome) → Left o (follow f o)
-unfolding follow end_all refuse_all answer
-follow-left None o = inl refl
-follow-left (Some sequel.Ready) o = inl refl
-follow-left (Some sequel.Nothing) o = inl refl
-follow-left (Some (sequel.Added c)) o = inl refl
-follow-left (Some (sequel.Restarted c)) o = inl refl
-follow-left (Some (sequel.Stopped c)) o = inl refl
-follow-left (Some (sequel.End e)) o = inr (refl, refl)
-
-start_first-left : (dues : List Due) (n : ℕ) (o : Outcome) → Left o (start_first dues n o)
-unfolding start_first start start_row
-start_first-left [] n o = follow-left o.state.follows o
-start_first-left (due ∷ dues) n o =
-    let left : Outcome = with_work o.state.to_stop dues o.state.follows o in
-    inl (at_row-survives (Same o) (is_due due) left (start_row due n) left refl refl (λ i row at has. refl))
-
-stop_first-left : (ps : List ℕ) (n : ℕ) (o : Outcome) → Left o (stop_first ps n o)
-unfolding stop_first
-stop_first-left [] n o = start_first-left o.state.to_start n o
-stop_first-left (p ∷ ps) n o =
-    let place : Option ℕ = position (is_exit p) o.state.waiting in
-    let left : Outcome = with_work ps o.state.to_start o.state.follows o in
-    by_test (Left o) (is_some place) (stop_first ps n (use_exit p place left)) (tell p left)
-    (λ _. ⊎_elim (λ same. inl (same ∙ use_exit-same p o left refl)) (λ over. inr over) (stop_first-left ps n (use_exit p place left)))
-    (λ _. inl (tell-same p left))
+going-left : (n : ℕ) (old : Outcome) → GoesOn n (λ _. Same old) (Left old)
+unfolding start start_row answer end_all refuse_all
+going-left n old =
+    record {
+      uses = λ p rest o _ h. use_exit-same p o (with_stops rest o) refl ∙ h;
+      tells = λ p rest o h. inl (tell-same p (with_stops rest o) ∙ h);
+      starts = λ due dues o _ h. let left : Outcome = with_work o.state.to_stop dues o.state.follows o in inl (at_row-survives (Same old) (is_due due) left (start_row due n) left h h (λ i row at has. h));
+      closes = λ o h. inl h;
+      answers = λ c r o h. inl h;
+      ready = λ o h. inl h;
+      ends = λ e o _ h. inr (refl, refl);
+    }
 
 advance-left : (n : ℕ) (o : Outcome) → Left o (advance n o)
-advance-left n o =
-    advance-by (Left o) n o (inl refl) (λ _ _. stop_first-left o.state.to_stop n o)
+advance-left n o = advance-on n (λ _. Same o) (Left o) (going-left n o) o (inl refl) (λ _ _. refl)
 
 stamped-left : (k : Kind) (reading : ℕ) (s : State) → starts_left k (stamped reading s) ≡ starts_left k s
 stamped-left (kind.Opened own) reading s = refl
