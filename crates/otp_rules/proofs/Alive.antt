@@ -301,7 +301,7 @@ stays-survives D k G old slot p m ends =
         h.1,
       );
       call_waits = λ c x o u busy g h. put-stays D slot p m (waiting.Item (item.Call c x)) o h;
-      exit_waits = λ q r o u g h. put-stays D slot p m (waiting.Item (item.Note (note.Exit q r))) o h;
+      exit_waits = λ q r place row o u at has g h. put-stays D slot p m (waiting.Item (item.Note (note.Exit q r))) o h;
       up = λ q place row n kept o u at is same g h. set-stays D slot p m place row (Up q) o at (λ x has. same_process q x row.state (has_starting row n kept q is same) has) h;
       up_closed = λ q place row n kept c o u at is same follows g h. set-stays D slot p m place row (Up q) o at (λ x has. same_process q x row.state (has_starting row n kept q is same) has) h;
       ignored = λ q place row n kept o u at is same g h. end-stays D slot p m place row o at h;

@@ -125,7 +125,7 @@ pub record SurvivesEvent (k : Kind) (G : Item → Type 0) (old : Outcome) (P : O
   pub answered : (c : ℕ) (r : Reply) (o : Outcome) → OpensNothing old o → P o → P (answer c r o)
   pub taken : (w : Waiting) (ws : List Waiting) → k ≡ kind.Resumed → IsIdle (is_busy old) old → IsRunning old → old.state.waiting ≡ w ∷ ws → P old → P (with_waiting ws old)
   pub call_waits : (c : ℕ) (x : Call) (o : Outcome) → IsUnmoved old o → is_busy o ≡ true → G (item.Call c x) → P o → P (put_last (waiting.Item (item.Call c x)) o)
-  pub exit_waits : (p : ℕ) (r : Reason) (o : Outcome) → IsUnmoved old o → G (item.Note (note.Exit p r)) → P o → P (put_last (waiting.Item (item.Note (note.Exit p r))) o)
+  pub exit_waits : (p : ℕ) (r : Reason) (place : ℕ) (row : Row) (o : Outcome) → IsUnmoved old o → StandsAt place row o → has_process p row.state ≡ true → G (item.Note (note.Exit p r)) → P o → P (put_last (waiting.Item (item.Note (note.Exit p r))) o)
   -- answers to a start
   pub up : (p place : ℕ) (row : Row) (q kept : ℕ) (o : Outcome) → IsUnmoved old o → StandsAt place row o → row.state ≡ Starting q kept → (q == p) ≡ true → G (item.Note (note.Up p)) → P o → P (set_row place row (Up p) o)
   pub up_closed : (p place : ℕ) (row : Row) (q kept c : ℕ) (o : Outcome) → IsUnmoved old o → StandsAt place row o → row.state ≡ Starting q kept → (q == p) ≡ true → (o.state.follows ≡ Some (sequel.Added c)) ⊎ (o.state.follows ≡ Some (sequel.Restarted c)) → G (item.Note (note.Up p)) → P o → P (closed (set_row place row (Up p) o))
@@ -261,10 +261,10 @@ death-survives k G old P s p r place row o u idle runs at found is_up noted x =
 exit_in-survives : (k : Kind) (G : Item → Type 0) (old : Outcome) (P : Outcome → Type 0) → SurvivesEvent k G old P → (p : ℕ) (r : Reason) (place : ℕ) (row : Row) (state : RowState) (o : Outcome) → IsUnmoved old o → row.state ≡ state → has_process p state ≡ true → IsRunning o → G (item.Note (note.Exit p r)) → StandsAt place row o → IsFirstAt (row_has (has_process p)) place o → P o → P (exit_in p r place row state o)
 unfolding exit_in
 exit_in-survives k G old P s p r place row Undefined o u is h runs noted at found x = x
-exit_in-survives k G old P s p r place row (Starting _ _) o u is h runs noted at found x = s.exit_waits p r o u noted x
+exit_in-survives k G old P s p r place row (Starting _ _) o u is h runs noted at found x = s.exit_waits p r place row o u at (ap (λ (t : RowState). has_process p t) is ∙ h) noted x
 exit_in-survives k G old P s p r place row (Up q) o u is h runs noted at found x =
     by_test P (is_busy o) (put_last (waiting.Item (item.Note (note.Exit p r))) o) (death p r place row o)
-    (λ _. s.exit_waits p r o u noted x)
+    (λ _. s.exit_waits p r place row o u at (ap (λ (t : RowState). has_process p t) is ∙ h) noted x)
     (λ idle. death-survives k G old P s p r place row o u (sym (same_work old o u) ∙ idle, idle) runs at found (is ∙ ap (λ (n : ℕ). Up n) (eqb-true q p h)) noted x)
 exit_in-survives k G old P s p r place row (Asked q d) o u is h runs noted at found x = s.stopped p r place row o u at (ap (λ (t : RowState). is_told p t) is ∙ h) noted x
 exit_in-survives k G old P s p r place row (Killed q) o u is h runs noted at found x = s.stopped p r place row o u at (ap (λ (t : RowState). is_told p t) is ∙ h) noted x
@@ -537,7 +537,7 @@ event-survives k old P s =
       answered = λ c r o quiet x. s.answered c r o x;
       taken = λ w ws resumed idle runs is x. s.taken w ws old idle runs is x;
       call_waits = λ c call o u busy g x. s.call_waits c call o x;
-      exit_waits = λ p r o u g x. s.exit_waits p r o (noted_so k old (note.Exit p r) o u g) x;
+      exit_waits = λ p r place row o u at has g x. s.exit_waits p r o (noted_so k old (note.Exit p r) o u g) x;
       up = λ p place row q kept o u at is same g x. s.up p place row q kept o at is same (noted_so k old (note.Up p) o u g) x;
       up_closed = λ p place row q kept c o u at is same follows g x. s.up_closed p place row q kept c o at is same follows x;
       ignored = λ p place row q kept o u at is same g x. s.ignored p place row q kept o at is same (noted_so k old (note.Ignored p) o u g) x;

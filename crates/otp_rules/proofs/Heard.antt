@@ -1,9 +1,10 @@
 -- An end that waits was taken while a child had its process.
-use Rattle.std.specs.Prelude.{◌≡◌, ◌⊎◌, ℕ, ◌==◌, ◌<◌, ◌++◌, ◌||◌, Bool, true, false, List, [], ◌∷◌, Option, None, Some, refl, if◌then◌else◌, position, is_some, unwrap_or}
+use Rattle.std.specs.Prelude.{◌≡◌, ◌⊎◌, ℕ, ◌==◌, ◌<◌, ◌++◌, ◌||◌, Bool, true, false, List, [], ◌∷◌, Option, None, Some, refl, if◌then◌else◌, position, is_some, slice_get, unwrap_or}
 use Rattle.std.specs.List.{cons_option, list_any}
 use Rattle.std.proofs.Common.{◌∙◌, ap, sym, subst, inl, inr, arith, ⊎_elim, cond}
 use Rattle.std.proofs.lemmas.Bool.{false≢true, cases_Bool, eq-eqb, eqb-true}
 use Rattle.std.proofs.lemmas.List.Folds.{list_any-append}
+use Rattle.std.proofs.lemmas.Option.{get_or_from_slice_get, slice_get_within}
 use Prim.Native.Nat.{suc}
 use Rattle.otp_reason.specs.declared.reason.Reason.{Reason}
 use Rattle.otp_reason.specs.declared.note.Note.TheVariants as note
@@ -41,7 +42,7 @@ use Rattle.otp_rules.specs.InOrder.{AreGiven}
 use Rattle.otp_rules.specs.Lives.{EndsAreHeard, EndsTellStarted, EndsTellStartedFrom, IsHeld, TakesEnd}
 use Rattle.otp_rules.proofs.GoesOn.{GoesOn, advance-on}
 use Rattle.otp_rules.proofs.Walks.{restart-by, stop_each-by, terminate-by, with_stops}
-use Rattle.otp_rules.proofs.Decisions.{BringsExit, SurvivesEvent, StandsAt, at_row-survives, at_number-survives, by_test, decide-survives, decide-survives_event}
+use Rattle.otp_rules.proofs.Decisions.{BringsExit, IsUnmoved, SurvivesEvent, StandsAt, at_row-survives, at_number-survives, by_test, decide-survives, decide-survives_event}
 use Rattle.otp_rules.proofs.Counting.{end_row-quiet, none_in, rows_in-at, times-append, times-cons, use_exit-quiet}
 use Rattle.otp_rules.proofs.Homes.{none_has, or_cases, or_right, quiet_more, without_less}
 use Rattle.otp_rules.proofs.Finishing.{zero_or_more}
@@ -97,18 +98,21 @@ open-less p own o h = h
 pub end-less : (p place : ℕ) (row : Row) (o : Outcome) → Less p o (end_row place row o)
 end-less p place row o h = subst (λ (ws : List Waiting). list_any (is_ended p) ws ≡ true) (end_row-quiet place row o).0 h
 
--- one that waits did before, or the event brings it
+-- one that waits did before, or the event brings it, and a child had its process
 abbrev pub IsHeard : (Item → Type 0) → Outcome → ℕ → Outcome → Type 0
-IsHeard G old p o = Waits p o → Waits p old ⊎ BringsExit G p
+IsHeard G old p o = Waits p o → Waits p old ⊎ (BringsExit G p × IsHeld old.state.rows p)
 
 -- an end that is brought waits behind the others
-pub exit_put : (D : Type 0) (G : Item → Type 0) (p q : ℕ) (r : Reason) (ws : List Waiting) → G (item.Note (note.Exit q r)) → (BringsExit G p → D) → (list_any (is_ended p) ws ≡ true → D)
-    → list_any (is_ended p) (ws ++ waiting.Item (item.Note (note.Exit q r)) ∷ []) ≡ true → D
-exit_put D G p q r ws got brings h waits =
+pub exit_put : (D : Type 0) (p q : ℕ) (r : Reason) (ws : List Waiting) → (q ≡ p → D) → (list_any (is_ended p) ws ≡ true → D) → list_any (is_ended p) (ws ++ waiting.Item (item.Note (note.Exit q r)) ∷ []) ≡ true → D
+exit_put D p q r ws brings h waits =
     ⊎_elim h
-    (λ (new : ((q == p) || false) ≡ true).
-    ⊎_elim (λ (same : (q == p) ≡ true). brings (r, subst (λ (n : ℕ). G (item.Note (note.Exit n r))) (eqb-true q p same) got)) (λ e. absurd (false≢true e)) (or_cases (q == p) false new))
+    (λ (new : ((q == p) || false) ≡ true). ⊎_elim (λ (same : (q == p) ≡ true). brings (eqb-true q p same)) (λ e. absurd (false≢true e)) (or_cases (q == p) false new))
     (or_cases (list_any (is_ended p) ws) ((q == p) || false) (sym (list_any-append (is_ended p) ws (waiting.Item (item.Note (note.Exit q r)) ∷ [])) ∙ waits))
+
+held_at : (p place : ℕ) (row : Row) (old o : Outcome) → IsUnmoved old o → StandsAt place row o → has_process p row.state ≡ true → IsHeld old.state.rows p
+held_at p place row old o u at has =
+    let there : slice_get old.state.rows place ≡ Some row = ap (λ (x : Outcome). slice_get x.state.rows place) (sym u) ∙ at in
+    (row, (place, slice_get_within old.state.rows place row there, get_or_from_slice_get old.state.rows place row row there), has)
 
 heard-survives : (k : Kind) (G : Item → Type 0) (old : Outcome) (p : ℕ) → SurvivesEvent k G old (IsHeard G old p)
 heard-survives k G old p =
@@ -116,7 +120,8 @@ heard-survives k G old p =
       answered = λ c r o quiet h w. h (answer-less p c r o w);
       taken = λ x xs resumed idle runs is h w. inl (subst (λ (ws : List Waiting). list_any (is_ended p) ws ≡ true) (sym is) (or_right (is_ended p x) (list_any (is_ended p) xs) w));
       call_waits = λ c x o u busy g h w. h (quiet_more o.state.waiting (waiting.Item (item.Call c x)) (λ q. refl) p w);
-      exit_waits = λ q r o u g h w. exit_put (Waits p old ⊎ BringsExit G p) G p q r o.state.waiting g (λ b. inr b) h w;
+      exit_waits = λ q r place row o u at has g h.
+          exit_put (Waits p old ⊎ (BringsExit G p × IsHeld old.state.rows p)) p q r o.state.waiting (λ same. inr ((r, subst (λ (n : ℕ). G (item.Note (note.Exit n r))) same g), subst (λ (n : ℕ). IsHeld old.state.rows n) same (held_at q place row old o u at has))) h;
       up = λ q place row n kept o u at is same g h. h;
       up_closed = λ q place row n kept c o u at is same follows g h. h;
       ignored = λ q place row n kept o u at is same g h w. h (end-less p place row o w);
@@ -159,47 +164,23 @@ going-less p n old =
 advance-less : (p n : ℕ) (o : Outcome) → Less p o (advance n o)
 advance-less p n o = advance-on n (λ _. Less p o) (Less p o) (going-less p n o) o (λ h. h) (λ _ _ h. h)
 
-pub any_held : (p : ℕ) (rows : List Row) → list_any (row_has (has_process p)) rows ≡ true → IsHeld rows p
-any_held p [] h = absurd (false≢true h)
-any_held p (x ∷ xs) h =
-    ⊎_elim (λ here. (x, (0, omega arith, refl), here))
-    (λ later. let r : IsHeld xs p = any_held p xs later in (r.0, (suc r.1.0, omega (arith, r.1.1), r.1.2), r.2))
-    (or_cases (has_process p x.state) (list_any (row_has (has_process p)) xs) h)
-
-no_such : (p place : ℕ) (row : Row) (o : Outcome) → list_any (row_has (has_process p)) o.state.rows ≡ false → StandsAt place row o → has_process p row.state ≡ true → ⊥
-no_such p place row o none at has =
-    let one : ◌≡◌ {A = ℕ} (cond (has_process p row.state) 1 0) 1 = ap (λ (b : Bool). cond b 1 0) has in
-    let zero_rows : rows_in (has_process p) o.state.rows ≡ 0 = none_in (has_process p) o.state.rows none in
-    omega (arith, rows_in-at (has_process p) place row o.state.rows at, one, zero_rows)
-
--- the note of a process that no child has changes nothing
-unheard : (p : ℕ) (r : Reason) (o : Outcome) → list_any (row_has (has_process p)) o.state.rows ≡ false → (decide (kind.Took (item.Note (note.Exit p r))) o).state.waiting ≡ o.state.waiting
-unfolding decide take_item take_note take_exit
-unheard p r o none =
-    by_test (λ (x : Outcome). x.state.waiting ≡ o.state.waiting) (is_over o.state.phase) o (at_number p (λ place row. exit_in p r place row row.state) o) (λ _. refl)
-    (λ _. at_number-survives (λ (x : Outcome). x.state.waiting ≡ o.state.waiting) p (λ place row. exit_in p r place row row.state) o refl (λ place row at has. absurd (no_such p place row o none at has)))
-
 first_waits : (ws : List Waiting) (p : ℕ) (r : Reason) → IsFirst ws (item.Note (note.Exit p r)) → list_any (is_ended p) ws ≡ true
 first_waits [] p r first = absurd first
 first_waits (w ∷ ws) p r first = ap (λ (b : Bool). b || list_any (is_ended p) ws) (ap (λ (y : Waiting). is_ended p y) first ∙ eq-eqb p p refl)
 
-brought : (k : Kind) (o : Outcome) (p : ℕ) → BringsExit (Brings k o.state.waiting) p → Waits p (decide k o) → Waits p o ⊎ (TakesEnd k p × IsHeld o.state.rows p)
-brought (kind.Opened own) o p b w = absurd b.1
-brought (kind.Took j) o p b w =
-    ⊎_elim
-    (λ held. inr ((note.Exit p b.0, ap (λ (i : Item). kind.Took i) b.1, refl), any_held p o.state.rows held))
-    (λ none. inl (subst (λ (ws : List Waiting). list_any (is_ended p) ws ≡ true) (unheard p b.0 o none) (subst (λ (i : Item). Waits p (decide (kind.Took i) o)) b.1 w)))
-    (cases_Bool (list_any (row_has (has_process p)) o.state.rows))
-brought kind.Resumed o p b w = inl (first_waits o.state.waiting p b.0 b.1)
-brought kind.Ticked o p b w = absurd b.1
-brought kind.Stopped o p b w = absurd b.1
+brought : (k : Kind) (ws : List Waiting) (p : ℕ) → BringsExit (Brings k ws) p → (list_any (is_ended p) ws ≡ true) ⊎ TakesEnd k p
+brought (kind.Opened own) ws p b = absurd b.1
+brought (kind.Took j) ws p b = inr (note.Exit p b.0, ap (λ (i : Item). kind.Took i) b.1, refl)
+brought kind.Resumed ws p b = inl (first_waits ws p b.0 b.1)
+brought kind.Ticked ws p b = absurd b.1
+brought kind.Stopped ws p b = absurd b.1
 
 pub ends_are_heard_law : EndsAreHeard
 unfolding step step_on
 ends_are_heard_law s e p waits =
     let start : Outcome = record { state = stamped e.reading s; orders = [] } in
     let decides : Waits p (decide e.kind start) = advance-less p (unwrap_or e.number 0) (decide e.kind start) waits in
-    ⊎_elim (λ was. inl was) (λ b. brought e.kind start p b decides) (decided-heard e.kind start p decides)
+    ⊎_elim (λ was. inl was) (λ heard. ⊎_elim (λ first. inl first) (λ took. inr (took, heard.1)) (brought e.kind s.waiting p heard.0)) (decided-heard e.kind start p decides)
 
 -- a child's process had it before, or is the event's
 held_after : (s : State) (e : Event) (q : ℕ) → is_some e.number ≡ needs_number s e.reading e.kind → 0 < rows_in (has_process q) (step s e).state.rows → (0 < rows_in (has_process q) s.rows) ⊎ (e.number ≡ Some q)

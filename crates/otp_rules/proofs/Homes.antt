@@ -427,7 +427,7 @@ known-survives what G old =
       taken = λ w ws resumed idle runs is h.
           less_known what s G (w ∷ ws) ws (λ p k. or_right (is_ended p w) (list_any (is_ended p) ws) k) s.rows (of_waiting what s G old (w ∷ ws) is h);
       call_waits = λ c call o u busy g h. put-known what s G (waiting.Item (item.Call c call)) o (λ p. refl) h;
-      exit_waits = λ p r o u got h.
+      exit_waits = λ p r place row o u at has got h.
           let x : Waiting = waiting.Item (item.Note (note.Exit p r)) in
           each-more (Known what s G o.state.waiting) (Known what s G (o.state.waiting ++ x ∷ []))
           (λ row k. moves what s G o.state.waiting (o.state.waiting ++ x ∷ []) row row refl refl (λ q has. has)

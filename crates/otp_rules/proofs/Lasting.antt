@@ -241,7 +241,7 @@ lasts-survives k G old slot p bare =
       answered = λ c r o quiet h. (λ w. h.0 (answer-less p c r o w), answer-has D slot p c r o h.1);
       taken = λ x xs resumed idle runs is h. (λ w. inl (subst (λ (ws : List Waiting). list_any (is_ended p) ws ≡ true) (sym is) (or_right (is_ended p x) (list_any (is_ended p) xs) w)), h.1);
       call_waits = λ c x o u busy g h. (λ w. h.0 (quiet_more o.state.waiting (waiting.Item (item.Call c x)) (λ q. refl) p w), h.1);
-      exit_waits = λ q r o u g h. (λ w. exit_put D G p q r o.state.waiting g (λ b. inr (note.Exit p b.0, b.1, refl)) h.0 w, h.1);
+      exit_waits = λ q r place row o u at has g h. (λ w. exit_put D p q r o.state.waiting (λ same. inr (note.Exit q r, g, ap (λ (n : ℕ). Some n) same)) h.0 w, h.1);
       up = λ q place row n kept o u at is same g h.
           (h.0, set-has D slot p place row (Up q) o at (λ mine. inl (eq-eqb q p (one_process p q row.state mine (has_starting row n kept q is same)))) h.1);
       up_closed = λ q place row n kept c o u at is same follows g h.
