@@ -559,9 +559,9 @@ going D slot p m n =
       uses = λ q rest o _ h. use_exit-stays D slot p m q (with_stops rest o) h;
       tells = λ q rest o h. inl (tell-stays D slot p m q (with_stops rest o) h);
       starts = λ due dues o _ h. start-goes D slot p m due n (with_work o.state.to_stop dues o.state.follows o) h;
-      closes = λ o h. inl h;
-      answers = λ c r o h. inl h;
-      ready = λ o h. inl h;
+      closes = λ f o _ _ h. inl h;
+      answers = λ c r f o _ _ h. inl h;
+      ready = λ o _ h. inl h;
       ends = λ e o _ h. inl ((omega arith, λ some. absurd (omega (arith, some))), omega arith);
     }
 

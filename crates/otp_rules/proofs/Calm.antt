@@ -133,9 +133,9 @@ going-calm n =
       uses = λ p rest o _ h. use_exit-calm p (position (is_exit p) o.state.waiting) (with_stops rest o) h;
       tells = λ p rest o h. tell-calm p (with_stops rest o) h;
       starts = λ due dues o is h e. absurd (let no : due ∷ dues ≡ [] = sym is ∙ (h (sym (ap is_stop (start-follows due n (with_work o.state.to_stop dues o.state.follows o))) ∙ e)).1 in cc);
-      closes = λ o h e. absurd (false≢true e);
-      answers = λ c r o h e. absurd (false≢true e);
-      ready = λ o h e. absurd (false≢true e);
+      closes = λ f o _ _ h e. absurd (false≢true e);
+      answers = λ c r f o _ _ h e. absurd (false≢true e);
+      ready = λ o _ h e. absurd (false≢true e);
       ends = λ x o _ h e. absurd (false≢true e);
     }
 

@@ -110,9 +110,9 @@ going-bare n =
       uses = λ p rest o _ h. let used = use_exit-alike p (position (is_exit p) o.state.waiting) (with_stops rest o) in (ap (λ (f : Option Sequel). is_some f) used.4 ∙ h.0, ap is_over used.1 ∙ h.1);
       tells = λ p rest o h. inl (ap (λ (f : Option Sequel). is_some f) (tell-alike p (with_stops rest o)).4 ∙ h.0);
       starts = λ due dues o _ h. let left : Outcome = with_work o.state.to_stop dues o.state.follows o in inl (at_row-survives (λ (x : Outcome). is_some x.state.follows ≡ true) (is_due due) left (start_row due n) left h.0 h.0 (λ i row at has. h.0));
-      closes = λ o h. runs o h;
-      answers = λ c r o h. runs o h;
-      ready = λ o h. runs o h;
+      closes = λ f o _ _ h. runs o h;
+      answers = λ c r f o _ _ h. runs o h;
+      ready = λ o _ h. runs o h;
       ends = λ e o _ h. inr (λ over. refl);
     }
 

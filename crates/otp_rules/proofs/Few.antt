@@ -238,9 +238,9 @@ going-one n old =
           let left : Outcome = with_work o.state.to_stop dues o.state.follows o in
           let more : orders_in (o.orders ++ effect.Start due.id n ∷ []) ≤ orders_in old.orders + 1 = omega (arith, one_more o.orders (effect.Start due.id n), h) in
           at_row-survives (λ (x : Outcome). orders_in (x.orders ++ effect.Start due.id n ∷ []) ≤ orders_in old.orders + 1) (is_due due) left (start_row due n) left more more (λ i row at has. more);
-      closes = λ o h. omega (arith, h);
-      answers = λ c r o h. omega (arith, h, one_more o.orders (effect.Reply c));
-      ready = λ o h. omega (arith, h, one_more o.orders effect.Ready);
+      closes = λ f o _ _ h. omega (arith, h);
+      answers = λ c r f o _ _ h. omega (arith, h, one_more o.orders (effect.Reply c));
+      ready = λ o _ h. omega (arith, h, one_more o.orders effect.Ready);
       ends = λ e o _ h.
           let refused : List Effect = filter_map refusal o.state.waiting in
           let none : orders_in refused ≡ 0 = refusals-few o.state.waiting in

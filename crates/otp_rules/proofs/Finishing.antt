@@ -317,9 +317,9 @@ going-finishes n =
           let left : Outcome = with_work o.state.to_stop dues o.state.follows o in
           let stays : is_end o.state.follows ≡ true → ⊥ = λ e. let k : due ∷ dues ≡ [] = sym is ∙ h.0.0.4 e in cc in
           at_row-survives (λ (x : Outcome). Finishes x.state) (is_due due) left (start_row due n) left (λ e. absurd (stays e)) (λ e. absurd (stays e)) (λ i row at has e. absurd (stays e));
-      closes = λ o h e. absurd (false≢true e);
-      answers = λ c r o h e. absurd (false≢true e);
-      ready = λ o h e. absurd (false≢true e);
+      closes = λ f o _ _ h e. absurd (false≢true e);
+      answers = λ c r f o _ _ h e. absurd (false≢true e);
+      ready = λ o _ h e. absurd (false≢true e);
       ends = λ x o _ h e. absurd (false≢true e);
     }
 

@@ -16,6 +16,7 @@ use Rattle.otp_rules.specs.State.{Outcome, answer, closed, emit, is_busy, with_w
 use Rattle.otp_rules.specs.Stops.{is_exit, tell}
 use Rattle.otp_rules.specs.Starts.{start}
 use Rattle.otp_rules.specs.Ends.{end_all}
+use Rattle.otp_rules.specs.Progress.{is_end}
 use Rattle.otp_rules.specs.Work.{advance, follow, start_first, stop_first}
 use Rattle.otp_rules.proofs.Counting.{use_exit-alike}
 use Rattle.otp_rules.proofs.Walks.{advance-by, end_waits, stop_first-by, used, with_stops}
@@ -28,19 +29,19 @@ pub record GoesOn (n : ℕ) (S : List ℕ → Outcome → Type 0) (P : Outcome �
   -- nobody is left to stop: the first to be started is
   pub starts : (due : Due) (dues : List Due) (o : Outcome) → o.state.to_start ≡ due ∷ dues → S [] o → P (start due n (with_work o.state.to_stop dues o.state.follows o))
   -- nor to start: the work closes, and a call may be answered, or the supervisor is ready, or ends
-  pub closes : (o : Outcome) → S [] o → P (closed o)
-  pub answers : (c : ℕ) (r : Reply) (o : Outcome) → S [] o → P (answer c r (closed o))
-  pub ready : (o : Outcome) → S [] o → P (emit effect.Ready (closed o))
+  pub closes : (f : Sequel) (o : Outcome) → o.state.follows ≡ Some f → is_end (Some f) ≡ false → S [] o → P (closed o)
+  pub answers : (c : ℕ) (r : Reply) (f : Sequel) (o : Outcome) → o.state.follows ≡ Some f → is_end (Some f) ≡ false → S [] o → P (answer c r (closed o))
+  pub ready : (o : Outcome) → o.state.follows ≡ Some sequel.Ready → S [] o → P (emit effect.Ready (closed o))
   pub ends : (e : Ending) (o : Outcome) → o.state.follows ≡ Some (sequel.End e) → S [] o → P (end_all e o)
 
 follow-on : (n : ℕ) (S : List ℕ → Outcome → Type 0) (P : Outcome → Type 0) → GoesOn n S P → (f : Option Sequel) (o : Outcome) → o.state.follows ≡ f → is_some f ≡ true → S [] o → P (follow f o)
 unfolding follow
 follow-on n S P g None o is busy h = absurd (false≢true busy)
-follow-on n S P g (Some sequel.Ready) o is busy h = g.ready o h
-follow-on n S P g (Some sequel.Nothing) o is busy h = g.closes o h
-follow-on n S P g (Some (sequel.Added c)) o is busy h = g.answers c reply.OkUndefined o h
-follow-on n S P g (Some (sequel.Restarted c)) o is busy h = g.answers c reply.OkUndefined o h
-follow-on n S P g (Some (sequel.Stopped c)) o is busy h = g.answers c reply.Ok o h
+follow-on n S P g (Some sequel.Ready) o is busy h = g.ready o is h
+follow-on n S P g (Some sequel.Nothing) o is busy h = g.closes sequel.Nothing o is refl h
+follow-on n S P g (Some (sequel.Added c)) o is busy h = g.answers c reply.OkUndefined (sequel.Added c) o is refl h
+follow-on n S P g (Some (sequel.Restarted c)) o is busy h = g.answers c reply.OkUndefined (sequel.Restarted c) o is refl h
+follow-on n S P g (Some (sequel.Stopped c)) o is busy h = g.answers c reply.Ok (sequel.Stopped c) o is refl h
 follow-on n S P g (Some (sequel.End e)) o is busy h = g.ends e o is h
 
 start_first-on : (n : ℕ) (S : List ℕ → Outcome → Type 0) (P : Outcome → Type 0) → GoesOn n S P → (dues : List Due) (o : Outcome) → o.state.to_start ≡ dues → is_busy o ≡ true → S [] o → P (start_first dues n o)

@@ -155,9 +155,9 @@ going-less p n old =
       uses = λ q rest o _ h w. h (use_exit-less p q (position (is_exit q) o.state.waiting) o (with_stops rest o) refl w);
       tells = λ q rest o h w. h (tell-less p q (with_stops rest o) w);
       starts = λ due dues o _ h. let left : Outcome = with_work o.state.to_stop dues o.state.follows o in at_row-survives (Less p old) (is_due due) left (start_row due n) left h h (λ i row at has. h);
-      closes = λ o h. h;
-      answers = λ c r o h. h;
-      ready = λ o h. h;
+      closes = λ f o _ _ h. h;
+      answers = λ c r f o _ _ h. h;
+      ready = λ o _ h. h;
       ends = λ e o _ h w. absurd (false≢true w);
     }
 

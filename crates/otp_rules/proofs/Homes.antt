@@ -519,9 +519,9 @@ going-told what s G n free =
       uses = λ p rest o some h. use_exit-known what s G p o (with_stops rest o) refl refl some h;
       tells = λ p rest o h. known-told what s G n free (tell p (with_stops rest o)) (tell-known what s G p (with_stops rest o) h);
       starts = λ due dues o _ h. start-told what s G n free due (with_work o.state.to_stop dues o.state.follows o) h;
-      closes = λ o h. known-told what s G n free o h;
-      answers = λ c r o h. known-told what s G n free o h;
-      ready = λ o h. known-told what s G n free o h;
+      closes = λ f o _ _ h. known-told what s G n free o h;
+      answers = λ c r f o _ _ h. known-told what s G n free o h;
+      ready = λ o _ h. known-told what s G n free o h;
       ends = λ e o _ h. tt;
     }
 

@@ -319,9 +319,9 @@ going-lasts D slot p n =
           let left : Outcome = with_work o.state.to_stop dues o.state.follows o in
           at_row-survives (Lasts D slot p) (is_due due) left (start_row due n) left g.1 g.1
           (λ i row at has. (g.1.0, set-has D slot p i row (Starting n (unwrap_or due.kept n)) left at (λ mine. absurd (undefined_none p row.state (and_parts _ (is_undefined row.state) has).1 mine)) g.1.1));
-      closes = λ o g. g.1;
-      answers = λ c r o g. g.1;
-      ready = λ o g. g.1;
+      closes = λ f o _ _ g. g.1;
+      answers = λ c r f o _ _ g. g.1;
+      ready = λ o _ g. g.1;
       ends = λ e o is g. (λ w. absurd (false≢true w), ⊎_elim (λ (some : 0 < lives slot p o.state.rows). absurd (omega (arith, some, none_lives slot p o g.0 (ap is_end is)))) (λ d. inr d) g.1.1);
     }
 

@@ -220,9 +220,9 @@ going-held n old =
       uses = λ p rest o _ h. use_exit-held n p (position (is_exit p) o.state.waiting) old (with_stops rest o) h;
       tells = λ p rest o h. (tell-held n p old (with_stops rest o) h).1;
       starts = λ due dues o _ h. start-held n old due (with_work o.state.to_stop dues o.state.follows o) h.1;
-      closes = λ o h. h.1;
-      answers = λ c r o h. All-push (IsHeld n old) o.orders (effect.Reply c) h.1 (unnamed n old (effect.Reply c) refl);
-      ready = λ o h. All-push (IsHeld n old) o.orders effect.Ready h.1 (unnamed n old effect.Ready refl);
+      closes = λ f o _ _ h. h.1;
+      answers = λ c r f o _ _ h. All-push (IsHeld n old) o.orders (effect.Reply c) h.1 (unnamed n old (effect.Reply c) refl);
+      ready = λ o _ h. All-push (IsHeld n old) o.orders effect.Ready h.1 (unnamed n old effect.Ready refl);
       ends = λ e o _ h.
           let more : All (IsHeld n old) (o.orders ++ filter_map refusal o.state.waiting) = All-append (IsHeld n old) o.orders (filter_map refusal o.state.waiting) h.1 (refusals-held n old o.state.waiting) in
           All-push (IsHeld n old) (o.orders ++ filter_map refusal o.state.waiting) (effect.End (sup_end_of o.state.flags o.state.stamps e)) more (unnamed n old (effect.End (sup_end_of o.state.flags o.state.stamps e)) refl);

@@ -225,9 +225,9 @@ going-grown n old =
       uses = λ p rest o _ h. use_exit-no_more p (position (is_exit p) o.state.waiting) old (with_stops rest o) h;
       tells = λ p rest o h. inl (tell-no_more p old (with_stops rest o) h);
       starts = λ due dues o _ h. grown-chain n old (with_work o.state.to_stop dues o.state.follows o) (start due n (with_work o.state.to_stop dues o.state.follows o)) h (started-grown due n (with_work o.state.to_stop dues o.state.follows o));
-      closes = λ o h. inl h;
-      answers = λ c r o h. inl h;
-      ready = λ o h. inl h;
+      closes = λ f o _ _ h. inl h;
+      answers = λ c r f o _ _ h. inl h;
+      ready = λ o _ h. inl h;
       ends = λ e o _ h. inl (λ q. omega arith);
     }
 

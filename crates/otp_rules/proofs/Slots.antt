@@ -325,9 +325,9 @@ going-slots n =
       starts = λ due dues o _ h.
           let left : Outcome = with_work o.state.to_stop dues o.state.follows o in
           at_row-survives AllSlotted (is_due due) left (start_row due n) left h h (λ i row at has. set-slotted i row (Starting n (unwrap_or due.kept n)) o.state.rows at h);
-      closes = λ o h. h;
-      answers = λ c r o h. h;
-      ready = λ o h. h;
+      closes = λ f o _ _ h. h;
+      answers = λ c r f o _ _ h. h;
+      ready = λ o _ h. h;
       ends = λ e o _ h. (λ k. omega arith, λ k high. refl);
     }
 

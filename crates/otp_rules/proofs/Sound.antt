@@ -371,9 +371,9 @@ going-sound n =
       uses = λ p rest o _ r. used-ready p rest (position (is_exit p) o.state.waiting) o r;
       tells = λ p rest o r. told-sound p rest o r;
       starts = λ due dues o is r. ordered-sound due dues n o is r;
-      closes = λ o r. closed-sound o r.1;
-      answers = λ c x o r. closed-sound o r.1;
-      ready = λ o r. closed-sound o r.1;
+      closes = λ f o _ _ r. closed-sound o r.1;
+      answers = λ c x f o _ _ r. closed-sound o r.1;
+      ready = λ o _ r. closed-sound o r.1;
       ends = λ e o _ r. (refl, covered-none [] [] refl, λ _. (refl, refl), λ _. refl, λ _. refl, λ _. refl);
     }
 

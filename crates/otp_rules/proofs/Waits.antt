@@ -223,9 +223,9 @@ going-left n old =
       uses = λ p rest o _ h. use_exit-same p o (with_stops rest o) refl ∙ h;
       tells = λ p rest o h. inl (tell-same p (with_stops rest o) ∙ h);
       starts = λ due dues o _ h. let left : Outcome = with_work o.state.to_stop dues o.state.follows o in inl (at_row-survives (Same old) (is_due due) left (start_row due n) left h h (λ i row at has. h));
-      closes = λ o h. inl h;
-      answers = λ c r o h. inl h;
-      ready = λ o h. inl h;
+      closes = λ f o _ _ h. inl h;
+      answers = λ c r f o _ _ h. inl h;
+      ready = λ o _ h. inl h;
       ends = λ e o _ h. inr (refl, refl);
     }
 
