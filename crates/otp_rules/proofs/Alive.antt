@@ -557,7 +557,7 @@ unfolding answer end_all refuse_all
 going D slot p m n =
     record {
       uses = λ q rest o _ h. use_exit-stays D slot p m q (with_stops rest o) h;
-      tells = λ q rest o h. inl (tell-stays D slot p m q (with_stops rest o) h);
+      tells = λ q rest o _ h. inl (tell-stays D slot p m q (with_stops rest o) h);
       starts = λ due dues o _ h. start-goes D slot p m due n (with_work o.state.to_stop dues o.state.follows o) h;
       closes = λ f o _ _ h. inl h;
       answers = λ c r f o _ _ h. inl h;
@@ -568,7 +568,7 @@ going D slot p m n =
 step-goes_on : (D : Type 0) (slot p m : ℕ) (s : State) (e : Event) → Stays D slot p m (decide e.kind (record { state = stamped e.reading s; orders = [] })) → Goes D slot p m (unwrap_or e.number 0) (step s e)
 unfolding step step_on
 step-goes_on D slot p m s e h =
-    advance-on (unwrap_or e.number 0) (λ _. Stays D slot p m) (Goes D slot p m (unwrap_or e.number 0)) (going D slot p m (unwrap_or e.number 0)) (decide e.kind (record { state = stamped e.reading s; orders = [] })) (inl h) (λ _ _. h)
+    advance-on (unwrap_or e.number 0) (λ _. Stays D slot p m) (Goes D slot p m (unwrap_or e.number 0)) (going D slot p m (unwrap_or e.number 0)) (decide e.kind (record { state = stamped e.reading s; orders = [] })) (λ _. inl h) (λ _ _. h)
 
 -- an event that starts a child has its number
 is_own_number : (s : State) (e : Event) (p : ℕ) → is_some e.number ≡ needs_number s e.reading e.kind → list_any is_start (step s e).orders ≡ true → (unwrap_or e.number 0 == p) ≡ true → e.number ≡ Some p

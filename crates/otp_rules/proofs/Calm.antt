@@ -131,7 +131,7 @@ unfolding answer end_all refuse_all
 going-calm n =
     record {
       uses = λ p rest o _ h. use_exit-calm p (position (is_exit p) o.state.waiting) (with_stops rest o) h;
-      tells = λ p rest o h. tell-calm p (with_stops rest o) h;
+      tells = λ p rest o _ h. tell-calm p (with_stops rest o) h;
       starts = λ due dues o is h e. absurd (let no : due ∷ dues ≡ [] = sym is ∙ (h (sym (ap is_stop (start-follows due n (with_work o.state.to_stop dues o.state.follows o))) ∙ e)).1 in cc);
       closes = λ f o _ _ h e. absurd (false≢true e);
       answers = λ c r f o _ _ h e. absurd (false≢true e);
@@ -144,4 +144,4 @@ unfolding step step_on
 step-calm s e sound h =
     let start : Outcome = record { state = stamped e.reading s; orders = [] } in
     let d : IsSoundCalm (decide e.kind start) = decided-calm e.kind start sound h in
-    (advance-sound (unwrap_or e.number 0) (decide e.kind start) d.0, advance-on (unwrap_or e.number 0) (λ _ x. IsCalm x.state) (λ x. IsCalm x.state) (going-calm (unwrap_or e.number 0)) (decide e.kind start) d.1 (λ _ _. d.1))
+    (advance-sound (unwrap_or e.number 0) (decide e.kind start) d.0, advance-on (unwrap_or e.number 0) (λ _ x. IsCalm x.state) (λ x. IsCalm x.state) (going-calm (unwrap_or e.number 0)) (decide e.kind start) (λ _. d.1) (λ _ _. d.1))

@@ -108,7 +108,7 @@ going-bare n =
     let runs : (o : Outcome) → RunsOn o → GoesBare (closed o) = λ o h. inr (λ over. absurd (false≢true (sym h.1 ∙ over))) in
     record {
       uses = λ p rest o _ h. let used = use_exit-alike p (position (is_exit p) o.state.waiting) (with_stops rest o) in (ap (λ (f : Option Sequel). is_some f) used.4 ∙ h.0, ap is_over used.1 ∙ h.1);
-      tells = λ p rest o h. inl (ap (λ (f : Option Sequel). is_some f) (tell-alike p (with_stops rest o)).4 ∙ h.0);
+      tells = λ p rest o _ h. inl (ap (λ (f : Option Sequel). is_some f) (tell-alike p (with_stops rest o)).4 ∙ h.0);
       starts = λ due dues o _ h. let left : Outcome = with_work o.state.to_stop dues o.state.follows o in inl (at_row-survives (λ (x : Outcome). is_some x.state.follows ≡ true) (is_due due) left (start_row due n) left h.0 h.0 (λ i row at has. h.0));
       closes = λ f o _ _ h. runs o h;
       answers = λ c r f o _ _ h. runs o h;
@@ -123,7 +123,7 @@ busy_runs s false over sound busy = refl
 
 advance-goes_bare : (n : ℕ) (o : Outcome) → IsSoundBare o → GoesBare (advance n o)
 advance-goes_bare n o h =
-    advance-on n (λ _. RunsOn) GoesBare (going-bare n) o (inr h.1) (λ busy _. (busy, busy_runs o.state (is_over o.state.phase) refl h.0 busy))
+    advance-on n (λ _. RunsOn) GoesBare (going-bare n) o (λ _. inr h.1) (λ busy _. (busy, busy_runs o.state (is_over o.state.phase) refl h.0 busy))
 
 advance-bare : (n : ℕ) (o : Outcome) → IsSoundBare o → IsSoundBare (advance n o)
 advance-bare n o h =

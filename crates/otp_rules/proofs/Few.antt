@@ -233,7 +233,7 @@ unfolding start start_row answer end_all refuse_all
 going-one n old =
     record {
       uses = λ p rest o _ h. let first = use_exit-adds p (position (is_exit p) o.state.waiting) (with_stops rest o) in omega (arith, first.0, h);
-      tells = λ p rest o h. omega (arith, (tell-adds p (with_stops rest o)).0, h);
+      tells = λ p rest o _ h. omega (arith, (tell-adds p (with_stops rest o)).0, h);
       starts = λ due dues o _ h.
           let left : Outcome = with_work o.state.to_stop dues o.state.follows o in
           let more : orders_in (o.orders ++ effect.Start due.id n ∷ []) ≤ orders_in old.orders + 1 = omega (arith, one_more o.orders (effect.Start due.id n), h) in
@@ -249,7 +249,7 @@ going-one n old =
 
 advance-one : (n : ℕ) (o : Outcome) → orders_in (advance n o).orders ≤ orders_in o.orders + 1
 advance-one n o =
-    advance-on n (λ _ x. orders_in x.orders ≤ orders_in o.orders) (λ x. orders_in x.orders ≤ orders_in o.orders + 1) (going-one n o) o (omega arith) (λ _ _. omega arith)
+    advance-on n (λ _ x. orders_in x.orders ≤ orders_in o.orders) (λ x. orders_in x.orders ≤ orders_in o.orders + 1) (going-one n o) o (λ _. omega arith) (λ _ _. omega arith)
 
 pub orders_few_law : OrdersFew
 unfolding step step_on

@@ -312,7 +312,7 @@ unfolding start start_row answer end_all refuse_all
 going-finishes n =
     record {
       uses = λ p rest o _ h. used-stops p rest o h;
-      tells = λ p rest o h. tell-finishes p rest o h;
+      tells = λ p rest o _ h. tell-finishes p rest o h;
       starts = λ due dues o is h.
           let left : Outcome = with_work o.state.to_stop dues o.state.follows o in
           let stays : is_end o.state.follows ≡ true → ⊥ = λ e. let k : due ∷ dues ≡ [] = sym is ∙ h.0.0.4 e in cc in
@@ -325,4 +325,4 @@ going-finishes n =
 
 pub advance-finishes : (n : ℕ) (o : Outcome) → IsSound o.state → AreOne o → Finishes o.state → Finishes (advance n o).state
 advance-finishes n o sound one h =
-    advance-on n Stops (λ (x : Outcome). Finishes x.state) (going-finishes n) o h (λ busy none. ((sound, none_in is_awaited o.state.rows none, refl, busy), one, h))
+    advance-on n Stops (λ (x : Outcome). Finishes x.state) (going-finishes n) o (λ _. h) (λ busy none. ((sound, none_in is_awaited o.state.rows none, refl, busy), one, h))

@@ -153,7 +153,7 @@ unfolding start start_row answer end_all refuse_all
 going-less p n old =
     record {
       uses = λ q rest o _ h w. h (use_exit-less p q (position (is_exit q) o.state.waiting) o (with_stops rest o) refl w);
-      tells = λ q rest o h w. h (tell-less p q (with_stops rest o) w);
+      tells = λ q rest o _ h w. h (tell-less p q (with_stops rest o) w);
       starts = λ due dues o _ h. let left : Outcome = with_work o.state.to_stop dues o.state.follows o in at_row-survives (Less p old) (is_due due) left (start_row due n) left h h (λ i row at has. h);
       closes = λ f o _ _ h. h;
       answers = λ c r f o _ _ h. h;
@@ -162,7 +162,7 @@ going-less p n old =
     }
 
 advance-less : (p n : ℕ) (o : Outcome) → Less p o (advance n o)
-advance-less p n o = advance-on n (λ _. Less p o) (Less p o) (going-less p n o) o (λ h. h) (λ _ _ h. h)
+advance-less p n o = advance-on n (λ _. Less p o) (Less p o) (going-less p n o) o (λ _ h. h) (λ _ _ h. h)
 
 first_waits : (ws : List Waiting) (p : ℕ) (r : Reason) → IsFirst ws (item.Note (note.Exit p r)) → list_any (is_ended p) ws ≡ true
 first_waits [] p r first = absurd first

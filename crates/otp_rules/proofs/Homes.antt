@@ -517,7 +517,7 @@ unfolding answer end_all refuse_all
 going-told what s G n free =
     record {
       uses = λ p rest o some h. use_exit-known what s G p o (with_stops rest o) refl refl some h;
-      tells = λ p rest o h. known-told what s G n free (tell p (with_stops rest o)) (tell-known what s G p (with_stops rest o) h);
+      tells = λ p rest o _ h. known-told what s G n free (tell p (with_stops rest o)) (tell-known what s G p (with_stops rest o) h);
       starts = λ due dues o _ h. start-told what s G n free due (with_work o.state.to_stop dues o.state.follows o) h;
       closes = λ f o _ _ h. known-told what s G n free o h;
       answers = λ c r f o _ _ h. known-told what s G n free o h;
@@ -526,7 +526,7 @@ going-told what s G n free =
     }
 
 advance-told : (what : Kind) (s : State) (G : Item → Type 0) (n : Option ℕ) → IsNewNumber n s.rows → (o : Outcome) → AllKnown what s G o → AllTold what s G n (advance (unwrap_or n 0) o)
-advance-told what s G n free o h = advance-on (unwrap_or n 0) (λ _. AllKnown what s G) (AllTold what s G n) (going-told what s G n free) o (known-told what s G n free o h) (λ _ _. h)
+advance-told what s G n free o h = advance-on (unwrap_or n 0) (λ _. AllKnown what s G) (AllTold what s G n) (going-told what s G n free) o (λ _. known-told what s G n free o h) (λ _ _. h)
 
 ends_it : (x : Note) (p : ℕ) → end_number x ≡ Some p → is_ended p (waiting.Item (item.Note x)) ≡ true
 ends_it (note.Up _) p h = absurd (search (rules, h))

@@ -231,7 +231,7 @@ stop_first-in-turn g Q may ps n o r w d all =
       used-done g p rest place x (h.1 p (there (is_exit p) x.state.waiting (waiting.Retry 0) waits)) h.2,
       subst (λ (xs : List Effect). All Q xs) (sym (use_exit-quiet p place (with_stops rest x)).1) h.3,
     ))
-    (λ p rest x h. told-in-turn g Q may p rest x h.0 h.1 h.2 h.3) ps o (r, w, d, all)
+    (λ p rest x _ h. told-in-turn g Q may p rest x h.0 h.1 h.2 h.3) ps o (r, w, d, all)
 
 -- where nothing is awaited, those that were told have ended
 pub none_told : (q : ℕ) (rows : List Row) → rows_in is_awaited rows ≡ 0 → 0 < rows_in (is_told q) rows → ⊥
@@ -251,7 +251,7 @@ all-done s g none part = (part.0, part.1, part.2, λ q i. ⊎_elim (λ x. x) (λ
 
 advance-in-turn : (g : Progress) (Q : Effect → Type 0) (n : ℕ) (o : Outcome) → (list_any (row_has is_awaited) o.state.rows ≡ false → Allows g Q) → IsSound o.state → Keeps o.state g → All Q o.orders → InTurn g Q (advance n o)
 advance-in-turn g Q n o may sound keeps all =
-    advance-by (InTurn g Q) n o (keeps, all) (λ busy none.
+    advance-by (InTurn g Q) n o (λ _. (keeps, all)) (λ busy none.
     let zero : rows_in is_awaited o.state.rows ≡ 0 = none_in is_awaited o.state.rows none in
     let had : HasWaiting o.state g × HasStops o.state g = keeps busy in
     stop_first-in-turn g Q (may none) o.state.to_stop n o (sound, zero, refl, busy) had.0 (λ apart. all-done o.state g zero (had.1 apart)) all)

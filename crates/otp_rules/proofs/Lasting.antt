@@ -314,7 +314,7 @@ unfolding start start_row answer end_all refuse_all
 going-lasts D slot p n =
     record {
       uses = λ q rest o some g. (used-stops q rest o g.0, use_exit-lasts D slot p q o (with_stops rest o) refl refl some g.1);
-      tells = λ q rest o g. tell-lasts D slot p q (with_stops rest o) g.1;
+      tells = λ q rest o _ g. tell-lasts D slot p q (with_stops rest o) g.1;
       starts = λ due dues o _ g.
           let left : Outcome = with_work o.state.to_stop dues o.state.follows o in
           at_row-survives (Lasts D slot p) (is_due due) left (start_row due n) left g.1 g.1
@@ -322,12 +322,12 @@ going-lasts D slot p n =
       closes = λ f o _ _ g. g.1;
       answers = λ c r f o _ _ g. g.1;
       ready = λ o _ g. g.1;
-      ends = λ e o is g. (λ w. absurd (false≢true w), ⊎_elim (λ (some : 0 < lives slot p o.state.rows). absurd (omega (arith, some, none_lives slot p o g.0 (ap is_end is)))) (λ d. inr d) g.1.1);
+      ends = λ e o is g. (λ w. absurd (false≢true w), ⊎_elim (λ (some : 0 < lives slot p o.state.rows). absurd (omega (arith, some, none_lives slot p o g.0 (ap is_end is.0)))) (λ d. inr d) g.1.1);
     }
 
 advance-lasts : (D : Type 0) (slot p n : ℕ) (o : Outcome) → IsSound o.state → AreOne o → Finishes o.state → Lasts D slot p o → Lasts D slot p (advance n o)
 advance-lasts D slot p n o sound one finishes h =
-    advance-on n (λ ps x. Stops ps x × Lasts D slot p x) (Lasts D slot p) (going-lasts D slot p n) o h (λ busy none. (((sound, none_in is_awaited o.state.rows none, refl, busy), one, finishes), h))
+    advance-on n (λ ps x. Stops ps x × Lasts D slot p x) (Lasts D slot p) (going-lasts D slot p n) o (λ _. h) (λ busy none. (((sound, none_in is_awaited o.state.rows none, refl, busy), one, finishes), h))
 
 step-finishes : (m : ℕ) (s : State) (e : Event) → IsInOrder m s → Finishes (step s e).state
 unfolding step step_on

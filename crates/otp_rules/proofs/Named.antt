@@ -218,7 +218,7 @@ unfolding answer end_all refuse_all
 going-held n old =
     record {
       uses = λ p rest o _ h. use_exit-held n p (position (is_exit p) o.state.waiting) old (with_stops rest o) h;
-      tells = λ p rest o h. (tell-held n p old (with_stops rest o) h).1;
+      tells = λ p rest o _ h. (tell-held n p old (with_stops rest o) h).1;
       starts = λ due dues o _ h. start-held n old due (with_work o.state.to_stop dues o.state.follows o) h.1;
       closes = λ f o _ _ h. h.1;
       answers = λ c r f o _ _ h. All-push (IsHeld n old) o.orders (effect.Reply c) h.1 (unnamed n old (effect.Reply c) refl);
@@ -229,7 +229,7 @@ going-held n old =
     }
 
 advance-held : (n : ℕ) (old o : Outcome) → Held n old o → All (IsHeld n old) (advance n o).orders
-advance-held n old o h = advance-on n (λ _. Held n old) (λ x. All (IsHeld n old) x.orders) (going-held n old) o h.1 (λ _ _. h)
+advance-held n old o h = advance-on n (λ _. Held n old) (λ x. All (IsHeld n old) x.orders) (going-held n old) o (λ _. h.1) (λ _ _. h)
 
 -- the orders of an event name its own number or a process that a row had
 pub step-held : (s : State) (e : Event) → All (IsHeld (unwrap_or e.number 0) (record { state = stamped e.reading s; orders = [] })) (step s e).orders

@@ -287,11 +287,11 @@ stop_first-placed ps n =
       used-goes_on p rest o m.0,
       subst (λ (xs : List Effect). All NamesNone xs) (sym (use_exit-quiet p (position (is_exit p) o.state.waiting) (with_stops rest o)).1) m.1,
     ))
-    (λ p rest o m. tell-placed p (with_stops rest o) m.1) ps
+    (λ p rest o _ m. tell-placed p (with_stops rest o) m.1) ps
 
 advance-placed : (n : ℕ) (o : Outcome) → Stands o → ((q : ℕ) → rows_in (has_process q) o.state.rows ≤ 1) → Tells o → Placed (advance n o)
 advance-placed n o h one tells =
-    advance-by Placed n o (tells-placed o tells) (λ busy calm.
+    advance-by Placed n o (λ _. tells-placed o tells) (λ busy calm.
     let nothing : rows_in is_awaited o.state.rows ≡ 0 = none_in is_awaited o.state.rows calm in
     stop_first-placed o.state.to_stop n o (((h.0, nothing, refl, busy), one, h.1.0, h.1.1), tells-none o nothing tells))
 

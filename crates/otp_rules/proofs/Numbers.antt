@@ -223,7 +223,7 @@ unfolding answer end_all refuse_all
 going-grown n old =
     record {
       uses = λ p rest o _ h. use_exit-no_more p (position (is_exit p) o.state.waiting) old (with_stops rest o) h;
-      tells = λ p rest o h. inl (tell-no_more p old (with_stops rest o) h);
+      tells = λ p rest o _ h. inl (tell-no_more p old (with_stops rest o) h);
       starts = λ due dues o _ h. grown-chain n old (with_work o.state.to_stop dues o.state.follows o) (start due n (with_work o.state.to_stop dues o.state.follows o)) h (started-grown due n (with_work o.state.to_stop dues o.state.follows o));
       closes = λ f o _ _ h. inl h;
       answers = λ c r f o _ _ h. inl h;
@@ -232,7 +232,7 @@ going-grown n old =
     }
 
 advance-grown : (n : ℕ) (o : Outcome) → Grown n o (advance n o)
-advance-grown n o = advance-on n (λ _. NoMore o) (Grown n o) (going-grown n o) o (inl (λ q. omega arith)) (λ _ _ q. omega arith)
+advance-grown n o = advance-on n (λ _. NoMore o) (Grown n o) (going-grown n o) o (λ _. inl (λ q. omega arith)) (λ _ _ q. omega arith)
 
 pub decided-distinct : (m : ℕ) (s : State) (e : Event) → IsDistinct m s → IsDistinct m (decided s e)
 decided-distinct m s e d =

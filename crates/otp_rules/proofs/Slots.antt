@@ -321,7 +321,7 @@ unfolding start start_row answer end_all refuse_all
 going-slots n =
     record {
       uses = λ p rest o _ h. use_exit-slots p (position (is_exit p) o.state.waiting) (with_stops rest o) h;
-      tells = λ p rest o h. tell-slots p (with_stops rest o) h;
+      tells = λ p rest o _ h. tell-slots p (with_stops rest o) h;
       starts = λ due dues o _ h.
           let left : Outcome = with_work o.state.to_stop dues o.state.follows o in
           at_row-survives AllSlotted (is_due due) left (start_row due n) left h h (λ i row at has. set-slotted i row (Starting n (unwrap_or due.kept n)) o.state.rows at h);
@@ -337,7 +337,7 @@ step-slots s e few h =
     let start : Outcome = record { state = stamped e.reading s; orders = [] } in
     let n : ℕ = unwrap_or e.number 0 in
     let d : AllSlotted (decide e.kind start) = decide-survives_event e.kind (λ (i : Item). Unit {0}) start AllSlotted (slots-survive e.kind (λ (i : Item). Unit {0}) start few) (λ i b idle. tt) h in
-    advance-on n (λ _. AllSlotted) AllSlotted (going-slots n) (decide e.kind start) d (λ _ _. d)
+    advance-on n (λ _. AllSlotted) AllSlotted (going-slots n) (decide e.kind start) (λ _. d) (λ _ _. d)
 
 pub run-slots : (s : State) (es : List Event) → length s.specs ≤ MAX_CHILDREN → Slotted s.rows → Slotted (state_after s es).rows
 run-slots s [] few h = h

@@ -369,7 +369,7 @@ unfolding answer end_all refuse_all
 going-sound n =
     record {
       uses = λ p rest o _ r. used-ready p rest (position (is_exit p) o.state.waiting) o r;
-      tells = λ p rest o r. told-sound p rest o r;
+      tells = λ p rest o _ r. told-sound p rest o r;
       starts = λ due dues o is r. ordered-sound due dues n o is r;
       closes = λ f o _ _ r. closed-sound o r.1;
       answers = λ c x f o _ _ r. closed-sound o r.1;
@@ -379,7 +379,7 @@ going-sound n =
 
 pub advance-sound : (n : ℕ) (o : Outcome) → IsSound o.state → IsSound (advance n o).state
 advance-sound n o g =
-    advance-on n IsReady (λ x. IsSound x.state) (going-sound n) o g (λ busy none. (g, none_in is_awaited o.state.rows none, refl, busy))
+    advance-on n IsReady (λ x. IsSound x.state) (going-sound n) o (λ _. g) (λ busy none. (g, none_in is_awaited o.state.rows none, refl, busy))
 
 pub empty-sound : (flags : SupFlags) (specs : List ChildSpec) → IsSound (empty_state flags specs)
 empty-sound flags specs = (refl, covered-none [] [] refl, λ _. (refl, refl), λ _. refl, λ _. refl, λ _. refl)

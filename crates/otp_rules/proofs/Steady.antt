@@ -81,17 +81,17 @@ going-on : (P : Outcome → Type 0) → Goes P → (n : ℕ) → GoesOn n (λ _.
 going-on P t n =
     record {
       uses = λ p rest o _ x. use_exit-goes P t p (position (is_exit p) o.state.waiting) (with_stops rest o) (t.left rest o.state.to_start o x);
-      tells = λ p rest o x. tell-goes P t p (with_stops rest o) (t.left rest o.state.to_start o x);
+      tells = λ p rest o _ x. tell-goes P t p (with_stops rest o) (t.left rest o.state.to_start o x);
       starts = λ due dues o _ x. start-goes P t due n _ (t.left o.state.to_stop dues o x);
-      closes = t.closes;
-      answers = λ c r f o is stays x. t.answered c r (closed o) (t.closes f o is stays x);
-      ready = λ o is x. t.ready (closed o) (t.closes sequel.Ready o is refl x);
-      ends = t.ended;
+      closes = λ f o last stays x. t.closes f o last.0 stays x;
+      answers = λ c r f o last stays x. t.answered c r (closed o) (t.closes f o last.0 stays x);
+      ready = λ o last x. t.ready (closed o) (t.closes sequel.Ready o last.0 refl x);
+      ends = λ e o last x. t.ended e o last.0 x;
     }
 
 pub advance-goes : (P : Outcome → Type 0) → Goes P → (n : ℕ) (o : Outcome) → P o → P (advance n o)
 advance-goes P t n o x =
-    advance-on n (λ _. P) P (going-on P t n) o x (λ _ _. x)
+    advance-on n (λ _. P) P (going-on P t n) o (λ _. x) (λ _ _. x)
 
 stop_each-goes : (P : Outcome → Type 0) → Goes P → (ps : List ℕ) (o : Outcome) → P o → P (stop_each ps o)
 stop_each-goes P t = stop_each-by P (λ p o _ x. use_exit-goes P t p (position (is_exit p) o.state.waiting) o x) (λ p o _ x. tell-goes P t p o x)

@@ -221,7 +221,7 @@ unfolding start start_row answer end_all refuse_all
 going-left n old =
     record {
       uses = λ p rest o _ h. use_exit-same p o (with_stops rest o) refl ∙ h;
-      tells = λ p rest o h. inl (tell-same p (with_stops rest o) ∙ h);
+      tells = λ p rest o _ h. inl (tell-same p (with_stops rest o) ∙ h);
       starts = λ due dues o _ h. let left : Outcome = with_work o.state.to_stop dues o.state.follows o in inl (at_row-survives (Same old) (is_due due) left (start_row due n) left h h (λ i row at has. h));
       closes = λ f o _ _ h. inl h;
       answers = λ c r f o _ _ h. inl h;
@@ -230,7 +230,7 @@ going-left n old =
     }
 
 advance-left : (n : ℕ) (o : Outcome) → Left o (advance n o)
-advance-left n o = advance-on n (λ _. Same o) (Left o) (going-left n o) o (inl refl) (λ _ _. refl)
+advance-left n o = advance-on n (λ _. Same o) (Left o) (going-left n o) o (λ _. inl refl) (λ _ _. refl)
 
 stamped-left : (k : Kind) (reading : ℕ) (s : State) → starts_left k (stamped reading s) ≡ starts_left k s
 stamped-left (kind.Opened own) reading s = refl
