@@ -1,5 +1,5 @@
 -- While a child is stopped for a call, no start is awaited, and none is to come.
-use Rattle.std.specs.Prelude.{◌≡◌, ℕ, ◌+◌, ◌++◌, Bool, true, false, List, [], ◌∷◌, Option, None, Some, refl, position, is_some, slice_set, unwrap_or}
+use Rattle.std.specs.Prelude.{◌≡◌, ℕ, ◌+◌, ◌++◌, Bool, true, false, [], ◌∷◌, Option, None, Some, refl, position, is_some, slice_set, unwrap_or}
 use Rattle.std.proofs.Common.{◌∙◌, ap, sym, arith, cond}
 use Rattle.std.proofs.lemmas.Bool.{false≢true}
 use Rattle.otp_table.specs.declared.row.Row.{Row}
@@ -19,7 +19,6 @@ use Rattle.otp_rules.specs.Places.{end_row, end_process, set_row}
 use Rattle.otp_rules.specs.Stops.{is_exit, without, told, tell_row, tell, use_exit, terminate}
 use Rattle.otp_rules.specs.Starts.{is_due, start_row, start}
 use Rattle.otp_rules.specs.Ends.{end_all, refuse_all}
-use Rattle.otp_rules.specs.Work.{follow, start_first, stop_first, advance}
 use Rattle.otp_rules.specs.Deaths.{restart_rows, restart}
 use Rattle.otp_rules.specs.Step.{open_rows, open_with, tick, decide, stamped, step, step_on}
 use Rattle.otp_rules.specs.Fit.{rows_in, IsSound}

@@ -1,6 +1,6 @@
 -- Open work goes on: what each of its steps makes of an outcome, the whole makes of it. One walk, for all laws that ask
 -- what `advance` does; a law is a record of the steps.
-use Rattle.std.specs.Prelude.{◌≡◌, ℕ, Bool, true, false, List, [], ◌∷◌, Option, None, Some, refl, position, is_some}
+use Rattle.std.specs.Prelude.{◌≡◌, ℕ, true, false, List, [], ◌∷◌, Option, None, Some, refl, position, is_some}
 use Rattle.std.specs.List.{list_any}
 use Rattle.std.proofs.Common.{◌∙◌, ap}
 use Rattle.std.proofs.lemmas.Bool.{false≢true}

@@ -1,16 +1,15 @@
 -- An end that waits was taken while a child had its process.
-use Rattle.std.specs.Prelude.{◌≡◌, ◌⊎◌, ℕ, ◌==◌, ◌<◌, ◌++◌, ◌||◌, Bool, true, false, List, [], ◌∷◌, Option, None, Some, refl, if◌then◌else◌, position, is_some, slice_get, unwrap_or}
+use Rattle.std.specs.Prelude.{◌≡◌, ◌⊎◌, ℕ, ◌==◌, ◌<◌, ◌++◌, ◌||◌, Bool, true, false, List, [], ◌∷◌, Option, None, Some, refl, position, is_some, slice_get, unwrap_or}
 use Rattle.std.specs.List.{cons_option, list_any}
 use Rattle.std.proofs.Common.{◌∙◌, ap, sym, subst, inl, inr, arith, ⊎_elim, cond}
 use Rattle.std.proofs.lemmas.Bool.{false≢true, cases_Bool, eq-eqb, eqb-true}
 use Rattle.std.proofs.lemmas.List.Folds.{list_any-append}
 use Rattle.std.proofs.lemmas.Option.{get_or_from_slice_get, slice_get_within}
-use Prim.Native.Nat.{suc}
 use Rattle.otp_reason.specs.declared.reason.Reason.{Reason}
 use Rattle.otp_reason.specs.declared.note.Note.TheVariants as note
 use Rattle.otp_table.specs.declared.row.Row.{Row}
 use Rattle.otp_table.specs.declared.row.RowState.TheVariants.{Undefined}
-use Rattle.otp_table.specs.Rows.{has_process, is_awaited, row_has}
+use Rattle.otp_table.specs.Rows.{has_process}
 use Rattle.otp_rules.specs.declared.call.Reply.{Reply}
 use Rattle.otp_rules.specs.declared.ending.Ending.{Ending}
 use Rattle.otp_rules.specs.declared.ending.Ending.TheVariants as ending
@@ -21,18 +20,16 @@ use Rattle.otp_rules.specs.declared.event.Kind.{Kind}
 use Rattle.otp_rules.specs.declared.event.Kind.TheVariants as kind
 use Rattle.otp_rules.specs.declared.event.Waiting.{Waiting}
 use Rattle.otp_rules.specs.declared.event.Waiting.TheVariants as waiting
-use Rattle.otp_rules.specs.declared.work.Sequel.{Sequel}
 use Rattle.otp_rules.specs.declared.work.Sequel.TheVariants as sequel
-use Rattle.otp_rules.specs.declared.work.Due.{Due}
-use Rattle.otp_rules.specs.State.{Outcome, State, answer, is_busy, is_over, with_stamps, with_work}
-use Rattle.otp_rules.specs.Places.{at_number, end_row, set_row}
+use Rattle.otp_rules.specs.State.{Outcome, State, answer, with_stamps, with_work}
+use Rattle.otp_rules.specs.Places.{end_row, set_row}
 use Rattle.otp_rules.specs.Restarts.{running}
 use Rattle.otp_rules.specs.Stops.{calm_all, is_exit, without, tell_row, tell, use_exit, stop_each, terminate}
 use Rattle.otp_rules.specs.Starts.{is_due, start_row, start}
 use Rattle.otp_rules.specs.Ends.{refuse_all, end_all}
-use Rattle.otp_rules.specs.Work.{follow, start_first, stop_first, advance}
-use Rattle.otp_rules.specs.Deaths.{exit_in, restart_rows, restart, take_exit}
-use Rattle.otp_rules.specs.Step.{open_rows, open_with, take_item, take_note, tick, decide, stamped, step, step_on}
+use Rattle.otp_rules.specs.Work.{advance}
+use Rattle.otp_rules.specs.Deaths.{restart_rows, restart}
+use Rattle.otp_rules.specs.Step.{open_rows, open_with, tick, decide, stamped, step, step_on}
 use Rattle.otp_rules.specs.Run.{empty_state, state_after}
 use Rattle.otp_rules.specs.Needs.{IsNumbered, is_start, needs_number, numbers_of}
 use Rattle.otp_rules.specs.Homes.{Brings, IsFirst, is_ended}
@@ -42,8 +39,8 @@ use Rattle.otp_rules.specs.InOrder.{AreGiven}
 use Rattle.otp_rules.specs.Lives.{EndsAreHeard, EndsTellStarted, EndsTellStartedFrom, IsHeld, TakesEnd}
 use Rattle.otp_rules.proofs.GoesOn.{GoesOn, advance-on}
 use Rattle.otp_rules.proofs.Walks.{restart-by, stop_each-by, terminate-by, with_stops}
-use Rattle.otp_rules.proofs.Decisions.{BringsExit, IsUnmoved, SurvivesEvent, StandsAt, at_row-survives, at_number-survives, by_test, decide-survives, decide-survives_event}
-use Rattle.otp_rules.proofs.Counting.{end_row-quiet, none_in, rows_in-at, times-append, times-cons, use_exit-quiet}
+use Rattle.otp_rules.proofs.Decisions.{BringsExit, IsUnmoved, SurvivesEvent, StandsAt, at_row-survives, at_number-survives, decide-survives, decide-survives_event}
+use Rattle.otp_rules.proofs.Counting.{end_row-quiet, times-append, times-cons, use_exit-quiet}
 use Rattle.otp_rules.proofs.Homes.{none_has, or_cases, or_right, quiet_more, without_less}
 use Rattle.otp_rules.proofs.Finishing.{zero_or_more}
 use Rattle.otp_rules.proofs.Numbers.{NoMore, no_more-survives, step-grown}

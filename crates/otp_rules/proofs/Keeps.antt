@@ -1,15 +1,11 @@
 -- What no event changes: flags, specifications and the last stamp; and no restart is stamped later than that.
-use Rattle.std.specs.Prelude.{◌≡◌, ℕ, ◌≤◌, ◌++◌, Bool, List, [], ◌∷◌, Option, None, Some, All, refl, max}
+use Rattle.std.specs.Prelude.{◌≡◌, ℕ, ◌≤◌, ◌++◌, Bool, List, [], ◌∷◌, All, refl, max}
 use Rattle.std.proofs.Common.{arith}
 use Rattle.std.proofs.lemmas.List.Elements.{All-nil, All-push}
-use Rattle.otp_rules.specs.declared.call.Reply.{Reply}
 use Rattle.otp_rules.specs.declared.event.Event.{Event}
 use Rattle.otp_rules.specs.declared.event.Kind.{Kind}
-use Rattle.otp_rules.specs.declared.work.Sequel.{Sequel}
-use Rattle.otp_rules.specs.declared.work.Sequel.TheVariants as sequel
 use Rattle.otp_rules.specs.State.{Outcome, State, answer, is_busy, with_stamps}
 use Rattle.otp_rules.specs.Ends.{refuse_all, end_all}
-use Rattle.otp_rules.specs.Work.{follow}
 use Rattle.otp_rules.specs.Step.{open_with, open_rows, tick, decide, stamped, step}
 use Rattle.otp_rules.proofs.Decisions.{decide-survives}
 use Rattle.otp_rules.proofs.Steady.{Steady, steady-survives, step-steady}

@@ -1,5 +1,5 @@
 -- Between two events open work awaits an answer, so that an event that ticks does nothing but kill late children.
-use Rattle.std.specs.Prelude.{◌≡◌, ℕ, ◌+◌, ◌≤◌, ◌<◌, Bool, true, List, [], ◌∷◌, Option, None, Some, All, Contains, refl, if◌then◌else◌, is_some, max, nat_le, slice_set, unwrap_or}
+use Rattle.std.specs.Prelude.{◌≡◌, ℕ, ◌+◌, ◌≤◌, ◌<◌, Bool, true, List, [], ◌∷◌, Option, None, Some, All, Contains, refl, is_some, max, nat_le, slice_set, unwrap_or}
 use Rattle.std.specs.List.{cons_option, filter_map, list_any}
 use Rattle.std.proofs.Common.{◌∙◌, ap, sym, subst, arith, cond, ⊎_elim}
 use Rattle.std.proofs.lemmas.Bool.{cases_Bool, cond_both, false≢true, leb-true, or_cases}
@@ -17,7 +17,7 @@ use Rattle.otp_rules.specs.declared.event.Event.{Event}
 use Rattle.otp_rules.specs.declared.event.Kind.{Kind}
 use Rattle.otp_rules.specs.declared.event.Kind.TheVariants as kind
 use Rattle.otp_rules.specs.declared.work.Due.{Due}
-use Rattle.otp_rules.specs.State.{Outcome, State, is_busy, with_work}
+use Rattle.otp_rules.specs.State.{Outcome, State, with_work}
 use Rattle.otp_rules.specs.Places.{at_number}
 use Rattle.otp_rules.specs.Stops.{tell, tell_row, told}
 use Rattle.otp_rules.specs.Starts.{is_due, start, start_row}
@@ -30,7 +30,7 @@ use Rattle.otp_rules.specs.InOrder.{Awaits, WorkAwaits}
 use Rattle.otp_rules.specs.Late.{KillsLate, TicksKillLate, TicksKillLateFromEmpty}
 use Rattle.otp_rules.proofs.Opened.{tick-follows}
 use Rattle.otp_rules.proofs.Walks.{advance-by, stop_first-by, with_stops}
-use Rattle.otp_rules.proofs.Decisions.{StandsAt, by_test, decide-survives}
+use Rattle.otp_rules.proofs.Decisions.{StandsAt, decide-survives}
 use Rattle.otp_rules.proofs.Counting.{at_row-first, at_row-found, none_in, rows_in-at, rows_in-cons, rows_in-set, tick_count}
 use Rattle.otp_rules.proofs.InTurn.{follow-closes, stands}
 use Rattle.otp_rules.proofs.Numbers.{decided-distinct}

@@ -1,10 +1,10 @@
 -- Work that has just been opened has the lists of the children that it is about.
-use Rattle.std.specs.Prelude.{◌≡◌, ◌⊎◌, ℕ, ◌==◌, ◌+◌, ◌-◌, ◌≤◌, ◌<◌, ◌++◌, Bool, true, false, List, [], ◌∷◌, Option, None, Some, refl, not, is_some, slice_get, slice_set, slice_range, nat_lt, length, remove, map, filter, reverse, take, drop}
+use Rattle.std.specs.Prelude.{◌≡◌, ℕ, ◌==◌, ◌+◌, ◌-◌, ◌≤◌, ◌<◌, ◌++◌, Bool, true, false, List, [], ◌∷◌, Option, None, Some, refl, not, slice_get, slice_set, slice_range, nat_lt, length, map, filter, reverse, take, drop}
 use Rattle.std.specs.List.{cons_option}
 use Rattle.std.specs.Option.{option_eq}
 use Rattle.std.specs.Ordering.{on}
 use Rattle.std.specs.Str.{bytes_eq}
-use Rattle.std.proofs.Common.{◌∙◌, ap, sym, subst, inl, inr, arith, ⊎_elim, cond}
+use Rattle.std.proofs.Common.{◌∙◌, ap, sym, subst, arith, ⊎_elim, cond}
 use Rattle.std.proofs.lemmas.Bool.{false≢true, cases_Bool, eq-eqb, eqb-true, ltb-true, ltb-false}
 use Rattle.std.proofs.lemmas.List.{append-nil, append_assoc, map-append, drop_all, drop_at, take_at, length-take-le, length-drop, length-append, length-map}
 use Rattle.std.proofs.lemmas.List.Elements.{filter-append, filter_map-append}
@@ -22,31 +22,23 @@ use Rattle.otp_table.specs.declared.row.Row.{Row}
 use Rattle.otp_table.specs.declared.row.RowState.{RowState}
 use Rattle.otp_table.specs.declared.row.RowState.TheVariants.{Undefined, Starting, Up, Asked, Killed, Restarting}
 use Rattle.otp_table.specs.Rows.{free_slot, is_awaited, with_state, calm_rows, calmed, up_number}
-use Rattle.otp_rules.specs.declared.call.Reply.{Reply}
 use Rattle.otp_rules.specs.declared.ending.Ending.{Ending}
-use Rattle.otp_rules.specs.declared.event.Event.{Event}
-use Rattle.otp_rules.specs.declared.event.Kind.{Kind}
-use Rattle.otp_rules.specs.declared.event.Kind.TheVariants as kind
 use Rattle.otp_rules.specs.declared.work.Due.{Due}
 use Rattle.otp_rules.specs.declared.work.Sequel.{Sequel}
 use Rattle.otp_spec.specs.Flags.{is_simple}
-use Rattle.otp_rules.specs.State.{Outcome, State, answer, closed, put_last, with_rows, with_work}
-use Rattle.otp_rules.specs.Places.{end_row, is_temporary, set_row}
+use Rattle.otp_rules.specs.State.{Outcome, State, with_rows, with_work}
+use Rattle.otp_rules.specs.Places.{is_temporary}
 use Rattle.otp_rules.specs.Restarts.{affected_from, affected_to, dues, restart_list, running}
 use Rattle.otp_rules.specs.Stops.{calm_all, stop_each, terminate_ordered, terminate_together, terminate}
 use Rattle.otp_rules.specs.Deaths.{restart_rows}
 use Rattle.otp_rules.specs.Calls.{new_row}
-use Rattle.otp_rules.specs.Step.{due_of, rows_from, open_with, open_rows, opening_specs, tick, decide, stamped}
-use Rattle.otp_rules.specs.Progress.{is_opened, ends_together, decided, affected, comes_back, id_bytes, is_end, process_number, processes, start_list, IsIn}
-use Rattle.otp_rules.specs.Fit.{is_told, rows_in, times, IsLimited, IsSound}
-use Rattle.otp_rules.proofs.Decisions.{StandsAt, Survives, by_test, decide-survives}
-use Rattle.otp_rules.proofs.Counting.{times-cons, rows_in-cons, rows_in-set, rows_in-at, Alike, end_row-alike, alike, stop_each-alike, take_rows, drop_rows, calm_awaited}
-use Rattle.otp_rules.proofs.Sound.{sound-survives}
+use Rattle.otp_rules.specs.Step.{due_of, rows_from, open_with, open_rows, opening_specs, tick}
+use Rattle.otp_rules.specs.Progress.{is_opened, ends_together, affected, comes_back, id_bytes, process_number, processes, start_list, IsIn}
+use Rattle.otp_rules.specs.Fit.{is_told, rows_in, times}
+use Rattle.otp_rules.proofs.Decisions.{StandsAt, by_test}
+use Rattle.otp_rules.proofs.Counting.{times-cons, rows_in-cons, rows_in-set, stop_each-alike, take_rows, drop_rows}
 use Rattle.otp_rules.proofs.Fitted.{affected_from_le, affected_to_more, slice_split}
 use Rattle.otp_rules.proofs.Stopping.{apart-alike}
-use Rattle.otp_rules.proofs.WhileOpen.{Tracks, fails_opening, terminate-follows}
-use Rattle.otp_rules.specs.declared.ending.Ending.TheVariants as ending
-use Rattle.otp_rules.specs.declared.event.Waiting.TheVariants as waiting
 use Rattle.otp_rules.specs.declared.work.Sequel.TheVariants as sequel
 
 -- work of these children has just been opened: to be stopped are their processes, of which none stands later among the

@@ -4,7 +4,6 @@ use Rattle.std.proofs.Common.{◌∙◌, ap, sym, subst, inl, inr, ⊎_elim, ari
 use Rattle.std.proofs.lemmas.Bool.{false≢true, ltb-false}
 use Rattle.std.proofs.lemmas.List.Elements.{All-nil, All-push}
 use Rattle.otp_spec.specs.declared.flags.SupFlags.{SupFlags}
-use Rattle.otp_rules.specs.declared.call.Reply.{Reply}
 use Rattle.otp_rules.specs.declared.ending.Ending.{Ending}
 use Rattle.otp_rules.specs.declared.event.Event.{Event}
 use Rattle.otp_rules.specs.declared.event.Kind.{Kind}
@@ -12,7 +11,6 @@ use Rattle.otp_rules.specs.declared.work.Sequel.{Sequel}
 use Rattle.otp_rules.specs.declared.work.Phase.TheVariants.{Ended}
 use Rattle.otp_rules.specs.State.{Outcome, State, answer, is_over, own_number}
 use Rattle.otp_rules.specs.Ends.{refuse_all, end_all}
-use Rattle.otp_rules.specs.Work.{follow}
 use Rattle.otp_rules.specs.Step.{open_with, open_rows, tick, step}
 use Rattle.otp_rules.specs.Run.{state_after}
 use Rattle.otp_rules.specs.Frames.{IsStamped}

@@ -23,7 +23,6 @@ use Rattle.otp_rules.specs.Places.{end_row, set_row}
 use Rattle.otp_rules.specs.Restarts.{affected_from, affected_to}
 use Rattle.otp_rules.specs.Stops.{terminate}
 use Rattle.otp_rules.specs.Ends.{refuse_all, end_all}
-use Rattle.otp_rules.specs.Work.{follow}
 use Rattle.otp_rules.specs.Deaths.{restart_rows, restart}
 use Rattle.otp_rules.specs.Calls.{new_row}
 use Rattle.otp_rules.specs.Step.{open_with, open_rows, opening_specs, tick, decide, stamped, step, step_on}

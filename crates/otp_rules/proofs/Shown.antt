@@ -26,7 +26,6 @@ use Rattle.otp_rules.specs.State.{Outcome, State, answer, closed}
 use Rattle.otp_rules.specs.Ends.{last_stamps, sup_end_of, refusal, refuse_all, end_all}
 use Rattle.otp_rules.specs.Evidence.{EndEvidence, EndEvidenceFromEmpty, IsShowing, IsEvidence, IsEvident, IsTooMany}
 use Rattle.otp_rules.specs.Stops.{stop_order}
-use Rattle.otp_rules.specs.Work.{follow}
 use Rattle.otp_rules.specs.Step.{open_with, open_rows, kill_order, late_number, tick, step}
 use Rattle.otp_rules.specs.Run.{empty_state}
 use Rattle.otp_rules.specs.Progress.{is_end}

@@ -20,7 +20,7 @@ use Rattle.otp_rules.specs.Restarts.{affected_from, affected_to, dues, running}
 use Rattle.otp_rules.specs.Stops.{calm_all, is_exit, without, told, tell_row, tell, use_exit, stop_each, terminate}
 use Rattle.otp_rules.specs.Starts.{is_due, start_row, start}
 use Rattle.otp_rules.specs.Ends.{refuse_all, end_all}
-use Rattle.otp_rules.specs.Work.{follow, start_first, stop_first, advance}
+use Rattle.otp_rules.specs.Work.{advance}
 use Rattle.otp_rules.specs.Deaths.{restart_rows, restart}
 use Rattle.otp_rules.specs.Calls.{new_row}
 use Rattle.otp_rules.specs.Step.{rows_from, open_with, open_rows, opening_specs, tick}

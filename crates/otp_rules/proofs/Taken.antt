@@ -1,5 +1,5 @@
 -- Work that an event opens is that of the children which what it takes names, and stays in step.
-use Rattle.std.specs.Prelude.{◌≡◌, ◌⊎◌, ℕ, not, ◌+◌, ◌≤◌, ◌<◌, ◌++◌, Bool, true, false, List, [], ◌∷◌, Option, None, Some, get_or, refl, if◌then◌else◌, max, position, is_some, slice_get, slice_set, slice_range, nat_le, nat_lt, length, remove, map, take, drop, unwrap_or, ◌&&◌, ◌||◌, count_by}
+use Rattle.std.specs.Prelude.{◌≡◌, ◌⊎◌, ℕ, not, ◌+◌, ◌≤◌, ◌<◌, ◌++◌, Bool, true, false, List, [], ◌∷◌, Option, None, Some, get_or, refl, max, position, is_some, slice_get, slice_set, slice_range, nat_lt, length, remove, map, take, drop, unwrap_or, ◌&&◌, ◌||◌, count_by}
 use Rattle.std.specs.List.{list_any}
 use Rattle.std.proofs.Common.{◌∙◌, ap, sym, subst, inl, inr, ⊎_elim, arith, cond}
 use Rattle.std.proofs.lemmas.Bool.{and_parts, false≢true, eq-eqb, eqb-true, cond_both}
@@ -12,7 +12,6 @@ use Rattle.std.proofs.lemmas.Slice.Eq.{bytes_eq-Decides}
 use Rattle.otp_reason.specs.declared.name.Name.{Name}
 use Rattle.otp_reason.specs.Names.{name_bytes}
 use Rattle.otp_reason.specs.declared.reason.Reason.{Reason}
-use Rattle.otp_reason.specs.declared.note.Note.{Note}
 use Rattle.otp_reason.specs.declared.note.Note.TheVariants as note
 use Rattle.otp_reason.specs.Quiet.{is_quiet}
 use Rattle.otp_spec.specs.declared.child.ChildSpec.{ChildSpec}
@@ -21,11 +20,7 @@ use Rattle.otp_spec.specs.declared.flags.AutoShutdown.{AutoShutdown}
 use Rattle.otp_spec.specs.declared.flags.AutoShutdown.TheVariants.{Never, AnySignificant, AllSignificant}
 use Rattle.otp_spec.specs.declared.child.Restart.{Restart}
 use Rattle.otp_spec.specs.declared.child.Restart.TheVariants.{Permanent, Transient, Temporary}
-use Rattle.otp_spec.specs.declared.fault.SpecFault.{SpecFault}
 use Rattle.otp_spec.specs.declared.flags.Strategy.{Strategy}
-use Rattle.otp_spec.specs.declared.limits.TheConstants.{MAX_CHILDREN}
-use Rattle.otp_spec.specs.Flags.{is_simple}
-use Rattle.otp_spec.specs.Lawful.{first_fault}
 use Rattle.otp_table.specs.declared.row.Row.{Row}
 use Rattle.otp_table.specs.declared.row.RowState.{RowState}
 use Rattle.otp_table.specs.declared.row.RowState.TheVariants.{Undefined, Starting, Up, Asked, Killed, Restarting}
@@ -33,10 +28,6 @@ use Rattle.otp_table.specs.Rows.{awaits_retry, calm_rows, calmed, free_slot, has
 use Rattle.otp_window.specs.Period.{in_period}
 use Rattle.otp_rules.specs.declared.call.Call.{Call}
 use Rattle.otp_rules.specs.declared.call.Call.TheVariants as call
-use Rattle.otp_rules.specs.declared.call.CallFault.{CallFault}
-use Rattle.otp_rules.specs.declared.call.CallFault.TheVariants as fault
-use Rattle.otp_rules.specs.declared.call.Reply.{Reply}
-use Rattle.otp_rules.specs.declared.call.Reply.TheVariants as reply
 use Rattle.otp_rules.specs.declared.ending.Ending.{Ending}
 use Rattle.otp_rules.specs.declared.ending.Ending.TheVariants as ending
 use Rattle.otp_rules.specs.declared.event.Event.{Event}
@@ -50,18 +41,16 @@ use Rattle.otp_rules.specs.declared.work.Sequel.{Sequel}
 use Rattle.otp_rules.specs.declared.work.Sequel.TheVariants as sequel
 use Rattle.otp_rules.specs.State.{Outcome, State, answer, closed, put_last, with_rows, with_stamps, with_waiting, with_work}
 use Rattle.otp_rules.specs.Homes.{Brings}
-use Rattle.otp_rules.specs.Places.{at_number, end_row, set_row, is_removed}
-use Rattle.otp_rules.specs.Counts.{counts_of, which_of}
+use Rattle.otp_rules.specs.Places.{end_row, set_row, is_removed}
 use Rattle.otp_rules.specs.Restarts.{affected_from, affected_to, ends_by_significance, is_restarted}
 use Rattle.otp_rules.specs.Stops.{terminate}
-use Rattle.otp_rules.specs.Deaths.{after_end, death, exit_in, restart, restart_or_end, restart_rows, retry, take_exit}
-use Rattle.otp_rules.specs.Starts.{failed_after, take_failed, take_ignored, take_up, up_after}
-use Rattle.otp_rules.specs.Calls.{add_child, call_at, call_child, carry_out, fault_at, get_childspec, get_shared, is_named, new_row, start_checked, start_child, start_dynamic, start_lawful, start_shared, stop_child, stop_process, take_call, terminate_process, unless_refused}
-use Rattle.otp_rules.specs.Step.{ask, decide, open_rows, resume, stamped, step, step_on, take_item, take_note, take_waiting, tick}
+use Rattle.otp_rules.specs.Deaths.{restart, restart_or_end, restart_rows}
+use Rattle.otp_rules.specs.Calls.{new_row}
+use Rattle.otp_rules.specs.Step.{decide, open_rows, stamped, step, step_on, tick}
 use Rattle.otp_rules.specs.Run.{empty_state, state_after}
-use Rattle.otp_rules.specs.Progress.{Progress, affected, decided, ended_by, ends_together, id_bytes, is_end, is_opened, opened_now, process_number, seen, taken, went_on, AsksForChild, ComesBackAfter, HasDied, HasId, HasProcess, IsAbout, IsCall, IsExit, IsFirstRow, IsPart, IsRestarted, IsTriedAgain, Terminates, WaitsRetry}
+use Rattle.otp_rules.specs.Progress.{Progress, affected, decided, ended_by, ends_together, id_bytes, is_end, is_opened, opened_now, process_number, seen, taken, went_on, ComesBackAfter, HasDied, HasId, HasProcess, IsAbout, IsCall, IsFirstRow, IsPart, IsRestarted, IsTriedAgain, Terminates, WaitsRetry}
 use Rattle.otp_rules.specs.Fit.{rows_in, HasPart, HasStops, HasWaiting, IsLimited, IsListed, IsSound, Keeps}
-use Rattle.otp_rules.specs.Taken.{EndIsForTaken, EndIsForTakenFromEmpty, EndsBySignificance, EndsForTaken, IsEndedBy, WorkIsForTaken, WorkIsForTakenFromEmpty}
+use Rattle.otp_rules.specs.Taken.{EndIsForTaken, EndIsForTakenFromEmpty, EndsBySignificance, IsEndedBy, WorkIsForTaken, WorkIsForTakenFromEmpty}
 use Rattle.otp_rules.proofs.Decisions.{BringsStart, BringsStop, Dies, EndsFor, IsFirstAt, IsUnmoved, OpensNothing, StandsAt, SurvivesEvent, TriesAgain, by_test, decide-survives, decide-survives_event, first_passes}
 use Rattle.otp_rules.proofs.Counting.{end_row-alike, rows_in-end, times-append}
 use Rattle.otp_rules.proofs.Fitted.{affected_from_le, affected_to_more}

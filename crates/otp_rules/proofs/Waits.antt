@@ -1,5 +1,5 @@
 -- What becomes of the start calls that wait.
-use Rattle.std.specs.Prelude.{◌≡◌, ◌⊎◌, ℕ, ◌<◌, ◌++◌, ◌&&◌, not, Bool, true, false, List, [], ◌∷◌, Option, None, Some, refl, if◌then◌else◌, position, is_some, length, remove, unwrap_or, drop, slice_get}
+use Rattle.std.specs.Prelude.{◌≡◌, ◌⊎◌, ℕ, ◌<◌, ◌++◌, ◌&&◌, not, Bool, true, false, List, [], ◌∷◌, Option, None, Some, refl, if◌then◌else◌, position, length, remove, unwrap_or, drop, slice_get}
 use Rattle.std.specs.List.{cons_option}
 use Rattle.std.proofs.Common.{◌∙◌, ap, sym, inl, inr, arith, ⊎_elim, rules, get_or, append-nil}
 use Rattle.std.proofs.lemmas.Bool.{false≢true, cond_both}
@@ -20,8 +20,6 @@ use Rattle.otp_rules.specs.declared.event.Kind.{Kind}
 use Rattle.otp_rules.specs.declared.event.Kind.TheVariants as kind
 use Rattle.otp_rules.specs.declared.event.Waiting.{Waiting}
 use Rattle.otp_rules.specs.declared.event.Waiting.TheVariants as waiting
-use Rattle.otp_rules.specs.declared.work.Due.{Due}
-use Rattle.otp_rules.specs.declared.work.Sequel.{Sequel}
 use Rattle.otp_rules.specs.declared.work.Sequel.TheVariants as sequel
 use Rattle.otp_rules.specs.State.{Outcome, State, answer, is_busy, is_over, put_last, with_stamps, with_waiting, with_work}
 use Rattle.otp_rules.specs.Places.{end_row, set_row}
@@ -29,7 +27,7 @@ use Rattle.otp_rules.specs.Restarts.{running}
 use Rattle.otp_rules.specs.Stops.{calm_all, is_exit, without, tell_row, tell, use_exit, stop_each, terminate}
 use Rattle.otp_rules.specs.Starts.{is_due, start_row, start}
 use Rattle.otp_rules.specs.Ends.{refuse_all, end_all}
-use Rattle.otp_rules.specs.Work.{follow, start_first, stop_first, advance}
+use Rattle.otp_rules.specs.Work.{advance}
 use Rattle.otp_rules.specs.Deaths.{restart_rows, restart}
 use Rattle.otp_rules.specs.Calls.{take_call}
 use Rattle.otp_rules.specs.Step.{ask, open_rows, open_with, resume, take_item, tick, decide, stamped, step, step_on}
@@ -37,7 +35,7 @@ use Rattle.otp_rules.specs.Homes.{Brings}
 use Rattle.otp_rules.specs.Waits.{StartsWait, start_in, start_waiting, starts_left, starts_waiting}
 use Rattle.otp_rules.proofs.GoesOn.{GoesOn, advance-on}
 use Rattle.otp_rules.proofs.Walks.{restart-by, stop_each-by, terminate-by, with_stops}
-use Rattle.otp_rules.proofs.Decisions.{SurvivesEvent, at_row-survives, at_number-survives, by_test, decide-survives_event, same_work, take_waiting-survives}
+use Rattle.otp_rules.proofs.Decisions.{SurvivesEvent, at_row-survives, at_number-survives, decide-survives_event, same_work, take_waiting-survives}
 use Rattle.otp_rules.proofs.Counting.{end_row-quiet, use_exit-quiet}
 use Prim.Native.Nat.{zero, suc}
 
