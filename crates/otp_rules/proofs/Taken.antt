@@ -81,7 +81,7 @@ opens-none k s now o still opened = absurd (false≢true (sym (not_opened s.foll
     not_opened f g (inl idle) = ap (λ (x : Option Sequel). is_opened f x) (no_after g idle) ∙ opens_nothing f
     not_opened f g (inr same) = ap (λ (x : Option Sequel). is_opened f x) same ∙ opens_not_again f
 
--- work that doesn't end it
+-- work that doesn't end the supervisor
 opens-for : (k : Kind) (s : State) (o : Outcome) → is_end o.state.follows ≡ false → IsListed (opened_now s (taken k s.waiting) o.state) → ForTaken k s o
 opens-for k s o other listed _ = (λ _. listed, λ x is. absurd (false≢true (sym other ∙ ap is_end is)))
 
@@ -292,7 +292,7 @@ by-significance AllSignificant p place row o at up h =
     no true e = absurd (false≢true e)
     no false e = refl
 
--- the process died: this is what was taken, and the first row
+-- the row of a process that died is the first that has it
 died-first : (k : Kind) (s : State) (now : ℕ) (ws : List Waiting) (p place : ℕ) (row : Row) (back : Bool) → slice_get s.rows place ≡ Some row → Dies (Takes k s) p place row (began now ws s) back → IsFirstRow (HasProcess p) s.rows place row
 died-first k s now ws p place row back at dies = first-row (HasProcess p) (row_has (has_process p)) s.rows place row (λ other has. process-passes p other.state has) dies.1.2 at (ap process_number dies.0)
 
@@ -306,7 +306,7 @@ restarted-why k s now ws p place row at (inr tries) =
 idle-calm : (s : State) → IsSound s → is_some s.follows ≡ false → rows_in is_awaited s.rows ≡ 0
 idle-calm s sound idle = subst (λ (f : Option Sequel). IsLimited f (rows_in is_awaited s.rows)) (no_after s.follows idle) sound.0
 
--- what holds with whatever still waits
+-- what holds whatever waits, holds where nothing has moved
 unmoved : (now : ℕ) (s : State) (C : Outcome → Type 0) → ((ws : List Waiting) → C (began now ws s)) → (o : Outcome) → IsUnmoved (begins now s) o → C o
 unmoved now s C each o u = subst C (sym u) (each o.state.waiting)
 
@@ -340,8 +340,6 @@ failed-for k s now ws place row q kept r sound ready at is takes =
     let one : ◌≡◌ {A = ℕ} (cond (is_awaited row.state) 1 0) 1 = ap (λ (b : Bool). cond b 1 0) (starting row q kept is) in
     terminate-for k s (ending.InitFailed row.spec.id) (set_row place row Undefined (began now ws s)) (down_calm place row Undefined (began now ws s) at refl (omega (arith, few, one)))
     (ready, q, r, place, row, kept, takes, at, is, refl)
-
--- calls
 
 -- the child with this id
 named-by : (id : Name) (s : State) (now : ℕ) (ws : List Waiting) (place : ℕ) (row : Row) → IsFirstAt (has_id id) place (began now ws s) → slice_get s.rows place ≡ Some row → IsFirstRow (HasId id) s.rows place row
