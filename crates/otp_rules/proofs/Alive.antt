@@ -34,7 +34,6 @@ use Rattle.otp_rules.specs.Restarts.{running}
 use Rattle.otp_rules.specs.Stops.{calm_all, is_exit, without, told, tell_row, tell, use_exit, stop_each, terminate}
 use Rattle.otp_rules.specs.Starts.{is_due, start_row, start}
 use Rattle.otp_rules.specs.Ends.{end_all, refuse_all}
-use Rattle.otp_rules.specs.Work.{follow, start_first, stop_first, advance}
 use Rattle.otp_rules.specs.Deaths.{restart_rows, restart}
 use Rattle.otp_rules.specs.Calls.{new_row}
 use Rattle.otp_rules.specs.Step.{open_rows, tick, decide, stamped, step, step_on, killed, late_number}
@@ -54,7 +53,8 @@ use Rattle.otp_rules.specs.Fit.{next_number, rows_in, is_starting, IsLimited, Is
 use Rattle.otp_rules.specs.Progress.{is_end}
 use Rattle.otp_rules.specs.InOrder.{is_stop, Finishes, IsBare, IsCalm, IsInOrder}
 use Rattle.otp_rules.specs.Alive.{EndsChild, LivesIn, ProcessesLived, ProcessesLivedFrom, is_told_by}
-use Rattle.otp_rules.proofs.Walks.{advance-by, stop_each-by, stop_first-by, terminate-by, with_stops, counted_restart}
+use Rattle.otp_rules.proofs.GoesOn.{GoesOn, advance-on}
+use Rattle.otp_rules.proofs.Walks.{stop_each-by, terminate-by, with_stops, counted_restart}
 use Rattle.otp_rules.proofs.Decisions.{SurvivesEvent, StandsAt, at_row-survives, at_number-survives, by_test, decide-survives_event}
 use Rattle.otp_rules.proofs.Counting.{at_row-found, end_row-quiet, put_count, remove_count, rows_in-at, rows_in-cons, rows_in-end, rows_in-set, set_count, tick_count, use_exit-quiet, rows_in-apart}
 use Rattle.otp_rules.proofs.Finishing.{AreOne, not_starting, zero_or_more}
@@ -284,7 +284,7 @@ TakesFirst k p old = (k ≡ kind.Resumed) × (is_first_exit p old.state.waiting 
 stays-survives : (D : Type 0) (k : Kind) (G : Item → Type 0) (old : Outcome) (slot p m : ℕ) → (TakesFirst k p old → D) → SurvivesEvent k G old (Stays D slot p m)
 stays-survives D k G old slot p m ends =
     record {
-      answered = λ c r o h. answer-stays D slot p m c r o h;
+      answered = λ c r o quiet h. answer-stays D slot p m c r o h;
       taken = λ w ws resumed idle runs is h. (
         (
           h.0.0,
@@ -300,7 +300,7 @@ stays-survives D k G old slot p m ends =
         h.1,
       );
       call_waits = λ c x o u busy g h. put-stays D slot p m (waiting.Item (item.Call c x)) o h;
-      exit_waits = λ q r o u g h. put-stays D slot p m (waiting.Item (item.Note (note.Exit q r))) o h;
+      exit_waits = λ q r place row o u at has g h. put-stays D slot p m (waiting.Item (item.Note (note.Exit q r))) o h;
       up = λ q place row n kept o u at is same g h. set-stays D slot p m place row (Up q) o at (λ x has. same_process q x row.state (has_starting row n kept q is same) has) h;
       up_closed = λ q place row n kept c o u at is same follows g h. set-stays D slot p m place row (Up q) o at (λ x has. same_process q x row.state (has_starting row n kept q is same) has) h;
       ignored = λ q place row n kept o u at is same g h. end-stays D slot p m place row o at h;
@@ -324,12 +324,12 @@ stays-survives D k G old slot p m ends =
           let no : ◌≡◌ {A = ℕ} (cond (is_live slot p row) 1 0) 0 = ap (λ (b : Bool). cond b 1 0) (never (has_slot slot row)) in
           stays-less D slot p m o (with_work [] (record { id = id; kept = None } ∷ []) (Some (sequel.Added c)) (with_rows (o.state.rows ++ row ∷ []) o)) (less p) (omega arith)
           (omega (arith, no, sum_by-append (λ (r : Row). cond (is_live slot p r) 1 0) o.state.rows (row ∷ []), sum_by-cons (λ (r : Row). cond (is_live slot p r) 1 0) row [])) h;
-      starts_again = λ c id place row o u idle runs at has is h. h;
+      starts_again = λ c id place row o u idle runs at has is noted found h. h;
       removed = λ place row o u idle runs at down h.
           let less : NoMore o (with_rows (remove o.state.rows place) o) = remove-no_more place row o o at (same_less o) in
           stays-less D slot p m o (with_rows (remove o.state.rows place) o) (less p) (omega arith) (remove-fewer slot p place row o at) h;
       given_up = λ place row o u idle runs at down h. set-stays D slot p m place row Undefined o at (λ x has. absurd (false≢true has)) h;
-      stops_child = λ c q place row o u idle runs at up h. h;
+      stops_child = λ c q place row o u idle runs at up has got h. h;
     }
   where
     never : (b : Bool) → (b && false) ≡ false
@@ -551,33 +551,23 @@ start-goes D slot p m due n o h =
     or_true true = refl
     or_true false = refl
 
-follow-stays : (D : Type 0) (slot p m : ℕ) (f : Option Sequel) (o : Outcome) → Stays D slot p m o → Stays D slot p m (follow f o)
-unfolding follow end_all refuse_all answer
-follow-stays D slot p m None o h = h
-follow-stays D slot p m (Some sequel.Ready) o h = h
-follow-stays D slot p m (Some sequel.Nothing) o h = h
-follow-stays D slot p m (Some (sequel.Added c)) o h = h
-follow-stays D slot p m (Some (sequel.Restarted c)) o h = h
-follow-stays D slot p m (Some (sequel.Stopped c)) o h = h
-follow-stays D slot p m (Some (sequel.End e)) o h = ((omega arith, λ some. absurd (omega (arith, some))), omega arith)
-
-start_first-goes : (D : Type 0) (slot p m : ℕ) (dues : List Due) (n : ℕ) (o : Outcome) → Stays D slot p m o → Goes D slot p m n (start_first dues n o)
-unfolding start_first
-start_first-goes D slot p m [] n o h = inl (follow-stays D slot p m o.state.follows o h)
-start_first-goes D slot p m (due ∷ dues) n o h = start-goes D slot p m due n (with_work o.state.to_stop dues o.state.follows o) h
-
-stop_first-goes : (D : Type 0) (slot p m : ℕ) (qs : List ℕ) (n : ℕ) (o : Outcome) → Stays D slot p m o → Goes D slot p m n (stop_first qs n o)
-stop_first-goes D slot p m qs n =
-    stop_first-by (λ _. Stays D slot p m) (Goes D slot p m n) n (λ o h. start_first-goes D slot p m o.state.to_start n o h)
-    (λ q rest o _ h. use_exit-stays D slot p m q (with_stops rest o) h) (λ q rest o h. inl (tell-stays D slot p m q (with_stops rest o) h)) qs
-
-advance-goes_on : (D : Type 0) (slot p m n : ℕ) (o : Outcome) → Stays D slot p m o → Goes D slot p m n (advance n o)
-advance-goes_on D slot p m n o h =
-    advance-by (Goes D slot p m n) n o (inl h) (λ busy _. stop_first-goes D slot p m o.state.to_stop n o h)
+going : (D : Type 0) (slot p m n : ℕ) → GoesOn n (λ _. Stays D slot p m) (Goes D slot p m n)
+unfolding answer end_all refuse_all
+going D slot p m n =
+    record {
+      uses = λ q rest o _ h. use_exit-stays D slot p m q (with_stops rest o) h;
+      tells = λ q rest o _ h. inl (tell-stays D slot p m q (with_stops rest o) h);
+      starts = λ due dues o _ h. start-goes D slot p m due n (with_work o.state.to_stop dues o.state.follows o) h;
+      closes = λ f o _ _ h. inl h;
+      answers = λ c r f o _ _ h. inl h;
+      ready = λ o _ h. inl h;
+      ends = λ e o _ h. inl ((omega arith, λ some. absurd (omega (arith, some))), omega arith);
+    }
 
 step-goes_on : (D : Type 0) (slot p m : ℕ) (s : State) (e : Event) → Stays D slot p m (decide e.kind (record { state = stamped e.reading s; orders = [] })) → Goes D slot p m (unwrap_or e.number 0) (step s e)
 unfolding step step_on
-step-goes_on D slot p m s e h = advance-goes_on D slot p m (unwrap_or e.number 0) (decide e.kind (record { state = stamped e.reading s; orders = [] })) h
+step-goes_on D slot p m s e h =
+    advance-on (unwrap_or e.number 0) (λ _. Stays D slot p m) (Goes D slot p m (unwrap_or e.number 0)) (going D slot p m (unwrap_or e.number 0)) (decide e.kind (record { state = stamped e.reading s; orders = [] })) (λ _. inl h) (λ _ _. h)
 
 -- an event that starts a child has its number
 is_own_number : (s : State) (e : Event) (p : ℕ) → is_some e.number ≡ needs_number s e.reading e.kind → list_any is_start (step s e).orders ≡ true → (unwrap_or e.number 0 == p) ≡ true → e.number ≡ Some p

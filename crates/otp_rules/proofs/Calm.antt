@@ -1,5 +1,5 @@
 -- While a child is stopped for a call, no start is awaited, and none is to come.
-use Rattle.std.specs.Prelude.{◌≡◌, ℕ, ◌+◌, ◌++◌, Bool, true, false, List, [], ◌∷◌, Option, None, Some, refl, position, is_some, slice_set, unwrap_or}
+use Rattle.std.specs.Prelude.{◌≡◌, ℕ, ◌+◌, ◌++◌, Bool, true, false, [], ◌∷◌, Option, None, Some, refl, position, is_some, slice_set, unwrap_or}
 use Rattle.std.proofs.Common.{◌∙◌, ap, sym, arith, cond}
 use Rattle.std.proofs.lemmas.Bool.{false≢true}
 use Rattle.otp_table.specs.declared.row.Row.{Row}
@@ -19,12 +19,12 @@ use Rattle.otp_rules.specs.Places.{end_row, end_process, set_row}
 use Rattle.otp_rules.specs.Stops.{is_exit, without, told, tell_row, tell, use_exit, terminate}
 use Rattle.otp_rules.specs.Starts.{is_due, start_row, start}
 use Rattle.otp_rules.specs.Ends.{end_all, refuse_all}
-use Rattle.otp_rules.specs.Work.{follow, start_first, stop_first, advance}
 use Rattle.otp_rules.specs.Deaths.{restart_rows, restart}
 use Rattle.otp_rules.specs.Step.{open_rows, open_with, tick, decide, stamped, step, step_on}
 use Rattle.otp_rules.specs.Fit.{rows_in, IsSound}
 use Rattle.otp_rules.specs.InOrder.{is_begun, is_stop, IsCalm}
-use Rattle.otp_rules.proofs.Walks.{advance-by, restart-by, stop_first-by, with_stops}
+use Rattle.otp_rules.proofs.GoesOn.{GoesOn, advance-on}
+use Rattle.otp_rules.proofs.Walks.{restart-by, with_stops}
 use Rattle.otp_rules.proofs.Decisions.{StandsAt, Survives, at_number-survives, at_row-survives, decide-survives}
 use Rattle.otp_rules.proofs.Counting.{Alike, end_row-alike, rows_in-end, rows_in-set, tick_count}
 use Rattle.otp_rules.proofs.Finishing.{begun_awaited, not_starting, told-begun}
@@ -121,39 +121,26 @@ tell-calm p o h =
     let none : ◌≡◌ {A = ℕ} (cond (is_begun now) 1 0) 0 = ap (λ (b : Bool). cond b 1 0) (told-begun o.state.last p row.spec.shutdown) in
     (omega (arith, new, none, was.0), was.1))
 
-follow-calm : (f : Option Sequel) (o : Outcome) → IsCalm o.state → IsCalm (follow f o).state
-unfolding follow end_all refuse_all answer
-follow-calm None o h = h
-follow-calm (Some sequel.Ready) o h = λ e. absurd (false≢true e)
-follow-calm (Some sequel.Nothing) o h = λ e. absurd (false≢true e)
-follow-calm (Some (sequel.Added c)) o h = λ e. absurd (false≢true e)
-follow-calm (Some (sequel.Restarted c)) o h = λ e. absurd (false≢true e)
-follow-calm (Some (sequel.Stopped c)) o h = λ e. absurd (false≢true e)
-follow-calm (Some (sequel.End x)) o h = λ e. absurd (false≢true e)
-
 start-follows : (due : Due) (n : ℕ) (o : Outcome) → (start due n o).state.follows ≡ o.state.follows
 unfolding start start_row
 start-follows due n o = at_row-survives (λ (x : Outcome). x.state.follows ≡ o.state.follows) (is_due due) o (start_row due n) o refl refl (λ i row at has. refl)
 
-start_first-calm : (dues : List Due) (n : ℕ) (o : Outcome) → o.state.to_start ≡ dues → IsCalm o.state → IsCalm (start_first dues n o).state
-unfolding start_first
-start_first-calm [] n o is h = follow-calm o.state.follows o h
-start_first-calm (due ∷ dues) n o is h =
-    let left : Outcome = with_work o.state.to_stop dues o.state.follows o in
-    λ e. absurd (let no : due ∷ dues ≡ [] = sym is ∙ (h (sym (ap is_stop (start-follows due n left)) ∙ e)).1 in cc)
-
-stop_first-calm : (ps : List ℕ) (n : ℕ) (o : Outcome) → IsCalm o.state → IsCalm (stop_first ps n o).state
-stop_first-calm ps n =
-    stop_first-by (λ _ x. IsCalm x.state) (λ x. IsCalm x.state) n (λ o h. start_first-calm o.state.to_start n o refl h)
-    (λ p rest o _ h. use_exit-calm p (position (is_exit p) o.state.waiting) (with_stops rest o) h) (λ p rest o h. tell-calm p (with_stops rest o) h) ps
-
-advance-calm : (n : ℕ) (o : Outcome) → IsCalm o.state → IsCalm (advance n o).state
-advance-calm n o h =
-    advance-by (λ (x : Outcome). IsCalm x.state) n o h (λ busy _. stop_first-calm o.state.to_stop n o h)
+going-calm : (n : ℕ) → GoesOn n (λ _ x. IsCalm x.state) (λ x. IsCalm x.state)
+unfolding answer end_all refuse_all
+going-calm n =
+    record {
+      uses = λ p rest o _ h. use_exit-calm p (position (is_exit p) o.state.waiting) (with_stops rest o) h;
+      tells = λ p rest o _ h. tell-calm p (with_stops rest o) h;
+      starts = λ due dues o is h e. absurd (let no : due ∷ dues ≡ [] = sym is ∙ (h (sym (ap is_stop (start-follows due n (with_work o.state.to_stop dues o.state.follows o))) ∙ e)).1 in cc);
+      closes = λ f o _ _ h e. absurd (false≢true e);
+      answers = λ c r f o _ _ h e. absurd (false≢true e);
+      ready = λ o _ h e. absurd (false≢true e);
+      ends = λ x o _ h e. absurd (false≢true e);
+    }
 
 pub step-calm : (s : State) (e : Event) → IsSound s → IsCalm s → IsSoundCalm (step s e)
 unfolding step step_on
 step-calm s e sound h =
     let start : Outcome = record { state = stamped e.reading s; orders = [] } in
     let d : IsSoundCalm (decide e.kind start) = decided-calm e.kind start sound h in
-    (advance-sound (unwrap_or e.number 0) (decide e.kind start) d.0, advance-calm (unwrap_or e.number 0) (decide e.kind start) d.1)
+    (advance-sound (unwrap_or e.number 0) (decide e.kind start) d.0, advance-on (unwrap_or e.number 0) (λ _ x. IsCalm x.state) (λ x. IsCalm x.state) (going-calm (unwrap_or e.number 0)) (decide e.kind start) (λ _. d.1) (λ _ _. d.1))

@@ -8,6 +8,7 @@ use Rattle.otp_reason.specs.declared.name.Name.{Name}
 use Rattle.otp_spec.specs.declared.child.Shutdown.{Shutdown}
 use Rattle.otp_spec.specs.declared.child.Shutdown.TheVariants.{BrutalKill, Milliseconds, Infinity}
 use Rattle.otp_table.specs.declared.row.Row.{Row}
+use Rattle.otp_rules.specs.declared.ending.Ending.{Ending}
 use Rattle.otp_rules.specs.declared.call.Reply.{Reply}
 use Rattle.otp_rules.specs.declared.ending.SupEnd.{SupEnd}
 use Rattle.otp_rules.specs.declared.event.Effect.{Effect}
@@ -18,12 +19,9 @@ use Rattle.otp_rules.specs.declared.event.Kind.{Kind}
 use Rattle.otp_rules.specs.declared.event.Kind.TheVariants as kind
 use Rattle.otp_rules.specs.declared.event.Waiting.{Waiting}
 use Rattle.otp_rules.specs.declared.event.Waiting.TheVariants as waiting
-use Rattle.otp_rules.specs.declared.work.Sequel.{Sequel}
-use Rattle.otp_rules.specs.declared.work.Sequel.TheVariants as sequel
 use Rattle.otp_rules.specs.State.{Outcome, State, answer, is_busy, is_over, own_number}
 use Rattle.otp_rules.specs.Stops.{stop_order}
 use Rattle.otp_rules.specs.Ends.{end_all, refusal, refuse_all, sup_end_of}
-use Rattle.otp_rules.specs.Work.{follow}
 use Rattle.otp_rules.specs.Step.{decide, kill_order, late_number, open_rows, open_with, stamped, step, step_on, tick}
 use Rattle.otp_rules.specs.Run.{empty_state, orders_of}
 use Rattle.otp_rules.specs.Ended.{end_in, ends_of, ends_under, opening_number, EndsCarried, EndsKept, EndsKeptFromEmpty}
@@ -68,15 +66,9 @@ answered-ends : (n : ℕ) (before : List (ℕ × SupEnd)) (c : ℕ) (r : Reply) 
 unfolding answer
 answered-ends n before c r o h = (quiet n before o (effect.Reply c ∷ []) refl h.0, h.1)
 
-followed-ends : (n : ℕ) (before : List (ℕ × SupEnd)) (f : Option Sequel) (o : Outcome) → HasEnds n before o → HasEnds n before (follow f o)
-unfolding follow end_all refuse_all answer
-followed-ends n before None o h = h
-followed-ends n before (Some sequel.Ready) o h = (quiet n before o (effect.Ready ∷ []) refl h.0, h.1)
-followed-ends n before (Some sequel.Nothing) o h = h
-followed-ends n before (Some (sequel.Added c)) o h = (quiet n before o (effect.Reply c ∷ []) refl h.0, h.1)
-followed-ends n before (Some (sequel.Restarted c)) o h = (quiet n before o (effect.Reply c ∷ []) refl h.0, h.1)
-followed-ends n before (Some (sequel.Stopped c)) o h = (quiet n before o (effect.Reply c ∷ []) refl h.0, h.1)
-followed-ends n before (Some (sequel.End x)) o h =
+ended-ends : (n : ℕ) (before : List (ℕ × SupEnd)) (x : Ending) (o : Outcome) → HasEnds n before o → HasEnds n before (end_all x o)
+unfolding end_all refuse_all
+ended-ends n before x o h =
     let end : SupEnd = sup_end_of o.state.flags o.state.stamps x in
     let told : List Effect = o.orders ++ filter_map refusal o.state.waiting in (
       ap (λ (own : ℕ). o.state.ends ++ (own, end) ∷ []) h.1
@@ -98,15 +90,16 @@ going n before =
       left = λ ps ds o h. h;
       told = λ id p how o h. (quiet n before o (stop_order id p how ∷ []) (no_stop id p how) h.0, h.1);
       started = λ id m o h. (quiet n before o (effect.Start id m ∷ []) refl h.0, h.1);
-      followed = λ f o is h. followed-ends n before f o h;
+      closes = λ f o is stays h. h;
+      answered = answered-ends n before;
+      ready = λ o h. (quiet n before o (effect.Ready ∷ []) refl h.0, h.1);
+      ended = λ x o is h. ended-ends n before x o h;
     }
 
 steady : (n : ℕ) (before : List (ℕ × SupEnd)) (k : Kind) (b : Bool) → ((own : ℕ) → k ≡ kind.Opened own → ⊥) → Steady k b (HasEnds n before)
 steady n before k b unopened =
     record {
       goes = going n before;
-      answered = answered-ends n before;
-      closes = λ f o is stays h. h;
       opens = λ ps ds f o idle runs stays h. h;
       ends = λ ps e o other when h. h;
       exceeds = λ ps o idle runs many h. h;

@@ -9,21 +9,20 @@ use Rattle.otp_rules.specs.declared.ending.Ending.TheVariants as ending
 use Rattle.otp_rules.specs.declared.event.Event.{Event}
 use Rattle.otp_rules.specs.declared.event.Kind.{Kind}
 use Rattle.otp_rules.specs.declared.work.Sequel.{Sequel}
-use Rattle.otp_rules.specs.declared.work.Sequel.TheVariants as sequel
-use Rattle.otp_rules.specs.declared.work.Due.{Due}
-use Rattle.otp_rules.specs.State.{Outcome, State, answer, is_busy, is_over, with_work}
+use Rattle.otp_rules.specs.State.{closed, Outcome, State, answer, is_busy, is_over, with_work}
 use Rattle.otp_rules.specs.Places.{end_row, set_row}
 use Rattle.otp_rules.specs.Stops.{is_exit, terminate}
 use Rattle.otp_rules.specs.Starts.{is_due, start, start_row}
 use Rattle.otp_rules.specs.Ends.{end_all, refuse_all}
-use Rattle.otp_rules.specs.Work.{advance, follow, start_first, stop_first}
+use Rattle.otp_rules.specs.Work.{advance}
 use Rattle.otp_rules.specs.Deaths.{restart}
 use Rattle.otp_rules.specs.Step.{decide, killed, late_number, open_rows, stamped, step, step_on, tick}
 use Rattle.otp_rules.specs.Run.{empty_state, state_after}
 use Rattle.otp_rules.specs.Fit.{IsSound}
 use Rattle.otp_rules.specs.InOrder.{IsBare}
 use Rattle.otp_rules.specs.Lives.{EndedHasNoRows, EndedHasNoRowsFrom}
-use Rattle.otp_rules.proofs.Walks.{advance-by, stop_first-by, with_stops}
+use Rattle.otp_rules.proofs.GoesOn.{GoesOn, advance-on}
+use Rattle.otp_rules.proofs.Walks.{with_stops}
 use Rattle.otp_rules.proofs.Decisions.{StandsAt, Survives, at_row-survives, decide-survives}
 use Rattle.otp_rules.proofs.Counting.{end_row-alike, tell-alike, use_exit-alike}
 use Rattle.otp_rules.proofs.Sound.{advance-sound, empty-sound, sound-survives}
@@ -97,28 +96,23 @@ bare-survives k b =
 abbrev GoesBare : Outcome → Type 0
 GoesBare o = (is_some o.state.follows ≡ true) ⊎ IsBare o.state
 
-follow-bare : (f : Option Sequel) (o : Outcome) → is_over o.state.phase ≡ false → GoesBare (follow f o)
-unfolding follow end_all refuse_all answer
-follow-bare None o runs = inr (λ over. absurd (false≢true (sym runs ∙ over)))
-follow-bare (Some sequel.Ready) o runs = inr (λ over. absurd (false≢true (sym runs ∙ over)))
-follow-bare (Some sequel.Nothing) o runs = inr (λ over. absurd (false≢true (sym runs ∙ over)))
-follow-bare (Some (sequel.Added c)) o runs = inr (λ over. absurd (false≢true (sym runs ∙ over)))
-follow-bare (Some (sequel.Restarted c)) o runs = inr (λ over. absurd (false≢true (sym runs ∙ over)))
-follow-bare (Some (sequel.Stopped c)) o runs = inr (λ over. absurd (false≢true (sym runs ∙ over)))
-follow-bare (Some (sequel.End e)) o runs = inr (λ over. refl)
+-- the work is open, and the supervisor runs
+abbrev RunsOn : Outcome → Type 0
+RunsOn o = (is_some o.state.follows ≡ true) × (is_over o.state.phase ≡ false)
 
-start_first-bare : (dues : List Due) (n : ℕ) (o : Outcome) → is_some o.state.follows ≡ true → is_over o.state.phase ≡ false → GoesBare (start_first dues n o)
-unfolding start_first start start_row
-start_first-bare [] n o busy runs = follow-bare o.state.follows o runs
-start_first-bare (due ∷ dues) n o busy runs =
-    let left : Outcome = with_work o.state.to_stop dues o.state.follows o in
-    inl (at_row-survives (λ (x : Outcome). is_some x.state.follows ≡ true) (is_due due) left (start_row due n) left busy busy (λ i row at has. busy))
-
-stop_first-bare : (ps : List ℕ) (n : ℕ) (o : Outcome) → is_some o.state.follows ≡ true → is_over o.state.phase ≡ false → GoesBare (stop_first ps n o)
-stop_first-bare ps n o busy runs =
-    stop_first-by (λ _ x. (is_some x.state.follows ≡ true) × (is_over x.state.phase ≡ false)) GoesBare n (λ x h. start_first-bare x.state.to_start n x h.0 h.1)
-    (λ p rest x _ h. let used = use_exit-alike p (position (is_exit p) x.state.waiting) (with_stops rest x) in (ap (λ (f : Option Sequel). is_some f) used.4 ∙ h.0, ap is_over used.1 ∙ h.1))
-    (λ p rest x h. inl (ap (λ (f : Option Sequel). is_some f) (tell-alike p (with_stops rest x)).4 ∙ h.0)) ps o (busy, runs)
+going-bare : (n : ℕ) → GoesOn n (λ _. RunsOn) GoesBare
+unfolding start start_row answer end_all refuse_all
+going-bare n =
+    let runs : (o : Outcome) → RunsOn o → GoesBare (closed o) = λ o h. inr (λ over. absurd (false≢true (sym h.1 ∙ over))) in
+    record {
+      uses = λ p rest o _ h. let used = use_exit-alike p (position (is_exit p) o.state.waiting) (with_stops rest o) in (ap (λ (f : Option Sequel). is_some f) used.4 ∙ h.0, ap is_over used.1 ∙ h.1);
+      tells = λ p rest o _ h. inl (ap (λ (f : Option Sequel). is_some f) (tell-alike p (with_stops rest o)).4 ∙ h.0);
+      starts = λ due dues o _ h. let left : Outcome = with_work o.state.to_stop dues o.state.follows o in inl (at_row-survives (λ (x : Outcome). is_some x.state.follows ≡ true) (is_due due) left (start_row due n) left h.0 h.0 (λ i row at has. h.0));
+      closes = λ f o _ _ h. runs o h;
+      answers = λ c r f o _ _ h. runs o h;
+      ready = λ o _ h. runs o h;
+      ends = λ e o _ h. inr (λ over. refl);
+    }
 
 -- a sound state whose work is open runs
 busy_runs : (s : State) (b : Bool) → is_over s.phase ≡ b → IsSound s → is_some s.follows ≡ true → b ≡ false
@@ -127,7 +121,7 @@ busy_runs s false over sound busy = refl
 
 advance-goes_bare : (n : ℕ) (o : Outcome) → IsSoundBare o → GoesBare (advance n o)
 advance-goes_bare n o h =
-    advance-by GoesBare n o (inr h.1) (λ busy _. stop_first-bare o.state.to_stop n o busy (busy_runs o.state (is_over o.state.phase) refl h.0 busy))
+    advance-on n (λ _. RunsOn) GoesBare (going-bare n) o (λ _. inr h.1) (λ busy _. (busy, busy_runs o.state (is_over o.state.phase) refl h.0 busy))
 
 advance-bare : (n : ℕ) (o : Outcome) → IsSoundBare o → IsSoundBare (advance n o)
 advance-bare n o h =

@@ -1,5 +1,5 @@
 -- How many orders an event gives.
-use Rattle.std.specs.Prelude.{◌≡◌, ℕ, ◌+◌, ◌≤◌, ◌++◌, Bool, true, false, List, [], ◌∷◌, Option, None, Some, refl, position, is_some, slice_set, length, remove, unwrap_or, count_by}
+use Rattle.std.specs.Prelude.{◌≡◌, ℕ, ◌+◌, ◌≤◌, ◌++◌, true, List, [], ◌∷◌, Option, None, Some, refl, position, is_some, slice_set, length, remove, unwrap_or, count_by}
 use Rattle.std.specs.List.{cons_option, filter_map}
 use Rattle.std.proofs.Common.{◌∙◌, ap, sym, subst, arith, cond, rules}
 use Rattle.std.proofs.lemmas.Bool.{false≢true}
@@ -22,7 +22,6 @@ use Rattle.otp_rules.specs.declared.event.Kind.{Kind}
 use Rattle.otp_rules.specs.declared.event.Kind.TheVariants as kind
 use Rattle.otp_rules.specs.declared.event.Waiting.{Waiting}
 use Rattle.otp_rules.specs.declared.event.Waiting.TheVariants as waiting
-use Rattle.otp_rules.specs.declared.work.Due.{Due}
 use Rattle.otp_rules.specs.declared.work.Sequel.{Sequel}
 use Rattle.otp_rules.specs.declared.work.Sequel.TheVariants as sequel
 use Rattle.otp_rules.specs.State.{Outcome, answer, is_busy, is_over, with_rows, with_stamps, with_waiting, with_work}
@@ -32,12 +31,13 @@ use Rattle.otp_rules.specs.Places.{end_row, end_process, is_removed, set_row}
 use Rattle.otp_rules.specs.Restarts.{running}
 use Rattle.otp_rules.specs.Stops.{calm_all, is_exit, without, told, tell_row, tell, use_exit, stop_each, stop_order, terminate}
 use Rattle.otp_rules.specs.Starts.{is_due, start_row, start}
-use Rattle.otp_rules.specs.Work.{follow, start_first, stop_first, advance}
+use Rattle.otp_rules.specs.Work.{advance}
 use Rattle.otp_rules.specs.Deaths.{restart_rows, restart}
 use Rattle.otp_rules.specs.Step.{open_with, open_rows, tick, decide, stamped, step, step_on, kill_order, killed, late_number}
+use Rattle.otp_rules.proofs.GoesOn.{GoesOn, advance-on}
 use Rattle.otp_rules.proofs.Bits.{at_most_1}
-use Rattle.otp_rules.proofs.Walks.{advance-by, restart-by, terminate-by}
-use Rattle.otp_rules.proofs.Decisions.{StandsAt, SurvivesEvent, at_row-survives, at_number-survives, by_test, decide-survives_event}
+use Rattle.otp_rules.proofs.Walks.{restart-by, terminate-by, with_stops}
+use Rattle.otp_rules.proofs.Decisions.{StandsAt, SurvivesEvent, ends_unmoved, same_orders, same_work, at_row-survives, at_number-survives, by_test, decide-survives_event}
 use Rattle.otp_rules.proofs.Counting.{end_row-quiet, stop_each-alike, use_exit-quiet}
 
 abbrev pub orders_in : List Effect → ℕ
@@ -174,31 +174,31 @@ few-survive k G old none other =
     let removes : (place : ℕ) (row : Row) (o : Outcome) → StandsAt place row o → length (remove o.state.rows place) ≤ length o.state.rows =
     λ place row o at. let e : length (remove o.state.rows place) + 1 ≡ length o.state.rows = length-remove o.state.rows place (slice_get_within o.state.rows place row at) in omega (arith, e) in
     record {
-      answered = λ c r o h. answer-few old c r o h;
+      answered = λ c r o quiet h. answer-few old c r o h;
       taken = λ w ws resumed idle runs is h. h;
       call_waits = λ c call o u busy g h. h;
-      exit_waits = λ p r o u g h. h;
-      up = λ p place row q kept o u at is same g h. (h.0, λ _. omega (arith, h.1 u.1, set place row (Up p) o));
-      up_closed = λ p place row q kept c o u at is same follows g h. (h.0, λ _. omega (arith, h.1 u.1, set place row (Up p) o));
-      ignored = λ p place row q kept o u at is same g h. end-few old place row o u.1 at h;
+      exit_waits = λ p r place row o u at has g h. h;
+      up = λ p place row q kept o u at is same g h. (h.0, λ _. omega (arith, h.1 (same_work old o u), set place row (Up p) o));
+      up_closed = λ p place row q kept c o u at is same follows g h. (h.0, λ _. omega (arith, h.1 (same_work old o u), set place row (Up p) o));
+      ignored = λ p place row q kept o u at is same g h. end-few old place row o (same_work old o u) at h;
       opening_failed = λ place row q kept o u runs at is follows g h.
-          ends-few old (ending.InitFailed row.spec.id) (set_row place row Undefined o) (still o u.0) (omega (arith, h.1 u.1, set place row Undefined o));
-      restart_failed = λ place row q kept o u at is follows g h. (h.0, λ _. omega (arith, h.1 u.1, set place row (Restarting kept) o));
-      added_failed = λ place row q kept c o u at is follows g h. (h.0, λ _. omega (arith, h.1 u.1, removes place row o at));
-      restarted_failed = λ place row q kept c o u at is follows g h. (h.0, λ _. omega (arith, h.1 u.1, set place row Undefined o));
-      stopped = λ p r place row o u at told g h. end-few old place row o u.1 at h;
-      died = λ p place row o u idle runs at is g h. end-few old place row o u.1 at h;
+          ends-few old (ending.InitFailed row.spec.id) (set_row place row Undefined o) (still o (same_orders old o u)) (omega (arith, h.1 (same_work old o u), set place row Undefined o));
+      restart_failed = λ place row q kept o u at is follows g h. (h.0, λ _. omega (arith, h.1 (same_work old o u), set place row (Restarting kept) o));
+      added_failed = λ place row q kept c o u at is follows g h. (h.0, λ _. omega (arith, h.1 (same_work old o u), removes place row o at));
+      restarted_failed = λ place row q kept c o u at is follows g h. (h.0, λ _. omega (arith, h.1 (same_work old o u), set place row Undefined o));
+      stopped = λ p r place row o u at told g h. end-few old place row o (same_work old o u) at h;
+      died = λ p place row o u idle runs at is g h. end-few old place row o (same_work old o u) at h;
       restarts = λ p place row o u idle runs at is h.
           let new = restart-adds p place row o in
-          (omega (arith, new.0, still o u.0, h.1 u.1), λ same. absurd (false≢true (sym idle.0 ∙ sym same ∙ new.1)));
-      ends = λ e o u other_end idle runs h. ends-few old e o (still o u.0) (h.1 u.1);
+          (omega (arith, new.0, still o (same_orders old o u), h.1 (same_work old o u)), λ same. absurd (false≢true (sym idle.0 ∙ sym same ∙ new.1)));
+      ends = λ e o u other_end idle runs h. let same = ends_unmoved k G old e o u in ends-few old e o (still o same.0) (h.1 same.1);
       ticks = λ is h. tick-few old none;
       opens = λ own is over h. absurd (other own is);
       adds = λ c id spec o u idle runs named few got h. (h.0, λ same. absurd (false≢true (sym idle.0 ∙ sym same)));
-      starts_again = λ c id place row o u idle runs at has is h. (h.0, λ _. h.1 u.1);
-      removed = λ place row o u idle runs at down h. (h.0, λ _. omega (arith, h.1 u.1, removes place row o at));
-      given_up = λ place row o u idle runs at down h. (h.0, λ _. omega (arith, h.1 u.1, set place row Undefined o));
-      stops_child = λ c p place row o u idle runs at up h. (h.0, λ _. h.1 u.1);
+      starts_again = λ c id place row o u idle runs at has is noted found h. (h.0, λ _. h.1 (same_work old o u));
+      removed = λ place row o u idle runs at down h. (h.0, λ _. omega (arith, h.1 (same_work old o u), removes place row o at));
+      given_up = λ place row o u idle runs at down h. (h.0, λ _. omega (arith, h.1 (same_work old o u), set place row Undefined o));
+      stops_child = λ c p place row o u idle runs at up has got h. (h.0, λ _. h.1 (same_work old o u));
     }
 
 -- an opening orders nothing itself
@@ -227,40 +227,28 @@ decide-few k o none = by_kind k refl
     by_kind kind.Stopped is = other_kind (λ own as_opened. absurd (search (rules, sym is ∙ as_opened)))
 
 -- work that goes on gives one order at most
-follow-one : (f : Option Sequel) (o : Outcome) → orders_in (follow f o).orders ≤ orders_in o.orders + 1
-unfolding follow end_all refuse_all answer
-follow-one None o = omega arith
-follow-one (Some sequel.Ready) o = one_more o.orders effect.Ready
-follow-one (Some sequel.Nothing) o = omega arith
-follow-one (Some (sequel.Added c)) o = one_more o.orders (effect.Reply c)
-follow-one (Some (sequel.Restarted c)) o = one_more o.orders (effect.Reply c)
-follow-one (Some (sequel.Stopped c)) o = one_more o.orders (effect.Reply c)
-follow-one (Some (sequel.End e)) o =
-    let refused : List Effect = filter_map refusal o.state.waiting in
-    let none : orders_in refused ≡ 0 = refusals-few o.state.waiting in
-    omega (arith, none, orders-append o.orders refused, one_more (o.orders ++ refused) (effect.End (sup_end_of o.state.flags o.state.stamps e)))
-
-start_first-one : (dues : List Due) (n : ℕ) (o : Outcome) → orders_in (start_first dues n o).orders ≤ orders_in o.orders + 1
-unfolding start_first start start_row
-start_first-one [] n o = follow-one o.state.follows o
-start_first-one (due ∷ dues) n o =
-    let left : Outcome = with_work o.state.to_stop dues o.state.follows o in
-    at_row-survives (λ (x : Outcome). orders_in (x.orders ++ effect.Start due.id n ∷ []) ≤ orders_in o.orders + 1) (is_due due) left (start_row due n) left
-    (one_more o.orders (effect.Start due.id n)) (one_more o.orders (effect.Start due.id n)) (λ i row at has. one_more o.orders (effect.Start due.id n))
-
-stop_first-one : (ps : List ℕ) (n : ℕ) (o : Outcome) → orders_in (stop_first ps n o).orders ≤ orders_in o.orders + 1
-unfolding stop_first
-stop_first-one [] n o = start_first-one o.state.to_start n o
-stop_first-one (p ∷ ps) n o =
-    let place : Option ℕ = position (is_exit p) o.state.waiting in
-    let left : Outcome = with_work ps o.state.to_start o.state.follows o in
-    by_test (λ (x : Outcome). orders_in x.orders ≤ orders_in o.orders + 1) (is_some place) (stop_first ps n (use_exit p place left)) (tell p left)
-    (λ _. let first = use_exit-adds p place left in omega (arith, first.0, stop_first-one ps n (use_exit p place left)))
-    (λ _. (tell-adds p left).0)
+going-one : (n : ℕ) (old : Outcome) → GoesOn n (λ _ x. orders_in x.orders ≤ orders_in old.orders) (λ x. orders_in x.orders ≤ orders_in old.orders + 1)
+unfolding start start_row answer end_all refuse_all
+going-one n old =
+    record {
+      uses = λ p rest o _ h. let first = use_exit-adds p (position (is_exit p) o.state.waiting) (with_stops rest o) in omega (arith, first.0, h);
+      tells = λ p rest o _ h. omega (arith, (tell-adds p (with_stops rest o)).0, h);
+      starts = λ due dues o _ h.
+          let left : Outcome = with_work o.state.to_stop dues o.state.follows o in
+          let more : orders_in (o.orders ++ effect.Start due.id n ∷ []) ≤ orders_in old.orders + 1 = omega (arith, one_more o.orders (effect.Start due.id n), h) in
+          at_row-survives (λ (x : Outcome). orders_in (x.orders ++ effect.Start due.id n ∷ []) ≤ orders_in old.orders + 1) (is_due due) left (start_row due n) left more more (λ i row at has. more);
+      closes = λ f o _ _ h. omega (arith, h);
+      answers = λ c r f o _ _ h. omega (arith, h, one_more o.orders (effect.Reply c));
+      ready = λ o _ h. omega (arith, h, one_more o.orders effect.Ready);
+      ends = λ e o _ h.
+          let refused : List Effect = filter_map refusal o.state.waiting in
+          let none : orders_in refused ≡ 0 = refusals-few o.state.waiting in
+          omega (arith, h, none, orders-append o.orders refused, one_more (o.orders ++ refused) (effect.End (sup_end_of o.state.flags o.state.stamps e)));
+    }
 
 advance-one : (n : ℕ) (o : Outcome) → orders_in (advance n o).orders ≤ orders_in o.orders + 1
 advance-one n o =
-    advance-by (λ (x : Outcome). orders_in x.orders ≤ orders_in o.orders + 1) n o (omega arith) (λ _ _. stop_first-one o.state.to_stop n o)
+    advance-on n (λ _ x. orders_in x.orders ≤ orders_in o.orders) (λ x. orders_in x.orders ≤ orders_in o.orders + 1) (going-one n o) o (λ _. omega arith) (λ _ _. omega arith)
 
 pub orders_few_law : OrdersFew
 unfolding step step_on

@@ -16,20 +16,20 @@ use Rattle.otp_rules.specs.declared.ending.Ending.TheVariants as ending
 use Rattle.otp_rules.specs.declared.event.Kind.{Kind}
 use Rattle.otp_rules.specs.declared.work.Sequel.{Sequel}
 use Rattle.otp_rules.specs.declared.work.Sequel.TheVariants as sequel
-use Rattle.otp_rules.specs.declared.work.Due.{Due}
 use Rattle.otp_rules.specs.State.{Outcome, answer, is_busy, with_stamps, with_waiting, with_work}
 use Rattle.otp_rules.specs.Places.{at_number, end_row, end_process, set_row}
 use Rattle.otp_rules.specs.Restarts.{running}
 use Rattle.otp_rules.specs.Stops.{calm_all, is_exit, without, told, tell_row, tell, use_exit, stop_each, terminate}
 use Rattle.otp_rules.specs.Starts.{is_due, start_row, start}
 use Rattle.otp_rules.specs.Ends.{end_all, refuse_all}
-use Rattle.otp_rules.specs.Work.{follow, start_first, stop_first, advance}
+use Rattle.otp_rules.specs.Work.{advance}
 use Rattle.otp_rules.specs.Deaths.{restart_rows, restart}
 use Rattle.otp_rules.specs.Step.{open_rows, open_with, tick, decide}
 use Rattle.otp_rules.specs.Progress.{is_end}
 use Rattle.otp_rules.specs.Fit.{is_told, rows_in, times, runs_as, IsLimited, IsSound}
 use Rattle.otp_rules.specs.InOrder.{is_begun, Finishes, IsStopping}
-use Rattle.otp_rules.proofs.Walks.{advance-by, restart-by, stop_first-by, terminate-by}
+use Rattle.otp_rules.proofs.GoesOn.{GoesOn, advance-on}
+use Rattle.otp_rules.proofs.Walks.{restart-by, terminate-by}
 use Rattle.otp_rules.proofs.Decisions.{StandsAt, Survives, at_row-survives, by_test, decide-survives}
 use Rattle.otp_rules.proofs.Counting.{Alike, at_row-found, end_row-alike, none_in, rows_in-at, rows_in-cons, rows_in-end, rows_in-map, rows_in-set, tell-alike, tick_count, times-cons, times-reverse, told-runs, told-told, use_exit-alike, rows_in-apart, rows_in-le}
 use Rattle.otp_rules.proofs.Sound.{IsReady, awaits_nothing, sound-survives, used-ready}
@@ -306,28 +306,22 @@ tell-finishes p ps o h e =
     let done : IsStopping ps (tell p left).state.rows = tell-stopping p ps left h.1 (h.2 (sym (ap is_end same.4) ∙ e)) in
     (λ q. let t : times q (tell p left).state.to_stop ≡ times q ps = ap (λ (xs : List ℕ). times q xs) same.2 in omega (arith, t, done.0 q), done.1)
 
-follow-finishes : (f : Option Sequel) (o : Outcome) → o.state.follows ≡ f → Finishes (follow f o).state
-unfolding follow end_all refuse_all answer
-follow-finishes None o is e = absurd (false≢true (sym (ap is_end is) ∙ e))
-follow-finishes (Some sequel.Ready) o is e = absurd (false≢true e)
-follow-finishes (Some sequel.Nothing) o is e = absurd (false≢true e)
-follow-finishes (Some (sequel.Added c)) o is e = absurd (false≢true e)
-follow-finishes (Some (sequel.Restarted c)) o is e = absurd (false≢true e)
-follow-finishes (Some (sequel.Stopped c)) o is e = absurd (false≢true e)
-follow-finishes (Some (sequel.End x)) o is e = absurd (false≢true e)
-
-start_first-finishes : (dues : List Due) (n : ℕ) (o : Outcome) → o.state.to_start ≡ dues → IsSound o.state → Finishes (start_first dues n o).state
-unfolding start_first start start_row
-start_first-finishes [] n o is sound = follow-finishes o.state.follows o refl
-start_first-finishes (due ∷ dues) n o is sound =
-    let left : Outcome = with_work o.state.to_stop dues o.state.follows o in
-    let stays : is_end o.state.follows ≡ true → ⊥ = λ e. let k : due ∷ dues ≡ [] = sym is ∙ sound.4 e in cc in
-    at_row-survives (λ (x : Outcome). Finishes x.state) (is_due due) left (start_row due n) left (λ e. absurd (stays e)) (λ e. absurd (stays e)) (λ i row at has e. absurd (stays e))
-
-stop_first-finishes : (ps : List ℕ) (n : ℕ) (o : Outcome) → Stops ps o → Finishes (stop_first ps n o).state
-stop_first-finishes ps n =
-    stop_first-by Stops (λ x. Finishes x.state) n (λ o h. start_first-finishes o.state.to_start n o refl h.0.0) (λ p rest o _ h. used-stops p rest o h) (λ p rest o h. tell-finishes p rest o h) ps
+going-finishes : (n : ℕ) → GoesOn n Stops (λ x. Finishes x.state)
+unfolding start start_row answer end_all refuse_all
+going-finishes n =
+    record {
+      uses = λ p rest o _ h. used-stops p rest o h;
+      tells = λ p rest o _ h. tell-finishes p rest o h;
+      starts = λ due dues o is h.
+          let left : Outcome = with_work o.state.to_stop dues o.state.follows o in
+          let stays : is_end o.state.follows ≡ true → ⊥ = λ e. let k : due ∷ dues ≡ [] = sym is ∙ h.0.0.4 e in cc in
+          at_row-survives (λ (x : Outcome). Finishes x.state) (is_due due) left (start_row due n) left (λ e. absurd (stays e)) (λ e. absurd (stays e)) (λ i row at has e. absurd (stays e));
+      closes = λ f o _ _ h e. absurd (false≢true e);
+      answers = λ c r f o _ _ h e. absurd (false≢true e);
+      ready = λ o _ h e. absurd (false≢true e);
+      ends = λ x o _ h e. absurd (false≢true e);
+    }
 
 pub advance-finishes : (n : ℕ) (o : Outcome) → IsSound o.state → AreOne o → Finishes o.state → Finishes (advance n o).state
 advance-finishes n o sound one h =
-    advance-by (λ (x : Outcome). Finishes x.state) n o h (λ busy none. stop_first-finishes o.state.to_stop n o ((sound, none_in is_awaited o.state.rows none, refl, busy), one, h))
+    advance-on n Stops (λ (x : Outcome). Finishes x.state) (going-finishes n) o (λ _. h) (λ busy none. ((sound, none_in is_awaited o.state.rows none, refl, busy), one, h))

@@ -1,15 +1,15 @@
 -- An end that waits was taken while a child had its process.
-use Rattle.std.specs.Prelude.{◌≡◌, ◌⊎◌, ℕ, ◌==◌, ◌<◌, ◌++◌, ◌||◌, Bool, true, false, List, [], ◌∷◌, Option, None, Some, refl, if◌then◌else◌, position, is_some, unwrap_or}
+use Rattle.std.specs.Prelude.{◌≡◌, ◌⊎◌, ℕ, ◌==◌, ◌<◌, ◌++◌, ◌||◌, Bool, true, false, List, [], ◌∷◌, Option, None, Some, refl, position, is_some, slice_get, unwrap_or}
 use Rattle.std.specs.List.{cons_option, list_any}
 use Rattle.std.proofs.Common.{◌∙◌, ap, sym, subst, inl, inr, arith, ⊎_elim, cond}
 use Rattle.std.proofs.lemmas.Bool.{false≢true, cases_Bool, eq-eqb, eqb-true}
 use Rattle.std.proofs.lemmas.List.Folds.{list_any-append}
-use Prim.Native.Nat.{suc}
+use Rattle.std.proofs.lemmas.Option.{get_or_from_slice_get, slice_get_within}
 use Rattle.otp_reason.specs.declared.reason.Reason.{Reason}
 use Rattle.otp_reason.specs.declared.note.Note.TheVariants as note
 use Rattle.otp_table.specs.declared.row.Row.{Row}
 use Rattle.otp_table.specs.declared.row.RowState.TheVariants.{Undefined}
-use Rattle.otp_table.specs.Rows.{has_process, is_awaited, row_has}
+use Rattle.otp_table.specs.Rows.{has_process}
 use Rattle.otp_rules.specs.declared.call.Reply.{Reply}
 use Rattle.otp_rules.specs.declared.ending.Ending.{Ending}
 use Rattle.otp_rules.specs.declared.ending.Ending.TheVariants as ending
@@ -20,18 +20,16 @@ use Rattle.otp_rules.specs.declared.event.Kind.{Kind}
 use Rattle.otp_rules.specs.declared.event.Kind.TheVariants as kind
 use Rattle.otp_rules.specs.declared.event.Waiting.{Waiting}
 use Rattle.otp_rules.specs.declared.event.Waiting.TheVariants as waiting
-use Rattle.otp_rules.specs.declared.work.Sequel.{Sequel}
 use Rattle.otp_rules.specs.declared.work.Sequel.TheVariants as sequel
-use Rattle.otp_rules.specs.declared.work.Due.{Due}
-use Rattle.otp_rules.specs.State.{Outcome, State, answer, is_busy, is_over, with_stamps, with_work}
-use Rattle.otp_rules.specs.Places.{at_number, end_row, set_row}
+use Rattle.otp_rules.specs.State.{Outcome, State, answer, with_stamps, with_work}
+use Rattle.otp_rules.specs.Places.{end_row, set_row}
 use Rattle.otp_rules.specs.Restarts.{running}
 use Rattle.otp_rules.specs.Stops.{calm_all, is_exit, without, tell_row, tell, use_exit, stop_each, terminate}
 use Rattle.otp_rules.specs.Starts.{is_due, start_row, start}
 use Rattle.otp_rules.specs.Ends.{refuse_all, end_all}
-use Rattle.otp_rules.specs.Work.{follow, start_first, stop_first, advance}
-use Rattle.otp_rules.specs.Deaths.{exit_in, restart_rows, restart, take_exit}
-use Rattle.otp_rules.specs.Step.{open_rows, open_with, take_item, take_note, tick, decide, stamped, step, step_on}
+use Rattle.otp_rules.specs.Work.{advance}
+use Rattle.otp_rules.specs.Deaths.{restart_rows, restart}
+use Rattle.otp_rules.specs.Step.{open_rows, open_with, tick, decide, stamped, step, step_on}
 use Rattle.otp_rules.specs.Run.{empty_state, state_after}
 use Rattle.otp_rules.specs.Needs.{IsNumbered, is_start, needs_number, numbers_of}
 use Rattle.otp_rules.specs.Homes.{Brings, IsFirst, is_ended}
@@ -39,9 +37,10 @@ use Rattle.otp_rules.specs.Fit.{rows_in}
 use Rattle.otp_rules.specs.Progress.{IsIn, at_most_one}
 use Rattle.otp_rules.specs.InOrder.{AreGiven}
 use Rattle.otp_rules.specs.Lives.{EndsAreHeard, EndsTellStarted, EndsTellStartedFrom, IsHeld, TakesEnd}
-use Rattle.otp_rules.proofs.Walks.{restart-by, terminate-by}
-use Rattle.otp_rules.proofs.Decisions.{BringsExit, SurvivesEvent, StandsAt, at_row-survives, at_number-survives, by_test, decide-survives, decide-survives_event}
-use Rattle.otp_rules.proofs.Counting.{end_row-quiet, none_in, rows_in-at, times-append, times-cons, use_exit-quiet}
+use Rattle.otp_rules.proofs.GoesOn.{GoesOn, advance-on}
+use Rattle.otp_rules.proofs.Walks.{restart-by, stop_each-by, terminate-by, with_stops}
+use Rattle.otp_rules.proofs.Decisions.{BringsExit, IsUnmoved, SurvivesEvent, StandsAt, at_row-survives, at_number-survives, decide-survives, decide-survives_event}
+use Rattle.otp_rules.proofs.Counting.{end_row-quiet, times-append, times-cons, use_exit-quiet}
 use Rattle.otp_rules.proofs.Homes.{none_has, or_cases, or_right, quiet_more, without_less}
 use Rattle.otp_rules.proofs.Finishing.{zero_or_more}
 use Rattle.otp_rules.proofs.Numbers.{NoMore, no_more-survives, step-grown}
@@ -64,13 +63,8 @@ use_exit-less p q place o left same h =
     (subst (λ (ws : List Waiting). list_any (is_ended p) ws ≡ true) ((use_exit-quiet q place left).0 ∙ ap (λ (ws : List Waiting). without ws place) same) h)
 
 stop_each-less : (p : ℕ) (qs : List ℕ) (o : Outcome) → Less p o (stop_each qs o)
-unfolding stop_each
-stop_each-less p [] o = λ h. h
-stop_each-less p (q ∷ qs) o =
-    let place : Option ℕ = position (is_exit q) o.state.waiting in
-    by_test (Less p o) (is_some place) (stop_each qs (use_exit q place o)) (stop_each qs (tell q o))
-    (λ _ h. use_exit-less p q place o o refl (stop_each-less p qs (use_exit q place o) h))
-    (λ _ h. tell-less p q o (stop_each-less p qs (tell q o) h))
+stop_each-less p qs o =
+    stop_each-by (Less p o) (λ q x _ h w. h (use_exit-less p q (position (is_exit q) x.state.waiting) x x refl w)) (λ q x _ h w. h (tell-less p q x w)) qs o (λ w. w)
 
 pub terminate-less : (p : ℕ) (e : Ending) (o : Outcome) → Less p o (terminate e o)
 terminate-less p e o =
@@ -101,26 +95,30 @@ open-less p own o h = h
 pub end-less : (p place : ℕ) (row : Row) (o : Outcome) → Less p o (end_row place row o)
 end-less p place row o h = subst (λ (ws : List Waiting). list_any (is_ended p) ws ≡ true) (end_row-quiet place row o).0 h
 
--- one that waits did before, or the event brings it
+-- one that waits did before, or the event brings it, and a child had its process
 abbrev pub IsHeard : (Item → Type 0) → Outcome → ℕ → Outcome → Type 0
-IsHeard G old p o = Waits p o → Waits p old ⊎ BringsExit G p
+IsHeard G old p o = Waits p o → Waits p old ⊎ (BringsExit G p × IsHeld old.state.rows p)
 
 -- an end that is brought waits behind the others
-pub exit_put : (D : Type 0) (G : Item → Type 0) (p q : ℕ) (r : Reason) (ws : List Waiting) → G (item.Note (note.Exit q r)) → (BringsExit G p → D) → (list_any (is_ended p) ws ≡ true → D)
-    → list_any (is_ended p) (ws ++ waiting.Item (item.Note (note.Exit q r)) ∷ []) ≡ true → D
-exit_put D G p q r ws got brings h waits =
+pub exit_put : (D : Type 0) (p q : ℕ) (r : Reason) (ws : List Waiting) → (q ≡ p → D) → (list_any (is_ended p) ws ≡ true → D) → list_any (is_ended p) (ws ++ waiting.Item (item.Note (note.Exit q r)) ∷ []) ≡ true → D
+exit_put D p q r ws brings h waits =
     ⊎_elim h
-    (λ (new : ((q == p) || false) ≡ true).
-    ⊎_elim (λ (same : (q == p) ≡ true). brings (r, subst (λ (n : ℕ). G (item.Note (note.Exit n r))) (eqb-true q p same) got)) (λ e. absurd (false≢true e)) (or_cases (q == p) false new))
+    (λ (new : ((q == p) || false) ≡ true). ⊎_elim (λ (same : (q == p) ≡ true). brings (eqb-true q p same)) (λ e. absurd (false≢true e)) (or_cases (q == p) false new))
     (or_cases (list_any (is_ended p) ws) ((q == p) || false) (sym (list_any-append (is_ended p) ws (waiting.Item (item.Note (note.Exit q r)) ∷ [])) ∙ waits))
+
+held_at : (p place : ℕ) (row : Row) (old o : Outcome) → IsUnmoved old o → StandsAt place row o → has_process p row.state ≡ true → IsHeld old.state.rows p
+held_at p place row old o u at has =
+    let there : slice_get old.state.rows place ≡ Some row = ap (λ (x : Outcome). slice_get x.state.rows place) (sym u) ∙ at in
+    (row, (place, slice_get_within old.state.rows place row there, get_or_from_slice_get old.state.rows place row row there), has)
 
 heard-survives : (k : Kind) (G : Item → Type 0) (old : Outcome) (p : ℕ) → SurvivesEvent k G old (IsHeard G old p)
 heard-survives k G old p =
     record {
-      answered = λ c r o h w. h (answer-less p c r o w);
+      answered = λ c r o quiet h w. h (answer-less p c r o w);
       taken = λ x xs resumed idle runs is h w. inl (subst (λ (ws : List Waiting). list_any (is_ended p) ws ≡ true) (sym is) (or_right (is_ended p x) (list_any (is_ended p) xs) w));
       call_waits = λ c x o u busy g h w. h (quiet_more o.state.waiting (waiting.Item (item.Call c x)) (λ q. refl) p w);
-      exit_waits = λ q r o u g h w. exit_put (Waits p old ⊎ BringsExit G p) G p q r o.state.waiting g (λ b. inr b) h w;
+      exit_waits = λ q r place row o u at has g h.
+          exit_put (Waits p old ⊎ (BringsExit G p × IsHeld old.state.rows p)) p q r o.state.waiting (λ same. inr ((r, subst (λ (n : ℕ). G (item.Note (note.Exit n r))) same g), subst (λ (n : ℕ). IsHeld old.state.rows n) same (held_at q place row old o u at has))) h;
       up = λ q place row n kept o u at is same g h. h;
       up_closed = λ q place row n kept c o u at is same follows g h. h;
       ignored = λ q place row n kept o u at is same g h w. h (end-less p place row o w);
@@ -135,10 +133,10 @@ heard-survives k G old p =
       ticks = λ is h w. h (tick-less p old w);
       opens = λ own is over h w. h (open-less p own old w);
       adds = λ c id spec o u idle runs named few got h. h;
-      starts_again = λ c id place row o u idle runs at has is h. h;
+      starts_again = λ c id place row o u idle runs at has is noted found h. h;
       removed = λ place row o u idle runs at down h. h;
       given_up = λ place row o u idle runs at down h. h;
-      stops_child = λ c q place row o u idle runs at up h. h;
+      stops_child = λ c q place row o u idle runs at up has got h. h;
     }
 
 pub decided-heard : (k : Kind) (old : Outcome) (p : ℕ) → IsHeard (Brings k old.state.waiting) old p (decide k old)
@@ -147,82 +145,39 @@ decided-heard k old p =
     decide-survives_event k G old (IsHeard G old p) (heard-survives k G old p) (λ i b idle. b) (λ w. inl w)
 
 -- no more ends wait when the work goes on
-pub follow-less : (p : ℕ) (f : Option Sequel) (o : Outcome) → Less p o (follow f o)
-unfolding follow end_all refuse_all answer
-follow-less p None o h = h
-follow-less p (Some sequel.Ready) o h = h
-follow-less p (Some sequel.Nothing) o h = h
-follow-less p (Some (sequel.Added c)) o h = h
-follow-less p (Some (sequel.Restarted c)) o h = h
-follow-less p (Some (sequel.Stopped c)) o h = h
-follow-less p (Some (sequel.End e)) o h = absurd (false≢true h)
-
-start_first-less : (p : ℕ) (dues : List Due) (n : ℕ) (o : Outcome) → Less p o (start_first dues n o)
-unfolding start_first start start_row
-start_first-less p [] n o = follow-less p o.state.follows o
-start_first-less p (due ∷ dues) n o =
-    let left : Outcome = with_work o.state.to_stop dues o.state.follows o in
-    at_row-survives (Less p o) (is_due due) left (start_row due n) left (λ h. h) (λ h. h) (λ i row at has h. h)
-
-stop_first-less : (p : ℕ) (qs : List ℕ) (n : ℕ) (o : Outcome) → Less p o (stop_first qs n o)
-unfolding stop_first
-stop_first-less p [] n o = start_first-less p o.state.to_start n o
-stop_first-less p (q ∷ qs) n o =
-    let place : Option ℕ = position (is_exit q) o.state.waiting in
-    let left : Outcome = with_work qs o.state.to_start o.state.follows o in
-    by_test (Less p o) (is_some place) (stop_first qs n (use_exit q place left)) (tell q left)
-    (λ _ h. use_exit-less p q place o left refl (stop_first-less p qs n (use_exit q place left) h))
-    (λ _. tell-less p q left)
+going-less : (p n : ℕ) (old : Outcome) → GoesOn n (λ _. Less p old) (Less p old)
+unfolding start start_row answer end_all refuse_all
+going-less p n old =
+    record {
+      uses = λ q rest o _ h w. h (use_exit-less p q (position (is_exit q) o.state.waiting) o (with_stops rest o) refl w);
+      tells = λ q rest o _ h w. h (tell-less p q (with_stops rest o) w);
+      starts = λ due dues o _ h. let left : Outcome = with_work o.state.to_stop dues o.state.follows o in at_row-survives (Less p old) (is_due due) left (start_row due n) left h h (λ i row at has. h);
+      closes = λ f o _ _ h. h;
+      answers = λ c r f o _ _ h. h;
+      ready = λ o _ h. h;
+      ends = λ e o _ h w. absurd (false≢true w);
+    }
 
 advance-less : (p n : ℕ) (o : Outcome) → Less p o (advance n o)
-unfolding advance
-advance-less p n o =
-    let go : Outcome = stop_first o.state.to_stop n o in
-    by_test (Less p o) (is_busy o) (if list_any (row_has is_awaited) o.state.rows then o else go) o
-    (λ _. by_test (Less p o) (list_any (row_has is_awaited) o.state.rows) o go (λ _ h. h) (λ _. stop_first-less p o.state.to_stop n o))
-    (λ _ h. h)
-
-pub any_held : (p : ℕ) (rows : List Row) → list_any (row_has (has_process p)) rows ≡ true → IsHeld rows p
-any_held p [] h = absurd (false≢true h)
-any_held p (x ∷ xs) h =
-    ⊎_elim (λ here. (x, (0, omega arith, refl), here))
-    (λ later. let r : IsHeld xs p = any_held p xs later in (r.0, (suc r.1.0, omega (arith, r.1.1), r.1.2), r.2))
-    (or_cases (has_process p x.state) (list_any (row_has (has_process p)) xs) h)
-
-no_such : (p place : ℕ) (row : Row) (o : Outcome) → list_any (row_has (has_process p)) o.state.rows ≡ false → StandsAt place row o → has_process p row.state ≡ true → ⊥
-no_such p place row o none at has =
-    let one : ◌≡◌ {A = ℕ} (cond (has_process p row.state) 1 0) 1 = ap (λ (b : Bool). cond b 1 0) has in
-    let zero_rows : rows_in (has_process p) o.state.rows ≡ 0 = none_in (has_process p) o.state.rows none in
-    omega (arith, rows_in-at (has_process p) place row o.state.rows at, one, zero_rows)
-
--- the note of a process that no child has changes nothing
-unheard : (p : ℕ) (r : Reason) (o : Outcome) → list_any (row_has (has_process p)) o.state.rows ≡ false → (decide (kind.Took (item.Note (note.Exit p r))) o).state.waiting ≡ o.state.waiting
-unfolding decide take_item take_note take_exit
-unheard p r o none =
-    by_test (λ (x : Outcome). x.state.waiting ≡ o.state.waiting) (is_over o.state.phase) o (at_number p (λ place row. exit_in p r place row row.state) o) (λ _. refl)
-    (λ _. at_number-survives (λ (x : Outcome). x.state.waiting ≡ o.state.waiting) p (λ place row. exit_in p r place row row.state) o refl (λ place row at has. absurd (no_such p place row o none at has)))
+advance-less p n o = advance-on n (λ _. Less p o) (Less p o) (going-less p n o) o (λ _ h. h) (λ _ _ h. h)
 
 first_waits : (ws : List Waiting) (p : ℕ) (r : Reason) → IsFirst ws (item.Note (note.Exit p r)) → list_any (is_ended p) ws ≡ true
 first_waits [] p r first = absurd first
 first_waits (w ∷ ws) p r first = ap (λ (b : Bool). b || list_any (is_ended p) ws) (ap (λ (y : Waiting). is_ended p y) first ∙ eq-eqb p p refl)
 
-brought : (k : Kind) (o : Outcome) (p : ℕ) → BringsExit (Brings k o.state.waiting) p → Waits p (decide k o) → Waits p o ⊎ (TakesEnd k p × IsHeld o.state.rows p)
-brought (kind.Opened own) o p b w = absurd b.1
-brought (kind.Took j) o p b w =
-    ⊎_elim
-    (λ held. inr ((note.Exit p b.0, ap (λ (i : Item). kind.Took i) b.1, refl), any_held p o.state.rows held))
-    (λ none. inl (subst (λ (ws : List Waiting). list_any (is_ended p) ws ≡ true) (unheard p b.0 o none) (subst (λ (i : Item). Waits p (decide (kind.Took i) o)) b.1 w)))
-    (cases_Bool (list_any (row_has (has_process p)) o.state.rows))
-brought kind.Resumed o p b w = inl (first_waits o.state.waiting p b.0 b.1)
-brought kind.Ticked o p b w = absurd b.1
-brought kind.Stopped o p b w = absurd b.1
+brought : (k : Kind) (ws : List Waiting) (p : ℕ) → BringsExit (Brings k ws) p → (list_any (is_ended p) ws ≡ true) ⊎ TakesEnd k p
+brought (kind.Opened own) ws p b = absurd b.1
+brought (kind.Took j) ws p b = inr (note.Exit p b.0, ap (λ (i : Item). kind.Took i) b.1, refl)
+brought kind.Resumed ws p b = inl (first_waits ws p b.0 b.1)
+brought kind.Ticked ws p b = absurd b.1
+brought kind.Stopped ws p b = absurd b.1
 
 pub ends_are_heard_law : EndsAreHeard
 unfolding step step_on
 ends_are_heard_law s e p waits =
     let start : Outcome = record { state = stamped e.reading s; orders = [] } in
     let decides : Waits p (decide e.kind start) = advance-less p (unwrap_or e.number 0) (decide e.kind start) waits in
-    ⊎_elim (λ was. inl was) (λ b. brought e.kind start p b decides) (decided-heard e.kind start p decides)
+    ⊎_elim (λ was. inl was) (λ heard. ⊎_elim (λ first. inl first) (λ took. inr (took, heard.1)) (brought e.kind s.waiting p heard.0)) (decided-heard e.kind start p decides)
 
 -- a child's process had it before, or is the event's
 held_after : (s : State) (e : Event) (q : ℕ) → is_some e.number ≡ needs_number s e.reading e.kind → 0 < rows_in (has_process q) (step s e).state.rows → (0 < rows_in (has_process q) s.rows) ⊎ (e.number ≡ Some q)

@@ -28,7 +28,6 @@ use Rattle.otp_rules.specs.declared.event.Kind.TheVariants as kind
 use Rattle.otp_rules.specs.declared.event.Waiting.{Waiting}
 use Rattle.otp_rules.specs.declared.event.Waiting.TheVariants as waiting
 use Rattle.otp_rules.specs.declared.work.Due.{Due}
-use Rattle.otp_rules.specs.declared.work.Sequel.{Sequel}
 use Rattle.otp_rules.specs.declared.work.Sequel.TheVariants as sequel
 use Rattle.otp_spec.specs.Flags.{is_simple}
 use Rattle.otp_rules.specs.State.{is_over, Outcome, State, answer, put_last, with_rows, with_stamps, with_waiting, with_work}
@@ -37,15 +36,16 @@ use Rattle.otp_rules.specs.Restarts.{affected_from, affected_to, running}
 use Rattle.otp_rules.specs.Stops.{calm_all, is_exit, without, told, tell_row, tell, use_exit, stop_each, terminate}
 use Rattle.otp_rules.specs.Starts.{is_due, start_row, start}
 use Rattle.otp_rules.specs.Ends.{refuse_all, end_all}
-use Rattle.otp_rules.specs.Work.{follow, start_first, stop_first, advance}
+use Rattle.otp_rules.specs.Work.{advance}
 use Rattle.otp_rules.specs.Deaths.{restart_rows, restart}
 use Rattle.otp_rules.specs.Calls.{new_row}
 use Rattle.otp_rules.specs.Step.{open_rows, open_with, opening_specs, rows_from, tick, decide, stamped, step, step_on, killed, late_number}
 use Rattle.otp_rules.specs.Homes.{Brings, ComesHome, EndsProcess, HomesKept, HomesKeptFrom, IsAdded, IsNewNumber, IsFirst, IsOpened, WasThere, end_number, is_ended, is_home, is_start_call, is_started}
 use Rattle.otp_rules.specs.Fit.{rows_in}
+use Rattle.otp_rules.proofs.GoesOn.{GoesOn, advance-on}
 use Rattle.otp_rules.proofs.States.{told_has}
-use Rattle.otp_rules.proofs.Walks.{advance-by, restart-by, stop_each-by, stop_first-by, terminate-by, with_stops}
-use Rattle.otp_rules.proofs.Decisions.{BringsExit, BringsFailure, StandsAt, SurvivesEvent, at_row-survives, at_number-survives, by_test, decide-survives_event, is_down}
+use Rattle.otp_rules.proofs.Walks.{restart-by, stop_each-by, terminate-by, with_stops}
+use Rattle.otp_rules.proofs.Decisions.{BringsExit, BringsFailure, Dies, StandsAt, SurvivesEvent, at_row-survives, at_number-survives, by_test, decide-survives_event, is_down}
 use Rattle.std.specs.Prelude.{length}
 use Rattle.otp_rules.specs.Run.{empty_state, state_after}
 use Rattle.std.proofs.Common.{cond}
@@ -422,11 +422,11 @@ known-survives : (what : Kind) (G : Item → Type 0) (old : Outcome) → Survive
 known-survives what G old =
     let s : State = old.state in
     record {
-      answered = λ c r o h. answer-known what s G c r o h;
+      answered = λ c r o quiet h. answer-known what s G c r o h;
       taken = λ w ws resumed idle runs is h.
           less_known what s G (w ∷ ws) ws (λ p k. or_right (is_ended p w) (list_any (is_ended p) ws) k) s.rows (of_waiting what s G old (w ∷ ws) is h);
       call_waits = λ c call o u busy g h. put-known what s G (waiting.Item (item.Call c call)) o (λ p. refl) h;
-      exit_waits = λ p r o u got h.
+      exit_waits = λ p r place row o u at has got h.
           let x : Waiting = waiting.Item (item.Note (note.Exit p r)) in
           each-more (Known what s G o.state.waiting) (Known what s G (o.state.waiting ++ x ∷ []))
           (λ row k. moves what s G o.state.waiting (o.state.waiting ++ x ∷ []) row row refl refl (λ q has. has)
@@ -452,18 +452,18 @@ known-survives what G old =
       died = λ p place row o u idle runs at is noted h. ended what s G place row o at (inr (exits G row p is noted)) h;
       restarts = λ p place row o u idle runs at is h.
           restart-known what s G p place row o at
-          (⊎_elim (λ up. inr (exits G row p up.0 up.1)) (λ down. inl (ap (λ (t : RowState). is_home o.state.waiting t) down)) is) h;
+          (⊎_elim (λ (up : Dies G p place row o true). inr (exits G row p up.0 (up.1.0, up.1.1))) (λ down. inl (ap (λ (t : RowState). is_home o.state.waiting t) down.0)) is) h;
       ends = λ e o u other idle runs h. terminate-known what s G e o h;
       ticks = λ is h. tick-known what s G old h;
       opens = λ own is over h. opening-known what s G own old refl is over;
       adds = λ c id spec o u idle runs named few got h.
           each-append (Known what s G o.state.waiting) o.state.rows (new_row (free_slot o.state.rows) id spec ∷ []) h
-          (inr (inl (record { c = c; x = got.0.0; start = got.0.1; brought = got.0.2; free = ap (λ (l : List Row). free_slot l) got.1 })), tt);
-      starts_again = λ c id place row o u idle runs at has is h. h;
+          (inr (inl (record { c = c; x = got.0; start = got.1; brought = got.2; free = ap (λ (y : Outcome). free_slot y.state.rows) u })), tt);
+      starts_again = λ c id place row o u idle runs at has is noted found h. h;
       removed = λ place row o u idle runs at down h. each-remove (Known what s G o.state.waiting) o.state.rows place h;
       given_up = λ place row o u idle runs at down h.
           down-known what s G o.state.waiting place row Undefined o.state.rows refl at (inl (down_home o.state.waiting row.state down)) h;
-      stops_child = λ c p place row o u idle runs at up h. h;
+      stops_child = λ c p place row o u idle runs at up has got h. h;
     }
 
 -- what is left to say of a row: that it is at home, or that the event starts it
@@ -486,16 +486,6 @@ AllTold what s G n o = Each (Told what s G n o.state.waiting) o.state.rows
 
 known-told : (what : Kind) (s : State) (G : Item → Type 0) (n : Option ℕ) → IsNewNumber n s.rows → (o : Outcome) → AllKnown what s G o → AllTold what s G n o
 known-told what s G n free o h = each-more (Known what s G o.state.waiting) (Told what s G n o.state.waiting) (λ row k. told-known what s G n o.state.waiting free row k) o.state.rows h
-
-follow-told : (what : Kind) (s : State) (G : Item → Type 0) (n : Option ℕ) (f : Option Sequel) (o : Outcome) → AllTold what s G n o → AllTold what s G n (follow f o)
-unfolding follow end_all refuse_all answer
-follow-told what s G n None o h = h
-follow-told what s G n (Some sequel.Ready) o h = h
-follow-told what s G n (Some sequel.Nothing) o h = h
-follow-told what s G n (Some (sequel.Added c)) o h = h
-follow-told what s G n (Some (sequel.Restarted c)) o h = h
-follow-told what s G n (Some (sequel.Stopped c)) o h = h
-follow-told what s G n (Some (sequel.End e)) o h = tt
 
 undefined_home : (ws : List Waiting) (state : RowState) → is_undefined state ≡ true → is_home ws state ≡ true
 undefined_home ws Undefined h = refl
@@ -521,19 +511,21 @@ start-told what s G n free due o h =
     of_row row (inr (inl f)) home = λ _. inr (inl (record { c = f.c; x = f.x; start = f.start; brought = f.brought; free = f.free }))
     of_row row (inr (inr o)) home = λ _. inr (inr (record { own = o.own; opening = o.opening; over = o.over; place = o.place }))
 
-start_first-told : (what : Kind) (s : State) (G : Item → Type 0) (n : Option ℕ) → IsNewNumber n s.rows → (dues : List Due) (o : Outcome) → AllKnown what s G o → AllTold what s G n (start_first dues (unwrap_or n 0) o)
-unfolding start_first
-start_first-told what s G n free [] o h = follow-told what s G n o.state.follows o (known-told what s G n free o h)
-start_first-told what s G n free (due ∷ dues) o h = start-told what s G n free due (with_work o.state.to_stop dues o.state.follows o) h
-
-stop_first-told : (what : Kind) (s : State) (G : Item → Type 0) (n : Option ℕ) → IsNewNumber n s.rows → (ps : List ℕ) (o : Outcome) → AllKnown what s G o → AllTold what s G n (stop_first ps (unwrap_or n 0) o)
-stop_first-told what s G n free ps =
-    stop_first-by (λ _. AllKnown what s G) (AllTold what s G n) (unwrap_or n 0) (λ o h. start_first-told what s G n free o.state.to_start o h)
-    (λ p rest o some h. use_exit-known what s G p o (with_stops rest o) refl refl some h) (λ p rest o h. known-told what s G n free (tell p (with_stops rest o)) (tell-known what s G p (with_stops rest o) h)) ps
+going-told : (what : Kind) (s : State) (G : Item → Type 0) (n : Option ℕ) → IsNewNumber n s.rows → GoesOn (unwrap_or n 0) (λ _. AllKnown what s G) (AllTold what s G n)
+unfolding answer end_all refuse_all
+going-told what s G n free =
+    record {
+      uses = λ p rest o some h. use_exit-known what s G p o (with_stops rest o) refl refl some h;
+      tells = λ p rest o _ h. known-told what s G n free (tell p (with_stops rest o)) (tell-known what s G p (with_stops rest o) h);
+      starts = λ due dues o _ h. start-told what s G n free due (with_work o.state.to_stop dues o.state.follows o) h;
+      closes = λ f o _ _ h. known-told what s G n free o h;
+      answers = λ c r f o _ _ h. known-told what s G n free o h;
+      ready = λ o _ h. known-told what s G n free o h;
+      ends = λ e o _ h. tt;
+    }
 
 advance-told : (what : Kind) (s : State) (G : Item → Type 0) (n : Option ℕ) → IsNewNumber n s.rows → (o : Outcome) → AllKnown what s G o → AllTold what s G n (advance (unwrap_or n 0) o)
-advance-told what s G n free o h =
-    advance-by (AllTold what s G n) (unwrap_or n 0) o (known-told what s G n free o h) (λ _ _. stop_first-told what s G n free o.state.to_stop o h)
+advance-told what s G n free o h = advance-on (unwrap_or n 0) (λ _. AllKnown what s G) (AllTold what s G n) (going-told what s G n free) o (λ _. known-told what s G n free o h) (λ _ _. h)
 
 ends_it : (x : Note) (p : ℕ) → end_number x ≡ Some p → is_ended p (waiting.Item (item.Note x)) ≡ true
 ends_it (note.Up _) p h = absurd (search (rules, h))

@@ -32,7 +32,7 @@ use Rattle.otp_rules.specs.Step.{kill_order, late_number, open_with, open_rows, 
 use Rattle.otp_rules.specs.Run.{empty_state, state_after}
 use Rattle.otp_rules.specs.Progress.{Progress, no_progress, is_end, is_opened, ends_together, decided, went_on, seen, gave, progress, processes, IsIn}
 use Rattle.otp_rules.specs.Fit.{is_told, rows_in, times, runs_as, IsSound, HasWaiting, HasStops, HasPart, Keeps, IsListed}
-use Rattle.otp_rules.proofs.Walks.{advance-by, restart-by}
+use Rattle.otp_rules.proofs.Walks.{advance-by, restart-by, stop_first-by, with_stops}
 use Rattle.otp_rules.proofs.Decisions.{IsIdle, Survives, at_row-survives, by_test, decide-survives}
 use Rattle.otp_rules.proofs.Counting.{times-cons, times-append, rows_in-set, rows_in-at, Alike, end_row-alike, use_exit-alike, told-told, times-reverse, none_in, there, at_row-found, end_row-quiet, use_exit-quiet, without_count, rows_in-le}
 use Rattle.otp_rules.specs.Order.{StopsInTurn, IsToldTogether, IsStopInTurn, StopOrder, StopOrderFromEmpty}
@@ -222,18 +222,16 @@ used-done g p ps place o ended d apart =
     (part.0, part.1 ++ p ∷ [], longer g p ps part.1 part.2, λ q i. ⊎_elim (λ x. part.3 q x) (λ same. subst (λ (m : ℕ). IsIn m g.ended) same ended) (in_longer q p part.1 i))
 
 stop_first-in-turn : (g : Progress) (Q : Effect → Type 0) → Allows g Q → (ps : List ℕ) (n : ℕ) (o : Outcome) → IsReady ps o → HasWaiting o.state g → HasDone g ps o → All Q o.orders → InTurn g Q (stop_first ps n o)
-unfolding stop_first
-stop_first-in-turn g Q may [] n o r w d all = start_first-in-turn g Q may o.state.to_start n o r w d all
-stop_first-in-turn g Q may (p ∷ ps) n o r w d all =
-    let left : Outcome = with_work ps o.state.to_start o.state.follows o in
-    let place : Option ℕ = position (is_exit p) o.state.waiting in
-    let used : Outcome = use_exit p place left in
-    by_test (InTurn g Q) (is_some place) (stop_first ps n used) (tell p left)
-    (λ waits.
-    stop_first-in-turn g Q may ps n used (used-ready p ps place o r) (used-waits g p ps o w)
-    (used-done g p ps place o (w p (there (is_exit p) o.state.waiting (waiting.Retry 0) waits)) d)
-    (subst (λ (xs : List Effect). All Q xs) (sym (use_exit-quiet p place left).1) all))
-    (λ _. told-in-turn g Q may p ps o r w d all)
+stop_first-in-turn g Q may ps n o r w d all =
+    stop_first-by (λ qs x. IsReady qs x × HasWaiting x.state g × HasDone g qs x × All Q x.orders) (InTurn g Q) n (λ x h. start_first-in-turn g Q may x.state.to_start n x h.0 h.1 h.2 h.3)
+    (λ p rest x waits h.
+    let place : Option ℕ = position (is_exit p) x.state.waiting in (
+      used-ready p rest place x h.0,
+      used-waits g p rest x h.1,
+      used-done g p rest place x (h.1 p (there (is_exit p) x.state.waiting (waiting.Retry 0) waits)) h.2,
+      subst (λ (xs : List Effect). All Q xs) (sym (use_exit-quiet p place (with_stops rest x)).1) h.3,
+    ))
+    (λ p rest x _ h. told-in-turn g Q may p rest x h.0 h.1 h.2 h.3) ps o (r, w, d, all)
 
 -- where nothing is awaited, those that were told have ended
 pub none_told : (q : ℕ) (rows : List Row) → rows_in is_awaited rows ≡ 0 → 0 < rows_in (is_told q) rows → ⊥
@@ -253,7 +251,7 @@ all-done s g none part = (part.0, part.1, part.2, λ q i. ⊎_elim (λ x. x) (λ
 
 advance-in-turn : (g : Progress) (Q : Effect → Type 0) (n : ℕ) (o : Outcome) → (list_any (row_has is_awaited) o.state.rows ≡ false → Allows g Q) → IsSound o.state → Keeps o.state g → All Q o.orders → InTurn g Q (advance n o)
 advance-in-turn g Q n o may sound keeps all =
-    advance-by (InTurn g Q) n o (keeps, all) (λ busy none.
+    advance-by (InTurn g Q) n o (λ _. (keeps, all)) (λ busy none.
     let zero : rows_in is_awaited o.state.rows ≡ 0 = none_in is_awaited o.state.rows none in
     let had : HasWaiting o.state g × HasStops o.state g = keeps busy in
     stop_first-in-turn g Q (may none) o.state.to_stop n o (sound, zero, refl, busy) had.0 (λ apart. all-done o.state g zero (had.1 apart)) all)

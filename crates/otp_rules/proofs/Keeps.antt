@@ -1,15 +1,11 @@
 -- What no event changes: flags, specifications and the last stamp; and no restart is stamped later than that.
-use Rattle.std.specs.Prelude.{◌≡◌, ℕ, ◌≤◌, ◌++◌, Bool, List, [], ◌∷◌, Option, None, Some, All, refl, max}
+use Rattle.std.specs.Prelude.{◌≡◌, ℕ, ◌≤◌, ◌++◌, Bool, List, [], ◌∷◌, All, refl, max}
 use Rattle.std.proofs.Common.{arith}
 use Rattle.std.proofs.lemmas.List.Elements.{All-nil, All-push}
-use Rattle.otp_rules.specs.declared.call.Reply.{Reply}
 use Rattle.otp_rules.specs.declared.event.Event.{Event}
 use Rattle.otp_rules.specs.declared.event.Kind.{Kind}
-use Rattle.otp_rules.specs.declared.work.Sequel.{Sequel}
-use Rattle.otp_rules.specs.declared.work.Sequel.TheVariants as sequel
 use Rattle.otp_rules.specs.State.{Outcome, State, answer, is_busy, with_stamps}
 use Rattle.otp_rules.specs.Ends.{refuse_all, end_all}
-use Rattle.otp_rules.specs.Work.{follow}
 use Rattle.otp_rules.specs.Step.{open_with, open_rows, tick, decide, stamped, step}
 use Rattle.otp_rules.proofs.Decisions.{decide-survives}
 use Rattle.otp_rules.proofs.Steady.{Steady, steady-survives, step-steady}
@@ -23,24 +19,6 @@ Keeps new old =
     × (new.state.last ≡ old.state.last)
     × (IsStamped old.state → IsStamped new.state)
 
-answered-keeps : (old : Outcome) (c : ℕ) (r : Reply) (o : Outcome) → Keeps o old → Keeps (answer c r o) old
-unfolding answer
-answered-keeps old c r o h = h
-
-followed-keeps : (old : Outcome) (f : Option Sequel) (o : Outcome) → Keeps o old → Keeps (follow f o) old
-unfolding follow end_all refuse_all answer
-followed-keeps old None o h = h
-followed-keeps old (Some sequel.Ready) o h = h
-followed-keeps old (Some sequel.Nothing) o h = h
-followed-keeps old (Some (sequel.Added _)) o h = h
-followed-keeps old (Some (sequel.Restarted _)) o h = h
-followed-keeps old (Some (sequel.Stopped _)) o h = h
-followed-keeps old (Some (sequel.End _)) o h = h
-
-ticks-keeps : (old o : Outcome) → Keeps o old → Keeps (tick o) old
-unfolding tick
-ticks-keeps old o h = h
-
 opened-keeps : (old : Outcome) (own : ℕ) (o : Outcome) → Keeps o old → Keeps (open_rows own o) old
 unfolding open_rows open_with
 opened-keeps old own o h = (h.0, h.1, h.2, λ _. All-nil (λ t. t ≤ o.state.last))
@@ -50,16 +28,15 @@ counted-keeps : (old o : Outcome) → Keeps o old → Keeps (with_stamps (o.stat
 counted-keeps old o h = (h.0, h.1, h.2, λ x. All-push (λ t. t ≤ o.state.last) o.state.stamps o.state.last (h.3 x) (omega arith))
 
 steady : (old : Outcome) (k : Kind) (b : Bool) → Steady k b (λ o. Keeps o old)
+unfolding answer end_all refuse_all tick
 steady old k b =
     record {
-      goes = record { rows = λ rows o h. h; waiting = λ items o h. h; left = λ ps ds o h. h; told = λ id p s o h. h; started = λ id n o h. h; followed = λ f o is h. followed-keeps old f o h };
-      answered = answered-keeps old;
-      closes = λ f o is stays h. h;
+      goes = record { rows = λ rows o h. h; waiting = λ items o h. h; left = λ ps ds o h. h; told = λ id p s o h. h; started = λ id n o h. h; closes = λ f o is stays h. h; answered = λ c r o h. h; ready = λ o h. h; ended = λ e o is h. h };
       opens = λ ps ds f o idle runs stays h. h;
       ends = λ ps e o other when h. h;
       exceeds = λ ps o idle runs many h. counted-keeps old o h;
       restarts = λ ps ds o idle runs few h. counted-keeps old o h;
-      ticks = ticks-keeps old;
+      ticks = λ o h. h;
       opened = λ own o is h. opened-keeps old own o h;
     }
 

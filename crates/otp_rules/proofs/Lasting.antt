@@ -24,16 +24,14 @@ use Rattle.otp_rules.specs.declared.event.Kind.TheVariants as kind
 use Rattle.otp_rules.specs.declared.event.Waiting.{Waiting}
 use Rattle.otp_rules.specs.declared.event.Waiting.TheVariants as waiting
 use Rattle.otp_rules.specs.declared.call.Reply.{Reply}
-use Rattle.otp_rules.specs.declared.work.Sequel.{Sequel}
 use Rattle.otp_rules.specs.declared.work.Sequel.TheVariants as sequel
-use Rattle.otp_rules.specs.declared.work.Due.{Due}
 use Rattle.otp_rules.specs.State.{Outcome, State, answer, with_rows, with_waiting, with_work}
 use Rattle.otp_rules.specs.Places.{end_row, end_process, is_removed, set_row}
 use Rattle.otp_rules.specs.Restarts.{running}
 use Rattle.otp_rules.specs.Stops.{calm_all, is_exit, without, told, tell_row, tell, use_exit, stop_each, terminate}
 use Rattle.otp_rules.specs.Starts.{is_due, start_row, start}
 use Rattle.otp_rules.specs.Ends.{end_all, refuse_all}
-use Rattle.otp_rules.specs.Work.{follow, start_first, stop_first, advance}
+use Rattle.otp_rules.specs.Work.{advance}
 use Rattle.otp_rules.specs.Deaths.{restart_rows, restart}
 use Rattle.otp_rules.specs.Calls.{new_row}
 use Rattle.otp_rules.specs.Step.{open_rows, tick, decide, stamped, step, step_on, killed, late_number}
@@ -44,9 +42,10 @@ use Rattle.otp_rules.specs.Fit.{next_number, rows_in, runs_as, times, IsDistinct
 use Rattle.otp_rules.specs.Progress.{is_end, no_progress}
 use Rattle.otp_rules.specs.InOrder.{Finishes, IsBare, IsInOrder, StaysInOrder}
 use Rattle.otp_rules.specs.Lives.{EndComesLast, EndComesLastFrom, HasEnded, IsHeldIn, ProcessesStay, ProcessesStayFrom}
+use Rattle.otp_rules.proofs.GoesOn.{GoesOn, advance-on}
 use Rattle.otp_rules.proofs.States.{one_process, told_has}
-use Rattle.otp_rules.proofs.Walks.{advance-by, stop_each-by, stop_first-by, terminate-by, with_stops, counted_restart}
-use Rattle.otp_rules.proofs.Decisions.{BringsExit, SurvivesEvent, StandsAt, at_row-survives, at_number-survives, by_test, decide-survives_event, is_down}
+use Rattle.otp_rules.proofs.Walks.{stop_each-by, terminate-by, with_stops, counted_restart}
+use Rattle.otp_rules.proofs.Decisions.{Dies, SurvivesEvent, StandsAt, at_row-survives, at_number-survives, by_test, decide-survives_event, is_down}
 use Rattle.otp_rules.proofs.Counting.{none_in, remove_count, rows_in-cons, set_count}
 use Rattle.otp_rules.proofs.EndedRows.{step-bare}
 use Rattle.otp_rules.proofs.Calm.{step-calm}
@@ -237,10 +236,10 @@ lasts-survives : (k : Kind) (G : Item → Type 0) (old : Outcome) (slot p : ℕ)
 lasts-survives k G old slot p bare =
     let D : Type 0 = Ended G old p in
     record {
-      answered = λ c r o h. (λ w. h.0 (answer-less p c r o w), answer-has D slot p c r o h.1);
+      answered = λ c r o quiet h. (λ w. h.0 (answer-less p c r o w), answer-has D slot p c r o h.1);
       taken = λ x xs resumed idle runs is h. (λ w. inl (subst (λ (ws : List Waiting). list_any (is_ended p) ws ≡ true) (sym is) (or_right (is_ended p x) (list_any (is_ended p) xs) w)), h.1);
       call_waits = λ c x o u busy g h. (λ w. h.0 (quiet_more o.state.waiting (waiting.Item (item.Call c x)) (λ q. refl) p w), h.1);
-      exit_waits = λ q r o u g h. (λ w. exit_put D G p q r o.state.waiting g (λ b. inr (note.Exit p b.0, b.1, refl)) h.0 w, h.1);
+      exit_waits = λ q r place row o u at has g h. (λ w. exit_put D p q r o.state.waiting (λ same. inr (note.Exit q r, g, ap (λ (n : ℕ). Some n) same)) h.0 w, h.1);
       up = λ q place row n kept o u at is same g h.
           (h.0, set-has D slot p place row (Up q) o at (λ mine. inl (eq-eqb q p (one_process p q row.state mine (has_starting row n kept q is same)))) h.1);
       up_closed = λ q place row n kept c o u at is same follows g h.
@@ -261,17 +260,17 @@ lasts-survives k G old slot p bare =
       died = λ q place row o u idle runs at is g h. end-lasts D slot p place row o at (by_note G old p q (note.Exit q g.0) row refl g.1 (up_has q row is)) h;
       restarts = λ q place row o u idle runs at is h.
           restart-lasts D slot p q place row o at
-          (λ mine. ⊎_elim (λ (up : (row.state ≡ Up q) × BringsExit G q). by_note G old p q (note.Exit q up.1.0) row refl up.1.1 (up_has q row up.0) mine)
-          (λ down. absurd (no_process p row.state (ap (λ (t : RowState). is_down t) down) mine)) is) h;
+          (λ mine. ⊎_elim (λ (up : Dies G q place row o true). by_note G old p q (note.Exit q up.1.0) row refl up.1.1 (up_has q row up.0) mine)
+          (λ down. absurd (no_process p row.state (ap (λ (t : RowState). is_down t) down.0) mine)) is) h;
       ends = λ e o u other idle runs h. terminate-lasts D slot p e o h;
       ticks = λ is h. (λ w. h.0 (tick-less p old w), tick-has D slot p old h.1);
       opens = λ own is over h. open-lasts D slot p own old (bare over) h;
       adds = λ c id spec o u idle runs named few got h.
           (h.0, has_more D slot p o.state.rows (o.state.rows ++ new_row (free_slot o.state.rows) id spec ∷ []) (omega (arith, sum_by-append (λ (r : Row). cond (is_live slot p r) 1 0) o.state.rows (new_row (free_slot o.state.rows) id spec ∷ []))) h.1);
-      starts_again = λ c id place row o u idle runs at has is h. h;
+      starts_again = λ c id place row o u idle runs at has is noted found h. h;
       removed = λ place row o u idle runs at down h. (h.0, remove-has D slot p place row o at (λ mine. absurd (no_process p row.state down mine)) h.1);
       given_up = λ place row o u idle runs at down h. (h.0, set-has D slot p place row Undefined o at (λ mine. absurd (no_process p row.state down mine)) h.1);
-      stops_child = λ c q place row o u idle runs at up h. h;
+      stops_child = λ c q place row o u idle runs at up has got h. h;
     }
 
 -- a row that has the process runs, or an answer of it is awaited
@@ -296,44 +295,37 @@ live_counts slot p (row ∷ rows) =
     one (Killed x) b = omega (arith, at_most (b && (x == p)))
     one (Restarting _) b = omega (arith, with_slot b false)
 
-follow-lasts : (D : Type 0) (slot p : ℕ) (f : Option Sequel) (o : Outcome) → (is_end f ≡ true → lives slot p o.state.rows ≡ 0) → Lasts D slot p o → Lasts D slot p (follow f o)
-unfolding follow end_all refuse_all answer
-follow-lasts D slot p None o none h = h
-follow-lasts D slot p (Some sequel.Ready) o none h = h
-follow-lasts D slot p (Some sequel.Nothing) o none h = h
-follow-lasts D slot p (Some (sequel.Added c)) o none h = h
-follow-lasts D slot p (Some (sequel.Restarted c)) o none h = h
-follow-lasts D slot p (Some (sequel.Stopped c)) o none h = h
-follow-lasts D slot p (Some (sequel.End e)) o none h = (λ w. absurd (false≢true w), ⊎_elim (λ (some : 0 < lives slot p o.state.rows). absurd (omega (arith, some, none refl))) (λ d. inr d) h.1)
-
-start_first-lasts : (D : Type 0) (slot p : ℕ) (dues : List Due) (n : ℕ) (o : Outcome) → (is_end o.state.follows ≡ true → lives slot p o.state.rows ≡ 0) → Lasts D slot p o → Lasts D slot p (start_first dues n o)
-unfolding start_first start start_row
-start_first-lasts D slot p [] n o none h = follow-lasts D slot p o.state.follows o none h
-start_first-lasts D slot p (due ∷ dues) n o none h =
-    let left : Outcome = with_work o.state.to_stop dues o.state.follows o in
-    at_row-survives (Lasts D slot p) (is_due due) left (start_row due n) left h h
-    (λ i row at has. (h.0, set-has D slot p i row (Starting n (unwrap_or due.kept n)) left at (λ mine. absurd (undefined_none row.state (and_parts _ (is_undefined row.state) has).1 mine)) h.1))
-  where
-    undefined_none : (state : RowState) → is_undefined state ≡ true → has_process p state ≡ true → ⊥
-    undefined_none Undefined u h = false≢true h
-    undefined_none (Starting _ _) u h = false≢true u
-    undefined_none (Up _) u h = false≢true u
-    undefined_none (Asked _ _) u h = false≢true u
-    undefined_none (Killed _) u h = false≢true u
-    undefined_none (Restarting _) u h = false≢true u
+undefined_none : (p : ℕ) (state : RowState) → is_undefined state ≡ true → has_process p state ≡ true → ⊥
+undefined_none p Undefined u h = false≢true h
+undefined_none p (Starting _ _) u h = false≢true u
+undefined_none p (Up _) u h = false≢true u
+undefined_none p (Asked _ _) u h = false≢true u
+undefined_none p (Killed _) u h = false≢true u
+undefined_none p (Restarting _) u h = false≢true u
 
 -- nothing is left to stop and nothing is awaited, so no row has a process where the supervisor ends
 none_lives : (slot p : ℕ) (o : Outcome) → Stops [] o → is_end o.state.follows ≡ true → lives slot p o.state.rows ≡ 0
 none_lives slot p o h e = let z : times p [] ≡ 0 = refl in omega (arith, live_counts slot p o.state.rows, (h.2 e).0 p, h.0.1, z)
 
-stop_first-lasts : (D : Type 0) (slot p : ℕ) (qs : List ℕ) (n : ℕ) (o : Outcome) → Stops qs o → Lasts D slot p o → Lasts D slot p (stop_first qs n o)
-stop_first-lasts D slot p qs n o s h =
-    stop_first-by (λ ps x. Stops ps x × Lasts D slot p x) (Lasts D slot p) n (λ x g. start_first-lasts D slot p x.state.to_start n x (none_lives slot p x g.0) g.1)
-    (λ q rest x some g. (used-stops q rest x g.0, use_exit-lasts D slot p q x (with_stops rest x) refl refl some g.1)) (λ q rest x g. tell-lasts D slot p q (with_stops rest x) g.1) qs o (s, h)
+going-lasts : (D : Type 0) (slot p n : ℕ) → GoesOn n (λ ps x. Stops ps x × Lasts D slot p x) (Lasts D slot p)
+unfolding start start_row answer end_all refuse_all
+going-lasts D slot p n =
+    record {
+      uses = λ q rest o some g. (used-stops q rest o g.0, use_exit-lasts D slot p q o (with_stops rest o) refl refl some g.1);
+      tells = λ q rest o _ g. tell-lasts D slot p q (with_stops rest o) g.1;
+      starts = λ due dues o _ g.
+          let left : Outcome = with_work o.state.to_stop dues o.state.follows o in
+          at_row-survives (Lasts D slot p) (is_due due) left (start_row due n) left g.1 g.1
+          (λ i row at has. (g.1.0, set-has D slot p i row (Starting n (unwrap_or due.kept n)) left at (λ mine. absurd (undefined_none p row.state (and_parts _ (is_undefined row.state) has).1 mine)) g.1.1));
+      closes = λ f o _ _ g. g.1;
+      answers = λ c r f o _ _ g. g.1;
+      ready = λ o _ g. g.1;
+      ends = λ e o is g. (λ w. absurd (false≢true w), ⊎_elim (λ (some : 0 < lives slot p o.state.rows). absurd (omega (arith, some, none_lives slot p o g.0 (ap is_end is.0)))) (λ d. inr d) g.1.1);
+    }
 
 advance-lasts : (D : Type 0) (slot p n : ℕ) (o : Outcome) → IsSound o.state → AreOne o → Finishes o.state → Lasts D slot p o → Lasts D slot p (advance n o)
 advance-lasts D slot p n o sound one finishes h =
-    advance-by (Lasts D slot p) n o h (λ busy none. stop_first-lasts D slot p o.state.to_stop n o ((sound, none_in is_awaited o.state.rows none, refl, busy), one, finishes) h)
+    advance-on n (λ ps x. Stops ps x × Lasts D slot p x) (Lasts D slot p) (going-lasts D slot p n) o (λ _. h) (λ busy none. (((sound, none_in is_awaited o.state.rows none, refl, busy), one, finishes), h))
 
 step-finishes : (m : ℕ) (s : State) (e : Event) → IsInOrder m s → Finishes (step s e).state
 unfolding step step_on

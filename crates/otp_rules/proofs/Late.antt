@@ -1,5 +1,5 @@
 -- Between two events open work awaits an answer, so that an event that ticks does nothing but kill late children.
-use Rattle.std.specs.Prelude.{◌≡◌, ℕ, ◌+◌, ◌≤◌, ◌<◌, Bool, true, List, [], ◌∷◌, Option, None, Some, All, Contains, refl, if◌then◌else◌, is_some, max, nat_le, slice_set, unwrap_or}
+use Rattle.std.specs.Prelude.{◌≡◌, ℕ, ◌+◌, ◌≤◌, ◌<◌, Bool, true, List, [], ◌∷◌, Option, None, Some, All, Contains, refl, is_some, max, nat_le, slice_set, unwrap_or}
 use Rattle.std.specs.List.{cons_option, filter_map, list_any}
 use Rattle.std.proofs.Common.{◌∙◌, ap, sym, subst, arith, cond, ⊎_elim}
 use Rattle.std.proofs.lemmas.Bool.{cases_Bool, cond_both, false≢true, leb-true, or_cases}
@@ -17,7 +17,7 @@ use Rattle.otp_rules.specs.declared.event.Event.{Event}
 use Rattle.otp_rules.specs.declared.event.Kind.{Kind}
 use Rattle.otp_rules.specs.declared.event.Kind.TheVariants as kind
 use Rattle.otp_rules.specs.declared.work.Due.{Due}
-use Rattle.otp_rules.specs.State.{Outcome, State, is_busy, with_work}
+use Rattle.otp_rules.specs.State.{Outcome, State, with_work}
 use Rattle.otp_rules.specs.Places.{at_number}
 use Rattle.otp_rules.specs.Stops.{tell, tell_row, told}
 use Rattle.otp_rules.specs.Starts.{is_due, start, start_row}
@@ -29,8 +29,8 @@ use Rattle.otp_rules.specs.Fit.{rows_in, Fits, IsFit}
 use Rattle.otp_rules.specs.InOrder.{Awaits, WorkAwaits}
 use Rattle.otp_rules.specs.Late.{KillsLate, TicksKillLate, TicksKillLateFromEmpty}
 use Rattle.otp_rules.proofs.Opened.{tick-follows}
-use Rattle.otp_rules.proofs.Walks.{stop_first-by, with_stops}
-use Rattle.otp_rules.proofs.Decisions.{StandsAt, by_test, decide-survives}
+use Rattle.otp_rules.proofs.Walks.{advance-by, stop_first-by, with_stops}
+use Rattle.otp_rules.proofs.Decisions.{StandsAt, decide-survives}
 use Rattle.otp_rules.proofs.Counting.{at_row-first, at_row-found, none_in, rows_in-at, rows_in-cons, rows_in-set, tick_count}
 use Rattle.otp_rules.proofs.InTurn.{follow-closes, stands}
 use Rattle.otp_rules.proofs.Numbers.{decided-distinct}
@@ -84,19 +84,13 @@ stop_first-awaits : (ps : List ℕ) (n : ℕ) (o : Outcome) → MayGoOn ps o →
 stop_first-awaits ps n =
     stop_first-by MayGoOn (λ (x : Outcome). Awaits x.state) n (λ o m. start_first-awaits o.state.to_start n o refl m)
     (λ p rest o waits m. used-goes_on p rest o m)
-    (λ p rest o m. told-awaits p rest o m) ps
+    (λ p rest o _ m. told-awaits p rest o m) ps
 
 -- work goes on as far as it can
 advance-awaits : (n : ℕ) (o : Outcome) → Stands o → ((q : ℕ) → rows_in (has_process q) o.state.rows ≤ 1) → Awaits (advance n o).state
-unfolding advance
 advance-awaits n o h one =
-    let A : Outcome → Type 0 = λ x. Awaits x.state in
-    let go : Outcome = stop_first o.state.to_stop n o in
-    by_test A (is_busy o) (if list_any (row_has is_awaited) o.state.rows then o else go) o
-    (λ busy.
-    by_test A (list_any (row_has is_awaited) o.state.rows) o go (λ any _. any)
-    (λ none. stop_first-awaits o.state.to_stop n o ((h.0, none_in is_awaited o.state.rows none, refl, busy), one, h.1.0, h.1.1)))
-    (λ idle busy. absurd (false≢true (sym idle ∙ busy)))
+    advance-by (λ x. Awaits x.state) n o (λ rests busy. ⊎_elim (λ idle. absurd (false≢true (sym idle ∙ busy))) (λ any. any) rests)
+    (λ busy none. stop_first-awaits o.state.to_stop n o ((h.0, none_in is_awaited o.state.rows none, refl, busy), one, h.1.0, h.1.1))
 
 -- each event of a fit state does so
 step-awaits : (m : ℕ) (s : State) (e : Event) (g : Progress) → IsFit m s g → Awaits (step s e).state
@@ -145,13 +139,7 @@ tick-awaits o h busy =
 
 -- work that awaits an answer doesn't go on
 advance-rests : (n : ℕ) (o : Outcome) → Awaits o.state → advance n o ≡ o
-unfolding advance
-advance-rests n o h =
-    let R : Outcome → Type 0 = λ x. x ≡ o in
-    let go : Outcome = stop_first o.state.to_stop n o in
-    by_test R (is_busy o) (if list_any (row_has is_awaited) o.state.rows then o else go) o
-    (λ busy. by_test R (list_any (row_has is_awaited) o.state.rows) o go (λ _. refl) (λ none. absurd (false≢true (sym none ∙ h busy))))
-    (λ _. refl)
+advance-rests n o h = advance-by (λ x. x ≡ o) n o (λ _. refl) (λ busy none. absurd (false≢true (sym none ∙ h busy)))
 
 step-late : (s : State) (e : Event) → Awaits s → e.kind ≡ kind.Ticked → All (KillsLate s e.reading) (step s e).orders
 unfolding step step_on decide

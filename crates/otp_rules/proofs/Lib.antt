@@ -11,6 +11,7 @@ pub mod Period
 pub mod Rated
 pub mod Appended
 pub mod Counting
+pub mod GoesOn
 pub mod Sound
 pub mod NeedsWork
 pub mod WhileOpen

@@ -22,14 +22,13 @@ use Rattle.otp_rules.specs.declared.event.Waiting.{Waiting}
 use Rattle.otp_rules.specs.declared.event.Waiting.TheVariants as waiting
 use Rattle.otp_rules.specs.declared.event.Kind.{Kind}
 use Rattle.otp_rules.specs.declared.work.Due.{Due}
-use Rattle.otp_rules.specs.declared.work.Sequel.{Sequel}
 use Rattle.otp_rules.specs.declared.work.Sequel.TheVariants as sequel
 use Rattle.otp_rules.specs.State.{Outcome, State, answer, with_rows, with_waiting, with_work}
 use Rattle.otp_rules.specs.Places.{at_row, end_row, end_process, set_row, is_removed}
 use Rattle.otp_rules.specs.Restarts.{running}
 use Rattle.otp_rules.specs.Stops.{calm_all, is_exit, without, tell_row, tell, use_exit, stop_each, stop_order, terminate}
 use Rattle.otp_rules.specs.Starts.{is_due, start_row, start}
-use Rattle.otp_rules.specs.Work.{follow, start_first, stop_first, advance}
+use Rattle.otp_rules.specs.Work.{advance}
 use Rattle.otp_rules.specs.Deaths.{restart_rows, restart}
 use Rattle.otp_rules.specs.Step.{open_with, open_rows, tick, decide, stamped, step, step_on, kill_order, late_number}
 use Rattle.otp_rules.specs.Named.{AreAmong, named_by, NamesOneOf, OrdersNumbered, OrdersNumberedFrom}
@@ -38,7 +37,8 @@ use Rattle.otp_rules.specs.Progress.{decided}
 use Rattle.otp_rules.specs.Fit.{rows_in}
 use Rattle.otp_rules.specs.Needs.{is_start, needs_number, numbers_of, IsNumbered}
 use Rattle.otp_rules.specs.Run.{empty_state, orders_of}
-use Rattle.otp_rules.proofs.Walks.{advance-by, stop_each-by, stop_first-by, terminate-by, with_stops, counted_restart}
+use Rattle.otp_rules.proofs.GoesOn.{GoesOn, advance-on}
+use Rattle.otp_rules.proofs.Walks.{stop_each-by, terminate-by, with_stops, counted_restart}
 use Rattle.otp_rules.proofs.Decisions.{StandsAt, Survives, at_row-survives, at_number-survives, by_test, decide-survives}
 use Rattle.otp_rules.proofs.Counting.{rows_in-cons, rows_in-at}
 use Rattle.otp_rules.proofs.Numbers.{holders, NoMore, set-no_more, tell-no_more, use_exit-no_more, calm_process, restart_rows-no_more, no_more-survives, step-grown, restart-within}
@@ -205,18 +205,6 @@ refusals-held n old (w ∷ ws) =
         subst G (ap (λ (z : Option Effect). unwrap_or z e) is) (unnamed n old (effect.Reply c) refl)
     refusal_held (waiting.Retry y) e is = absurd (search (rules, is))
 
-follow-held : (n : ℕ) (old : Outcome) (f : Option Sequel) (o : Outcome) → All (IsHeld n old) o.orders → All (IsHeld n old) (follow f o).orders
-unfolding follow end_all refuse_all answer
-follow-held n old None o h = h
-follow-held n old (Some sequel.Ready) o h = All-push (IsHeld n old) o.orders effect.Ready h (unnamed n old effect.Ready refl)
-follow-held n old (Some sequel.Nothing) o h = h
-follow-held n old (Some (sequel.Added c)) o h = All-push (IsHeld n old) o.orders (effect.Reply c) h (unnamed n old (effect.Reply c) refl)
-follow-held n old (Some (sequel.Restarted c)) o h = All-push (IsHeld n old) o.orders (effect.Reply c) h (unnamed n old (effect.Reply c) refl)
-follow-held n old (Some (sequel.Stopped c)) o h = All-push (IsHeld n old) o.orders (effect.Reply c) h (unnamed n old (effect.Reply c) refl)
-follow-held n old (Some (sequel.End e)) o h =
-    let more : All (IsHeld n old) (o.orders ++ filter_map refusal o.state.waiting) = All-append (IsHeld n old) o.orders (filter_map refusal o.state.waiting) h (refusals-held n old o.state.waiting) in
-    All-push (IsHeld n old) (o.orders ++ filter_map refusal o.state.waiting) (effect.End (sup_end_of o.state.flags o.state.stamps e)) more (unnamed n old (effect.End (sup_end_of o.state.flags o.state.stamps e)) refl)
-
 start-held : (n : ℕ) (old : Outcome) (due : Due) (o : Outcome) → All (IsHeld n old) o.orders → All (IsHeld n old) (start due n o).orders
 unfolding start start_row
 start-held n old due o h =
@@ -224,20 +212,23 @@ start-held n old due o h =
     (at_row-survives (λ (x : Outcome). All (IsHeld n old) x.orders) (is_due due) o (start_row due n) o h h (λ i row at has. h))
     (named n old (effect.Start due.id n) n refl (inl (refl, refl)))
 
-start_first-held : (n : ℕ) (old : Outcome) (dues : List Due) (o : Outcome) → All (IsHeld n old) o.orders → All (IsHeld n old) (start_first dues n o).orders
-unfolding start_first
-start_first-held n old [] o h = follow-held n old o.state.follows o h
-start_first-held n old (due ∷ dues) o h = start-held n old due (with_work o.state.to_stop dues o.state.follows o) h
-
-stop_first-held : (n : ℕ) (ps : List ℕ) (old o : Outcome) → Held n old o → All (IsHeld n old) (stop_first ps n o).orders
-stop_first-held n ps old =
-    stop_first-by (λ _. Held n old) (λ x. All (IsHeld n old) x.orders) n (λ o h. start_first-held n old o.state.to_start o h.1)
-    (λ p rest o _ h. use_exit-held n p (position (is_exit p) o.state.waiting) old (with_stops rest o) h) (λ p rest o h. (tell-held n p old (with_stops rest o) h).1) ps
+going-held : (n : ℕ) (old : Outcome) → GoesOn n (λ _. Held n old) (λ x. All (IsHeld n old) x.orders)
+unfolding answer end_all refuse_all
+going-held n old =
+    record {
+      uses = λ p rest o _ h. use_exit-held n p (position (is_exit p) o.state.waiting) old (with_stops rest o) h;
+      tells = λ p rest o _ h. (tell-held n p old (with_stops rest o) h).1;
+      starts = λ due dues o _ h. start-held n old due (with_work o.state.to_stop dues o.state.follows o) h.1;
+      closes = λ f o _ _ h. h.1;
+      answers = λ c r f o _ _ h. All-push (IsHeld n old) o.orders (effect.Reply c) h.1 (unnamed n old (effect.Reply c) refl);
+      ready = λ o _ h. All-push (IsHeld n old) o.orders effect.Ready h.1 (unnamed n old effect.Ready refl);
+      ends = λ e o _ h.
+          let more : All (IsHeld n old) (o.orders ++ filter_map refusal o.state.waiting) = All-append (IsHeld n old) o.orders (filter_map refusal o.state.waiting) h.1 (refusals-held n old o.state.waiting) in
+          All-push (IsHeld n old) (o.orders ++ filter_map refusal o.state.waiting) (effect.End (sup_end_of o.state.flags o.state.stamps e)) more (unnamed n old (effect.End (sup_end_of o.state.flags o.state.stamps e)) refl);
+    }
 
 advance-held : (n : ℕ) (old o : Outcome) → Held n old o → All (IsHeld n old) (advance n o).orders
-advance-held n old o h =
-    let P : Outcome → Type 0 = λ x. All (IsHeld n old) x.orders in
-    advance-by P n o h.1 (λ _ _. stop_first-held n o.state.to_stop old o h)
+advance-held n old o h = advance-on n (λ _. Held n old) (λ x. All (IsHeld n old) x.orders) (going-held n old) o (λ _. h.1) (λ _ _. h)
 
 -- the orders of an event name its own number or a process that a row had
 pub step-held : (s : State) (e : Event) → All (IsHeld (unwrap_or e.number 0) (record { state = stamped e.reading s; orders = [] })) (step s e).orders

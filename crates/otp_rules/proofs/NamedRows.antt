@@ -4,9 +4,6 @@ use Rattle.std.specs.List.{filter_map}
 use Rattle.std.proofs.Common.{◌∙◌, ap, sym, subst, inl, inr, arith, ⊎_elim, cond, rules, get_or, suc, zero}
 use Rattle.std.proofs.lemmas.Bool.{false≢true, cases_Bool, eq-eqb}
 use Rattle.std.proofs.lemmas.List.Elements.{All-push}
-use Rattle.otp_reason.specs.declared.name.Name.{Name}
-use Rattle.otp_spec.specs.declared.child.Shutdown.{Shutdown}
-use Rattle.otp_spec.specs.declared.child.Shutdown.TheVariants.{BrutalKill, Milliseconds, Infinity}
 use Rattle.otp_spec.specs.declared.flags.Strategy.{Strategy}
 use Rattle.otp_table.specs.declared.row.Row.{Row}
 use Rattle.otp_table.specs.declared.row.RowState.{RowState}
@@ -40,7 +37,7 @@ use Rattle.otp_rules.specs.Fit.{Fits, is_told, next_number, rows_in}
 use Rattle.otp_rules.specs.Named.{OrdersNameRows, OrdersNameRowsFrom, named_by}
 use Rattle.otp_rules.proofs.States.{one_process, told_has}
 use Rattle.otp_rules.proofs.Walks.{advance-by, restart-by, stop_each-by, stop_first-by, with_stops}
-use Rattle.otp_rules.proofs.Decisions.{IsUnmoved, SurvivesEvent, at_number-survives, by_test, decide-survives, decide-survives_event}
+use Rattle.otp_rules.proofs.Decisions.{IsUnmoved, SurvivesEvent, ends_unmoved, same_orders, at_number-survives, by_test, decide-survives, decide-survives_event}
 use Rattle.otp_rules.proofs.Counting.{at_row-first, end_row-quiet, found, none_in, rows_in-at, rows_in-cons, rows_in-end, rows_in-set, there, tick_count, told-told, use_exit-quiet, without_count, cond_le, rows_in-le}
 use Rattle.otp_rules.proofs.InTurn.{TakesReplies, follow-orders, none_told}
 use Rattle.otp_rules.proofs.Fits.{due_there}
@@ -187,31 +184,31 @@ tick-tells o none =
 
 tells-survive : (k : Kind) (G : Item → Type 0) (old : Outcome) → old.orders ≡ [] → SurvivesEvent k G old Tells
 tells-survive k G old none =
-    let still : (new o : Outcome) → new.orders ≡ o.orders → IsUnmoved old o → Tells new = λ new o same u. nothing-tells new (same ∙ u.0 ∙ none) in
+    let still : (new o : Outcome) → new.orders ≡ o.orders → IsUnmoved old o → Tells new = λ new o same u. nothing-tells new (same ∙ same_orders old o u ∙ none) in
     record {
-      answered = λ c r o h. answer-tells c r o h;
+      answered = λ c r o quiet h. answer-tells c r o h;
       taken = λ w ws resumed idle runs is h. nothing-tells (with_waiting ws old) none;
       call_waits = λ c call o u busy g h. h;
-      exit_waits = λ p r o u g h. h;
+      exit_waits = λ p r place row o u at has g h. h;
       up = λ p place row q kept o u at is same g h. still (set_row place row (Up p) o) o refl u;
       up_closed = λ p place row q kept c o u at is same follows g h. still (closed (set_row place row (Up p) o)) o refl u;
       ignored = λ p place row q kept o u at is same g h. still (end_row place row o) o (end_row-quiet place row o).1 u;
-      opening_failed = λ place row q kept o u runs at is follows g h. terminate-tells (ending.InitFailed row.spec.id) (set_row place row Undefined o) (u.0 ∙ none);
+      opening_failed = λ place row q kept o u runs at is follows g h. terminate-tells (ending.InitFailed row.spec.id) (set_row place row Undefined o) (same_orders old o u ∙ none);
       restart_failed = λ place row q kept o u at is follows g h. still (closed (put_last (waiting.Retry kept) (set_row place row (Restarting kept) o))) o refl u;
       added_failed = λ place row q kept c o u at is follows g h. still (closed (with_rows (remove o.state.rows place) o)) o refl u;
       restarted_failed = λ place row q kept c o u at is follows g h. still (closed (set_row place row Undefined o)) o refl u;
       stopped = λ p r place row o u at told g h. still (end_row place row o) o (end_row-quiet place row o).1 u;
       died = λ p place row o u idle runs at is g h. still (end_row place row o) o (end_row-quiet place row o).1 u;
-      restarts = λ p place row o u idle runs at is h. restart-tells p place row o (u.0 ∙ none);
-      ends = λ e o u other idle runs h. terminate-tells e o (u.0 ∙ none);
+      restarts = λ p place row o u idle runs at is h. restart-tells p place row o (same_orders old o u ∙ none);
+      ends = λ e o u other idle runs h. terminate-tells e o ((ends_unmoved k G old e o u).0 ∙ none);
       ticks = λ is h. tick-tells old none;
       opens = λ own is over h. nothing-tells (open_rows own old) (open-orders (λ (xs : List Effect). xs ≡ []) own old none);
       adds = λ c id spec o u idle runs named few got h.
-          nothing-tells (with_work [] (record { id = id; kept = None } ∷ []) (Some (sequel.Added c)) (with_rows (o.state.rows ++ new_row (free_slot o.state.rows) id spec ∷ []) o)) (u.0 ∙ none);
-      starts_again = λ c id place row o u idle runs at has is h. h;
+          nothing-tells (with_work [] (record { id = id; kept = None } ∷ []) (Some (sequel.Added c)) (with_rows (o.state.rows ++ new_row (free_slot o.state.rows) id spec ∷ []) o)) (same_orders old o u ∙ none);
+      starts_again = λ c id place row o u idle runs at has is noted found h. h;
       removed = λ place row o u idle runs at down h. still (with_rows (remove o.state.rows place) o) o refl u;
       given_up = λ place row o u idle runs at down h. still (set_row place row Undefined o) o refl u;
-      stops_child = λ c p place row o u idle runs at up h. h;
+      stops_child = λ c p place row o u idle runs at up has got h. h;
     }
 
 -- the order names nobody
@@ -287,11 +284,11 @@ stop_first-placed ps n =
       used-goes_on p rest o m.0,
       subst (λ (xs : List Effect). All NamesNone xs) (sym (use_exit-quiet p (position (is_exit p) o.state.waiting) (with_stops rest o)).1) m.1,
     ))
-    (λ p rest o m. tell-placed p (with_stops rest o) m.1) ps
+    (λ p rest o _ m. tell-placed p (with_stops rest o) m.1) ps
 
 advance-placed : (n : ℕ) (o : Outcome) → Stands o → ((q : ℕ) → rows_in (has_process q) o.state.rows ≤ 1) → Tells o → Placed (advance n o)
 advance-placed n o h one tells =
-    advance-by Placed n o (tells-placed o tells) (λ busy calm.
+    advance-by Placed n o (λ _. tells-placed o tells) (λ busy calm.
     let nothing : rows_in is_awaited o.state.rows ≡ 0 = none_in is_awaited o.state.rows calm in
     stop_first-placed o.state.to_stop n o (((h.0, nothing, refl, busy), one, h.1.0, h.1.1), tells-none o nothing tells))
 

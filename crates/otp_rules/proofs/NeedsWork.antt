@@ -1,8 +1,8 @@
 -- An event starts a child exactly where its work goes on to a start: what it decides on orders no start, and the open
 -- work orders one where nothing is awaited, all that is to stop has ended and a child is left.
-use Rattle.std.specs.Prelude.{◌≡◌, ℕ, Bool, true, false, not, ◌&&◌, ◌||◌, List, [], ◌∷◌, ◌++◌, Option, None, Some, refl, if◌then◌else◌, position, is_some, length, remove, nat_lt}
+use Rattle.std.specs.Prelude.{◌≡◌, ℕ, Bool, true, false, not, ◌&&◌, ◌||◌, List, [], ◌∷◌, ◌++◌, Option, None, Some, refl, if◌then◌else◌, position, length, remove, nat_lt}
 use Rattle.std.specs.List.{list_any, filter_map, cons_option}
-use Rattle.std.proofs.Common.{◌∙◌, ap, sym}
+use Rattle.std.proofs.Common.{◌∙◌, ap, sym, ⊎_elim}
 use Rattle.std.proofs.lemmas.List.Folds.{list_any-append}
 use Rattle.otp_reason.specs.declared.name.Name.{Name}
 use Rattle.otp_spec.specs.declared.child.Shutdown.{Shutdown}
@@ -11,7 +11,6 @@ use Rattle.otp_table.specs.declared.row.Row.{Row}
 use Rattle.otp_table.specs.declared.row.RowState.TheVariants.{Undefined}
 use Rattle.otp_table.specs.Rows.{is_awaited, row_has}
 use Rattle.otp_rules.specs.declared.call.Reply.{Reply}
-use Rattle.otp_rules.specs.declared.call.Reply.TheVariants as reply
 use Rattle.otp_rules.specs.declared.ending.Ending.{Ending}
 use Rattle.otp_rules.specs.declared.ending.Ending.TheVariants as ending
 use Rattle.otp_rules.specs.declared.event.Effect.{Effect}
@@ -24,19 +23,21 @@ use Rattle.otp_rules.specs.declared.event.Waiting.TheVariants as waiting
 use Rattle.otp_rules.specs.declared.work.Due.{Due}
 use Rattle.otp_rules.specs.declared.work.Sequel.{Sequel}
 use Rattle.otp_rules.specs.declared.work.Sequel.TheVariants as sequel
-use Rattle.otp_rules.specs.State.{Outcome, answer, closed, is_busy, with_rows, with_waiting, with_work}
+use Rattle.otp_rules.specs.State.{Outcome, answer, closed, emit, is_busy, with_rows, with_work}
 use Rattle.otp_rules.specs.Places.{at_row, end_row, end_process, is_removed, set_row}
 use Rattle.otp_rules.specs.Restarts.{affected_from, affected_to, running}
 use Rattle.otp_rules.specs.Stops.{calm_all, is_exit, stop_order, without, tell_row, tell, use_exit, stop_each, terminate}
 use Rattle.otp_rules.specs.Ends.{refusal, refuse_all, end_all}
 use Rattle.otp_rules.specs.Starts.{is_due, start_row, start}
-use Rattle.otp_rules.specs.Work.{follow, start_first, stop_first, advance}
+use Rattle.otp_rules.specs.Work.{advance}
 use Rattle.otp_rules.specs.Deaths.{restart_rows, restart_or_end, restart}
 use Rattle.otp_rules.specs.Step.{kill_order, late_number, open_with, open_rows, tick, decide, stamped, step_on, step}
 use Rattle.otp_rules.specs.Needs.{NumberStartsWork, ends_wait, has_due, is_start, needs_number, work_starts}
 use Rattle.std.proofs.lemmas.List.{append-nil}
+use Rattle.otp_rules.proofs.GoesOn.{GoesOn, IsLast, stop_first-on}
+use Rattle.otp_rules.proofs.Counting.{use_exit-alike, use_exit-quiet}
 use Rattle.otp_rules.proofs.Bits.{or_false}
-use Rattle.otp_rules.proofs.Walks.{stop_each-by, terminate-by}
+use Rattle.otp_rules.proofs.Walks.{advance-by, stop_each-by, terminate-by, used, with_stops}
 use Rattle.otp_rules.proofs.Appended.{decide-behind}
 use Rattle.otp_rules.proofs.Decisions.{Survives, at_number-survives, at_row-survives, decide-survives}
 use Rattle.otp_window.specs.Period.{in_period}
@@ -75,9 +76,9 @@ end_row-quiet : (place : ℕ) (row : Row) (o : Outcome) → Starts false o → S
 unfolding end_row
 end_row-quiet place row o h = end_of-quiet place row (is_removed row) o h
 
-use_exit-quiet : (p : ℕ) (place : Option ℕ) (o : Outcome) → Starts false o → Starts false (use_exit p place o)
+used-quiet : (p : ℕ) (place : Option ℕ) (o : Outcome) → Starts false o → Starts false (use_exit p place o)
 unfolding use_exit end_process
-use_exit-quiet p place o h = at_number-survives (λ x. Starts false x) p end_row _ h (λ at row stands is. end_row-quiet at row _ h)
+used-quiet p place o h = at_number-survives (λ x. Starts false x) p end_row _ h (λ at row stands is. end_row-quiet at row _ h)
 
 quiet_refusal_item : (x : Item) (ws : List Waiting) → list_any is_start (filter_map refusal ws) ≡ false → list_any is_start (filter_map refusal (waiting.Item x ∷ ws)) ≡ false
 quiet_refusal_item (item.Note x) ws h = h
@@ -92,72 +93,57 @@ end_all-quiet : (e : Ending) (o : Outcome) → Starts false o → Starts false (
 unfolding end_all refuse_all
 end_all-quiet e o h = starts_pushed (o.orders ++ filter_map refusal o.state.waiting) _ false (starts_after o.orders (filter_map refusal o.state.waiting) false h (quiet_refusals o.state.waiting)) refl
 
-follow-quiet : (f : Option Sequel) (o : Outcome) → Starts false o → Starts false (follow f o)
-unfolding follow
-follow-quiet None o h = h
-follow-quiet (Some sequel.Ready) o h = starts_pushed o.orders effect.Ready false h refl
-follow-quiet (Some sequel.Nothing) o h = h
-follow-quiet (Some (sequel.Added c)) o h = answer-quiet c reply.OkUndefined (closed o) h
-follow-quiet (Some (sequel.Restarted c)) o h = answer-quiet c reply.OkUndefined (closed o) h
-follow-quiet (Some (sequel.Stopped c)) o h = answer-quiet c reply.Ok (closed o) h
-follow-quiet (Some (sequel.End e)) o h = end_all-quiet e o h
-
 started-quiet : (due : Due) (n : ℕ) (o : Outcome) → Starts false o → Starts false (at_row (is_due due) o (start_row due n) o)
 unfolding start_row
 started-quiet due n o h = at_row-survives (λ x. Starts false x) (is_due due) o (start_row due n) o h h (λ place row at is. h)
 
-start_first-starts : (dues : List Due) (n : ℕ) (o : Outcome) → Starts false o → Starts (has_due dues) (start_first dues n o)
-unfolding start_first start
-start_first-starts [] n o h = follow-quiet o.state.follows o h
-start_first-starts (due ∷ dues) n o h =
-    let left : Outcome = with_work o.state.to_stop dues o.state.follows o in
-    let started : Outcome = at_row (is_due due) left (start_row due n) left in
-    starts_pushed started.orders (effect.Start due.id n) true (started-quiet due n left h) refl
+-- the work starts a child where those still to be stopped have ended, and a child is left to start
+abbrev StartsIf : Bool → List ℕ → Outcome → Type 0
+StartsIf b ps o = Starts false o × ((ends_wait ps o.state.waiting && has_due o.state.to_start) ≡ b)
 
--- what leaves to_start alone
-use_exit-dues : (dues : List Due) (p : ℕ) (place : Option ℕ) (o : Outcome) → o.state.to_start ≡ dues → (use_exit p place o).state.to_start ≡ dues
-unfolding use_exit end_process end_row
-use_exit-dues dues p place o h =
-    let used : Outcome = with_waiting (without o.state.waiting place) o in
-    at_number-survives (λ x. x.state.to_start ≡ dues) p end_row used h
-    (λ at row stands is. elim (is_removed row) as (λ b. (if b then with_rows (remove o.state.rows at) used else set_row at row Undefined used).state.to_start ≡ dues) [ true ↦ h | false ↦ h ])
-
-use_exit-waiting : (items : List Waiting) (p : ℕ) (place : Option ℕ) (o : Outcome) → without o.state.waiting place ≡ items → (use_exit p place o).state.waiting ≡ items
-unfolding use_exit end_process end_row
-use_exit-waiting items p place o h =
-    let used : Outcome = with_waiting (without o.state.waiting place) o in
-    at_number-survives (λ x. x.state.waiting ≡ items) p end_row used h
-    (λ at row stands is. elim (is_removed row) as (λ b. (if b then with_rows (remove o.state.rows at) used else set_row at row Undefined used).state.waiting ≡ items) [ true ↦ h | false ↦ h ])
-
-stop_first-starts : (ps : List ℕ) (n : ℕ) (o : Outcome) → Starts false o → Starts (ends_wait ps o.state.waiting && has_due o.state.to_start) (stop_first ps n o)
-unfolding stop_first
-stop_first-starts [] n o h = start_first-starts o.state.to_start n o h
-stop_first-starts (p ∷ ps) n o h =
-    let place : Option ℕ = position (is_exit p) o.state.waiting in
-    let left : Outcome = with_work ps o.state.to_start o.state.follows o in
-    let used : Outcome = use_exit p place left in
-    let rest : Starts (ends_wait ps used.state.waiting && has_due used.state.to_start) (stop_first ps n used) = stop_first-starts ps n used (use_exit-quiet p place left h) in
-    let items : used.state.waiting ≡ without o.state.waiting place = use_exit-waiting (without o.state.waiting place) p place left refl in
-    let dues : used.state.to_start ≡ o.state.to_start = use_exit-dues o.state.to_start p place left refl in
-    let go : Starts (ends_wait ps (without o.state.waiting place) && has_due o.state.to_start) (stop_first ps n used) =
-    rest ∙ ap (λ (w : List Waiting). ends_wait ps w && has_due used.state.to_start) items ∙ ap (λ (d : List Due). ends_wait ps (without o.state.waiting place) && has_due d) dues in
-    elim (is_some place) as (λ b. Starts ((b && ends_wait ps (without o.state.waiting place)) && has_due o.state.to_start) (if b then stop_first ps n used else tell p left))
-    [ true ↦ go | false ↦ tell-quiet p left h ]
+going-starts : (n : ℕ) (b : Bool) → GoesOn n (StartsIf b) (Starts b)
+unfolding start
+going-starts n b =
+    let ended : (f : Sequel) (o : Outcome) → IsLast f o → StartsIf b [] o → b ≡ false = λ f o last h. sym h.1 ∙ ap (λ (ds : List Due). has_due ds) last.1 in
+    let quiet : (x : Outcome) → b ≡ false → Starts false x → Starts b x = λ x none h. h ∙ sym none in
+    record {
+      uses = λ p rest o waits h.
+          let left : Outcome = with_stops rest o in
+          let place : Option ℕ = position (is_exit p) o.state.waiting in (
+            used-quiet p place left h.0,
+            ap (λ (ws : List Waiting). ends_wait rest ws && has_due (used p left).state.to_start) (use_exit-quiet p place left).0
+                ∙ ap (λ (ds : List Due). ends_wait rest (without o.state.waiting place) && has_due ds) (use_exit-alike p place left).3
+                ∙ ap (λ (x : Bool). (x && ends_wait rest (without o.state.waiting place)) && has_due o.state.to_start) (sym waits)
+                ∙ h.1,
+          );
+      tells = λ p rest o none h.
+          quiet (tell p (with_stops rest o)) (sym h.1 ∙ ap (λ (x : Bool). (x && ends_wait rest (without o.state.waiting (position (is_exit p) o.state.waiting))) && has_due o.state.to_start) none) (tell-quiet p (with_stops rest o) h.0);
+      starts = λ due dues o is h.
+          let left : Outcome = with_work o.state.to_stop dues o.state.follows o in
+          starts_pushed (at_row (is_due due) left (start_row due n) left).orders (effect.Start due.id n) true (started-quiet due n left h.0) refl ∙ sym (ap (λ (ds : List Due). has_due ds) is) ∙ h.1;
+      closes = λ f o last _ h. quiet (closed o) (ended f o last h) h.0;
+      answers = λ c r f o last _ h. quiet (answer c r (closed o)) (ended f o last h) (answer-quiet c r (closed o) h.0);
+      ready = λ o last h. quiet (emit effect.Ready (closed o)) (ended sequel.Ready o last h) (starts_pushed o.orders effect.Ready false h.0 refl);
+      ends = λ e o last h. quiet (end_all e o) (ended (sequel.End e) o last h) (end_all-quiet e o h.0);
+    }
 
 advance-starts : (n : ℕ) (o : Outcome) → Starts false o → Starts (work_starts o) (advance n o)
-unfolding advance work_starts
+unfolding work_starts
 advance-starts n o h =
-    let go : Outcome = stop_first o.state.to_stop n o in
     let test : Bool = ends_wait o.state.to_stop o.state.waiting && has_due o.state.to_start in
-    let starts : Starts test go = stop_first-starts o.state.to_stop n o h in
     let awaits : Bool = list_any (row_has is_awaited) o.state.rows in
-    elim (is_busy o) as (λ b. Starts (b && (not awaits && test)) (if b then (if awaits then o else go) else o)) [
-      | true ↦ elim awaits as (λ a. Starts (not a && test) (if a then o else go)) [ true ↦ h | false ↦ starts ]
-      | false ↦ h
-    ]
+    advance-by (Starts (is_busy o && (not awaits && test))) n o
+    (λ rests. h ∙ sym (⊎_elim (λ idle. ap (λ (x : Bool). x && (not awaits && test)) idle) (λ any. ap (λ (x : Bool). is_busy o && (not x && test)) any ∙ and_false (is_busy o)) rests))
+    (λ busy none.
+    stop_first-on n (StartsIf test) (Starts test) (going-starts n test) o.state.to_stop o busy (h, refl)
+    ∙ sym (ap (λ (x : Bool). x && (not awaits && test)) busy ∙ ap (λ (x : Bool). not x && test) none))
+  where
+    and_false : (b : Bool) → (b && false) ≡ false
+    and_false true = refl
+    and_false false = refl
 
 stop_each-quiet : (ps : List ℕ) (o : Outcome) → Starts false o → Starts false (stop_each ps o)
-stop_each-quiet = stop_each-by (Starts false) (λ p o _ h. use_exit-quiet p (position (is_exit p) o.state.waiting) o h) (λ p o _ h. tell-quiet p o h)
+stop_each-quiet = stop_each-by (Starts false) (λ p o _ h. used-quiet p (position (is_exit p) o.state.waiting) o h) (λ p o _ h. tell-quiet p o h)
 
 terminate-quiet : (e : Ending) (o : Outcome) → Starts false o → Starts false (terminate e o)
 terminate-quiet e o h = terminate-by (Starts false) e o (λ _. stop_each-quiet (running o.state.rows) (calm_all (with_work [] [] (Some (sequel.End e)) o)) h) (λ _. h)

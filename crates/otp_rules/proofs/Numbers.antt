@@ -19,22 +19,22 @@ use Rattle.otp_rules.specs.declared.ending.Ending.{Ending}
 use Rattle.otp_rules.specs.declared.event.Event.{Event}
 use Rattle.otp_rules.specs.declared.event.Kind.{Kind}
 use Rattle.otp_rules.specs.declared.work.Due.{Due}
-use Rattle.otp_rules.specs.declared.work.Sequel.{Sequel}
 use Rattle.otp_spec.specs.Flags.{is_simple}
 use Rattle.otp_rules.specs.State.{Outcome, State, answer, with_rows, with_waiting, with_work}
 use Rattle.otp_rules.specs.Places.{at_row, end_row, end_process, set_row}
-use Rattle.otp_rules.specs.Restarts.{affected_from, affected_to, dues, running}
+use Rattle.otp_rules.specs.Restarts.{affected_from, affected_to, running}
 use Rattle.otp_rules.specs.Stops.{calm_all, is_exit, without, told, tell_row, tell, use_exit, stop_each, terminate}
 use Rattle.otp_rules.specs.Starts.{is_due, start_row, start}
 use Rattle.otp_rules.specs.Ends.{refuse_all, end_all}
-use Rattle.otp_rules.specs.Work.{follow, start_first, stop_first, advance}
+use Rattle.otp_rules.specs.Work.{advance}
 use Rattle.otp_rules.specs.Deaths.{restart_rows, restart}
 use Rattle.otp_rules.specs.Calls.{new_row}
 use Rattle.otp_rules.specs.Step.{rows_from, open_with, open_rows, opening_specs, tick, decide, stamped, step, step_on}
 use Rattle.otp_rules.specs.Progress.{decided}
 use Rattle.otp_rules.specs.Fit.{rows_in, IsDistinct}
-use Rattle.otp_rules.proofs.Walks.{advance-by, restart-by, stop_each-by, terminate-by, counted_restart}
-use Rattle.otp_rules.proofs.Decisions.{StandsAt, Survives, at_row-survives, at_number-survives, by_test, decide-survives}
+use Rattle.otp_rules.proofs.GoesOn.{GoesOn, advance-on}
+use Rattle.otp_rules.proofs.Walks.{restart-by, stop_each-by, terminate-by, counted_restart, with_stops}
+use Rattle.otp_rules.proofs.Decisions.{StandsAt, Survives, at_row-survives, at_number-survives, decide-survives}
 use Rattle.otp_rules.proofs.Counting.{rows_in-cons, rows_in-append, remove_count, rows_in-set, rows_in-end, rows_in-map, tick_count}
 use Rattle.std.proofs.lemmas.List.Folds.{drop_split, list_any-append}
 use Rattle.std.proofs.lemmas.List.{length-set}
@@ -217,34 +217,21 @@ started-grown due n o =
     or_true true = refl
     or_true false = refl
 
-pub follow-no_more : (f : Option Sequel) (o : Outcome) → NoMore o (follow f o)
-unfolding follow end_all refuse_all answer
-follow-no_more None o q = omega arith
-follow-no_more (Some sequel.Ready) o q = omega arith
-follow-no_more (Some sequel.Nothing) o q = omega arith
-follow-no_more (Some (sequel.Added c)) o q = omega arith
-follow-no_more (Some (sequel.Restarted c)) o q = omega arith
-follow-no_more (Some (sequel.Stopped c)) o q = omega arith
-follow-no_more (Some (sequel.End e)) o q = omega arith
-
-start_first-grown : (dues : List Due) (n : ℕ) (o : Outcome) → Grown n o (start_first dues n o)
-unfolding start_first
-start_first-grown [] n o = inl (follow-no_more o.state.follows o)
-start_first-grown (due ∷ dues) n o = started-grown due n (with_work o.state.to_stop dues o.state.follows o)
-
-stop_first-grown : (ps : List ℕ) (n : ℕ) (o : Outcome) → Grown n o (stop_first ps n o)
-unfolding stop_first
-stop_first-grown [] n o = start_first-grown o.state.to_start n o
-stop_first-grown (p ∷ ps) n o =
-    let place : Option ℕ = position (is_exit p) o.state.waiting in
-    let left : Outcome = with_work ps o.state.to_start o.state.follows o in
-    by_test (Grown n o) (is_some place) (stop_first ps n (use_exit p place left)) (tell p left)
-    (λ _. grown-chain n o (use_exit p place left) (stop_first ps n (use_exit p place left)) (use_exit-no_more p place o left (λ q. omega arith)) (stop_first-grown ps n (use_exit p place left)))
-    (λ _. inl (tell-no_more p o left (λ q. omega arith)))
+going-grown : (n : ℕ) (old : Outcome) → GoesOn n (λ _. NoMore old) (Grown n old)
+unfolding answer end_all refuse_all
+going-grown n old =
+    record {
+      uses = λ p rest o _ h. use_exit-no_more p (position (is_exit p) o.state.waiting) old (with_stops rest o) h;
+      tells = λ p rest o _ h. inl (tell-no_more p old (with_stops rest o) h);
+      starts = λ due dues o _ h. grown-chain n old (with_work o.state.to_stop dues o.state.follows o) (start due n (with_work o.state.to_stop dues o.state.follows o)) h (started-grown due n (with_work o.state.to_stop dues o.state.follows o));
+      closes = λ f o _ _ h. inl h;
+      answers = λ c r f o _ _ h. inl h;
+      ready = λ o _ h. inl h;
+      ends = λ e o _ h. inl (λ q. omega arith);
+    }
 
 advance-grown : (n : ℕ) (o : Outcome) → Grown n o (advance n o)
-advance-grown n o =
-    advance-by (Grown n o) n o (inl (λ q. omega arith)) (λ _ _. stop_first-grown o.state.to_stop n o)
+advance-grown n o = advance-on n (λ _. NoMore o) (Grown n o) (going-grown n o) o (λ _. inl (λ q. omega arith)) (λ _ _ q. omega arith)
 
 pub decided-distinct : (m : ℕ) (s : State) (e : Event) → IsDistinct m s → IsDistinct m (decided s e)
 decided-distinct m s e d =

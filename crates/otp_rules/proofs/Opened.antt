@@ -1,10 +1,10 @@
 -- Work that has just been opened has the lists of the children that it is about.
-use Rattle.std.specs.Prelude.{◌≡◌, ◌⊎◌, ℕ, ◌==◌, ◌+◌, ◌-◌, ◌≤◌, ◌<◌, ◌++◌, Bool, true, false, List, [], ◌∷◌, Option, None, Some, refl, not, is_some, slice_get, slice_set, slice_range, nat_lt, length, remove, map, filter, reverse, take, drop}
+use Rattle.std.specs.Prelude.{◌≡◌, ℕ, ◌==◌, ◌+◌, ◌-◌, ◌≤◌, ◌<◌, ◌++◌, Bool, true, false, List, [], ◌∷◌, Option, None, Some, refl, not, slice_get, slice_set, slice_range, nat_lt, length, map, filter, reverse, take, drop}
 use Rattle.std.specs.List.{cons_option}
 use Rattle.std.specs.Option.{option_eq}
 use Rattle.std.specs.Ordering.{on}
 use Rattle.std.specs.Str.{bytes_eq}
-use Rattle.std.proofs.Common.{◌∙◌, ap, sym, subst, inl, inr, arith, ⊎_elim, cond}
+use Rattle.std.proofs.Common.{◌∙◌, ap, sym, subst, arith, ⊎_elim, cond}
 use Rattle.std.proofs.lemmas.Bool.{false≢true, cases_Bool, eq-eqb, eqb-true, ltb-true, ltb-false}
 use Rattle.std.proofs.lemmas.List.{append-nil, append_assoc, map-append, drop_all, drop_at, take_at, length-take-le, length-drop, length-append, length-map}
 use Rattle.std.proofs.lemmas.List.Elements.{filter-append, filter_map-append}
@@ -22,31 +22,23 @@ use Rattle.otp_table.specs.declared.row.Row.{Row}
 use Rattle.otp_table.specs.declared.row.RowState.{RowState}
 use Rattle.otp_table.specs.declared.row.RowState.TheVariants.{Undefined, Starting, Up, Asked, Killed, Restarting}
 use Rattle.otp_table.specs.Rows.{free_slot, is_awaited, with_state, calm_rows, calmed, up_number}
-use Rattle.otp_rules.specs.declared.call.Reply.{Reply}
 use Rattle.otp_rules.specs.declared.ending.Ending.{Ending}
-use Rattle.otp_rules.specs.declared.event.Event.{Event}
-use Rattle.otp_rules.specs.declared.event.Kind.{Kind}
-use Rattle.otp_rules.specs.declared.event.Kind.TheVariants as kind
 use Rattle.otp_rules.specs.declared.work.Due.{Due}
 use Rattle.otp_rules.specs.declared.work.Sequel.{Sequel}
 use Rattle.otp_spec.specs.Flags.{is_simple}
-use Rattle.otp_rules.specs.State.{Outcome, State, answer, closed, put_last, with_rows, with_work}
-use Rattle.otp_rules.specs.Places.{end_row, is_temporary, set_row}
+use Rattle.otp_rules.specs.State.{Outcome, State, with_rows, with_work}
+use Rattle.otp_rules.specs.Places.{is_temporary}
 use Rattle.otp_rules.specs.Restarts.{affected_from, affected_to, dues, restart_list, running}
 use Rattle.otp_rules.specs.Stops.{calm_all, stop_each, terminate_ordered, terminate_together, terminate}
 use Rattle.otp_rules.specs.Deaths.{restart_rows}
 use Rattle.otp_rules.specs.Calls.{new_row}
-use Rattle.otp_rules.specs.Step.{due_of, rows_from, open_with, open_rows, opening_specs, tick, decide, stamped}
-use Rattle.otp_rules.specs.Progress.{is_opened, ends_together, decided, affected, comes_back, id_bytes, is_end, process_number, processes, start_list, IsIn}
-use Rattle.otp_rules.specs.Fit.{is_told, rows_in, times, IsLimited, IsSound}
-use Rattle.otp_rules.proofs.Decisions.{StandsAt, Survives, by_test, decide-survives}
-use Rattle.otp_rules.proofs.Counting.{times-cons, rows_in-cons, rows_in-set, rows_in-at, Alike, end_row-alike, alike, stop_each-alike, take_rows, drop_rows, calm_awaited}
-use Rattle.otp_rules.proofs.Sound.{sound-survives}
+use Rattle.otp_rules.specs.Step.{due_of, rows_from, open_with, open_rows, opening_specs, tick}
+use Rattle.otp_rules.specs.Progress.{is_opened, ends_together, affected, comes_back, id_bytes, process_number, processes, start_list, IsIn}
+use Rattle.otp_rules.specs.Fit.{is_told, rows_in, times}
+use Rattle.otp_rules.proofs.Decisions.{StandsAt, by_test}
+use Rattle.otp_rules.proofs.Counting.{times-cons, rows_in-cons, rows_in-set, stop_each-alike, take_rows, drop_rows}
 use Rattle.otp_rules.proofs.Fitted.{affected_from_le, affected_to_more, slice_split}
 use Rattle.otp_rules.proofs.Stopping.{apart-alike}
-use Rattle.otp_rules.proofs.WhileOpen.{Tracks, fails_opening, terminate-follows}
-use Rattle.otp_rules.specs.declared.ending.Ending.TheVariants as ending
-use Rattle.otp_rules.specs.declared.event.Waiting.TheVariants as waiting
 use Rattle.otp_rules.specs.declared.work.Sequel.TheVariants as sequel
 
 -- work of these children has just been opened: to be stopped are their processes, of which none stands later among the
@@ -69,15 +61,6 @@ IsWhole _ rows part = Unit {0}
 abbrev pub IsListedWhole : State → Type 0
 IsListedWhole s = (part : List Row) × IsWhole s.follows s.rows part × IsListedAs part s
 
--- work that has just been opened awaits no answer and has the lists of its children
-abbrev IsFresh : State → Type 0
-IsFresh s = (rows_in is_awaited s.rows ≡ 0) × IsListedWhole s
-
-abbrev Fresh : Kind → Option Sequel → Outcome → Type 0
-Fresh k f o =
-    IsSound o.state × Tracks f o.state
-    × ((k ≡ kind.Ticked → ⊥) → is_opened f o.state.follows ≡ true → ends_together o.state ≡ false → IsFresh o.state)
-
 -- where no work is open, none was opened
 pub opens_nothing : (f : Option Sequel) → is_opened f None ≡ false
 opens_nothing None = refl
@@ -87,21 +70,6 @@ opens_nothing (Some (sequel.Added _)) = refl
 opens_nothing (Some (sequel.Restarted _)) = refl
 opens_nothing (Some (sequel.Stopped _)) = refl
 opens_nothing (Some (sequel.End _)) = refl
-
-idle-fresh : (k : Kind) (f : Option Sequel) (new : Outcome) → new.state.follows ≡ None → IsSound new.state → Fresh k f new
-idle-fresh k f new idle sound =
-    (sound, inr (inl idle), λ _ opened. absurd (false≢true (sym (opens_nothing f) ∙ sym (ap (λ (x : Option Sequel). is_opened f x) idle) ∙ opened)))
-
--- while an answer is awaited no work has just been opened
-awaits-fresh : (k : Kind) (f : Option Sequel) (place : ℕ) (row : Row) (o new : Outcome) → StandsAt place row o → is_awaited row.state ≡ true → Alike new o → IsSound new.state → Fresh k f o → Fresh k f new
-awaits-fresh k f place row o new at awaits same sound x = (
-  sound,
-  subst (λ (y : Option Sequel). (y ≡ f) ⊎ ((y ≡ None) ⊎ (is_opened f y ≡ true))) (sym same.4) x.1,
-  λ other opened plain.
-      let had : IsFresh o.state = x.2 other (ap (λ (y : Option Sequel). is_opened f y) (sym same.4) ∙ opened) (sym (apart-alike new o same) ∙ plain) in
-      let one : ◌≡◌ {A = ℕ} (cond (is_awaited row.state) 1 0) 1 = ap (λ (b : Bool). cond b 1 0) awaits in
-      absurd (omega (arith, rows_in-at is_awaited place row o.state.rows at, one, had.0)),
-)
 
 -- nothing is awaited: the children with a process are those that run
 processes-running : (rows : List Row) → rows_in is_awaited rows ≡ 0 → processes (calm_rows rows) ≡ running rows
@@ -291,27 +259,16 @@ together e o simple =
     ∙ simple
 
 -- the end's work, but that of dynamic children
-pub ended-listed : (e : Ending) (o : Outcome) → rows_in is_awaited o.state.rows ≡ 0 → ends_together (terminate e o).state ≡ false → IsFresh (terminate e o).state
+pub ended-listed : (e : Ending) (o : Outcome) → rows_in is_awaited o.state.rows ≡ 0 → ends_together (terminate e o).state ≡ false → IsListedWhole (terminate e o).state
 unfolding terminate terminate_ordered
 ended-listed e o none =
-    by_test (λ x. ends_together x.state ≡ false → IsFresh x.state) (is_simple o.state.flags.strategy) (terminate_together e o) (terminate_ordered e o)
+    by_test (λ x. ends_together x.state ≡ false → IsListedWhole x.state) (is_simple o.state.flags.strategy) (terminate_together e o) (terminate_ordered e o)
     (λ simple plain. absurd (false≢true (sym plain ∙ together e o simple)))
     (λ _ _.
-    let rows : List Row = o.state.rows in
-    let calm : rows_in is_awaited (calm_rows rows) ≡ rows_in is_awaited rows = calm_awaited rows in (
-      omega (arith, calm, none),
-      (
-        calm_rows rows,
-        refl,
-        (
-          [],
-          [],
-          sym (append-nil (processes (calm_rows rows))),
-          (λ q h k. omega (arith, h)),
-          sym (ap (λ (ps : List ℕ). reverse ps) (processes-running rows none)),
-          refl,
-        ),
-      ),
+    let rows : List Row = o.state.rows in (
+      calm_rows rows,
+      refl,
+      ([], [], sym (append-nil (processes (calm_rows rows))), (λ q h k. omega (arith, h)), sym (ap (λ (ps : List ℕ). reverse ps) (processes-running rows none)), refl),
     ))
 
 -- new children have no process
@@ -457,10 +414,6 @@ down_calm place row state o at calm few =
     let z : ◌≡◌ {A = ℕ} (cond (is_awaited state) 1 0) 0 = ap (λ (b : Bool). cond b 1 0) calm in
     omega (arith, e, z, few)
 
-answer-fresh : (k : Kind) (f : Option Sequel) (c : ℕ) (r : Reply) (o : Outcome) → Fresh k f o → IsSound (answer c r o).state → Fresh k f (answer c r o)
-unfolding answer
-answer-fresh k f c r o x sound = (sound, x.1, x.2)
-
 pub open_rows-follows : (own : ℕ) (o : Outcome) → (open_rows own o).state.follows ≡ Some sequel.Ready
 unfolding open_rows open_with
 open_rows-follows own o = refl
@@ -469,44 +422,7 @@ pub tick-follows : (o : Outcome) → (tick o).state.follows ≡ o.state.follows
 unfolding tick
 tick-follows o = refl
 
--- an opening goes on, or fails
-fresh-survives : (k : Kind) → Survives k true (Fresh k (Some sequel.Ready))
-fresh-survives k =
-    let f : Option Sequel = Some sequel.Ready in
-    let s : Survives k true (λ o. IsSound o.state) = sound-survives k true in
-    record {
-      answered = λ c r o x. answer-fresh k f c r o x (s.answered c r o x.0);
-      taken = λ w ws o idle runs is x. absurd (false≢true (sym idle.0));
-      call_waits = λ c call o x. (s.call_waits c call o x.0, x.1, x.2);
-      exit_waits = λ p r o noted x. (s.exit_waits p r o noted x.0, x.1, x.2);
-      up = λ p place row q kept o at is same noted x. awaits-fresh k f place row o (set_row place row (Up p) o) at (starting row q kept is) (alike o) (s.up p place row q kept o at is same noted x.0) x;
-      up_closed = λ p place row q kept c o at is same follows x. idle-fresh k f (closed (set_row place row (Up p) o)) refl (s.up_closed p place row q kept c o at is same follows x.0);
-      ignored = λ p place row q kept o at is same noted x. awaits-fresh k f place row o (end_row place row o) at (starting row q kept is) (end_row-alike place row o) (s.ignored p place row q kept o at is same noted x.0) x;
-      opening_failed = λ place row q kept o runs at is follows x. (
-        s.opening_failed place row q kept o runs at is follows x.0,
-        inr (inr (ap (λ (y : Option Sequel). is_opened f y) (terminate-follows (ending.InitFailed row.spec.id) (set_row place row Undefined o)) ∙ fails_opening f (ending.InitFailed row.spec.id) o.state x.1 follows)),
-        λ _ _ plain.
-            let few : rows_in is_awaited o.state.rows ≤ 1 = subst (λ (y : Option Sequel). IsLimited y (rows_in is_awaited o.state.rows)) follows x.0.0 in
-            let one : ◌≡◌ {A = ℕ} (cond (is_awaited row.state) 1 0) 1 = ap (λ (t : Bool). cond t 1 0) (starting row q kept is) in
-            ended-listed (ending.InitFailed row.spec.id) (set_row place row Undefined o) (down_calm place row Undefined o at refl (omega (arith, few, one))) plain,
-      );
-      restart_failed = λ place row q kept o at is follows x. idle-fresh k f (closed (put_last (waiting.Retry kept) (set_row place row (Restarting kept) o))) refl (s.restart_failed place row q kept o at is follows x.0);
-      added_failed = λ place row q kept c o at is follows x. idle-fresh k f (closed (with_rows (remove o.state.rows place) o)) refl (s.added_failed place row q kept c o at is follows x.0);
-      restarted_failed = λ place row q kept c o at is follows x. idle-fresh k f (closed (set_row place row Undefined o)) refl (s.restarted_failed place row q kept c o at is follows x.0);
-      stopped = λ p r place row o at h noted x. awaits-fresh k f place row o (end_row place row o) at (told_awaited p row.state h) (end_row-alike place row o) (s.stopped p r place row o at h noted x.0) x;
-      died = λ p place row o idle runs at is x. absurd (false≢true (sym idle.0));
-      restarts = λ p place row o idle runs at h x. absurd (false≢true (sym idle.0));
-      ends = λ e o other idle runs x. absurd (false≢true (sym idle.0));
-      ticks = λ o is x. (s.ticks o is x.0, subst (λ (y : Option Sequel). (y ≡ f) ⊎ ((y ≡ None) ⊎ (is_opened f y ≡ true))) (sym (tick-follows o)) x.1, λ other. absurd (other is));
-      opens = λ own o is link over x. absurd (false≢true (sym (x.0.3 over) ∙ link));
-      adds = λ c id spec o idle runs named x. absurd (false≢true (sym idle.0));
-      starts_again = λ c id place row o idle runs at h is x. absurd (false≢true (sym idle.0));
-      removed = λ place row o idle runs at h x. absurd (false≢true (sym idle.0));
-      given_up = λ place row o idle runs at h x. absurd (false≢true (sym idle.0));
-      stops_child = λ c p place row o idle runs at h x. absurd (false≢true (sym idle.0));
-    }
-
--- an event that ticks opens no work
+-- work that goes on wasn't opened again
 pub opens_not_again : (f : Option Sequel) → is_opened f f ≡ false
 opens_not_again None = refl
 opens_not_again (Some sequel.Ready) = refl
@@ -515,17 +431,3 @@ opens_not_again (Some (sequel.Added _)) = refl
 opens_not_again (Some (sequel.Restarted _)) = refl
 opens_not_again (Some (sequel.Stopped _)) = refl
 opens_not_again (Some (sequel.End _)) = refl
-
-ticked_opens_none : (s : State) (e : Event) → e.kind ≡ kind.Ticked → is_opened s.follows (decided s e).follows ≡ false
-unfolding decide
-ticked_opens_none s e is = ap (λ (k : Kind). is_opened s.follows (decide k (record { state = stamped e.reading s; orders = [] })).state.follows) is ∙ ap (λ (f : Option Sequel). is_opened s.follows f) (tick-follows (record { state = stamped e.reading s; orders = [] })) ∙ opens_not_again s.follows
-
--- the work by which an opening that fails ends the supervisor
-pub failed-listed : (s : State) (e : Event) → s.follows ≡ Some sequel.Ready → IsSound s → is_opened s.follows (decided s e).follows ≡ true → ends_together (decided s e) ≡ false → IsListedWhole (decided s e)
-failed-listed s e ready sound opened plain =
-    let start : Outcome = record { state = stamped e.reading s; orders = [] } in
-    let ready_opens : is_opened (Some sequel.Ready) (decided s e).follows ≡ true = subst (λ (f : Option Sequel). is_opened f (decided s e).follows ≡ true) ready opened in
-    let survives : Survives e.kind (is_some s.follows) (Fresh e.kind (Some sequel.Ready)) = subst (λ (b : Bool). Survives e.kind b (Fresh e.kind (Some sequel.Ready))) (sym (ap (λ (f : Option Sequel). is_some f) ready)) (fresh-survives e.kind) in
-    let last : Fresh e.kind (Some sequel.Ready) (decide e.kind start) =
-    decide-survives e.kind (Fresh e.kind (Some sequel.Ready)) start survives (sound, inl ready, λ _ again. absurd (false≢true (ap is_end (sym ready) ∙ again))) in
-    (last.2 (λ ticks. false≢true (sym (ticked_opens_none s e ticks) ∙ opened)) ready_opens plain).1

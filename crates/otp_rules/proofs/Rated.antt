@@ -4,7 +4,6 @@ use Rattle.std.proofs.Common.{◌∙◌, ap, sym, subst, inl, inr, ⊎_elim, ari
 use Rattle.std.proofs.lemmas.Bool.{false≢true, ltb-false}
 use Rattle.std.proofs.lemmas.List.Elements.{All-nil, All-push}
 use Rattle.otp_spec.specs.declared.flags.SupFlags.{SupFlags}
-use Rattle.otp_rules.specs.declared.call.Reply.{Reply}
 use Rattle.otp_rules.specs.declared.ending.Ending.{Ending}
 use Rattle.otp_rules.specs.declared.event.Event.{Event}
 use Rattle.otp_rules.specs.declared.event.Kind.{Kind}
@@ -12,7 +11,6 @@ use Rattle.otp_rules.specs.declared.work.Sequel.{Sequel}
 use Rattle.otp_rules.specs.declared.work.Phase.TheVariants.{Ended}
 use Rattle.otp_rules.specs.State.{Outcome, State, answer, is_over, own_number}
 use Rattle.otp_rules.specs.Ends.{refuse_all, end_all}
-use Rattle.otp_rules.specs.Work.{follow}
 use Rattle.otp_rules.specs.Step.{open_with, open_rows, tick, step}
 use Rattle.otp_rules.specs.Run.{state_after}
 use Rattle.otp_rules.specs.Frames.{IsStamped}
@@ -52,28 +50,14 @@ rated-as new old flags stamps ends (inl b) =
 rated-as new old flags stamps ends (inr (front, t, e, b, ending)) =
     inr (front, t, stamps ∙ e, subst (λ (f : SupFlags). IsBounded f front) (sym flags) b, ends ending)
 
-answered-good : (c : ℕ) (r : Reply) (o : Outcome) → Good o → Good (answer c r o)
-unfolding answer
-answered-good c r o g = g
-
-followed-good : (f : Option Sequel) (o : Outcome) → o.state.follows ≡ f → Good o → Good (follow f o)
-unfolding follow end_all refuse_all answer
-followed-good None o e g = g
-followed-good (Some sequel.Ready) o e g = (g.0, inl (bounded o.state (other_work o.state (Some sequel.Ready) e refl (λ h. cc)) g.1))
-followed-good (Some sequel.Nothing) o e g = (g.0, inl (bounded o.state (other_work o.state (Some sequel.Nothing) e refl (λ h. cc)) g.1))
-followed-good (Some (sequel.Added c)) o e g = (g.0, inl (bounded o.state (other_work o.state (Some (sequel.Added c)) e refl (λ h. cc)) g.1))
-followed-good (Some (sequel.Restarted c)) o e g = (g.0, inl (bounded o.state (other_work o.state (Some (sequel.Restarted c)) e refl (λ h. cc)) g.1))
-followed-good (Some (sequel.Stopped c)) o e g = (g.0, inl (bounded o.state (other_work o.state (Some (sequel.Stopped c)) e refl (λ h. cc)) g.1))
-followed-good (Some (sequel.End x)) o e g =
-    (g.0, rated-as (follow (Some (sequel.End x)) o).state o.state refl refl (λ h. inr (own_number o.state.phase, refl, ap (λ (y : Ending). Ended (own_number o.state.phase) y) (ends_so h))) g.1)
+ended-good : (x : Ending) (o : Outcome) → o.state.follows ≡ Some (sequel.End x) → Good o → Good (end_all x o)
+unfolding end_all refuse_all
+ended-good x o e g =
+    (g.0, rated-as (end_all x o).state o.state refl refl (λ h. inr (own_number o.state.phase, refl, ap (λ (y : Ending). Ended (own_number o.state.phase) y) (ends_so h))) g.1)
   where
     ends_so : EndsByIntensity o.state → x ≡ ending.Intensity
     ends_so (inl k) = let l : ◌≡◌ {A = Option Sequel} (Some (sequel.End x)) (Some (sequel.End ending.Intensity)) = sym e ∙ k in cc
     ends_so (inr (n, k, l)) = absurd (let m : ◌≡◌ {A = Option Sequel} (Some (sequel.End x)) None = sym e ∙ k in cc)
-
-ticks-good : (o : Outcome) → Good o → Good (tick o)
-unfolding tick
-ticks-good o g = g
 
 opened-good : (own : ℕ) (o : Outcome) → Good o → Good (open_rows own o)
 unfolding open_rows open_with
@@ -84,11 +68,20 @@ counted : (o : Outcome) → IsStamped o.state → All (λ t. t ≤ o.state.last)
 counted o h = All-push (λ t. t ≤ o.state.last) o.state.stamps o.state.last h (omega arith)
 
 steady : (k : Kind) (b : Bool) → Steady k b Good
+unfolding answer tick
 steady k b =
     record {
-      goes = record { rows = λ rows o g. g; waiting = λ items o g. g; left = λ ps ds o g. g; told = λ id p s o g. g; started = λ id n o g. g; followed = followed-good };
-      answered = answered-good;
-      closes = λ f o is stays g. (g.0, inl (bounded o.state (other_work o.state (Some f) is refl (no_end f stays)) g.1));
+      goes = record {
+        rows = λ rows o g. g;
+        waiting = λ items o g. g;
+        left = λ ps ds o g. g;
+        told = λ id p s o g. g;
+        started = λ id n o g. g;
+        closes = λ f o is stays g. (g.0, inl (bounded o.state (other_work o.state (Some f) is refl (no_end f stays)) g.1));
+        answered = λ c r o g. g;
+        ready = λ o g. g;
+        ended = ended-good;
+      };
       opens = λ ps ds f o idle runs stays g. (g.0, inl (bounded o.state (idle_not_ending b o idle runs) g.1));
       ends = λ ps e o other when g. (
         g.0,
@@ -99,7 +92,7 @@ steady k b =
         counted o g.0,
         inl (IsBounded-push o.state.flags o.state.stamps o.state.last g.0 (bounded o.state (idle_not_ending b o idle runs) g.1) (ltb-false _ _ few)),
       );
-      ticks = ticks-good;
+      ticks = λ o g. g;
       opened = λ own o is x. opened-good own o x;
     }
 

@@ -23,7 +23,6 @@ use Rattle.otp_rules.specs.Places.{end_row, set_row}
 use Rattle.otp_rules.specs.Restarts.{affected_from, affected_to}
 use Rattle.otp_rules.specs.Stops.{terminate}
 use Rattle.otp_rules.specs.Ends.{refuse_all, end_all}
-use Rattle.otp_rules.specs.Work.{follow}
 use Rattle.otp_rules.specs.Deaths.{restart_rows, restart}
 use Rattle.otp_rules.specs.Calls.{new_row}
 use Rattle.otp_rules.specs.Step.{open_with, open_rows, opening_specs, tick, decide, stamped, step, step_on}
@@ -108,19 +107,10 @@ other_end (ending.InitFailed _) now times other = refl
 abbrev HasTimes : List ℕ → ℕ → Outcome → Type 0
 HasTimes stamps last x = (x.state.stamps ≡ stamps) × (x.state.last ≡ last)
 
-follow-times : (stamps : List ℕ) (last : ℕ) (f : Option Sequel) (o : Outcome) → HasTimes stamps last o → HasTimes stamps last (follow f o)
-unfolding follow end_all refuse_all answer
-follow-times stamps last None o h = h
-follow-times stamps last (Some sequel.Ready) o h = h
-follow-times stamps last (Some sequel.Nothing) o h = h
-follow-times stamps last (Some (sequel.Added _)) o h = h
-follow-times stamps last (Some (sequel.Restarted _)) o h = h
-follow-times stamps last (Some (sequel.Stopped _)) o h = h
-follow-times stamps last (Some (sequel.End _)) o h = h
-
 -- open work and an end restart nobody
 going : (stamps : List ℕ) (last : ℕ) → Goes (HasTimes stamps last)
-going stamps last = record { rows = λ rows o h. h; waiting = λ items o h. h; left = λ ps ds o h. h; told = λ id p s o h. h; started = λ id n o h. h; followed = λ f o is h. follow-times stamps last f o h }
+unfolding answer end_all refuse_all
+going stamps last = record { rows = λ rows o h. h; waiting = λ items o h. h; left = λ ps ds o h. h; told = λ id p s o h. h; started = λ id n o h. h; closes = λ f o is stays h. h; answered = λ c r o h. h; ready = λ o h. h; ended = λ e o is h. h }
 
 terminate-times : (e : Ending) (o : Outcome) → HasTimes o.state.stamps o.state.last (terminate e o)
 terminate-times e o = terminate-goes (HasTimes o.state.stamps o.state.last) (going o.state.stamps o.state.last) e o (λ ps. (refl, refl))

@@ -26,7 +26,6 @@ use Rattle.otp_rules.specs.State.{Outcome, State, answer, closed}
 use Rattle.otp_rules.specs.Ends.{last_stamps, sup_end_of, refusal, refuse_all, end_all}
 use Rattle.otp_rules.specs.Evidence.{EndEvidence, EndEvidenceFromEmpty, IsShowing, IsEvidence, IsEvident, IsTooMany}
 use Rattle.otp_rules.specs.Stops.{stop_order}
-use Rattle.otp_rules.specs.Work.{follow}
 use Rattle.otp_rules.specs.Step.{open_with, open_rows, kill_order, late_number, tick, step}
 use Rattle.otp_rules.specs.Run.{empty_state}
 use Rattle.otp_rules.specs.Progress.{is_end}
@@ -106,15 +105,9 @@ answered-evident c r o g = (g.0, All-push IsEvident o.orders (effect.Reply c) g.
 idle : (o : Outcome) → IsShowing o.state → IsShowing (closed o).state
 idle o g = (g.0, g.1, λ h. absurd (no_work h))
 
-followed-evident : (f : Option Sequel) (o : Outcome) → o.state.follows ≡ f → Evident o → Evident (follow f o)
-unfolding follow end_all refuse_all answer
-followed-evident None o e g = g
-followed-evident (Some sequel.Ready) o e g = (idle o g.0, All-push IsEvident o.orders effect.Ready g.1 tt)
-followed-evident (Some sequel.Nothing) o e g = (idle o g.0, g.1)
-followed-evident (Some (sequel.Added c)) o e g = (idle o g.0, All-push IsEvident o.orders (effect.Reply c) g.1 tt)
-followed-evident (Some (sequel.Restarted c)) o e g = (idle o g.0, All-push IsEvident o.orders (effect.Reply c) g.1 tt)
-followed-evident (Some (sequel.Stopped c)) o e g = (idle o g.0, All-push IsEvident o.orders (effect.Reply c) g.1 tt)
-followed-evident (Some (sequel.End x)) o e g = (
+ended-evident : (x : Ending) (o : Outcome) → o.state.follows ≡ Some (sequel.End x) → Evident o → Evident (end_all x o)
+unfolding end_all refuse_all
+ended-evident x o e g = (
   idle o g.0,
   All-push IsEvident (o.orders ++ filter_map refusal o.state.waiting) (effect.End (sup_end_of o.state.flags o.state.stamps x))
       (All-append IsEvident o.orders (filter_map refusal o.state.waiting) g.1 (refusals_evident o.state.waiting)) (sup_evident x o.state e g.0),
@@ -144,10 +137,11 @@ steady k b =
         left = λ ps ds o g. g;
         told = λ id p how o g. (g.0, All-push IsEvident o.orders (stop_order id p how) g.1 (stop_evident id p how));
         started = λ id n o g. (g.0, All-push IsEvident o.orders (effect.Start id n) g.1 tt);
-        followed = followed-evident;
+        closes = λ f o is stays g. (idle o g.0, g.1);
+        answered = answered-evident;
+        ready = λ o g. (g.0, All-push IsEvident o.orders effect.Ready g.1 tt);
+        ended = ended-evident;
       };
-      answered = answered-evident;
-      closes = λ f o is stays g. (idle o g.0, g.1);
       opens = λ ps ds f o idle runs stays g. ((g.0.0, g.0.1, λ h. absurd (false≢true (sym stays ∙ ap is_end h))), g.1);
       ends = λ ps e o other when g. ((g.0.0, g.0.1, λ h. absurd (other_follows (sequel.End e) (λ k. other cc) h)), g.1);
       exceeds = λ ps o idle runs many g. (

@@ -19,8 +19,6 @@ use Rattle.otp_rules.specs.declared.ending.Ending.TheVariants as ending
 use Rattle.otp_rules.specs.declared.event.Event.{Event}
 use Rattle.otp_rules.specs.declared.event.Item.{Item}
 use Rattle.otp_rules.specs.declared.event.Kind.{Kind}
-use Rattle.otp_rules.specs.declared.work.Due.{Due}
-use Rattle.otp_rules.specs.declared.work.Sequel.{Sequel}
 use Rattle.otp_rules.specs.declared.work.Sequel.TheVariants as sequel
 use Rattle.otp_spec.specs.Flags.{is_simple}
 use Rattle.otp_rules.specs.State.{Outcome, State, answer, with_rows, with_waiting, with_work}
@@ -29,7 +27,6 @@ use Rattle.otp_rules.specs.Restarts.{running}
 use Rattle.otp_rules.specs.Stops.{calm_all, is_exit, without, told, tell_row, tell, use_exit, stop_each, terminate}
 use Rattle.otp_rules.specs.Starts.{is_due, start_row, start}
 use Rattle.otp_rules.specs.Ends.{refuse_all, end_all}
-use Rattle.otp_rules.specs.Work.{follow, start_first, stop_first, advance}
 use Rattle.otp_rules.specs.Deaths.{restart_rows, restart}
 use Rattle.otp_rules.specs.Calls.{new_row}
 use Rattle.otp_rules.specs.Step.{tick, decide, stamped, step, step_on, killed, late_number}
@@ -42,9 +39,10 @@ use Rattle.otp_spec.specs.Flags.{are_lawful_flags}
 use Rattle.otp_spec.specs.Lawful.{first_fault}
 use Rattle.otp_rules.specs.Slots.{SlotsOwned, SlotsStayOwned, SlotsTellProcesses}
 use Rattle.otp_rules.specs.Step.{rows_from, open_with, open_rows, opening_specs}
+use Rattle.otp_rules.proofs.GoesOn.{GoesOn, advance-on}
 use Rattle.otp_rules.proofs.Bits.{at_most_1}
 use Rattle.otp_rules.proofs.States.{one_process}
-use Rattle.otp_rules.proofs.Walks.{advance-by, stop_each-by, stop_first-by, terminate-by, with_stops, counted_restart}
+use Rattle.otp_rules.proofs.Walks.{stop_each-by, terminate-by, with_stops, counted_restart}
 use Rattle.otp_rules.proofs.Keeps.{step_keeps_plan_law}
 use Rattle.otp_rules.proofs.Numbers.{restart-within}
 use Rattle.otp_rules.proofs.Counting.{set_count, remove_count}
@@ -290,10 +288,10 @@ open-slots own o few =
 slots-survive : (k : Kind) (G : Item → Type 0) (old : Outcome) → length old.state.specs ≤ MAX_CHILDREN → SurvivesEvent k G old AllSlotted
 slots-survive k G old few =
     record {
-      answered = λ c r o h. answer-slots c r o h;
+      answered = λ c r o quiet h. answer-slots c r o h;
       taken = λ w ws resumed idle runs is h. h;
       call_waits = λ c call o u busy g h. h;
-      exit_waits = λ p r o u got h. h;
+      exit_waits = λ p r place row o u at has got h. h;
       up = λ p place row q kept o u at is same noted h. set-slotted place row (Up p) o.state.rows at h;
       up_closed = λ p place row q kept c o u at is same follows noted h. set-slotted place row (Up p) o.state.rows at h;
       ignored = λ p place row q kept o u at is same noted h. end-slots place row o at h;
@@ -309,44 +307,34 @@ slots-survive k G old few =
       ticks = λ is h. tick-slots old h;
       opens = λ own is over h. open-slots own old few;
       adds = λ c id spec o u idle runs named room got h. added-slots o.state.rows (new_row (free_slot o.state.rows) id spec) room refl h;
-      starts_again = λ c id place row o u idle runs at has is h. h;
+      starts_again = λ c id place row o u idle runs at has is noted found h. h;
       removed = λ place row o u idle runs at down h. remove-slotted place row o.state.rows at h;
       given_up = λ place row o u idle runs at down h. set-slotted place row Undefined o.state.rows at h;
-      stops_child = λ c p place row o u idle runs at up h. h;
+      stops_child = λ c p place row o u idle runs at up has got h. h;
     }
 
-follow-slots : (f : Option Sequel) (o : Outcome) → AllSlotted o → AllSlotted (follow f o)
-unfolding follow end_all refuse_all answer
-follow-slots None o h = h
-follow-slots (Some sequel.Ready) o h = h
-follow-slots (Some sequel.Nothing) o h = h
-follow-slots (Some (sequel.Added c)) o h = h
-follow-slots (Some (sequel.Restarted c)) o h = h
-follow-slots (Some (sequel.Stopped c)) o h = h
-follow-slots (Some (sequel.End e)) o h = (λ k. omega arith, λ k high. refl)
-
-start_first-slots : (dues : List Due) (n : ℕ) (o : Outcome) → AllSlotted o → AllSlotted (start_first dues n o)
-unfolding start_first start start_row
-start_first-slots [] n o h = follow-slots o.state.follows o h
-start_first-slots (due ∷ dues) n o h =
-    at_row-survives AllSlotted (is_due due) (with_work o.state.to_stop dues o.state.follows o) (start_row due n) (with_work o.state.to_stop dues o.state.follows o) h h
-    (λ i row at has. set-slotted i row (Starting n (unwrap_or due.kept n)) o.state.rows at h)
-
-stop_first-slots : (ps : List ℕ) (n : ℕ) (o : Outcome) → AllSlotted o → AllSlotted (stop_first ps n o)
-stop_first-slots ps n =
-    stop_first-by (λ _. AllSlotted) AllSlotted n (λ o h. start_first-slots o.state.to_start n o h)
-    (λ p rest o _ h. use_exit-slots p (position (is_exit p) o.state.waiting) (with_stops rest o) h) (λ p rest o h. tell-slots p (with_stops rest o) h) ps
-
-advance-slots : (n : ℕ) (o : Outcome) → AllSlotted o → AllSlotted (advance n o)
-advance-slots n o h =
-    advance-by AllSlotted n o h (λ _ _. stop_first-slots o.state.to_stop n o h)
+going-slots : (n : ℕ) → GoesOn n (λ _. AllSlotted) AllSlotted
+unfolding start start_row answer end_all refuse_all
+going-slots n =
+    record {
+      uses = λ p rest o _ h. use_exit-slots p (position (is_exit p) o.state.waiting) (with_stops rest o) h;
+      tells = λ p rest o _ h. tell-slots p (with_stops rest o) h;
+      starts = λ due dues o _ h.
+          let left : Outcome = with_work o.state.to_stop dues o.state.follows o in
+          at_row-survives AllSlotted (is_due due) left (start_row due n) left h h (λ i row at has. set-slotted i row (Starting n (unwrap_or due.kept n)) o.state.rows at h);
+      closes = λ f o _ _ h. h;
+      answers = λ c r f o _ _ h. h;
+      ready = λ o _ h. h;
+      ends = λ e o _ h. (λ k. omega arith, λ k high. refl);
+    }
 
 step-slots : (s : State) (e : Event) → length s.specs ≤ MAX_CHILDREN → Slotted s.rows → Slotted (step s e).state.rows
 unfolding step step_on
 step-slots s e few h =
     let start : Outcome = record { state = stamped e.reading s; orders = [] } in
-    advance-slots (unwrap_or e.number 0) (decide e.kind start)
-    (decide-survives_event e.kind (λ (i : Item). Unit {0}) start AllSlotted (slots-survive e.kind (λ (i : Item). Unit {0}) start few) (λ i b idle. tt) h)
+    let n : ℕ = unwrap_or e.number 0 in
+    let d : AllSlotted (decide e.kind start) = decide-survives_event e.kind (λ (i : Item). Unit {0}) start AllSlotted (slots-survive e.kind (λ (i : Item). Unit {0}) start few) (λ i b idle. tt) h in
+    advance-on n (λ _. AllSlotted) AllSlotted (going-slots n) (decide e.kind start) (λ _. d) (λ _ _. d)
 
 pub run-slots : (s : State) (es : List Event) → length s.specs ≤ MAX_CHILDREN → Slotted s.rows → Slotted (state_after s es).rows
 run-slots s [] few h = h

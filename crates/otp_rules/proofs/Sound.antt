@@ -20,14 +20,15 @@ use Rattle.otp_rules.specs.Restarts.{affected_from, affected_to, dues, running}
 use Rattle.otp_rules.specs.Stops.{calm_all, is_exit, without, told, tell_row, tell, use_exit, stop_each, terminate}
 use Rattle.otp_rules.specs.Starts.{is_due, start_row, start}
 use Rattle.otp_rules.specs.Ends.{refuse_all, end_all}
-use Rattle.otp_rules.specs.Work.{follow, start_first, stop_first, advance}
+use Rattle.otp_rules.specs.Work.{advance}
 use Rattle.otp_rules.specs.Deaths.{restart_rows, restart}
 use Rattle.otp_rules.specs.Calls.{new_row}
 use Rattle.otp_rules.specs.Step.{rows_from, open_with, open_rows, opening_specs, tick}
 use Rattle.otp_rules.specs.Run.{empty_state}
 use Rattle.otp_rules.specs.Progress.{is_end}
 use Rattle.otp_rules.specs.Fit.{is_told, rows_in, times, runs_as, IsLimited, IsCovered, IsSound}
-use Rattle.otp_rules.proofs.Walks.{advance-by, restart-by, stop_first-by, terminate-by}
+use Rattle.otp_rules.proofs.GoesOn.{GoesOn, advance-on}
+use Rattle.otp_rules.proofs.Walks.{restart-by, terminate-by}
 use Rattle.otp_rules.proofs.Decisions.{IsIdle, IsRunning, StandsAt, Survives, at_row-survives, at_number-survives}
 use Rattle.otp_rules.proofs.Counting.{times-cons, rows_in-cons, rows_in-append, remove_count, rows_in-set, rows_in-at, rows_in-end, Alike, end_row-alike, stop_each-alike, told-runs, runs_number, times-reverse, running_counted, calm_awaited, tick_count, take_rows, drop_rows, none_in, there}
 use Rattle.otp_rules.specs.declared.ending.Ending.TheVariants as ending
@@ -363,28 +364,22 @@ ordered-sound due dues n o is r =
       sound.5,
     ))
 
-follow-sound : (f : Option Sequel) (o : Outcome) → rows_in is_awaited o.state.rows ≡ 0 → IsSound o.state → IsSound (follow f o).state
-unfolding follow end_all refuse_all answer
-follow-sound None o none g = g
-follow-sound (Some sequel.Ready) o none g = closed-sound o none
-follow-sound (Some sequel.Nothing) o none g = closed-sound o none
-follow-sound (Some (sequel.Added c)) o none g = closed-sound o none
-follow-sound (Some (sequel.Restarted c)) o none g = closed-sound o none
-follow-sound (Some (sequel.Stopped c)) o none g = closed-sound o none
-follow-sound (Some (sequel.End e)) o none g = (refl, covered-none [] [] refl, λ _. (refl, refl), λ _. refl, λ _. refl, λ _. refl)
-
-start_first-sound : (dues : List Due) (n : ℕ) (o : Outcome) → o.state.to_start ≡ dues → IsReady [] o → IsSound (start_first dues n o).state
-unfolding start_first
-start_first-sound [] n o is r = follow-sound o.state.follows o r.1 r.0
-start_first-sound (due ∷ dues) n o is r = ordered-sound due dues n o is r
-
-stop_first-sound : (ps : List ℕ) (n : ℕ) (o : Outcome) → IsReady ps o → IsSound (stop_first ps n o).state
-stop_first-sound ps n =
-    stop_first-by IsReady (λ x. IsSound x.state) n (λ o r. start_first-sound o.state.to_start n o refl r) (λ p rest o _ r. used-ready p rest (position (is_exit p) o.state.waiting) o r) (λ p rest o r. told-sound p rest o r) ps
+going-sound : (n : ℕ) → GoesOn n IsReady (λ x. IsSound x.state)
+unfolding answer end_all refuse_all
+going-sound n =
+    record {
+      uses = λ p rest o _ r. used-ready p rest (position (is_exit p) o.state.waiting) o r;
+      tells = λ p rest o _ r. told-sound p rest o r;
+      starts = λ due dues o is r. ordered-sound due dues n o is r;
+      closes = λ f o _ _ r. closed-sound o r.1;
+      answers = λ c x f o _ _ r. closed-sound o r.1;
+      ready = λ o _ r. closed-sound o r.1;
+      ends = λ e o _ r. (refl, covered-none [] [] refl, λ _. (refl, refl), λ _. refl, λ _. refl, λ _. refl);
+    }
 
 pub advance-sound : (n : ℕ) (o : Outcome) → IsSound o.state → IsSound (advance n o).state
 advance-sound n o g =
-    advance-by (λ x. IsSound x.state) n o g (λ busy none. stop_first-sound o.state.to_stop n o (g, none_in is_awaited o.state.rows none, refl, busy))
+    advance-on n IsReady (λ x. IsSound x.state) (going-sound n) o (λ _. g) (λ busy none. (g, none_in is_awaited o.state.rows none, refl, busy))
 
 pub empty-sound : (flags : SupFlags) (specs : List ChildSpec) → IsSound (empty_state flags specs)
 empty-sound flags specs = (refl, covered-none [] [] refl, λ _. (refl, refl), λ _. refl, λ _. refl, λ _. refl)

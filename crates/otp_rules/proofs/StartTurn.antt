@@ -299,7 +299,7 @@ stop_first-gone g ps n =
       (answered.0, answered.1 ∙ ap (λ (ds : List Due). answered.0 ++ ds) (sym same.3), answered.2, answered.3),
       subst (λ (xs : List Effect). All NoStart xs) (sym (use_exit-quiet p place left).1) m.7,
     ))
-    (λ p rest o m. told-gone g p rest o m) ps
+    (λ p rest o _ m. told-gone g p rest o m) ps
 
 -- where nothing is awaited, each start was answered
 none_starting : (m : ℕ) (rows : List Row) → rows_in is_awaited rows ≡ 0 → 0 < rows_in (is_starting m) rows → ⊥
@@ -315,7 +315,7 @@ none_starting m rows none some = omega (arith, none, some, rows_in-le (is_starti
 
 advance-gone : (g : Progress) (n : ℕ) (o : Outcome) → Stands o → ((q : ℕ) → rows_in (has_process q) o.state.rows ≤ 1) → Keeps o.state g → KeepsStarts o.state g → All NoStart o.orders → Gone g (advance n o)
 advance-gone g n o h one stops starts none =
-    advance-by (Gone g) n o (quietly g o starts none h.1) (λ busy calm.
+    advance-by (Gone g) n o (λ _. quietly g o starts none h.1) (λ busy calm.
     let zero : rows_in is_awaited o.state.rows ≡ 0 = none_in is_awaited o.state.rows calm in
     let had : HasWaiting o.state g × HasStops o.state g = stops busy in
     let begun : HasStarts o.state g = starts busy in

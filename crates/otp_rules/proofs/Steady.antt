@@ -24,11 +24,13 @@ use Rattle.otp_rules.specs.Places.{end_row, end_process, is_removed, set_row}
 use Rattle.otp_rules.specs.Restarts.{running}
 use Rattle.otp_rules.specs.Stops.{calm_all, is_exit, stop_order, without, tell_row, tell, use_exit, stop_each, terminate}
 use Rattle.otp_rules.specs.Starts.{is_due, start_row, start}
-use Rattle.otp_rules.specs.Work.{follow, start_first, stop_first, advance}
+use Rattle.otp_rules.specs.Ends.{end_all}
+use Rattle.otp_rules.specs.Work.{advance}
 use Rattle.otp_rules.specs.Deaths.{restart_rows, restart}
 use Rattle.otp_rules.specs.Step.{open_rows, tick, decide, stamped, step_on, step}
 use Rattle.otp_rules.specs.Progress.{is_end}
-use Rattle.otp_rules.proofs.Walks.{advance-by, restart-by, stop_each-by, stop_first-by, terminate-by, with_stops}
+use Rattle.otp_rules.proofs.GoesOn.{GoesOn, advance-on}
+use Rattle.otp_rules.proofs.Walks.{restart-by, stop_each-by, terminate-by, with_stops}
 use Rattle.otp_rules.proofs.Decisions.{IsIdle, IsRunning, Survives, at_row-survives, at_number-survives, by_test, decide-survives}
 
 -- each kind of change that open work makes keeps the property
@@ -38,14 +40,16 @@ pub record Goes (P : Outcome → Type 0) : Type 0 where
   pub left : (ps : List ℕ) (ds : List Due) (o : Outcome) → P o → P (with_work ps ds o.state.follows o)
   pub told : (id : Option Name) (p : ℕ) (s : Shutdown) (o : Outcome) → P o → P (emit (stop_order id p s) o)
   pub started : (id : Option Name) (n : ℕ) (o : Outcome) → P o → P (emit (effect.Start id n) o)
-  pub followed : (f : Option Sequel) (o : Outcome) → o.state.follows ≡ f → P o → P (follow f o)
+  -- work closes, but for the end; a call is answered, the supervisor is ready, or ends
+  pub closes : (f : Sequel) (o : Outcome) → o.state.follows ≡ Some f → is_end (Some f) ≡ false → P o → P (closed o)
+  pub answered : (c : ℕ) (r : Reply) (o : Outcome) → P o → P (answer c r o)
+  pub ready : (o : Outcome) → P o → P (emit effect.Ready o)
+  pub ended : (e : Ending) (o : Outcome) → o.state.follows ≡ Some (sequel.End e) → P o → P (end_all e o)
 
 -- and so does each kind of change that a decision makes; k: the kind of the event, b: work was open when it came
 pub record Steady (k : Kind) (b : Bool) (P : Outcome → Type 0) : Type 0 where
   pub goes : Goes P
-  pub answered : (c : ℕ) (r : Reply) (o : Outcome) → P o → P (answer c r o)
-  -- work closes, opens, and ends the supervisor
-  pub closes : (f : Sequel) (o : Outcome) → o.state.follows ≡ Some f → is_end (Some f) ≡ false → P o → P (closed o)
+  -- work opens, and ends the supervisor
   pub opens : (ps : List ℕ) (ds : List Due) (f : Sequel) (o : Outcome) → IsIdle b o → IsRunning o → is_end (Some f) ≡ false → P o → P (with_work ps ds (Some f) o)
   pub ends : (ps : List ℕ) (e : Ending) (o : Outcome) → (e ≡ ending.Intensity → ⊥) → (IsIdle b o × IsRunning o) ⊎ (o.state.follows ≡ Some sequel.Ready) → P o → P (with_work ps [] (Some (sequel.End e)) o)
   -- a restart: one too many, or not
@@ -73,19 +77,21 @@ start-goes : (P : Outcome → Type 0) → Goes P → (due : Due) (n : ℕ) (o : 
 unfolding start start_row
 start-goes P t due n o x = t.started due.id n _ (at_row-survives P (is_due due) o (start_row due n) o x x (λ place row _ _. t.rows _ o x))
 
-start_first-goes : (P : Outcome → Type 0) → Goes P → (dues : List Due) (n : ℕ) (o : Outcome) → P o → P (start_first dues n o)
-unfolding start_first
-start_first-goes P t [] n o x = t.followed o.state.follows o refl x
-start_first-goes P t (due ∷ dues) n o x = start-goes P t due n _ (t.left o.state.to_stop dues o x)
-
-stop_first-goes : (P : Outcome → Type 0) → Goes P → (ps : List ℕ) (n : ℕ) (o : Outcome) → P o → P (stop_first ps n o)
-stop_first-goes P t ps n =
-    stop_first-by (λ _. P) P n (λ o x. start_first-goes P t o.state.to_start n o x)
-    (λ p rest o _ x. use_exit-goes P t p (position (is_exit p) o.state.waiting) (with_stops rest o) (t.left rest o.state.to_start o x)) (λ p rest o x. tell-goes P t p (with_stops rest o) (t.left rest o.state.to_start o x)) ps
+going-on : (P : Outcome → Type 0) → Goes P → (n : ℕ) → GoesOn n (λ _. P) P
+going-on P t n =
+    record {
+      uses = λ p rest o _ x. use_exit-goes P t p (position (is_exit p) o.state.waiting) (with_stops rest o) (t.left rest o.state.to_start o x);
+      tells = λ p rest o _ x. tell-goes P t p (with_stops rest o) (t.left rest o.state.to_start o x);
+      starts = λ due dues o _ x. start-goes P t due n _ (t.left o.state.to_stop dues o x);
+      closes = λ f o last stays x. t.closes f o last.0 stays x;
+      answers = λ c r f o last stays x. t.answered c r (closed o) (t.closes f o last.0 stays x);
+      ready = λ o last x. t.ready (closed o) (t.closes sequel.Ready o last.0 refl x);
+      ends = λ e o last x. t.ended e o last.0 x;
+    }
 
 pub advance-goes : (P : Outcome → Type 0) → Goes P → (n : ℕ) (o : Outcome) → P o → P (advance n o)
 advance-goes P t n o x =
-    advance-by P n o x (λ _ _. stop_first-goes P t o.state.to_stop n o x)
+    advance-on n (λ _. P) P (going-on P t n) o (λ _. x) (λ _ _. x)
 
 stop_each-goes : (P : Outcome → Type 0) → Goes P → (ps : List ℕ) (o : Outcome) → P o → P (stop_each ps o)
 stop_each-goes P t = stop_each-by P (λ p o _ x. use_exit-goes P t p (position (is_exit p) o.state.waiting) o x) (λ p o _ x. tell-goes P t p o x)
@@ -110,23 +116,23 @@ restart-steady e b P t k place row o idle runs x =
 pub steady-survives : (k : Kind) (b : Bool) (P : Outcome → Type 0) → Steady k b P → Survives k b P
 steady-survives k b P t =
     record {
-      answered = t.answered;
+      answered = t.goes.answered;
       taken = λ w ws o idle runs is x. t.goes.waiting ws o x;
       call_waits = λ c call o x. t.goes.waiting _ o x;
       exit_waits = λ p r o noted x. t.goes.waiting _ o x;
       up = λ p place row q kept o at is same noted x. t.goes.rows _ o x;
       up_closed = λ p place row q kept c o at is same follows x.
           elim follows as (λ _. P _) [
-            | inl e ↦ t.closes (sequel.Added c) _ e refl (t.goes.rows _ o x)
-            | inr e ↦ t.closes (sequel.Restarted c) _ e refl (t.goes.rows _ o x)
+            | inl e ↦ t.goes.closes (sequel.Added c) _ e refl (t.goes.rows _ o x)
+            | inr e ↦ t.goes.closes (sequel.Restarted c) _ e refl (t.goes.rows _ o x)
           ];
       ignored = λ p place row q kept o at is same noted x. end_row-goes P t.goes place row o x;
       opening_failed = λ place row q kept o runs at is follows x.
           let down : Outcome = set_row place row Undefined o in
           terminate-goes P t.goes (ending.InitFailed row.spec.id) down (λ ps. t.ends ps (ending.InitFailed row.spec.id) down (λ h. cc) (inr follows) (t.goes.rows _ o x));
-      restart_failed = λ place row q kept o at is follows x. t.closes sequel.Nothing _ follows refl (t.goes.waiting _ _ (t.goes.rows _ o x));
-      added_failed = λ place row q kept c o at is follows x. t.closes (sequel.Added c) _ follows refl (t.goes.rows _ o x);
-      restarted_failed = λ place row q kept c o at is follows x. t.closes (sequel.Restarted c) _ follows refl (t.goes.rows _ o x);
+      restart_failed = λ place row q kept o at is follows x. t.goes.closes sequel.Nothing _ follows refl (t.goes.waiting _ _ (t.goes.rows _ o x));
+      added_failed = λ place row q kept c o at is follows x. t.goes.closes (sequel.Added c) _ follows refl (t.goes.rows _ o x);
+      restarted_failed = λ place row q kept c o at is follows x. t.goes.closes (sequel.Restarted c) _ follows refl (t.goes.rows _ o x);
       stopped = λ p r place row o at h noted x. end_row-goes P t.goes place row o x;
       died = λ p place row o idle runs at is x. end_row-goes P t.goes place row o x;
       restarts = λ p place row o idle runs at h x. restart-steady k b P t p place row o idle runs x;

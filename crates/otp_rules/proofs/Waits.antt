@@ -1,5 +1,5 @@
 -- What becomes of the start calls that wait.
-use Rattle.std.specs.Prelude.{◌≡◌, ◌⊎◌, ℕ, ◌<◌, ◌++◌, ◌&&◌, not, Bool, true, false, List, [], ◌∷◌, Option, None, Some, refl, if◌then◌else◌, position, is_some, length, remove, unwrap_or, drop}
+use Rattle.std.specs.Prelude.{◌≡◌, ◌⊎◌, ℕ, ◌<◌, ◌++◌, ◌&&◌, not, Bool, true, false, List, [], ◌∷◌, Option, None, Some, refl, if◌then◌else◌, position, length, remove, unwrap_or, drop, slice_get}
 use Rattle.std.specs.List.{cons_option}
 use Rattle.std.proofs.Common.{◌∙◌, ap, sym, inl, inr, arith, ⊎_elim, rules, get_or, append-nil}
 use Rattle.std.proofs.lemmas.Bool.{false≢true, cond_both}
@@ -20,8 +20,6 @@ use Rattle.otp_rules.specs.declared.event.Kind.{Kind}
 use Rattle.otp_rules.specs.declared.event.Kind.TheVariants as kind
 use Rattle.otp_rules.specs.declared.event.Waiting.{Waiting}
 use Rattle.otp_rules.specs.declared.event.Waiting.TheVariants as waiting
-use Rattle.otp_rules.specs.declared.work.Due.{Due}
-use Rattle.otp_rules.specs.declared.work.Sequel.{Sequel}
 use Rattle.otp_rules.specs.declared.work.Sequel.TheVariants as sequel
 use Rattle.otp_rules.specs.State.{Outcome, State, answer, is_busy, is_over, put_last, with_stamps, with_waiting, with_work}
 use Rattle.otp_rules.specs.Places.{end_row, set_row}
@@ -29,14 +27,15 @@ use Rattle.otp_rules.specs.Restarts.{running}
 use Rattle.otp_rules.specs.Stops.{calm_all, is_exit, without, tell_row, tell, use_exit, stop_each, terminate}
 use Rattle.otp_rules.specs.Starts.{is_due, start_row, start}
 use Rattle.otp_rules.specs.Ends.{refuse_all, end_all}
-use Rattle.otp_rules.specs.Work.{follow, start_first, stop_first, advance}
+use Rattle.otp_rules.specs.Work.{advance}
 use Rattle.otp_rules.specs.Deaths.{restart_rows, restart}
 use Rattle.otp_rules.specs.Calls.{take_call}
 use Rattle.otp_rules.specs.Step.{ask, open_rows, open_with, resume, take_item, tick, decide, stamped, step, step_on}
 use Rattle.otp_rules.specs.Homes.{Brings}
 use Rattle.otp_rules.specs.Waits.{StartsWait, start_in, start_waiting, starts_left, starts_waiting}
-use Rattle.otp_rules.proofs.Walks.{advance-by, restart-by, stop_each-by, terminate-by}
-use Rattle.otp_rules.proofs.Decisions.{SurvivesEvent, at_row-survives, at_number-survives, by_test, decide-survives_event, take_waiting-survives}
+use Rattle.otp_rules.proofs.GoesOn.{GoesOn, advance-on}
+use Rattle.otp_rules.proofs.Walks.{restart-by, stop_each-by, terminate-by, with_stops}
+use Rattle.otp_rules.proofs.Decisions.{SurvivesEvent, at_row-survives, at_number-survives, decide-survives_event, same_work, take_waiting-survives}
 use Rattle.otp_rules.proofs.Counting.{end_row-quiet, use_exit-quiet}
 use Prim.Native.Nat.{zero, suc}
 
@@ -113,14 +112,14 @@ open-same own o = refl
 end-same : (place : ℕ) (row : Row) (o : Outcome) → Same o (end_row place row o)
 end-same place row o = ap (λ (ws : List Waiting). starts_waiting ws) (end_row-quiet place row o).0
 
--- an event that takes nothing that waits, and lets no start call wait
-same-survives : (k : Kind) (G : Item → Type 0) (old : Outcome) → (k ≡ kind.Resumed → ⊥) → ((i : Item) → G i → is_busy old ≡ true → start_in i ≡ None) → SurvivesEvent k G old (Same old)
-same-survives k G old other none =
+-- what is taken leaves the same start calls as here, and no start call is put
+same-survives : (k : Kind) (G : Item → Type 0) (old here : Outcome) → ((w : Waiting) (ws : List Waiting) → k ≡ kind.Resumed → old.state.waiting ≡ w ∷ ws → starts_waiting ws ≡ starts_waiting here.state.waiting) → ((i : Item) → G i → is_busy old ≡ true → start_in i ≡ None) → SurvivesEvent k G old (Same here)
+same-survives k G old here next none =
     record {
-      answered = λ c r o h. answer-same c r o ∙ h;
-      taken = λ w ws resumed idle runs is h. absurd (other resumed);
-      call_waits = λ c call o u busy g h. put-same o.state.waiting (waiting.Item (item.Call c call)) (none (item.Call c call) g (sym u.1 ∙ busy)) ∙ h;
-      exit_waits = λ p r o u g h. put-same o.state.waiting (waiting.Item (item.Note (note.Exit p r))) refl ∙ h;
+      answered = λ c r o quiet h. answer-same c r o ∙ h;
+      taken = λ w ws resumed idle runs is h. next w ws resumed is;
+      call_waits = λ c call o u busy g h. put-same o.state.waiting (waiting.Item (item.Call c call)) (none (item.Call c call) g (sym (same_work old o u) ∙ busy)) ∙ h;
+      exit_waits = λ p r place row o u at has g h. put-same o.state.waiting (waiting.Item (item.Note (note.Exit p r))) refl ∙ h;
       up = λ p place row q kept o u at is same g h. h;
       up_closed = λ p place row q kept c o u at is same follows g h. h;
       ignored = λ p place row q kept o u at is same g h. end-same place row o ∙ h;
@@ -132,18 +131,18 @@ same-survives k G old other none =
       died = λ p place row o u idle runs at is g h. end-same place row o ∙ h;
       restarts = λ p place row o u idle runs at is h. restart-same p place row o ∙ h;
       ends = λ e o u other_end idle runs h. terminate-same e o ∙ h;
-      ticks = λ is h. tick-same old;
-      opens = λ own is over h. open-same own old;
+      ticks = λ is h. tick-same old ∙ h;
+      opens = λ own is over h. open-same own old ∙ h;
       adds = λ c id spec o u idle runs named few got h. h;
-      starts_again = λ c id place row o u idle runs at has is h. h;
+      starts_again = λ c id place row o u idle runs at has is noted found h. h;
       removed = λ place row o u idle runs at down h. h;
       given_up = λ place row o u idle runs at down h. h;
-      stops_child = λ c p place row o u idle runs at up h. h;
+      stops_child = λ c p place row o u idle runs at up has got h. h;
     }
 
 -- what the event decides
 decided-same : (k : Kind) (old : Outcome) → (k ≡ kind.Resumed → ⊥) → ((i : Item) → Brings k old.state.waiting i → is_busy old ≡ true → start_in i ≡ None) → Same old (decide k old)
-decided-same k old other none = decide-survives_event k (Brings k old.state.waiting) old (Same old) (same-survives k (Brings k old.state.waiting) old other none) (λ i b idle. b) refl
+decided-same k old other none = decide-survives_event k (Brings k old.state.waiting) old (Same old) (same-survives k (Brings k old.state.waiting) old old (λ w ws resumed is. absurd (other resumed)) none) (λ i b idle. b) refl
 
 busy_call : (c : ℕ) (x : Call) (o : Outcome) → is_over o.state.phase ≡ false → is_busy o ≡ true → decide (kind.Took (item.Call c x)) o ≡ put_last (waiting.Item (item.Call c x)) o
 unfolding decide take_item ask
@@ -178,9 +177,10 @@ unfolding resume
 resume-left [] old is idle runs = ap (λ (l : List Waiting). starts_waiting l) is
 resume-left (w ∷ ws) old is idle runs =
     let left : Outcome = with_waiting ws old in
-    take_waiting-survives kind.Stopped (λ (i : Item). Unit {0}) left (Same left)
-    (same-survives kind.Stopped (λ (i : Item). Unit {0}) left (λ resumed. absurd (search (rules, resumed))) (λ i g busy. absurd (false≢true (sym idle ∙ busy))))
-    w left (refl, refl) (λ i b. tt) (idle, idle) runs refl refl
+    let rest : (x : Waiting) (xs : List Waiting) → old.state.waiting ≡ x ∷ xs → starts_waiting xs ≡ starts_waiting ws = λ x xs same. ap (λ (l : List Waiting). starts_waiting (drop 1 l)) (sym same ∙ is) in
+    take_waiting-survives kind.Resumed (λ (i : Item). Unit {0}) old (Same left)
+    (same-survives kind.Resumed (λ (i : Item). Unit {0}) old left (λ x xs _ same. rest x xs same) (λ i g busy. absurd (false≢true (sym idle ∙ busy))))
+    w left refl (λ i b. tt) refl (ap (λ (l : List Waiting). slice_get l 0) is) (idle, idle) runs refl
 
 idle_resume : (o : Outcome) → is_busy o ≡ false → is_over o.state.phase ≡ false → decide kind.Resumed o ≡ resume o.state.waiting o
 unfolding decide
@@ -214,36 +214,21 @@ decide-left kind.Stopped old = decided-same kind.Stopped old (λ resumed. absurd
 abbrev Left : Outcome → Outcome → Type 0
 Left o new = Same o new ⊎ ((new.state.waiting ≡ []) × (is_over new.state.phase ≡ true))
 
-follow-left : (f : Option Sequel) (o : Outcome) → Left o (follow f o)
-unfolding follow end_all refuse_all answer
-follow-left None o = inl refl
-follow-left (Some sequel.Ready) o = inl refl
-follow-left (Some sequel.Nothing) o = inl refl
-follow-left (Some (sequel.Added c)) o = inl refl
-follow-left (Some (sequel.Restarted c)) o = inl refl
-follow-left (Some (sequel.Stopped c)) o = inl refl
-follow-left (Some (sequel.End e)) o = inr (refl, refl)
-
-start_first-left : (dues : List Due) (n : ℕ) (o : Outcome) → Left o (start_first dues n o)
-unfolding start_first start start_row
-start_first-left [] n o = follow-left o.state.follows o
-start_first-left (due ∷ dues) n o =
-    let left : Outcome = with_work o.state.to_stop dues o.state.follows o in
-    inl (at_row-survives (Same o) (is_due due) left (start_row due n) left refl refl (λ i row at has. refl))
-
-stop_first-left : (ps : List ℕ) (n : ℕ) (o : Outcome) → Left o (stop_first ps n o)
-unfolding stop_first
-stop_first-left [] n o = start_first-left o.state.to_start n o
-stop_first-left (p ∷ ps) n o =
-    let place : Option ℕ = position (is_exit p) o.state.waiting in
-    let left : Outcome = with_work ps o.state.to_start o.state.follows o in
-    by_test (Left o) (is_some place) (stop_first ps n (use_exit p place left)) (tell p left)
-    (λ _. ⊎_elim (λ same. inl (same ∙ use_exit-same p o left refl)) (λ over. inr over) (stop_first-left ps n (use_exit p place left)))
-    (λ _. inl (tell-same p left))
+going-left : (n : ℕ) (old : Outcome) → GoesOn n (λ _. Same old) (Left old)
+unfolding start start_row answer end_all refuse_all
+going-left n old =
+    record {
+      uses = λ p rest o _ h. use_exit-same p o (with_stops rest o) refl ∙ h;
+      tells = λ p rest o _ h. inl (tell-same p (with_stops rest o) ∙ h);
+      starts = λ due dues o _ h. let left : Outcome = with_work o.state.to_stop dues o.state.follows o in inl (at_row-survives (Same old) (is_due due) left (start_row due n) left h h (λ i row at has. h));
+      closes = λ f o _ _ h. inl h;
+      answers = λ c r f o _ _ h. inl h;
+      ready = λ o _ h. inl h;
+      ends = λ e o _ h. inr (refl, refl);
+    }
 
 advance-left : (n : ℕ) (o : Outcome) → Left o (advance n o)
-advance-left n o =
-    advance-by (Left o) n o (inl refl) (λ _ _. stop_first-left o.state.to_stop n o)
+advance-left n o = advance-on n (λ _. Same o) (Left o) (going-left n o) o (λ _. inl refl) (λ _ _. refl)
 
 stamped-left : (k : Kind) (reading : ℕ) (s : State) → starts_left k (stamped reading s) ≡ starts_left k s
 stamped-left (kind.Opened own) reading s = refl

@@ -1,6 +1,7 @@
 -- The walk over open work, and what a decision to end begins with: what each step keeps, the walk keeps.
-use Rattle.std.specs.Prelude.{◌≡◌, ℕ, Bool, true, false, List, [], ◌∷◌, ◌++◌, Some, if◌then◌else◌, length, nat_lt, position, is_some, reverse}
+use Rattle.std.specs.Prelude.{◌≡◌, ◌⊎◌, ℕ, Bool, true, false, List, [], ◌∷◌, ◌++◌, Some, if◌then◌else◌, length, nat_lt, position, is_some, reverse}
 use Rattle.std.specs.List.{list_any}
+use Rattle.std.proofs.Common.{inl, inr}
 use Rattle.otp_window.specs.Period.{in_period}
 use Rattle.otp_table.specs.declared.row.Row.{Row}
 use Rattle.otp_table.specs.declared.row.RowState.TheVariants.{Undefined}
@@ -66,19 +67,23 @@ restart-by P k place row o ends restarts =
 -- the first child to stop ends at once if its end waits, and is told to stop else. S: what holds with so many still to stop
 pub stop_first-by : (S : List ℕ → Outcome → Type 0) (P : Outcome → Type 0) (n : ℕ) → ((o : Outcome) → S [] o → P (start_first o.state.to_start n o))
     → ((p : ℕ) (ps : List ℕ) (o : Outcome) → end_waits p o ≡ true → S (p ∷ ps) o → S ps (used p (with_stops ps o)))
-    → ((p : ℕ) (ps : List ℕ) (o : Outcome) → S (p ∷ ps) o → P (tell p (with_stops ps o))) → (ps : List ℕ) (o : Outcome) → S ps o → P (stop_first ps n o)
+    → ((p : ℕ) (ps : List ℕ) (o : Outcome) → end_waits p o ≡ false → S (p ∷ ps) o → P (tell p (with_stops ps o))) → (ps : List ℕ) (o : Outcome) → S ps o → P (stop_first ps n o)
 unfolding stop_first
 stop_first-by S P n starts uses tells [] o h = starts o h
 stop_first-by S P n starts uses tells (p ∷ ps) o h =
     by_test P (end_waits p o) (stop_first ps n (used p (with_stops ps o))) (tell p (with_stops ps o))
     (λ waits. stop_first-by S P n starts uses tells ps (used p (with_stops ps o)) (uses p ps o waits h))
-    (λ _. tells p ps o h)
+    (λ none. tells p ps o none h)
 
--- open work goes on where no answer is awaited
-pub advance-by : (P : Outcome → Type 0) (n : ℕ) (o : Outcome) → P o → (is_busy o ≡ true → list_any (row_has is_awaited) o.state.rows ≡ false → P (stop_first o.state.to_stop n o)) → P (advance n o)
+-- no work is open, or an answer is awaited
+abbrev pub Rests : Outcome → Type 0
+Rests o = (is_busy o ≡ false) ⊎ (list_any (row_has is_awaited) o.state.rows ≡ true)
+
+-- else open work goes on
+pub advance-by : (P : Outcome → Type 0) (n : ℕ) (o : Outcome) → (Rests o → P o) → (is_busy o ≡ true → list_any (row_has is_awaited) o.state.rows ≡ false → P (stop_first o.state.to_stop n o)) → P (advance n o)
 unfolding advance
-advance-by P n o h goes =
+advance-by P n o rests goes =
     let go : Outcome = stop_first o.state.to_stop n o in
     by_test P (is_busy o) (if list_any (row_has is_awaited) o.state.rows then o else go) o
-    (λ busy. by_test P (list_any (row_has is_awaited) o.state.rows) o go (λ _. h) (λ none. goes busy none))
-    (λ _. h)
+    (λ busy. by_test P (list_any (row_has is_awaited) o.state.rows) o go (λ any. rests (inr any)) (λ none. goes busy none))
+    (λ idle. rests (inl idle))
