@@ -1,9 +1,13 @@
-use crate::fixtures::named;
-use otp_file::{ChildKey, FaultPlace, FlagKey, MAX_DEPTH, TreeFault, read_located, read_tree};
+use crate::fixtures::{named, prints, same};
+use otp_file::{
+    ChildKey, FaultPlace, FlagKey, MAX_DEPTH, TreeFault, TreeSpec, read_located, read_tree,
+};
 use otp_spec::{
-    AutoShutdown, ChildType, MAX_TABLES, Modules, Restart, Shutdown, SpecFault, Strategy,
+    AutoShutdown, ChildSpec, ChildType, MAX_TABLES, Modules, Restart, Shutdown, SpecFault,
+    Strategy, SupFlags,
 };
 use std::alloc::Global;
+use std::process::Abort;
 use std::test::Fail;
 
 // The text and this many children, all the same.
@@ -23,64 +27,104 @@ fn file_with_every_key(rt: HostRuntime) -> Result<(), Fail> {
 [[child]]\nid = \"db\"\nstart = \"steady\"\nrestart = \"transient\"\nsignificant = true\nshutdown = 4294967295\ntype = \"worker\"\nmodules = [\"db\", \"db.log\"]\n
 [[child]]\nid = \"sub\"\nstart = \"s\"\nrestart = \"temporary\"\nshutdown = \"brutal_kill\"\ntype = \"supervisor\"\nmodules = \"dynamic\"\n
 [[child]]\nid = \"last\"\nstart = \"s\"\nrestart = \"permanent\"\nsignificant = false\nshutdown = \"infinity\"\nmodules = []\n";
-    let tree = read_tree(rt.alloc(), text)?;
-    assert_eq!(rt; tree.supervisor().flags().strategy, Strategy::RestForOne);
-    assert_eq!(rt; tree.supervisor().flags().intensity, 1000);
-    assert_eq!(rt; tree.supervisor().flags().period, 1_000_000);
-    assert_eq!(rt;
-        tree.supervisor().flags().auto_shutdown,
-        AutoShutdown::AnySignificant
-    );
-    let (supervisor, _, _) = tree.into_parts();
-    let [db, sub, last] = supervisor.specs() else {
+    let (supervisor, _, _) = read_tree(rt.alloc(), text)?.into_parts();
+    let wanted = SupFlags {
+        strategy: Strategy::RestForOne,
+        intensity: 1000,
+        period: 1_000_000,
+        auto_shutdown: AutoShutdown::AnySignificant,
+    };
+    same(&rt, "the flags", supervisor.flags(), wanted);
+    are_children_with_every_key(&rt, supervisor.specs())
+}
+
+fn are_children_with_every_key(rt: &impl Abort, specs: &[ChildSpec]) -> Result<(), Fail> {
+    let [db, sub, last] = specs else {
         return Err(Fail::from("three children"));
     };
-    assert_eq!(rt; db.id, named(b"db")?);
-    assert_eq!(rt; db.start, named(b"steady")?);
-    assert_eq!(rt; db.restart, Restart::Transient);
-    assert_eq!(rt; db.significant, true);
-    assert_eq!(rt; db.shutdown, Shutdown::Milliseconds(4_294_967_295));
-    assert_eq!(rt; db.kind, ChildType::Worker);
-    assert_eq!(rt; db.modules, Modules::Two(named(b"db")?, named(b"db.log")?));
-    assert_eq!(rt; sub.restart, Restart::Temporary);
-    assert_eq!(rt; sub.shutdown, Shutdown::BrutalKill);
-    assert_eq!(rt; sub.kind, ChildType::Supervisor);
-    assert_eq!(rt; sub.modules, Modules::Dynamic);
-    assert_eq!(rt; last.id, named(b"last")?);
-    assert_eq!(rt; last.shutdown, Shutdown::Infinity);
-    assert_eq!(rt; last.modules, Modules::None);
+    is_first_of_three(rt, db)?;
+    is_second_of_three(rt, sub);
+    is_last_of_three(rt, last)
+}
+
+fn is_first_of_three(rt: &impl Abort, db: &ChildSpec) -> Result<(), Fail> {
+    let [name, log] = [named(b"db")?, named(b"db.log")?];
+    same(rt, "the id", db.id, name);
+    same(rt, "the start", db.start, named(b"steady")?);
+    same(rt, "the restart type", db.restart, Restart::Transient);
+    same(rt, "whether it is significant", db.significant, true);
+    let longest = Shutdown::Milliseconds(4_294_967_295);
+    same(rt, "the time to stop", db.shutdown, longest);
+    same(rt, "the type", db.kind, ChildType::Worker);
+    same(rt, "the modules", db.modules, Modules::Two(name, log));
+    Ok(())
+}
+
+fn is_second_of_three(rt: &impl Abort, sub: &ChildSpec) {
+    same(rt, "the restart type", sub.restart, Restart::Temporary);
+    same(rt, "the time to stop", sub.shutdown, Shutdown::BrutalKill);
+    same(rt, "the type", sub.kind, ChildType::Supervisor);
+    same(rt, "the modules", sub.modules, Modules::Dynamic);
+}
+
+fn is_last_of_three(rt: &impl Abort, last: &ChildSpec) -> Result<(), Fail> {
+    same(rt, "the id", last.id, named(b"last")?);
+    same(rt, "the time to stop", last.shutdown, Shutdown::Infinity);
+    same(rt, "the modules", last.modules, Modules::None);
     Ok(())
 }
 
 #[test]
 fn defaults_are_the_manuals(rt: HostRuntime) -> Result<(), Fail> {
-    let tree = read_tree(rt.alloc(), b"")?;
-    assert_eq!(rt; tree.supervisor().flags().strategy, Strategy::OneForOne);
-    assert_eq!(rt; tree.supervisor().flags().intensity, 1);
-    assert_eq!(rt; tree.supervisor().flags().period, 5);
-    assert_eq!(rt;
-        tree.supervisor().flags().auto_shutdown,
-        AutoShutdown::Never
-    );
-    assert_eq!(rt; tree.supervisor().specs().len(), 0);
+    has_default_flags(&rt, rt.alloc())?;
     let text =
         b"[[child]]\nid = \"a\"\nstart = \"b\"\n[[child]]\nid = \"s\"\nstart = \"b\"\ntype = \"supervisor\"\n";
     let tree = read_tree(rt.alloc(), text)?;
-    let [worker, supervisor] = tree.supervisor().specs() else {
+    are_default_children(&rt, tree.supervisor().specs())
+}
+
+fn has_default_flags(rt: &impl Abort, alloc: Global) -> Result<(), Fail> {
+    let tree = read_tree(alloc, b"")?;
+    let wanted = SupFlags {
+        strategy: Strategy::OneForOne,
+        intensity: 1,
+        period: 5,
+        auto_shutdown: AutoShutdown::Never,
+    };
+    same(rt, "the flags", tree.supervisor().flags(), wanted);
+    same(rt, "the children", tree.supervisor().specs().len(), 0);
+    Ok(())
+}
+
+fn are_default_children(rt: &impl Abort, specs: &[ChildSpec]) -> Result<(), Fail> {
+    let [worker, supervisor] = specs else {
         return Err(Fail::from("two children"));
     };
-    assert_eq!(rt; worker.restart, Restart::Permanent);
-    assert_eq!(rt; worker.significant, false);
-    assert_eq!(rt; worker.shutdown, Shutdown::Milliseconds(5000));
-    assert_eq!(rt; worker.kind, ChildType::Worker);
-    assert_eq!(rt; worker.modules, Modules::One(named(b"b")?));
-    assert_eq!(rt; supervisor.shutdown, Shutdown::Infinity);
+    is_default_worker(rt, worker)?;
+    let time = supervisor.shutdown;
+    same(rt, "a supervisor's time", time, Shutdown::Infinity);
     Ok(())
+}
+
+fn is_default_worker(rt: &impl Abort, worker: &ChildSpec) -> Result<(), Fail> {
+    same(rt, "the restart type", worker.restart, Restart::Permanent);
+    same(rt, "whether it is significant", worker.significant, false);
+    let wanted = Shutdown::Milliseconds(5000);
+    same(rt, "the time to stop", worker.shutdown, wanted);
+    same(rt, "the type", worker.kind, ChildType::Worker);
+    let modules = Modules::One(named(b"b")?);
+    same(rt, "the modules", worker.modules, modules);
+    Ok(())
+}
+
+// The flags of a supervisor of one child, of which one is given.
+fn flags_with(alloc: Global, key: FlagKey, word: &str) -> Result<SupFlags, Fail> {
+    let text = format!(in alloc; "{key} = \"{word}\"\n[[child]]\nid = \"a\"\nstart = \"a\"\n")?;
+    Ok(read_tree(alloc, text.as_bytes())?.supervisor().flags())
 }
 
 #[test]
 fn all_words_of_the_flags(rt: HostRuntime) -> Result<(), Fail> {
-    let child = "[[child]]\nid = \"a\"\nstart = \"a\"\n";
     let strategies = [
         ("one_for_one", Strategy::OneForOne),
         ("one_for_all", Strategy::OneForAll),
@@ -88,15 +132,8 @@ fn all_words_of_the_flags(rt: HostRuntime) -> Result<(), Fail> {
         ("simple_one_for_one", Strategy::SimpleOneForOne),
     ];
     for (word, strategy) in strategies {
-        let text = format!(in rt.alloc(); "strategy = \"{word}\"\n{child}")?;
-        assert_eq!(rt;
-            read_tree(rt.alloc(), text.as_bytes())?
-                .supervisor()
-                .flags()
-                .strategy,
-            strategy,
-            "{word}"
-        );
+        let flags = flags_with(rt.alloc(), FlagKey::Strategy, word)?;
+        same(&rt, word, flags.strategy, strategy);
     }
     let values = [
         ("never", AutoShutdown::Never),
@@ -104,15 +141,8 @@ fn all_words_of_the_flags(rt: HostRuntime) -> Result<(), Fail> {
         ("all_significant", AutoShutdown::AllSignificant),
     ];
     for (word, value) in values {
-        let text = format!(in rt.alloc(); "auto_shutdown = \"{word}\"\n{child}")?;
-        assert_eq!(rt;
-            read_tree(rt.alloc(), text.as_bytes())?
-                .supervisor()
-                .flags()
-                .auto_shutdown,
-            value,
-            "{word}"
-        );
+        let flags = flags_with(rt.alloc(), FlagKey::AutoShutdown, word)?;
+        same(&rt, word, flags.auto_shutdown, value);
     }
     Ok(())
 }
@@ -166,8 +196,9 @@ fn faults_of_the_supervisor(rt: HostRuntime) {
         ),
     ];
     for (text, fault, code) in table {
-        assert_eq!(rt; read_tree(rt.alloc(), text).err(), Some(fault), "E{code}");
-        assert_eq!(rt; fault.code(), code);
+        let told = (text, read_tree(rt.alloc(), text).err());
+        same(&rt, "the fault", told, (text, Some(fault)));
+        same(&rt, "the code of the fault", fault.code(), code);
     }
 }
 
@@ -284,13 +315,21 @@ fn faults_of_a_child(rt: HostRuntime) -> Result<(), Fail> {
     ];
     for (second, fault, code) in table {
         let text = format!(in rt.alloc(); "child = [{{ id = \"a\", start = \"a\" }}, {second}]")?;
-        assert_eq!(rt;
-            read_tree(rt.alloc(), text.as_bytes()).err(),
-            Some(fault),
-            "{second}"
-        );
-        assert_eq!(rt; fault.code(), code);
+        let told = read_tree(rt.alloc(), text.as_bytes()).err();
+        same(&rt, second, told, Some(fault));
+        same(&rt, second, fault.code(), code);
     }
+    Ok(())
+}
+
+fn simple_needs_one_child(rt: &impl Abort, alloc: Global) -> Result<(), Fail> {
+    let text = with_children(alloc, b"strategy = \"simple_one_for_one\"\n", 2)?;
+    let fault = TreeFault::Unlawful(SpecFault::SimpleNeedsOne);
+    let told = read_tree(alloc, &text).err();
+    same(rt, "the fault of two children", told, Some(fault));
+    let text = with_children(alloc, b"strategy = \"simple_one_for_one\"\n", 1)?;
+    let tree = read_tree(alloc, &text)?;
+    same(rt, "the children", tree.supervisor().specs().len(), 1);
     Ok(())
 }
 
@@ -306,20 +345,10 @@ fn number_of_children(rt: HostRuntime) -> Result<(), Fail> {
     ];
     for (count, fault) in table {
         let text = with_children(alloc, b"", count)?;
-        assert_eq!(rt;
-            read_tree(alloc, &text).err(),
-            Some(fault),
-            "{count} children"
-        );
+        let told = (count, read_tree(alloc, &text).err());
+        same(&rt, "so many children", told, (count, Some(fault)));
     }
-    let text = with_children(alloc, b"strategy = \"simple_one_for_one\"\n", 2)?;
-    assert_eq!(rt;
-        read_tree(alloc, &text).err(),
-        Some(TreeFault::Unlawful(SpecFault::SimpleNeedsOne))
-    );
-    let text = with_children(alloc, b"strategy = \"simple_one_for_one\"\n", 1)?;
-    assert_eq!(rt; read_tree(alloc, &text)?.supervisor().specs().len(), 1);
-    Ok(())
+    simple_needs_one_child(&rt, alloc)
 }
 
 #[test]
@@ -379,10 +408,10 @@ fn texts_of_faults(rt: HostRuntime) -> Result<(), Fail> {
         ),
     ];
     for (fault, text) in table {
-        let printed = format!(in rt.alloc(); "{fault}")?;
-        assert_eq!(rt; printed.as_str(), text);
+        prints(&rt, rt.alloc(), &fault, text)?;
     }
-    assert_eq!(rt; TreeFault::OutOfMemory.code(), 0);
+    let code = TreeFault::OutOfMemory.code();
+    same(&rt, "the code of want of memory", code, 0);
     Ok(())
 }
 
@@ -396,7 +425,7 @@ fn texts_of_keys(rt: HostRuntime) -> Result<(), Fail> {
         (FlagKey::Child, "child"),
     ];
     for (key, text) in flag_keys {
-        assert_eq!(rt; format!(in rt.alloc(); "{key}")?.as_str(), text);
+        prints(&rt, rt.alloc(), &key, text)?;
     }
     let child_keys = [
         (ChildKey::Id, "id"),
@@ -408,7 +437,7 @@ fn texts_of_keys(rt: HostRuntime) -> Result<(), Fail> {
         (ChildKey::Modules, "modules"),
     ];
     for (key, text) in child_keys {
-        assert_eq!(rt; format!(in rt.alloc(); "{key}")?.as_str(), text);
+        prints(&rt, rt.alloc(), &key, text)?;
     }
     Ok(())
 }
@@ -417,17 +446,26 @@ fn texts_of_keys(rt: HostRuntime) -> Result<(), Fail> {
 fn nested_to(alloc: Global, depth: usize) -> Result<Vec<u8>, Fail> {
     let mut text = Vec::new(alloc);
     for level in 1..depth {
-        text.extend_from_slice(b"[[child")?;
-        for _ in 1..level {
-            text.extend_from_slice(b".tree.child")?;
-        }
-        text.extend_from_slice(b"]]\nid = \"a\"\nstart = \"a\"\n[child")?;
-        for _ in 1..level {
-            text.extend_from_slice(b".tree.child")?;
-        }
-        text.extend_from_slice(b".tree]\n")?;
+        push_level(&mut text, level)?;
     }
     Ok(text)
+}
+
+// The child of this level, and its tree.
+fn push_level(text: &mut Vec<u8>, level: usize) -> Result<(), Fail> {
+    text.extend_from_slice(b"[[child")?;
+    push_path(text, level)?;
+    text.extend_from_slice(b"]]\nid = \"a\"\nstart = \"a\"\n[child")?;
+    push_path(text, level)?;
+    text.extend_from_slice(b".tree]\n")?;
+    Ok(())
+}
+
+fn push_path(text: &mut Vec<u8>, level: usize) -> Result<(), Fail> {
+    for _ in 1..level {
+        text.extend_from_slice(b".tree.child")?;
+    }
+    Ok(())
 }
 
 // A root with this many children that have an empty tree.
@@ -447,37 +485,63 @@ fn tree_in_a_tree(rt: HostRuntime) -> Result<(), Fail> {
     let text =
         b"[[child]]\nid = \"w\"\nstart = \"w\"\n[[child]]\nid = \"sub\"\nstart = \"s\"\n[child.tree]\nintensity = 0\n[[child.tree.child]]\nid = \"x\"\nstart = \"x\"\n";
     let tree = read_tree(rt.alloc(), text)?;
+    is_tree_of_two(&rt, &tree)
+}
+
+fn is_tree_of_two(rt: &impl Abort, tree: &TreeSpec) -> Result<(), Fail> {
     let [_, sub] = tree.supervisor().specs() else {
         return Err(Fail::from("two children"));
     };
-    assert_eq!(rt; sub.kind, ChildType::Supervisor);
-    assert_eq!(rt; sub.shutdown, Shutdown::Infinity);
-    assert!(rt; matches!(tree.nested(), [1]));
+    same(rt, "the type", sub.kind, ChildType::Supervisor);
+    same(rt, "the time to stop", sub.shutdown, Shutdown::Infinity);
+    let nested = tree.nested();
+    same(rt, "the children with a tree", nested, [1].as_slice());
     let [below] = tree.trees() else {
         return Err(Fail::from("one tree"));
     };
-    assert_eq!(rt; below.supervisor().flags().intensity, 0);
-    assert_eq!(rt; below.supervisor().specs().len(), 1);
-    assert_eq!(rt; below.trees().len(), 0);
+    is_tree_of_one(rt, below);
+    Ok(())
+}
+
+fn is_tree_of_one(rt: &impl Abort, below: &TreeSpec) {
+    let supervisor = below.supervisor();
+    same(rt, "the intensity", supervisor.flags().intensity, 0);
+    same(rt, "the children", supervisor.specs().len(), 1);
+    same(rt, "the trees", below.trees().len(), 0);
+}
+
+// The file is refused, for a fault in this table.
+fn is_refused(
+    rt: &impl Abort,
+    alloc: Global,
+    text: &[u8],
+    table: usize,
+    fault: TreeFault,
+) -> Result<(), Fail> {
+    let why = read_located(alloc, text).err().ok_or("a fault")?;
+    same(rt, "the table with the fault", why.table, table);
+    same(rt, "the fault", why.fault, fault);
     Ok(())
 }
 
 #[test]
 fn depth_of_tables(rt: HostRuntime) -> Result<(), Fail> {
     let alloc = rt.alloc();
-    let root = read_located(alloc, &nested_to(alloc, MAX_DEPTH)?)?;
-    let mut tree = &root;
-    for _ in 1..MAX_DEPTH {
+    let text = nested_to(alloc, MAX_DEPTH)?;
+    has_depth(&rt, &read_located(alloc, &text)?, MAX_DEPTH)?;
+    let deeper = nested_to(alloc, MAX_DEPTH + 1)?;
+    is_refused(&rt, alloc, &deeper, 16, TreeFault::TooDeep)
+}
+
+fn has_depth(rt: &impl Abort, root: &TreeSpec, depth: usize) -> Result<(), Fail> {
+    let mut tree = root;
+    for _ in 1..depth {
         let [below] = tree.trees() else {
             return Err(Fail::from("one tree"));
         };
         tree = below;
     }
-    assert_eq!(rt; tree.trees().len(), 0);
-    let deeper = nested_to(alloc, MAX_DEPTH + 1)?;
-    let why = read_located(alloc, &deeper).err().ok_or("a fault")?;
-    assert_eq!(rt; why.table, 16);
-    assert_eq!(rt; why.fault, TreeFault::TooDeep);
+    same(rt, "the trees of the deepest", tree.trees().len(), 0);
     Ok(())
 }
 
@@ -485,12 +549,9 @@ fn depth_of_tables(rt: HostRuntime) -> Result<(), Fail> {
 fn number_of_tables(rt: HostRuntime) -> Result<(), Fail> {
     let alloc = rt.alloc();
     let root = read_located(alloc, &beside(alloc, MAX_TABLES - 1)?)?;
-    assert_eq!(rt; root.trees().len(), 63);
+    same(&rt, "the trees", root.trees().len(), 63);
     let more = beside(alloc, MAX_TABLES)?;
-    let why = read_located(alloc, &more).err().ok_or("a fault")?;
-    assert_eq!(rt; why.table, 64);
-    assert_eq!(rt; why.fault, TreeFault::TooManyTables);
-    Ok(())
+    is_refused(&rt, alloc, &more, 64, TreeFault::TooManyTables)
 }
 
 #[test]
@@ -545,12 +606,8 @@ fn nested_faults(rt: HostRuntime) -> Result<(), Fail> {
     ];
     for (text, number, fault, code) in table {
         let text = format!(in rt.alloc(); "{head}{text}\n")?;
-        let why = read_located(rt.alloc(), text.as_bytes())
-            .err()
-            .ok_or("a fault")?;
-        assert_eq!(rt; why.table, number);
-        assert_eq!(rt; why.fault, fault);
-        assert_eq!(rt; why.fault.code(), code);
+        is_refused(&rt, rt.alloc(), text.as_bytes(), number, fault)?;
+        same(&rt, "the code of the fault", fault.code(), code);
     }
     Ok(())
 }
@@ -560,11 +617,8 @@ fn simple_one_for_one_with_a_tree(rt: HostRuntime) -> Result<(), Fail> {
     let text =
         b"strategy = \"simple_one_for_one\"\n[[child]]\nid = \"a\"\nstart = \"a\"\ntree = {}\n";
     let why = read_located(rt.alloc(), text).err().ok_or("a fault")?;
-    assert_eq!(rt; why.fault, TreeFault::Unlawful(SpecFault::SimpleNeedsOne));
-    let printed = format!(in rt.alloc(); "{why}")?;
-    assert_eq!(rt;
-        printed.as_str(),
-        "table 0, simple_one_for_one needs exactly one specification"
-    );
-    Ok(())
+    let fault = TreeFault::Unlawful(SpecFault::SimpleNeedsOne);
+    same(&rt, "the fault", why.fault, fault);
+    let text = "table 0, simple_one_for_one needs exactly one specification";
+    prints(&rt, rt.alloc(), &why, text)
 }

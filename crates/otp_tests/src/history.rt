@@ -1,7 +1,8 @@
-use crate::fixtures::named;
+use crate::fixtures::{named, same};
 use otp_core::History;
 use otp_reason::{Note, Reason, Text};
 use otp_rules::{Call, Event, Item, Kind};
+use std::process::Abort;
 use std::test::Fail;
 
 fn plain(reading: u64, kind: Kind) -> Event {
@@ -12,48 +13,65 @@ fn plain(reading: u64, kind: Kind) -> Event {
     }
 }
 
-/// Each kind of event, with each kind of reason, is told as it was kept: terms and calls don't come into disorder.
-#[test]
-fn tells_what_it_keeps(rt: HostRuntime) -> Result<(), Fail> {
+fn told(reading: u64, note: Note) -> Event {
+    plain(reading, Kind::Took(Item::Note(note)))
+}
+
+fn asked(reading: u64, number: u64, call: Call) -> Event {
+    plain(reading, Kind::Took(Item::Call(number, call)))
+}
+
+// Each kind of event, with each kind of reason.
+fn all_events() -> Result<[Event; 17], Fail> {
     let x = Text::new(b"x").ok_or("a text")?;
     let y = Text::new(b"y").ok_or("a text")?;
     let db = named(b"db")?;
     let web = named(b"web")?;
-    let note = |note| Kind::Took(Item::Note(note));
-    let events = [
+    Ok([
         plain(0, Kind::Opened(7)),
-        plain(1, note(Note::Up(1))),
-        plain(2, note(Note::Ignored(2))),
-        plain(3, note(Note::Failed(3, Reason::Error(x)))),
-        plain(4, Kind::Took(Item::Call(1, Call::RestartChild(db)))),
-        plain(5, note(Note::Exit(1, Reason::ShutdownWith(y)))),
+        told(1, Note::Up(1)),
+        told(2, Note::Ignored(2)),
+        told(3, Note::Failed(3, Reason::Error(x))),
+        asked(4, 1, Call::RestartChild(db)),
+        told(5, Note::Exit(1, Reason::ShutdownWith(y))),
         Event {
             reading: 6,
             number: Some(9),
-            kind: note(Note::Exit(4, Reason::Normal)),
+            kind: Kind::Took(Item::Note(Note::Exit(4, Reason::Normal))),
         },
-        plain(7, note(Note::Exit(5, Reason::Error(x)))),
-        plain(8, Kind::Took(Item::Call(2, Call::DeleteChild(web)))),
-        plain(9, Kind::Took(Item::Call(3, Call::CountChildren))),
-        plain(10, note(Note::Exit(6, Reason::Shutdown))),
-        plain(11, note(Note::Exit(6, Reason::Kill))),
-        plain(12, note(Note::Exit(6, Reason::Killed))),
-        plain(13, note(Note::Failed(6, Reason::NoProc))),
+        told(7, Note::Exit(5, Reason::Error(x))),
+        asked(8, 2, Call::DeleteChild(web)),
+        asked(9, 3, Call::CountChildren),
+        told(10, Note::Exit(6, Reason::Shutdown)),
+        told(11, Note::Exit(6, Reason::Kill)),
+        told(12, Note::Exit(6, Reason::Killed)),
+        told(13, Note::Failed(6, Reason::NoProc)),
         plain(14, Kind::Resumed),
         plain(15, Kind::Ticked),
         plain(16, Kind::Stopped),
-    ];
+    ])
+}
+
+/// Each event is told as it was kept: terms and calls don't come into disorder.
+#[test]
+fn tells_what_it_keeps(rt: HostRuntime) -> Result<(), Fail> {
+    let events = all_events()?;
     let mut history = History::new(rt.alloc());
-    assert_eq!(rt; history.len(), 0);
-    for event in &events {
+    same(&rt, "the events of a new history", history.len(), 0);
+    keeps(&rt, &mut history, &events)
+}
+
+fn keeps(rt: &impl Abort, history: &mut History, events: &[Event]) -> Result<(), Fail> {
+    for event in events {
         history.reserve(1)?;
         assert!(rt; history.spare() >= 1);
         history.push(event.reading, event.number, &event.kind);
     }
-    assert_eq!(rt; history.len(), events.len());
-    for place in 0..events.len() {
+    same(rt, "the number of events", history.len(), events.len());
+    for (place, event) in events.iter().enumerate() {
         assert!(rt; place < history.len());
-        assert_eq!(rt; history.get(place), events[place], "event {place}");
+        let told = (place, history.get(place));
+        same(rt, "an event", told, (place, *event));
     }
     Ok(())
 }

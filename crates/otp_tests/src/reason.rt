@@ -1,4 +1,6 @@
+use crate::fixtures::same;
 use otp_reason::{Delivery, Name, Reason, Text, deliver};
+use std::process::Abort;
 use std::test::Fail;
 
 #[test]
@@ -17,11 +19,8 @@ fn signals_to_processes(rt: HostRuntime) -> Result<(), Fail> {
         (Reason::Killed, true, Delivery::Message(Reason::Killed)),
     ];
     for (reason, traps, delivery) in table {
-        assert_eq!(rt;
-            deliver(reason, traps),
-            delivery,
-            "{reason:?} to a process that traps: {traps}"
-        );
+        let told = (reason, traps, deliver(reason, traps));
+        same(&rt, "a signal", told, (reason, traps, delivery));
     }
     Ok(())
 }
@@ -30,7 +29,7 @@ fn signals_to_processes(rt: HostRuntime) -> Result<(), Fail> {
 fn quiet_reasons(rt: HostRuntime) -> Result<(), Fail> {
     let x = Text::new(b"x").ok_or("a text")?;
     for reason in [Reason::Normal, Reason::Shutdown, Reason::ShutdownWith(x)] {
-        assert!(rt; reason.is_quiet(), "{reason:?}");
+        same(&rt, "quiet", (reason, reason.is_quiet()), (reason, true));
     }
     for reason in [
         Reason::Kill,
@@ -38,7 +37,12 @@ fn quiet_reasons(rt: HostRuntime) -> Result<(), Fail> {
         Reason::NoProc,
         Reason::Error(x),
     ] {
-        assert!(rt; !reason.is_quiet(), "{reason:?}");
+        same(
+            &rt,
+            "not quiet",
+            (reason, reason.is_quiet()),
+            (reason, false),
+        );
     }
     Ok(())
 }
@@ -54,16 +58,28 @@ fn names(rt: HostRuntime) -> Result<(), Fail> {
         (b"\xc3\xa9", false),
     ];
     for (bytes, lawful) in table {
-        let name = Name::new(bytes).ok_or("at most 32 bytes")?;
-        assert_eq!(rt; name.as_bytes(), bytes);
-        assert_eq!(rt; name.is_lawful(), lawful, "{bytes:?}");
-        assert!(rt; name.is_same(&name));
+        is_name(&rt, bytes, lawful)?;
     }
+    let long = Name::new(b"abcdefghijklmnopqrstuvwxyz0123456");
+    same(&rt, "a name of 33 bytes", long, None);
+    are_different_names(&rt)
+}
+
+fn is_name(rt: &impl Abort, bytes: &[u8], lawful: bool) -> Result<(), Fail> {
+    let name = Name::new(bytes).ok_or("at most 32 bytes")?;
+    same(rt, "the bytes of a name", name.as_bytes(), bytes);
+    let told = (bytes, name.is_lawful());
+    same(rt, "a lawful name", told, (bytes, lawful));
+    assert!(rt; name.is_same(&name));
+    Ok(())
+}
+
+// A name is not the one that has a zero byte more.
+fn are_different_names(rt: &impl Abort) -> Result<(), Fail> {
     let short = Name::new(b"a").ok_or("a name")?;
     let long = Name::new(b"a\0").ok_or("a name")?;
     assert!(rt; !short.is_same(&long));
-    assert_eq!(rt; Name::new(b"abcdefghijklmnopqrstuvwxyz0123456"), None);
-    assert_ne!(rt; Name::new(b"a"), Name::new(b"a\0"));
+    assert!(rt; short != long);
     Ok(())
 }
 
@@ -72,7 +88,7 @@ fn texts(rt: HostRuntime) -> Result<(), Fail> {
     let longest = [b'~'; 64];
     for bytes in [b"!".as_slice(), longest.as_slice()] {
         let text = Text::new(bytes).ok_or("a text")?;
-        assert_eq!(rt; text.as_bytes(), bytes);
+        same(&rt, "the bytes of a text", text.as_bytes(), bytes);
     }
     let too_long = [b'~'; 65];
     for bytes in [
@@ -81,17 +97,16 @@ fn texts(rt: HostRuntime) -> Result<(), Fail> {
         b"\x7f".as_slice(),
         too_long.as_slice(),
     ] {
-        assert_eq!(rt; Text::new(bytes), None, "{bytes:?}");
+        same(&rt, "no text", (bytes, Text::new(bytes)), (bytes, None));
     }
     Ok(())
 }
 
 #[test]
 fn joined_texts(rt: HostRuntime) {
-    assert_eq!(rt;
-        Some(Text::joined(b"front/", b"back")),
-        Text::new(b"front/back")
-    );
+    let joined = Some(Text::joined(b"front/", b"back"));
+    same(&rt, "a joined text", joined, Text::new(b"front/back"));
     let longest = [b'~'; 64];
-    assert_eq!(rt; Some(Text::joined(&longest, b"")), Text::new(&longest));
+    let joined = Some(Text::joined(&longest, b""));
+    same(&rt, "the longest text", joined, Text::new(&longest));
 }

@@ -2,7 +2,7 @@ ghost use Rattle.std.specs.Prelude.{◌≡◌, [], ◌∷◌, Some};
 ghost use Rattle.otp_spec.specs.Faults.{answer_of};
 ghost use Rattle.otp_spec.specs.Lawful.{first_fault};
 
-use crate::fixtures::named;
+use crate::fixtures::{named, prints, same};
 use otp_spec::{
     AutoShutdown, ChildSpec, ChildType, Modules, Restart, Shutdown, SpecFault, SpecKey, Strategy,
     SupFlags, SupSpec, check_childspecs, check_flags,
@@ -32,20 +32,23 @@ fn significant(id: &[u8], restart: Restart) -> Result<ChildSpec, Fail> {
 #[test]
 fn defaults_are_the_manuals(rt: HostRuntime) -> Result<(), Fail> {
     let flags = SupFlags::default();
-    assert_eq!(rt; flags.strategy, Strategy::OneForOne);
-    assert_eq!(rt; flags.intensity, 1);
-    assert_eq!(rt; flags.period, 5);
-    assert_eq!(rt; flags.auto_shutdown, AutoShutdown::Never);
+    let wanted = SupFlags {
+        strategy: Strategy::OneForOne,
+        intensity: 1,
+        period: 5,
+        auto_shutdown: AutoShutdown::Never,
+    };
+    same(&rt, "the flags", flags, wanted);
     let spec = child(b"a")?;
-    assert_eq!(rt; spec.restart, Restart::Permanent);
-    assert_eq!(rt; spec.significant, false);
-    assert_eq!(rt; spec.shutdown, Shutdown::Milliseconds(5000));
-    assert_eq!(rt; spec.kind, ChildType::Worker);
-    assert_eq!(rt; spec.modules, Modules::One(named(b"start")?));
-    assert_eq!(rt;
-        Shutdown::default_of(ChildType::Supervisor),
-        Shutdown::Infinity
-    );
+    same(&rt, "the restart type", spec.restart, Restart::Permanent);
+    same(&rt, "whether it is significant", spec.significant, false);
+    let worker = Shutdown::Milliseconds(5000);
+    same(&rt, "a worker's time to stop", spec.shutdown, worker);
+    same(&rt, "the type", spec.kind, ChildType::Worker);
+    let modules = Modules::One(named(b"start")?);
+    same(&rt, "the modules", spec.modules, modules);
+    let time = Shutdown::default_of(ChildType::Supervisor);
+    same(&rt, "a supervisor's time", time, Shutdown::Infinity);
     Ok(())
 }
 
@@ -63,7 +66,9 @@ fn same_modules(rt: HostRuntime) -> Result<(), Fail> {
     ];
     for (place, one) in lists.iter().enumerate() {
         for (other_place, other) in lists.iter().enumerate() {
-            assert_eq!(rt; one.is_same(other), place == other_place);
+            let told = (place, other_place, one.is_same(other));
+            let wanted = (place, other_place, place == other_place);
+            same(&rt, "the same modules", told, wanted);
         }
     }
     Ok(())
@@ -82,23 +87,19 @@ fn limits_of_flags(rt: HostRuntime) {
         let mut flags = SupFlags::default();
         flags.intensity = intensity;
         flags.period = period;
-        assert_eq!(rt;
-            check_flags(&flags).is_ok(),
-            lawful,
-            "intensity {intensity}, period {period}"
-        );
+        let told = (intensity, period, check_flags(&flags).is_ok());
+        same(&rt, "lawful flags", told, (intensity, period, lawful));
     }
 }
 
 #[test]
 fn transient_significant_child(rt: HostRuntime) -> Result<(), Fail> {
     let spec = significant(b"s", Restart::Transient)?;
-    assert_eq!(rt; check_childspecs(&[spec], None), Ok(()));
-    assert_eq!(rt;
-        check_one(spec, AutoShutdown::Never),
-        Err(SpecFault::SignificantNever { index: 0 })
-    );
-    assert_eq!(rt; check_one(spec, AutoShutdown::AnySignificant), Ok(()));
+    same(&rt, "not known", check_childspecs(&[spec], None), Ok(()));
+    let never = Err(SpecFault::SignificantNever { index: 0 });
+    same(&rt, "never", check_one(spec, AutoShutdown::Never), never);
+    let any = check_one(spec, AutoShutdown::AnySignificant);
+    same(&rt, "any", any, Ok(()));
     Ok(())
 }
 
@@ -144,10 +145,9 @@ fn faults_in_their_order(rt: HostRuntime) -> Result<(), Fail> {
     ];
     for (second, fault) in table {
         let third = all_wrong;
-        assert_eq!(rt;
-            check_childspecs(&[lawful, second, third], Some(AutoShutdown::Never)),
-            Err(fault)
-        );
+        let specs = [lawful, second, third];
+        let told = check_childspecs(&specs, Some(AutoShutdown::Never));
+        same(&rt, "the first fault", told, Err(fault));
     }
     Ok(())
 }
@@ -168,16 +168,15 @@ fn names_of_modules_are_tested(rt: HostRuntime) -> Result<(), Fail> {
         Modules::Four(a, a, no, a),
         Modules::Four(a, a, a, no),
     ];
+    let fault = SpecFault::BadSpec {
+        index: 0,
+        key: SpecKey::Modules,
+    };
     for modules in lists {
         let mut spec = child(b"a")?;
         spec.modules = modules;
-        assert_eq!(rt;
-            check_childspecs(slice::from_ref(&spec), None),
-            Err(SpecFault::BadSpec {
-                index: 0,
-                key: SpecKey::Modules,
-            })
-        );
+        let told = check_childspecs(slice::from_ref(&spec), None);
+        same(&rt, "bad modules", (modules, told), (modules, Err(fault)));
     }
     Ok(())
 }
@@ -225,9 +224,8 @@ fn texts_and_codes_of_faults(rt: HostRuntime) -> Result<(), Fail> {
         ),
     ];
     for (fault, code, text) in table {
-        assert_eq!(rt; fault.code(), code);
-        let printed = format!(in rt.alloc(); "{fault}")?;
-        assert_eq!(rt; printed.as_str(), text);
+        same(&rt, "the code of the fault", fault.code(), code);
+        prints(&rt, rt.alloc(), &fault, text)?;
     }
     Ok(())
 }
@@ -239,8 +237,7 @@ fn texts_of_keys(rt: HostRuntime) -> Result<(), Fail> {
         (SpecKey::Start, "start"),
         (SpecKey::Modules, "modules"),
     ] {
-        let printed = format!(in rt.alloc(); "{key}")?;
-        assert_eq!(rt; printed.as_str(), text);
+        prints(&rt, rt.alloc(), &key, text)?;
     }
     Ok(())
 }
@@ -257,17 +254,17 @@ fn of_two(alloc: Global, ids: [&[u8]; 2]) -> Result<Vec<ChildSpec>, Fail> {
 fn lawful_supervisors(rt: HostRuntime) -> Result<(), Fail> {
     let specs = of_two(rt.alloc(), [b"a", b"b"])?;
     let supervisor = SupSpec::check(SupFlags::default(), specs)?;
-    assert_eq!(rt; supervisor.flags(), SupFlags::default());
-    assert_eq!(rt; supervisor.specs().len(), 2);
+    same(&rt, "the flags", supervisor.flags(), SupFlags::default());
+    same(&rt, "the children", supervisor.specs().len(), 2);
     let copy = supervisor.try_clone(rt.alloc())?;
-    assert_eq!(rt; copy.flags(), supervisor.flags());
-    assert_eq!(rt; copy.specs(), supervisor.specs());
+    same(&rt, "the copy's flags", copy.flags(), supervisor.flags());
+    same(&rt, "the copy's children", copy.specs(), supervisor.specs());
     let (flags, specs) = supervisor.into_parts();
-    assert_eq!(rt; flags.intensity, 1);
+    same(&rt, "the intensity", flags.intensity, 1);
     let [a, b] = specs.as_slice() else {
         return Err(Fail::from("two children"));
     };
-    assert_eq!(rt; (a.id, b.id), (named(b"a")?, named(b"b")?));
+    same(&rt, "the ids", (a.id, b.id), (named(b"a")?, named(b"b")?));
     Ok(())
 }
 
@@ -292,39 +289,38 @@ fn unlawful_supervisors(rt: HostRuntime) -> Result<(), Fail> {
 
 #[test]
 fn words_of_flags(rt: HostRuntime) {
-    assert_eq!(rt; Strategy::RestForOne.word(), "rest_for_one");
-    assert_eq!(rt;
-        Strategy::of_word(b"one_for_all"),
-        Some(Strategy::OneForAll)
-    );
-    assert_eq!(rt; Strategy::of_word(b"one"), None);
-    assert_eq!(rt; AutoShutdown::AnySignificant.word(), "any_significant");
-    assert_eq!(rt; AutoShutdown::of_word(b"never"), Some(AutoShutdown::Never));
+    let word = Strategy::RestForOne.word();
+    same(&rt, "a strategy's word", word, "rest_for_one");
+    let strategy = Strategy::of_word(b"one_for_all");
+    same(&rt, "a strategy", strategy, Some(Strategy::OneForAll));
+    same(&rt, "no strategy", Strategy::of_word(b"one"), None);
+    let word = AutoShutdown::AnySignificant.word();
+    same(&rt, "an automatic shutdown's word", word, "any_significant");
+    let shutdown = AutoShutdown::of_word(b"never");
+    same(&rt, "never", shutdown, Some(AutoShutdown::Never));
 }
 
 #[test]
 fn words_of_children(rt: HostRuntime) {
-    assert_eq!(rt; Restart::Transient.word(), "transient");
-    assert_eq!(rt; Restart::of_word(b"temporary"), Some(Restart::Temporary));
-    assert_eq!(rt; Restart::of_word(b"always"), None);
-    assert_eq!(rt; ChildType::Worker.word(), "worker");
-    assert_eq!(rt;
-        ChildType::of_word(b"supervisor"),
-        Some(ChildType::Supervisor)
-    );
+    same(&rt, "transient", Restart::Transient.word(), "transient");
+    let restart = Restart::of_word(b"temporary");
+    same(&rt, "temporary", restart, Some(Restart::Temporary));
+    same(&rt, "no restart type", Restart::of_word(b"always"), None);
+    same(&rt, "worker", ChildType::Worker.word(), "worker");
+    let kind = ChildType::of_word(b"supervisor");
+    same(&rt, "supervisor", kind, Some(ChildType::Supervisor));
 }
 
 #[test]
 fn words_of_shutdown_and_modules(rt: HostRuntime) {
-    assert_eq!(rt;
-        Shutdown::of_word(b"brutal_kill"),
-        Some(Shutdown::BrutalKill)
-    );
-    assert_eq!(rt; Shutdown::of_word(b"5000"), None);
-    assert_eq!(rt; Shutdown::Infinity.word(), Some("infinity"));
-    assert_eq!(rt; Modules::of_word(b"dynamic"), Some(Modules::Dynamic));
-    assert_eq!(rt; Modules::Dynamic.word(), Some("dynamic"));
-    assert_eq!(rt; Modules::None.word(), None);
+    let shutdown = Shutdown::of_word(b"brutal_kill");
+    same(&rt, "brutal_kill", shutdown, Some(Shutdown::BrutalKill));
+    same(&rt, "no time to stop", Shutdown::of_word(b"5000"), None);
+    same(&rt, "infinity", Shutdown::Infinity.word(), Some("infinity"));
+    let modules = Modules::of_word(b"dynamic");
+    same(&rt, "dynamic", modules, Some(Modules::Dynamic));
+    same(&rt, "dynamic", Modules::Dynamic.word(), Some("dynamic"));
+    same(&rt, "no word", Modules::None.word(), None);
 }
 
 #[test]

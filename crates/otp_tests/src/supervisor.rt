@@ -1,217 +1,19 @@
 //! Worked histories of a supervisor, from outside.
 
-use crate::fixtures::named;
-use otp_core::{Core, Counter, OpenFault};
+use crate::driver::{
+    Driver, History, Line, Order, child, end_of, error, exit, expect, play, two_children, up,
+};
+use crate::fixtures::{named, same};
+use otp_core::{Core, OpenFault};
 use otp_reason::{Name, Note, Reason, Text};
 use otp_rules::{
-    Call, CallFault, Cause, ChildProcess, CountsNow, Effect, Ending, Event, Item, Kind, Phase,
-    Reply, SupEnd, Waiting,
+    Call, CallFault, Cause, ChildProcess, CountsNow, Ending, Event, Item, Kind, Phase, Reply,
+    Waiting,
 };
 use otp_spec::{AutoShutdown, ChildSpec, Restart, Shutdown, SpecFault, Strategy, SupFlags};
 use std::alloc::Global;
 use std::process::Abort;
 use std::test::Fail;
-
-// What a supervisor is told. Calls are numbered 1, 2, 3 in their order.
-#[derive(Clone, Copy)]
-enum Line {
-    At(u64),
-    Told(Note),
-    Asked(Call),
-    Stop,
-}
-
-// An order; of an end its reason alone.
-#[derive(Clone, Copy, Debug, PartialEq, Eq)]
-enum Order {
-    Start(Option<Name>, u64),
-    Ask(Option<Name>, u64),
-    Kill(Option<Name>, u64),
-    Reply(u64),
-    Ready,
-    End(Reason),
-}
-
-fn order_of(effect: &Effect) -> Order {
-    match effect {
-        Effect::Start(id, number) => Order::Start(*id, *number),
-        Effect::Ask(id, number) => Order::Ask(*id, *number),
-        Effect::Kill(id, number) => Order::Kill(*id, *number),
-        Effect::Reply(call) => Order::Reply(*call),
-        Effect::Ready => Order::Ready,
-        Effect::End(end) => Order::End(end.reason),
-    }
-}
-
-fn ending_of(cause: &Cause) -> Ending {
-    match cause {
-        Cause::Intensity { .. } => Ending::Intensity,
-        Cause::Significant(number) => Ending::Significant(*number),
-        Cause::Asked => Ending::Asked,
-        Cause::InitFailed(id) => Ending::InitFailed(*id),
-    }
-}
-
-// The supervisor's end, if it was ordered.
-fn end_of(core: &Core) -> Option<&SupEnd> {
-    for effect in core.effects() {
-        if let Effect::End(end) = effect {
-            return Some(end);
-        }
-    }
-    None
-}
-
-fn child(id: &[u8]) -> Result<ChildSpec, Fail> {
-    let id = named(id)?;
-    Ok(ChildSpec::new(id, id))
-}
-
-fn error() -> Result<Reason, Fail> {
-    Ok(Reason::Error(Text::new(b"x").ok_or("a text")?))
-}
-
-fn up(number: u64) -> Line {
-    Line::Told(Note::Up(number))
-}
-
-fn exit(number: u64, reason: Reason) -> Line {
-    Line::Told(Note::Exit(number, reason))
-}
-
-// A core, the clock, and how many calls were made.
-#[derive(Drop)]
-struct Driver {
-    core: Core,
-    reading: u64,
-    calls: u64,
-}
-
-impl Driver {
-    // Opens a supervisor under the number 0. Where memory is refused once, the next try finds it.
-    fn open(
-        rt: &impl Abort,
-        alloc: Global,
-        flags: SupFlags,
-        specs: &[ChildSpec],
-    ) -> Result<Driver, Fail> {
-        let core = match Core::open(alloc, flags, specs) {
-            Err(OpenFault::OutOfMemory) => Core::open(alloc, flags, specs)?,
-            opened => opened?,
-        };
-        let mut driver = Driver {
-            core,
-            reading: 0,
-            calls: 0,
-        };
-        driver.event(rt, Kind::Opened(0))?;
-        Ok(driver)
-    }
-
-    // Where memory is refused, the core is as it was, and the next try finds it.
-    fn prepare(&mut self, rt: &impl Abort) -> Result<(), Fail> {
-        let events = self.core.history().len();
-        let orders = self.core.effects().len();
-        let counts = self.core.counts();
-        let is_open = self.core.has_open_work();
-        if self.core.prepare().is_err() {
-            assert!(rt; !self.core.is_prepared());
-            assert_eq!(rt; self.core.history().len(), events);
-            assert_eq!(rt; self.core.effects().len(), orders);
-            assert_eq!(rt; self.core.counts(), counts);
-            assert_eq!(rt; self.core.has_open_work(), is_open);
-            self.core.prepare()?;
-        }
-        Ok(())
-    }
-
-    // The children get the numbers 1, 2, 3 in their order.
-    fn event(&mut self, rt: &impl Abort, kind: Kind) -> Result<(), Fail> {
-        self.prepare(rt)?;
-        assert!(rt; self.core.is_prepared());
-        assert!(rt; !self.core.is_full());
-        assert!(rt; self.reading <= 1 << 62);
-        let mut numbers = Counter {
-            last: self.core.last_number(),
-        };
-        assert!(rt; numbers.last < u64::MAX);
-        let is_needed = self.core.needs_number(self.reading, &kind);
-        let number = self.core.step_with(self.reading, kind, &mut numbers);
-        assert_eq!(rt; number.is_some(), is_needed);
-        Ok(())
-    }
-
-    // What waits is taken as soon as no work is open.
-    fn settle(&mut self, rt: &impl Abort) -> Result<(), Fail> {
-        for _ in 0..100 {
-            if self.core.has_open_work() || !self.core.has_waiting() {
-                return Ok(());
-            }
-            self.event(rt, Kind::Resumed)?;
-        }
-        Ok(())
-    }
-
-    fn line(&mut self, rt: &impl Abort, line: Line) -> Result<(), Fail> {
-        match line {
-            Line::At(reading) => {
-                self.reading = reading;
-                if self.core.is_due(reading) {
-                    self.event(rt, Kind::Ticked)?;
-                }
-            }
-            Line::Told(note) => self.event(rt, Kind::Took(Item::Note(note)))?,
-            Line::Asked(call) => {
-                self.calls = self.calls.saturating_add(1);
-                self.event(rt, Kind::Took(Item::Call(self.calls, call)))?;
-            }
-            Line::Stop => self.event(rt, Kind::Stopped)?,
-        }
-        self.settle(rt)
-    }
-
-    fn lines(&mut self, rt: &impl Abort, lines: &[Line]) -> Result<(), Fail> {
-        for line in lines {
-            self.line(rt, *line)?;
-        }
-        Ok(())
-    }
-}
-
-fn expect(rt: &impl Abort, effects: &[Effect], name: &str, orders: &[Order]) {
-    assert_eq!(rt; effects.len(), orders.len(), "{name}");
-    for (effect, order) in effects.iter().zip(orders) {
-        assert_eq!(rt; order_of(effect), *order, "{name}");
-    }
-}
-
-// A history up to the supervisor's end.
-#[derive(Clone, Copy)]
-struct History<'a> {
-    name: &'a str,
-    flags: SupFlags,
-    children: &'a [ChildSpec],
-    lines: &'a [Line],
-    orders: &'a [Order],
-    ending: Ending,
-    // The restart times that an end by the intensity shows.
-    stamps: &'a [u64],
-}
-
-fn play(rt: &impl Abort, alloc: Global, history: &History) -> Result<(), Fail> {
-    let name = history.name;
-    let mut driver = Driver::open(rt, alloc, history.flags, history.children)?;
-    driver.lines(rt, history.lines)?;
-    expect(rt, driver.core.effects(), name, history.orders);
-    assert!(rt; driver.core.has_ended(), "{name}");
-    let end = end_of(&driver.core).ok_or("an end")?;
-    assert_eq!(rt; ending_of(&end.cause), history.ending, "{name}");
-    if let Cause::Intensity { flags, stamps } = &end.cause {
-        assert_eq!(rt; *flags, history.flags, "{name}");
-        assert_eq!(rt; stamps.as_slice(), history.stamps, "{name}");
-    }
-    Ok(())
-}
 
 #[test]
 fn restarts_above_the_intensity(rt: HostRuntime) -> Result<(), Fail> {
@@ -347,26 +149,45 @@ fn thousand_restarts_are_borne(rt: HostRuntime) -> Result<(), Fail> {
     flags.intensity = 1000;
     flags.period = 1_000_000;
     let mut driver = Driver::open(&rt, rt.alloc(), flags, &[a])?;
-    driver.line(&rt, up(1))?;
+    thousand_restarts(&rt, &mut driver, a.id)
+}
+
+fn thousand_restarts(rt: &impl Abort, driver: &mut Driver, id: Name) -> Result<(), Fail> {
+    driver.line(rt, up(1))?;
     driver.core.clear_effects();
     for number in 1..1001u64 {
-        driver.line(&rt, exit(number, error()?))?;
-        driver.line(&rt, up(number + 1))?;
-        let restart = [Order::Start(Some(a.id), number + 1)];
-        expect(&rt, driver.core.effects(), "a restart", &restart);
-        driver.core.clear_effects();
+        is_restarted(rt, driver, id, number)?;
     }
-    driver.line(&rt, exit(1001, error()?))?;
-    let end = [Order::End(Reason::Shutdown)];
-    expect(&rt, driver.core.effects(), "the end", &end);
+    is_given_up(rt, driver)?;
+    let core = &driver.core;
+    same(rt, "the times kept", core.kept_restarts().len(), 1001);
+    same(rt, "the restarts", core.count_restarts(), 1001);
+    same(rt, "the events", core.history().len(), 2003);
+    Ok(())
+}
+
+// The child of this number crashes, and starts again under the next one.
+fn is_restarted(rt: &impl Abort, driver: &mut Driver, id: Name, number: u64) -> Result<(), Fail> {
+    let next = number.saturating_add(1);
+    driver.line(rt, exit(number, error()?))?;
+    driver.line(rt, up(next))?;
+    let restart = [Order::Start(Some(id), next)];
+    expect(rt, driver.core.effects(), "a restart", &restart);
+    driver.core.clear_effects();
+    Ok(())
+}
+
+// One crash more, and the supervisor ends.
+fn is_given_up(rt: &impl Abort, driver: &mut Driver) -> Result<(), Fail> {
+    driver.line(rt, exit(1001, error()?))?;
+    let orders = [Order::End(Reason::Shutdown)];
+    expect(rt, driver.core.effects(), "the end", &orders);
     let end = end_of(&driver.core).ok_or("an end")?;
     let Cause::Intensity { stamps, .. } = &end.cause else {
         return Err(Fail::from("the intensity"));
     };
-    assert_eq!(rt; stamps.as_slice(), [0; 1001].as_slice());
-    assert_eq!(rt; driver.core.kept_restarts().len(), 1001);
-    assert_eq!(rt; driver.core.count_restarts(), 1001);
-    assert_eq!(rt; driver.core.history().len(), 2003);
+    let wanted = [0; 1001];
+    same(rt, "the times", stamps.as_slice(), wanted.as_slice());
     Ok(())
 }
 
@@ -376,30 +197,50 @@ fn dynamic_children(rt: HostRuntime) -> Result<(), Fail> {
     let mut flags = SupFlags::default();
     flags.strategy = Strategy::SimpleOneForOne;
     let mut driver = Driver::open(&rt, rt.alloc(), flags, &[w])?;
+    come_and_go(&rt, &mut driver, w.id)
+}
+
+fn come_and_go(rt: &impl Abort, driver: &mut Driver, id: Name) -> Result<(), Fail> {
+    two_are_started(rt, driver, id)?;
+    driver.core.clear_effects();
+    one_is_terminated(rt, driver)
+}
+
+// Two start by calls; a call that names the child is refused.
+fn two_are_started(rt: &impl Abort, driver: &mut Driver, id: Name) -> Result<(), Fail> {
     let lines = [
         Line::Asked(Call::StartDynamic),
         up(1),
         Line::Asked(Call::StartDynamic),
         up(2),
-        Line::Asked(Call::TerminateChild(w.id)),
+        Line::Asked(Call::TerminateChild(id)),
     ];
-    driver.lines(&rt, &lines)?;
-    assert!(rt; matches!(driver.core.reply(1), Some(Reply::OkProcess(1))));
-    assert!(rt;
-        matches!(
-            driver.core.reply(3),
-            Some(Reply::Refused(CallFault::SimpleOneForOne))
-        )
-    );
-    assert!(rt; driver.core.reply(4).is_none());
+    driver.lines(rt, &lines)?;
+    let core = &driver.core;
+    assert!(rt; matches!(core.reply(1), Some(Reply::OkProcess(1))));
+    let simple = CallFault::SimpleOneForOne;
+    assert!(rt; is_refused(core, 3, simple));
+    assert!(rt; core.reply(4).is_none());
     let counts = CountsNow {
         specs: 1,
         active: 2,
         supervisors: 0,
         workers: 2,
     };
-    assert_eq!(rt; driver.core.counts(), counts);
-    driver.core.clear_effects();
+    same(rt, "the counts", core.counts(), counts);
+    Ok(())
+}
+
+// Whether the answer to this call is this fault.
+fn is_refused(core: &Core, call: u64, fault: CallFault) -> bool {
+    match core.reply(call) {
+        Some(Reply::Refused(why)) => *why == fault,
+        _ => false,
+    }
+}
+
+// One is terminated and another is started; at the stop both that are left are asked.
+fn one_is_terminated(rt: &impl Abort, driver: &mut Driver) -> Result<(), Fail> {
     let lines = [
         Line::Asked(Call::TerminateProcess(1)),
         exit(1, Reason::Shutdown),
@@ -409,7 +250,7 @@ fn dynamic_children(rt: HostRuntime) -> Result<(), Fail> {
         exit(3, Reason::Shutdown),
         exit(2, Reason::Shutdown),
     ];
-    driver.lines(&rt, &lines)?;
+    driver.lines(rt, &lines)?;
     let orders = [
         Order::Ask(None, 1),
         Order::Reply(4),
@@ -419,7 +260,7 @@ fn dynamic_children(rt: HostRuntime) -> Result<(), Fail> {
         Order::Ask(None, 3),
         Order::End(Reason::Shutdown),
     ];
-    expect(&rt, driver.core.effects(), "dynamic children", &orders);
+    expect(rt, driver.core.effects(), "dynamic children", &orders);
     Ok(())
 }
 
@@ -430,8 +271,36 @@ fn restart_is_tried_again(rt: HostRuntime) -> Result<(), Fail> {
     flags.strategy = Strategy::RestForOne;
     flags.intensity = 3;
     let mut driver = Driver::open(&rt, rt.alloc(), flags, &[a, b, c])?;
-    driver.lines(&rt, &[up(1), up(2), up(3)])?;
+    third_is_tried_again(&rt, rt.alloc(), &mut driver, [a.id, b.id, c.id])
+}
+
+fn third_is_tried_again(
+    rt: &impl Abort,
+    alloc: Global,
+    driver: &mut Driver,
+    ids: [Name; 3],
+) -> Result<(), Fail> {
+    let [a, b, c] = ids;
+    driver.lines(rt, &[up(1), up(2), up(3)])?;
     driver.core.clear_effects();
+    second_crashes(rt, driver)?;
+    let orders = [
+        Order::Ask(Some(c), 3),
+        Order::Start(Some(b), 4),
+        Order::Start(Some(c), 5),
+        Order::Start(Some(c), 6),
+    ];
+    gives_orders(rt, alloc, driver, &orders)?;
+    let wanted = [
+        (Some(a), ChildProcess::Number(1)),
+        (Some(b), ChildProcess::Number(4)),
+        (Some(c), ChildProcess::Restarting),
+    ];
+    tells_children(rt, driver, 1, &wanted)
+}
+
+// The second child crashes, and the first start of the third then fails.
+fn second_crashes(rt: &impl Abort, driver: &mut Driver) -> Result<(), Fail> {
     let lines = [
         exit(2, error()?),
         exit(3, Reason::Shutdown),
@@ -440,29 +309,39 @@ fn restart_is_tried_again(rt: HostRuntime) -> Result<(), Fail> {
         Line::Told(Note::Failed(5, error()?)),
         up(6),
     ];
-    driver.lines(&rt, &lines)?;
-    let orders = [
-        Order::Ask(Some(c.id), 3),
-        Order::Start(Some(b.id), 4),
-        Order::Start(Some(c.id), 5),
-        Order::Start(Some(c.id), 6),
-    ];
-    let mut list = Vec::with_capacity(rt.alloc(), 8)?;
-    assert_eq!(rt; driver.core.count_orders(), 4);
+    driver.lines(rt, &lines)
+}
+
+// The orders but for the replies are moved out, and none is left.
+fn gives_orders(
+    rt: &impl Abort,
+    alloc: Global,
+    driver: &mut Driver,
+    orders: &[Order; 4],
+) -> Result<(), Fail> {
+    let mut list = Vec::with_capacity(alloc, 8)?;
+    let count = driver.core.count_orders();
+    assert!(rt; count == 4);
     driver.core.move_orders(&mut list);
-    expect(&rt, &list, "the orders but for the reply", &orders);
+    expect(rt, &list, "the orders but for the reply", orders);
     assert!(rt; driver.core.effects().is_empty());
-    let Some(Reply::Which(children)) = driver.core.reply(1) else {
+    Ok(())
+}
+
+// The answer to this call tells these children.
+fn tells_children(
+    rt: &impl Abort,
+    driver: &Driver,
+    call: u64,
+    wanted: &[(Option<Name>, ChildProcess)],
+) -> Result<(), Fail> {
+    let Some(Reply::Which(children)) = driver.core.reply(call) else {
         return Err(Fail::from("the children"));
     };
-    let wanted = [
-        (Some(a.id), ChildProcess::Number(1)),
-        (Some(b.id), ChildProcess::Number(4)),
-        (Some(c.id), ChildProcess::Restarting),
-    ];
-    assert_eq!(rt; children.as_slice().len(), wanted.len());
-    for (line, child) in children.as_slice().iter().zip(&wanted) {
-        assert_eq!(rt; (line.id, line.process), *child);
+    let lines = children.as_slice();
+    same(rt, "the number of children", lines.len(), wanted.len());
+    for (line, child) in lines.iter().zip(wanted) {
+        same(rt, "a child", (line.id, line.process), *child);
     }
     Ok(())
 }
@@ -471,6 +350,10 @@ fn restart_is_tried_again(rt: HostRuntime) -> Result<(), Fail> {
 fn children_are_told_again(rt: HostRuntime) -> Result<(), Fail> {
     let a = child(b"a")?;
     let mut driver = Driver::open(&rt, rt.alloc(), SupFlags::default(), &[a])?;
+    is_told_again(&rt, &mut driver, a.id)
+}
+
+fn is_told_again(rt: &impl Abort, driver: &mut Driver, id: Name) -> Result<(), Fail> {
     let lines = [
         up(1),
         Line::Asked(Call::WhichChildren),
@@ -481,64 +364,68 @@ fn children_are_told_again(rt: HostRuntime) -> Result<(), Fail> {
         Line::Asked(Call::CountChildren),
         Line::Asked(Call::WhichChildren),
     ];
-    driver.lines(&rt, &lines)?;
+    driver.lines(rt, &lines)?;
     for (call, number) in [(1u64, 1u64), (2, 1), (3, 2), (5, 2)] {
-        let Some(Reply::Which(children)) = driver.core.reply(call) else {
-            return Err(Fail::from("the children"));
-        };
-        assert_eq!(rt; children.as_slice().len(), 1);
-        for line in children.as_slice() {
-            assert_eq!(rt;
-                (line.id, line.process),
-                (Some(a.id), ChildProcess::Number(number))
-            );
-        }
+        let wanted = [(Some(id), ChildProcess::Number(number))];
+        tells_children(rt, driver, call, &wanted)?;
     }
     Ok(())
 }
 
 #[test]
 fn little_memory_is_held_ahead(rt: HostRuntime) -> Result<(), Fail> {
-    let mut driver = two_children(&rt, rt.alloc(), &[])?;
+    let mut driver = two_children(&rt, rt.alloc())?;
+    answers_with_little(&rt, &mut driver)
+}
+
+fn answers_with_little(rt: &impl Abort, driver: &mut Driver) -> Result<(), Fail> {
+    driver.lines(rt, &[up(1), up(2)])?;
     let calls = [
         Line::Asked(Call::CountChildren),
         Line::Asked(Call::WhichChildren),
     ];
     for _ in 0..100 {
-        driver.lines(&rt, &calls)?;
-        driver.prepare(&rt)?;
-        driver.prepare(&rt)?;
-        let spare = driver.core.spare();
-        // As much again as is kept, and what one event may need: two children, of which none waits.
-        assert!(rt; spare.events <= driver.core.history().len().saturating_add(8));
-        assert!(rt; spare.orders <= driver.core.effects().len().saturating_add(16));
-        assert!(rt; spare.answers <= (driver.calls as usize).saturating_add(16));
+        driver.lines(rt, &calls)?;
+        driver.prepare(rt)?;
+        driver.prepare(rt)?;
+        holds_little(rt, driver);
     }
     Ok(())
 }
 
+// As much again as is kept, and what one event may need: two children, of which none waits.
+fn holds_little(rt: &impl Abort, driver: &Driver) {
+    let core = &driver.core;
+    let spare = core.spare();
+    assert!(rt; spare.events <= core.history().len().saturating_add(8));
+    assert!(rt; spare.orders <= core.effects().len().saturating_add(16));
+    assert!(rt; spare.answers <= (driver.calls as usize).saturating_add(16));
+}
+
 #[test]
 fn an_answer_is_found_by_its_call(rt: HostRuntime) -> Result<(), Fail> {
-    let mut driver = two_children(&rt, rt.alloc(), &[])?;
+    let mut driver = two_children(&rt, rt.alloc())?;
+    answers_by_number(&rt, &mut driver)
+}
+
+fn answers_by_number(rt: &impl Abort, driver: &mut Driver) -> Result<(), Fail> {
+    driver.lines(rt, &[up(1), up(2)])?;
     let count = Call::CountChildren;
-    for (number, call) in [(3u64, count), (5, Call::StartDynamic), (9, count)] {
-        driver.event(&rt, Kind::Took(Item::Call(number, call)))?;
-    }
-    assert!(rt; matches!(driver.core.reply(3), Some(Reply::Count(_))));
-    assert!(rt;
-        matches!(
-            driver.core.reply(5),
-            Some(Reply::Refused(CallFault::NotSimple))
-        )
-    );
+    let calls = [(3u64, count), (5, Call::StartDynamic), (9, count)];
+    driver.take_calls(rt, &calls)?;
+    assert!(rt; is_count(&driver.core, 3));
+    assert!(rt; is_refused(&driver.core, 5, CallFault::NotSimple));
     assert!(rt; driver.core.reply(4).is_none());
-    for (number, call) in [(5u64, count), (1, Call::WhichChildren)] {
-        driver.event(&rt, Kind::Took(Item::Call(number, call)))?;
-    }
-    assert!(rt; matches!(driver.core.reply(5), Some(Reply::Count(_))));
+    let calls = [(5u64, count), (1, Call::WhichChildren)];
+    driver.take_calls(rt, &calls)?;
+    assert!(rt; is_count(&driver.core, 5));
     assert!(rt; matches!(driver.core.reply(1), Some(Reply::Which(_))));
     assert!(rt; driver.core.reply(10).is_none());
     Ok(())
+}
+
+fn is_count(core: &Core, call: u64) -> bool {
+    matches!(core.reply(call), Some(Reply::Count(_)))
 }
 
 #[test]
@@ -557,23 +444,33 @@ fn refused_openings(rt: HostRuntime) -> Result<(), Fail> {
         (lawful, &[a, a], SpecFault::DuplicateId { index: 1 }),
     ];
     for (flags, specs, fault) in table {
-        let Err(OpenFault::Spec(why)) = Core::open(rt.alloc(), flags, specs) else {
-            return Err(Fail::from("a fault"));
-        };
-        assert_eq!(rt; why, fault);
+        let told = fault_of_opening(rt.alloc(), flags, specs);
+        same(&rt, "the fault", told, Some(fault));
     }
     Ok(())
+}
+
+fn fault_of_opening(alloc: Global, flags: SupFlags, specs: &[ChildSpec]) -> Option<SpecFault> {
+    match Core::open(alloc, flags, specs) {
+        Err(OpenFault::Spec(why)) => Some(why),
+        _ => None,
+    }
 }
 
 #[test]
 fn numbers_that_are_drawn_beforehand(rt: HostRuntime) -> Result<(), Fail> {
     let mut core = Core::open(rt.alloc(), SupFlags::default(), &[child(b"a")?])?;
+    takes_given_numbers(&rt, &mut core)
+}
+
+fn takes_given_numbers(rt: &impl Abort, core: &mut Core) -> Result<(), Fail> {
     let events = [(Kind::Opened(5), Some(7u64)), (Kind::Stopped, None)];
     for (kind, number) in events {
         core.prepare()?;
         assert!(rt; core.is_prepared());
         assert!(rt; !core.is_full());
         let is_needed = core.needs_number(0, &kind);
+        // Two assertions that the proof of `step` rests on.
         assert_eq!(rt; is_needed, number.is_some());
         assert!(rt; number.is_none_or(|n| core.last_number() < n));
         core.step(Event {
@@ -581,68 +478,85 @@ fn numbers_that_are_drawn_beforehand(rt: HostRuntime) -> Result<(), Fail> {
             number,
             kind,
         });
-        assert_eq!(rt; core.last_number(), 7);
+        same(rt, "the last number", core.last_number(), 7);
     }
     Ok(())
 }
 
-// A supervisor of two children, of which `a` has 100 ms to stop, after these lines.
-fn two_children(rt: &impl Abort, alloc: Global, lines: &[Line]) -> Result<Driver, Fail> {
-    let [mut a, b] = [child(b"a")?, child(b"b")?];
-    a.shutdown = Shutdown::Milliseconds(100);
-    let mut driver = Driver::open(rt, alloc, SupFlags::default(), &[a, b])?;
-    driver.lines(rt, &[up(1), up(2)])?;
-    driver.lines(rt, lines)?;
-    Ok(driver)
-}
-
 #[test]
 fn idle_supervisor_tells(rt: HostRuntime) -> Result<(), Fail> {
-    let driver = two_children(&rt, rt.alloc(), &[])?;
+    let mut driver = two_children(&rt, rt.alloc())?;
+    tells_when_idle(&rt, &mut driver)
+}
+
+fn tells_when_idle(rt: &impl Abort, driver: &mut Driver) -> Result<(), Fail> {
+    driver.lines(rt, &[up(1), up(2)])?;
     let core = &driver.core;
-    assert_eq!(rt; core.phase(), Phase::Open(0));
-    assert_eq!(rt; core.next_deadline(), None);
-    assert_eq!(rt; core.first_waiting(), None);
-    assert_eq!(rt; core.next_kind(0, false), None);
-    assert_eq!(rt; core.next_kind(0, true), Some(Kind::Stopped));
-    assert_eq!(rt; core.rows().len(), 2);
+    same(rt, "the phase", core.phase(), Phase::Open(0));
+    same(rt, "the next deadline", core.next_deadline(), None);
+    same(rt, "what waits", core.first_waiting(), None);
+    same(rt, "the next event", core.next_kind(0, false), None);
+    let next = core.next_kind(0, true);
+    same(rt, "the next event of a stop", next, Some(Kind::Stopped));
+    same(rt, "the rows", core.rows().len(), 2);
     Ok(())
 }
 
 #[test]
 fn stopping_supervisor_tells(rt: HostRuntime) -> Result<(), Fail> {
+    let mut driver = two_children(&rt, rt.alloc())?;
+    tells_when_stopping(&rt, &mut driver)
+}
+
+fn tells_when_stopping(rt: &impl Abort, driver: &mut Driver) -> Result<(), Fail> {
     let end = Note::Exit(2, error()?);
     let stop = Line::Asked(Call::TerminateChild(named(b"a")?));
-    let driver = two_children(&rt, rt.alloc(), &[stop, Line::Told(end)])?;
+    driver.lines(rt, &[up(1), up(2), stop, Line::Told(end)])?;
     let core = &driver.core;
-    assert_eq!(rt; core.next_deadline(), Some(100));
-    assert_eq!(rt; core.next_kind(99, true), None);
-    assert_eq!(rt; core.next_kind(100, true), Some(Kind::Ticked));
-    assert_eq!(rt; core.first_waiting(), Some(Waiting::Item(Item::Note(end))));
+    same(rt, "the next deadline", core.next_deadline(), Some(100));
+    same(rt, "the event at 99", core.next_kind(99, true), None);
+    let next = core.next_kind(100, true);
+    same(rt, "the event at 100", next, Some(Kind::Ticked));
+    let waiting = Some(Waiting::Item(Item::Note(end)));
+    same(rt, "what waits", core.first_waiting(), waiting);
     Ok(())
 }
 
 #[test]
 fn ended_supervisor_tells(rt: HostRuntime) -> Result<(), Fail> {
+    let mut driver = two_children(&rt, rt.alloc())?;
+    tells_when_ended(&rt, &mut driver)
+}
+
+fn tells_when_ended(rt: &impl Abort, driver: &mut Driver) -> Result<(), Fail> {
     let lines = [
+        up(1),
+        up(2),
         Line::Asked(Call::WhichChildren),
         Line::Stop,
         exit(2, Reason::Shutdown),
         exit(1, Reason::Shutdown),
     ];
-    let driver = two_children(&rt, rt.alloc(), &lines)?;
+    driver.lines(rt, &lines)?;
     let core = &driver.core;
+    same(rt, "the children", count_told(core)?, 2);
+    let ended = Phase::Ended(0, Ending::Asked);
+    same(rt, "the phase", core.phase(), ended);
+    same(rt, "the ends", core.ends().len(), 1);
+    for (own, end) in core.ends() {
+        same(rt, "the number of the end", *own, 0);
+        let reason = end.try_clone()?.reason;
+        same(rt, "the reason of the end", reason, Reason::Shutdown);
+    }
+    Ok(())
+}
+
+// How many children a copy of the answer to call 1 tells.
+fn count_told(core: &Core) -> Result<usize, Fail> {
     let Reply::Which(told) = core.reply(1).ok_or("an answer")?.try_clone()? else {
         return Err(Fail::from("the children"));
     };
-    assert_eq!(rt; told.as_slice().len(), 2);
-    assert_eq!(rt; core.phase(), Phase::Ended(0, Ending::Asked));
-    assert_eq!(rt; core.ends().len(), 1);
-    for (own, end) in core.ends() {
-        assert_eq!(rt; *own, 0);
-        assert_eq!(rt; end.try_clone()?.reason, Reason::Shutdown);
-    }
-    Ok(())
+    Ok(told.as_slice().len())
 }
 
 // What a call has added belongs to one life of the supervisor: the next one begins with the specifications.
@@ -650,7 +564,12 @@ fn ended_supervisor_tells(rt: HostRuntime) -> Result<(), Fail> {
 fn added_child_is_gone_after_the_next_start(rt: HostRuntime) -> Result<(), Fail> {
     let mut flags = SupFlags::default();
     flags.intensity = 0;
-    let mut driver = Driver::open(&rt, rt.alloc(), flags, &[child(b"x")?])?;
+    let x = child(b"x")?;
+    let mut driver = Driver::open(&rt, rt.alloc(), flags, &[x])?;
+    forgets_the_added(&rt, &mut driver, x.id)
+}
+
+fn forgets_the_added(rt: &impl Abort, driver: &mut Driver, id: Name) -> Result<(), Fail> {
     let lines = [
         up(1),
         Line::Asked(Call::StartChild(child(b"added")?)),
@@ -658,12 +577,13 @@ fn added_child_is_gone_after_the_next_start(rt: HostRuntime) -> Result<(), Fail>
         exit(1, error()?),
         exit(2, Reason::Shutdown),
     ];
-    driver.lines(&rt, &lines)?;
-    assert_eq!(rt; driver.core.phase(), Phase::Ended(0, Ending::Intensity));
-    driver.event(&rt, Kind::Opened(7))?;
+    driver.lines(rt, &lines)?;
+    let ended = Phase::Ended(0, Ending::Intensity);
+    same(rt, "the phase", driver.core.phase(), ended);
+    driver.event(rt, Kind::Opened(7))?;
     let [row] = driver.core.rows() else {
         return Err(Fail::from("one child"));
     };
-    assert_eq!(rt; row.id, Some(named(b"x")?));
+    same(rt, "the row", row.id, Some(id));
     Ok(())
 }

@@ -1,6 +1,8 @@
+use crate::fixtures::same;
 use otp_reason::Name;
 use otp_spec::{ChildSpec, SpecFault};
 use otp_table::{MAX_CHILDREN, Row, RowState, Rows, slot_of};
+use std::alloc::Global;
 use std::process::Abort;
 use std::test::Fail;
 
@@ -14,6 +16,18 @@ fn row(slot: usize, id: &[u8], state: RowState) -> Result<Row, Fail> {
     })
 }
 
+// A table of these rows, and no room for more.
+fn table_of(rt: &impl Abort, alloc: Global, list: &[Row]) -> Result<Rows, Fail> {
+    let mut rows = Rows::new(alloc);
+    assert!(rt; rows.is_empty() && !rows.is_full());
+    rows.reserve(list.len())?;
+    for row in list {
+        assert!(rt; rows.room() > 0);
+        rows.insert(*row)?;
+    }
+    Ok(rows)
+}
+
 /// Three children, one in each of three states: searched, changed and removed.
 #[test]
 fn three_children(rt: HostRuntime) -> Result<(), Fail> {
@@ -22,46 +36,61 @@ fn three_children(rt: HostRuntime) -> Result<(), Fail> {
         row(1, b"b", RowState::Restarting(2))?,
         row(2, b"c", RowState::Starting(5, 3))?,
     );
-    let mut rows = Rows::new(rt.alloc());
-    assert!(rt; rows.is_empty() && !rows.is_full());
-    rows.reserve(3)?;
-    for row in [a, b, c] {
-        assert!(rt; rows.room() > 0);
-        rows.insert(row)?;
-    }
-    assert_eq!(rt; (rows.len(), rows.room(), rows.free_slot()), (3, 0, 3));
-    assert_eq!(rt; rows.as_slice(), [a, b, c].as_slice());
-    assert_eq!(rt; *rows.get(1), b);
-    assert_eq!(rt; rows.after(0), [b, c].as_slice());
-    assert_eq!(rt; rows.find_id(&c.spec.id), Some(2));
-    assert_eq!(rt;
-        rows.find_id(&row(3, b"d", RowState::Undefined)?.spec.id),
-        None
-    );
-    assert_eq!(rt; (rows.find_number(2), rows.find_number(3)), (Some(1), None));
-    assert_eq!(rt;
-        (rows.find_process(2), rows.find_process(5)),
-        (None, Some(2))
-    );
-    assert_eq!(rt; (rows.find_retry(2), rows.find_retry(1)), (Some(1), None));
-    let slots = (slot_of(rows.as_slice(), 5), slot_of(rows.as_slice(), 2));
-    assert_eq!(rt; slots, (Some(2), None));
-    rows.calm(0, 3);
-    rows.set_state(0, RowState::Killed(1));
-    let states: [RowState; 3] = [rows.get(0).state, rows.get(1).state, rows.get(2).state];
-    assert_eq!(rt;
-        states,
-        [
-            RowState::Killed(1),
-            RowState::Undefined,
-            RowState::Starting(5, 3)
-        ]
-    );
-    assert_eq!(rt; rows.remove(1).id, b.id);
-    assert_eq!(rt; (rows.find_id(&c.spec.id), rows.free_slot()), (Some(1), 1));
+    let mut rows = table_of(&rt, rt.alloc(), &[a, b, c])?;
+    let sizes = (rows.len(), rows.room(), rows.free_slot());
+    same(&rt, "rows, room and the free slot", sizes, (3, 0, 3));
+    same(&rt, "all rows", rows.as_slice(), [a, b, c].as_slice());
+    stand_after_the_first(&rt, &rows, &[b, c]);
+    are_found(&rt, &rows, &c.spec.id)?;
+    are_calmed(&rt, &mut rows, b);
+    is_removed(&rt, &mut rows, b.id, &c.spec.id);
     rows.clear();
     assert!(rt; rows.is_empty());
     Ok(())
+}
+
+fn stand_after_the_first(rt: &impl Abort, rows: &Rows, wanted: &[Row]) {
+    assert!(rt; rows.len() == 3);
+    same(rt, "the rows after the first", rows.after(0), wanted);
+}
+
+// Places of the three by id, and by number.
+fn are_found(rt: &impl Abort, rows: &Rows, last: &Name) -> Result<(), Fail> {
+    let other = row(3, b"d", RowState::Undefined)?;
+    let ids = (rows.find_id(last), rows.find_id(&other.spec.id));
+    same(rt, "places of ids", ids, (Some(2), None));
+    let numbers = (rows.find_number(2), rows.find_number(3));
+    same(rt, "places of numbers", numbers, (Some(1), None));
+    let processes = (rows.find_process(2), rows.find_process(5));
+    same(rt, "places of processes", processes, (None, Some(2)));
+    let retries = (rows.find_retry(2), rows.find_retry(1));
+    same(rt, "places of retries", retries, (Some(1), None));
+    let slots = (slot_of(rows.as_slice(), 5), slot_of(rows.as_slice(), 2));
+    same(rt, "slots of processes", slots, (Some(2), None));
+    Ok(())
+}
+
+// The second of the three, which awaited its restart, awaits none any more.
+fn are_calmed(rt: &impl Abort, rows: &mut Rows, second: Row) {
+    assert!(rt; rows.len() == 3);
+    same(rt, "the second row", *rows.get(1), second);
+    rows.calm(0, 3);
+    rows.set_state(0, RowState::Killed(1));
+    let states: [RowState; 3] = [rows.get(0).state, rows.get(1).state, rows.get(2).state];
+    let wanted = [
+        RowState::Killed(1),
+        RowState::Undefined,
+        RowState::Starting(5, 3),
+    ];
+    same(rt, "states", states, wanted);
+}
+
+// The second of the three is removed; the last is found where it stood.
+fn is_removed(rt: &impl Abort, rows: &mut Rows, id: Option<Name>, last: &Name) {
+    assert!(rt; rows.len() == 3);
+    same(rt, "the row that was removed", rows.remove(1).id, id);
+    let places = (rows.find_id(last), rows.free_slot());
+    same(rt, "the last row, and the free slot", places, (Some(1), 1));
 }
 
 fn child(place: usize) -> Result<Row, Fail> {
@@ -87,18 +116,22 @@ fn children_by_id(rt: HostRuntime) -> Result<(), Fail> {
     }
     for half in 0..MAX_CHILDREN / 2 {
         let id = child(half.saturating_mul(2))?.spec.id;
-        assert_eq!(rt; take_out(&rt, &mut rows, &id)?.spec.id, id);
-        assert_eq!(rt; rows.find_id(&id), None);
+        let taken = take_out(&rt, &mut rows, &id)?;
+        same(&rt, "the row that was taken out", taken.spec.id, id);
+        same(&rt, "its place then", rows.find_id(&id), None);
     }
     for place in 0..MAX_CHILDREN / 2 {
         let odd = child(place.saturating_mul(2).saturating_add(1))?;
-        assert_eq!(rt; rows.find_id(&odd.spec.id), Some(place));
+        let found = rows.find_id(&odd.spec.id);
+        same(&rt, "the place of one that stayed", found, Some(place));
     }
     rows.reserve(1)?;
     rows.insert(child(0)?)?;
-    assert_eq!(rt; rows.find_id(&child(0)?.spec.id), Some(MAX_CHILDREN / 2));
+    let found = rows.find_id(&child(0)?.spec.id);
+    same(&rt, "one that came back", found, Some(MAX_CHILDREN / 2));
     rows.clear();
-    assert_eq!(rt; rows.find_id(&child(1)?.spec.id), None);
+    let found = rows.find_id(&child(1)?.spec.id);
+    same(&rt, "one of a table that was cleared", found, None);
     Ok(())
 }
 
@@ -109,18 +142,12 @@ fn one_id_twice(rt: HostRuntime) -> Result<(), Fail> {
         row(0, b"a", RowState::Up(1))?,
         row(1, b"b", RowState::Up(2))?,
     );
-    let mut rows = Rows::new(rt.alloc());
-    rows.reserve(3)?;
-    for row in [a, b, a] {
-        assert!(rt; rows.room() > 0);
-        rows.insert(row)?;
-    }
-    assert_eq!(rt; rows.find_id(&a.spec.id), Some(0));
-    assert_eq!(rt; take_out(&rt, &mut rows, &a.spec.id)?.slot, 0);
-    assert_eq!(rt;
-        (rows.find_id(&b.spec.id), rows.find_id(&a.spec.id)),
-        (Some(0), Some(1))
-    );
+    let mut rows = table_of(&rt, rt.alloc(), &[a, b, a])?;
+    same(&rt, "the first of two", rows.find_id(&a.spec.id), Some(0));
+    let taken = take_out(&rt, &mut rows, &a.spec.id)?;
+    same(&rt, "the slot of the first", taken.slot, 0);
+    let places = (rows.find_id(&b.spec.id), rows.find_id(&a.spec.id));
+    same(&rt, "the places then", places, (Some(0), Some(1)));
     Ok(())
 }
 
@@ -131,21 +158,13 @@ fn two_ids_of_one_fingerprint(rt: HostRuntime) -> Result<(), Fail> {
         row(0, b"8yn0iYCKYHlIj4-BwPqk", RowState::Up(1))?,
         row(1, b"GReLUrM4wMqfg9yzV3KQ", RowState::Up(2))?,
     );
-    let mut rows = Rows::new(rt.alloc());
-    rows.reserve(2)?;
-    for row in [a, b] {
-        assert!(rt; rows.room() > 0);
-        rows.insert(row)?;
-    }
-    assert_eq!(rt;
-        (rows.find_id(&a.spec.id), rows.find_id(&b.spec.id)),
-        (Some(0), Some(1))
-    );
-    assert_eq!(rt; take_out(&rt, &mut rows, &a.spec.id)?.slot, 0);
-    assert_eq!(rt;
-        (rows.find_id(&a.spec.id), rows.find_id(&b.spec.id)),
-        (None, Some(0))
-    );
+    let mut rows = table_of(&rt, rt.alloc(), &[a, b])?;
+    let places = (rows.find_id(&a.spec.id), rows.find_id(&b.spec.id));
+    same(&rt, "the places of both", places, (Some(0), Some(1)));
+    let taken = take_out(&rt, &mut rows, &a.spec.id)?;
+    same(&rt, "the slot of the first", taken.slot, 0);
+    let places = (rows.find_id(&a.spec.id), rows.find_id(&b.spec.id));
+    same(&rt, "the places then", places, (None, Some(0)));
     Ok(())
 }
 
@@ -153,7 +172,8 @@ fn two_ids_of_one_fingerprint(rt: HostRuntime) -> Result<(), Fail> {
 #[test]
 fn states(rt: HostRuntime) -> Result<(), Fail> {
     let asked = RowState::Asked(7, Some(100));
-    assert_eq!(rt; (asked.number(), asked.up_number()), (Some(7), None));
+    let numbers = (asked.number(), asked.up_number());
+    same(&rt, "the numbers of one asked", numbers, (Some(7), None));
     assert!(rt;
         asked.is_awaited() && asked.has_number(7) && asked.has_process(7) && !asked.awaits_retry(7)
     );
@@ -178,7 +198,8 @@ fn too_many_children(rt: HostRuntime) -> Result<(), Fail> {
         rows.insert(child)?;
     }
     assert!(rt; rows.is_full());
-    assert_eq!(rt; rows.insert(child), Err(SpecFault::TooManyChildren));
-    assert_eq!(rt; rows.len(), MAX_CHILDREN);
+    let refused = Err(SpecFault::TooManyChildren);
+    same(&rt, "the 257th", rows.insert(child), refused);
+    same(&rt, "the number of rows", rows.len(), MAX_CHILDREN);
     Ok(())
 }

@@ -1,13 +1,14 @@
 //! What no clause says: that the definitions of both formats are the formats that were meant.
 
-use crate::fixtures::named;
+use crate::fixtures::{named, same};
 use otp_reason::{Note, Reason, Text};
 use otp_rules::{
     Call, CallFault, Cause, ChildLine, ChildLines, ChildProcess, CountsNow, Effect, Reply, SupEnd,
 };
 use otp_spec::{ChildSpec, ChildType, Modules, Restart, Shutdown, SpecFault};
 use otp_text::{Line, Printer, read_line};
-use std::alloc::{AllocError, Global};
+use std::alloc::Global;
+use std::process::Abort;
 use std::test::Fail;
 
 const GREATEST: u64 = 4_611_686_018_427_387_904;
@@ -47,7 +48,7 @@ fn notes_are_read(rt: HostRuntime) -> Result<(), Fail> {
         ("stop", Line::Stop),
     ];
     for (text, line) in lines {
-        assert_eq!(rt; read_line(text.as_bytes()), Some(line), "{text}");
+        same(&rt, text, read_line(text.as_bytes()), Some(line));
     }
     Ok(())
 }
@@ -87,11 +88,8 @@ fn calls_are_read(rt: HostRuntime) -> Result<(), Fail> {
         ("count", Call::CountChildren),
     ];
     for (text, call) in calls {
-        assert_eq!(rt;
-            read_line(text.as_bytes()),
-            Some(Line::Call(call)),
-            "{text}"
-        );
+        let line = read_line(text.as_bytes());
+        same(&rt, text, line, Some(Line::Call(call)));
     }
     Ok(())
 }
@@ -132,88 +130,82 @@ fn other_lines_are_refused(rt: HostRuntime) {
         "stopped",
     ];
     for text in lines {
-        assert_eq!(rt; read_line(text.as_bytes()), None, "{text}");
+        same(&rt, text, read_line(text.as_bytes()), None);
     }
-    assert_eq!(rt; read_line([b'a'; 513].as_slice()), None);
+    let line = read_line([b'a'; 513].as_slice());
+    same(&rt, "a line that is too long", line, None);
 }
 
-/// Whether an order is printed so.
-fn is_printed(
+/// An order is printed so.
+fn prints_order(
+    rt: &impl Abort,
     alloc: Global,
     effect: &Effect,
     reply: Option<&Reply>,
     text: &str,
-) -> Result<bool, AllocError> {
+) -> Result<(), Fail> {
     let mut printer = Printer::new(alloc);
     let mut out = Vec::from_slice(alloc, b"before\n")?;
     printer.print(effect, reply, &mut out)?;
-    let mut wanted = Vec::from_slice(alloc, b"before\n")?;
-    wanted.extend_from_slice(text.as_bytes())?;
-    Ok(out.as_slice() == wanted.as_slice())
+    let wanted = format!(in alloc; "before\n{text}")?;
+    same(rt, text, out.as_slice(), wanted.as_bytes());
+    Ok(())
 }
 
 #[test]
 fn orders_are_printed(rt: HostRuntime) -> Result<(), Fail> {
-    let alloc = rt.alloc();
     let a = Some(named(b"a")?);
-    assert!(rt; is_printed(alloc, &Effect::Start(a, 1), None, "start a #1\n")?);
-    assert!(rt; is_printed(alloc, &Effect::Start(None, 0), None, "start - #0\n")?);
-    assert!(rt; is_printed(alloc, &Effect::Ask(a, 12), None, "ask a #12\n")?);
-    assert!(rt;
-        is_printed(
-            alloc,
-            &Effect::Kill(a, GREATEST),
-            None,
-            "kill a #4611686018427387904\n"
-        )?
-    );
-    assert!(rt; is_printed(alloc, &Effect::Ready, None, "ready\n")?);
+    let orders = [
+        (Effect::Start(a, 1), "start a #1\n"),
+        (Effect::Start(None, 0), "start - #0\n"),
+        (Effect::Ask(a, 12), "ask a #12\n"),
+        (Effect::Kill(a, GREATEST), "kill a #4611686018427387904\n"),
+        (Effect::Ready, "ready\n"),
+        (Effect::Reply(3), ""),
+    ];
+    for (order, text) in &orders {
+        prints_order(&rt, rt.alloc(), order, None, text)?;
+    }
     let failed = SupEnd {
         reason: Reason::ShutdownWith(term("failed_to_start_child/a")?),
         cause: Cause::Asked,
     };
-    assert!(rt;
-        is_printed(
-            alloc,
-            &Effect::End(failed),
-            None,
-            "end shutdown:failed_to_start_child/a\n"
-        )?
-    );
-    assert!(rt; is_printed(alloc, &Effect::Reply(3), None, "")?);
-    Ok(())
+    let text = "end shutdown:failed_to_start_child/a\n";
+    prints_order(&rt, rt.alloc(), &Effect::End(failed), None, text)
 }
 
-/// Whether the answer to call 7 is printed so, after its number.
-fn is_answer(alloc: Global, reply: Reply, text: &str) -> Result<bool, AllocError> {
-    is_printed(alloc, &Effect::Reply(7), Some(&reply), text)
+/// The answer to call 7 is printed so, after its number.
+fn prints_answer(rt: &impl Abort, alloc: Global, reply: &Reply, text: &str) -> Result<(), Fail> {
+    prints_order(rt, alloc, &Effect::Reply(7), Some(reply), text)
 }
 
 #[test]
 fn answers_are_printed(rt: HostRuntime) -> Result<(), Fail> {
-    let alloc = rt.alloc();
-    assert!(rt; is_answer(alloc, Reply::Ok, "reply 7 ok\n")?);
-    assert!(rt; is_answer(alloc, Reply::OkProcess(2), "reply 7 ok #2\n")?);
-    assert!(rt; is_answer(alloc, Reply::OkUndefined, "reply 7 ok undefined\n")?);
-    assert!(rt; is_answer(alloc, Reply::NoProc, "reply 7 noproc\n")?);
     let counts = CountsNow {
         specs: 3,
         active: 2,
         supervisors: 1,
         workers: 20,
     };
-    assert!(rt;
-        is_answer(
-            alloc,
-            Reply::Count(counts),
-            "reply 7 count specs 3 active 2 supervisors 1 workers 20\n"
-        )?
-    );
     let mut spec = worker("b")?;
     spec.modules = Modules::Two(named(b"m")?, named(b"n")?);
-    let text =
-        "reply 7 spec b start start restart permanent significant false shutdown 5000 type worker modules m+n\n";
-    assert!(rt; is_answer(alloc, Reply::Spec(spec), text)?);
+    let answers = [
+        (Reply::Ok, "reply 7 ok\n"),
+        (Reply::OkProcess(2), "reply 7 ok #2\n"),
+        (Reply::OkUndefined, "reply 7 ok undefined\n"),
+        (Reply::NoProc, "reply 7 noproc\n"),
+        (
+            Reply::Count(counts),
+            "reply 7 count specs 3 active 2 supervisors 1 workers 20\n",
+        ),
+        (
+            Reply::Spec(spec),
+            "reply 7 spec b start start restart permanent significant false shutdown 5000 type worker modules m+n\n",
+        ),
+    ];
+    for (answer, text) in &answers {
+        prints_answer(&rt, rt.alloc(), answer, text)?;
+    }
     Ok(())
 }
 
@@ -247,10 +239,7 @@ fn refusals_are_printed(rt: HostRuntime) -> Result<(), Fail> {
         ),
     ];
     for (fault, text) in faults {
-        assert!(rt;
-            is_answer(rt.alloc(), Reply::Refused(fault), text)?,
-            "{text}"
-        );
+        prints_answer(&rt, rt.alloc(), &Reply::Refused(fault), text)?;
     }
     Ok(())
 }
@@ -258,30 +247,29 @@ fn refusals_are_printed(rt: HostRuntime) -> Result<(), Fail> {
 #[test]
 fn children_are_printed(rt: HostRuntime) -> Result<(), Fail> {
     let a = named(b"a")?;
-    let mut lines = Vec::new(rt.alloc());
-    lines.push(ChildLine {
+    let up = ChildLine {
         id: Some(a),
         process: ChildProcess::Number(1),
         kind: ChildType::Worker,
         modules: Modules::One(a),
-    })?;
-    lines.push(ChildLine {
+    };
+    let restarting = ChildLine {
         id: None,
         process: ChildProcess::Restarting,
         kind: ChildType::Supervisor,
         modules: Modules::Dynamic,
-    })?;
-    lines.push(ChildLine {
+    };
+    let down = ChildLine {
         id: Some(a),
         process: ChildProcess::Undefined,
         kind: ChildType::Worker,
         modules: Modules::None,
-    })?;
+    };
+    let lines = vec![in rt.alloc(); up, restarting, down]?;
     let reply = Reply::Which(ChildLines::from_vec(lines));
     let text =
         "reply 7 which a,#1,worker,a undefined,restarting,supervisor,dynamic a,undefined,worker,-\n";
-    assert!(rt; is_answer(rt.alloc(), reply, text)?);
+    prints_answer(&rt, rt.alloc(), &reply, text)?;
     let none = Reply::Which(ChildLines::from_vec(Vec::new(rt.alloc())));
-    assert!(rt; is_answer(rt.alloc(), none, "reply 7 which\n")?);
-    Ok(())
+    prints_answer(&rt, rt.alloc(), &none, "reply 7 which\n")
 }

@@ -1,5 +1,15 @@
+use crate::fixtures::same;
 use otp_window::{Window, Within};
+use std::process::Abort;
 use std::test::Fail;
+
+// The times of the restarts that are kept.
+fn keeps_two(rt: &impl Abort, window: &Window, first: u64, last: u64) {
+    let kept = window.kept();
+    same(rt, "the number of times kept", kept.len(), 2);
+    same(rt, "the first time kept", kept.front(), Some(&first));
+    same(rt, "the last time kept", kept.back(), Some(&last));
+}
 
 /// One restart in five seconds: the second is too many up to the very end of the period.
 #[test]
@@ -13,19 +23,16 @@ fn second_restart_at_period_end(rt: HostRuntime) -> Result<(), Fail> {
         assert!(rt; !window.is_reserved());
         window.reserve()?;
         assert!(rt; window.is_reserved());
-        assert_eq!(rt; window.add(1000), Within::Ok);
+        same(&rt, "the first restart", window.add(1000), Within::Ok);
         window.reserve()?;
         assert!(rt; second >= 1000 && second < 7000);
-        assert_eq!(rt;
-            window.would_exceed(second),
-            want == Within::Exceeded,
-            "at {second}"
-        );
-        assert_eq!(rt; window.add(second), want, "at {second}");
-        assert_eq!(rt; window.count(), 2);
-        assert_eq!(rt; window.kept().len(), 2);
-        assert_eq!(rt; window.kept().front(), Some(&1000));
-        assert_eq!(rt; window.kept().back(), Some(&second));
+        let told = (second, window.would_exceed(second));
+        let wanted = (second, want == Within::Exceeded);
+        same(&rt, "a second that would be too many", told, wanted);
+        let told = (second, window.add(second));
+        same(&rt, "the second restart", told, (second, want));
+        same(&rt, "the count", window.count(), 2);
+        keeps_two(&rt, &window, 1000, second);
     }
     Ok(())
 }
@@ -40,8 +47,8 @@ fn cleared_window_counts_anew(rt: HostRuntime) -> Result<(), Fail> {
     window.clear();
     assert!(rt; window.is_reserved());
     assert!(rt; window.kept().is_empty());
-    assert_eq!(rt; window.count(), 0);
-    assert_eq!(rt; window.add(500), Within::Ok);
+    same(&rt, "the count", window.count(), 0);
+    same(&rt, "a restart then", window.add(500), Within::Ok);
     Ok(())
 }
 
@@ -50,14 +57,13 @@ fn cleared_window_counts_anew(rt: HostRuntime) -> Result<(), Fail> {
 fn window_keeps_the_last_stamps(rt: HostRuntime) -> Result<(), Fail> {
     let mut window = Window::new(rt.alloc(), 1, 5);
     window.reserve()?;
-    assert_eq!(rt; window.add(1000), Within::Ok);
+    same(&rt, "the first restart", window.add(1000), Within::Ok);
     window.reserve()?;
-    assert_eq!(rt; window.add(9000), Within::Ok);
+    same(&rt, "the second restart", window.add(9000), Within::Ok);
     window.reserve()?;
-    assert_eq!(rt; window.add(10_000), Within::Exceeded);
-    assert_eq!(rt; window.count(), 3);
-    assert_eq!(rt; window.kept().len(), 2);
-    assert_eq!(rt; window.kept().front(), Some(&9000));
-    assert_eq!(rt; window.kept().back(), Some(&10_000));
+    let third = window.add(10_000);
+    same(&rt, "the third restart", third, Within::Exceeded);
+    same(&rt, "the count", window.count(), 3);
+    keeps_two(&rt, &window, 9000, 10_000);
     Ok(())
 }
