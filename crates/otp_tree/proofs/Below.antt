@@ -27,3 +27,10 @@ module _ {A : Type 0} (P : A → Type 0) where
 
   pub below-all : (xs : List A) (n : ℕ) → length xs ≤ n → AllAt (λ k x. k < n → P x) xs → AllAt (λ k x. P x) xs
   below-all xs n long all = each_at (λ k x. k < n → P x) (λ k x. P x) xs all (λ j x within p. p (omega (arith, within, long)))
+
+-- what holds of each number below one, and of that one, holds of each below the next
+pub below-next : (P : ℕ → Type 0) (n : ℕ) → ((k : ℕ) → k < n → P k) → P n → (k : ℕ) → k < n + 1 → P k
+below-next P zero all p zero within = p
+below-next P zero all p (suc k) within = absurd (omega (arith, within))
+below-next P (suc n) all p zero within = all zero (omega arith)
+below-next P (suc n) all p (suc k) within = below-next (λ j. P (suc j)) n (λ j below. all (suc j) (omega (arith, below))) p k (omega (arith, within))
