@@ -77,37 +77,66 @@ fn clients_in<N: WordsNaming + InboxNaming + Send + Sync, R: Threads + Wait + Ab
     let Served {
         words,
         sup,
-        client: mut first,
-        mut sender,
+        client,
+        sender,
     } = make_one::<N>(alloc, words, inbox)?;
+    let (first, second) = send_from_threads(rt, alloc, &words, &sup, client, sender)?;
+    answered(rt, &sup, first.as_slice())?;
+    answered(rt, &sup, second.as_slice())?;
+    are_taken(rt, alloc, sup, first.as_slice(), second.as_slice())
+}
+
+// It opens, and then two clients send while it is served: the numbers of the calls of each.
+fn send_from_threads<N: WordsNaming + InboxNaming + Send + Sync, R: Threads + Wait + Abort + Sync>(
+    rt: &R,
+    alloc: Global,
+    words: &Words<N>,
+    sup: &Sup<N, u64>,
+    mut first: Client<N, u64>,
+    mut sender: Sender<N, Item, Post>,
+) -> Result<(Vec<u64>, Vec<u64>), Fail> {
     let mut port = MemoryPort::new(alloc);
-    let opened = turn(rt, &sup, &words, &mut sender, &mut port);
+    let opened = turn(rt, sup, words, &mut sender, &mut port);
     assert_eq!(rt; opened, Ok(TurnAnswer::Opened));
-    let second = split(rt, &mut first, &words, &sup)?;
-    let (shared, lent) = (&sup, &words);
+    let second = split(rt, &mut first, words, sup)?;
     let (sent, port) = thread::join(
         rt,
         move || thread::join(
             rt,
-            move || send_all(rt, alloc, shared, lent, first),
-            move || send_all(rt, alloc, shared, lent, second),
+            move || send_all(rt, alloc, sup, words, first),
+            move || send_all(rt, alloc, sup, words, second),
         ),
-        move || serve(rt, shared, lent, sender, port),
+        move || serve(rt, sup, words, sender, port),
     );
     assert!(rt; port.processes.is_empty());
-    let (first, second) = (sent.0?, sent.1?);
-    answered(rt, &sup, first.as_slice())?;
-    answered(rt, &sup, second.as_slice())?;
-    let mut taken = Vec::new(alloc);
-    for _ in 0..2 * CALLS + 1 {
-        taken.push(0)?;
-    }
+    Ok((sent.0?, sent.1?))
+}
+
+// The history has each of these calls once, and no other event but the opening.
+fn are_taken<N: WordsNaming + InboxNaming, R: Wait + Abort>(
+    rt: &R,
+    alloc: Global,
+    sup: Sup<N, u64>,
+    first: &[u64],
+    second: &[u64],
+) -> Result<(), Fail> {
+    let mut taken = no_counts(alloc)?;
     let parts = sup.unlock().into_parts();
-    assert!(rt; count_taken(parts.core.history(), taken.as_mut_slice()));
-    assert!(rt; are_once(taken.as_slice(), first.as_slice()));
-    assert!(rt; are_once(taken.as_slice(), second.as_slice()));
-    assert_eq!(rt; parts.core.history().len() as u64, 2 * CALLS + 1);
+    let history = parts.core.history();
+    assert!(rt; count_taken(history, taken.as_mut_slice()));
+    assert!(rt; are_once(taken.as_slice(), first));
+    assert!(rt; are_once(taken.as_slice(), second));
+    assert_eq!(rt; history.len() as u64, 2 * CALLS + 1);
     Ok(())
+}
+
+// A count for each number that a call can have.
+fn no_counts(alloc: Global) -> Result<Vec<u64>, Fail> {
+    let mut counts = Vec::new(alloc);
+    for _ in 0..2 * CALLS + 1 {
+        counts.push(0)?;
+    }
+    Ok(counts)
 }
 
 // Counts how often the history has each call, by the call's number. Behind its opening it has no other event.

@@ -5,12 +5,35 @@ ghost use Rattle.otp_signals.specs.Lists.{EachBetween};
 
 use otp_counts::Publisher;
 use otp_inbox::{InboxNaming, Taker};
+use otp_reason::{Name, Reason, Text};
 use otp_rules::Item;
 use otp_signals::{Owner, WordsNaming};
-use otp_spec::SupSpec;
+use otp_spec::{ChildSpec, SupFlags, SupSpec, copy_specs};
 use otp_sup::{Bodies, Letter, Office, Table, count_opened};
 use std::alloc::Global;
 use std::test::*;
+
+// The specification of the one child, `a`.
+pub(crate) fn child() -> Result<ChildSpec, Fail> {
+    let id = Name::new(b"a").ok_or("a name")?;
+    Ok(ChildSpec::new(id, id))
+}
+
+// The specification of a second child, `b`.
+pub(crate) fn second() -> Result<ChildSpec, Fail> {
+    let id = Name::new(b"b").ok_or("a name")?;
+    Ok(ChildSpec::new(id, id))
+}
+
+// A supervisor of the child `a`.
+pub(crate) fn of_one_child(alloc: Global) -> Result<SupSpec, Fail> {
+    Ok(SupSpec::check(SupFlags::default(), copy_specs(alloc, &[child()?])?)?)
+}
+
+// A crash, with a text.
+pub(crate) fn crash() -> Reason {
+    Reason::Error(Text::joined(b"x", b""))
+}
 
 // The table of a supervisor that was never opened, with a seat that was just cut off, and the taker of a new inbox.
 pub(crate) fn seat_table<N: WordsNaming + InboxNaming, B: Drop>(

@@ -5,7 +5,13 @@
 #![tactic(auto)]
 
 #[cfg(test)]
+mod alone;
+#[cfg(test)]
+mod bodies;
+#[cfg(test)]
 mod clients;
+#[cfg(test)]
+mod driven;
 #[cfg(test)]
 mod fixtures;
 #[cfg(test)]

@@ -1,237 +1,18 @@
 // Supervisors under a lock, driven by hand over a port in memory.
-ghost use Rattle.std.specs.Prelude.{◌≡◌, ◌≤◌, ◌<◌, ◌^◌};
+ghost use Rattle.std.specs.Prelude.{◌≡◌};
 
-use crate::fixtures::seat_table;
-use otp_inbox::{InboxNaming, Sender, UnnamedInbox};
-use otp_reason::{Name, Note, Reason, Text};
-use otp_rules::{Call, CallFault, Cause, Item, Reply};
-use otp_signals::{OpenWords, Signal, Viewer, Words, WordsNaming};
-use otp_spec::{ChildSpec, SupFlags, SupSpec, copy_specs};
-use otp_sup::{
-    Bodies, Client, Letter, MemoryPort, SubmitCause, Sup, ToldNote, TurnAnswer, TurnFault,
-};
+use crate::driven::{Body, Driven, Job, Post, Tagged, launched, make_driven, puts, tells};
+use crate::fixtures::{child, crash, second};
+use otp_inbox::{InboxNaming, UnnamedInbox};
+use otp_reason::{Note, Reason};
+use otp_rules::{Call, CallFault, Item, Reply};
+use otp_signals::{OpenWords, Signal, WordsNaming};
+use otp_sup::{Letter, TurnAnswer, TurnFault};
 use std::alloc::Global;
 use std::marker::Brand;
 use std::process::Abort;
 use std::sync::Wait;
 use std::test::*;
-
-// What a child runs here: it can be told from others by its tag.
-trait Job: Send + Drop {
-    fn tag(&self) -> u64;
-}
-
-#[derive(Drop)]
-struct Tagged {
-    tag: u64,
-}
-
-impl Job for Tagged {
-    fn tag(&self) -> u64 {
-        self.tag
-    }
-}
-
-type Body = Box<dyn Job, Global>;
-
-type Post = Letter<Body>;
-
-// The specification of the one child, `a`.
-fn child() -> Result<ChildSpec, Fail> {
-    let id = Name::new(b"a").ok_or("a name")?;
-    Ok(ChildSpec::new(id, id))
-}
-
-// A supervisor, and what a test needs to drive it.
-#[derive(Drop)]
-struct Driven<N: WordsNaming + InboxNaming, B: Drop> {
-    words: Words<N>,
-    viewer: Viewer<N>,
-    sup: Sup<N, B>,
-    sender: Sender<N, Item, Letter<B>>,
-    client: Client<N, B>,
-    port: MemoryPort<B>,
-}
-
-// A supervisor of the child `a`, with this body for it.
-fn make_driven<N: WordsNaming + InboxNaming, B: Drop>(
-    alloc: Global,
-    words: OpenWords,
-    inbox: UnnamedInbox<Item, Letter<B>>,
-    body: B,
-) -> Result<Driven<N, B>, Fail>
-    requires words { words.words ≡ N.words }
-    requires slots { words.slots ≡ 256 }
-    requires inbox { inbox ≡ N.inbox 0 }
-{
-    let (words, mut owner) = words.named::<N>();
-    let seat = words.split(&mut owner, 0..256, 1000)?;
-    let viewer = words.viewer(&mut owner);
-    let (inbox, taker, mut sender) = inbox.named::<N>(0);
-    let client = Client::new(alloc, owner, inbox.split(&mut sender, 1));
-    let supervisor = SupSpec::check(SupFlags::default(), copy_specs(alloc, &[child()?])?)?;
-    let mut bodies = Bodies::new(alloc);
-    if bodies.hand_in(0, body).is_err() {
-        return Err("a body was refused".into());
-    }
-    let table = seat_table(alloc, supervisor, bodies, seat, taker)?;
-    let sup = Sup::new(inbox, table);
-    Ok(Driven {
-        words,
-        viewer,
-        sup,
-        sender,
-        client,
-        port: MemoryPort::new(alloc),
-    })
-}
-
-impl<N: WordsNaming + InboxNaming, B: Drop> Driven<N, B> {
-    // A turn. Under `rt try --test --fail-alloc N` memory is refused once: nothing has happened then, and the same turn
-    // with memory does what it would have done.
-    fn turn<R: Wait + Abort>(
-        &mut self,
-        rt: &R,
-        number: u64,
-        reading: u64,
-        told: Signal,
-    ) -> Result<TurnAnswer, TurnFault>
-        requires { reading ≤ 2 ^ 62 }
-    {
-        let before = (self.port.processes.len(), self.port.notes.len());
-        let turned = self.turn_once(rt, number, reading, told);
-        if turned == Err(TurnFault::OutOfMemory) {
-            let after = (self.port.processes.len(), self.port.notes.len());
-            assert_eq!(rt; after, before);
-            return self.turn_once(rt, number, reading, told);
-        }
-        turned
-    }
-
-    // Where the port was refused memory, the order stayed: the next turn says so, and sends it.
-    fn send_orders<R: Wait + Abort>(&mut self, rt: &R, number: u64, is_sent: bool) {
-        if !is_sent {
-            let turned = self.turn_once(rt, number, 0, Signal::None);
-            assert_eq!(rt; turned, Ok(TurnAnswer::Pending));
-        }
-    }
-
-    // A call, with a body where it starts a child. Where memory is refused the body comes back, and it is sent again.
-    fn call<R: Wait + Abort>(&mut self, rt: &R, call: Call, body: Option<B>) -> u64 {
-        match self.call_once(rt, call, body) {
-            Ok(number) => number,
-            Err((cause, body)) => {
-                assert_eq!(rt; cause, SubmitCause::OutOfMemory);
-                let sent = self.call_once(rt, call, body);
-                assert!(rt; sent.is_ok());
-                sent.map_err(|_| ()).unwrap_or(0)
-            }
-        }
-    }
-
-    fn call_once<R: Wait + Abort>(
-        &mut self,
-        rt: &R,
-        call: Call,
-        body: Option<B>,
-    ) -> Result<u64, (SubmitCause, Option<B>)> {
-        assert_eq!(rt; self.client.number(), self.sup.inbox().number());
-        let sent = self
-            .client
-            .submit(rt, &self.words, self.sup.inbox(), call, body);
-        sent.map_err(|fault| (fault.cause, fault.body))
-    }
-
-    fn turn_once<R: Wait + Abort>(
-        &mut self,
-        rt: &R,
-        number: u64,
-        reading: u64,
-        told: Signal,
-    ) -> Result<TurnAnswer, TurnFault>
-        requires { reading ≤ 2 ^ 62 }
-    {
-        assert_eq!(rt; self.sender.number(), self.sup.inbox().number());
-        assert!(rt; self.sender.parts() > 0);
-        self.sup.turn(
-            rt,
-            &self.words,
-            &mut self.sender,
-            &mut self.port,
-            number,
-            reading,
-            told,
-        )
-    }
-
-    // Sends a letter. Where memory is refused it comes back, and is sent again.
-    fn send<R: Wait + Abort>(&mut self, rt: &R, letter: Letter<B>) {
-        if let Some(letter) = self.send_once(rt, letter) {
-            assert!(rt; self.send_once(rt, letter).is_none());
-        }
-    }
-
-    fn send_once<R: Wait + Abort>(&mut self, rt: &R, letter: Letter<B>) -> Option<Letter<B>> {
-        assert_eq!(rt; self.sender.number(), self.sup.inbox().number());
-        assert!(rt; self.sender.parts() > 0);
-        self.sup.inbox().send(rt, &mut self.sender, letter).err()
-    }
-
-    // Whether the last note that the parent was told brings the end of a supervisor by one restart too many.
-    fn has_told_intensity(&self) -> bool {
-        match self.port.notes.last() {
-            Some(
-                ToldNote {
-                    note: _,
-                    end: Some(end),
-                },
-            ) => matches!(end.end().cause, Cause::Intensity { .. }),
-            _ => false,
-        }
-    }
-
-    // What the child's process sees.
-    fn signal<R: Abort>(&mut self, rt: &R, number: u64) -> Signal {
-        assert!(rt; self.words.slots() > 0);
-        self.words.look(&mut self.viewer, 0, number)
-    }
-
-    fn up<R: Wait + Abort>(&mut self, rt: &R, number: u64) {
-        let letter = Letter::note(Note::Up(number), None);
-        self.send(rt, letter);
-    }
-
-    fn exit<R: Wait + Abort>(&mut self, rt: &R, number: u64, reason: Reason, body: B) {
-        let letter = Letter::note(Note::Exit(number, reason), Some(body));
-        self.send(rt, letter);
-    }
-}
-
-// The number, the slot and the body's tag of the process that was put; the port has it no more.
-fn launched<N: WordsNaming + InboxNaming, R: Wait + Abort>(
-    rt: &R,
-    one: &mut Driven<N, Body>,
-    number: u64,
-) -> Option<(u64, usize, u64)> {
-    let is_put = !one.port.processes.is_empty();
-    one.send_orders(rt, number, is_put);
-    let process = one.port.processes.pop()?;
-    assert!(rt; one.port.processes.is_empty());
-    let tag = process.body.as_ref()?.tag();
-    Some((process.number, process.slot, tag))
-}
-
-// The note that the parent was told; the port has it no more.
-fn told<N: WordsNaming + InboxNaming, R: Wait + Abort>(
-    rt: &R,
-    one: &mut Driven<N, Body>,
-) -> Option<Note> {
-    let is_told = !one.port.notes.is_empty();
-    one.send_orders(rt, 0, is_told);
-    let told = one.port.notes.pop()?;
-    assert!(rt; one.port.notes.is_empty());
-    Some(told.note)
-}
 
 #[test]
 fn one_child(rt: HostRuntime) -> Result<(), Fail> {
@@ -272,12 +53,11 @@ fn one_child_in<N: WordsNaming + InboxNaming + Send + Sync, R: Wait + Abort>(
     requires slots { words.slots ≡ 256 }
     requires inbox { inbox ≡ N.inbox 0 }
 {
-    let x = Text::new(b"x").ok_or("a text")?;
     let (own, second, third) = bodies;
     let mut one = make_driven::<N, Body>(alloc, words, inbox, own)?;
     crosses_threads(&one);
     opens_under_its_number(rt, &mut one);
-    crashes_once(rt, &mut one, Reason::Error(x), second);
+    crashes_once(rt, &mut one, second);
     is_stopped(rt, &mut one, third);
     opens_again(rt, &mut one);
     Ok(())
@@ -288,30 +68,26 @@ fn opens_under_its_number<N: WordsNaming + InboxNaming, R: Wait + Abort>(
     rt: &R,
     one: &mut Driven<N, Body>,
 ) {
-    assert_eq!(rt; one.turn(rt, 0, 0, Signal::None), Ok(TurnAnswer::Opened));
-    assert_eq!(rt; launched(rt, one, 0), Some((1, 0, 6)));
-    assert_eq!(rt; one.turn(rt, 0, 0, Signal::None), Ok(TurnAnswer::Quiet));
-    assert_eq!(rt;
-        one.turn(rt, 3, 0, Signal::None),
-        Err(TurnFault::WrongNumber)
-    );
+    one.opens(rt);
+    puts(rt, one, 0, (1, 0, 6));
+    one.turns(rt, 0, 0, Signal::None, Ok(TurnAnswer::Quiet));
+    one.turns(rt, 3, 0, Signal::None, Err(TurnFault::WrongNumber));
     one.up(rt, 1);
-    takes(rt, one);
-    assert_eq!(rt; told(rt, one), Some(Note::Up(0)));
+    one.takes(rt, 0);
+    tells(rt, one, Note::Up(0));
 }
 
 // Its child crashes, and is restarted with the body that came home.
 fn crashes_once<N: WordsNaming + InboxNaming, R: Wait + Abort>(
     rt: &R,
     one: &mut Driven<N, Body>,
-    reason: Reason,
     body: Body,
 ) {
-    one.exit(rt, 1, reason, body);
-    assert_eq!(rt; one.turn(rt, 0, 1000, Signal::None), Ok(TurnAnswer::Took));
-    assert_eq!(rt; launched(rt, one, 0), Some((2, 0, 7)));
+    one.exit(rt, 1, crash(), body);
+    one.takes(rt, 1000);
+    puts(rt, one, 0, (2, 0, 7));
     one.up(rt, 2);
-    assert_eq!(rt; one.turn(rt, 0, 1000, Signal::None), Ok(TurnAnswer::Took));
+    one.takes(rt, 1000);
 }
 
 // It is asked to stop, asks its child, kills it at the deadline, and ends.
@@ -320,25 +96,27 @@ fn is_stopped<N: WordsNaming + InboxNaming, R: Wait + Abort>(
     one: &mut Driven<N, Body>,
     body: Body,
 ) {
-    assert_eq!(rt; one.signal(rt, 2), Signal::None);
-    assert_eq!(rt;
-        one.turn(rt, 0, 1000, Signal::Shutdown),
-        Ok(TurnAnswer::Stopped)
-    );
-    assert_eq!(rt; one.signal(rt, 2), Signal::Shutdown);
-    assert_eq!(rt; one.turn(rt, 0, 6000, Signal::None), Ok(TurnAnswer::Ticked));
-    assert_eq!(rt; one.signal(rt, 2), Signal::Kill);
+    is_asked(rt, one);
     one.exit(rt, 2, Reason::Killed, body);
-    assert_eq!(rt; one.turn(rt, 0, 6000, Signal::None), Ok(TurnAnswer::Took));
-    assert_eq!(rt; told(rt, one), Some(Note::Exit(0, Reason::Shutdown)));
-    assert_eq!(rt; one.turn(rt, 0, 6000, Signal::None), Ok(TurnAnswer::Ended));
+    one.takes(rt, 6000);
+    tells(rt, one, Note::Exit(0, Reason::Shutdown));
+    one.turns(rt, 0, 6000, Signal::None, Ok(TurnAnswer::Ended));
+}
+
+// Its child sees what it posts: a shutdown, and the kill at the deadline.
+fn is_asked<N: WordsNaming + InboxNaming, R: Wait + Abort>(rt: &R, one: &mut Driven<N, Body>) {
+    one.shows(rt, 2, Signal::None);
+    one.turns(rt, 0, 1000, Signal::Shutdown, Ok(TurnAnswer::Stopped));
+    one.shows(rt, 2, Signal::Shutdown);
+    one.turns(rt, 0, 6000, Signal::None, Ok(TurnAnswer::Ticked));
+    one.shows(rt, 2, Signal::Kill);
 }
 
 // Under a greater number it opens again, with the body that came home.
 fn opens_again<N: WordsNaming + InboxNaming, R: Wait + Abort>(rt: &R, one: &mut Driven<N, Body>) {
-    assert_eq!(rt; one.turn(rt, 9, 6000, Signal::None), Ok(TurnAnswer::Opened));
-    assert_eq!(rt; launched(rt, one, 9), Some((3, 0, 8)));
-    assert_eq!(rt; one.turn(rt, 0, 6000, Signal::None), Ok(TurnAnswer::Ended));
+    one.turns(rt, 9, 6000, Signal::None, Ok(TurnAnswer::Opened));
+    puts(rt, one, 9, (3, 0, 8));
+    one.turns(rt, 0, 6000, Signal::None, Ok(TurnAnswer::Ended));
     assert!(rt; one.port.notes.is_empty());
 }
 
@@ -368,25 +146,72 @@ fn bodies_in<N: WordsNaming + InboxNaming, R: Wait + Abort>(
 {
     let (own, second, third) = bodies;
     let mut one = make_driven::<N, Body>(alloc, words, inbox, own)?;
-    assert_eq!(rt; one.turn(rt, 0, 0, Signal::None), Ok(TurnAnswer::Opened));
+    runs(rt, &mut one);
+    refuses_a_start(rt, alloc, &mut one, second)?;
+    gets_a_stray(rt, &mut one, third);
+    Ok(())
+}
+
+// It opens, and its child runs.
+fn runs<N: WordsNaming + InboxNaming, R: Wait + Abort>(rt: &R, one: &mut Driven<N, Body>) {
+    one.opens(rt);
     one.up(rt, 1);
-    assert_eq!(rt; one.turn(rt, 0, 0, Signal::None), Ok(TurnAnswer::Took));
-    let Ok(letter) = Letter::call(alloc, 40, Call::StartChild(child()?), Some(second)) else {
+    one.takes(rt, 0);
+}
+
+// A start_child of an id that runs is refused, and its body can be had once, under the call's number.
+fn refuses_a_start<N: WordsNaming + InboxNaming, R: Wait + Abort>(
+    rt: &R,
+    alloc: Global,
+    one: &mut Driven<N, Body>,
+    body: Body,
+) -> Result<(), Fail> {
+    let Ok(letter) = Letter::call(alloc, 40, Call::StartChild(child()?), Some(body)) else {
         return Err("memory was refused".into());
     };
     one.send(rt, letter);
-    assert!(rt; one.sup.take_box(rt, 40).is_none());
-    assert_eq!(rt; one.turn(rt, 0, 0, Signal::None), Ok(TurnAnswer::Took));
+    gives_back(rt, one, None);
+    one.takes(rt, 0);
     let reply = one.sup.reply(rt, 40)?;
     assert!(rt; matches!(reply, Some(Reply::Refused(CallFault::AlreadyStarted(1)))));
-    assert_eq!(rt; one.sup.take_box(rt, 40).map(|body| body.tag()), Some(7));
-    assert!(rt; one.sup.take_box(rt, 40).is_none());
-    one.exit(rt, 5, Reason::Normal, third);
-    assert!(rt; one.sup.take_stray(rt).is_none());
-    assert_eq!(rt; one.turn(rt, 0, 0, Signal::None), Ok(TurnAnswer::Took));
-    assert_eq!(rt; one.sup.take_stray(rt).map(|body| body.tag()), Some(8));
-    assert!(rt; one.sup.take_stray(rt).is_none());
+    gives_back(rt, one, Some(7));
+    gives_back(rt, one, None);
     Ok(())
+}
+
+// The tag of the body of the call 40 that can be had back now.
+fn gives_back<N: WordsNaming + InboxNaming, R: Wait + Abort>(
+    rt: &R,
+    one: &mut Driven<N, Body>,
+    tag: Option<u64>,
+) {
+    assert_eq!(rt; tag_of(one.sup.take_box(rt, 40)), tag);
+}
+
+// A note of no process brings a body, which is nobody's, and can be had once.
+fn gets_a_stray<N: WordsNaming + InboxNaming, R: Wait + Abort>(
+    rt: &R,
+    one: &mut Driven<N, Body>,
+    body: Body,
+) {
+    one.exit(rt, 5, Reason::Normal, body);
+    has_stray(rt, one, None);
+    one.takes(rt, 0);
+    has_stray(rt, one, Some(8));
+    has_stray(rt, one, None);
+}
+
+// The tag of a stray body that can be had now.
+fn has_stray<N: WordsNaming + InboxNaming, R: Wait + Abort>(
+    rt: &R,
+    one: &mut Driven<N, Body>,
+    tag: Option<u64>,
+) {
+    assert_eq!(rt; tag_of(one.sup.take_stray(rt)), tag);
+}
+
+fn tag_of(body: Option<Body>) -> Option<u64> {
+    Some(body?.tag())
 }
 
 #[test]
@@ -420,23 +245,29 @@ fn growths_in<N: WordsNaming + InboxNaming, R: Wait + Abort>(
     let (own, second, third, fourth, fifth) = bodies;
     let mut one = make_driven::<N, Body>(alloc, words, inbox, own)?;
     opens(rt, &mut one);
-    let child = starts_another(rt, &mut one, second)?;
-    let again = restarts(rt, &mut one, child, third)?;
-    gives_up(rt, &mut one, again, child, (fourth, fifth))
+    grows(rt, &mut one, (second, third), (fourth, fifth))
+}
+
+// A second child, a restart of the first, and the crash that is one too many.
+fn grows<N: WordsNaming + InboxNaming, R: Wait + Abort>(
+    rt: &R,
+    one: &mut Driven<N, Body>,
+    started: (Body, Body),
+    ended: (Body, Body),
+) -> Result<(), Fail> {
+    let child = starts_another(rt, one, started.0)?;
+    let again = restarts(rt, one, child, started.1);
+    gives_up(rt, one, again, child, ended);
+    Ok(())
 }
 
 // It opens, and its child starts.
 fn opens<N: WordsNaming + InboxNaming, R: Wait + Abort>(rt: &R, one: &mut Driven<N, Body>) {
-    assert_eq!(rt; one.turn(rt, 0, 0, Signal::None), Ok(TurnAnswer::Opened));
-    assert_eq!(rt; launched(rt, one, 0), Some((1, 0, 6)));
+    one.opens(rt);
+    puts(rt, one, 0, (1, 0, 6));
     one.up(rt, 1);
-    takes(rt, one);
-    assert_eq!(rt; told(rt, one), Some(Note::Up(0)));
-}
-
-// A turn, which takes the item that was sent last.
-fn takes<N: WordsNaming + InboxNaming, R: Wait + Abort>(rt: &R, one: &mut Driven<N, Body>) {
-    assert_eq!(rt; one.turn(rt, 0, 0, Signal::None), Ok(TurnAnswer::Took));
+    one.takes(rt, 0);
+    tells(rt, one, Note::Up(0));
 }
 
 // A call starts a second child: the number of its process.
@@ -445,17 +276,24 @@ fn starts_another<N: WordsNaming + InboxNaming, R: Wait + Abort>(
     one: &mut Driven<N, Body>,
     body: Body,
 ) -> Result<u64, Fail> {
-    let id = Name::new(b"b").ok_or("a name")?;
-    let call = one.call(rt, Call::StartChild(ChildSpec::new(id, id)), Some(body));
-    takes(rt, one);
-    let started = launched(rt, one, 0);
-    assert!(rt; matches!(started, Some((_, 1, 7))));
-    let child = started.map(|process| process.0).unwrap_or(0);
+    let call = one.call(rt, Call::StartChild(second()?), Some(body));
+    one.takes(rt, 0);
+    let child = puts_second(rt, one);
     one.up(rt, child);
-    takes(rt, one);
+    one.takes(rt, 0);
     let reply = one.sup.reply(rt, call)?;
     assert!(rt; matches!(reply, Some(Reply::OkProcess(number)) if number == child));
     Ok(child)
+}
+
+// The second child's process is put, with the call's body: its number.
+fn puts_second<N: WordsNaming + InboxNaming, R: Wait + Abort>(
+    rt: &R,
+    one: &mut Driven<N, Body>,
+) -> u64 {
+    let started = launched(rt, one, 0);
+    assert!(rt; matches!(started, Some((_, 1, 7))));
+    started.map(|process| process.0).unwrap_or(0)
 }
 
 // The first child is restarted: the number of its new process.
@@ -464,16 +302,24 @@ fn restarts<N: WordsNaming + InboxNaming, R: Wait + Abort>(
     one: &mut Driven<N, Body>,
     child: u64,
     body: Body,
-) -> Result<u64, Fail> {
-    let x = Text::new(b"x").ok_or("a text")?;
-    one.exit(rt, 1, Reason::Error(x), body);
-    takes(rt, one);
+) -> u64 {
+    one.exit(rt, 1, crash(), body);
+    one.takes(rt, 0);
+    let again = puts_first(rt, one, child);
+    one.up(rt, again);
+    one.takes(rt, 0);
+    again
+}
+
+// The first child's new process is put, with the body that came home: its number.
+fn puts_first<N: WordsNaming + InboxNaming, R: Wait + Abort>(
+    rt: &R,
+    one: &mut Driven<N, Body>,
+    child: u64,
+) -> u64 {
     let restarted = launched(rt, one, 0);
     assert!(rt; matches!(restarted, Some((number, 0, 8)) if number > child));
-    let again = restarted.map(|process| process.0).unwrap_or(0);
-    one.up(rt, again);
-    takes(rt, one);
-    Ok(again)
+    restarted.map(|process| process.0).unwrap_or(0)
 }
 
 // A second crash is one too many: the other child is asked, and then the parent is told the end.
@@ -483,16 +329,13 @@ fn gives_up<N: WordsNaming + InboxNaming, R: Wait + Abort>(
     again: u64,
     child: u64,
     bodies: (Body, Body),
-) -> Result<(), Fail> {
-    let (first, second) = bodies;
-    let x = Text::new(b"x").ok_or("a text")?;
-    one.exit(rt, again, Reason::Error(x), first);
-    takes(rt, one);
-    one.exit(rt, child, Reason::Shutdown, second);
-    takes(rt, one);
+) {
+    one.exit(rt, again, crash(), bodies.0);
+    one.takes(rt, 0);
+    one.exit(rt, child, Reason::Shutdown, bodies.1);
+    one.takes(rt, 0);
     let is_told = !one.port.notes.is_empty();
     one.send_orders(rt, 0, is_told);
     assert!(rt; one.has_told_intensity());
-    assert_eq!(rt; told(rt, one), Some(Note::Exit(0, Reason::Shutdown)));
-    Ok(())
+    tells(rt, one, Note::Exit(0, Reason::Shutdown));
 }
