@@ -1,4 +1,6 @@
 //! A supervisor's core alone, with no text and no process: each order is answered at once.
+ghost use Rattle.std.specs.Prelude.{◌<◌};
+
 use crate::report::report;
 use otp_core::{Core, Counter};
 use otp_reason::{Name, Note, Reason, Text};
@@ -33,30 +35,41 @@ struct Driver {
     calls: u64,
 }
 
-impl Driver {
-    // A supervisor that was opened, with all its children up.
-    fn open(alloc: Global, strategy: Strategy, children: usize) -> Result<Driver, AllocError> {
-        let mut specs = Vec::with_capacity(alloc, children)?;
-        for place in 0..children {
-            let letters = [b'a' + (place / 16 % 16) as u8, b'a' + (place % 16) as u8];
-            let name = Name::new(&letters).ok_or(AllocError)?;
+fn make_specs(alloc: Global, children: usize) -> Result<Vec<ChildSpec>, AllocError> {
+    let mut specs = Vec::with_capacity(alloc, children)?;
+    for place in 0..children {
+        let letters = [b'a' + (place / 16 % 16) as u8, b'a' + (place % 16) as u8];
+        if let Some(name) = Name::new(&letters) {
             specs.push(ChildSpec::new(name, name))?;
         }
+    }
+    Ok(specs)
+}
+
+impl Driver {
+    // A supervisor that was not opened yet.
+    fn new(alloc: Global, strategy: Strategy, children: usize) -> Result<Driver, AllocError> {
+        let specs = make_specs(alloc, children)?;
         let flags = SupFlags {
             strategy,
             intensity: INTENSITY,
             period: PERIOD,
             ..SupFlags::default()
         };
-        let core = Core::open(alloc, flags, specs.as_slice()).map_err(|_| AllocError)?;
-        let mut driver = Driver {
-            core,
-            reading: 0,
-            calls: 0,
-        };
-        driver.event(Kind::Opened(0))?;
-        driver.settle()?;
-        Ok(driver)
+        match Core::open(alloc, flags, specs.as_slice()) {
+            Ok(core) => Ok(Driver {
+                core,
+                reading: 0,
+                calls: 0,
+            }),
+            Err(_) => Err(AllocError),
+        }
+    }
+
+    // It is opened, and all its children are up.
+    fn begin(&mut self) -> Result<(), AllocError> {
+        self.event(Kind::Opened(0))?;
+        self.settle()
     }
 
     // One event. The orders of earlier ones were carried out.
@@ -147,9 +160,14 @@ pub fn measure<R: Runtime>(rt: &R, alloc: Global, count: u64) -> io::Result<()> 
         CHILDREN,
         count.min(127),
     )?;
-    let mut driver = Driver::open(alloc, Strategy::OneForOne, CHILDREN)?;
+    let mut driver = Driver::new(alloc, Strategy::OneForOne, CHILDREN)?;
+    count_many(rt, &mut driver, count.min(65_000))
+}
+
+fn count_many<R: Runtime>(rt: &R, driver: &mut Driver, count: u64) -> io::Result<()> {
+    driver.begin()?;
     let start = Instant::now(rt)?;
-    for _ in 0..count.min(65_000) {
+    for _ in 0..count {
         driver.call(Call::CountChildren)?;
     }
     report(rt, "count_children", 1, driver.calls, start)
@@ -175,17 +193,31 @@ fn measure_restarts<R: Runtime>(
     children: usize,
     count: u64,
 ) -> io::Result<()> {
-    let mut driver = Driver::open(alloc, strategy, children)?;
+    let mut driver = Driver::new(alloc, strategy, children)?;
+    let each = match strategy {
+        Strategy::OneForAll => children.max(1) as u64,
+        _ => 1,
+    };
+    restart_many(rt, &mut driver, work, each, count)
+}
+
+// Each restart starts so many children.
+fn restart_many<R: Runtime>(
+    rt: &R,
+    driver: &mut Driver,
+    work: &str,
+    each: u64,
+    count: u64,
+) -> io::Result<()>
+    requires { 0 < each }
+{
+    driver.begin()?;
     let first = driver.core.last_number();
-    let reason = Reason::Error(Text::new(b"x").ok_or(AllocError)?);
+    let reason = Reason::Error(Text::joined(b"x", b""));
     let start = Instant::now(rt)?;
     for restart in 0..count {
         driver.crash(restart, reason)?;
     }
     let started = driver.core.last_number().saturating_sub(first);
-    let each = match strategy {
-        Strategy::OneForAll => children.max(1) as u64,
-        _ => 1,
-    };
     report(rt, work, 1, started / each, start)
 }

@@ -10,7 +10,7 @@ use otp_reason::{Reason, Text};
 use otp_rules::Item;
 use otp_signals::{OpenWords, WordsNaming};
 use otp_spec::MAX_CHILDREN;
-use std::alloc::{AllocError, Global};
+use std::alloc::Global;
 use std::marker::Brand;
 use std::rt::Runtime;
 use std::sync::Wait;
@@ -122,19 +122,29 @@ fn measure_in<N: WordsNaming + InboxNaming + Send + Sync, R: Runtime + Threads +
 {
     let mut driven = Driven::<N>::open(alloc, words, inbox, 1)?;
     driven.begin(rt, 1)?;
-    let reason = Reason::Error(Text::new(b"x").ok_or(AllocError)?);
     let mut roles = Vec::new(alloc);
     for _ in 0..readers {
         roles.push(Role::Reads(driven.pass.split()?, 0))?;
     }
     roles.push(Role::Restarts(driven, 0))?;
+    read_beside(rt, roles.as_mut_slice(), readers, count)
+}
+
+/// Each role in a thread of its own.
+fn read_beside<N: WordsNaming + InboxNaming + Send + Sync, R: Runtime + Threads + Wait + Sync>(
+    rt: &R,
+    roles: &mut [Role<N>],
+    readers: usize,
+    count: u64,
+) -> io::Result<()> {
+    let reason = Reason::Error(Text::joined(b"x", b""));
     let each = count / readers.max(1) as u64;
     let ready = AtomicU64::new(0);
     let (all, ready) = (readers as u64, &ready);
     let start = Instant::now(rt)?;
     thread::for_each_mut(
         rt,
-        roles.as_mut_slice(),
+        roles,
         readers.saturating_add(1),
         &|_, role| role.play(rt, reason, each, all, ready),
     );

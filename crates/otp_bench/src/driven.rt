@@ -39,10 +39,22 @@ fn make_specs(alloc: Global, children: usize) -> Result<Vec<ChildSpec>, AllocErr
     let mut specs = Vec::new(alloc);
     for place in 0..children {
         let letters = [b'a' + (place / 16 % 16) as u8, b'a' + (place % 16) as u8];
-        let name = Name::new(&letters).ok_or(AllocError)?;
-        specs.push(ChildSpec::new(name, name))?;
+        if let Some(name) = Name::new(&letters) {
+            specs.push(ChildSpec::new(name, name))?;
+        }
     }
     Ok(specs)
+}
+
+/// A body for each child.
+fn make_bodies(alloc: Global, children: usize) -> Result<Bodies<u64>, AllocError> {
+    let mut bodies = Bodies::new(alloc);
+    for place in 0..children {
+        if bodies.hand_in(place, place as u64).is_err() {
+            return Err(AllocError);
+        }
+    }
+    Ok(bodies)
 }
 
 impl<N: WordsNaming + InboxNaming> Driven<N> {
@@ -56,17 +68,15 @@ impl<N: WordsNaming + InboxNaming> Driven<N> {
         requires slots { words.slots ≡ MAX_CHILDREN }
         requires inbox { inbox ≡ N.inbox 0 }
     {
-        let specs = make_specs(alloc, children)?;
+        let bodies = make_bodies(alloc, children)?;
         let flags = SupFlags {
             intensity: INTENSITY,
             period: PERIOD,
             ..SupFlags::default()
         };
-        let mut bodies = Bodies::new(alloc);
-        for place in 0..children {
-            bodies.hand_in(place, place as u64).map_err(|_| AllocError)?;
-        }
-        let supervisor = SupSpec::check(flags, specs).map_err(|_| AllocError)?;
+        let supervisor = SupSpec::check(flags, make_specs(alloc, children)?).map_err(
+            |_| AllocError,
+        )?;
         if !bodies.are_ready(count_opened(&supervisor)) {
             return Err(AllocError);
         }

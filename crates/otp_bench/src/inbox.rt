@@ -48,15 +48,24 @@ fn measure_in<N: InboxNaming + Send + Sync, R: Runtime + Threads + Wait + Sync>(
             senders.push(inbox.split(&mut first, 1))?;
         }
     }
-    let shared = &inbox;
+    send_and_take(rt, &inbox, senders.as_mut_slice(), &mut taker, count)
+}
+
+fn send_and_take<N: InboxNaming + Send + Sync, R: Runtime + Threads + Wait + Sync>(
+    rt: &R,
+    inbox: &Inbox<N, u64, Number>,
+    senders: &mut [Sender<N, u64, Number>],
+    taker: &mut Taker<N, u64, Number>,
+    count: u64,
+) -> io::Result<()> {
     let threads = senders.len().max(1);
     let share = count / threads as u64;
     let start = Instant::now(rt)?;
     thread::for_each_mut(
         rt,
-        senders.as_mut_slice(),
+        senders,
         threads,
-        &|_, sender| send_many(rt, shared, sender, share),
+        &|_, sender| send_many(rt, inbox, sender, share),
     );
     let mut sent = 0;
     for sender in senders.iter() {
@@ -64,7 +73,7 @@ fn measure_in<N: InboxNaming + Send + Sync, R: Runtime + Threads + Wait + Sync>(
     }
     report(rt, "sends", threads, sent, start)?;
     let start = Instant::now(rt)?;
-    let taken = take_all(rt, &inbox, &mut taker, count);
+    let taken = take_all(rt, inbox, taker, count);
     report(rt, "takes", 1, taken, start)
 }
 

@@ -97,14 +97,21 @@ fn measure_turns_in<N: RunNaming + Send, R: Runtime + Threads + Sync>(
             turns: 0,
         })?;
     }
+    measure_hands(rt, hands.as_mut_slice(), threads, count)
+}
+
+// Each hand in a thread of its own.
+fn measure_hands<N: RunNaming + Send, R: Runtime + Threads + Sync>(
+    rt: &R,
+    hands: &mut [Hand<N>],
+    threads: usize,
+    count: u64,
+) -> io::Result<()>
+    requires { 0 < threads }
+{
     let each = count / threads as u64;
     let start = Instant::now(rt)?;
-    thread::for_each_mut(
-        rt,
-        hands.as_mut_slice(),
-        threads,
-        &|_, hand| take_turns(hand, each),
-    );
+    thread::for_each_mut(rt, hands, threads, &|_, hand| take_turns(hand, each));
     let mut turns = 0;
     for hand in hands.iter() {
         turns = hand.turns.saturating_add(turns);
@@ -158,7 +165,6 @@ fn take_turn<N: RunNaming>(scheduler: &mut AnyScheduler<N>) -> bool {
     }
 }
 
-// Puts, takes and ends processes at one scheduler; then another steals as many.
 fn measure_puts_in<N: RunNaming, R: Runtime>(
     rt: &R,
     alloc: Global,
@@ -171,10 +177,21 @@ fn measure_puts_in<N: RunNaming, R: Runtime>(
     let (Some(mut thief), Some(mut owner)) = (schedulers.pop(), schedulers.pop()) else {
         return Ok(());
     };
+    put_and_steal(rt, alloc, &mut owner, &mut thief, count)
+}
+
+// Puts, takes and ends processes at one scheduler; then another steals as many.
+fn put_and_steal<N: RunNaming, R: Runtime>(
+    rt: &R,
+    alloc: Global,
+    owner: &mut AnyScheduler<N>,
+    thief: &mut AnyScheduler<N>,
+    count: u64,
+) -> io::Result<()> {
     let start = Instant::now(rt)?;
     let mut ended = 0u64;
     for number in 0..count {
-        if put_and_end(alloc, &mut owner, number) {
+        if put_and_end(alloc, owner, number) {
             ended = ended.wrapping_add(1);
         }
     }

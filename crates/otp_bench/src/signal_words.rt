@@ -133,33 +133,30 @@ fn measure_in<N: WordsNaming + Send + Sync, R: Runtime + Threads + Sync>(
     requires slots { threads ≤ opened.slots }
 {
     let (words, mut owner) = opened.named::<N>();
-    let words = &words;
-    let mut hands = hands(alloc, words, &mut owner, threads)?;
+    let mut hands = hands(alloc, &words, &mut owner, threads)?;
+    measure_hands(rt, &words, hands.as_mut_slice(), threads, count)
+}
+
+// Each hand in a thread of its own.
+fn measure_hands<N: WordsNaming + Send + Sync, R: Runtime + Threads + Sync>(
+    rt: &R,
+    words: &Words<N>,
+    hands: &mut [Hand<N>],
+    threads: usize,
+    count: u64,
+) -> io::Result<()>
+    requires some { 0 < threads }
+{
     let each = count / threads as u64;
     let all = each.saturating_mul(threads as u64);
     let start = Instant::now(rt)?;
-    thread::for_each_mut(
-        rt,
-        hands.as_mut_slice(),
-        threads,
-        &|_, hand| hand.draw(words, each),
-    );
+    thread::for_each_mut(rt, hands, threads, &|_, hand| hand.draw(words, each));
     report(rt, "draws", threads, all, start)?;
     let start = Instant::now(rt)?;
-    thread::for_each_mut(
-        rt,
-        hands.as_mut_slice(),
-        threads,
-        &|_, hand| hand.post(words, each),
-    );
+    thread::for_each_mut(rt, hands, threads, &|_, hand| hand.post(words, each));
     report(rt, "posts that raise nothing", threads, all, start)?;
     let start = Instant::now(rt)?;
-    thread::for_each_mut(
-        rt,
-        hands.as_mut_slice(),
-        threads,
-        &|_, hand| hand.look(words, each),
-    );
+    thread::for_each_mut(rt, hands, threads, &|_, hand| hand.look(words, each));
     let mut seen = 0;
     for hand in hands.iter() {
         seen = hand.seen().saturating_add(seen);
@@ -168,7 +165,7 @@ fn measure_in<N: WordsNaming + Send + Sync, R: Runtime + Threads + Sync>(
     let start = Instant::now(rt)?;
     thread::for_each_mut(
         rt,
-        hands.as_mut_slice(),
+        hands,
         threads,
         &|_, hand| hand.draw_and_post(words, each),
     );

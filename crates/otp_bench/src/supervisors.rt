@@ -52,8 +52,16 @@ fn measure_restarts<N: WordsNaming + InboxNaming, R: Runtime + Wait>(
     requires inbox { inbox ≡ N.inbox 0 }
 {
     let mut driven = Driven::<N>::open(alloc, words, inbox, 1)?;
+    restart_many(rt, &mut driven, count)
+}
+
+fn restart_many<N: WordsNaming + InboxNaming, R: Runtime + Wait>(
+    rt: &R,
+    driven: &mut Driven<N>,
+    count: u64,
+) -> io::Result<()> {
     driven.begin(rt, 1)?;
-    let reason = Reason::Error(Text::new(b"x").ok_or(AllocError)?);
+    let reason = Reason::Error(Text::joined(b"x", b""));
     let start = Instant::now(rt)?;
     for restart in 0..count {
         driven.restart_at(rt, restart, reason)?;
@@ -79,7 +87,7 @@ fn measure_calls<N: WordsNaming + InboxNaming, R: Runtime + Wait>(
         owner,
         sup,
         mut sender,
-        mut port,
+        port,
         pass: _,
         ..
     } = driven;
@@ -87,21 +95,45 @@ fn measure_calls<N: WordsNaming + InboxNaming, R: Runtime + Wait>(
         return Err(AllocError.into());
     };
     let mut client = Client::new(alloc, owner, calling);
+    let mut hand = Hand {
+        sender,
+        port,
+        turned: 0,
+    };
+    call_many(rt, &words, &sup, &mut hand, &mut client, count)
+}
+
+fn call_many<N: WordsNaming + InboxNaming, R: Runtime + Wait>(
+    rt: &R,
+    words: &Words<N>,
+    sup: &Sup<N, u64>,
+    hand: &mut Hand<N>,
+    client: &mut Client<N, u64>,
+    count: u64,
+) -> io::Result<()> {
     let start = Instant::now(rt)?;
     for _ in 0..count {
-        if client.number() != sup.inbox().number() {
-            return Err(AllocError.into());
-        }
-        let sent = client.submit(rt, &words, sup.inbox(), Call::CountChildren, None);
-        if sent.is_err() {
-            return Err(AllocError.into());
-        }
-        let turned = turn(rt, &words, &sup, &mut sender, &mut port);
-        if turned != Some(Ok(TurnAnswer::Took)) {
-            return Err(AllocError.into());
-        }
+        call(rt, words, sup, hand, client)?;
     }
     report(rt, "locked calls", 1, count, start)
+}
+
+/// One call, and the turn that takes it.
+fn call<N: WordsNaming + InboxNaming, R: Wait>(
+    rt: &R,
+    words: &Words<N>,
+    sup: &Sup<N, u64>,
+    hand: &mut Hand<N>,
+    client: &mut Client<N, u64>,
+) -> Result<(), AllocError> {
+    if client.number() != sup.inbox().number() {
+        return Err(AllocError);
+    }
+    let sent = client.submit(rt, words, sup.inbox(), Call::CountChildren, None);
+    if sent.is_err() || turn(rt, words, sup, hand) != Some(Ok(TurnAnswer::Took)) {
+        return Err(AllocError);
+    }
+    Ok(())
 }
 
 /// A sender with one part of this one's right to send.
@@ -122,9 +154,9 @@ fn turn<N: WordsNaming + InboxNaming, R: Wait>(
     rt: &R,
     words: &Words<N>,
     sup: &Sup<N, u64>,
-    sender: &mut Sender<N, Item, Post>,
-    port: &mut MemoryPort<u64>,
+    hand: &mut Hand<N>,
 ) -> Option<Result<TurnAnswer, TurnFault>> {
+    let Hand { sender, port, .. } = hand;
     if sender.number() != sup.inbox().number() || sender.parts() == 0 {
         return None;
     }
@@ -148,8 +180,7 @@ fn turn_many<N: WordsNaming + InboxNaming, R: Wait>(
     count: u64,
 ) {
     for _ in 0..count {
-        let turned = turn(rt, words, sup, &mut hand.sender, &mut hand.port);
-        if turned == Some(Ok(TurnAnswer::Quiet)) {
+        if turn(rt, words, sup, hand) == Some(Ok(TurnAnswer::Quiet)) {
             hand.turned = hand.turned.saturating_add(1);
         }
     }
@@ -169,22 +200,45 @@ fn measure_shared<N: WordsNaming + InboxNaming + Send + Sync, R: Runtime + Threa
 {
     let mut driven = Driven::<N>::open(alloc, words, inbox, 1)?;
     driven.begin(rt, 1)?;
-    let mut hands = Vec::new(alloc);
+    let mut hands = hands_of(alloc, &driven.sup, &mut driven.sender, threads)?;
+    turn_together(rt, &driven.words, &driven.sup, hands.as_mut_slice(), count)
+}
+
+/// So many hands, each with a part of the sender's right to send.
+fn hands_of<N: WordsNaming + InboxNaming>(
+    alloc: Global,
+    sup: &Sup<N, u64>,
+    sender: &mut Sender<N, Item, Post>,
+    threads: usize,
+) -> Result<Vec<Hand<N>>, AllocError> {
+    let mut hands = Vec::with_capacity(alloc, threads)?;
     for _ in 0..threads {
-        let sender = cut_off(&driven.sup, &mut driven.sender).ok_or(AllocError)?;
+        let Some(sender) = cut_off(sup, sender) else {
+            return Err(AllocError);
+        };
         hands.push(Hand {
             sender,
             port: MemoryPort::new(alloc),
             turned: 0,
         })?;
     }
-    let (words, sup) = (&driven.words, &driven.sup);
-    let share = count / threads.max(1) as u64;
+    Ok(hands)
+}
+
+fn turn_together<N: WordsNaming + InboxNaming + Send + Sync, R: Runtime + Threads + Wait + Sync>(
+    rt: &R,
+    words: &Words<N>,
+    sup: &Sup<N, u64>,
+    hands: &mut [Hand<N>],
+    count: u64,
+) -> io::Result<()> {
+    let threads = hands.len().max(1);
+    let share = count / threads as u64;
     let start = Instant::now(rt)?;
     thread::for_each_mut(
         rt,
-        hands.as_mut_slice(),
-        threads.max(1),
+        hands,
+        threads,
         &|_, hand| turn_many(rt, words, sup, hand, share),
     );
     let mut turned = 0;

@@ -109,30 +109,40 @@ fn plan(draft: Draft) -> Result<Plan, AllocError> {
 /// The root, with the supervisors from 1 on as its first children, and so many children in all.
 fn root_plan(alloc: Global, children: usize) -> Result<Plan, AllocError> {
     let mut draft = Draft::new(alloc);
+    fill_root(&mut draft, children)?;
+    plan(draft)
+}
+
+fn fill_root(draft: &mut Draft, children: usize) -> Result<(), AllocError> {
     for high in DIGITS {
         for low in DIGITS {
             let place = draft.len();
             if place < MAX_TABLES - 1 {
-                add_supervisor(&mut draft, &[high, low], place + 1)?;
+                add_supervisor(draft, &[high, low], place + 1)?;
             } else if place < children {
-                add_worker(&mut draft, &[high, low], false)?;
+                add_worker(draft, &[high, low], false)?;
             }
         }
     }
-    plan(draft)
+    Ok(())
 }
 
 /// A supervisor of so many workers.
 fn full_plan(alloc: Global, children: usize) -> Result<Plan, AllocError> {
     let mut draft = Draft::new(alloc);
+    fill(&mut draft, children)?;
+    plan(draft)
+}
+
+fn fill(draft: &mut Draft, children: usize) -> Result<(), AllocError> {
     for high in DIGITS {
         for low in DIGITS {
             if draft.len() < children {
-                add_worker(&mut draft, &[high, low], false)?;
+                add_worker(draft, &[high, low], false)?;
             }
         }
     }
-    plan(draft)
+    Ok(())
 }
 
 /// As many supervisors as there may be, each but the root with so many children, at most 256.
@@ -150,11 +160,16 @@ fn crashing_plans(alloc: Global) -> Result<Vec<Plan>, AllocError> {
     let mut plans = Vec::new(alloc);
     plans.push(root_plan(alloc, 0)?)?;
     for _ in 1..MAX_TABLES {
-        let mut draft = Draft::new(alloc);
-        add_worker(&mut draft, b"worker", true)?;
-        plans.push(plan(draft)?)?;
+        plans.push(crashing_plan(alloc)?)?;
     }
     Ok(plans)
+}
+
+/// A supervisor of one worker that crashes in each turn.
+fn crashing_plan(alloc: Global) -> Result<Plan, AllocError> {
+    let mut draft = Draft::new(alloc);
+    add_worker(&mut draft, b"worker", true)?;
+    plan(draft)
 }
 
 /// Serves until the root is up, then asks it to stop, and serves until it has ended.

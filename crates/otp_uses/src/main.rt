@@ -66,10 +66,14 @@ fn main(rt: HostRuntime) -> io::Result<()> {
 // A supervisor of three children: the second crashes, and then all are stopped.
 fn supervise(rt: HostRuntime) -> io::Result<()> {
     let mut core = supervising::open(rt.alloc())?;
-    println!(rt; "opened:{}", children(rt.alloc(), &core)?)?;
-    supervising::crash(rt.alloc(), &mut core, 2)?;
-    println!(rt; "the second crashed:{}", children(rt.alloc(), &core)?)?;
-    supervising::stop(rt.alloc(), &mut core)?;
+    crash_and_stop(rt, &mut core)
+}
+
+fn crash_and_stop(rt: HostRuntime, core: &mut Core) -> io::Result<()> {
+    println!(rt; "opened:{}", children(rt.alloc(), core)?)?;
+    supervising::crash(rt.alloc(), core, 2)?;
+    println!(rt; "the second crashed:{}", children(rt.alloc(), core)?)?;
+    supervising::stop(rt.alloc(), core)?;
     println!(rt;
         "stopped: {} children are left, it ended: {}",
         core.rows().len(),
