@@ -1,11 +1,13 @@
 //! Readers and writers that fail in mid-stream, that watch one another, and that count their calls.
 
-use crate::fixtures::said;
+use crate::fixtures::{said, same};
 use otp_console::console::console;
 use otp_console::ending::ProgramEnd;
 use otp_sim::Counted;
+use std::alloc::Global;
 use std::cell::Cell;
 use std::io::{Error, ErrorKind, Read, Write};
+use std::process::Abort;
 use std::test::Fail;
 use std::{io, iter};
 
@@ -84,17 +86,32 @@ fn failed_reads(rt: HostRuntime) -> Result<(), Fail> {
     ];
     for (bytes, printed, end) in rows {
         for at_once in [1usize, 7, 4096] {
-            let mut reader = Counted::new(Broken {
+            let broken = Broken {
                 bytes,
                 at_once,
                 is_interrupted: false,
-            });
-            let mut writer = Counted::new(Vec::new(alloc));
-            let ended = console(alloc, THREE_WORKERS.as_bytes(), &mut reader, &mut writer);
-            assert_eq!(rt; writer.into_device().as_slice(), printed.as_bytes());
-            assert_eq!(rt; said(alloc, ended)?.as_str(), end);
+            };
+            reads_broken(&rt, alloc, broken, printed, end)?;
         }
     }
+    Ok(())
+}
+
+/// What is printed of such an input, and how the program ends.
+fn reads_broken(
+    rt: &impl Abort,
+    alloc: Global,
+    broken: Broken<'_>,
+    printed: &str,
+    end: &str,
+) -> Result<(), Fail> {
+    let mut reader = Counted::new(broken);
+    let mut writer = Counted::new(Vec::new(alloc));
+    let ended = console(alloc, THREE_WORKERS.as_bytes(), &mut reader, &mut writer);
+    let text = writer.into_device();
+    same(rt, "what is printed", text.as_slice(), printed.as_bytes());
+    let said = said(alloc, ended)?;
+    same(rt, "the end", said.as_str(), end);
     Ok(())
 }
 
@@ -106,22 +123,37 @@ fn failed_writes(rt: HostRuntime) -> Result<(), Fail> {
     let printed =
         "start a #1\nstart b #2\nstart c #3\nready\nask c #3\nask b #2\nask a #1\nend shutdown\n";
     for room in 0..printed.len() + 1 {
-        let mut reader = Counted::new(lines.as_bytes());
-        let mut writer = Counted::new(Slow {
-            bytes: Vec::new(alloc),
-            room,
-            is_interrupted: false,
-        });
-        let ended = console(alloc, THREE_WORKERS.as_bytes(), &mut reader, &mut writer);
-        let Slow { bytes, .. } = writer.into_device();
-        assert_eq!(rt; bytes.as_slice(), &printed.as_bytes()[..room]);
         let end = if room < printed.len() {
             "output not written 4"
         } else {
             " 0"
         };
-        assert_eq!(rt; said(alloc, ended)?.as_str(), end);
+        let slow = Slow {
+            bytes: Vec::new(alloc),
+            room,
+            is_interrupted: false,
+        };
+        writes_slowly(&rt, alloc, slow, lines, &printed.as_bytes()[..room], end)?;
     }
+    Ok(())
+}
+
+/// What is written of these lines by such a writer, and how the program ends.
+fn writes_slowly(
+    rt: &impl Abort,
+    alloc: Global,
+    slow: Slow,
+    lines: &str,
+    written: &[u8],
+    end: &str,
+) -> Result<(), Fail> {
+    let mut reader = Counted::new(lines.as_bytes());
+    let mut writer = Counted::new(slow);
+    let ended = console(alloc, THREE_WORKERS.as_bytes(), &mut reader, &mut writer);
+    let Slow { bytes, .. } = writer.into_device();
+    same(rt, "what is written", bytes.as_slice(), written);
+    let said = said(alloc, ended)?;
+    same(rt, "the end", said.as_str(), end);
     Ok(())
 }
 
@@ -203,8 +235,8 @@ fn answers_come_before_reads(rt: HostRuntime) -> Result<(), Fail> {
         &mut reader,
         &mut writer,
     );
-    assert_eq!(rt; ended, ProgramEnd::Done);
-    assert_eq!(rt; written.get(), before);
+    same(&rt, "the end", ended, ProgramEnd::Done);
+    same(&rt, "how much is written", written.get(), before);
     Ok(())
 }
 
@@ -259,10 +291,11 @@ fn few_reads_and_writes(rt: HostRuntime) -> Result<(), Fail> {
     });
     let mut writer = Counted::new(Taking { calls: 0, bytes: 0 });
     let ended = console(alloc, THREE_WORKERS.as_bytes(), &mut reader, &mut writer);
-    assert_eq!(rt; ended, ProgramEnd::Done);
+    same(&rt, "the end", ended, ProgramEnd::Done);
     // the last read finds the end
     let reads = reader.into_device().calls;
-    assert_eq!(rt; reads, lines.len().div_ceil(65536).saturating_add(1));
+    let wanted = lines.len().div_ceil(65536).saturating_add(1);
+    same(&rt, "the reads", reads, wanted);
     // one before each read, and one for each 64 KiB
     let taken = writer.into_device();
     assert!(rt; taken.bytes > 1_000_000);

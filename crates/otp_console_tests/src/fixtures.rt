@@ -4,8 +4,21 @@ use otp_console::console::console;
 use otp_console::ending::{ProgramEnd, tell};
 use otp_sim::Counted;
 use std::alloc::{AllocError, Global};
+use std::fmt::Debug;
 use std::process::Abort;
 use std::test::Fail;
+
+/// Asserts that a value is the one that is wanted; `what` says in the message which assertion failed.
+///
+/// A test has this in the place of `assert_eq!`, which is proved anew wherever it stands: it takes ten times as long as a call.
+pub(crate) fn same<T: PartialEq + Debug + Copy>(rt: &impl Abort, what: &str, value: T, wanted: T) {
+    assert_eq!(rt; value, wanted, "{what}");
+}
+
+/// Asserts that something holds; `what` says in the message of which case.
+pub(crate) fn holds(rt: &impl Abort, what: &str, holds: bool) {
+    assert!(rt; holds, "{what}");
+}
 
 /// What is told of an ending, without its end of line, and then its status.
 pub(crate) fn said(alloc: Global, ending: ProgramEnd<'_>) -> Result<String, AllocError> {
@@ -30,8 +43,9 @@ pub(crate) fn plays(
     let ended = console(alloc, tree.as_bytes(), &mut reader, &mut writer);
     let text = writer.into_device();
     let lines = lines.get(..200).unwrap_or(lines);
-    assert_eq!(rt; text.as_slice(), printed.as_bytes(), "{lines}");
-    assert_eq!(rt; said(alloc, ended)?.as_str(), end, "{lines}");
+    same(rt, lines, text.as_slice(), printed.as_bytes());
+    let said = said(alloc, ended)?;
+    same(rt, lines, said.as_str(), end);
     Ok(())
 }
 

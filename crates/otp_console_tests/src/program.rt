@@ -1,6 +1,6 @@
 //! Runs of the whole program, with words and files that are made up: its status, and what it tells on which stream.
 
-use crate::fixtures::with_status;
+use crate::fixtures::{holds, same, with_status};
 use crate::transcripts::{FILES, TRANSCRIPTS};
 use otp_console::files::TreeFiles;
 use otp_console::program::run;
@@ -195,6 +195,18 @@ fn seen_on<H: Threads + Wait + Sync, F: TreeFiles>(
     }
 }
 
+/// Compares what was written and told, and the status.
+fn are(rt: &impl Abort, what: &str, seen: &Streams, printed: &str, told: &str, status: u8) {
+    same(rt, what, seen.output.as_slice(), printed.as_bytes());
+    tells(rt, what, seen, told, status);
+}
+
+/// Compares what was told, and the status.
+fn tells(rt: &impl Abort, what: &str, seen: &Streams, told: &str, status: u8) {
+    same(rt, what, seen.errors.as_slice(), told.as_bytes());
+    same(rt, what, seen.status, status);
+}
+
 /// A reader of one line a call, as a terminal gives them.
 #[derive(Drop)]
 struct Typed<'a> {
@@ -249,12 +261,7 @@ fn shows_at<H: Abort + Threads + Wait + Sync>(
         &mut errors,
     );
     let text = with_status(alloc, output.into_device(), errors.into_device(), status)?;
-    assert_eq!(rt;
-        text.as_slice(),
-        shown.as_bytes(),
-        "{}",
-        text.escape_ascii()
-    );
+    same(rt, "all that is seen", text.as_slice(), shown.as_bytes());
     Ok(())
 }
 
@@ -438,17 +445,12 @@ fn orders_and_sentences(rt: HostRuntime) -> Result<(), Fail> {
     for (tree, fault, lines, printed, told, status) in rows {
         let words = words_in(alloc, &["otp", "sim", "tree"])?;
         let seen = seen(&rt, alloc, Ok(words), tree, fault, lines);
-        assert_eq!(rt; seen.output.as_slice(), printed.as_bytes(), "{told}");
-        assert_eq!(rt; seen.errors.as_slice(), told.as_bytes(), "{told}");
-        assert_eq!(rt; seen.status, status, "{told}");
+        are(&rt, told, &seen, printed, told, status);
     }
     let words = words_in(alloc, &["otp", "sim", "three"])?;
     let seen = seen(&rt, alloc, Ok(words), TREE, None, "up 1\n");
-    assert_eq!(rt;
-        seen.errors.as_slice(),
-        b"tree not read\n".as_slice(),
-        "another name"
-    );
+    let told = b"tree not read\n".as_slice();
+    same(&rt, "another name", seen.errors.as_slice(), told);
     Ok(())
 }
 
@@ -482,9 +484,7 @@ fn checks_and_pictures(rt: HostRuntime) -> Result<(), Fail> {
         let [command, name] = words;
         let words = words_in(alloc, &["otp", command, name])?;
         let seen = seen(&rt, alloc, Ok(words), tree, None, "");
-        assert_eq!(rt; seen.output.as_slice(), printed.as_bytes());
-        assert_eq!(rt; seen.errors.as_slice(), told.as_bytes());
-        assert_eq!(rt; seen.status, status);
+        are(&rt, tree, &seen, printed, told, status);
     }
     Ok(())
 }
@@ -502,7 +502,7 @@ fn transcripts_are_played(rt: HostRuntime) -> Result<(), Fail> {
         let lines = file_named(alloc, lines)?.unwrap_or(Vec::new(alloc));
         let seen = seen_on(&rt, alloc, &files, Ok(words), lines.as_slice());
         let text = with_status(alloc, seen.output, seen.errors, seen.status)?;
-        assert_eq!(rt; text.as_slice(), shown.as_bytes(), "{line}");
+        same(&rt, line, text.as_slice(), shown.as_bytes());
     }
     Ok(())
 }
@@ -542,18 +542,15 @@ fn large_files(rt: HostRuntime) -> Result<(), Fail> {
     }
     for command in ["check", "tree", "try", "limits"] {
         let words = words_in(alloc, &["otp", command, "tree"])?;
-        assert_eq!(rt;
-            seen(&rt, alloc, Ok(words), &text, None, "").status,
-            0,
-            "{command}"
-        );
+        let seen = seen(&rt, alloc, Ok(words), &text, None, "");
+        same(&rt, command, seen.status, 0);
     }
     text.push('\n').map_err(|_| AllocError)?;
     for command in ["check", "tree", "try", "limits"] {
         let words = words_in(alloc, &["otp", command, "tree"])?;
         let seen = seen(&rt, alloc, Ok(words), &text, None, "");
-        assert_eq!(rt; seen.status, 1, "{command}");
-        assert!(rt; has(&seen.errors, "1048576 bytes"), "{command}");
+        same(&rt, command, seen.status, 1);
+        holds(&rt, command, has(&seen.errors, "1048576 bytes"));
     }
     Ok(())
 }
@@ -572,9 +569,9 @@ fn is_told<H: Abort + Threads + Wait + Sync>(
     part: &str,
 ) -> Result<(), Fail> {
     let seen = seen(rt, alloc, Ok(words_in(alloc, words)?), TREE, None, "up 1\n");
-    assert!(rt; seen.output.is_empty(), "{part}");
-    assert!(rt; has(&seen.errors, part), "{part}");
-    assert_eq!(rt; seen.status, 2, "{part}");
+    holds(rt, part, seen.output.is_empty());
+    holds(rt, part, has(&seen.errors, part));
+    same(rt, part, seen.status, 2);
     Ok(())
 }
 
@@ -601,16 +598,18 @@ fn refused_words(rt: HostRuntime) -> Result<(), Fail> {
         let [key, number] = words;
         is_told(&rt, alloc, &["otp", "run", "tree", key, number], key)?;
     }
-    let told = seen(&rt, alloc, Err(WordsFault::NotText), TREE, None, "");
-    assert_eq!(rt;
-        told.errors.as_slice(),
-        b"error: a word is not UTF-8\n".as_slice()
-    );
-    assert_eq!(rt; told.status, 2);
-    let told = seen(&rt, alloc, Err(WordsFault::OutOfMemory), TREE, None, "");
-    assert_eq!(rt; told.errors.as_slice(), b"out of memory\n".as_slice());
-    assert_eq!(rt; told.status, 4);
+    refuses_faults(&rt, alloc);
     Ok(())
+}
+
+/// Words that the program didn't get.
+fn refuses_faults<H: Abort + Threads + Wait + Sync>(rt: &H, alloc: Global) {
+    let seen_of_text = seen(rt, alloc, Err(WordsFault::NotText), TREE, None, "");
+    let told = "error: a word is not UTF-8\n";
+    tells(rt, "a word that is no text", &seen_of_text, told, 2);
+    let seen_of_memory = seen(rt, alloc, Err(WordsFault::OutOfMemory), TREE, None, "");
+    let told = "out of memory\n";
+    tells(rt, "no memory for the words", &seen_of_memory, told, 4);
 }
 
 /// Help goes to standard output, and where that is full, the program says so.
@@ -626,10 +625,21 @@ fn help(rt: HostRuntime) -> Result<(), Fail> {
             None,
             "up 1\n",
         );
-        assert!(rt; has(&shown.output, "Usage: otp"));
-        assert!(rt; shown.errors.is_empty());
-        assert_eq!(rt; shown.status, 0);
+        holds(&rt, "the usage", has(&shown.output, "Usage: otp"));
+        tells(&rt, "help", &shown, "", 0);
     }
+    for words in [["otp", "--help", ""], ["otp", "sim", "tree"]] {
+        finds_no_room(&rt, alloc, &words)?;
+    }
+    Ok(())
+}
+
+/// A run whose output takes nothing: it is asked once.
+fn finds_no_room<H: Abort + Threads + Wait + Sync>(
+    rt: &H,
+    alloc: Global,
+    words: &[&str],
+) -> Result<(), Fail> {
     let files = Shelf {
         alloc,
         name: "tree",
@@ -638,30 +648,24 @@ fn help(rt: HostRuntime) -> Result<(), Fail> {
         is_terminal: false,
         has_colours: false,
     };
-    for words in [["otp", "--help", ""], ["otp", "sim", "tree"]] {
-        let mut input = Counted::new(b"up 1\n".as_slice());
-        let mut output = Counted::new(Full { calls: 0 });
-        let mut errors = Counted::new(Vec::new(alloc));
-        let words = words_in(alloc, &words)?;
-        let status = run(
-            &Pool {
-                rt: &rt,
-                gate: &Still,
-            },
-            alloc,
-            Ok(words),
-            &files,
-            &mut input,
-            &mut output,
-            &mut errors,
-        );
-        assert_eq!(rt; output.into_device().calls, 1);
-        assert_eq!(rt;
-            errors.into_device().as_slice(),
-            b"output not written\n".as_slice()
-        );
-        assert_eq!(rt; status, 4);
-    }
+    let mut input = Counted::new(b"up 1\n".as_slice());
+    let mut output = Counted::new(Full { calls: 0 });
+    let mut errors = Counted::new(Vec::new(alloc));
+    let words = words_in(alloc, words)?;
+    let status = run(
+        &Pool { rt, gate: &Still },
+        alloc,
+        Ok(words),
+        &files,
+        &mut input,
+        &mut output,
+        &mut errors,
+    );
+    same(rt, "the writes", output.into_device().calls, 1);
+    let errors = errors.into_device();
+    let told = b"output not written\n".as_slice();
+    same(rt, "what is told", errors.as_slice(), told);
+    same(rt, "the status", status, 4);
     Ok(())
 }
 
@@ -672,14 +676,11 @@ fn runs(rt: HostRuntime) -> Result<(), Fail> {
     for (tree, printed, told, status) in RUNS {
         let words = words_in(alloc, &["otp", "run", "tree", "--schedulers", "1"])?;
         let seen = seen(&rt, alloc, Ok(words), tree, None, "");
-        assert_eq!(rt; seen.output.as_slice(), printed.as_bytes(), "{tree}");
-        assert_eq!(rt; seen.errors.as_slice(), told.as_bytes(), "{tree}");
-        assert_eq!(rt; seen.status, status, "{tree}");
+        are(&rt, tree, &seen, printed, told, status);
     }
     let words = words_in(alloc, &["otp", "run", "three"])?;
     let seen = seen(&rt, alloc, Ok(words), TREE, None, "");
-    assert_eq!(rt; seen.errors.as_slice(), b"tree not read\n".as_slice());
-    assert_eq!(rt; seen.status, 1);
+    tells(&rt, "another name", &seen, "tree not read\n", 1);
     Ok(())
 }
 
@@ -692,15 +693,12 @@ fn counts(rt: HostRuntime) -> Result<(), Fail> {
         &["otp", "run", "tree", "--schedulers", "1", "--counts"],
     )?;
     let counted = seen(&rt, alloc, Ok(words), THREE_STEADY, None, "");
-    assert_eq!(rt;
-        counted.output.as_slice(),
-        b"counts 0 specs 3 active 3 supervisors 0 workers 3\ntable 0 starts 3 restarts 0 end shutdown\nlive 0\n".as_slice()
-    );
-    assert!(rt; counted.errors.is_empty());
-    assert_eq!(rt; counted.status, 0);
+    let printed =
+        "counts 0 specs 3 active 3 supervisors 0 workers 3\ntable 0 starts 3 restarts 0 end shutdown\nlive 0\n";
+    are(&rt, "the counts", &counted, printed, "", 0);
     let help = words_in(alloc, &["otp", "run", "--help"])?;
     let shown = seen(&rt, alloc, Ok(help), TREE, None, "");
-    assert!(rt; has(&shown.output, "--counts"));
+    holds(&rt, "the help", has(&shown.output, "--counts"));
     is_told(
         &rt,
         alloc,

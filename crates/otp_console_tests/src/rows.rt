@@ -1,6 +1,6 @@
 //! Worked rows, from the bytes of a tree file and of the input to the bytes of the output.
 
-use crate::fixtures::plays;
+use crate::fixtures::{plays, same};
 use otp_console::console::console;
 use otp_console::ending::ProgramEnd;
 use otp_file::TreeFault;
@@ -212,7 +212,8 @@ fn bytes_that_are_no_text(rt: HostRuntime) -> Result<(), Fail> {
     let mut reader = Counted::new(b"".as_slice());
     let mut writer = Counted::new(Vec::new(rt.alloc()));
     let ended = console(rt.alloc(), b"period = 5 # \xff\n", &mut reader, &mut writer);
-    assert_eq!(rt; ended, ProgramEnd::TreeRefused(TreeFault::NotToml));
+    let wanted = ProgramEnd::TreeRefused(TreeFault::NotToml);
+    same(&rt, "the end", ended, wanted);
     assert!(rt; writer.into_device().is_empty());
     Ok(())
 }

@@ -1,6 +1,7 @@
 //! What no clause says of checks: the words for each fault, with its place, what is allowed, and the word that was meant.
 
-use otp_check::check;
+use crate::fixtures::{holds_of, same};
+use otp_check::{Finding, check};
 use std::alloc::Global;
 use std::process::Abort;
 use std::test::Fail;
@@ -12,12 +13,27 @@ type Row = (&'static str, &'static [&'static str]);
 fn finds(rt: &impl Abort, alloc: Global, rows: &[Row]) -> Result<(), Fail> {
     for (file, expected) in rows {
         let findings = check(alloc, file.as_bytes())?;
-        assert_eq!(rt; findings.len(), expected.len(), "{file}");
-        for (finding, line) in findings.iter().zip(expected.iter()) {
-            assert_eq!(rt; finding.text.as_slice(), line.as_bytes(), "{line}");
-        }
+        are_lines(rt, file, findings.as_slice(), expected);
     }
     Ok(())
+}
+
+/// Compares what is found in a file with the lines that were expected.
+fn are_lines(rt: &impl Abort, file: &str, findings: &[Finding], expected: &[&str]) {
+    same(rt, file, findings.len(), expected.len());
+    for (finding, line) in findings.iter().zip(expected) {
+        same(rt, line, finding.text.as_slice(), line.as_bytes());
+    }
+}
+
+/// The text of the one finding in a file.
+fn found_in(alloc: Global, file: &[u8]) -> Result<Vec<u8>, Fail> {
+    let mut findings = check(alloc, file)?;
+    let finding = findings.pop().ok_or("a finding")?;
+    if !findings.is_empty() {
+        return Err(Fail::from("one finding"));
+    }
+    Ok(finding.text)
 }
 
 const FLAGS: [Row; 8] = [
@@ -308,29 +324,14 @@ fn chain(alloc: Global, levels: usize) -> Result<Vec<u8>, Fail> {
 #[test]
 fn deepest_table(rt: HostRuntime) -> Result<(), Fail> {
     let file = chain(rt.alloc(), 16)?;
-    let findings = check(rt.alloc(), file.as_slice())?;
-    assert_eq!(rt; findings.len(), 1usize);
-    for finding in &findings {
-        let text = finding.text.as_slice();
-        assert!(rt;
-            text.ends_with(
-                b"(a), child 1 (a), tree, period: read 0; allowed: a whole number, 1 to 1000000 (seconds)",
-            ),
-            "{}",
-            text.escape_ascii()
-        );
-    }
+    let text = found_in(rt.alloc(), file.as_slice())?;
+    let end =
+        b"(a), child 1 (a), tree, period: read 0; allowed: a whole number, 1 to 1000000 (seconds)".as_slice();
+    holds_of(&rt, text.as_slice(), text.ends_with(end));
     let file = chain(rt.alloc(), 17)?;
-    let findings = check(rt.alloc(), file.as_slice())?;
-    assert_eq!(rt; findings.len(), 1usize);
-    for finding in &findings {
-        let text = finding.text.as_slice();
-        assert!(rt;
-            text == b"E14: supervisor: supervisors are nested more than 16 deep".as_slice(),
-            "{}",
-            text.escape_ascii()
-        );
-    }
+    let text = found_in(rt.alloc(), file.as_slice())?;
+    let wanted = b"E14: supervisor: supervisors are nested more than 16 deep".as_slice();
+    same(&rt, "17 levels", text.as_slice(), wanted);
     Ok(())
 }
 
@@ -351,27 +352,14 @@ fn wide(alloc: Global, trees: usize) -> Result<Vec<u8>, Fail> {
 #[test]
 fn last_table(rt: HostRuntime) -> Result<(), Fail> {
     let file = wide(rt.alloc(), 63)?;
-    let findings = check(rt.alloc(), file.as_slice())?;
-    assert_eq!(rt; findings.len(), 1usize);
-    for finding in &findings {
-        let text = finding.text.as_slice();
-        assert!(rt;
-            text == b"E1: child 63 (c63), tree, period: read 0; allowed: a whole number, 1 to 1000000 (seconds)".as_slice(),
-            "{}",
-            text.escape_ascii()
-        );
-    }
+    let text = found_in(rt.alloc(), file.as_slice())?;
+    let wanted =
+        b"E1: child 63 (c63), tree, period: read 0; allowed: a whole number, 1 to 1000000 (seconds)".as_slice();
+    same(&rt, "64 tables", text.as_slice(), wanted);
     let file = wide(rt.alloc(), 64)?;
-    let findings = check(rt.alloc(), file.as_slice())?;
-    assert_eq!(rt; findings.len(), 1usize);
-    for finding in &findings {
-        let text = finding.text.as_slice();
-        assert!(rt;
-            text == b"E15: supervisor: more than 64 supervisors".as_slice(),
-            "{}",
-            text.escape_ascii()
-        );
-    }
+    let text = found_in(rt.alloc(), file.as_slice())?;
+    let wanted = b"E15: supervisor: more than 64 supervisors".as_slice();
+    same(&rt, "65 tables", text.as_slice(), wanted);
     Ok(())
 }
 
@@ -391,15 +379,11 @@ fn many(alloc: Global, children: usize) -> Result<Vec<u8>, Fail> {
 fn child_behind_the_last(rt: HostRuntime) -> Result<(), Fail> {
     let file = many(rt.alloc(), 260)?;
     let findings = check(rt.alloc(), file.as_slice())?;
-    let lines: [&[u8]; 2] = [
-        b"E13: child 260: no table; each child is one, [[child]]",
-        b"E7: supervisor: more than 256 children; a supervisor has at most so many",
+    let lines = [
+        "E13: child 260: no table; each child is one, [[child]]",
+        "E7: supervisor: more than 256 children; a supervisor has at most so many",
     ];
-    assert_eq!(rt; findings.len(), lines.len());
-    for (finding, line) in findings.iter().zip(lines.iter()) {
-        let text = finding.text.as_slice();
-        assert!(rt; text == *line, "{}", text.escape_ascii());
-    }
+    are_lines(&rt, "260 children", findings.as_slice(), &lines);
     Ok(())
 }
 
@@ -500,16 +484,10 @@ fn texts_that_are_no_toml(rt: HostRuntime) -> Result<(), Fail> {
 /// A text that is no TOML: the line and the column are those of the missing quote.
 #[test]
 fn missing_quote(rt: HostRuntime) -> Result<(), Fail> {
-    let findings = check(rt.alloc(), b"period = 5\nstrategy = \"one_for_one\n")?;
-    assert_eq!(rt; findings.len(), 1usize);
-    for finding in &findings {
-        let text = finding.text.as_slice();
-        assert!(rt; text.starts_with(b"E10: "), "{}", text.escape_ascii());
-        assert!(rt;
-            text.windows(6).any(|word| word == b"line 2".as_slice()),
-            "{}",
-            text.escape_ascii()
-        );
-    }
+    let text = found_in(rt.alloc(), b"period = 5\nstrategy = \"one_for_one\n")?;
+    let text = text.as_slice();
+    holds_of(&rt, text, text.starts_with(b"E10: "));
+    let mut words = text.windows(6);
+    holds_of(&rt, text, words.any(|word| word == b"line 2".as_slice()));
     Ok(())
 }

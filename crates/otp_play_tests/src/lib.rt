@@ -7,6 +7,8 @@
 #[cfg(test)]
 mod checking;
 #[cfg(test)]
+mod fixtures;
+#[cfg(test)]
 mod limits;
 #[cfg(test)]
 mod trying;

@@ -1,5 +1,6 @@
 //! What no clause says: what is printed of trees whose limits were worked out by hand, and that all is played.
 
+use crate::fixtures::same;
 use otp_file::read_tree;
 use otp_limits::{find_limits, write_table, write_tree_limits};
 use otp_reason::Name;
@@ -22,7 +23,7 @@ fn prints(
     };
     let mut text = Vec::new(alloc);
     write_table(alloc, costs.as_slice(), &mut text)?;
-    assert_eq!(rt; text.as_slice(), printed.as_bytes());
+    same(rt, "the table", text.as_slice(), printed.as_bytes());
     Ok(())
 }
 
@@ -82,6 +83,6 @@ fn long_paths(rt: HostRuntime) -> Result<(), Fail> {
     let Ok(()) = write_tree_limits(alloc, &tree, &mut text) else {
         return Err(Fail::from("limits that are found"));
     };
-    assert_eq!(rt; text.as_slice(), DEEP.as_bytes());
+    same(&rt, "the limits", text.as_slice(), DEEP.as_bytes());
     Ok(())
 }

@@ -1,5 +1,6 @@
 //! What no clause says: the words of scripts and of what is told, and that runs succeed.
 
+use crate::fixtures::same;
 use otp_file::read_tree;
 use otp_reason::{Name, Reason, Text};
 use otp_sim::Counted;
@@ -55,8 +56,8 @@ fn shows_on(
     let mut output = Counted::new(Vec::new(alloc));
     let ended = try_tree(alloc, tree, writer, shows, &mut input, &mut output);
     let text = output.into_device();
-    assert_eq!(rt; text.as_slice(), told.as_bytes());
-    assert_eq!(rt; ended, end);
+    same(rt, "what is told", text.as_slice(), told.as_bytes());
+    same(rt, "the end", ended, end);
     Ok(())
 }
 
@@ -585,20 +586,23 @@ unused: hang db (line 1)\nunused: hang db (line 2)\n"
     Ok(())
 }
 
+/// The step that a line says.
+fn is_step(rt: &impl Abort, line: &[u8], when: When, action: Action<'_>) -> Result<(), Fail> {
+    let step = read_step(line).map_err(|_| "a line")?;
+    same(rt, "when it comes", step.when, when);
+    same(rt, "what it does", step.action, action);
+    Ok(())
+}
+
 /// Each word of a script.
 #[test]
 fn words(rt: HostRuntime) -> Result<(), Fail> {
     let db = Name::new(b"db").ok_or("a name")?;
     let boom = Text::new(b"boom").ok_or("a text")?;
-    let step = read_step(b"  at 2m exit #3 error:boom ").map_err(|_| "a line")?;
-    assert_eq!(rt; step.when, When::At(120_000));
-    assert_eq!(rt;
-        step.action,
-        Action::Exit(Child::Numbered(3), Reason::Error(boom))
-    );
-    let step = read_step(b"+250ms ignore db").map_err(|_| "a line")?;
-    assert_eq!(rt; step.when, When::After(250));
-    assert_eq!(rt; step.action, Action::Start(db, NextStart::Ignore));
+    let exit = Action::Exit(Child::Numbered(3), Reason::Error(boom));
+    is_step(&rt, b"  at 2m exit #3 error:boom ", When::At(120_000), exit)?;
+    let start = Action::Start(db, NextStart::Ignore);
+    is_step(&rt, b"+250ms ignore db", When::After(250), start)?;
     let refused: [(&[u8], ScriptFault); 30] = [
         (b"at soon", ScriptFault::BadTime),
         (b"at 05s", ScriptFault::BadTime),
@@ -641,7 +645,8 @@ fn words(rt: HostRuntime) -> Result<(), Fail> {
         (b"crash # db", ScriptFault::MissingChild),
     ];
     for (line, fault) in refused {
-        assert_eq!(rt; read_step(line), Err(fault));
+        let told = (line, read_step(line));
+        same(&rt, "what is read", told, (line, Err(fault)));
         assert!(rt; !fault.text().is_empty());
     }
     Ok(())

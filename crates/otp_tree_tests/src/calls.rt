@@ -3,6 +3,7 @@ ghost use Rattle.std.specs.Prelude.{◌≡◌, ◌<◌, ◌≤◌, false, length
 ghost use Rattle.otp_run.specs.Rule.{all_parts};
 
 use crate::drafts::Draft;
+use crate::fixtures::same;
 use otp_bridge::BoxedSubsystem;
 use otp_job::{Body, Job, TableNo, Told, Turn};
 use otp_reason::{Name, Note, Reason, Started, Text};
@@ -268,13 +269,15 @@ impl Leader<Fragile, BoxedSubsystem> for Adder {
 // What became of it: `y` had the fifth number (the call itself had one), there were two children of `sub`, and one after its restart; `x` was
 // there already, and its second body came back.
 fn check<R: Abort>(rt: &R, leader: &Adder) {
-    assert_eq!(rt; leader.unsent, 11);
-    assert_eq!(rt; leader.added, 5);
-    assert_eq!(rt; (leader.listed, leader.listed_again), (2, 1));
+    same(rt, "the calls that weren't sent", leader.unsent, 11);
+    same(rt, "the number of y", leader.added, 5);
+    let listed = (leader.listed, leader.listed_again);
+    same(rt, "the children that were listed", listed, (2, 1));
     let there = matches!(leader.refused, Some(CallFault::AlreadyStarted(_)));
     assert!(rt; there);
-    assert_eq!(rt; leader.bodies_back, 1);
-    assert_eq!(rt; leader.end, Some(Note::Exit(1, Reason::Shutdown)));
+    same(rt, "the bodies that came back", leader.bodies_back, 1);
+    let end = Note::Exit(1, Reason::Shutdown);
+    same(rt, "the root's end", leader.end, Some(end));
 }
 
 // Whether it is the cause of an end by one restart, where none is borne: one time shows it.
@@ -288,7 +291,7 @@ fn is_one_too_many(cause: &Cause) -> bool {
 // The root has what shows why `sub` ended: it gave up after the crash, and the next `sub` was asked to stop.
 fn check_told<R: Abort>(rt: &R, root: &TableReport) {
     let ends = root.ends_told.as_slice();
-    assert_eq!(rt; ends.len(), 2);
+    same(rt, "the ends that were told", ends.len(), 2);
     let gave_up = match ends.first() {
         Some(told) => is_one_too_many(&told.end.end().cause),
         None => false,

@@ -3,6 +3,7 @@ ghost use Rattle.std.specs.Prelude.{◌≡◌, ◌<◌, ◌≤◌, false, length
 ghost use Rattle.otp_run.specs.Rule.{all_parts};
 
 use crate::drafts::Draft;
+use crate::fixtures::same;
 use otp_bridge::BoxedSubsystem;
 use otp_job::{Job, Told, Turn};
 use otp_reason::{Note, Reason, Started};
@@ -100,20 +101,21 @@ fn close_full<R: Threads + Wait + Abort + Sync>(
 }
 
 fn check_open<R: Abort>(rt: &R, report: &Report<Steady, BoxedSubsystem>) {
-    assert_eq!(rt; report.tables.len(), MAX_TABLES);
+    same(rt, "the tables", report.tables.len(), MAX_TABLES);
     assert!(rt; report.live > 0);
-    assert_eq!(rt; report.begun, report.ended.saturating_add(report.live));
+    let counted = report.ended.saturating_add(report.live);
+    same(rt, "the processes that began", report.begun, counted);
     check_accounts(rt, report);
 }
 
 // Each start that was sent began a process, and so did the root. Each end was taken or is left, and the rest is live.
 fn check_accounts<R: Abort>(rt: &R, report: &Report<Steady, BoxedSubsystem>) {
-    assert_eq!(rt;
-        report.begun.saturating_add(count_unsent(report)),
-        count_starts(report).saturating_add(1)
-    );
-    assert_eq!(rt; report.ended, count_ends(report));
-    assert_eq!(rt; report.processes.len() as u64, report.live);
+    let started = report.begun.saturating_add(count_unsent(report));
+    let wanted = count_starts(report).saturating_add(1);
+    same(rt, "the starts", started, wanted);
+    same(rt, "the ends", report.ended, count_ends(report));
+    let left = report.processes.len() as u64;
+    same(rt, "the processes that are left", left, report.live);
 }
 
 // How many children were started, by all supervisors.
@@ -234,26 +236,31 @@ fn a_report_counts_starts_events_and_processes(rt: HostRuntime) -> Result<(), Fa
 
 // What the report tells of them: opened, three starts and three answers, and the stop with three ends.
 fn check_small<R: Abort>(rt: &R, report: &Report<Steady, BoxedSubsystem>) {
-    assert_eq!(rt; report.tables.len(), 1);
-    let table = &report.tables[0];
-    assert_eq!(rt;
-        (table.starts(), table.restarts(), table.events()),
-        (3, 0, 8)
-    );
-    assert_eq!(rt; table.end(), Some(Reason::Shutdown));
-    assert_eq!(rt; (report.begun, report.ended, report.live), (4, 4, 0));
-    // It took all, and nobody took what the root told: that it was up, and its end.
-    assert_eq!(rt; (table.left.len(), table.unsent), (0, 0));
-    let last = report.last.as_slice();
-    assert!(rt;
-        matches!(
-            last,
-            [
-                Item::Note(Note::Up(1)),
-                Item::Note(Note::Exit(1, Reason::Shutdown))
-            ]
-        )
-    );
+    assert!(rt; report.tables.len() == 1);
+    check_small_root(rt, &report.tables[0]);
+    let counted = (report.begun, report.ended, report.live);
+    same(rt, "the processes", counted, (4, 4, 0));
+    // Nobody took what the root told: that it was up, and its end.
+    let end = Note::Exit(1, Reason::Shutdown);
+    let told = [Item::Note(Note::Up(1)), Item::Note(end)];
+    same(rt, "what is left", report.last.as_slice(), told.as_slice());
+}
+
+// It took all.
+fn check_small_root(rt: &impl Abort, table: &TableReport) {
+    let counted = (table.starts(), table.restarts(), table.events());
+    same(rt, "the starts and events", counted, (3, 0, 8));
+    same(rt, "its end", table.end(), Some(Reason::Shutdown));
+    let left = (table.left.len(), table.unsent);
+    same(rt, "what it left", left, (0, 0));
+}
+
+// The supervisor's turn started the first worker, and the second turn was the worker's.
+fn has_answer_left<R: Abort>(rt: &R, report: &Report<Steady, BoxedSubsystem>) -> Result<(), Fail> {
+    let root = report.tables.first().ok_or("a supervisor")?;
+    let up = [Item::Note(Note::Up(2))];
+    same(rt, "what it left", root.left.as_slice(), up.as_slice());
+    Ok(())
 }
 
 #[test]
@@ -265,13 +272,8 @@ fn trees_that_are_closed_early_tell_what_is_left(rt: HostRuntime) -> Result<(), 
             Ok(report) => {
                 check_accounts(&rt, &report);
                 left = left.saturating_add(count_left(&report));
-                // The supervisor's turn started the first worker, and the second turn was the worker's.
                 if turns == 1 {
-                    let Some(root) = report.tables.get(0) else {
-                        return Err("no supervisor".into());
-                    };
-                    let first = root.left.as_slice();
-                    assert!(rt; matches!(first, [Item::Note(Note::Up(2))]));
+                    has_answer_left(&rt, &report)?;
                 }
             }
             Err(_) => return Err("the tree was not closed".into()),
@@ -309,6 +311,16 @@ impl Leader<Steady, BoxedSubsystem> for CallsLate {
     }
 }
 
+// What the report of such a run tells.
+fn has_call_left<R: Abort>(rt: &R, report: &Report<Steady, BoxedSubsystem>) -> Result<(), Fail> {
+    let root = report.tables.first().ok_or("a supervisor")?;
+    let left = root.left.as_slice();
+    assert!(rt; matches!(left, [Item::Call(_, Call::WhichChildren)]));
+    let told = (report.last.len(), report.live);
+    same(rt, "what is left and live", told, (0, 4));
+    Ok(())
+}
+
 #[test]
 fn a_call_that_nobody_took_is_left(rt: HostRuntime) -> Result<(), Fail> {
     let plans = small_plans(rt.alloc())?;
@@ -321,13 +333,7 @@ fn a_call_that_nobody_took_is_left(rt: HostRuntime) -> Result<(), Fail> {
             },
         ) => {
             assert!(rt; leader.is_up);
-            let Some(root) = report.tables.get(0) else {
-                return Err("no supervisor".into());
-            };
-            let left = root.left.as_slice();
-            assert!(rt; matches!(left, [Item::Call(_, Call::WhichChildren)]));
-            assert_eq!(rt; (report.last.len(), report.live), (0, 4));
-            Ok(())
+            has_call_left(&rt, &report)
         }
         _ => Err("the tree was not closed".into()),
     }
@@ -371,9 +377,18 @@ fn a_gate_is_told_how_far_a_run_is(rt: HostRuntime) -> Result<(), Fail> {
     };
     let ran = run_tree(&rt, rt.alloc(), plans, 2, &listener, 60_000);
     assert!(rt; ran.is_ok());
-    assert_eq!(rt; listener.calls.load(Ordering::SeqCst), 4);
-    assert_eq!(rt; listener.made.load(Ordering::SeqCst), 120_000);
-    assert_eq!(rt; listener.of.load(Ordering::SeqCst), 120_000);
-    assert_eq!(rt; listener.live.load(Ordering::SeqCst), 3);
+    has_heard(&rt, &listener);
     Ok(())
+}
+
+// It was called four times, the last time at the end, and saw three children.
+fn has_heard(rt: &impl Abort, listener: &Listener) {
+    for (what, told, wanted) in [
+        ("the calls", &listener.calls, 4),
+        ("the turns that were made", &listener.made, 120_000),
+        ("the turns in all", &listener.of, 120_000),
+        ("the children", &listener.live, 3),
+    ] {
+        same(rt, what, told.load(Ordering::SeqCst), wanted);
+    }
 }

@@ -10,6 +10,8 @@ mod closes;
 #[cfg(test)]
 mod drafts;
 #[cfg(test)]
+mod fixtures;
+#[cfg(test)]
 mod meetings;
 #[cfg(test)]
 mod rests;

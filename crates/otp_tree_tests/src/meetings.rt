@@ -1,6 +1,7 @@
 // Two jobs that end well only where they run at once: several threads run them so, and one thread can't.
 ghost use Rattle.std.specs.Prelude.{◌≡◌, false, length, IfOk};
 
+use crate::fixtures::same;
 use otp_bridge::BoxedSubsystem;
 use otp_job::{Body, Job, Told, Turn};
 use otp_reason::{Name, Note, Reason, Started, Text};
@@ -149,7 +150,7 @@ fn several_threads_run_two_jobs_at_once(rt: HostRuntime) -> Result<(), Fail> {
     let started: Counter = Arc::new(rt.alloc(), AtomicU64::new(0))?;
     let plans = plans(rt.alloc(), &started, 10_000_000)?;
     match run_tree(&rt, rt.alloc(), plans, 3, &Doors { started }, 20_000) {
-        Ok(report) => assert_eq!(rt; ends_in(&report), (2, 0)),
+        Ok(report) => same(&rt, "the ends", ends_in(&report), (2, 0)),
         Err(_) => return Err("the tree was not closed".into()),
     }
     Ok(())
@@ -161,7 +162,7 @@ fn one_thread_runs_one_job_at_a_time(rt: HostRuntime) -> Result<(), Fail> {
     let started: Counter = Arc::new(rt.alloc(), AtomicU64::new(0))?;
     let plans = plans(rt.alloc(), &started, 1000)?;
     match run_tree(&rt, rt.alloc(), plans, 1, &Still, 1000) {
-        Ok(report) => assert_eq!(rt; ends_in(&report), (1, 1)),
+        Ok(report) => same(&rt, "the ends", ends_in(&report), (1, 1)),
         Err(_) => return Err("the tree was not closed".into()),
     }
     Ok(())

@@ -3,6 +3,7 @@ ghost use Rattle.std.specs.Prelude.{◌≡◌, ◌<◌, ◌≤◌, true, length,
 ghost use Rattle.otp_run.specs.Rule.{all_parts};
 
 use crate::drafts::Draft;
+use crate::fixtures::same;
 use otp_bridge::BoxedSubsystem;
 use otp_job::{Job, Told, Turn};
 use otp_reason::{Name, Note, Reason, Started, Text};
@@ -244,7 +245,8 @@ impl Leader<Guest, BoxedSubsystem> for Disturber {
 
 // How many of the reports' numbers: 3 starts at the opening, one after the crash, one of the call, and of `sub` itself.
 fn check<R: Abort>(rt: &R, report: &Report<Guest, BoxedSubsystem>) {
-    assert_eq!(rt; (report.begun, report.live), (7, 0));
+    let counted = (report.begun, report.live);
+    same(rt, "what began and is live", counted, (7, 0));
     assert!(rt; report.processes.is_empty());
     assert!(rt; report.find_mismatch().is_none());
 }
@@ -278,8 +280,10 @@ fn disturb_with<R: Threads + Wait + Abort + Sync>(
         Err(_why) => return Err(AllocError.into()),
     };
     assert!(rt; leader.is_terminated && leader.is_restarted);
-    assert_eq!(rt; leader.starts.load(Ordering::SeqCst), 5);
-    assert_eq!(rt; leader.end, Some(Note::Exit(1, Reason::Shutdown)));
+    let starts = leader.starts.load(Ordering::SeqCst);
+    same(rt, "the starts of workers", starts, 5);
+    let end = Note::Exit(1, Reason::Shutdown);
+    same(rt, "the root's end", leader.end, Some(end));
     match report {
         Ok(report) => check(rt, &report),
         Err(_why) => return Err("the tree was not closed".into()),

@@ -3,6 +3,7 @@ ghost use Rattle.std.specs.Prelude.{◌≡◌, ◌<◌, ◌≤◌, false, length
 ghost use Rattle.otp_run.specs.Rule.{all_parts};
 
 use crate::drafts::Draft;
+use crate::fixtures::same;
 use otp_bridge::BoxedSubsystem;
 use otp_inbox::InboxNaming;
 use otp_job::{Body, Job, Told, Turn};
@@ -12,7 +13,7 @@ use otp_run::RunNaming;
 use otp_signals::WordsNaming;
 use otp_tree::{
     Client, CloseFault, Gate, Hand, Leader, Led, Millis, Report, Round, Session, System,
-    SystemFault, TablePlan, Unclosed, lead, run_tree, with_system,
+    SystemFault, TablePlan, TableReport, Unclosed, lead, run_tree, with_system,
 };
 use std::alloc::{AllocError, Global};
 use std::process::Abort;
@@ -132,9 +133,11 @@ impl UpAndDown {
 
     // The tree was up, each worker started once and the one that crashed once more, and it ended as it was asked to.
     fn check<R: Abort>(&self, rt: &R) {
-        assert_eq!(rt; self.up, Some(Note::Up(1)));
-        assert_eq!(rt; self.end, Some(Note::Exit(1, Reason::Shutdown)));
-        assert_eq!(rt; self.starts.load(Ordering::SeqCst), self.wanted);
+        same(rt, "that it was up", self.up, Some(Note::Up(1)));
+        let end = Note::Exit(1, Reason::Shutdown);
+        same(rt, "its end", self.end, Some(end));
+        let started = self.starts.load(Ordering::SeqCst);
+        same(rt, "the starts of workers", started, self.wanted);
     }
 }
 
@@ -170,7 +173,8 @@ fn live_with<R: Threads + Wait + Abort + Sync>(
     match report {
         Ok(report) => {
             check_ended(rt, &report);
-            assert_eq!(rt; (report.heard, report.held, report.last.len()), (1, 0, 0));
+            let told = (report.heard, report.held, report.last.len());
+            same(rt, "what was told", told, (1, 0, 0));
         }
         Err(_why) => return Err("the tree was not closed".into()),
     }
@@ -180,25 +184,28 @@ fn live_with<R: Threads + Wait + Abort + Sync>(
 // What the tree is once all of it has ended: two children of the root and two of `sub` were started, one of these once
 // more, and nobody has anything left.
 fn check_ended<R: Abort>(rt: &R, report: &Report<Worker, BoxedSubsystem>) {
-    assert_eq!(rt; report.tables.len(), 2);
-    let (root, sub) = (&report.tables[0], &report.tables[1]);
-    assert_eq!(rt;
-        (root.starts(), root.restarts(), root.end()),
-        (2, 0, Some(Reason::Shutdown))
-    );
-    assert_eq!(rt;
-        (sub.starts(), sub.restarts(), sub.end()),
-        (3, 1, Some(Reason::Shutdown))
-    );
-    assert_eq!(rt; (report.live, report.begun, report.ended), (0, 6, 6));
+    assert!(rt; report.tables.len() == 2);
+    was_table(rt, "the root", &report.tables[0], 2, 0);
+    was_table(rt, "sub", &report.tables[1], 3, 1);
+    let counted = (report.live, report.begun, report.ended);
+    same(rt, "the processes", counted, (0, 6, 6));
     assert!(rt; report.processes.is_empty() && report.find_mismatch().is_none());
+}
+
+// A supervisor that started and restarted so many children, and was asked to end.
+fn was_table(rt: &impl Abort, what: &str, table: &TableReport, starts: u64, restarts: u64) {
+    let told = (table.starts(), table.restarts(), table.end());
+    let wanted = (starts, restarts, Some(Reason::Shutdown));
+    same(rt, what, told, wanted);
 }
 
 // What any report says, however far the tree came.
 fn check_ledger<R: Abort>(rt: &R, report: &Report<Worker, BoxedSubsystem>) {
-    assert_eq!(rt; report.tables.len(), 2);
-    assert_eq!(rt; report.begun, report.ended.saturating_add(report.live));
-    assert_eq!(rt; report.processes.len() as u64, report.live);
+    same(rt, "the tables", report.tables.len(), 2);
+    let counted = report.ended.saturating_add(report.live);
+    same(rt, "the processes that began", report.begun, counted);
+    let left = report.processes.len() as u64;
+    same(rt, "the processes that are left", left, report.live);
     assert!(rt; report.find_mismatch().is_none());
 }
 
@@ -228,8 +235,10 @@ fn run_with<R: Threads + Wait + Abort + Sync>(
     match run_tree(rt, alloc, short, hands, &Still, 1) {
         Ok(report) => {
             assert!(rt; report.live > 0);
-            assert_eq!(rt; report.begun, report.ended + report.live);
-            assert_eq!(rt; report.processes.len() as u64, report.live);
+            let counted = report.ended + report.live;
+            same(rt, "the processes that began", report.begun, counted);
+            let left = report.processes.len() as u64;
+            same(rt, "the processes that are left", left, report.live);
         }
         Err(_) => return Err("the tree was not closed".into()),
     }
@@ -307,8 +316,10 @@ fn each_hand_has_a_thread_of_its_own(rt: HostRuntime) -> Result<(), Fail> {
         met: AtomicU64::new(0),
     };
     let led = lead(&rt, rt.alloc(), plans, 2, &meeting, 10, Once { rounds: 0 });
-    assert_eq!(rt; led.map(|led| led.leader.rounds), Ok(2));
-    assert_eq!(rt; meeting.met.load(Ordering::SeqCst), 2);
+    let rounds = led.map(|led| led.leader.rounds);
+    same(&rt, "the rounds", rounds, Ok(2));
+    let met = meeting.met.load(Ordering::SeqCst);
+    same(&rt, "the hands that met", met, 2);
     Ok(())
 }
 
@@ -321,8 +332,9 @@ fn a_refused_table_is_told_by_its_number(rt: HostRuntime) -> Result<(), Fail> {
         plan.bodies.pop();
     }
     let led = lead(&rt, rt.alloc(), plans, 2, &Still, 10, Once { rounds: 0 });
+    let rounds = led.map(|led| led.leader.rounds);
     let fault = SystemFault::NoBody { table: 1 };
-    assert_eq!(rt; led.map(|led| led.leader.rounds), Err(fault));
+    same(&rt, "the fault", rounds, Err(fault));
     Ok(())
 }
 
@@ -344,7 +356,8 @@ impl<R: Wait + Abort> Session<R, Worker, BoxedSubsystem> for Alone {
     ) -> UpAndDown {
         let (mut hands, mut client) = (hands, client);
         let mut leader = self.leader;
-        assert_eq!(rt; (system.tables(), hands.len()), (2, 2));
+        let opened = (system.tables(), hands.len());
+        same(rt, "the tables and hands", opened, (2, 2));
         assert!(rt; client.is_first());
         lead_alone(rt, &system, &mut hands, &mut client, &mut leader);
         leader
@@ -407,37 +420,56 @@ impl<R: Wait + Abort> Session<R, Worker, BoxedSubsystem> for Closing {
         lead_alone(rt, &system, &mut hands, &mut client, &mut leader);
         leader.check(rt);
         let away = hands.pop()?;
-        let back = match system.close(rt, self.alloc, hands, client) {
-            Err(CloseFault::Missing(back) | CloseFault::OutOfMemory(back)) => back,
-            _ => panic!(rt; "a hand is away"),
-        };
-        let Unclosed {
-            system,
-            mut hands,
-            client,
-        } = back;
-        assert_eq!(rt;
-            (system.tables(), hands.len(), client.is_first()),
-            (2, 1, true)
-        );
-        if hands.push(away).is_err() {
+        let mut back = close_without(rt, self.alloc, system, hands, client);
+        if back.hands.push(away).is_err() {
             return None;
         }
-        // Under a refused growth all comes back, and the tree can be closed again.
-        let back = match system.close(rt, self.alloc, hands, client) {
-            Ok(report) => return Some(report),
-            Err(CloseFault::OutOfMemory(back)) => back,
-            Err(_) => panic!(rt; "all hands are here"),
-        };
-        let Unclosed {
-            system,
-            hands,
-            client,
-        } = back;
-        match system.close(rt, self.alloc, hands, client) {
-            Ok(report) => Some(report),
-            Err(_) => panic!(rt; "there is memory now"),
-        }
+        Some(close_with_all(rt, self.alloc, back))
+    }
+}
+
+// Closes the tree without one of its two hands: all that is there comes back.
+fn close_without<N: WordsNaming + InboxNaming + RunNaming, R: Wait + Abort>(
+    rt: &R,
+    alloc: Global,
+    system: System<N, Worker, BoxedSubsystem>,
+    hands: Vec<Hand<N, Worker, BoxedSubsystem>>,
+    client: Client<N, Body<Worker, BoxedSubsystem>>,
+) -> Unclosed<N, Worker, BoxedSubsystem> {
+    let back = match system.close(rt, alloc, hands, client) {
+        Err(CloseFault::Missing(back) | CloseFault::OutOfMemory(back)) => back,
+        _ => panic!(rt; "a hand is away"),
+    };
+    same(rt, "the tables", back.system.tables(), 2);
+    same(rt, "the hands", back.hands.len(), 1);
+    assert!(rt; back.client.is_first());
+    back
+}
+
+// Closes the tree. Under a refused growth all comes back, and the tree can be closed again.
+fn close_with_all<N: WordsNaming + InboxNaming + RunNaming, R: Wait + Abort>(
+    rt: &R,
+    alloc: Global,
+    back: Unclosed<N, Worker, BoxedSubsystem>,
+) -> Report<Worker, BoxedSubsystem> {
+    let Unclosed {
+        system,
+        hands,
+        client,
+    } = back;
+    let back = match system.close(rt, alloc, hands, client) {
+        Ok(report) => return report,
+        Err(CloseFault::OutOfMemory(back)) => back,
+        Err(_) => panic!(rt; "all hands are here"),
+    };
+    let Unclosed {
+        system,
+        hands,
+        client,
+    } = back;
+    match system.close(rt, alloc, hands, client) {
+        Ok(report) => report,
+        Err(_) => panic!(rt; "there is memory now"),
     }
 }
 
@@ -486,6 +518,18 @@ fn may_follow(last: u64, now: CountsNow) -> bool {
     is_one && last <= now.specs
 }
 
+// A hand reads these counts of a supervisor.
+fn reads<N: WordsNaming + InboxNaming + RunNaming, R: Abort>(
+    rt: &R,
+    system: &System<N, Worker, BoxedSubsystem>,
+    hand: &mut Hand<N, Worker, BoxedSubsystem>,
+    table: usize,
+    wanted: Option<CountsNow>,
+) {
+    let told = (table, system.counts(hand, table));
+    same(rt, "the counts of a supervisor", told, (table, wanted));
+}
+
 // Serves by one hand, while another reads after each turn; and reads once all is up and `c` was restarted.
 fn count_along<N: WordsNaming + InboxNaming + RunNaming, R: Wait + Abort>(
     rt: &R,
@@ -493,12 +537,25 @@ fn count_along<N: WordsNaming + InboxNaming + RunNaming, R: Wait + Abort>(
     serving: &mut Hand<N, Worker, BoxedSubsystem>,
     reading: &mut Hand<N, Worker, BoxedSubsystem>,
 ) {
-    assert_eq!(rt; system.counts(reading, 0), counted(0, 0, 0, 0));
-    assert_eq!(rt; system.counts(reading, 1), counted(0, 0, 0, 0));
-    assert_eq!(rt; system.counts(reading, 2), None);
+    reads(rt, system, reading, 0, counted(0, 0, 0, 0));
+    reads(rt, system, reading, 1, counted(0, 0, 0, 0));
+    reads(rt, system, reading, 2, None);
     // The root is opened, and starts its first child.
     system.turn(rt, serving, 0);
-    assert_eq!(rt; system.counts(reading, 0), counted(2, 0, 1, 1));
+    reads(rt, system, reading, 0, counted(2, 0, 1, 1));
+    count_turns(rt, system, serving, reading);
+    reads(rt, system, reading, 0, counted(2, 2, 1, 1));
+    reads(rt, system, reading, 1, counted(2, 2, 0, 2));
+    reads(rt, system, serving, 1, counted(2, 2, 0, 2));
+}
+
+// Reads after each of many turns.
+fn count_turns<N: WordsNaming + InboxNaming + RunNaming, R: Wait + Abort>(
+    rt: &R,
+    system: &System<N, Worker, BoxedSubsystem>,
+    serving: &mut Hand<N, Worker, BoxedSubsystem>,
+    reading: &mut Hand<N, Worker, BoxedSubsystem>,
+) {
     let mut last = 0;
     for _ in 0..1000 {
         system.turn(rt, serving, 0);
@@ -510,9 +567,6 @@ fn count_along<N: WordsNaming + InboxNaming + RunNaming, R: Wait + Abort>(
             None => assert!(rt; false),
         }
     }
-    assert_eq!(rt; system.counts(reading, 0), counted(2, 2, 1, 1));
-    assert_eq!(rt; system.counts(reading, 1), counted(2, 2, 0, 2));
-    assert_eq!(rt; system.counts(serving, 1), counted(2, 2, 0, 2));
 }
 
 // Counts by two hands.
@@ -543,7 +597,8 @@ fn counts_are_read_while_the_tree_restarts(rt: HostRuntime) -> Result<(), Fail> 
     let starts: Starts = Arc::new(rt.alloc(), AtomicU64::new(0))?;
     let plans = plans(rt.alloc(), &starts)?;
     let counted = with_system(&rt, rt.alloc(), plans, 2, Counting);
-    assert_eq!(rt; counted, Ok(true));
-    assert_eq!(rt; starts.load(Ordering::SeqCst), WORKERS + 1);
+    same(&rt, "that counts were read", counted, Ok(true));
+    let started = starts.load(Ordering::SeqCst);
+    same(&rt, "the starts of workers", started, WORKERS + 1);
     Ok(())
 }

@@ -3,6 +3,7 @@ ghost use Rattle.std.specs.Prelude.{◌≡◌, ◌<◌, ◌≤◌, true, length,
 ghost use Rattle.otp_run.specs.Rule.{all_parts};
 
 use crate::drafts::Draft;
+use crate::fixtures::same;
 use otp_bridge::BoxedSubsystem;
 use otp_job::{Job, Told, Turn};
 use otp_reason::{Note, Reason, Started};
@@ -157,8 +158,10 @@ impl Leader<Waiter, BoxedSubsystem> for Idler {
 fn check<R: Abort>(rt: &R, report: &Report<Waiter, BoxedSubsystem>, stops: bool) {
     let processes = WORKERS.saturating_add(2);
     let live = if stops { 0 } else { processes };
-    assert_eq!(rt; (report.begun, report.live), (processes, live));
-    assert_eq!(rt; report.processes.len() as u64, live);
+    let counted = (report.begun, report.live);
+    same(rt, "what began and is live", counted, (processes, live));
+    let left = report.processes.len() as u64;
+    same(rt, "the processes that are left", left, live);
     assert!(rt; report.find_mismatch().is_none());
 }
 
@@ -180,10 +183,11 @@ fn idle_with<R: Threads + Wait + Abort + Sync>(
         Err(_why) => return Err(AllocError.into()),
     };
     // Each worker had one turn, however long it waited, and one more when it was asked to shut down.
-    assert_eq!(rt; starts.load(Ordering::SeqCst), WORKERS);
-    assert_eq!(rt; leader.idle_turns, WORKERS);
+    same(rt, "the starts", starts.load(Ordering::SeqCst), WORKERS);
+    same(rt, "the turns while idle", leader.idle_turns, WORKERS);
     let told = if stops { WORKERS } else { 0 };
-    assert_eq!(rt; turns.load(Ordering::SeqCst), WORKERS.saturating_add(told));
+    let wanted = WORKERS.saturating_add(told);
+    same(rt, "the turns", turns.load(Ordering::SeqCst), wanted);
     match report {
         Ok(report) => check(rt, &report, stops),
         Err(_why) => return Err("the tree was not closed".into()),
