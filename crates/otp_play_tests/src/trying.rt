@@ -587,7 +587,7 @@ unused: hang db (line 1)\nunused: hang db (line 2)\n"
 }
 
 /// The step that a line says.
-fn is_step(rt: &impl Abort, line: &[u8], when: When, action: Action<'_>) -> Result<(), Fail> {
+fn is_step(rt: &impl Abort, line: &[u8], when: When, action: Action) -> Result<(), Fail> {
     let step = read_step(line).map_err(|_| "a line")?;
     same(rt, "when it comes", step.when, when);
     same(rt, "what it does", step.action, action);
