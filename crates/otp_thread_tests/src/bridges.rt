@@ -1,4 +1,5 @@
 // Which calls a subsystem gets.
+use crate::fixtures::same;
 use crate::jobs::run;
 use crate::probes::{Calls, bridge_body};
 use otp_bridge::BridgePhase;
@@ -33,16 +34,17 @@ fn each_end_of_a_bridge(rt: HostRuntime) -> Result<(), Fail> {
         let calls: Calls = Arc::new(alloc, AtomicU64::new(0))?;
         let body = bridge_body(alloc, &calls, ended)?;
         let (note, body) = run(&rt, alloc, body, &[Signal::None, signal])?;
-        assert_eq!(rt; note, Some(Note::Exit(7, reason)));
-        assert_eq!(rt; calls.load(Ordering::SeqCst), wanted);
+        same(&rt, "its note", note, Some(Note::Exit(7, reason)));
+        same(&rt, "its calls", calls.load(Ordering::SeqCst), wanted);
         let Some(Body::Bridge(bridge)) = body else {
             panic!(&rt; "the bridge came home");
         };
-        assert_eq!(rt; bridge.phase(), phase);
+        same(&rt, "its phase", bridge.phase(), phase);
         // A second start calls `init` again.
         let (note, _) = run(&rt, alloc, Body::Bridge(bridge), &[Signal::None])?;
-        assert_eq!(rt; note, Some(Note::Up(7)));
-        assert_eq!(rt; calls.load(Ordering::SeqCst), wanted * 10 + 1);
+        same(&rt, "the note of a second start", note, Some(Note::Up(7)));
+        let called = calls.load(Ordering::SeqCst);
+        same(&rt, "the calls of both", called, wanted * 10 + 1);
     }
     Ok(())
 }

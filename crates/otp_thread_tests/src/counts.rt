@@ -1,7 +1,9 @@
 ghost use Rattle.std.specs.Prelude.{◌≡◌, ◌≤◌};
 
+use crate::fixtures::same;
 use otp_counts::{CountsPass, Publisher};
 use otp_rules::CountsNow;
+use std::process::Abort;
 use std::test::*;
 use std::thread;
 use std::thread::Threads;
@@ -19,21 +21,29 @@ fn with_active(active: u64) -> CountsNow
     }
 }
 
+// A pass reads counts of which so many have a process.
+fn reads(rt: &impl Abort, pass: &mut CountsPass, active: u64)
+    requires { active ≤ 256 }
+    ensures { pass.new.word ≡ pass.old.word }
+{
+    same(rt, "the counts", pass.read(), with_active(active));
+}
+
 #[test]
 fn a_pass_reads_the_last(rt: HostRuntime) -> Result<(), Fail> {
     let mut publisher = Publisher::open(rt.alloc(), with_active(0))?;
     let mut pass = publisher.pass()?;
-    assert_eq!(rt; pass.read(), with_active(0));
+    reads(&rt, &mut pass, 0);
     publisher.publish(with_active(2));
     publisher.publish(with_active(1));
-    assert_eq!(rt; pass.read(), with_active(1));
+    reads(&rt, &mut pass, 1);
     let mut other = pass.split()?;
-    assert_eq!(rt; other.read(), with_active(1));
+    reads(&rt, &mut other, 1);
     // The pass's seat goes through the publisher's and back: it still reads afterwards.
     publisher.compare(&mut pass);
     publisher.publish(with_active(256));
-    assert_eq!(rt; pass.read(), with_active(256));
-    assert_eq!(rt; other.read(), with_active(256));
+    reads(&rt, &mut pass, 256);
+    reads(&rt, &mut other, 256);
     Ok(())
 }
 
@@ -46,7 +56,8 @@ fn each_count_has_its_place(rt: HostRuntime) -> Result<(), Fail> {
         workers: 256,
     };
     let mut publisher = Publisher::open(rt.alloc(), counts)?;
-    assert_eq!(rt; publisher.pass()?.read(), counts);
+    let mut pass = publisher.pass()?;
+    same(&rt, "the counts", pass.read(), counts);
     Ok(())
 }
 
@@ -90,6 +101,7 @@ fn others_read_while_one_publishes(rt: HostRuntime) -> Result<(), Fail> {
     let (mut publisher, first, second) = on_three_threads(&rt, publisher)?;
     assert!(rt; first);
     assert!(rt; second);
-    assert_eq!(rt; publisher.pass()?.read(), with_active(200));
+    let mut pass = publisher.pass()?;
+    reads(&rt, &mut pass, 200);
     Ok(())
 }

@@ -1,6 +1,7 @@
 // What no clause says: that calls succeed, that what a `take` finds is there, and that bodies come along.
 ghost use Rattle.std.specs.Prelude.{◌≡◌, ◌<◌};
 
+use crate::fixtures::same;
 use otp_inbox::{ALL_PARTS, COUNT_LIMIT, Inbox, InboxNaming, Mail, Sender, Taker, UnnamedInbox};
 use std::alloc::Global;
 use std::marker::Brand;
@@ -98,9 +99,9 @@ fn check<R: Abort>(rt: &R, next: &mut [u64; 2], letter: Boxed) {
     } = letter;
     assert!(rt; from < 2);
     let sender = from as usize;
-    assert_eq!(rt; next[sender], number);
+    same(rt, "the next of its sender", number, next[sender]);
     assert!(rt; number < EACH);
-    assert_eq!(rt; body.turn(), number + from * EACH);
+    same(rt, "its body", body.turn(), number + from * EACH);
     next[sender] = number + 1;
 }
 
@@ -112,7 +113,7 @@ fn take_some<N: InboxNaming, R: Wait + Abort>(
 ) -> (Taker<N, Head, Boxed>, [u64; 2]) {
     let mut next = [0; 2];
     for _ in rt.forever() {
-        assert_eq!(rt; taker.number(), inbox.number());
+        assert!(rt; taker.number() == inbox.number());
         if taker.taken_count() >= TAKEN {
             break;
         }
@@ -166,21 +167,21 @@ fn settle<N: InboxNaming, R: Wait + Abort>(
     mut next: [u64; 2],
     mut left: Vec<Boxed>,
 ) -> Result<(), Fail> {
-    assert_eq!(rt; first.number(), inbox.number());
-    assert_eq!(rt; second.number(), inbox.number());
-    assert_eq!(rt; taker.number(), inbox.number());
+    assert!(rt; first.number() == inbox.number());
+    assert!(rt; second.number() == inbox.number());
+    assert!(rt; taker.number() == inbox.number());
     inbox.join(&mut first, second);
     let (sent, taken) = (first.sent_count(), taker.taken_count());
-    assert_eq!(rt; first.parts(), ALL_PARTS);
+    assert!(rt; first.parts() == ALL_PARTS);
     assert!(rt; sent < COUNT_LIMIT);
     assert!(rt; taken <= sent);
     left.reserve((sent - taken) as usize)?;
     inbox.drain_into(rt, taker, first, &mut left);
-    assert_eq!(rt; left.len() as u64, 2 * EACH - TAKEN);
+    same(rt, "how many are left", left.len() as u64, 2 * EACH - TAKEN);
     for letter in left {
         check(rt, &mut next, letter);
     }
-    assert_eq!(rt; next, [EACH; 2]);
+    same(rt, "the next of each sender", next, [EACH; 2]);
     Ok(())
 }
 
@@ -201,10 +202,11 @@ fn refuse<N: InboxNaming, R: Wait + Abort>(
     // A `take` that always finds nothing fails here, as no clause can refuse it.
     for number in 0..EACH {
         let found = inbox.take(rt, &mut taker);
-        assert_eq!(rt; found.map(|letter| letter.number), Some(number));
+        let found = found.map(|letter| letter.number);
+        same(rt, "what was taken", found, Some(number));
     }
     assert!(rt; inbox.take(rt, &mut taker).is_none());
-    assert_eq!(rt; taker.taken_count(), EACH);
+    same(rt, "how many were taken", taker.taken_count(), EACH);
     Ok(())
 }
 
@@ -225,10 +227,10 @@ fn send_numbers<N: InboxNaming, R: Wait + Abort>(
             body: (),
         };
         if let Err(letter) = inbox.send(rt, sender, letter) {
-            assert_eq!(rt; letter.number, number);
-            assert_eq!(rt; sender.sent_count(), number);
+            same(rt, "what came back", letter.number, number);
+            same(rt, "how many were sent", sender.sent_count(), number);
             assert!(rt; inbox.send(rt, sender, letter).is_ok());
         }
-        assert_eq!(rt; sender.sent_count(), number + 1);
+        same(rt, "how many are sent", sender.sent_count(), number + 1);
     }
 }

@@ -1,6 +1,7 @@
 // Which calls a job gets in which turn.
 ghost use Rattle.std.specs.Prelude.{true};
 
+use crate::fixtures::same;
 use crate::probes::{AnyBody, AnyProcess, Calls, Pipe, Probe, worker_body};
 use otp_job::{After, Body, BoxedJob, Job, Process, ProcessPhase, TableNo, Told, Turn, one_turn};
 use otp_reason::{Note, Reason, Started};
@@ -28,18 +29,20 @@ pub fn run<R: Abort>(
         assert!(rt; process.is_runnable());
         match one_turn(process, *signal) {
             After::Again(process) | After::Waits(process) => {
-                assert_eq!(rt; process.number(), 7);
-                assert_eq!(rt; (process.slot(), process.table()), (3, 1));
+                same(rt, "its number", process.number(), 7);
+                let place = (process.slot(), process.table());
+                same(rt, "its slot and table", place, (3, 1));
                 last = None;
                 going = Some(process);
             }
             After::Begun(process, note) => {
-                assert_eq!(rt; process.phase(), ProcessPhase::Running);
+                let phase = process.phase();
+                same(rt, "its phase", phase, ProcessPhase::Running);
                 last = Some(note);
                 going = Some(process);
             }
             After::Done(end, spent) => {
-                assert_eq!(rt; spent.into_number(), 7);
+                same(rt, "the spent number", spent.into_number(), 7);
                 return Ok((Some(end.note), Some(end.body)));
             }
         }
@@ -57,7 +60,7 @@ fn first_turn_starts_and_a_later_kill_calls_nothing(rt: HostRuntime) -> Result<(
         worker_body(alloc, &calls, true, Started::Up)?,
         &[Signal::Kill],
     )?;
-    assert_eq!(rt; note, Some(Note::Up(7)));
+    same(&rt, "the note of a start", note, Some(Note::Up(7)));
     assert!(rt; body.is_none());
     let (note, body) = run(
         &rt,
@@ -65,9 +68,10 @@ fn first_turn_starts_and_a_later_kill_calls_nothing(rt: HostRuntime) -> Result<(
         worker_body(alloc, &calls, true, Started::Up)?,
         &[Signal::Kill, Signal::Kill],
     )?;
-    assert_eq!(rt; note, Some(Note::Exit(7, Reason::Killed)));
+    let killed = Some(Note::Exit(7, Reason::Killed));
+    same(&rt, "the note of a kill", note, killed);
     assert!(rt; body.is_some());
-    assert_eq!(rt; calls.load(Ordering::SeqCst), 11);
+    same(&rt, "the calls", calls.load(Ordering::SeqCst), 11);
     Ok(())
 }
 
@@ -88,9 +92,9 @@ fn trapping_job_is_told_once(rt: HostRuntime) -> Result<(), Fail> {
         ];
         let turns = if traps { 4 } else { 2 };
         let (note, body) = run(&rt, alloc, body, &signals[..turns])?;
-        assert_eq!(rt; note, end);
-        assert_eq!(rt; body.is_some(), !traps);
-        assert_eq!(rt; calls.load(Ordering::SeqCst), wanted);
+        same(&rt, "its note", note, end);
+        same(&rt, "whether it came home", body.is_some(), !traps);
+        same(&rt, "its calls", calls.load(Ordering::SeqCst), wanted);
     }
     Ok(())
 }
@@ -131,11 +135,21 @@ fn a_process_that_waits_has_news_of_a_shutdown_once(rt: HostRuntime) -> Result<(
                 return Err("it goes on".into());
             }
         };
-        assert!(rt; !process.has_news(Signal::None));
-        assert_eq!(rt; process.has_news(Signal::Shutdown), signal == Signal::None);
-        assert!(rt; process.has_news(Signal::Kill));
+        has_news(&rt, &process, signal == Signal::None);
     }
     Ok(())
+}
+
+// No news of nothing, always of a kill, and of a shutdown where that is wanted.
+fn has_news(rt: &impl Abort, process: &AnyProcess, wanted: bool) {
+    same(rt, "of nothing", process.has_news(Signal::None), false);
+    same(
+        rt,
+        "of a shutdown",
+        process.has_news(Signal::Shutdown),
+        wanted,
+    );
+    same(rt, "of a kill", process.has_news(Signal::Kill), true);
 }
 
 #[test]
@@ -155,7 +169,7 @@ fn refused_start_brings_the_body_home(rt: HostRuntime) -> Result<(), Fail> {
             worker_body(alloc, &calls, false, answer)?,
             &[Signal::None],
         )?;
-        assert_eq!(rt; end, Some(note));
+        same(&rt, "its note", end, Some(note));
         assert!(rt; body.is_some());
     }
     Ok(())
@@ -165,12 +179,12 @@ fn refused_start_brings_the_body_home(rt: HostRuntime) -> Result<(), Fail> {
 fn table_goes_home_before_its_process_retires(rt: HostRuntime) -> Result<(), Fail> {
     let body: Body<Probe, Pipe> = Body::Sup(TableNo::new(5));
     let mut process = Process::new(rt.alloc(), 9, 0, 0, body).map_err(|_| AllocError)?;
-    assert_eq!(rt; process.nested_table(), Some(5));
+    same(&rt, "its table", process.nested_table(), Some(5));
     assert!(rt; !process.is_runnable());
     let Some(table) = process.take_table() else {
         panic!(&rt; "the table is there");
     };
-    assert_eq!(rt; table.number(), 5);
+    same(&rt, "the number of its table", table.number(), 5);
     assert!(rt; !process.has_body());
     process.put_table(table);
     match process.retire() {
@@ -181,7 +195,7 @@ fn table_goes_home_before_its_process_retires(rt: HostRuntime) -> Result<(), Fai
         Err(mut process) => {
             assert!(rt; process.take_table().is_some());
             match process.retire() {
-                Ok(spent) => assert_eq!(rt; spent.into_number(), 9),
+                Ok(spent) => same(&rt, "the spent number", spent.into_number(), 9),
                 Err(_) => panic!(&rt; "its table is gone"),
             }
         }

@@ -10,6 +10,8 @@ mod bridges;
 #[cfg(test)]
 mod counts;
 #[cfg(test)]
+mod fixtures;
+#[cfg(test)]
 mod inbox;
 #[cfg(test)]
 mod jobs;

@@ -3,6 +3,7 @@ ghost use Rattle.std.specs.Prelude.{◌≡◌, ◌<◌, ◌^◌, length};
 ghost use Rattle.otp_run.specs.Lists.{AllAt};
 ghost use Rattle.otp_run.specs.Schedulers.{out};
 
+use crate::fixtures::same;
 use otp_bridge::BoxedSubsystem;
 use otp_job::{Body, BoxedJob, Process, TableNo};
 use otp_run::{
@@ -46,13 +47,14 @@ fn put_one<N: RunNaming, R: Abort>(
 {
     let before = scheduler.share();
     if let Err(process) = scheduler.put(numbered(rt, alloc, number)) {
-        assert_eq!(rt; process.number(), number);
-        assert_eq!(rt; scheduler.share(), before);
+        same(rt, "what came back", process.number(), number);
+        same(rt, "the share", scheduler.share(), before);
         if let Err(_) = scheduler.put(process) {
             panic!(rt; "there is memory now");
         }
     }
-    assert_eq!(rt; scheduler.share().begun, before.begun + 1);
+    let begun = scheduler.share().begun;
+    same(rt, "how many began", begun, before.begun + 1);
 }
 
 fn put_all<N: RunNaming, R: Abort>(
@@ -125,18 +127,23 @@ fn two_threads<N: RunNaming + Send, R: Threads + Abort + Sync>(
         ended,
         left,
     } = total;
-    assert_eq!(rt; (live, begun, ended), (MANY, MANY, 0));
+    same(rt, "the total", (live, begun, ended), (MANY, MANY, 0));
     let mut seen = Vec::from_elem(alloc, false, MANY as usize)?;
     for processes in [mine, others, left] {
-        for process in processes {
-            let number = process.number() as usize;
-            assert!(rt; number < seen.len());
-            assert!(rt; !seen[number], "{number} twice");
-            seen[number] = true;
-        }
+        see(rt, &mut seen, processes);
     }
     assert!(rt; seen.iter().all(|&once| once));
     Ok(())
+}
+
+// Marks the numbers of processes, which nobody saw before.
+fn see<R: Abort>(rt: &R, seen: &mut Vec<bool>, processes: Vec<AnyProcess>) {
+    for process in processes {
+        let number = process.number() as usize;
+        assert!(rt; number < seen.len());
+        assert!(rt; !seen[number], "{number} twice");
+        seen[number] = true;
+    }
 }
 
 #[test]
@@ -144,6 +151,11 @@ fn two_threads_take_each_process_once(rt: HostRuntime) -> Result<(), Fail> {
     let alloc = rt.alloc();
     let queue = RunQueue::open(alloc, 2)?;
     two_threads::<Brand, _>(&rt, alloc, queue)
+}
+
+// The number of a process that was found.
+fn number_of(found: Option<AnyProcess>) -> Option<u64> {
+    found.map(|process| process.number())
 }
 
 // Which processes come, in which order, and what is counted.
@@ -155,19 +167,17 @@ fn order_of_thefts<N: RunNaming, R: Abort>(
     requires { AllAt (λ k id. id ≡ N.deque k) queue }
 {
     let mut schedulers = queue.named::<N>(alloc)?;
-    assert_eq!(rt; schedulers.len(), 4);
+    assert!(rt; schedulers.len() == 4);
     // Scheduler 2 takes its own first, then steals of 3, 0 and 1.
     for index in 0..schedulers.len() {
-        assert_eq!(rt;
-            (schedulers[index].index(), schedulers[index].count()),
-            (index, 4)
-        );
+        let place = (schedulers[index].index(), schedulers[index].count());
+        same(rt, "its place", place, (index, 4));
         let first = index as u64 * 10;
         put_all(rt, alloc, &mut schedulers[index], first, first + 2);
     }
     for wanted in [20, 21, 30, 31, 0, 1, 10, 11] {
         let found = schedulers[2].next();
-        assert_eq!(rt; found.map(|process| process.number()), Some(wanted));
+        same(rt, "what was found", number_of(found), Some(wanted));
     }
     assert!(rt; schedulers[2].next().is_none());
     assert!(rt; is_all(schedulers.as_slice()));
@@ -182,12 +192,12 @@ fn own_alone<N: RunNaming, R: Abort>(
     requires { AllAt (λ k id. id ≡ N.deque k) queue }
 {
     let mut schedulers = queue.named::<N>(alloc)?;
-    assert_eq!(rt; schedulers.len(), 2);
+    assert!(rt; schedulers.len() == 2);
     put_all(rt, alloc, &mut schedulers[0], 0, 2);
     assert!(rt; schedulers[1].next_own().is_none());
     for wanted in [0, 1] {
         let found = schedulers[0].next_own();
-        assert_eq!(rt; found.map(|process| process.number()), Some(wanted));
+        same(rt, "what was found", number_of(found), Some(wanted));
     }
     assert!(rt; schedulers[0].next_own().is_none());
     Ok(())
@@ -213,11 +223,11 @@ fn give_back<N: RunNaming, R: Abort>(rt: &R, scheduler: &mut AnyScheduler<N>, pr
 {
     let (number, before) = (process.number(), scheduler.share());
     if let Err(process) = scheduler.give_back(process) {
-        assert_eq!(rt; process.number(), number);
-        assert_eq!(rt; scheduler.share(), before);
+        same(rt, "what came back", process.number(), number);
+        same(rt, "the share", scheduler.share(), before);
         assert!(rt; scheduler.give_back(process).is_ok());
     }
-    assert_eq!(rt; scheduler.share(), before);
+    same(rt, "the share at the end", scheduler.share(), before);
 }
 
 // Of `rt try --test --fail-alloc N`: 1 to 5 refuse the opening, which the test then tells. Then come the boxes of 300
@@ -241,7 +251,8 @@ fn grow<N: RunNaming, R: Abort>(
     }
     schedulers.push(only)?;
     let total = gather_all(rt, alloc, schedulers);
-    assert_eq!(rt; (total.live, total.left.len()), (300, 300));
+    let found = (total.live, total.left.len());
+    same(rt, "what is live and left", found, (300, 300));
     Ok(())
 }
 
@@ -257,7 +268,7 @@ fn gather_all<N: RunNaming, R: Abort>(
         Err(GatherFault::OutOfMemory(back)) => back,
         Err(GatherFault::Missing(_)) => panic!(rt; "all schedulers are here"),
     };
-    assert_eq!(rt; back.len(), count);
+    same(rt, "how many came back", back.len(), count);
     let Ok(total) = gather(alloc, back) else {
         panic!(rt; "there is memory now");
     };
@@ -292,16 +303,18 @@ fn end_and_gather<N: RunNaming, R: Abort>(
         Ok(spent) => first.finish(spent),
         Err(_) => panic!(rt; "its table is gone"),
     }
-    assert_eq!(rt; first.share(), Share { begun: 2, ended: 1 });
+    let wanted = Share { begun: 2, ended: 1 };
+    same(rt, "the share", first.share(), wanted);
     schedulers.push(first)?;
     let mut schedulers = match gather(alloc, schedulers) {
         Err(GatherFault::Missing(schedulers)) => schedulers,
         _ => panic!(rt; "one is away"),
     };
-    assert_eq!(rt; schedulers.len(), 1);
+    same(rt, "how many came back", schedulers.len(), 1);
     schedulers.push(away)?;
     let total = gather_all(rt, alloc, schedulers);
-    assert_eq!(rt; (total.live, total.left.len()), (1, 1));
+    let found = (total.live, total.left.len());
+    same(rt, "what is live and left", found, (1, 1));
     Ok(())
 }
 

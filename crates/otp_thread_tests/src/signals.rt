@@ -1,6 +1,7 @@
 ghost use Rattle.std.specs.Prelude.{◌≡◌, Contains, IfOk};
 ghost use Rattle.otp_signals.specs.Lists.{AllIn};
 
+use crate::fixtures::same;
 use otp_signals::{Exhausted, OpenWords, Owner, Signal, Words, WordsNaming};
 use std::alloc::{AllocError, Global};
 use std::marker::Brand;
@@ -46,24 +47,30 @@ fn signals_in<N: WordsNaming, R: Abort>(rt: &R, opened: OpenWords) -> Result<(),
     requires slots { opened.slots ≡ 2 }
 {
     let (words, mut owner) = opened.named::<N>();
-    assert_eq!(rt; words.slots(), 2);
+    same(rt, "the slots", words.slots(), 2);
     let mut viewer = words.viewer(&mut owner);
     let mut other = words.split_viewer(&mut viewer);
     let five = draw_several(&words, &mut owner, 5)?;
     let nine = draw_several(&words, &mut owner, 4)?;
-    assert_eq!(rt; (five, nine), (5, 9));
+    same(rt, "the drawn numbers", (five, nine), (5, 9));
     post_first(&words, &mut owner, five, Signal::Shutdown);
-    assert_eq!(rt; words.look(&mut viewer, 0, five), Signal::Shutdown);
+    let seen = words.look(&mut viewer, 0, five);
+    same(rt, "of five after its shutdown", seen, Signal::Shutdown);
     post_first(&words, &mut owner, nine, Signal::None);
     post_first(&words, &mut owner, five, Signal::Kill);
-    assert_eq!(rt; words.look(&mut viewer, 0, five), Signal::None);
-    assert_eq!(rt; words.look(&mut viewer, 0, nine), Signal::None);
+    let seen = words.look(&mut viewer, 0, five);
+    same(rt, "of five after a post to nine", seen, Signal::None);
+    let seen = words.look(&mut viewer, 0, nine);
+    same(rt, "of nine before its kill", seen, Signal::None);
     post_first(&words, &mut owner, nine, Signal::Kill);
-    assert_eq!(rt; words.look(&mut viewer, 0, nine), Signal::Kill);
-    assert_eq!(rt; words.look(&mut other, 0, five), Signal::None);
+    let seen = words.look(&mut viewer, 0, nine);
+    same(rt, "of nine after its kill", seen, Signal::Kill);
+    let seen = words.look(&mut other, 0, five);
+    same(rt, "of five by the other viewer", seen, Signal::None);
     // The viewer's seat goes through the owner's and back: it still looks afterwards.
     words.compare(&mut owner, &mut viewer);
-    assert_eq!(rt; words.look(&mut viewer, 0, nine), Signal::Kill);
+    let seen = words.look(&mut viewer, 0, nine);
+    same(rt, "of nine after the comparison", seen, Signal::Kill);
     Ok(())
 }
 
@@ -101,7 +108,7 @@ fn numbers_in<N: WordsNaming + Send + Sync, R: Threads + Abort + Sync>(
     let b = shared.split(&mut owner, 0..0, 1000)?;
     let c = shared.split(&mut owner, 0..0, 1000)?;
     let d = shared.split(&mut owner, 0..0, 1000)?;
-    assert_eq!(rt; owner.quota(), (1 << 62) - 4001);
+    same(rt, "the quota", owner.quota(), (1 << 62) - 4001);
     let ((a, b), (c, d)) = thread::join(
         rt,
         || thread::join(
@@ -118,8 +125,9 @@ fn numbers_in<N: WordsNaming + Send + Sync, R: Threads + Abort + Sync>(
     let mut all = Vec::new(alloc);
     for part in [a, b, c, d] {
         let (numbers, mut part) = part?;
-        assert_eq!(rt; numbers.len(), 1000);
-        assert_eq!(rt; words.draw(&mut part), Err(Exhausted));
+        same(rt, "how many were drawn", numbers.len(), 1000);
+        let drawn = words.draw(&mut part);
+        same(rt, "one number more", drawn, Err(Exhausted));
         for number in numbers {
             all.push(number)?;
         }
@@ -127,19 +135,24 @@ fn numbers_in<N: WordsNaming + Send + Sync, R: Threads + Abort + Sync>(
         words.join(&mut owner, part);
     }
     all.sort()?;
-    for (place, number) in all.iter().enumerate() {
-        assert_eq!(rt; *number, place as u64 + 1);
-    }
-    assert_eq!(rt; all.len(), 4000);
+    are_first(rt, all.as_slice());
+    same(rt, "how many were drawn by all", all.len(), 4000);
     assert!(rt; owner.is_whole());
-    assert_eq!(rt; words.close(owner), 4001);
+    same(rt, "the next number", words.close(owner), 4001);
     Ok(())
+}
+
+// Each number from 1 on stands once.
+fn are_first(rt: &impl Abort, numbers: &[u64]) {
+    for (place, number) in numbers.iter().enumerate() {
+        same(rt, "a drawn number", *number, place as u64 + 1);
+    }
 }
 
 #[test]
 fn text_of_exhausted(rt: HostRuntime) -> Result<(), Fail> {
     let text = format!(in rt.alloc(); "{Exhausted}")?;
-    assert_eq!(rt; text.as_str(), "the quota is too small");
+    same(&rt, "the text", text.as_str(), "the quota is too small");
     Ok(())
 }
 

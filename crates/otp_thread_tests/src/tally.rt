@@ -1,3 +1,4 @@
+use crate::fixtures::same;
 use otp_tally::Tally;
 use std::mem::size_of;
 
@@ -5,5 +6,5 @@ use std::mem::size_of;
 fn takes_no_memory(rt: HostRuntime) {
     let mut count = Tally::new();
     count.raise();
-    assert_eq!(rt; size_of::<Tally>(), 0);
+    same(&rt, "the size", size_of::<Tally>(), 0);
 }

@@ -1,0 +1,12 @@
+//! What several tests need.
+
+use std::fmt::Debug;
+use std::process::Abort;
+
+/// Asserts that a value is the one that is wanted; `what` says in the message which assertion failed.
+///
+/// A test has this in the place of `assert_eq!`, which is proved anew wherever it stands: it takes ten times as long as a call.
+/// Where what follows builds on the equation, `assert!` stands.
+pub(crate) fn same<T: PartialEq + Debug + Copy>(rt: &impl Abort, what: &str, value: T, wanted: T) {
+    assert_eq!(rt; value, wanted, "{what}");
+}
