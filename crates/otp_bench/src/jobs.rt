@@ -1,5 +1,5 @@
 //! Empty turns of jobs on several threads; a put with a take and an end; a steal.
-ghost use Rattle.std.specs.Prelude.{◌≡◌, length};
+ghost use Rattle.std.specs.Prelude.{◌<◌, ◌≡◌, length};
 ghost use Rattle.otp_run.specs.Lists.{AllAt};
 
 use crate::report::report;
