@@ -17,6 +17,10 @@ pub trait Gate {
     fn before_turn(&self, hand: usize) -> u64
         ensures { result ≤ MAX_READING };
 
+    /// Told after a turn of this hand in which it found nothing to do, where no other hand found something in its last one; in
+    /// the hand's own thread, so a gate may sleep there. It needn't be written.
+    fn idle(&self, _hand: usize) {}
+
     /// Told now and then by [`run_tree_counted`](crate::run_tree_counted), while no hand makes a turn: how many turns each hand
     /// has made, of how many in all, and what each supervisor published last of its children. It needn't be written.
     fn saw(&self, _made: u64, _of: u64, _counts: &[CountsNow]) {}

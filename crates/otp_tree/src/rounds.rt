@@ -13,8 +13,8 @@ use crate::closing::CloseFault;
 use crate::hand::Hand;
 use crate::opening::{Opened, Parts, SystemFault};
 use crate::plan::TablePlan;
+use crate::pool::pool_run;
 use crate::report::Report;
-use crate::serving::pool_run;
 use crate::system::System;
 use otp_bridge::Subsystem;
 use otp_inbox::InboxNaming;
@@ -100,7 +100,8 @@ pub struct Led<J: Drop, S: Drop, L: Leader<J, S>> {
 /// own ([`pool_run`]), round by round as the leader says: at most so many rounds. Then the tree is closed
 /// ([`System::close`]). The leader comes back, with the report.
 ///
-/// A round ends when each hand has made its turns. The gate is asked before each turn of a hand, in the hand's own thread.
+/// A round ends when each hand has made its turns. The gate is asked before each turn of a hand, in the hand's own thread, and
+/// told where there was nothing to do for any.
 pub fn lead<R, J, S, G, L>(
     rt: &R,
     alloc: Global,

@@ -1,8 +1,8 @@
-//! How hands serve a tree: a turn at a time, each hand in a thread of its own.
+//! How a hand serves a tree: a turn at a time.
 ghost use Rattle.std.specs.Prelude.{◌≤◌, ◌≡◌, IsTrue, None};
 ghost use Rattle.otp_spec.specs.declared.limits.TheConstants.{MAX_READING};
 
-use crate::clock::{Gate, Millis};
+use crate::clock::Millis;
 use crate::hand::{Hand, Unsent};
 use crate::system::System;
 use otp_bridge::Subsystem;
@@ -12,8 +12,6 @@ use otp_run::RunNaming;
 use otp_signals::{Signal, WordsNaming};
 use otp_sup::TurnAnswer;
 use std::sync::Wait;
-use std::thread;
-use std::thread::Threads;
 
 impl<N: WordsNaming + InboxNaming, J: Job, S: Subsystem> System<N, J, S> {
     /// Gives a hand so many turns, in the thread that calls.
@@ -39,15 +37,15 @@ impl<N: WordsNaming + InboxNaming, J: Job, S: Subsystem> System<N, J, S> {
         }
     }
 
-    /// One turn of a hand, at this reading of the clock in milliseconds.
-    pub fn turn<R: Wait>(&self, rt: &R, hand: &mut Hand<N, J, S>, reading: u64)
+    /// One turn of a hand, at this reading of the clock in milliseconds. False where it found nothing to do.
+    pub fn turn<R: Wait>(&self, rt: &R, hand: &mut Hand<N, J, S>, reading: u64) -> bool
     where
         N: RunNaming,
         requires { reading ≤ MAX_READING }
         ensures { hand.new.passes ≡ hand.old.passes }
     {
         if !self.send_unsent(rt, hand) || !self.find(hand) {
-            return;
+            return false;
         }
         let told = hand.runner.look(&self.words);
         match hand.runner.nested() {
@@ -57,6 +55,7 @@ impl<N: WordsNaming + InboxNaming, J: Job, S: Subsystem> System<N, J, S> {
         if self.send_unsent(rt, hand) {
             hand.runner.hand_back();
         }
+        true
     }
 
     /// A turn of this supervisor, whose process a hand has out. Where it finds nothing to do, and none of its children has a
@@ -115,36 +114,4 @@ impl<N: WordsNaming + InboxNaming, J: Job, S: Subsystem> System<N, J, S> {
             }
         }
     }
-}
-
-/// The most hands that serve at once.
-pub const MAX_HANDS: usize = 8;
-
-/// Gives each hand so many turns, each hand in a thread of its own. Each turn begins with the gate's answer, which is
-/// the reading of the clock for it.
-pub fn pool_run<N, J, S, R, G>(
-    rt: &R,
-    system: &System<N, J, S>,
-    hands: &mut [Hand<N, J, S>],
-    gate: &G,
-    turns: u64,
-)
-where
-    N: WordsNaming + InboxNaming + RunNaming + Send + Sync,
-    J: Job + Send,
-    S: Subsystem + Send,
-    R: Threads + Wait + Sync,
-    G: Gate + Sync,
-{
-    thread::for_each_mut(
-        rt,
-        hands,
-        MAX_HANDS,
-        &|index, hand| {
-            for _ in 0..turns {
-                let reading = gate.before_turn(index);
-                system.turn(rt, hand, reading);
-            }
-        },
-    );
 }

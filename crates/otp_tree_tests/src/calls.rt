@@ -3,14 +3,14 @@ ghost use Rattle.std.specs.Prelude.{◌≡◌, ◌<◌, ◌≤◌, false, length
 ghost use Rattle.otp_run.specs.Rule.{all_parts};
 
 use crate::drafts::Draft;
-use crate::fixtures::same;
+use crate::fixtures::{Still, same};
 use otp_bridge::BoxedSubsystem;
 use otp_job::{Body, Job, TableNo, Told, Turn};
 use otp_reason::{Name, Note, Reason, Started, Text};
 use otp_rules::{Call, CallFault, Cause, Reply};
 use otp_spec::{ChildSpec, SupFlags};
 use otp_tree::{
-    CallEnd, CallId, CallRefusal, CallRequest, Gate, Leader, Led, Round, TablePlan, TableReport,
+    CallEnd, CallId, CallRefusal, CallRequest, Leader, Led, Round, TablePlan, TableReport,
     Uncalled, lead,
 };
 use std::alloc::{AllocError, Global};
@@ -44,16 +44,6 @@ impl Job for Fragile {
             0 => Turn::Again,
             _ => Turn::End(Reason::Error(Text::joined(b"crash", b""))),
         }
-    }
-}
-
-// A clock that stands still.
-#[derive(Drop)]
-struct Still;
-
-impl Gate for Still {
-    fn before_turn(&self, _hand: usize) -> u64 {
-        0
     }
 }
 

@@ -3,7 +3,7 @@ ghost use Rattle.std.specs.Prelude.{◌≡◌, ◌<◌, ◌≤◌, false, length
 ghost use Rattle.otp_run.specs.Rule.{all_parts};
 
 use crate::drafts::Draft;
-use crate::fixtures::same;
+use crate::fixtures::{Still, same};
 use otp_bridge::BoxedSubsystem;
 use otp_job::{Job, Told, Turn};
 use otp_reason::{Note, Reason, Started};
@@ -36,15 +36,6 @@ impl Job for Steady {
 
     fn turn(&mut self, _told: Told) -> Turn {
         Turn::Again
-    }
-}
-
-// A clock that stands still.
-struct Still;
-
-impl Gate for Still {
-    fn before_turn(&self, _hand: usize) -> u64 {
-        0
     }
 }
 
@@ -339,19 +330,26 @@ fn a_call_that_nobody_took_is_left(rt: HostRuntime) -> Result<(), Fail> {
     }
 }
 
-// What a gate was told of a run: how often, the turns made and those in all as told last, and the children that were up
-// once half of them were made.
+// What a gate was told of a run: how often, the turns made and those in all as told last, the children that were up
+// once half of them were made, and the turns before that in which there was nothing to do.
 #[derive(Drop)]
 struct Listener {
     calls: AtomicU64,
     made: AtomicU64,
     of: AtomicU64,
     live: AtomicU64,
+    idle: AtomicU64,
 }
 
 impl Gate for Listener {
     fn before_turn(&self, _hand: usize) -> u64 {
         0
+    }
+
+    fn idle(&self, _hand: usize) {
+        if self.live.load(Ordering::SeqCst) == 0 {
+            self.idle.fetch_add(1, Ordering::SeqCst);
+        }
     }
 
     fn saw(&self, made: u64, of: u64, counts: &[CountsNow]) {
@@ -366,18 +364,46 @@ impl Gate for Listener {
     }
 }
 
-#[test]
-fn a_gate_is_told_how_far_a_run_is(rt: HostRuntime) -> Result<(), Fail> {
-    let plans = small_plans(rt.alloc())?;
+// Runs a tree whose workers have something to do in each turn, so many turns before the stop.
+fn listen<R: Threads + Wait + Abort + Sync>(
+    rt: &R,
+    alloc: Global,
+    hands: usize,
+    turns: u64,
+) -> Result<Listener, Fail>
+    requires some { 0 < hands }
+    requires few { hands ≤ all_parts }
+{
+    let plans = small_plans(alloc)?;
     let listener = Listener {
         calls: AtomicU64::new(0),
         made: AtomicU64::new(0),
         of: AtomicU64::new(0),
         live: AtomicU64::new(0),
+        idle: AtomicU64::new(0),
     };
-    let ran = run_tree(&rt, rt.alloc(), plans, 2, &listener, 60_000);
+    let ran = run_tree(rt, alloc, plans, hands, &listener, turns);
     assert!(rt; ran.is_ok());
+    Ok(listener)
+}
+
+#[test]
+fn a_gate_is_told_how_far_a_run_is(rt: HostRuntime) -> Result<(), Fail> {
+    let listener = listen(&rt, rt.alloc(), 2, 60_000)?;
     has_heard(&rt, &listener);
+    Ok(())
+}
+
+#[test]
+fn a_gate_is_told_of_no_idle_turn_while_workers_work(rt: HostRuntime) -> Result<(), Fail> {
+    let listener = listen(&rt, rt.alloc(), 1, 1_000)?;
+    same(
+        &rt,
+        "the idle turns",
+        listener.idle.load(Ordering::SeqCst),
+        0,
+    );
+    same(&rt, "the children", listener.live.load(Ordering::SeqCst), 3);
     Ok(())
 }
 

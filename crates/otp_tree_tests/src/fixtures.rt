@@ -1,7 +1,24 @@
 //! What several tests need.
 
+use otp_tree::{Gate, Millis};
 use std::fmt::Debug;
 use std::process::Abort;
+
+/// A clock that stands still.
+#[derive(Drop)]
+pub(crate) struct Still;
+
+impl Gate for Still {
+    fn before_turn(&self, _hand: usize) -> u64 {
+        0
+    }
+}
+
+impl Millis for Still {
+    fn now(&mut self) -> u64 {
+        0
+    }
+}
 
 /// Asserts that a value is the one that is wanted; `what` says in the message which assertion failed.
 ///

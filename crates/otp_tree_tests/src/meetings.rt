@@ -1,7 +1,7 @@
 // Two jobs that end well only where they run at once: several threads run them so, and one thread can't.
 ghost use Rattle.std.specs.Prelude.{◌≡◌, false, length, IfOk};
 
-use crate::fixtures::same;
+use crate::fixtures::{Still, same};
 use otp_bridge::BoxedSubsystem;
 use otp_job::{Body, Job, Told, Turn};
 use otp_reason::{Name, Note, Reason, Started, Text};
@@ -112,16 +112,6 @@ impl Gate for Doors {
             }
             thread::yield_now();
         }
-        0
-    }
-}
-
-// A clock that stands still.
-#[derive(Drop)]
-struct Still;
-
-impl Gate for Still {
-    fn before_turn(&self, _hand: usize) -> u64 {
         0
     }
 }

@@ -3,7 +3,7 @@ ghost use Rattle.std.specs.Prelude.{◌≡◌, ◌<◌, ◌≤◌, false, length
 ghost use Rattle.otp_run.specs.Rule.{all_parts};
 
 use crate::drafts::Draft;
-use crate::fixtures::same;
+use crate::fixtures::{Still, same};
 use otp_bridge::BoxedSubsystem;
 use otp_inbox::InboxNaming;
 use otp_job::{Body, Job, Told, Turn};
@@ -12,8 +12,8 @@ use otp_rules::CountsNow;
 use otp_run::RunNaming;
 use otp_signals::WordsNaming;
 use otp_tree::{
-    Client, CloseFault, Gate, Hand, Leader, Led, Millis, Report, Round, Session, System,
-    SystemFault, TablePlan, TableReport, Unclosed, lead, run_tree, with_system,
+    Client, CloseFault, Gate, Hand, Leader, Led, Report, Round, Session, System, SystemFault,
+    TablePlan, TableReport, Unclosed, lead, run_tree, with_system,
 };
 use std::alloc::{AllocError, Global};
 use std::process::Abort;
@@ -80,22 +80,6 @@ fn plans(alloc: Global, starts: &Starts) -> Result<Vec<Plan>, Fail>
     plans.push(root.plan()?)?;
     plans.push(sub.plan()?)?;
     Ok(plans)
-}
-
-// A clock that stands still.
-#[derive(Drop)]
-struct Still;
-
-impl Gate for Still {
-    fn before_turn(&self, _hand: usize) -> u64 {
-        0
-    }
-}
-
-impl Millis for Still {
-    fn now(&mut self) -> u64 {
-        0
-    }
 }
 
 // Serves until the tree is up and so many starts were made, then stops it, and leaves at the root's end.

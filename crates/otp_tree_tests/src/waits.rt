@@ -75,13 +75,21 @@ fn plans(alloc: Global, starts: &Counter, turns: &Counter) -> Result<Vec<Plan>, 
     Ok(plans)
 }
 
-// A clock that stands still.
+// A clock that stands still. It counts the turns, and those in which no hand had anything to do.
 #[derive(Drop)]
-struct Still;
+struct Counting {
+    turns: AtomicU64,
+    idle: AtomicU64,
+}
 
-impl Gate for Still {
+impl Gate for Counting {
     fn before_turn(&self, _hand: usize) -> u64 {
+        self.turns.fetch_add(1, Ordering::SeqCst);
         0
+    }
+
+    fn idle(&self, _hand: usize) {
+        self.idle.fetch_add(1, Ordering::SeqCst);
     }
 }
 
@@ -99,6 +107,7 @@ struct Idler {
     stops: bool,
     is_up: bool,
     is_asked: bool,
+    rounds: u64,
     idle_rounds: u64,
     // How many turns the workers had had when the idle rounds were over.
     idle_turns: u64,
@@ -112,6 +121,7 @@ impl Idler {
             stops,
             is_up: false,
             is_asked: false,
+            rounds: 0,
             idle_rounds: 0,
             idle_turns: 0,
             end: None,
@@ -144,12 +154,14 @@ impl Leader<Waiter, BoxedSubsystem> for Idler {
             return Round::Leave;
         }
         if self.is_asked || !self.has_idled() {
+            self.rounds = self.rounds.saturating_add(1);
             return Round::Serve(TURNS);
         }
         if !self.stops {
             return Round::Leave;
         }
         self.is_asked = true;
+        self.rounds = self.rounds.saturating_add(1);
         Round::Stop(TURNS)
     }
 }
@@ -165,6 +177,21 @@ fn check<R: Abort>(rt: &R, report: &Report<Waiter, BoxedSubsystem>, stops: bool)
     assert!(rt; report.find_mismatch().is_none());
 }
 
+// Each hand made its turns of each round, and the gate was told of those in which there was nothing to do: of all turns of ten rounds
+// but the first.
+fn check_turns<R: Abort>(rt: &R, gate: &Counting, hands: usize, rounds: u64) {
+    let of_a_round = TURNS.saturating_mul(hands as u64);
+    let turns = gate.turns.load(Ordering::SeqCst);
+    same(
+        rt,
+        "the hands' turns",
+        turns,
+        of_a_round.saturating_mul(rounds),
+    );
+    let idle = gate.idle.load(Ordering::SeqCst);
+    assert!(rt; idle >= of_a_round.saturating_mul(9) && idle <= turns);
+}
+
 fn idle_with<R: Threads + Wait + Abort + Sync>(
     rt: &R,
     alloc: Global,
@@ -178,10 +205,15 @@ fn idle_with<R: Threads + Wait + Abort + Sync>(
     let turns: Counter = Arc::new(alloc, AtomicU64::new(0))?;
     let plans = plans(alloc, &starts, &turns)?;
     let leader = Idler::new(Arc::try_clone(&turns)?, stops);
-    let Led { leader, report } = match lead(rt, alloc, plans, hands, &Still, ROUNDS, leader) {
+    let gate = Counting {
+        turns: AtomicU64::new(0),
+        idle: AtomicU64::new(0),
+    };
+    let Led { leader, report } = match lead(rt, alloc, plans, hands, &gate, ROUNDS, leader) {
         Ok(led) => led,
         Err(_why) => return Err(AllocError.into()),
     };
+    check_turns(rt, &gate, hands, leader.rounds);
     // Each worker had one turn, however long it waited, and one more when it was asked to shut down.
     same(rt, "the starts", starts.load(Ordering::SeqCst), WORKERS);
     same(rt, "the turns while idle", leader.idle_turns, WORKERS);
