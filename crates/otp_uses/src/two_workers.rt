@@ -66,8 +66,11 @@ fn plans(alloc: Global) -> Result<Vec<Plan>, AllocError>
     }
 }
 
-/// Runs the tree: each of two threads makes a thousand turns, the root is asked to shut down, and each makes a thousand turns
+/// Runs the tree: a thread makes a thousand turns, the root is asked to shut down, and the thread makes a thousand turns
 /// more. How many children were started, and how many processes are left; None where memory or a thread was refused.
+///
+/// Of one thread a thousand turns are always enough. Of more, which share the work, one that has nothing to do may have made all its
+/// turns before it is told something.
 pub fn run_two_workers<R>(rt: &R, alloc: Global) -> Option<(u64, u64)>
 where
     R: Threads + Wait + Sync,
@@ -75,7 +78,7 @@ where
     let Ok(plans) = plans(alloc) else {
         return None;
     };
-    let Ok(report) = run_tree(rt, alloc, plans, 2, &Still, 1000) else {
+    let Ok(report) = run_tree(rt, alloc, plans, 1, &Still, 1000) else {
         return None;
     };
     let table = report.tables.first()?;
