@@ -9,7 +9,6 @@ pub mod Steady
 pub mod Deadlines
 pub mod Period
 pub mod Rated
-pub mod Appended
 pub mod Counting
 pub mod GoesOn
 pub mod Sound
@@ -44,3 +43,7 @@ pub mod Calm
 pub mod Alive
 mod Ended
 pub mod NamedRows
+pub mod Earlier
+pub mod Cuts
+pub mod Short
+pub mod Answering

@@ -38,7 +38,7 @@ use Rattle.otp_rules.proofs.GoesOn.{GoesOn, IsLast, stop_first-on}
 use Rattle.otp_rules.proofs.Counting.{use_exit-alike, use_exit-quiet}
 use Rattle.otp_rules.proofs.Bits.{or_false}
 use Rattle.otp_rules.proofs.Walks.{advance-by, stop_each-by, terminate-by, used, with_stops}
-use Rattle.otp_rules.proofs.Appended.{decide-behind}
+use Rattle.otp_rules.proofs.Earlier.{decide-appended}
 use Rattle.otp_rules.proofs.Decisions.{Survives, at_number-survives, at_row-survives, decide-survives}
 use Rattle.otp_window.specs.Period.{in_period}
 
@@ -203,5 +203,5 @@ unfolding needs_number step step_on work_starts
 number_starts_work_law reading k o =
     let before : Outcome = record { state = stamped reading o.state; orders = [] } in
     advance-starts 0 (decide k before) (decide-survives k (λ o. Starts false o) before (decide-quiet k (is_busy before)) refl)
-    ∙ sym (ap work_starts (decide-behind o.orders k before))
+    ∙ sym (ap work_starts (decide-appended o.orders k before))
     ∙ ap (λ (xs : List Effect). work_starts (decide k (record { state = stamped reading o.state; orders = xs }))) (append-nil o.orders)

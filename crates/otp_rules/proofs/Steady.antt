@@ -67,7 +67,7 @@ tell-goes : (P : Outcome → Type 0) → Goes P → (p : ℕ) (o : Outcome) → 
 unfolding tell tell_row
 tell-goes P t p o x = at_number-survives P p (tell_row p) o x (λ place row _ _. t.told row.id p row.spec.shutdown _ (t.rows _ o x))
 
-use_exit-goes : (P : Outcome → Type 0) → Goes P → (p : ℕ) (place : Option ℕ) (o : Outcome) → P o → P (use_exit p place o)
+pub use_exit-goes : (P : Outcome → Type 0) → Goes P → (p : ℕ) (place : Option ℕ) (o : Outcome) → P o → P (use_exit p place o)
 unfolding use_exit end_process
 use_exit-goes P t p place o x =
     let left : Outcome = with_waiting (without o.state.waiting place) o in

@@ -1,13 +1,16 @@
 -- What which_children and count_children say (supervisor, which_children/1 and count_children/1).
-use Rattle.std.specs.Prelude.{List, map, length, count_by, if◌then◌else◌}
+use Rattle.std.specs.Prelude.{ℕ, ◌+◌, List, [], ◌∷◌, map, length, count_by, if◌then◌else◌}
 use Rattle.otp_table.specs.declared.row.Row.{Row}
 use Rattle.otp_table.specs.declared.row.RowState.{RowState}
 use Rattle.otp_table.specs.declared.row.RowState.TheVariants.{Undefined, Starting, Up, Asked, Killed, Restarting}
 use Rattle.otp_table.specs.Rows.{is_active, is_supervisor, is_worker, row_has}
+use Rattle.otp_rules.specs.declared.call.Answered.{Answered}
 use Rattle.otp_rules.specs.declared.call.ChildLine.{ChildLine}
 use Rattle.otp_rules.specs.declared.call.ChildProcess.{ChildProcess}
 use Rattle.otp_rules.specs.declared.call.ChildProcess.TheVariants as process
 use Rattle.otp_rules.specs.declared.call.CountsNow.{CountsNow}
+use Rattle.otp_rules.specs.declared.call.Reply.{Reply}
+use Rattle.otp_rules.specs.declared.call.Reply.TheVariants as reply
 use Rattle.otp_spec.specs.Flags.{is_simple}
 use Rattle.otp_rules.specs.State.{State}
 
@@ -36,3 +39,13 @@ counts_of s =
       supervisors = count_by is_supervisor s.rows;
       workers = count_by is_worker s.rows;
     }
+
+-- how many lines the answer has, where it is a list of children (own)
+abbrev pub lines_in : Reply → ℕ
+lines_in (reply.Which lines) = length lines
+lines_in _ = 0
+
+-- how many lines all these answers have: a list that was told twice counts twice (own)
+abbrev pub lines_told : List Answered → ℕ
+lines_told [] = 0
+lines_told (a ∷ later) = lines_in a.reply + lines_told later

@@ -30,3 +30,5 @@ pub mod InOrder
 pub mod Late
 pub mod Lives
 pub mod Alive
+pub mod Cuts
+pub mod Answers

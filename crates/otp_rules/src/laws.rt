@@ -1,5 +1,7 @@
 //! Laws over all states, events and histories. A law is a function that does nothing: what it ensures is the law.
 
+ghost use Rattle.otp_rules.specs.Answers.{AnswersKept, AnswersTold};
+ghost use Rattle.otp_rules.specs.Cuts.{CutAnywhere, CutsAgree, NeedForgets, ShortCutsAgree, StepForgets};
 ghost use Rattle.otp_rules.specs.Effects.{OrdersFew};
 ghost use Rattle.otp_rules.specs.Ended.{EndsCarried, EndsKept, EndsKeptFromEmpty};
 ghost use Rattle.otp_rules.specs.Evidence.{EndEvidence, EndEvidenceFromEmpty};
@@ -187,4 +189,23 @@ pub fn deadlines_come()
 /// and none waits once it has ended.
 pub fn start_calls_wait()
     ensures { StartsWait }
+{}
+
+/// A run may be cut at any place: from there on it has the same state, but for answers, ends and restarts too old to count, and
+/// gives the same orders, though of what came before nothing is kept but the state without its answers and ends, and with no
+/// more restarts than one more than the intensity. The same is said of one event, of a run from any state with all its
+/// restarts, and of whether an event needs a number.
+pub fn cuts_agree()
+    ensures anywhere { CutAnywhere }
+    ensures short { ShortCutsAgree }
+    ensures runs { CutsAgree }
+    ensures step { StepForgets }
+    ensures needs { NeedForgets }
+{}
+
+/// The answers that an event gives are those that its orders tell of, in their order; and whatever was answered before, they
+/// are the ones that are found.
+pub fn answers_are_told()
+    ensures told { AnswersTold }
+    ensures kept { AnswersKept }
 {}

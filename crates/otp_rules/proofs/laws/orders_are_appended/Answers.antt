@@ -1,4 +1,4 @@
-use Rattle.otp_rules.proofs.Appended.{orders_appended_law}
+use Rattle.otp_rules.proofs.Earlier.{orders_appended_law}
 use Rattle.otp_rules.proofs.laws.orders_are_appended.Goals as goal
 
 pub returns : goal.returns
