@@ -1,10 +1,11 @@
 -- The numbers that were drawn, and the last of them.
-use Rattle.std.proofs.Common.{◌≡◌, ℕ, ◌<◌, ◌≤◌, ◌++◌, List, [], ◌∷◌, ◌∙◌, Option, None, Some, ap, arith, refl, subst, sym}
-use Rattle.std.specs.Prelude.{MatchOption, unwrap_or}
+use Rattle.std.proofs.Common.{◌≡◌, ℕ, ◌<◌, ◌≤◌, ◌++◌, List, [], ◌∷◌, ◌∙◌, Option, None, Some, ap, arith, length, length-append, refl, subst, sym, ◌+◌}
+use Rattle.std.specs.Prelude.{Bool, true, false, MatchOption, is_some, unwrap_or}
 use Rattle.std.specs.List.{All}
 use Rattle.std.proofs.lemmas.List.Elements.{All-append, All-cons, All-nil, filter_map-append}
 use Rattle.otp_rules.specs.declared.event.Event.{Event}
 use Rattle.otp_rules.specs.declared.event.Kind.{Kind}
+use Rattle.otp_core.specs.CoreInside.{one_if}
 use Rattle.otp_rules.specs.Needs.{last_from, last_number, numbers_of}
 
 -- what holds of the number that was drawn
@@ -18,6 +19,29 @@ last_pushed p (x ∷ xs) e = last_pushed (unwrap_or x.number p) xs e
 -- the last number of a history with one event more
 pub last_on : (p : ℕ) (es longer : List Event) (e : Event) → longer ≡ es ++ e ∷ [] → p ≡ last_number es → unwrap_or e.number p ≡ last_number longer
 last_on p es longer e more last = ap (unwrap_or e.number) last ∙ sym (ap last_number more ∙ last_pushed 0 es e)
+
+pub at_most_one : (b : Bool) → one_if b ≤ 1
+at_most_one true = omega arith
+at_most_one false = omega arith
+
+-- one number more, or none
+starts_of : (reading : ℕ) (number : Option ℕ) (kind : Kind) → length (numbers_of (record { reading = reading; number = number; kind = kind } ∷ [])) ≡ one_if (is_some number)
+starts_of reading None kind = refl
+starts_of reading (Some n) kind = refl
+
+pub starts_on : (es longer : List Event) (e : Event) → longer ≡ es ++ e ∷ [] → length (numbers_of longer) ≡ length (numbers_of es) + one_if (is_some e.number)
+starts_on es longer e more =
+    ap (λ (xs : List Event). length (numbers_of xs)) more ∙ ap (λ (ns : List ℕ). length ns) (filter_map-append (λ (x : Event). x.number) es (e ∷ []))
+    ∙ length-append (numbers_of es) (numbers_of (e ∷ [])) ∙ ap (λ (n : ℕ). length (numbers_of es) + n) (starts_of e.reading e.number e.kind)
+
+-- no more numbers than events
+cons_starts : (reading : ℕ) (number : Option ℕ) (kind : Kind) (es : List Event) → length (numbers_of (record { reading = reading; number = number; kind = kind } ∷ es)) ≤ length (numbers_of es) + 1
+cons_starts reading None kind es = omega arith
+cons_starts reading (Some n) kind es = omega arith
+
+pub few_starts : (es : List Event) → length (numbers_of es) ≤ length es
+few_starts [] = omega arith
+few_starts (e ∷ es) = omega (arith, few_starts es, cons_starts e.reading e.number e.kind es)
 
 -- numbers up to p, and one that is above each
 reached : (xs : List ℕ) (p reading : ℕ) (number : Option ℕ) (kind : Kind) → All (λ m. m ≤ p) xs → ((n : ℕ) → number ≡ Some n → All (λ m. m < n) xs) →

@@ -1,3 +1,4 @@
 pub mod Runs
 pub mod Lawful
 pub mod Drawn
+pub mod Full

@@ -1,7 +1,10 @@
-use Rattle.std.proofs.Common.{◌≡◌, List, [], ◌∷◌, ◌++◌, refl, ap, sym, ◌∙◌}
+use Rattle.std.proofs.Common.{◌≡◌, ℕ, List, [], ◌∷◌, ◌++◌, Option, None, Some, append-nil, arith, max, refl, ap, subst, sym, ◌∙◌}
+use Rattle.otp_rules.specs.declared.call.Answered.{Answered}
+use Rattle.otp_rules.specs.declared.ending.SupEnd.{SupEnd}
 use Rattle.otp_spec.specs.declared.child.ChildSpec.{ChildSpec}
 use Rattle.otp_spec.specs.declared.flags.SupFlags.{SupFlags}
 use Rattle.otp_rules.specs.declared.event.Event.{Event}
+use Rattle.otp_rules.specs.Cuts.{base_of, greater_of, greatest_call, older, told_before, Earlier}
 use Rattle.otp_rules.specs.State.{State}
 use Rattle.otp_rules.specs.Step.{step}
 use Rattle.otp_rules.specs.Run.{empty_state, state_after}
@@ -12,10 +15,41 @@ pushed s [] e = refl
 pushed s (x ∷ xs) e = pushed (step s x).state xs e
 
 -- a step goes on with the run
-pub runs_on : (s next : State) (h longer : List Event) (e : Event) → next ≡ (step s e).state → longer ≡ h ++ e ∷ [] → next.flags ≡ s.flags → next.specs ≡ s.specs →
-    s ≡ state_after (empty_state s.flags s.specs) h → next ≡ state_after (empty_state next.flags next.specs) longer
-runs_on s next h longer e moved more flags specs runs =
+pub runs_on : (x y : Earlier) (s next : State) (h longer : List Event) (e : Event) → next ≡ (step s e).state → (step (older x s) e).state ≡ older x (step s e).state → y ≡ x → longer ≡ h ++ e ∷ []
+    → next.flags ≡ s.flags → next.specs ≡ s.specs
+    → older x s ≡ state_after (empty_state s.flags s.specs) h → older y next ≡ state_after (empty_state next.flags next.specs) longer
+runs_on x y s next h longer e moved forgets same more flags specs runs =
     let base : State = empty_state s.flags s.specs in
-    moved ∙ ap (λ (x : State). (step x e).state) runs ∙ sym (pushed base h e) ∙ ap (state_after base) (sym more)
+    ap (λ (z : Earlier). older z next) same ∙ ap (older x) moved ∙ sym forgets
+    ∙ ap (λ (t : State). (step t e).state) runs ∙ sym (pushed base h e) ∙ ap (state_after base) (sym more)
     ∙ ap (λ (f : SupFlags). state_after (empty_state f s.specs) longer) (sym flags)
     ∙ ap (λ (c : List ChildSpec). state_after (empty_state next.flags c) longer) (sym specs)
+
+-- with the answers and ends that a cut drops, the base is the state that was cut
+pub cut_runs : (rs : List Answered) (es : List (ℕ × SupEnd)) (s whole : State) → older (told_before rs es) s ≡ whole → older (told_before whole.replies whole.ends) (base_of s) ≡ whole
+cut_runs rs es s whole runs =
+    let Cut : State → Type 0 = λ w. older (told_before w.replies w.ends) (base_of s) ≡ w in
+    subst Cut runs
+    (ap (λ (all : List Answered). record s { replies = all; ends = (es ++ s.ends) ++ [] }) (append-nil (rs ++ s.replies))
+    ∙ ap (λ (ends : List (ℕ × SupEnd)). record s { replies = rs ++ s.replies; ends = ends }) (append-nil (es ++ s.ends)))
+
+greater-assoc : (a b c : Option ℕ) → greater_of (greater_of a b) c ≡ greater_of a (greater_of b c)
+greater-assoc None b c = refl
+greater-assoc (Some l) None c = refl
+greater-assoc (Some l) (Some m) None = refl
+greater-assoc (Some l) (Some m) (Some n) =
+    let same : max (max l m) n ≡ max l (max m n) = omega arith in
+    ap (λ (k : ℕ). Some k) same
+
+-- the greatest number of two lists of answers
+greatest-append : (rs more : List Answered) → greatest_call (rs ++ more) ≡ greater_of (greatest_call rs) (greatest_call more)
+greatest-append [] more = refl
+greatest-append (r ∷ rs) more = ap (λ (n : Option ℕ). greater_of (Some r.call) n) (greatest-append rs more) ∙ sym (greater-assoc (Some r.call) (greatest_call rs) (greatest_call more))
+
+pub greatest_of : (rs : List Answered) (es : List (ℕ × SupEnd)) (s whole : State) → older (told_before rs es) s ≡ whole → greatest_call whole.replies ≡ greater_of (greatest_call rs) (greatest_call s.replies)
+greatest_of rs es s whole runs = ap (λ (w : State). greatest_call w.replies) (sym runs) ∙ greatest-append rs s.replies
+
+-- the same from a checkpoint on
+pub keeps_on : (s next from again : State) (h longer : List Event) (e : Event) → next ≡ (step s e).state → longer ≡ h ++ e ∷ [] → again ≡ from → s ≡ state_after from h → next ≡ state_after again longer
+keeps_on s next from again h longer e moved more same runs =
+    moved ∙ ap (λ (t : State). (step t e).state) runs ∙ sym (pushed from h e) ∙ ap (state_after from) (sym more) ∙ ap (λ (t : State). state_after t longer) (sym same)

@@ -1,3 +1,5 @@
 pub mod View
 pub mod CoreInside
 pub mod Opened
+pub mod Replies
+pub mod Full

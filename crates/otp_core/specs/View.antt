@@ -1,14 +1,18 @@
 -- What a caller sees of a core.
-use Rattle.std.specs.Prelude.{List, Bool}
+use Rattle.std.specs.Prelude.{ℕ, List, Bool, drop, take}
 use Rattle.otp_rules.specs.declared.event.Event.{Event}
 use Rattle.otp_rules.specs.declared.event.Effect.{Effect}
+use Rattle.otp_rules.specs.Cuts.{base_of}
 use Rattle.otp_rules.specs.State.{State}
 use Rattle.otp_rules.specs.Run.{state_after}
 
 pub record View : Type 0 where
-  -- where the history begins
+  -- the supervisor that was never opened
   pub base : State
+  -- all events, those that were cut off too
   pub history : List Event
+  -- how many of them, the first, were cut off
+  pub cut : ℕ
   -- the orders that have not been cleared
   pub effects : List Effect
   -- memory for the next event is there
@@ -17,3 +21,18 @@ pub record View : Type 0 where
 -- the state that the history leads to: nothing else is known of it
 abbrev pub state_of : View → State
 state_of v = state_after v.base v.history
+
+-- the events that were cut off, and those that are stored
+abbrev pub past_of : View → List Event
+past_of v = take v.cut v.history
+
+abbrev pub stored_of : View → List Event
+stored_of v = drop v.cut v.history
+
+-- the checkpoint: the state at the cut, without the answers and ends before it
+abbrev pub checkpoint_of : View → State
+checkpoint_of v = base_of (state_after v.base (past_of v))
+
+-- the state that the stored events lead to from there
+abbrev pub stored_state : View → State
+stored_state v = state_after (checkpoint_of v) (stored_of v)

@@ -1,9 +1,12 @@
 //! A supervisor's core: its history, and the state that the rules give for it.
 
-ghost use Rattle.std.specs.Prelude.{ℕ, All, ◌≡◌, ◌+◌, ◌-◌, ◌<◌, ◌≤◌, ◌^◌, ◌↔◌, ◌++◌, ◌∷◌, [], true, false, length, not, is_some, is_none, nat_lt, max, min, IsTrue, None, Some, IfOk, IfErr, OnOk, OnErr, MatchOption, slice_get, vec_len, vec_capacity};
+ghost use Rattle.std.specs.Prelude.{ℕ, All, ◌≡◌, ◌+◌, ◌-◌, ◌<◌, ◌≤◌, ◌^◌, ◌↔◌, ◌++◌, ◌∷◌, [], true, false, length, not, is_some, is_none, nat_lt, max, min, IsTrue, None, Some, IfOk, IfErr, OnOk, OnErr, MatchOption, position, slice_get, vec_len, vec_capacity};
 ghost use Rattle.std.specs.List.{filter, list_any};
-ghost use Rattle.otp_core.specs.View.{state_of};
+ghost use Rattle.otp_core.specs.View.{past_of, state_of, stored_of, stored_state};
 ghost use Rattle.otp_core.specs.Opened.{IsOpenFault};
+ghost use Rattle.otp_core.specs.Full.{cut_after, has_most_events, has_most_lines, is_full, wants_cut};
+ghost use Rattle.otp_core.specs.Replies.{IsKept, IsReplyAnswer, greatest_dropped};
+ghost use Rattle.otp_rules.specs.Cuts.{is_at_most, is_open_call};
 ghost use Rattle.otp_rules.specs.Counts.{counts_of};
 ghost use Rattle.otp_rules.specs.Effects.{is_reply};
 ghost use Rattle.otp_rules.specs.Needs.{IsLawfulHistory, last_number, needs_number, numbers_of};
@@ -12,16 +15,21 @@ ghost use Rattle.otp_rules.specs.Rate.{IsRated};
 ghost use Rattle.otp_rules.specs.Run.{empty_state, reply_of};
 ghost use Rattle.otp_spec.specs.Supervisor.{supervisor_fault};
 ghost use Rattle.otp_spec.specs.declared.limits.TheConstants.{MAX_CHILDREN, MAX_EVENTS, MAX_READING};
+ghost use Rattle.otp_core.specs.declared.cut.TheConstants.{MAX_EVENTS_IN_ALL, MAX_KEPT_LINES};
+ghost use Rattle.otp_core.specs.CoreInside.{one_if};
 ghost use Rattle.otp_rules.specs.State.{is_over};
+ghost use Rattle.otp_rules.specs.Stops.{is_exit};
 ghost use Rattle.otp_rules.specs.Step.{is_late, step};
 ghost use Rattle.otp_rules.specs.Ends.{last_stamps};
 
+use crate::cut::{CutFault, MAX_EVENTS_IN_ALL, MAX_KEPT_LINES};
 use crate::opening::OpenFault;
-use otp_lists::answers::Answers;
+use crate::reply::ReplyAnswer;
+use otp_lists::answers::{Answers, greater_of};
 use otp_lists::effects::{count_orders, move_orders};
 use otp_lists::history::History;
 use otp_lists::next::{has_late, next_deadline};
-use otp_lists::state::is_over;
+use otp_lists::state::{answers_call, is_over};
 use otp_lists::waits::Waits;
 use otp_machine::{Given, Machine, Numbers};
 use otp_needs::needs_number;
@@ -41,7 +49,8 @@ pub struct Spare {
     pub answers: usize,
 }
 
-/// The core of one supervisor. Contracts see its history; its state is what the rules give for that history.
+/// The core of one supervisor. Contracts see its history, all of it; its state is what the rules give for that history. Stored
+/// are the events since the last cut ([`Core::cut`]).
 ///
 /// It is driven by a loop; whoever has it tells it what happens, and carries out its orders:
 ///
@@ -50,6 +59,7 @@ pub struct Spare {
 /// let mut numbers = Counter { last: core.last_number() };  // whatever gives process numbers
 /// let mut next = Some(Kind::Opened(own));
 /// while let Some(kind) = next {
+///     core.make_room(MAX_EVENTS)?;                         // a cut where the core is full: no history fills
 ///     core.prepare()?;                                     // all memory of the event; it may be refused
 ///     core.step_with(clock, kind, &mut numbers);           // decides; by its code takes no memory
 ///     carry_out(core.effects());                           // start, ask, kill; answers by Core::reply
@@ -59,13 +69,26 @@ pub struct Spare {
 /// }
 /// ```
 ///
-/// It ends when [`Core::has_ended`] or [`Core::is_full`]; until [`Core::next_deadline`] it may wait for its inbox.
+/// It ends when [`Core::has_ended`]; until [`Core::next_deadline`] it may wait for its inbox.
+///
+/// # Memory
+///
+/// A reckoning from the layouts, which nothing proves. A stored event takes 32 bytes, and 64 more for the term of a reason or
+/// 216 for a call; an answer takes 232, and an end 144 beside its restart times. A line of a list of children takes 192, and
+/// no more than 65,791 of them are kept (12 MiB). So under a limit of `n` events ([`Core::make_room`]) a core holds at most
+/// 480 `n` bytes and those lines, 42 MiB under [`MAX_EVENTS`], and lists that have room ahead hold up to as much again. A cut
+/// bounds neither the rows (288 bytes each, at most 256) nor what waits, nor effects that aren't cleared.
 #[derive(Drop)]
 pub struct Core {
     machine: Machine,
     history: History,
     /// The last process number that an event gave.
     last_number: u64,
+    /// The greatest number of a call whose answer a cut dropped, if one did.
+    gone_call: Option<u64>,
+    /// How many events were cut off, and how many children all events started.
+    events_cut: u64,
+    starts: u64,
     prepared: bool,
 }
 
@@ -89,7 +112,7 @@ impl Core {
     /// The first fault, as [`check_supervisor`] has it, or that there is no memory for the copy.
     pub fn open(alloc: Global, flags: SupFlags, specs: &[ChildSpec]) -> Result<Core, OpenFault>
         ensures ok { OnOk result (supervisor_fault flags specs.now ≡ None) }
-        ensures core { IfOk result (λ core. core ≡ record { base = empty_state flags specs.now; history = []; effects = []; prepared = false }) }
+        ensures core { IfOk result (λ core. core ≡ record { base = empty_state flags specs.now; history = []; cut = 0; effects = []; prepared = false }) }
         ensures fault { IfErr result (λ why. IsOpenFault why (supervisor_fault flags specs.now)) }
         ensures limit { OnOk result (length specs.now ≤ MAX_CHILDREN) }
     {
@@ -104,7 +127,7 @@ impl Core {
 
     /// The same for what was tested before: nothing is tested again or copied, and by its code no memory is taken.
     pub fn of(alloc: Global, supervisor: SupSpec) -> Core
-        ensures core { result ≡ record { base = empty_state supervisor.flags supervisor.specs; history = []; effects = []; prepared = false } }
+        ensures core { result ≡ record { base = empty_state supervisor.flags supervisor.specs; history = []; cut = 0; effects = []; prepared = false } }
         ensures limit { length supervisor.specs ≤ MAX_CHILDREN }
     {
         let (flags, specs) = supervisor.into_parts();
@@ -132,6 +155,9 @@ impl Core {
             machine,
             history: History::new(alloc),
             last_number: 0,
+            gone_call: None,
+            events_cut: 0,
+            starts: 0,
             prepared: false,
         }
     }
@@ -143,11 +169,25 @@ impl Core {
         self.prepared
     }
 
-    /// Whether the history holds [`MAX_EVENTS`] events.
+    /// Whether no further event is taken before a cut ([`Core::cut`]): the history holds [`MAX_EVENTS`] events, or the answers
+    /// since the last cut list [`MAX_KEPT_LINES`] children or more.
     pub fn is_full(&self) -> bool
-        ensures { IsTrue result ↔ (MAX_EVENTS ≤ length self.now.history) }
+        ensures full { result ≡ is_full self.now }
+        ensures events { result ≡ false → length (stored_of self.now) < MAX_EVENTS }
+    {
+        self.has_most_events() || self.has_most_lines()
+    }
+
+    fn has_most_events(&self) -> bool
+        ensures { result ≡ has_most_events self.now }
     {
         self.history.len() >= MAX_EVENTS
+    }
+
+    fn has_most_lines(&self) -> bool
+        ensures { result ≡ has_most_lines self.now }
+    {
+        self.machine.replies.has_lines(MAX_KEPT_LINES)
     }
 
     /// The orders of all events since they were last cleared, in order.
@@ -159,7 +199,8 @@ impl Core {
 
     /// All events, in order. They have numbers exactly where they started a child, and these rise.
     pub fn history(&self) -> &History
-        ensures value { result.now.events ≡ self.now.history }
+        ensures value { result.now.events ≡ stored_of self.now }
+        ensures past { result.now.past ≡ past_of self.now }
         ensures lawful { IsLawfulHistory self.now.base self.now.history }
     {
         &self.history
@@ -208,7 +249,8 @@ impl Core {
 
     /// Whether the supervisor runs, and under which number of its own.
     pub fn phase(&self) -> Phase
-        ensures { result ≡ (state_of self.now).phase }
+        ensures value { result ≡ (state_of self.now).phase }
+        ensures stored { result ≡ (stored_state self.now).phase }
     {
         self.machine.phase
     }
@@ -240,6 +282,13 @@ impl Core {
         ensures { result ≡ nat_lt 0 (length (state_of self.now).waiting) }
     {
         !self.machine.waiting.is_empty()
+    }
+
+    /// Whether the end of this process waits until no work is open.
+    pub fn has_exit_waiting(&self, number: u64) -> bool
+        ensures { result ≡ is_some (position (is_exit number) (state_of self.now).waiting) }
+    {
+        self.machine.waiting.find_exit(number).is_some()
     }
 
     /// The item that waits first. [`Kind::Resumed`] takes it.
@@ -295,16 +344,54 @@ impl Core {
         None
     }
 
-    /// The answer to the call with this number, if it was given.
-    pub fn reply(&self, call: u64) -> Option<&Reply>
-        ensures { MatchOption result (reply_of call (state_of self.now).replies ≡ None) (λ r. reply_of call (state_of self.now).replies ≡ Some r.now) }
+    /// The answer to the call with this number, if it was given since the cut.
+    fn kept_reply(&self, call: u64) -> Option<&Reply>
+        ensures { MatchOption result (reply_of call (stored_state self.now).replies ≡ None) (λ r. reply_of call (stored_state self.now).replies ≡ Some r.now) }
     {
         self.machine.replies.find(call)
     }
 
-    /// The end of each opening that ended, with the supervisor's own number then, in their order.
+    /// Whether the call was taken, and is still to be answered.
+    pub fn is_open_call(&self, call: u64) -> bool
+        ensures { result ≡ is_open_call call (state_of self.now) }
+    {
+        answers_call(call, self.machine.follows) || self.machine.waiting.has_call(call)
+    }
+
+    /// What is known of the answer to the call with this number: it is kept where it was given since the last cut
+    /// ([`Core::cut`]). Else a cut may have dropped it, or it was not given so far. A call that was never taken is gone too where
+    /// the answer to a later one was dropped, and may still be answered.
+    pub fn reply(&self, call: u64) -> ReplyAnswer<&Reply>
+        ensures { IsReplyAnswer (λ r. r.now) call self.now result }
+    {
+        match self.kept_reply(call) {
+            Some(reply) => ReplyAnswer::Kept(reply),
+            None => self.unkept(call),
+        }
+    }
+
+    /// What is known of an answer that isn't kept.
+    fn unkept(&self, call: u64) -> ReplyAnswer<&Reply>
+        requires { reply_of call (stored_state self.now).replies ≡ None }
+        ensures { IsReplyAnswer (λ r. r.now) call self.now result }
+    {
+        if is_at_most(call, self.gone_call) && !self.is_open_call(call) {
+            ReplyAnswer::Gone
+        } else {
+            ReplyAnswer::NotYet
+        }
+    }
+
+    /// The greatest number of a call whose answer a cut dropped, if one did.
+    pub fn greatest_dropped_call(&self) -> Option<u64>
+        ensures { result ≡ greatest_dropped self.now }
+    {
+        self.gone_call
+    }
+
+    /// The end of each opening that ended since the cut, with the supervisor's own number then, in their order.
     pub fn ends(&self) -> &[(u64, SupEnd)]
-        ensures { result.now ≡ (state_of self.now).ends }
+        ensures { result.now ≡ (stored_state self.now).ends }
     {
         &self.machine.ends
     }
@@ -324,6 +411,7 @@ impl Core {
     pub fn needs_number(&self, reading: u64, kind: &Kind) -> bool
         ensures { result ≡ needs_number (state_of self.now) reading kind.now }
     {
+        laws::cuts_agree();
         needs_number(&self.machine, reading, kind)
     }
 
@@ -347,6 +435,101 @@ impl Core {
             orders: self.machine.orders.capacity() - self.machine.orders.len(),
             answers: self.machine.replies.spare(),
         }
+    }
+
+    /// Makes a checkpoint: the state is the base from now on. The events before it are no longer stored, nor are the answers
+    /// to calls and the ends that they gave; nothing that happens later depends on those ([`laws::cuts_agree`]). Their memory
+    /// is kept for what comes, and none is taken.
+    ///
+    /// # Errors
+    ///
+    /// E8, and nothing changes, where there were more events than [`MAX_EVENTS_IN_ALL`].
+    pub fn cut(&mut self) -> Result<(), CutFault>
+        requires { self.old.effects ≡ [] }
+        ensures ok { OnOk result (self.new ≡ record self.old { cut = length self.old.history }) }
+        ensures past { OnOk result (past_of self.new ≡ self.old.history) }
+        ensures stored { OnOk result (stored_of self.new ≡ []) }
+        ensures room { OnOk result (is_full self.new ≡ false) }
+        ensures within { OnOk result (length self.old.history ≤ MAX_EVENTS_IN_ALL) }
+        ensures err { OnErr result (self.new ≡ self.old) }
+        ensures full { OnErr result (MAX_EVENTS_IN_ALL < length self.old.history) }
+    {
+        if self.can_cut() {
+            self.cut_off();
+            Ok(())
+        } else {
+            Err(CutFault::HistoryFull)
+        }
+    }
+
+    fn cut_off(&mut self)
+        requires effects { self.old.effects ≡ [] }
+        requires room { length self.old.history ≤ MAX_EVENTS_IN_ALL }
+        ensures cut { self.new ≡ record self.old { cut = length self.old.history } }
+        ensures past { past_of self.new ≡ self.old.history }
+        ensures stored { stored_of self.new ≡ [] }
+    {
+        self.events_cut += self.history.len() as u64;
+        self.gone_call = greater_of(self.gone_call, self.machine.replies.greatest());
+        self.machine.forget();
+        self.history.cut();
+    }
+
+    /// Makes room for another event: a checkpoint where the history holds as many events as this limit, or where the core is
+    /// full; else nothing changes. A loop that begins each event with it never finds the core full, and holds no more memory
+    /// than under that limit. [`MAX_EVENTS`] is the greatest limit that makes a difference.
+    ///
+    /// # Errors
+    ///
+    /// As of [`Core::cut`].
+    pub fn make_room(&mut self, limit: usize) -> Result<(), CutFault>
+        requires { self.old.effects ≡ [] }
+        ensures core { self.new ≡ record self.old { cut = self.new.cut } }
+        ensures cut { OnOk result (self.new.cut ≡ cut_after limit self.old) }
+        ensures room { OnOk result (is_full self.new ≡ false) }
+        ensures stored { OnOk result (length (stored_of self.new) < max limit 1) }
+        ensures err { OnErr result (self.new ≡ self.old) }
+        ensures full { OnErr result (MAX_EVENTS_IN_ALL < length self.old.history) }
+    {
+        if self.wants_cut(limit) {
+            self.cut()
+        } else {
+            Ok(())
+        }
+    }
+
+    fn wants_cut(&self, limit: usize) -> bool
+        ensures { result ≡ wants_cut limit self.now }
+    {
+        self.history.len() >= limit || self.is_full()
+    }
+
+    /// Whether there are no more events in all than a checkpoint counts ([`MAX_EVENTS_IN_ALL`]).
+    pub fn can_cut(&self) -> bool
+        ensures { IsTrue result ↔ (length self.now.history ≤ MAX_EVENTS_IN_ALL) }
+    {
+        self.history.len() as u64 <= MAX_EVENTS_IN_ALL - self.events_cut
+    }
+
+    /// Whether there were as many events in all as a checkpoint counts.
+    pub fn is_spent(&self) -> bool
+        ensures { IsTrue result ↔ (MAX_EVENTS_IN_ALL ≤ length self.now.history) }
+    {
+        self.history.len() as u64 >= MAX_EVENTS_IN_ALL - self.events_cut
+    }
+
+    /// How many events were cut off before those that are stored.
+    pub fn events_cut(&self) -> u64
+        ensures { result ≡ self.now.cut }
+    {
+        self.events_cut
+    }
+
+    /// How many children all events started, those that were cut off too.
+    pub fn count_starts(&self) -> u64
+        ensures { result ≡ length (numbers_of self.now.history) }
+    {
+        self.starts
     }
 
     /// Takes the memory of the next event. An `Err` leaves the core as it was.
@@ -373,23 +556,30 @@ impl Core {
         numbers: &mut N,
     ) -> Option<u64>
         requires prepared { IsTrue self.old.prepared }
-        requires room { length self.old.history < MAX_EVENTS }
+        requires room { is_full self.old ≡ false }
         requires reading { reading ≤ MAX_READING }
         requires number { IsTrue (needs_number (state_of self.old) reading kind) → N.can_give numbers.old }
         requires rises { (n : ℕ) (after : N) → N.gives numbers.old n after → All (λ m. m < n) (numbers_of self.old.history) }
         ensures number { is_some result ≡ needs_number (state_of self.old) reading kind }
         ensures drawn { MatchOption result (numbers.new ≡ numbers.old) (λ n. N.gives numbers.old n numbers.new) }
         ensures base { self.new.base ≡ self.old.base }
+        ensures cut { self.new.cut ≡ self.old.cut }
         ensures history { self.new.history ≡ self.old.history ++ record { reading = reading; number = result; kind = kind } ∷ [] }
+        ensures stored { stored_of self.new ≡ stored_of self.old ++ record { reading = reading; number = result; kind = kind } ∷ [] }
         ensures effects { self.new.effects ≡ self.old.effects ++ (step (state_of self.old) (record { reading = reading; number = result; kind = kind })).orders }
         ensures prepared { self.new.prepared ≡ false }
+        // The answers that its orders tell of are kept.
+        ensures answers { All (IsKept self.new) (step (state_of self.old) (record { reading = reading; number = result; kind = kind })).orders }
     {
+        laws::answers_are_told();
         laws::step_keeps_plan();
         laws::step_stamps();
         laws::step_keeps_stamped();
         laws::orders_are_appended();
+        laws::cuts_agree();
         let number = self.machine.step(reading, &kind, numbers);
         self.last_number = number.unwrap_or(self.last_number);
+        self.starts += one_if(number.is_some());
         self.history.push(reading, number, &kind);
         self.prepared = false;
         number
@@ -399,18 +589,38 @@ impl Core {
     /// It takes no memory by its code; its orders are put behind the effects that are there.
     pub fn step(&mut self, event: Event)
         requires prepared { IsTrue self.old.prepared }
-        requires room { length self.old.history < MAX_EVENTS }
+        requires room { is_full self.old ≡ false }
         requires reading { event.reading ≤ MAX_READING }
         requires number { is_some event.number ≡ needs_number (state_of self.old) event.reading event.kind }
         requires rises { (n : ℕ) → event.number ≡ Some n → All (λ m. m < n) (numbers_of self.old.history) }
         ensures base { self.new.base ≡ self.old.base }
+        ensures cut { self.new.cut ≡ self.old.cut }
         ensures history { self.new.history ≡ self.old.history ++ event ∷ [] }
+        ensures stored { stored_of self.new ≡ stored_of self.old ++ event ∷ [] }
         ensures effects { self.new.effects ≡ self.old.effects ++ (step (state_of self.old) event).orders }
         ensures prepared { self.new.prepared ≡ false }
+        ensures answers { All (IsKept self.new) (step (state_of self.old) event).orders }
     {
         let mut given = Given {
             number: event.number,
         };
         let _ = self.step_with(event.reading, event.kind, &mut given);
     }
+}
+
+/// Whether the number is no greater than this one, where there is one.
+fn is_at_most(number: u64, greatest: Option<u64>) -> bool
+    ensures { result ≡ is_at_most number greatest }
+{
+    match greatest {
+        None => false,
+        Some(greatest) => number <= greatest,
+    }
+}
+
+/// 1 for yes, 0 for no.
+fn one_if(yes: bool) -> u64
+    ensures { result ≡ one_if yes }
+{
+    if yes { 1 } else { 0 }
 }

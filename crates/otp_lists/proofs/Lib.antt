@@ -6,3 +6,4 @@ pub mod Rising
 pub mod Later
 pub mod Timed
 pub mod Queues
+pub mod Lines

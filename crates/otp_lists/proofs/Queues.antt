@@ -14,6 +14,9 @@ use Rattle.otp_rules.specs.declared.event.Waiting.{Waiting}
 use Rattle.otp_rules.specs.declared.event.Waiting.TheVariants as waiting
 use Rattle.otp_rules.specs.Ends.{refusal, refused}
 use Rattle.otp_rules.specs.Stops.{is_exit}
+use Rattle.otp_rules.specs.Cuts.{is_call_of}
+use Rattle.std.specs.List.{list_any}
+use Rattle.std.specs.Prelude.{◌||◌, ◌==◌}
 use Rattle.otp_lists.specs.declared.waits.ShortItem.{ShortItem}
 use Rattle.otp_lists.specs.declared.waits.ShortItem.TheVariants as short
 use Rattle.otp_lists.specs.WaitsInside.{calls_behind, calls_of, is_call, short_item, whole_item, whole_items}
@@ -175,3 +178,9 @@ exit_taken p xs cs place h =
     let one : ◌≡◌ {A = ℕ} (cond (is_call (get_or xs place d)) 1 0) 0 = ap (λ (b : Bool). cond {A = ℕ} b 1 0) other in
     let few : count_calls (remove xs place) + cond (is_call (get_or xs place d)) 1 0 ≡ count_calls xs = sum_by-remove (λ y. cond (is_call y) 1 0) xs place d at.0 in
     (at.0, omega (arith, one, few), left_at xs cs place d at.0 other)
+
+pub calls_found : (n : ℕ) (xs : List ShortItem) (cs : List Call) → list_any (is_call_of n) (whole_items xs cs) ≡ list_any (λ x. is_call_of n (whole_item x [])) xs
+calls_found n [] cs = refl
+calls_found n (short.Note _ ∷ xs) cs = calls_found n xs cs
+calls_found n (short.Retry _ ∷ xs) cs = calls_found n xs cs
+calls_found n (short.Call m ∷ xs) cs = ap (λ (b : Bool). (m == n) || b) (calls_found n xs (drop 1 cs))

@@ -10,8 +10,9 @@ use Rattle.otp_rules.specs.declared.event.Item.TheVariants as item
 use Rattle.otp_rules.specs.declared.event.Kind.{Kind}
 use Rattle.otp_rules.specs.declared.event.Kind.TheVariants as kind
 
--- the events in their order, and how many more can be kept without memory (own)
+-- the events in their order, those that were cut off before them, and how many more can be kept without memory (own)
 pub record Events : Type 0 where
+  pub past : List Event
   pub events : List Event
   pub room : ℕ
 

@@ -81,7 +81,7 @@ abbrev pub KindWithin : ℕ → ℕ → ShortKind → Type 0
 KindWithin terms calls k = (IsTrue (shows_term k.why) → k.place < terms) × (IsTrue (takes_call k.tag) → k.place < calls)
 
 abbrev pub events_of : Inside → Events
-events_of h = record { events = map (event_of h.terms.items h.calls.items) h.events.items; room = h.room }
+events_of h = record { past = h.past.events; events = map (event_of h.terms.items h.calls.items) h.events.items; room = h.room }
 
 pub record IsHistory (h : Inside) : Type 0 where
   -- each event has its term and its call

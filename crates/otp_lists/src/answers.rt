@@ -1,11 +1,12 @@
 //! The answers to calls, kept. A list of children that says the same as the one told last is not kept again, so that a
 //! supervisor that is asked for its children again and again, while nothing happens to them, keeps one list.
 
-ghost use Rattle.std.specs.Prelude.{◌≡◌, ◌+◌, ◌<◌, ◌≤◌, ◌++◌, ◌∷◌, ◌↔◌, ℕ, [], All, AllPairs, List, None, Some, get_or, length, map, IsTrue, IsFalse, MatchOption, OnOk, IfSome, vec_len, vec_capacity};
+ghost use Rattle.std.specs.Prelude.{◌≡◌, ◌+◌, ◌<◌, ◌≤◌, ◌++◌, ◌∷◌, ◌↔◌, ℕ, [], All, AllPairs, List, None, Some, get_or, length, map, nat_le, IsTrue, IsFalse, MatchOption, OnOk, IfSome, vec_len, vec_capacity};
 ghost use Rattle.otp_rules.specs.declared.call.Reply.{Reply};
 ghost use Rattle.otp_rules.specs.declared.call.Reply.TheVariants as reply;
-ghost use Rattle.otp_rules.specs.Counts.{which_of};
+ghost use Rattle.otp_rules.specs.Counts.{lines_in, lines_told, which_of};
 ghost use Rattle.otp_rules.specs.Run.{reply_of};
+ghost use Rattle.otp_rules.specs.Cuts.{greater_of, greatest_call};
 ghost use Rattle.otp_lists.specs.declared.answers.Answer.{Answer};
 ghost use Rattle.otp_lists.specs.AnswersInside.{answer_in, list_at};
 ghost use Rattle.otp_lists.specs.Kept.{list_after};
@@ -32,6 +33,8 @@ pub struct Answers {
     children: usize,
     /// Whether each call's number is above those answered before it: then an answer is found without a walk.
     is_rising: bool,
+    /// How many lines all lists of children have that were told, or 2^64 - 1 where they have more.
+    lines: usize,
     /// How many more answers the memory is known to hold.
     room: usize,
 }
@@ -59,6 +62,7 @@ impl Answers {
             replies: Vec::new(alloc),
             children: 0,
             is_rising: true,
+            lines: 0,
             room: 0,
         }
     }
@@ -92,6 +96,7 @@ impl Answers {
         ensures room { self.new.room + 1 ≡ self.old.room }
     {
         let place = self.replies.as_slice().len();
+        self.lines = self.lines.saturating_add(lines_in(&reply));
         self.children = place_of_list(&self.replies, &reply, self.children);
         self.replies.push_reserved(reply);
         self.is_rising = add_told(&mut self.told, self.is_rising, call, place);
@@ -112,8 +117,35 @@ impl Answers {
             return false;
         }
         self.is_rising = add_told(&mut self.told, self.is_rising, call, place);
+        self.lines = self.lines.saturating_add(rows.len());
         self.room -= 1;
         true
+    }
+
+    /// Forgets all answers; their memory is kept for others.
+    pub fn clear(&mut self)
+        ensures { self.new ≡ record { answers = []; last_list = None; room = self.old.room } }
+    {
+        self.told.clear();
+        self.replies.clear();
+        self.children = 0;
+        self.is_rising = true;
+        self.lines = 0;
+    }
+
+    /// Whether the lists of children that were told have this many lines: a list that was told again counts again, though it
+    /// is kept once.
+    pub fn has_lines(&self, limit: usize) -> bool
+        ensures { result ≡ nat_le limit (lines_told self.now.answers) }
+    {
+        limit <= self.lines
+    }
+
+    /// The greatest number of a call that was answered.
+    pub fn greatest(&self) -> Option<u64>
+        ensures { result ≡ greatest_call self.now.answers }
+    {
+        greatest_told(&self.told)
     }
 
     /// The last answer to this call. Where calls were answered in the order of their numbers, no walk is made.
@@ -186,6 +218,38 @@ fn is_above(told: &[Answer], call: u64) -> bool
     ensures { IsTrue result → (k : ℕ) (d : Answer) → k < length told.now → (get_or told.now k d).call < call }
 {
     told.is_empty() || told[told.len() - 1].call < call
+}
+
+/// How many lines the answer has, where it is a list of children.
+fn lines_in(reply: &Reply) -> usize
+    ensures { result ≡ lines_in reply.now }
+{
+    match reply {
+        Reply::Which(lines) => lines.as_slice().len(),
+        _ => 0,
+    }
+}
+
+/// The greater of two numbers, where there are two.
+pub fn greater_of(one: Option<u64>, other: Option<u64>) -> Option<u64>
+    ensures { result ≡ greater_of one other }
+{
+    match (one, other) {
+        (None, _) => other,
+        (Some(_), None) => one,
+        (Some(one), Some(other)) => Some(one.max(other)),
+    }
+}
+
+/// The greatest number of these calls.
+fn greatest_told(told: &[Answer]) -> Option<u64>
+    ensures { (replies : List Reply) → result ≡ greatest_call (map (answer_in replies) told.now) }
+{
+    let mut greatest = None;
+    for answer in told {
+        greatest = greater_of(greatest, Some(answer.call));
+    }
+    greatest
 }
 
 /// Where the reply of the last answer to this call stands.

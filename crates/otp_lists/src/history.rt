@@ -6,10 +6,11 @@ ghost use Rattle.otp_reason.specs.Texts.{text_block, text_with};
 ghost use Rattle.otp_lists.specs.Events.{calls_in, terms_in, terms_of};
 ghost use Rattle.otp_lists.specs.HistoryInside.{kind_of, number_of, plain_kind, reason_as, shows_term, term_at, KindWithin};
 
+use crate::past::Past;
 use otp_reason::{Note, Reason, TEXT_SIZE, Text};
 use otp_rules::{Call, Event, Item, Kind};
 use std::alloc::{AllocError, Global};
-use std::marker::Model;
+use std::marker::{Model, PhantomData};
 
 /// The most terms, and the most calls, that a history has places for.
 const MAX_PLACES: usize = 4_294_967_295;
@@ -72,6 +73,8 @@ pub struct History {
     calls: Vec<Call>,
     /// How many more events the memory is known to hold.
     room: usize,
+    /// The events that were cut off. It has no bytes.
+    past: Past,
 }
 
 impl Model for History {
@@ -89,9 +92,11 @@ impl Model for History {
 impl History {
     /// No events, and no room: takes no memory.
     pub fn new(alloc: Global) -> Self
-        ensures { result.events ≡ [] }
+        ensures events { result.events ≡ [] }
+        ensures past { result.past ≡ [] }
     {
         History {
+            past: Past::new(),
             events: Vec::new(alloc),
             terms: Vec::new(alloc),
             calls: Vec::new(alloc),
@@ -123,6 +128,7 @@ impl History {
     /// 4,294,967,295 terms or calls, which the history of a core never has, count as want of memory.
     pub fn reserve(&mut self, n: usize) -> Result<(), AllocError>
         ensures events { self.new.events ≡ self.old.events }
+        ensures past { self.new.past ≡ self.old.past }
         ensures ok { OnOk result (n ≤ self.new.room) }
         ensures err { OnErr result (self.new ≡ self.old) }
     {
@@ -147,6 +153,7 @@ impl History {
     pub fn push(&mut self, reading: u64, number: Option<u64>, kind: &Kind)
         requires { 0 < self.old.room }
         ensures events { self.new.events ≡ self.old.events ++ record { reading = reading; number = number; kind = kind.now } ∷ [] }
+        ensures past { self.new.past ≡ self.old.past }
         ensures room { self.new.room + 1 ≡ self.old.room }
     {
         let kind = short_kind(kind, number.is_some(), &mut self.terms, &mut self.calls);
@@ -156,6 +163,25 @@ impl History {
             kind,
         });
         self.room -= 1;
+    }
+
+    // All events, those that were cut off too.
+    fn whole(&self) -> Past
+        ensures all { result.events ≡ self.now.past ++ self.now.events }
+    {
+        Past {
+            marker: PhantomData,
+        }
+    }
+
+    /// Cuts all events off: their memory is kept for others, and contracts alone still see them.
+    pub fn cut(&mut self)
+        ensures { self.new ≡ record { past = self.old.past ++ self.old.events; events = []; room = self.old.room } }
+    {
+        self.past = self.whole();
+        self.events.clear();
+        self.terms.clear();
+        self.calls.clear();
     }
 }
 

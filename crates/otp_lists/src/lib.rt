@@ -7,6 +7,7 @@ pub mod counts;
 pub mod effects;
 pub mod history;
 pub mod next;
+pub mod past;
 pub mod places;
 pub mod restarts;
 pub mod starts;

@@ -1,9 +1,10 @@
 //! What is asked of a phase (`specs/State` of the rules).
 
 ghost use Rattle.std.specs.Prelude.{◌≡◌};
+ghost use Rattle.otp_rules.specs.Cuts.{answers_call};
 ghost use Rattle.otp_rules.specs.State.{is_over, own_number};
 
-use otp_rules::Phase;
+use otp_rules::{Phase, Sequel};
 
 pub fn is_over(phase: Phase) -> bool
     ensures { result ≡ is_over phase }
@@ -21,5 +22,17 @@ pub fn own_number(phase: Phase) -> u64
     match phase {
         Phase::Unopened => 0,
         Phase::Open(own) | Phase::Ended(own, _) => own,
+    }
+}
+
+/// Whether the open work answers this call.
+pub fn answers_call(number: u64, follows: Option<Sequel>) -> bool
+    ensures { result ≡ answers_call number follows }
+{
+    match follows {
+        Some(Sequel::Added(call) | Sequel::Restarted(call) | Sequel::Stopped(call)) => {
+            call == number
+        }
+        _ => false,
     }
 }

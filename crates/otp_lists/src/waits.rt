@@ -3,7 +3,8 @@
 //! ends of processes are taken, which ask nothing.
 
 ghost use Rattle.std.specs.Prelude.{◌≡◌, ◌+◌, ◌^◌, ◌<◌, ◌≤◌, ◌==◌, ◌++◌, ◌∷◌, [], IsTrue, MatchOption, OnErr, OnOk, Some, count_by, length, position, remove, slice_get, vec_len, vec_capacity};
-ghost use Rattle.std.specs.List.{filter_map};
+ghost use Rattle.std.specs.List.{filter_map, list_any};
+ghost use Rattle.otp_rules.specs.Cuts.{is_call_of};
 ghost use Rattle.std.specs.VecDeque.{deque_len, deque_capacity};
 ghost use Rattle.otp_rules.specs.Ends.{refusal, refused};
 ghost use Rattle.otp_rules.specs.Stops.{is_exit};
@@ -133,6 +134,13 @@ impl Waits {
         count_short_exits(&self.items, number)
     }
 
+    /// Whether this call waits.
+    pub fn has_call(&self, number: u64) -> bool
+        ensures { result ≡ list_any (is_call_of number) self.now.items }
+    {
+        has_short_call(&self.items, number)
+    }
+
     /// Takes the first waiting end of this process, which stands at the place.
     pub fn remove_exit(&mut self, number: u64, place: usize)
         requires { position (is_exit number) self.old.items ≡ Some place }
@@ -226,6 +234,22 @@ fn find_short_exit(items: &VecDeque<ShortItem>, number: u64) -> Option<usize>
     ensures { result ≡ position (λ x. is_exit number (whole_item x [])) items.now.items }
 {
     items.iter().position(|item| is_exit(item, number))
+}
+
+/// Whether the item is this call.
+fn is_call_of(item: &ShortItem, number: u64) -> bool
+    ensures { result ≡ is_call_of number (whole_item item.now []) }
+{
+    match item {
+        ShortItem::Call(call) => *call == number,
+        _ => false,
+    }
+}
+
+fn has_short_call(items: &VecDeque<ShortItem>, number: u64) -> bool
+    ensures { result ≡ list_any (λ x. is_call_of number (whole_item x [])) items.now.items }
+{
+    items.iter().any(|item| is_call_of(item, number))
 }
 
 fn count_short_exits(items: &VecDeque<ShortItem>, number: u64) -> usize

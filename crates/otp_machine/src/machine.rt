@@ -49,6 +49,7 @@ pub struct Machine {
 impl Machine {
     ghost use Rattle.otp_machine.specs.Seen.{outcome_of, CanAdvance, CanDecide, HasMemory, IsSound};
     ghost use Rattle.otp_rules.specs.State.{answer, closed, put_last};
+    ghost use Rattle.otp_rules.specs.Cuts.{base_of};
 
     pub fn flags(&self) -> SupFlags
         ensures { result ≡ (outcome_of self.now).state.flags }
@@ -83,6 +84,17 @@ impl Machine {
         reserve_in_all(&mut self.spare_lines, rows)?;
         reserve_in_all(&mut self.spare_stamps, stamps)?;
         reserve_in_all(&mut self.spare_kept_stamps, stamps)
+    }
+
+    /// Forgets the answers and the ends. Their memory is kept for others.
+    pub fn forget(&mut self)
+        ensures state { (outcome_of self.new).state ≡ base_of (outcome_of self.old).state }
+        ensures orders { (outcome_of self.new).orders ≡ (outcome_of self.old).orders }
+        ensures sound { IsSound self.old → IsSound self.new }
+        ensures memory { HasMemory self.old → HasMemory self.new }
+    {
+        self.replies.clear();
+        self.ends.clear();
     }
 
     /// The work closes.

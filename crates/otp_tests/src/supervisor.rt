@@ -4,7 +4,7 @@ use crate::driver::{
     Driver, History, Line, Order, child, end_of, error, exit, expect, play, two_children, up,
 };
 use crate::fixtures::{named, same};
-use otp_core::{Core, OpenFault};
+use otp_core::{Core, OpenFault, ReplyAnswer};
 use otp_reason::{Name, Note, Reason, Text};
 use otp_rules::{
     Call, CallFault, Cause, ChildProcess, CountsNow, Ending, Event, Item, Kind, Phase, Reply,
@@ -217,10 +217,10 @@ fn two_are_started(rt: &impl Abort, driver: &mut Driver, id: Name) -> Result<(),
     ];
     driver.lines(rt, &lines)?;
     let core = &driver.core;
-    assert!(rt; matches!(core.reply(1), Some(Reply::OkProcess(1))));
+    assert!(rt; matches!(core.reply(1), ReplyAnswer::Kept(Reply::OkProcess(1))));
     let simple = CallFault::SimpleOneForOne;
     assert!(rt; is_refused(core, 3, simple));
-    assert!(rt; core.reply(4).is_none());
+    assert!(rt; matches!(core.reply(4), ReplyAnswer::NotYet));
     let counts = CountsNow {
         specs: 1,
         active: 2,
@@ -234,7 +234,7 @@ fn two_are_started(rt: &impl Abort, driver: &mut Driver, id: Name) -> Result<(),
 // Whether the answer to this call is this fault.
 fn is_refused(core: &Core, call: u64, fault: CallFault) -> bool {
     match core.reply(call) {
-        Some(Reply::Refused(why)) => *why == fault,
+        ReplyAnswer::Kept(Reply::Refused(why)) => *why == fault,
         _ => false,
     }
 }
@@ -335,7 +335,7 @@ fn tells_children(
     call: u64,
     wanted: &[(Option<Name>, ChildProcess)],
 ) -> Result<(), Fail> {
-    let Some(Reply::Which(children)) = driver.core.reply(call) else {
+    let ReplyAnswer::Kept(Reply::Which(children)) = driver.core.reply(call) else {
         return Err(Fail::from("the children"));
     };
     let lines = children.as_slice();
@@ -415,17 +415,18 @@ fn answers_by_number(rt: &impl Abort, driver: &mut Driver) -> Result<(), Fail> {
     driver.take_calls(rt, &calls)?;
     assert!(rt; is_count(&driver.core, 3));
     assert!(rt; is_refused(&driver.core, 5, CallFault::NotSimple));
-    assert!(rt; driver.core.reply(4).is_none());
+    assert!(rt; matches!(driver.core.reply(4), ReplyAnswer::NotYet));
     let calls = [(5u64, count), (1, Call::WhichChildren)];
     driver.take_calls(rt, &calls)?;
     assert!(rt; is_count(&driver.core, 5));
-    assert!(rt; matches!(driver.core.reply(1), Some(Reply::Which(_))));
-    assert!(rt; driver.core.reply(10).is_none());
+    let first = driver.core.reply(1);
+    assert!(rt; matches!(first, ReplyAnswer::Kept(Reply::Which(_))));
+    assert!(rt; matches!(driver.core.reply(10), ReplyAnswer::NotYet));
     Ok(())
 }
 
-fn is_count(core: &Core, call: u64) -> bool {
-    matches!(core.reply(call), Some(Reply::Count(_)))
+pub(crate) fn is_count(core: &Core, call: u64) -> bool {
+    matches!(core.reply(call), ReplyAnswer::Kept(Reply::Count(_)))
 }
 
 #[test]
@@ -553,7 +554,10 @@ fn tells_when_ended(rt: &impl Abort, driver: &mut Driver) -> Result<(), Fail> {
 
 // How many children a copy of the answer to call 1 tells.
 fn count_told(core: &Core) -> Result<usize, Fail> {
-    let Reply::Which(told) = core.reply(1).ok_or("an answer")?.try_clone()? else {
+    let ReplyAnswer::Kept(reply) = core.reply(1) else {
+        return Err(Fail::from("an answer"));
+    };
+    let Reply::Which(told) = reply.try_clone()? else {
         return Err(Fail::from("the children"));
     };
     Ok(told.as_slice().len())
