@@ -1,4 +1,4 @@
-use Rattle.std.proofs.Common.{◌≡◌, ℕ, ◌+◌, ◌-◌, ◌≤◌, ◌++◌, ◌==◌, Bool, false, List, [], ◌∷◌, ◌∙◌, Option, None, Some, ap, arith, refl, subst, sym}
+use Rattle.std.proofs.Common.{◌≡◌, ℕ, ◌+◌, ◌-◌, ◌<◌, ◌≤◌, ◌++◌, ◌==◌, Bool, false, List, [], ◌∷◌, ◌∙◌, Option, None, Some, ap, arith, refl, subst, sym}
 use Rattle.std.specs.Prelude.{MatchOption, if◌then◌else◌, is_some, true, unwrap_or}
 use Rattle.otp_machine.specs.declared.numbers.Counter.{Counter}
 use Rattle.std.proofs.lemmas.Bool.{eqb-true}
@@ -10,7 +10,14 @@ use Rattle.otp_rules.specs.Run.{state_after}
 use Rattle.otp_rules.specs.State.{State}
 use Rattle.otp_rules.specs.Step.{step}
 use Rattle.otp_sim.specs.declared.driven.Stop.TheVariants as stop
-use Rattle.otp_sim.specs.Sim.{Sim, event_of, happen, orders_text, stepped}
+use Rattle.std.specs.List.{All}
+use Rattle.std.proofs.lemmas.List.Elements.{All-head, All-tail}
+use Rattle.otp_rules.specs.Answers.{IsKeptIn}
+use Rattle.otp_rules.specs.declared.call.Answered.{Answered}
+use Rattle.otp_rules.specs.declared.call.Reply.{Reply}
+use Rattle.otp_rules.specs.declared.event.Effect.TheVariants as effect
+use Rattle.otp_text.specs.Effects.{effect_line}
+use Rattle.otp_sim.specs.Sim.{Sim, event_of, happen, orders_text, stepped, told_by}
 
 -- one event more
 pub pushed : (s : State) (es : List Event) (e : Event) → state_after s (es ++ e ∷ []) ≡ (step (state_after s es) e).state
@@ -46,10 +53,10 @@ pub at_most_next : (number : Option ℕ) (p : ℕ) → ((n : ℕ) → number ≡
 at_most_next None p h = omega arith
 at_most_next (Some n) p h = let e : n ≡ p + 1 = h n refl in omega (arith, e)
 
-pub few_left : (n : ℕ) → ¬ (65536 ≤ n) → (65536 - n == 0) ≡ false
+pub few_left : (n : ℕ) → n < 4611686018427387904 → (4611686018427387904 - n == 0) ≡ false
 few_left n few =
-    (elim (65536 - n == 0) as (λ b. (65536 - n == 0) ≡ b → b ≡ false) [
-      | true ↦ λ e. let none : 65536 - n ≡ 0 = eqb-true (65536 - n) 0 e in absurd (few (omega (arith, none)))
+    (elim (4611686018427387904 - n == 0) as (λ b. (4611686018427387904 - n == 0) ≡ b → b ≡ false) [
+      | true ↦ λ e. let none : 4611686018427387904 - n ≡ 0 = eqb-true (4611686018427387904 - n) 0 e in absurd (omega (arith, few, none))
       | false ↦ λ e. refl
     ]) refl
 
@@ -63,3 +70,20 @@ numbered (Some n) needs old new e h = ap (λ (m : ℕ). Some m) h.0 ∙ ap (λ (
 
 pub gave_next : (number : Option ℕ) (old new : Counter) → Draws number old new → (n : ℕ) → number ≡ Some n → n ≡ old.last + 1
 gave_next number old new h n e = (subst (λ (o : Option ℕ). Draws o old new) e h).0
+
+-- what is printed for an order whose answer is kept
+told_same : (all kept : List Answered) (e : Effect) → IsKeptIn all kept e → told_by e kept ≡ told_by e all
+unfolding told_by
+told_same all kept (effect.Start _ _) h = refl
+told_same all kept (effect.Ask _ _) h = refl
+told_same all kept (effect.Kill _ _) h = refl
+told_same all kept (effect.Reply c) h = sym h
+told_same all kept effect.Ready h = refl
+told_same all kept (effect.End _) h = refl
+
+pub texts_same : (all kept : List Answered) (orders : List Effect) → All (IsKeptIn all kept) orders → orders_text kept orders ≡ orders_text all orders
+unfolding orders_text
+texts_same all kept [] h = refl
+texts_same all kept (e ∷ rest) h =
+    ap (λ (r : Option Reply). effect_line e r ++ orders_text kept rest) (told_same all kept e (All-head (IsKeptIn all kept) e rest h))
+    ∙ ap (λ (text : List ℕ). effect_line e (told_by e all) ++ text) (texts_same all kept rest (All-tail (IsKeptIn all kept) e rest h))

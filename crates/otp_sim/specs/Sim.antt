@@ -3,7 +3,7 @@ use Rattle.std.specs.Prelude.{ℕ, zero, suc, ◌+◌, ◌-◌, Bool, true, fals
 use Rattle.std.specs.List.{list_any, flat_map, slice_split}
 use Rattle.otp_spec.specs.declared.child.ChildSpec.{ChildSpec}
 use Rattle.otp_spec.specs.declared.flags.SupFlags.{SupFlags}
-use Rattle.otp_spec.specs.declared.limits.TheConstants.{MAX_EVENTS}
+use Rattle.otp_core.specs.declared.cut.TheConstants.{MAX_EVENTS_IN_ALL}
 use Rattle.otp_rules.specs.declared.call.Answered.{Answered}
 use Rattle.otp_rules.specs.declared.call.Reply.{Reply}
 use Rattle.otp_rules.specs.declared.event.Effect.{Effect}
@@ -36,7 +36,7 @@ pub record Sim : Type 0 where
   pub calls : ℕ
   -- a stop is wanted
   pub is_stopping : Bool
-  -- how many events the history still has room for
+  -- how many events it can still have: checkpoints drop old ones, so that only their number in all is bounded
   pub room : ℕ
   -- how many lines have been read
   pub lines : ℕ
@@ -77,7 +77,7 @@ stepped event o s =
       text = s.text ++ orders_text o.state.replies o.orders;
     }
 
--- something happens; with no room for its event the history is full
+-- something happens; after as many events as a supervisor can have, the history is full
 unfoldable pub happen : Kind → Sim → Sim
 happen kind s =
     if s.room == 0 then record s { end = Some stop.HistoryFull }
@@ -102,7 +102,7 @@ unfoldable pub followed : ℕ → Sim → Sim
 followed zero s = s
 followed (suc events) s = followed events (went_on s)
 
--- all of them, until none is left to happen; each event takes room of the history, and the last may find it full
+-- all of them, until none is left to happen; each is one of the events that can still be, and the last may find none left
 unfoldable pub settled : Sim → Sim
 settled s = followed (suc s.room) s
 
@@ -148,7 +148,7 @@ opened flags specs =
       processes = 0;
       calls = 0;
       is_stopping = false;
-      room = MAX_EVENTS;
+      room = MAX_EVENTS_IN_ALL;
       lines = 0;
       text = [];
       end = None;

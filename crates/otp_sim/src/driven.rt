@@ -15,7 +15,7 @@ pub const LINE_LIMIT: u64 = 1 << 63;
 pub enum Stop {
     /// The line with this number, counted from 1, has no form that is read.
     LineRefused(u64),
-    /// The history has no room for another event.
+    /// There were 2^62 events, as many as a supervisor has in its life.
     HistoryFull,
 }
 

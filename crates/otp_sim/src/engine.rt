@@ -22,7 +22,7 @@ pub enum SimEnd {
     Done,
     /// The line with this number, counted from 1, has no form that is read.
     LineRefused(u64),
-    /// The history has no room for another event.
+    /// There were 2^62 events, as many as a supervisor has in its life.
     HistoryFull,
     /// The input failed.
     InputFailed,

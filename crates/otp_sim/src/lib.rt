@@ -8,6 +8,7 @@ pub mod driven;
 pub mod engine;
 mod player;
 mod reading;
+pub mod room;
 mod serving;
 pub mod streams;
 mod whole;
@@ -15,6 +16,7 @@ mod writing;
 
 pub use device::{Failed, Input, Output, PIECE};
 pub use engine::{SimEnd, sim};
+pub use room::make_room;
 pub use streams::Counted;
 pub use writing::write_all;
 

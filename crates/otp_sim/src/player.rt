@@ -3,7 +3,7 @@
 ghost use Rattle.std.specs.Prelude.{ℕ, [], ◌≡◌, ◌+◌, ◌<◌, ◌≤◌, ◌++◌, None, Some, OnOk, OnErr, IfOk, IfSome, is_some, option_map};
 ghost use Rattle.otp_text.specs.Lines.{IsTimely};
 ghost use Rattle.std.specs.List.{flat_map};
-ghost use Rattle.otp_core.specs.View.{state_of};
+ghost use Rattle.otp_core.specs.View.{state_of, stored_state};
 ghost use Rattle.otp_rules.specs.Needs.{needs_number};
 ghost use Rattle.otp_rules.specs.Run.{reply_of};
 ghost use Rattle.otp_sim.specs.Sim.{begin_form, begin_line, event_of, happen, is_due, next_kind, opened, orders_text, take_read, ticked, told_by, went_on};
@@ -12,7 +12,8 @@ ghost use Rattle.otp_sim.specs.Runs.{with_text};
 ghost use Rattle.otp_sim.specs.declared.driven.TheConstants.{LINE_LIMIT};
 
 use crate::driven::Stop;
-use otp_core::{Core, Counter};
+use crate::room::make_room;
+use otp_core::{Core, Counter, ReplyAnswer};
 use otp_rules::{Effect, Item, Kind, Reply};
 use otp_spec::SupSpec;
 use otp_text::{Line, Printer, read_line};
@@ -48,7 +49,7 @@ impl Model for Player {
 
 /// Prints the orders of a core.
 fn print_orders(core: &Core, printer: &mut Printer, out: &mut Vec<u8>) -> Result<(), AllocError>
-    ensures ok { OnOk result (out.new.items ≡ out.old.items ++ orders_text (state_of core.now).replies core.now.effects) }
+    ensures ok { OnOk result (out.new.items ≡ out.old.items ++ orders_text (stored_state core.now).replies core.now.effects) }
     ensures kept { Begins out.old.items out.new.items }
 {
     print_all(core, core.effects(), printer, out)
@@ -61,7 +62,7 @@ fn print_all(
     printer: &mut Printer,
     out: &mut Vec<u8>,
 ) -> Result<(), AllocError>
-    ensures ok { OnOk result (out.new.items ≡ out.old.items ++ orders_text (state_of core.now).replies effects.now) }
+    ensures ok { OnOk result (out.new.items ≡ out.old.items ++ orders_text (stored_state core.now).replies effects.now) }
     ensures kept { Begins out.old.items out.new.items }
 {
     for effect in effects {
@@ -71,13 +72,16 @@ fn print_all(
     Ok(())
 }
 
-/// The answer that an order tells of.
+/// The answer that an order tells of. It is there where the order was given since the last checkpoint.
 #[tactic(auto, unfolding(crate::specs::Sim::told_by))]
 fn told_by<'a>(core: &'a Core, effect: &Effect) -> Option<&'a Reply>
-    ensures { option_map (λ r. r.now) result ≡ told_by effect.now (state_of core.now).replies }
+    ensures { option_map (λ r. r.now) result ≡ told_by effect.now (stored_state core.now).replies }
 {
     match effect {
-        Effect::Reply(call) => core.reply(*call),
+        Effect::Reply(call) => match core.reply(*call) {
+            ReplyAnswer::Kept(reply) => Some(reply),
+            ReplyAnswer::Gone | ReplyAnswer::NotYet => None,
+        },
         _ => None,
     }
 }
@@ -112,10 +116,10 @@ impl Player {
         ensures kept { Begins out.old.items out.new.items }
         ensures lines { self.new.lines ≡ self.old.lines }
     {
-        if self.core.is_full() {
+        let Ok(()) = make_room(&mut self.core) else {
             self.end = Some(Stop::HistoryFull);
             return Ok(());
-        }
+        };
         self.core.prepare()?;
         let mut numbers = Counter {
             last: self.core.last_number(),
