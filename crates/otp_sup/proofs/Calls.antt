@@ -212,7 +212,7 @@ calls_happened old new reading k kept joined law h same =
 
 -- nothing but memory was taken
 pub readied_state : (old new : OfficeView) → Readied old new → state_of new.core ≡ state_of old.core
-readied_state old new r = ap (λ (b : State). state_after b new.core.history) r.base ∙ ap (λ (l : List Event). state_after old.core.base l) r.history
+readied_state old new r = ap state_of r.core
 
 -- a body that was had back waited with no call
 pub without_calls : (test : Kept → Bool) (kept : List Kept) → ((b : Kept) → test b ≡ true → is_free_place b.place ≡ true) → calls_waiting (without_first test kept) ≡ calls_waiting kept

@@ -18,6 +18,7 @@ use Rattle.otp_rules.specs.declared.event.Kind.{Kind}
 use Rattle.otp_rules.specs.declared.event.Kind.TheVariants as kind
 use Rattle.otp_sup.specs.Facts.{item_of, items_of, OfficeView, IsOffice, Begins, orders_in, orders_along, word_ordered, IsOrdered}
 use Rattle.otp_sup.specs.Turns.{Readied, Happened, drawn_by}
+use Rattle.otp_sup.proofs.Readying.{readied_base, readied_history}
 
 -- the orders of one event more
 pub orders_on : (s : State) (es : List Event) (e : Event) → orders_of s (es ++ e ∷ []) ≡ orders_of s es ++ (step (state_after s es) e).orders
@@ -56,15 +57,15 @@ along_same core next base history =
 -- nothing but memory was taken
 pub readied : (old new : OfficeView) → Readied old new → IsOffice old → IsOffice new
 readied old new r i =
-    let all : orders_along new.core ≡ orders_along old.core = along_same old.core new.core r.base r.history in
+    let all : orders_along new.core ≡ orders_along old.core = along_same old.core new.core (readied_base old new r) (readied_history old new r) in
     let Ordered : List Effect → Type 0 = λ l. All (λ (post : ℕ × ℕ). IsOrdered (take (old.sent + 1) l) post.1) old.owner.posts in
     let Counted : ℕ → Type 0 = λ n. All (λ (post : ℕ × ℕ). IsOrdered (take (n + 1) (orders_along new.core)) post.1) old.owner.posts in
     let Posted : Holding → Type 0 = λ h. All (λ (post : ℕ × ℕ). IsOrdered (take (new.sent + 1) (orders_along new.core)) post.1) h.posts in
     let Slots : Holding → Type 0 = λ h. EachBetween new.first_slot (new.first_slot + 256) (Contains h.slots) in
     let From : ℕ → Type 0 = λ n. EachBetween n (n + 256) (Contains old.owner.slots) in
     record {
-      begins = subst Begins (sym r.base) i.begins;
-      numbers = ap (λ (h : Holding). h.drawn) r.owner ∙ i.numbers ∙ ap numbers_of (sym r.history);
+      begins = subst Begins (sym (readied_base old new r)) i.begins;
+      numbers = ap (λ (h : Holding). h.drawn) r.owner ∙ i.numbers ∙ ap numbers_of (sym (readied_history old new r));
       orders = r.outbox ∙ i.orders ∙ ap (λ n. drop n (orders_along old.core)) (sym r.sent) ∙ ap (λ (l : List Effect). drop new.sent l) (sym all);
       counted = let c = i.counted in let s = r.sent in let l = ap (λ (x : List Effect). length x) all in omega arith;
       posts = subst Posted (sym r.owner) (subst Counted (sym r.sent) (subst Ordered (sym all) i.posts));

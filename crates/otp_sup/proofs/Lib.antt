@@ -1,3 +1,5 @@
+pub mod Readying
+pub mod Cutting
 pub mod Keeps
 pub mod Sends
 pub mod Slots

@@ -22,7 +22,7 @@ use Rattle.otp_sup.specs.Letters.{one_if}
 use Rattle.otp_sup.specs.declared.port.Launched.{Launched}
 use Rattle.otp_sup.specs.Ports.{Taken, carried}
 use Rattle.otp_sup.specs.declared.orders.Sending.{Sending}
-use Rattle.otp_sup.specs.Turns.{has_some}
+use Rattle.otp_sup.specs.Facts.{has_some}
 use Rattle.otp_sup.proofs.Keeps.{ordered_longer}
 
 -- an order stands first where it stands

@@ -23,6 +23,7 @@ use Rattle.otp_sup.specs.Ports.{Taken, launched}
 use Rattle.otp_sup.specs.Shares.{starts_flushed}
 use Rattle.otp_sup.specs.Turns.{Happened, Readied}
 use Rattle.otp_sup.proofs.Keeps.{along_on, along_same}
+use Rattle.otp_sup.proofs.Readying.{readied_base, readied_history}
 use Rattle.otp_sup.proofs.Putting.{first_puts, put_by}
 
 -- an event sends nothing
@@ -35,7 +36,7 @@ sent_on old new e base history sent i =
 
 -- nothing but memory was taken
 pub sent_readied : (old new : OfficeView) → Readied old new → sent_of new ≡ sent_of old
-sent_readied old new r = ap (λ n. take n (orders_along new.core)) r.sent ∙ ap (λ (l : List Effect). take old.sent l) (along_same old.core new.core r.base r.history)
+sent_readied old new r = ap (λ n. take n (orders_along new.core)) r.sent ∙ ap (λ (l : List Effect). take old.sent l) (along_same old.core new.core (readied_base old new r) (readied_history old new r))
 
 -- once memory was taken and then one event happened, as many starts were sent as before
 pub started_on : (old mid new : OfficeView) (reading given : ℕ) (k : Kind) → Readied old mid → Happened reading k mid new → given ≡ length (starts_sent old) → given ≡ length (starts_sent new)
@@ -45,7 +46,7 @@ started_on old mid new reading given k r h is = is ∙ sym (ap (λ (l : List Eff
 pub turned_on : (old mid new : OfficeView) (reading given finds later found : ℕ) (k : Kind) → Readied old mid → Happened reading k mid new → given ≡ length old.core.history + finds → later ≡ given + 1 → found ≡ finds → later ≡ length new.core.history + found
 turned_on old mid new reading given finds later found k r h is more same =
     let events = ap (λ (l : List Event). length l) h.history ∙ length-append mid.core.history (record { reading = reading; number = h.number; kind = k } ∷ []) in
-    let before = ap (λ (l : List Event). length l) r.history in
+    let before = ap (λ (l : List Event). length l) (readied_history old mid r) in
     omega (arith, events, before, is, more, same)
 
 -- before the first event

@@ -10,6 +10,7 @@ use Rattle.otp_rules.specs.declared.event.Item.{Item}
 use Rattle.otp_rules.specs.declared.event.Item.TheVariants as item
 use Rattle.otp_rules.specs.declared.event.Kind.{Kind}
 use Rattle.otp_rules.specs.declared.event.Kind.TheVariants as kind
+use Rattle.otp_core.specs.View.{stored_of}
 use Rattle.otp_sup.specs.declared.told.ToldEnd.{ToldEnd}
 use Rattle.otp_sup.specs.Ends.{AreTold, IsToldIn, told_with}
 use Rattle.otp_sup.specs.Facts.{OfficeView}
@@ -59,15 +60,15 @@ one_more history e (item.Note n) (Some end) ends took comes t =
     }
 
 -- so it is after each event
-pub told_on : (old new : OfficeView) (reading : ℕ) (x : Item) (end : Option SupEnd) (ends : List ToldEnd) → Happened reading (kind.Took x) old new → Comes x end → AreTold old.core.history ends
-    → AreTold new.core.history (ends ++ told_with (length old.core.history) x end)
+pub told_on : (old new : OfficeView) (reading : ℕ) (x : Item) (end : Option SupEnd) (ends : List ToldEnd) → Happened reading (kind.Took x) old new → Comes x end → AreTold (stored_of old.core) ends
+    → AreTold (stored_of new.core) (ends ++ told_with (length (stored_of old.core)) x end)
 told_on old new reading x end ends h comes t =
-    subst (λ (l : List Event). AreTold l (ends ++ told_with (length old.core.history) x end)) (sym h.history)
-    (one_more old.core.history (record { reading = reading; number = h.number; kind = kind.Took x }) x end ends refl comes t)
+    subst (λ (l : List Event). AreTold l (ends ++ told_with (length (stored_of old.core)) x end)) (sym h.stored)
+    (one_more (stored_of old.core) (record { reading = reading; number = h.number; kind = kind.Took x }) x end ends refl comes t)
 
-pub told_still : (old new : OfficeView) (reading : ℕ) (k : Kind) (ends : List ToldEnd) → Happened reading k old new → AreTold old.core.history ends → AreTold new.core.history ends
+pub told_still : (old new : OfficeView) (reading : ℕ) (k : Kind) (ends : List ToldEnd) → Happened reading k old new → AreTold (stored_of old.core) ends → AreTold (stored_of new.core) ends
 told_still old new reading k ends h t =
-    subst (λ (l : List Event). AreTold l ends) (sym h.history) (longer old.core.history (record { reading = reading; number = h.number; kind = k } ∷ []) ends t)
+    subst (λ (l : List Event). AreTold l ends) (sym h.stored) (longer (stored_of old.core) (record { reading = reading; number = h.number; kind = k } ∷ []) ends t)
 
 -- none yet
 pub none_told : (history : List Event) → AreTold history []

@@ -15,6 +15,7 @@ use Rattle.otp_sup.specs.declared.turns.TurnFault.{TurnFault}
 use Rattle.otp_sup.specs.Facts.{OfficeView, TableView, orders_in}
 use Rattle.otp_sup.specs.Turns.{Did, Happened, IsRefusal, Readied, Refused, Took, TookOrEmpty, Turned, drawn_by, due_kind, early_answer}
 use Rattle.otp_sup.proofs.Calls.{readied_state}
+use Rattle.otp_sup.proofs.Readying.{readied_base, readied_cut, readied_history, readied_stored}
 use Rattle.otp_sup.proofs.Shared.{sent_readied}
 
 -- what happened once memory was taken happened to what was there before
@@ -24,11 +25,13 @@ readied_happened old mid new reading k r h =
     let same : state_of mid.core ≡ state_of old.core = readied_state old mid r in
     record {
       number = h.number;
-      history = h.history ∙ ap (λ (l : List Event). l ++ e ∷ []) r.history;
+      history = h.history ∙ ap (λ (l : List Event). l ++ e ∷ []) (readied_history old mid r);
+      stored = h.stored ∙ ap (λ (l : List Event). l ++ e ∷ []) (readied_stored old mid r);
+      cut = h.cut ∙ readied_cut old mid r;
       needed = h.needed ∙ ap (λ (s : State). needs_number s reading k) same;
-      rises = λ n is. subst (λ (l : List Event). All (λ (m : ℕ). m < n) (numbers_of l)) r.history (h.rises n is);
+      rises = λ n is. subst (λ (l : List Event). All (λ (m : ℕ). m < n) (numbers_of l)) (readied_history old mid r) (h.rises n is);
       outbox = h.outbox ∙ ap (λ (s : State). orders_in (step s e).orders) same;
-      base = h.base ∙ r.base;
+      base = h.base ∙ readied_base old mid r;
       sent = h.sent ∙ r.sent;
       same_sent = h.same_sent ∙ sent_readied old mid r;
       owner = h.owner ∙ ap (λ (o : Holding). drawn_by h.number o) r.owner;

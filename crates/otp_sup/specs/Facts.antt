@@ -24,7 +24,7 @@ use Rattle.otp_rules.specs.Slots.{AreSlotted}
 use Rattle.otp_table.specs.declared.row.Row.{Row}
 use Rattle.otp_table.specs.declared.row.RowState.{RowState}
 use Rattle.otp_table.specs.Rows.{has_process, has_slot}
-use Rattle.otp_core.specs.View.{View, state_of}
+use Rattle.otp_core.specs.View.{View, state_of, stored_of}
 use Rattle.otp_counts.specs.Counts.{EndsWith, Publishing}
 use Rattle.otp_inbox.specs.Tokens.{TakerState}
 use Rattle.otp_signals.specs.declared.view.Holding.{Holding}
@@ -34,7 +34,7 @@ use Rattle.otp_signals.specs.Signals.{word_of}
 use Rattle.otp_signals.specs.Lists.{EachBetween}
 use Rattle.otp_rules.specs.Waits.{starts_waiting}
 use Rattle.otp_sup.specs.declared.bodies.Kept.{Kept}
-use Rattle.otp_sup.specs.Bodies.{are_given, calls_waiting, count_away, count_given, count_home, has_body, is_own, started_by}
+use Rattle.otp_sup.specs.Bodies.{are_given, calls_waiting, count_away, count_given, count_home, has_body, is_own, started_by, starting_slot}
 use Rattle.otp_sup.specs.declared.told.ToldEnd.{ToldEnd}
 use Rattle.otp_sup.specs.Ends.{AreTold}
 
@@ -121,7 +121,7 @@ pub record IsOffice (o : OfficeView) : Type 0 where
 -- the office of a supervisor that was never opened
 abbrev pub new_office : SupFlags → List ChildSpec → Holding → ℕ → OfficeView
 new_office flags specs owner first_slot = record {
-  core = record { base = empty_state flags specs; history = []; effects = []; prepared = false };
+  core = record { base = empty_state flags specs; history = []; cut = 0; effects = []; prepared = false };
   owner = owner;
   outbox = [];
   sent = 0;
@@ -132,9 +132,18 @@ new_office flags specs owner first_slot = record {
 abbrev pub count_opened : SupFlags → List ChildSpec → ℕ
 count_opened flags specs = length (opening_specs (is_simple flags.strategy) specs)
 
+-- something is among these
+abbrev pub has_some : {X : Type 0} → List X → Bool
+has_some [] = false
+has_some (x ∷ xs) = true
+
 -- the processes whose starts are among these orders
 abbrev pub starts_in : List Effect → List ℕ
 starts_in orders = filter_map started_by orders
+
+-- the slot of the child that the first order starts, if it starts one
+abbrev pub slot_to_start : OfficeView → Option ℕ
+slot_to_start o = starting_slot o.outbox (state_of o.core).rows
 
 -- the processes whose starts an office sent
 abbrev pub starts_sent : OfficeView → List ℕ
@@ -253,7 +262,7 @@ pub record IsTable (t : TableView) : Type 0 where
   pub bodies : HasBodies t.office t.bodies
   -- what was published last is what it counts
   pub counts : EndsWith (counts_of (state_of t.office.core)) t.counts.published
-  pub told : AreTold t.office.core.history t.ends_told
+  pub told : AreTold (stored_of t.office.core) t.ends_told
   -- it gave senders a share for each start that it sent
   pub starts : t.taker.given.starts ≡ length (starts_sent t.office)
   -- and one for each event, and for each time that it found its inbox empty
@@ -273,7 +282,7 @@ pub record KeepsRules (t : TableView) : Type 0 where
   -- the counts that were published last are those of its children (count_children)
   pub counts : EndsWith (counts_of (state_of t.office.core)) t.counts.published
   -- the ends that it was told came with notes of its history: each is for the note's reason, and shown
-  pub told : AreTold t.office.core.history t.ends_told
+  pub told : AreTold (stored_of t.office.core) t.ends_told
   -- it gave senders a share for each start that it sent
   pub starts : t.taker.given.starts ≡ length (starts_sent t.office)
   -- and one for each event, and for each time that it found its inbox empty

@@ -19,8 +19,10 @@ use Rattle.otp_sup.specs.declared.orders.Sending.{Sending}
 use Rattle.otp_sup.specs.declared.orders.Sending.TheVariants as sending
 use Rattle.otp_sup.specs.declared.port.Flushed.{Flushed}
 use Rattle.otp_sup.specs.declared.port.Flushed.TheVariants as flushed
+use Rattle.otp_sup.specs.declared.port.Launched.{Launched}
+use Rattle.otp_sup.specs.declared.port.ToldNote.{ToldNote}
 use Rattle.otp_sup.specs.Facts.{OfficeView, post_of}
-use Rattle.otp_sup.specs.Ports.{Taken, launched, told}
+use Rattle.otp_sup.specs.Ports.{Taken, launched, taken_by, told}
 use Rattle.otp_sup.specs.Slots.{slot_of}
 
 -- the note of a supervisor's end to its parent: it failed where a child didn't start at the opening, else it exited
@@ -159,3 +161,8 @@ abbrev pub Flushes : Flushed → OfficeView → OfficeView → Taken → Taken �
 Flushes flushed.Empty old new before after refusals later = (old.outbox ≡ []) × (new ≡ old) × (after ≡ before) × (later ≡ refusals)
 Flushes flushed.Sent old new before after refusals later = SentFirst old new before after × (later ≡ refusals)
 Flushes flushed.Refused old new before after refusals later = SentNone old new × (after ≡ before) × (refusals < later)
+
+-- the same of what the port took before and after
+abbrev pub FlushesTo : Flushed → OfficeView → OfficeView → List Launched → List ToldNote → ℕ → List Launched → List ToldNote → ℕ → Type 0
+FlushesTo how old new processes notes refusals more_processes more_notes later =
+    Flushes how old new (taken_by processes notes) (taken_by more_processes more_notes) refusals later

@@ -5,6 +5,7 @@ pub mod Bodies
 pub mod Ports
 pub mod Ends
 pub mod Facts
+pub mod Cuts
 pub mod Shares
 pub mod Turns
 pub mod Flushes

@@ -1,8 +1,7 @@
 -- What a turn of a table does.
 use Rattle.otp_rules.specs.declared.ending.SupEnd.{SupEnd}
-use Rattle.std.specs.Prelude.{◌≡◌, ◌⊎◌, ◌<◌, All, ℕ, ⊤, ◌+◌, Bool, true, false, not, ◌&&◌, nat_lt, nat_le, is_some, List, [], ◌∷◌, ◌++◌, Option, Some, None, Result, Ok, Err, length, if◌then◌else◌, MatchOption, MatchResult, OnOk}
+use Rattle.std.specs.Prelude.{◌≡◌, ◌⊎◌, ◌<◌, All, ℕ, ⊤, ◌+◌, Bool, true, false, not, ◌&&◌, nat_lt, is_some, List, [], ◌∷◌, ◌++◌, Option, Some, None, Result, Ok, Err, length, if◌then◌else◌, MatchOption, MatchResult, OnOk}
 use Rattle.std.specs.List.{list_any}
-use Rattle.otp_spec.specs.declared.limits.TheConstants.{MAX_EVENTS}
 use Rattle.otp_rules.specs.declared.event.Item.{Item}
 use Rattle.otp_rules.specs.declared.event.Kind.{Kind}
 use Rattle.otp_rules.specs.declared.event.Kind.TheVariants as kind
@@ -11,16 +10,20 @@ use Rattle.otp_rules.specs.declared.work.Phase.TheVariants.{Unopened, Open, Ende
 use Rattle.otp_rules.specs.State.{State, is_over, own_number}
 use Rattle.otp_rules.specs.Needs.{needs_number, numbers_of}
 use Rattle.otp_rules.specs.declared.call.Reply.{Reply}
+use Rattle.otp_core.specs.declared.reply.ReplyAnswer.{ReplyAnswer}
+use Rattle.otp_core.specs.Replies.{IsReplyAnswer}
 use Rattle.otp_rules.specs.Run.{reply_of}
 use Rattle.otp_rules.specs.Step.{step}
 use Rattle.otp_rules.specs.Next.{next_deadline, next_kind}
-use Rattle.otp_core.specs.View.{state_of}
+use Rattle.otp_core.specs.View.{state_of, stored_of, stored_state}
 use Rattle.otp_rules.specs.Counts.{counts_of}
 use Rattle.otp_counts.specs.Counts.{after_publish}
 use Rattle.otp_signals.specs.declared.signal.Signal.{Signal}
 use Rattle.otp_signals.specs.declared.view.Holding.{Holding}
 use Rattle.otp_signals.specs.Holdings.{after_draw}
 use Rattle.otp_signals.specs.declared.signal.Signal.TheVariants as signal
+use Rattle.otp_sup.specs.declared.port.Launched.{Launched}
+use Rattle.otp_sup.specs.declared.port.ToldNote.{ToldNote}
 use Rattle.otp_sup.specs.declared.turns.TurnAnswer.{TurnAnswer}
 use Rattle.otp_sup.specs.declared.turns.TurnAnswer.TheVariants as answer
 use Rattle.otp_sup.specs.declared.turns.TurnFault.{TurnFault}
@@ -29,19 +32,17 @@ use Rattle.otp_sup.specs.Ends.{told_with}
 use Rattle.otp_sup.specs.Letters.{Comes, carries_body, one_if}
 use Rattle.otp_sup.specs.declared.bodies.Kept.{Kept}
 use Rattle.otp_sup.specs.Bodies.{bodies_after, bodies_in}
-use Rattle.otp_sup.specs.Facts.{KeepsRules, OfficeView, TableView, orders_in, sent_of}
+use Rattle.otp_sup.specs.Cuts.{CutWhereFull, HasTooManyEvents}
+use Rattle.otp_sup.specs.Facts.{KeepsRules, OfficeView, TableView, has_some, orders_in, sent_of}
 use Rattle.otp_sup.specs.Flushes.{SentOrders}
-use Rattle.otp_sup.specs.Ports.{Taken, carried}
+use Rattle.otp_sup.specs.Ports.{Taken, carried, taken_by}
+use Rattle.otp_core.specs.Full.{is_full}
 use Rattle.otp_sup.specs.Shares.{HasStarted, gave, one_turn}
 
 abbrev pub is_told : Signal → Bool
 is_told signal.None = false
 is_told signal.Shutdown = true
 is_told signal.Kill = true
-
-abbrev pub has_some : {X : Type 0} → List X → Bool
-has_some [] = false
-has_some (x ∷ xs) = true
 
 -- a supervisor in this phase may be opened under the number
 abbrev pub may_open : ℕ → Phase → Bool
@@ -60,13 +61,13 @@ answer_of kind.Resumed = answer.Resumed
 answer_of kind.Ticked = answer.Ticked
 answer_of kind.Stopped = answer.Stopped
 
--- the answer of a turn that changes nothing
+-- the answer of a turn that changes nothing: where orders are still to be sent, and where the core is full, too
 unfoldable pub early_answer : OfficeView → ℕ → Option (Result TurnAnswer TurnFault)
 early_answer o number =
     if nat_lt number (own_number (state_of o.core).phase) then Some (Ok answer.Ended)
     else if nat_lt (own_number (state_of o.core).phase) number && not (is_over (state_of o.core).phase) then Some (Err fault.WrongNumber)
     else if has_some o.outbox then Some (Ok answer.Pending)
-    else if nat_le MAX_EVENTS (length o.core.history) then Some (Ok answer.Full)
+    else if is_full o.core then Some (Ok answer.Full)
     else None
 
 -- the number of an event was drawn, if it has one
@@ -78,6 +79,9 @@ drawn_by (Some n) h = after_draw n h
 pub record Happened (reading : ℕ) (kind : Kind) (old new : OfficeView) : Type 0 where
   pub number : Option ℕ
   pub history : new.core.history ≡ old.core.history ++ record { reading = reading; number = number; kind = kind } ∷ []
+  -- and last among the stored ones, behind the same checkpoint
+  pub stored : stored_of new.core ≡ stored_of old.core ++ record { reading = reading; number = number; kind = kind } ∷ []
+  pub cut : new.core.cut ≡ old.core.cut
   -- it has a number exactly where it starts a child, above all earlier ones
   pub needed : is_some number ≡ needs_number (state_of old.core) reading kind
   pub rises : (n : ℕ) → number ≡ Some n → All (λ m. m < n) (numbers_of old.core.history)
@@ -92,8 +96,7 @@ pub record Happened (reading : ℕ) (kind : Kind) (old new : OfficeView) : Type 
 
 -- nothing but that memory was taken
 pub record Readied (old new : OfficeView) : Type 0 where
-  pub base : new.core.base ≡ old.core.base
-  pub history : new.core.history ≡ old.core.history
+  pub core : new.core ≡ record old.core { prepared = new.core.prepared }
   pub owner : new.owner ≡ old.owner
   pub outbox : new.outbox ≡ old.outbox
   pub sent : new.sent ≡ old.sent
@@ -123,7 +126,7 @@ pub record Took (reading : ℕ) (old new : TableView) : Type 0 where
   -- the end that came with the item, if one did, is the last that was told
   pub end : Option SupEnd
   pub comes : Comes item end
-  pub ends : new.ends_told ≡ old.ends_told ++ told_with (length old.office.core.history) item end
+  pub ends : new.ends_told ≡ old.ends_told ++ told_with (length (stored_of old.office.core)) item end
 
 pub record FoundEmpty (old new : TableView) : Type 0 where
   pub office : Readied old.office new.office
@@ -188,8 +191,9 @@ pub record IsFlushed (refusals later : ℕ) : Type 0 where
   pub rules : KeepsRules table
   pub sent : (table.office.outbox ≡ []) ⊎ (refusals < later)
 
--- one table of this inbox, which kept the rules, had such a turn, and then its first orders were sent, until none was left
--- or the port refused: the port took exactly what those put and tell. What is left under the lock keeps the rules
+-- one table of this inbox, which kept the rules, had such a turn; then a checkpoint was made where that was Full; then its
+-- first orders were sent, until none was left or the port refused: the port took exactly what those put and tell. What is
+-- left under the lock keeps the rules
 pub record LockedTurn (inbox number reading : ℕ) (told : Signal) (result : Result TurnAnswer TurnFault) (before after : Taken) (refusals later : ℕ) : Type 0 where
   pub old : TableView
   pub turned : TableView
@@ -197,24 +201,41 @@ pub record LockedTurn (inbox number reading : ℕ) (told : Signal) (result : Res
   pub rules : KeepsRules old
   pub of_inbox : old.taker.inbox ≡ inbox
   pub turn : Turned number reading told old turned result
+  -- where the core was full, a checkpoint was made
+  pub cut : TableView
+  pub was_cut : CutWhereFull result turned cut
+  -- so the next turn under this number isn't Full: it does what is due, a stop too
+  pub next : result ≡ Ok answer.Full → (early_answer new.office number ≡ None) ⊎ HasTooManyEvents new.office.core
   -- beyond the early answers nothing is done without a number for the next start
   pub quota : early_answer old.office number ≡ None → OnOk result (0 < old.office.owner.quota)
-  pub sent : SentOrders turned.office new.office before after
+  pub sent : SentOrders cut.office new.office before after
   pub left : (new.office.outbox ≡ []) ⊎ (refusals < later)
   -- a start was credited for each process that the port took
-  pub taker : new.taker ≡ record turned.taker { given = new.taker.given }
-  pub started : HasStarted (length before.processes) (length after.processes) turned.taker.given new.taker.given
-  pub counts : new.counts ≡ turned.counts
-  pub ends : new.ends_told ≡ turned.ends_told
+  pub taker : new.taker ≡ record cut.taker { given = new.taker.given }
+  pub started : HasStarted (length before.processes) (length after.processes) cut.taker.given new.taker.given
+  pub counts : new.counts ≡ cut.counts
+  pub ends : new.ends_told ≡ cut.ends_told
   -- each body that the table has no more went with a process that the port took
-  pub count : bodies_in new.bodies + carried after.processes ≡ bodies_in turned.bodies + carried before.processes
+  pub count : bodies_in new.bodies + carried after.processes ≡ bodies_in cut.bodies + carried before.processes
   pub kept : KeepsRules new
 
--- this is what a table that keeps the rules has kept as the answer to the call, or it has kept none
-pub record HasReply (call : ℕ) (found : Option Reply) : Type 0 where
+-- what a turn under the lock did: one table of this inbox had it; or what is there is of another inbox, and the port took nothing
+abbrev pub HadTurn : ℕ → ℕ → ℕ → Signal → Result TurnAnswer TurnFault → List Launched → List ToldNote → ℕ → List Launched → List ToldNote → ℕ → Type 0
+HadTurn inbox number reading told result processes notes refusals more_processes more_notes later =
+    LockedTurn inbox number reading told result (taken_by processes notes) (taken_by more_processes more_notes) refusals later
+    ⊎ ((result ≡ Ok answer.Pending) × IsOfAnother inbox × (taken_by more_processes more_notes ≡ taken_by processes notes))
+
+-- this is what a table that keeps the rules knows of the answer to the call
+pub record HasReply (call : ℕ) (found : ReplyAnswer Reply) : Type 0 where
   pub table : TableView
   pub rules : KeepsRules table
-  pub is : reply_of call (state_of table.office.core).replies ≡ found
+  pub is : IsReplyAnswer (λ r. r) call table.office.core found
+
+-- a table that keeps the rules has an answer to the call
+pub record KeepsReply (call : ℕ) : Type 0 where
+  pub table : TableView
+  pub rules : KeepsRules table
+  pub kept : is_some (reply_of call (stored_state table.office.core).replies) ≡ true
 
 -- this is the least deadline of the children of a table that keeps the rules
 pub record HasDeadline (found : Option ℕ) : Type 0 where

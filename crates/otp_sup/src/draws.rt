@@ -1,10 +1,11 @@
 //! A step of a core that draws its number by a seat of words that threads share.
-ghost use Rattle.std.specs.Prelude.{◌≡◌, ℕ, ◌+◌, ◌<◌, ◌≤◌, [], ◌∷◌, ◌++◌, is_some, length, All, IsTrue, Some};
-ghost use Rattle.otp_spec.specs.declared.limits.TheConstants.{MAX_EVENTS, MAX_READING};
-ghost use Rattle.otp_core.specs.View.{state_of};
+ghost use Rattle.std.specs.Prelude.{◌≡◌, ℕ, ◌+◌, ◌<◌, ◌≤◌, [], ◌∷◌, ◌++◌, is_some, false, All, IsTrue, Some};
+ghost use Rattle.otp_spec.specs.declared.limits.TheConstants.{MAX_READING};
+ghost use Rattle.otp_core.specs.View.{state_of, stored_of};
 ghost use Rattle.otp_rules.specs.Needs.{needs_number, numbers_of};
 ghost use Rattle.otp_rules.specs.Step.{step};
 ghost use Rattle.otp_signals.specs.Holdings.{after_draw};
+ghost use Rattle.otp_core.specs.Full.{is_full};
 ghost use Rattle.otp_sup.specs.Turns.{drawn_by};
 
 use otp_core::{Core, Numbers};
@@ -46,7 +47,7 @@ pub(crate) fn step_drawing<N: WordsNaming>(
     kind: Kind,
 ) -> Option<u64>
     requires prepared { IsTrue core.old.prepared }
-    requires room { length core.old.history < MAX_EVENTS }
+    requires room { is_full core.old ≡ false }
     requires reading { reading ≤ MAX_READING }
     requires quota { 0 < owner.old.quota }
     requires numbers { owner.old.drawn ≡ numbers_of core.old.history }
@@ -54,7 +55,9 @@ pub(crate) fn step_drawing<N: WordsNaming>(
     ensures needed { is_some result ≡ needs_number (state_of core.old) reading kind }
     ensures rises { (n : ℕ) → result ≡ Some n → All (λ m. m < n) (numbers_of core.old.history) }
     ensures base { core.new.base ≡ core.old.base }
+    ensures cut { core.new.cut ≡ core.old.cut }
     ensures history { core.new.history ≡ core.old.history ++ record { reading = reading; number = result; kind = kind } ∷ [] }
+    ensures stored { stored_of core.new ≡ stored_of core.old ++ record { reading = reading; number = result; kind = kind } ∷ [] }
     ensures effects { core.new.effects ≡ core.old.effects ++ (step (state_of core.old) (record { reading = reading; number = result; kind = kind })).orders }
 {
     let mut draws = Draws { words, owner };

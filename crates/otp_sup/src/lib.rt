@@ -34,4 +34,4 @@ pub use port::{Flushed, Launched, MemoryPort, NewProcess, Port, ToldNote};
 pub use sup::{Sup, SupParts, Unlocked};
 pub use table::Table;
 pub use told::{Evidence, ToldEnd, evidence_of};
-pub use turns::{TurnAnswer, TurnFault};
+pub use turns::{CutAnswer, TurnAnswer, TurnFault};

@@ -1,6 +1,6 @@
 //! Where bodies go: at an event, and when an order is sent.
-ghost use Rattle.std.specs.Prelude.{◌≡◌, ◌+◌, ◌++◌, ◌∷◌, ◌<◌, ◌≤◌, true, List, [], if◌then◌else◌, is_some, length, position, ℕ, IsSome, IsTrue, IfSome, MatchOption, None, Some};
-ghost use Rattle.otp_spec.specs.declared.limits.TheConstants.{MAX_EVENTS, MAX_READING};
+ghost use Rattle.std.specs.Prelude.{◌≡◌, ◌+◌, ◌++◌, ◌∷◌, ◌<◌, ◌≤◌, true, false, List, [], if◌then◌else◌, is_some, length, position, ℕ, IsSome, IsTrue, IfSome, MatchOption, None, Some};
+ghost use Rattle.otp_spec.specs.declared.limits.TheConstants.{MAX_READING};
 ghost use Rattle.otp_core.specs.View.{state_of};
 ghost use Rattle.otp_rules.specs.State.{State, is_over};
 ghost use Rattle.otp_rules.specs.Waits.{starts_waiting};
@@ -10,6 +10,7 @@ ghost use Rattle.otp_sup.specs.declared.bodies.Kept.{Kept};
 ghost use Rattle.otp_sup.specs.declared.bodies.Origin.TheVariants as origin;
 ghost use Rattle.otp_sup.specs.Letters.{one_if};
 ghost use Rattle.otp_sup.specs.Facts.{HasBodies, IsOpening};
+ghost use Rattle.otp_core.specs.Full.{is_full};
 ghost use Rattle.otp_sup.specs.Turns.{Happened};
 
 use crate::bodies::Bodies;
@@ -28,7 +29,7 @@ pub(crate) fn happen<N: WordsNaming, B: Drop>(
     body: Option<B>,
 )
     requires prepared { IsTrue office.old.core.prepared }
-    requires room { length office.old.core.history < MAX_EVENTS }
+    requires room { is_full office.old.core ≡ false }
     requires quota { 0 < office.old.owner.quota }
     requires reading { reading ≤ MAX_READING }
     requires outbox { office.old.outbox ≡ [] }

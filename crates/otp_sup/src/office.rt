@@ -1,15 +1,17 @@
 //! A core with the seat that draws its numbers, and its orders on their way.
-ghost use Rattle.std.specs.Prelude.{◌≡◌, ℕ, ◌+◌, ◌<◌, ◌≤◌, ◌^◌, [], true, length, Contains, IsTrue, IfSome, IfErr, OnOk, MatchOption, None};
-ghost use Rattle.otp_spec.specs.declared.limits.TheConstants.{MAX_CHILDREN, MAX_EVENTS, MAX_READING};
-ghost use Rattle.otp_core.specs.View.{state_of};
+ghost use Rattle.std.specs.Prelude.{◌≡◌, ℕ, ◌+◌, ◌<◌, ◌≤◌, ◌^◌, [], true, false, length, Contains, IsTrue, IfSome, IfErr, OnErr, OnOk, MatchOption, None};
+ghost use Rattle.otp_spec.specs.declared.limits.TheConstants.{MAX_CHILDREN, MAX_READING};
+ghost use Rattle.otp_core.specs.View.{state_of, stored_of};
 ghost use Rattle.otp_rules.specs.State.{own_number, is_over};
 ghost use Rattle.otp_rules.specs.Counts.{counts_of};
 ghost use Rattle.otp_rules.specs.Next.{next_deadline};
-ghost use Rattle.otp_rules.specs.Run.{reply_of};
+ghost use Rattle.otp_core.specs.Replies.{IsReplyAnswer};
 ghost use Rattle.otp_counts.specs.Words.{AreFew};
 ghost use Rattle.otp_signals.specs.Lists.{EachBetween};
-ghost use Rattle.otp_sup.specs.Facts.{item_of, new_office, starts_in, IsOpening, KeepsOffice};
+ghost use Rattle.otp_sup.specs.Facts.{has_some, item_of, new_office, starts_in, IsOpening, KeepsOffice};
 ghost use Rattle.otp_sup.specs.Bodies.{is_any_waiting};
+ghost use Rattle.otp_sup.specs.Cuts.{HasTooManyEvents, cut_office};
+ghost use Rattle.otp_core.specs.Full.{is_full};
 ghost use Rattle.otp_sup.specs.Shares.{HasTurned};
 ghost use Rattle.otp_sup.specs.Slots.{AreBelow};
 ghost use Rattle.otp_sup.specs.declared.turns.TurnFault.TheVariants as fault;
@@ -18,7 +20,7 @@ ghost use Rattle.otp_sup.specs.Turns.{is_told, may_open, due_kind, early_answer,
 use crate::draws::step_drawing;
 use crate::orders::{count_starts, first_order};
 use crate::turns::{TurnAnswer, TurnFault};
-use otp_core::Core;
+use otp_core::{Core, CutFault, ReplyAnswer};
 use otp_rules::{CountsNow, Kind, Phase, Reply, laws};
 use otp_signals::{Owner, Signal, Words, WordsNaming};
 use otp_spec::SupSpec;
@@ -57,9 +59,7 @@ impl<N: WordsNaming> Model for Office<N> {
 
 /// Takes the memory of the next event. A refusal leaves the core as it was.
 fn ready(core: &mut Core) -> Result<(), TurnFault>
-    ensures base { core.new.base ≡ core.old.base }
-    ensures history { core.new.history ≡ core.old.history }
-    ensures effects { core.new.effects ≡ core.old.effects }
+    ensures core { core.new ≡ record core.old { prepared = core.new.prepared } }
     ensures prepared { OnOk result (core.new.prepared ≡ true) }
     ensures refused { IfErr result (λ why. why ≡ fault.OutOfMemory) }
 {
@@ -119,7 +119,7 @@ impl<N: WordsNaming> Office<N> {
     #[tactic(auto, unfolding(crate::specs::Turns::early_answer))]
     pub fn early_answer(&self, number: u64) -> Option<Result<TurnAnswer, TurnFault>>
         ensures answer { result ≡ early_answer self.now number }
-        ensures room { result ≡ None → length self.now.core.history < MAX_EVENTS }
+        ensures room { result ≡ None → is_full self.now.core ≡ false }
         ensures outbox { result ≡ None → self.now.outbox ≡ [] }
         ensures no_turn { IfSome result (λ early. (n : ℕ) → HasTurned early n n) }
     {
@@ -187,7 +187,7 @@ impl<N: WordsNaming> Office<N> {
     /// One event. Its number is drawn where it starts a child.
     pub fn happen(&mut self, words: &Words<N>, reading: u64, kind: Kind)
         requires prepared { IsTrue self.old.core.prepared }
-        requires room { length self.old.core.history < MAX_EVENTS }
+        requires room { is_full self.old.core ≡ false }
         requires quota { 0 < self.old.owner.quota }
         requires reading { reading ≤ MAX_READING }
         requires outbox { self.old.outbox ≡ [] }
@@ -226,9 +226,36 @@ impl<N: WordsNaming> Office<N> {
         let _ = self.core.kept_restarts();
     }
 
-    /// How many events happened.
+    /// Whether an order is still to be sent.
+    pub(crate) fn is_pending(&self) -> bool
+        ensures pending { result ≡ has_some self.now.outbox }
+        ensures none { result ≡ false → self.now.outbox ≡ [] }
+    {
+        first_order(self.core.effects(), self.next) < self.core.effects().len()
+    }
+
+    /// Makes a checkpoint ([`Core::cut`]).
+    pub(crate) fn cut(&mut self) -> Result<(), CutFault>
+        requires { self.old.outbox ≡ [] }
+        ensures ok { OnOk result (self.new ≡ cut_office self.old) }
+        ensures err { OnErr result (self.new ≡ self.old) }
+        ensures room { OnOk result (is_full self.new.core ≡ false) }
+        ensures many { OnErr result (HasTooManyEvents self.old.core) }
+    {
+        if !self.core.can_cut() {
+            return Err(CutFault::HistoryFull);
+        }
+        self.core.clear_effects();
+        let Ok(()) = self.core.cut() else {
+            unreachable!()
+        };
+        self.next = 0;
+        Ok(())
+    }
+
+    /// How many events are stored.
     pub(crate) fn events(&self) -> usize
-        ensures { result ≡ length self.now.core.history }
+        ensures { result ≡ length (stored_of self.now.core) }
     {
         self.core.history().len()
     }
@@ -275,8 +302,8 @@ impl<N: WordsNaming> Office<N> {
     }
 
     /// The kept answer of the call with this number.
-    pub(crate) fn reply(&self, call: u64) -> Option<&Reply>
-        ensures { MatchOption result (reply_of call (state_of self.now.core).replies ≡ None) (λ r. reply_of call (state_of self.now.core).replies ≡ Some r.now) }
+    pub(crate) fn reply(&self, call: u64) -> ReplyAnswer<&Reply>
+        ensures { IsReplyAnswer (λ r. r.now) call self.now.core result }
     {
         self.core.reply(call)
     }

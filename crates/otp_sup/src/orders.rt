@@ -5,7 +5,7 @@ ghost use Rattle.otp_rules.specs.Effects.{is_reply};
 ghost use Rattle.otp_rules.specs.Ended.{end_in};
 ghost use Rattle.otp_sup.specs.Facts.{orders_in, starts_in};
 ghost use Rattle.otp_sup.specs.Flushes.{sending_of, end_note};
-ghost use Rattle.otp_sup.specs.Turns.{has_some};
+ghost use Rattle.otp_sup.specs.Facts.{has_some};
 
 use otp_reason::Note;
 use otp_rules::{Cause, Effect, SupEnd};

@@ -5,14 +5,13 @@ ghost use Rattle.otp_rules.specs.declared.event.Item.TheVariants as item;
 ghost use Rattle.otp_spec.specs.declared.limits.TheConstants.{MAX_CHILDREN};
 ghost use Rattle.otp_core.specs.View.{state_of};
 ghost use Rattle.otp_rules.specs.State.{own_number};
-ghost use Rattle.otp_sup.specs.Flushes.{IsFirst, Posts, Posted, Flushes, first_end};
-ghost use Rattle.otp_sup.specs.Ports.{taken_by, carried};
+ghost use Rattle.otp_sup.specs.Flushes.{IsFirst, Posts, Posted, FlushesTo, first_end};
+ghost use Rattle.otp_sup.specs.Ports.{carried};
 ghost use Rattle.otp_sup.specs.Letters.{Comes, one_if};
 ghost use Rattle.otp_sup.specs.declared.orders.Sending.TheVariants as sending;
 ghost use Rattle.otp_sup.specs.declared.port.Flushed.TheVariants as flushed;
-ghost use Rattle.otp_sup.specs.Bodies.{starting_slot};
 ghost use Rattle.otp_sup.specs.Slots.{slot_of};
-ghost use Rattle.otp_sup.specs.Turns.{has_some};
+ghost use Rattle.otp_sup.specs.Facts.{has_some, slot_to_start};
 
 use crate::office::{Office, own_number};
 use crate::orders::{Sending, end_in, first_order, sending_of};
@@ -92,7 +91,7 @@ impl<N: WordsNaming> Office<N> {
 
     /// The row's slot, counted from 0, whose child is to be started by the first order.
     pub(crate) fn starting_slot(&self) -> Option<usize>
-        ensures { result ≡ starting_slot self.now.outbox (state_of self.now.core).rows }
+        ensures { result ≡ slot_to_start self.now }
     {
         match self.first() {
             Some(Sending::Start(number)) => Some(self.row_slot(number)),
@@ -108,12 +107,12 @@ impl<N: WordsNaming> Office<N> {
         body: Option<B>,
         port: &mut P,
     ) -> (Flushed, Option<B>)
-        requires { IsSome (starting_slot self.old.outbox (state_of self.old.core).rows) → IsSome body }
-        ensures flushed { Flushes result.0 self.old self.new (taken_by (P.processes port.old) (P.notes port.old)) (taken_by (P.processes port.new) (P.notes port.new)) (P.refusals port.old) (P.refusals port.new) }
+        requires { IsSome (slot_to_start self.old) → IsSome body }
+        ensures flushed { FlushesTo result.0 self.old self.new (P.processes port.old) (P.notes port.old) (P.refusals port.old) (P.processes port.new) (P.notes port.new) (P.refusals port.new) }
         ensures bodies { one_if (is_some result.1) + carried (P.processes port.new) ≡ one_if (is_some body) + carried (P.processes port.old) }
         ensures whose { IsSome result.1 → IsSome body }
         ensures back { result.0 ≡ flushed.Refused → result.1 ≡ body }
-        ensures gone { result.0 ≡ flushed.Sent → IsSome (starting_slot self.old.outbox (state_of self.old.core).rows) → result.1 ≡ None }
+        ensures gone { result.0 ≡ flushed.Sent → IsSome (slot_to_start self.old) → result.1 ≡ None }
         ensures beside { P.beside port.new ≡ P.beside port.old }
     {
         let Some(how) = self.first() else {

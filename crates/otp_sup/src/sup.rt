@@ -1,13 +1,14 @@
 //! A table under its lock, beside its inbox.
-ghost use Rattle.std.specs.Prelude.{◌≡◌, ◌⊎◌, ◌+◌, ◌<◌, ◌≤◌, ◌↔◌, [], is_some, length, min, IfOk, IsTrue, Ok};
+ghost use Rattle.std.specs.Prelude.{◌≡◌, ◌⊎◌, ◌+◌, ◌<◌, ◌≤◌, ◌↔◌, [], is_some, length, min, IfOk, IsTrue, OnErr, Ok};
 ghost use Rattle.otp_spec.specs.declared.limits.TheConstants.{MAX_READING};
 ghost use Rattle.otp_inbox.specs.Tokens.{count_limit};
 ghost use Rattle.otp_sup.specs.Bodies.{bodies_in, is_left_of, is_stray};
+ghost use Rattle.otp_sup.specs.Cuts.{CutWhereFull};
 ghost use Rattle.otp_sup.specs.Facts.{KeepsRules, starts_in};
 ghost use Rattle.otp_sup.specs.Flushes.{SentOrders, was_sent};
 ghost use Rattle.otp_sup.specs.Ports.{TookMore, carried, taken_by};
 ghost use Rattle.otp_sup.specs.Shares.{HasStarted, HasTurned};
-ghost use Rattle.otp_sup.specs.Turns.{HadBody, HasDeadline, HasReply, IsFlushed, IsOfAnother, LockedTurn, TurnedUnder};
+ghost use Rattle.otp_sup.specs.Turns.{HadBody, HadTurn, HasDeadline, HasReply, KeepsReply, IsFlushed, IsOfAnother, TurnedUnder};
 ghost use Rattle.otp_sup.specs.declared.turns.TurnAnswer.TheVariants as answer;
 
 use crate::letter::Letter;
@@ -15,7 +16,7 @@ use crate::port::{Flushed, Port};
 use crate::table::Table;
 use crate::told::ToldEnd;
 use crate::turns::{TurnAnswer, TurnFault};
-use otp_core::Core;
+use otp_core::{Core, ReplyAnswer};
 use otp_inbox::{Inbox, InboxNaming, Sender, Taker};
 use otp_rules::{Item, Reply};
 use otp_signals::{Owner, Signal, Words, WordsNaming};
@@ -51,7 +52,13 @@ impl<N: WordsNaming + InboxNaming, B: Drop> Sup<N, B> {
     }
 
     /// Takes the lock once, for a turn of the table ([`Table::turn`]) and then for its orders, until none is left or
-    /// the port refuses. Of what lies under a lock a caller knows its type alone: that the table keeps OTP's rules
+    /// the port refuses.
+    ///
+    /// A turn that finds the core full answers [`TurnAnswer::Full`] and does nothing else; under the same lock a
+    /// checkpoint is made ([`Table::cut`]). So the next turn isn't Full: it does what is due, a stop
+    /// too. Only after more than 2^62 events no checkpoint is made, and each turn is Full.
+    ///
+    /// Of what lies under a lock a caller knows its type alone: that the table keeps OTP's rules
     /// ([`Table::keeps_rules`]). So contracts say that one such table had the turn, that the port took exactly what the
     /// first of its orders put and tell, and that it still keeps the rules; not that it was the table under this lock.
     ///
@@ -79,8 +86,9 @@ impl<N: WordsNaming + InboxNaming, B: Drop> Sup<N, B> {
         ensures starts { sender.new.shares.starts + length (P.processes port.old) ≡ sender.old.shares.starts + length (P.processes port.new) }
         ensures sender { sender.new ≡ record sender.old { shares = sender.new.shares } }
         ensures beside { P.beside port.new ≡ P.beside port.old }
-        // All of this of one table: it had the turn, and the port took what its first orders put and tell.
-        ensures one_table { LockedTurn self.now.inbox number reading told result (taken_by (P.processes port.old) (P.notes port.old)) (taken_by (P.processes port.new) (P.notes port.new)) (P.refusals port.old) (P.refusals port.new) ⊎ ((result ≡ Ok answer.Pending) × IsOfAnother self.now.inbox × (taken_by (P.processes port.new) (P.notes port.new) ≡ taken_by (P.processes port.old) (P.notes port.old))) }
+        // All of this of one table: it had the turn, then a checkpoint if that was Full, and then the port took what its
+        // first orders put and tell.
+        ensures one_table { HadTurn self.now.inbox number reading told result (P.processes port.old) (P.notes port.old) (P.refusals port.old) (P.processes port.new) (P.notes port.new) (P.refusals port.new) }
     {
         let mut guard = self.table.lock(rt);
         let table = &mut *guard;
@@ -90,22 +98,30 @@ impl<N: WordsNaming + InboxNaming, B: Drop> Sup<N, B> {
             return Ok(TurnAnswer::Pending);
         }
         let answer = table.turn(rt, words, &self.inbox, sender, number, reading, told);
+        cut_where_full(table, &answer);
         flush_all(table, words, &self.inbox, sender, port);
         table.keeps_rules();
         answer
     }
 
-    /// A copy of the kept answer to the call with this number. None where it wasn't answered yet. As of each answer,
-    /// contracts say that it is that of a table which keeps the rules.
-    pub fn reply<R: Wait>(&self, rt: &R, call: u64) -> Result<Option<Reply>, AllocError>
-        ensures { IfOk result (λ found. HasReply call found) }
+    /// What is known of the answer to the call with this number, with a copy of it where it is kept: since the last
+    /// checkpoint ([`Table::cut`]) the call was answered. Gone or not given yet: see [`Table::reply`]. As of each answer
+    /// from under a lock, contracts say that it is that of a table which keeps the rules.
+    ///
+    /// # Errors
+    ///
+    /// E0: there is no memory for the copy. Only of an answer that is kept.
+    pub fn reply<R: Wait>(&self, rt: &R, call: u64) -> Result<ReplyAnswer<Reply>, AllocError>
+        ensures found { IfOk result (HasReply call) }
+        ensures refused { OnErr result (KeepsReply call) }
     {
         let guard = self.table.lock(rt);
         let table = &*guard;
         table.keeps_rules();
         match table.reply(call) {
-            Some(reply) => Ok(Some(reply.try_clone()?)),
-            None => Ok(None),
+            ReplyAnswer::Kept(reply) => Ok(ReplyAnswer::Kept(reply.try_clone()?)),
+            ReplyAnswer::Gone => Ok(ReplyAnswer::Gone),
+            ReplyAnswer::NotYet => Ok(ReplyAnswer::NotYet),
         }
     }
 
@@ -170,13 +186,13 @@ impl<N: WordsNaming + InboxNaming, B: Drop> Model for Unlocked<N, B> {
 #[derive(Drop)]
 pub struct SupParts<N: WordsNaming + InboxNaming, B: Drop> {
     pub inbox: Inbox<N, Item, Letter<B>>,
-    /// Its core, with its whole history.
+    /// Its core, with its history since the last checkpoint.
     pub core: Core,
     /// The seat that drew its process numbers.
     pub owner: Owner<N>,
     /// The taker of its inbox.
     pub taker: Taker<N, Item, Letter<B>>,
-    /// The ends of supervisors that it was told, in their order.
+    /// The ends of supervisors that it was told since the last checkpoint, in their order.
     pub ends_told: Vec<ToldEnd>,
 }
 
@@ -246,6 +262,20 @@ impl<N: WordsNaming + InboxNaming, B: Drop> Unlocked<N, B> {
             taker,
             ends_told,
         }
+    }
+}
+
+/// Makes a checkpoint where a turn answered that the core is full. Such a turn left nothing to be sent.
+fn cut_where_full<N: WordsNaming + InboxNaming, B: Drop>(
+    table: &mut Table<N, B>,
+    said: &Result<TurnAnswer, TurnFault>,
+)
+    requires { said.now ≡ Ok answer.Full → table.old.office.outbox ≡ [] }
+    ensures cut { CutWhereFull said.now table.old table.new }
+    ensures taker { table.new.taker ≡ table.old.taker }
+{
+    if let Ok(TurnAnswer::Full) = said {
+        let _ = table.cut();
     }
 }
 

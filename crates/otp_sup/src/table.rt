@@ -1,20 +1,21 @@
 //! What lies under a supervisor's lock.
 ghost use Rattle.otp_sup.specs.Letters.{Comes, carries_body};
-ghost use Rattle.std.specs.Prelude.{◌≡◌, ◌++◌, ◌∷◌, ◌+◌, ◌≤◌, ◌<◌, [], true, false, is_some, length, min, IfNone, IfOk, IfSome, MatchOption, None, OnOk, Some};
+ghost use Rattle.std.specs.Prelude.{◌≡◌, ◌++◌, ◌∷◌, ◌+◌, ◌≤◌, ◌<◌, [], true, false, is_some, length, min, IfErr, IfNone, IfOk, IfSome, MatchOption, None, OnOk, Some, vec_capacity};
 ghost use Rattle.otp_inbox.specs.Tokens.{count_limit, no_shares};
 ghost use Rattle.std.specs.List.{list_any};
 ghost use Rattle.otp_spec.specs.declared.limits.TheConstants.{MAX_READING};
 ghost use Rattle.otp_core.specs.View.{state_of};
 ghost use Rattle.otp_rules.specs.Counts.{counts_of};
 ghost use Rattle.otp_rules.specs.Next.{next_deadline};
-ghost use Rattle.otp_rules.specs.Run.{reply_of};
+ghost use Rattle.otp_core.specs.Replies.{IsReplyAnswer};
 ghost use Rattle.otp_counts.specs.Counts.{after_publish, fresh_pass};
-ghost use Rattle.otp_sup.specs.Bodies.{are_ready, bodies_in, bodies_sent, is_left_of, is_stray, settled, starting_slot, without_first};
-ghost use Rattle.otp_sup.specs.Facts.{KeepsRules, count_opened, starts_in};
-ghost use Rattle.otp_sup.specs.Flushes.{Flushes};
-ghost use Rattle.otp_sup.specs.Ports.{taken_by, carried};
+ghost use Rattle.otp_sup.specs.Bodies.{are_ready, bodies_in, bodies_sent, is_left_of, is_stray, settled, without_first};
+ghost use Rattle.otp_sup.specs.Cuts.{WasCut};
+ghost use Rattle.otp_sup.specs.Facts.{KeepsRules, count_opened, slot_to_start, starts_in};
+ghost use Rattle.otp_sup.specs.Flushes.{FlushesTo};
+ghost use Rattle.otp_sup.specs.Ports.{carried};
 ghost use Rattle.otp_sup.specs.Shares.{HasTurned, credited, gave, starts_flushed, starts_of};
-ghost use Rattle.otp_sup.specs.Turns.{Turned, early_answer};
+ghost use Rattle.otp_sup.specs.Turns.{IsRefusal, Readied, Turned, early_answer};
 
 use crate::bodies::Bodies;
 use crate::letter::Letter;
@@ -22,7 +23,8 @@ use crate::moves::{come_back, happen, leave};
 use crate::office::Office;
 use crate::port::{Flushed, Port};
 use crate::told::{Evidence, ToldEnd, keep_end};
-use crate::turns::{TurnAnswer, TurnFault, answer_of};
+use crate::turns::{CutAnswer, TurnAnswer, TurnFault, answer_of};
+use otp_core::{CutFault, ReplyAnswer};
 use otp_counts::{CountsPass, Publisher};
 use otp_inbox::{Inbox, InboxNaming, Sender, Taker};
 use otp_rules::{Item, Kind, Reply};
@@ -111,6 +113,9 @@ impl<N: WordsNaming + InboxNaming, B: Drop> Table<N, B> {
     /// each end of a supervisor that it was told came with a note of its history, for the note's reason, and is shown. Whoever
     /// serves it was credited with a start for each one that it sent, and with a turn for each event and each time that its inbox
     /// was found empty.
+    ///
+    /// A checkpoint ([`Table::cut`]) drops the events so far. All of this is still said of the whole history, with the
+    /// events that were dropped: those stand in contracts alone. Only the ends that it was told are those since then.
     pub fn keeps_rules(&self)
         ensures { KeepsRules self.now }
     {
@@ -131,7 +136,7 @@ impl<N: WordsNaming + InboxNaming, B: Drop> Table<N, B> {
     /// 1. The number is below its own: [`TurnAnswer::Ended`].
     /// 2. The number is above its own, and it hasn't ended: [`TurnFault::WrongNumber`] (E18).
     /// 3. Orders are still to be sent: [`TurnAnswer::Pending`].
-    /// 4. The history is full: [`TurnAnswer::Full`].
+    /// 4. The core is full ([`otp_core::Core::is_full`]): [`TurnAnswer::Full`]. After a checkpoint ([`Table::cut`]) it isn't.
     /// 5. Memory is refused, or no number is left: [`TurnFault::OutOfMemory`] (E0), [`TurnFault::Exhausted`] (E9).
     /// 6. It was never opened, or has ended and the number is greater: it opens.
     /// 7. A deadline has come: children are killed.
@@ -171,10 +176,7 @@ impl<N: WordsNaming + InboxNaming, B: Drop> Table<N, B> {
         if let Some(early) = self.office.early_answer(number) {
             return early;
         }
-        if self.bodies.prepare().is_err() || self.ends.reserve(1).is_err() {
-            return Err(TurnFault::OutOfMemory);
-        }
-        self.office.prepare()?;
+        make_ready(&mut self.office, &mut self.bodies, &mut self.ends)?;
         if let Some(kind) = self.office.due_kind(number, reading, told) {
             happen(
                 &mut self.office,
@@ -238,16 +240,16 @@ impl<N: WordsNaming + InboxNaming, B: Drop> Table<N, B> {
         requires inbox { inbox.now ≡ self.old.taker.inbox }
         requires sender { sender.old.inbox ≡ inbox.now }
         requires may_send { 0 < sender.old.parts }
-        ensures flushed { Flushes result self.old.office self.new.office (taken_by (P.processes port.old) (P.notes port.old)) (taken_by (P.processes port.new) (P.notes port.new)) (P.refusals port.old) (P.refusals port.new) }
+        ensures flushed { FlushesTo result self.old.office self.new.office (P.processes port.old) (P.notes port.old) (P.refusals port.old) (P.processes port.new) (P.notes port.new) (P.refusals port.new) }
         // A start was given and credited exactly where one was sent.
-        ensures taker { self.new.taker ≡ gave (starts_of (starts_flushed result (starting_slot self.old.office.outbox (state_of self.old.office.core).rows))) self.old.taker }
-        ensures sender { sender.new ≡ credited (starts_of (starts_flushed result (starting_slot self.old.office.outbox (state_of self.old.office.core).rows))) sender.old }
-        ensures put { length (P.processes port.new) ≡ length (P.processes port.old) + starts_flushed result (starting_slot self.old.office.outbox (state_of self.old.office.core).rows) }
+        ensures taker { self.new.taker ≡ gave (starts_of (starts_flushed result (slot_to_start self.old.office))) self.old.taker }
+        ensures sender { sender.new ≡ credited (starts_of (starts_flushed result (slot_to_start self.old.office))) sender.old }
+        ensures put { length (P.processes port.new) ≡ length (P.processes port.old) + starts_flushed result (slot_to_start self.old.office) }
         ensures beside { P.beside port.new ≡ P.beside port.old }
         ensures counts { self.new.counts ≡ self.old.counts }
         ensures ends { self.new.ends_told ≡ self.old.ends_told }
         // The body that the table doesn't keep any more is that of the child whose process was put,
-        ensures bodies { self.new.bodies ≡ bodies_sent result (starting_slot self.old.office.outbox (state_of self.old.office.core).rows) self.old.bodies }
+        ensures bodies { self.new.bodies ≡ bodies_sent result (slot_to_start self.old.office) self.old.bodies }
         // and it went with the process that the port took.
         ensures count { bodies_in self.new.bodies + carried (P.processes port.new) ≡ bodies_in self.old.bodies + carried (P.processes port.old) }
     {
@@ -304,9 +306,36 @@ impl<N: WordsNaming + InboxNaming, B: Drop> Table<N, B> {
         self.office.next_deadline()
     }
 
-    /// The kept answer to the call with this number.
-    pub fn reply(&self, call: u64) -> Option<&Reply>
-        ensures { MatchOption result (reply_of call (state_of self.now.office.core).replies ≡ None) (λ r. reply_of call (state_of self.now.office.core).replies ≡ Some r.now) }
+    /// Makes a checkpoint: the events so far are stored no longer, nor what they kept: the answers to calls, the ends of
+    /// this supervisor, and the ends of others that it was told. Nothing that comes depends on those
+    /// ([`otp_core::Core::cut`]). While
+    /// an order is still to be sent the answer is Pending, and nothing changes.
+    ///
+    /// Calls that wait, bodies, restart times, and the shares that were given stay. The memory is kept for what comes.
+    ///
+    /// # Errors
+    ///
+    /// E8: there were more than 2^62 events in all ([`MAX_EVENTS_IN_ALL`](otp_core::MAX_EVENTS_IN_ALL)). Then nothing changes.
+    pub fn cut(&mut self) -> Result<CutAnswer, CutFault>
+        ensures { WasCut result self.old self.new }
+    {
+        let _ = &self.taker;
+        if self.office.is_pending() {
+            return Ok(CutAnswer::Pending);
+        }
+        self.office.cut()?;
+        self.ends.clear();
+        Ok(CutAnswer::Cut)
+    }
+
+    /// What is known of the answer to the call with this number.
+    ///
+    /// It is kept where it was given since the last checkpoint ([`Table::cut`]). Else it is gone where a checkpoint dropped
+    /// the answer to this call or to one with a greater number, and this call is not still to be answered: it doesn't wait,
+    /// and no open work is for it. Else it was not given yet. So of a call that is still in the inbox the answer may be
+    /// Gone, and Kept later.
+    pub fn reply(&self, call: u64) -> ReplyAnswer<&Reply>
+        ensures { IsReplyAnswer (λ r. r.now) call self.now.office.core result }
     {
         self.office.reply(call)
     }
@@ -332,6 +361,28 @@ impl<N: WordsNaming + InboxNaming, B: Drop> Table<N, B> {
         let _ = &self.taker;
         self.bodies.take_of_nobody()
     }
+}
+
+/// Takes the memory of the next event, and sees that a number is left for it. A refusal changes nothing that contracts
+/// see.
+fn make_ready<N: WordsNaming, B: Drop>(
+    office: &mut Office<N>,
+    bodies: &mut Bodies<B>,
+    ends: &mut Vec<ToldEnd>,
+) -> Result<(), TurnFault>
+    ensures readied { Readied office.old office.new }
+    ensures refused { IfErr result (IsRefusal office.old) }
+    ensures prepared { OnOk result (office.new.core.prepared ≡ true) }
+    ensures quota { OnOk result (0 < office.new.owner.quota) }
+    ensures kept { bodies.new.kept ≡ bodies.old.kept }
+    ensures space { OnOk result (0 < bodies.new.room) }
+    ensures ends { ends.new.items ≡ ends.old.items }
+    ensures room { OnOk result (length ends.new.items < vec_capacity ends.new) }
+{
+    if bodies.prepare().is_err() || ends.reserve(1).is_err() {
+        return Err(TurnFault::OutOfMemory);
+    }
+    office.prepare()
 }
 
 /// Takes the item at the front, with the body and the end that it brings.

@@ -84,7 +84,7 @@ pub fn evidence_of(
 /// The end of a supervisor, as the parent's history was told it.
 #[derive(Drop)]
 pub struct ToldEnd {
-    /// The place of the event in the history, from 0 on: it took the note that told the end.
+    /// The place of the event among those that are stored, from 0 on: it took the note that told the end.
     pub event: usize,
     /// The number of the process that ended.
     pub number: u64,

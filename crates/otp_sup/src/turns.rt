@@ -24,8 +24,18 @@ pub enum TurnAnswer {
     Ended,
     /// Orders are still to be sent.
     Pending,
-    /// The history is full, with 65,536 events.
+    /// The core is full ([`Core::is_full`](otp_core::Core::is_full)): nothing happens before a checkpoint
+    /// ([`Table::cut`](crate::Table::cut), which [`Sup::turn`](crate::Sup::turn) makes).
     Full,
+}
+
+/// What came of a checkpoint ([`Table::cut`](crate::Table::cut)).
+#[derive(Clone, Copy, Debug, PartialEq, Eq)]
+pub enum CutAnswer {
+    /// It was made.
+    Cut,
+    /// An order is still to be sent: nothing changed.
+    Pending,
 }
 
 /// Why a turn did nothing.

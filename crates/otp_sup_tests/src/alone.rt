@@ -3,9 +3,9 @@
 // What a test asks again and again stands here as a call of its own, since each assertion is proved where it is written.
 ghost use Rattle.std.specs.Prelude.{◌≡◌, ◌≤◌, ◌<◌, ◌^◌};
 
-use crate::fixtures::{of_one_child, seat_table};
+use crate::fixtures::seat_table;
 use otp_inbox::{Inbox, InboxNaming, Sender, UnnamedInbox};
-use otp_reason::{Note, Reason};
+use otp_reason::Note;
 use otp_rules::{Cause, Item};
 use otp_signals::{OpenWords, Signal, Viewer, Words, WordsNaming};
 use otp_spec::SupSpec;
@@ -32,25 +32,12 @@ pub(crate) struct Alone<N: WordsNaming + InboxNaming> {
     port: MemoryPort<u64>,
 }
 
-// A table of the child `a`.
-pub(crate) fn make_alone<N: WordsNaming + InboxNaming>(
-    alloc: Global,
-    words: OpenWords,
-    inbox: UnnamedInbox<Item, Post>,
-) -> Result<Alone<N>, Fail>
-    requires words { words.words ≡ N.words }
-    requires slots { words.slots ≡ 256 }
-    requires inbox { inbox ≡ N.inbox 0 }
-{
-    let supervisor = of_one_child(alloc)?;
-    make_table::<N>(alloc, words, inbox, supervisor, &[OWN])
-}
-
 // These bodies, each for the child specification at its place.
 fn hand_in_all(alloc: Global, own: &[u64]) -> Result<Bodies<u64>, Fail> {
     let mut bodies = Bodies::new(alloc);
     for (place, body) in own.iter().enumerate() {
         if bodies.hand_in(place, *body).is_err() {
+            drop(bodies);
             return Err("a body was refused".into());
         }
     }
@@ -69,12 +56,38 @@ pub(crate) fn make_table<N: WordsNaming + InboxNaming>(
     requires slots { words.slots ≡ 256 }
     requires inbox { inbox ≡ N.inbox 0 }
 {
-    let bodies = hand_in_all(alloc, own)?;
+    let bodies = match hand_in_all(alloc, own) {
+        Ok(bodies) => bodies,
+        Err(fail) => {
+            drop(words);
+            drop(inbox);
+            drop(supervisor);
+            return Err(fail);
+        }
+    };
     let (words, mut owner) = words.named::<N>();
-    let seat = words.split(&mut owner, 0..256, 1000)?;
+    let Ok(seat) = words.split(&mut owner, 0..256, 1000) else {
+        drop(words);
+        drop(owner);
+        drop(inbox);
+        drop(supervisor);
+        drop(bodies);
+        return Err("no seat".into());
+    };
     let viewer = words.viewer(&mut owner);
     let (inbox, taker, sender) = inbox.named::<N>(0);
-    let table = seat_table(alloc, supervisor, bodies, seat, taker)?;
+    let table = match seat_table(alloc, supervisor, bodies, seat, taker) {
+        Ok(table) => table,
+        Err(fail) => {
+            drop(words);
+            drop(owner);
+            drop(viewer);
+            drop(inbox);
+            drop(sender);
+            return Err(fail);
+        }
+    };
+    drop(owner);
     Ok(Alone {
         words,
         viewer,
@@ -214,6 +227,24 @@ impl<N: WordsNaming + InboxNaming> Alone<N> {
         }
     }
 
+    // The table alone.
+    pub(crate) fn into_table(self) -> Table<N, u64> {
+        let Alone {
+            words,
+            viewer,
+            inbox,
+            table,
+            sender,
+            port,
+        } = self;
+        drop(words);
+        drop(viewer);
+        drop(inbox);
+        drop(sender);
+        drop(port);
+        table
+    }
+
     // Whether the port has nothing that wasn't looked at.
     pub(crate) fn has_empty_port(&self) -> bool {
         self.port.processes.is_empty() && self.port.notes.is_empty()
@@ -228,15 +259,5 @@ impl<N: WordsNaming + InboxNaming> Alone<N> {
     pub(crate) fn send<R: Wait + Abort>(&mut self, rt: &R, letter: Post) {
         self.fits(rt);
         assert!(rt; self.inbox.send(rt, &mut self.sender, letter).is_ok());
-    }
-
-    pub(crate) fn up<R: Wait + Abort>(&mut self, rt: &R, number: u64) {
-        let letter = Letter::note(Note::Up(number), None);
-        self.send(rt, letter);
-    }
-
-    pub(crate) fn exit<R: Wait + Abort>(&mut self, rt: &R, number: u64, reason: Reason, body: u64) {
-        let letter = Letter::note(Note::Exit(number, reason), Some(body));
-        self.send(rt, letter);
     }
 }

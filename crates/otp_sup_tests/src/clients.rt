@@ -1,15 +1,12 @@
 // Calls that two clients send from threads of their own, while a third thread takes turns of the supervisor.
 ghost use Rattle.std.specs.Prelude.{◌≡◌};
 
-use crate::fixtures::seat_table;
-use otp_core::History;
+use crate::driven::{Driven, make_childless};
+use otp_core::{History, ReplyAnswer};
 use otp_inbox::{InboxNaming, Sender, UnnamedInbox};
 use otp_rules::{Call, CountsNow, Item, Kind, Reply};
 use otp_signals::{OpenWords, Signal, Words, WordsNaming};
-use otp_spec::{SupFlags, SupSpec};
-use otp_sup::{
-    Bodies, Client, Letter, MemoryPort, SplitFault, SubmitCause, Sup, TurnAnswer, TurnFault,
-};
+use otp_sup::{Client, Letter, MemoryPort, SplitFault, SubmitCause, Sup, TurnAnswer, TurnFault};
 use std::alloc::Global;
 use std::marker::Brand;
 use std::process::Abort;
@@ -30,40 +27,6 @@ fn two_clients_and_a_hand(rt: HostRuntime) -> Result<(), Fail> {
     clients_in::<Brand, _>(&rt, rt.alloc(), words, inbox)
 }
 
-// A supervisor, its first client, and the sender of whoever serves it.
-#[derive(Drop)]
-struct Served<N: WordsNaming + InboxNaming> {
-    words: Words<N>,
-    sup: Sup<N, u64>,
-    client: Client<N, u64>,
-    sender: Sender<N, Item, Post>,
-}
-
-// A supervisor without children. The client may draw the numbers of all calls.
-fn make_one<N: WordsNaming + InboxNaming>(
-    alloc: Global,
-    words: OpenWords,
-    inbox: UnnamedInbox<Item, Post>,
-) -> Result<Served<N>, Fail>
-    requires words { words.words ≡ N.words }
-    requires slots { words.slots ≡ 256 }
-    requires inbox { inbox ≡ N.inbox 0 }
-{
-    let (words, mut owner) = words.named::<N>();
-    let (inbox, taker, mut sender) = inbox.named::<N>(0);
-    let own = inbox.split(&mut sender, 1);
-    let seat = words.split(&mut owner, 0..256, 100)?;
-    let callers = words.split(&mut owner, 0..0, 2 * CALLS)?;
-    let supervisor = SupSpec::check(SupFlags::default(), Vec::new(alloc))?;
-    let table = seat_table(alloc, supervisor, Bodies::new(alloc), seat, taker)?;
-    Ok(Served {
-        words,
-        sup: Sup::new(inbox, table),
-        client: Client::new(alloc, callers, sender),
-        sender: own,
-    })
-}
-
 fn clients_in<N: WordsNaming + InboxNaming + Send + Sync, R: Threads + Wait + Abort + Sync>(
     rt: &R,
     alloc: Global,
@@ -74,16 +37,24 @@ fn clients_in<N: WordsNaming + InboxNaming + Send + Sync, R: Threads + Wait + Ab
     requires slots { words.slots ≡ 256 }
     requires inbox { inbox ≡ N.inbox 0 }
 {
-    let Served {
+    let Driven {
         words,
+        viewer,
         sup,
-        client,
         sender,
-    } = make_one::<N>(alloc, words, inbox)?;
-    let (first, second) = send_from_threads(rt, alloc, &words, &sup, client, sender)?;
-    answered(rt, &sup, first.as_slice())?;
-    answered(rt, &sup, second.as_slice())?;
-    are_taken(rt, alloc, sup, first.as_slice(), second.as_slice())
+        client,
+        port,
+    } = make_childless::<N>(alloc, words, inbox, 2 * CALLS)?;
+    drop(viewer);
+    let sent = send_from_threads(rt, alloc, &words, &sup, client, sender, port);
+    drop(words);
+    match sent {
+        Ok((first, second)) => are_taken(rt, alloc, sup, first.as_slice(), second.as_slice()),
+        Err(fail) => {
+            drop(sup);
+            Err(fail)
+        }
+    }
 }
 
 // It opens, and then two clients send while it is served: the numbers of the calls of each.
@@ -94,11 +65,19 @@ fn send_from_threads<N: WordsNaming + InboxNaming + Send + Sync, R: Threads + Wa
     sup: &Sup<N, u64>,
     mut first: Client<N, u64>,
     mut sender: Sender<N, Item, Post>,
+    mut port: MemoryPort<u64>,
 ) -> Result<(Vec<u64>, Vec<u64>), Fail> {
-    let mut port = MemoryPort::new(alloc);
     let opened = turn(rt, sup, words, &mut sender, &mut port);
     assert_eq!(rt; opened, Ok(TurnAnswer::Opened));
-    let second = split(rt, &mut first, words, sup)?;
+    let second = match split(rt, &mut first, words, sup) {
+        Ok(second) => second,
+        Err(fail) => {
+            drop(first);
+            drop(sender);
+            drop(port);
+            return Err(fail);
+        }
+    };
     let (sent, port) = thread::join(
         rt,
         move || thread::join(
@@ -109,10 +88,11 @@ fn send_from_threads<N: WordsNaming + InboxNaming + Send + Sync, R: Threads + Wa
         move || serve(rt, sup, words, sender, port),
     );
     assert!(rt; port.processes.is_empty());
+    drop(port);
     Ok((sent.0?, sent.1?))
 }
 
-// The history has each of these calls once, and no other event but the opening.
+// Each of these calls was answered, and the history has each once, and no other event but the opening.
 fn are_taken<N: WordsNaming + InboxNaming, R: Wait + Abort>(
     rt: &R,
     alloc: Global,
@@ -120,9 +100,24 @@ fn are_taken<N: WordsNaming + InboxNaming, R: Wait + Abort>(
     first: &[u64],
     second: &[u64],
 ) -> Result<(), Fail> {
-    let mut taken = no_counts(alloc)?;
+    if let Err(fail) = both_answered(rt, &sup, first, second) {
+        drop(sup);
+        return Err(fail);
+    }
     let parts = sup.unlock().into_parts();
-    let history = parts.core.history();
+    let shown = are_in(rt, alloc, parts.core.history(), first, second);
+    drop(parts);
+    shown
+}
+
+fn are_in<R: Abort>(
+    rt: &R,
+    alloc: Global,
+    history: &History,
+    first: &[u64],
+    second: &[u64],
+) -> Result<(), Fail> {
+    let mut taken = no_counts(alloc)?;
     assert!(rt; count_taken(history, taken.as_mut_slice()));
     assert!(rt; are_once(taken.as_slice(), first));
     assert!(rt; are_once(taken.as_slice(), second));
@@ -185,14 +180,26 @@ fn send_all<N: WordsNaming + InboxNaming, R: Wait + Abort>(
     words: &Words<N>,
     mut client: Client<N, u64>,
 ) -> Result<Vec<u64>, &'static str> {
+    let sent = send_each(rt, alloc, sup, words, &mut client);
+    drop(client);
+    sent
+}
+
+fn send_each<N: WordsNaming + InboxNaming, R: Wait + Abort>(
+    rt: &R,
+    alloc: Global,
+    sup: &Sup<N, u64>,
+    words: &Words<N>,
+    client: &mut Client<N, u64>,
+) -> Result<Vec<u64>, &'static str> {
     let mut numbers = Vec::new(alloc);
     for _ in 0..CALLS {
-        match send_one(rt, sup, words, &mut client) {
+        match send_one(rt, sup, words, client) {
             Ok(number) => numbers.push(number).map_err(|_| "no memory")?,
             Err(_) => return Err("a call was refused"),
         }
     }
-    let more = send_one(rt, sup, words, &mut client);
+    let more = send_one(rt, sup, words, client);
     assert_eq!(rt; more, Err(SubmitCause::Exhausted));
     Ok(numbers)
 }
@@ -240,7 +247,18 @@ fn serve<N: WordsNaming + InboxNaming, R: Wait + Abort>(
             _ => assert!(rt; false),
         }
     }
+    drop(sender);
     port
+}
+
+fn both_answered<N: WordsNaming + InboxNaming, R: Wait + Abort>(
+    rt: &R,
+    sup: &Sup<N, u64>,
+    first: &[u64],
+    second: &[u64],
+) -> Result<(), Fail> {
+    answered(rt, sup, first)?;
+    answered(rt, sup, second)
 }
 
 // Each call was taken once, and answered.
@@ -257,12 +275,12 @@ fn answered<N: WordsNaming + InboxNaming, R: Wait + Abort>(
 }
 
 // What count_children answers where there are no children.
-fn is_count(reply: Option<Reply>) -> bool {
+fn is_count(reply: ReplyAnswer<Reply>) -> bool {
     let none = CountsNow {
         specs: 0,
         active: 0,
         supervisors: 0,
         workers: 0,
     };
-    matches!(reply, Some(Reply::Count(now)) if now == none)
+    matches!(reply, ReplyAnswer::Kept(Reply::Count(now)) if now == none)
 }

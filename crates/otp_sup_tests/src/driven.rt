@@ -3,11 +3,12 @@
 // What a test asks again and again stands here as a call of its own, since each assertion is proved where it is written.
 ghost use Rattle.std.specs.Prelude.{◌≡◌, ◌≤◌, ◌^◌};
 
-use crate::fixtures::{of_one_child, seat_table};
+use crate::fixtures::seat_table;
 use otp_inbox::{InboxNaming, Sender, UnnamedInbox};
 use otp_reason::{Note, Reason};
 use otp_rules::{Call, Cause, Item};
 use otp_signals::{OpenWords, Signal, Viewer, Words, WordsNaming};
+use otp_spec::{SupFlags, SupSpec};
 use otp_sup::{
     Bodies, Client, Letter, MemoryPort, SubmitCause, Sup, ToldNote, TurnAnswer, TurnFault,
 };
@@ -43,47 +44,95 @@ pub(crate) struct Driven<N: WordsNaming + InboxNaming, B: Drop> {
     pub(crate) viewer: Viewer<N>,
     pub(crate) sup: Sup<N, B>,
     pub(crate) sender: Sender<N, Item, Letter<B>>,
-    client: Client<N, B>,
+    pub(crate) client: Client<N, B>,
     pub(crate) port: MemoryPort<B>,
 }
 
 // This body, for the first child specification.
-fn of_one_body<B: Drop>(alloc: Global, body: B) -> Result<Bodies<B>, Fail> {
+pub(crate) fn of_one_body<B: Drop>(alloc: Global, body: B) -> Result<Bodies<B>, Fail> {
     let mut bodies = Bodies::new(alloc);
     if bodies.hand_in(0, body).is_err() {
+        drop(bodies);
         return Err("a body was refused".into());
     }
     Ok(bodies)
 }
 
-// A supervisor of the child `a`, with this body for it.
+// A supervisor of these children, with these bodies for the specifications. Its client may send so many calls.
 pub(crate) fn make_driven<N: WordsNaming + InboxNaming, B: Drop>(
     alloc: Global,
     words: OpenWords,
     inbox: UnnamedInbox<Item, Letter<B>>,
-    body: B,
+    supervisor: SupSpec,
+    bodies: Bodies<B>,
+    calls: u64,
 ) -> Result<Driven<N, B>, Fail>
     requires words { words.words ≡ N.words }
     requires slots { words.slots ≡ 256 }
     requires inbox { inbox ≡ N.inbox 0 }
 {
-    let supervisor = of_one_child(alloc)?;
-    let bodies = of_one_body(alloc, body)?;
     let (words, mut owner) = words.named::<N>();
-    let seat = words.split(&mut owner, 0..256, 1000)?;
+    let Ok(seat) = words.split(&mut owner, 0..256, 1000) else {
+        drop(words);
+        drop(owner);
+        drop(inbox);
+        drop(supervisor);
+        drop(bodies);
+        return Err("no seat".into());
+    };
+    let Ok(callers) = words.split(&mut owner, 0..0, calls) else {
+        drop(words);
+        drop(owner);
+        drop(seat);
+        drop(inbox);
+        drop(supervisor);
+        drop(bodies);
+        return Err("no numbers for calls".into());
+    };
     let viewer = words.viewer(&mut owner);
+    drop(owner);
     let (inbox, taker, mut sender) = inbox.named::<N>(0);
-    let table = seat_table(alloc, supervisor, bodies, seat, taker)?;
-    let client = Client::new(alloc, owner, inbox.split(&mut sender, 1));
+    let table = match seat_table(alloc, supervisor, bodies, seat, taker) {
+        Ok(table) => table,
+        Err(fail) => {
+            drop(words);
+            drop(callers);
+            drop(viewer);
+            drop(inbox);
+            drop(sender);
+            return Err(fail);
+        }
+    };
+    let own = inbox.split(&mut sender, 1);
+    let client = Client::new(alloc, callers, sender);
     let sup = Sup::new(inbox, table);
     Ok(Driven {
         words,
         viewer,
         sup,
-        sender,
+        sender: own,
         client,
         port: MemoryPort::new(alloc),
     })
+}
+
+// A supervisor without children. Its client may send so many calls.
+pub(crate) fn make_childless<N: WordsNaming + InboxNaming>(
+    alloc: Global,
+    words: OpenWords,
+    inbox: UnnamedInbox<Item, Letter<u64>>,
+    calls: u64,
+) -> Result<Driven<N, u64>, Fail>
+    requires words { words.words ≡ N.words }
+    requires slots { words.slots ≡ 256 }
+    requires inbox { inbox ≡ N.inbox 0 }
+{
+    let Ok(supervisor) = SupSpec::check(SupFlags::default(), Vec::new(alloc)) else {
+        drop(words);
+        drop(inbox);
+        return Err("flags were refused".into());
+    };
+    make_driven(alloc, words, inbox, supervisor, Bodies::new(alloc), calls)
 }
 
 impl<N: WordsNaming + InboxNaming, B: Drop> Driven<N, B> {

@@ -9,11 +9,15 @@ mod alone;
 #[cfg(test)]
 mod bodies;
 #[cfg(test)]
+mod checkpoints;
+#[cfg(test)]
 mod clients;
 #[cfg(test)]
 mod driven;
 #[cfg(test)]
 mod fixtures;
+#[cfg(test)]
+mod script;
 #[cfg(test)]
 mod supervisors;
 #[cfg(test)]

@@ -1,8 +1,11 @@
 // Supervisors under a lock, driven by hand over a port in memory.
 ghost use Rattle.std.specs.Prelude.{◌≡◌};
 
-use crate::driven::{Body, Driven, Job, Post, Tagged, launched, make_driven, puts, tells};
-use crate::fixtures::{child, crash, second};
+use crate::driven::{
+    Body, Driven, Job, Post, Tagged, launched, make_driven, of_one_body, puts, tells,
+};
+use crate::fixtures::{child, crash, of_one_child, second};
+use otp_core::ReplyAnswer;
 use otp_inbox::{InboxNaming, UnnamedInbox};
 use otp_reason::{Note, Reason};
 use otp_rules::{Call, CallFault, Item, Reply};
@@ -13,6 +16,38 @@ use std::marker::Brand;
 use std::process::Abort;
 use std::sync::Wait;
 use std::test::*;
+
+// A supervisor of the child `a`, with this body for it.
+fn make_one<N: WordsNaming + InboxNaming>(
+    alloc: Global,
+    words: OpenWords,
+    inbox: UnnamedInbox<Item, Post>,
+    body: Body,
+) -> Result<Driven<N, Body>, Fail>
+    requires words { words.words ≡ N.words }
+    requires slots { words.slots ≡ 256 }
+    requires inbox { inbox ≡ N.inbox 0 }
+{
+    let supervisor = match of_one_child(alloc) {
+        Ok(supervisor) => supervisor,
+        Err(fail) => {
+            drop(words);
+            drop(inbox);
+            drop(body);
+            return Err(fail);
+        }
+    };
+    let bodies = match of_one_body(alloc, body) {
+        Ok(bodies) => bodies,
+        Err(fail) => {
+            drop(words);
+            drop(inbox);
+            drop(supervisor);
+            return Err(fail);
+        }
+    };
+    make_driven(alloc, words, inbox, supervisor, bodies, 100)
+}
 
 #[test]
 fn one_child(rt: HostRuntime) -> Result<(), Fail> {
@@ -54,12 +89,13 @@ fn one_child_in<N: WordsNaming + InboxNaming + Send + Sync, R: Wait + Abort>(
     requires inbox { inbox ≡ N.inbox 0 }
 {
     let (own, second, third) = bodies;
-    let mut one = make_driven::<N, Body>(alloc, words, inbox, own)?;
+    let mut one = make_one::<N>(alloc, words, inbox, own)?;
     crosses_threads(&one);
     opens_under_its_number(rt, &mut one);
     crashes_once(rt, &mut one, second);
     is_stopped(rt, &mut one, third);
     opens_again(rt, &mut one);
+    drop(one);
     Ok(())
 }
 
@@ -145,10 +181,25 @@ fn bodies_in<N: WordsNaming + InboxNaming, R: Wait + Abort>(
     requires inbox { inbox ≡ N.inbox 0 }
 {
     let (own, second, third) = bodies;
-    let mut one = make_driven::<N, Body>(alloc, words, inbox, own)?;
-    runs(rt, &mut one);
-    refuses_a_start(rt, alloc, &mut one, second)?;
-    gets_a_stray(rt, &mut one, third);
+    let mut one = make_one::<N>(alloc, words, inbox, own)?;
+    let shown = has_bodies(rt, alloc, &mut one, second, third);
+    drop(one);
+    shown
+}
+
+fn has_bodies<N: WordsNaming + InboxNaming, R: Wait + Abort>(
+    rt: &R,
+    alloc: Global,
+    one: &mut Driven<N, Body>,
+    refused: Body,
+    stray: Body,
+) -> Result<(), Fail> {
+    runs(rt, one);
+    if let Err(fail) = refuses_a_start(rt, alloc, one, refused) {
+        drop(stray);
+        return Err(fail);
+    }
+    gets_a_stray(rt, one, stray);
     Ok(())
 }
 
@@ -173,7 +224,12 @@ fn refuses_a_start<N: WordsNaming + InboxNaming, R: Wait + Abort>(
     gives_back(rt, one, None);
     one.takes(rt, 0);
     let reply = one.sup.reply(rt, 40)?;
-    assert!(rt; matches!(reply, Some(Reply::Refused(CallFault::AlreadyStarted(1)))));
+    assert!(rt;
+        matches!(
+            reply,
+            ReplyAnswer::Kept(Reply::Refused(CallFault::AlreadyStarted(1)))
+        )
+    );
     gives_back(rt, one, Some(7));
     gives_back(rt, one, None);
     Ok(())
@@ -243,9 +299,11 @@ fn growths_in<N: WordsNaming + InboxNaming, R: Wait + Abort>(
     requires inbox { inbox ≡ N.inbox 0 }
 {
     let (own, second, third, fourth, fifth) = bodies;
-    let mut one = make_driven::<N, Body>(alloc, words, inbox, own)?;
+    let mut one = make_one::<N>(alloc, words, inbox, own)?;
     opens(rt, &mut one);
-    grows(rt, &mut one, (second, third), (fourth, fifth))
+    let shown = grows(rt, &mut one, (second, third), (fourth, fifth));
+    drop(one);
+    shown
 }
 
 // A second child, a restart of the first, and the crash that is one too many.
@@ -282,7 +340,7 @@ fn starts_another<N: WordsNaming + InboxNaming, R: Wait + Abort>(
     one.up(rt, child);
     one.takes(rt, 0);
     let reply = one.sup.reply(rt, call)?;
-    assert!(rt; matches!(reply, Some(Reply::OkProcess(number)) if number == child));
+    assert!(rt; matches!(reply, ReplyAnswer::Kept(Reply::OkProcess(number)) if number == child));
     Ok(child)
 }
 

@@ -4,13 +4,14 @@ ghost use Rattle.otp_rules.specs.declared.event.Item.TheVariants as item;
 ghost use Rattle.otp_sup.specs.Letters.{Comes};
 ghost use Rattle.otp_sup.specs.Ports.{launched, launched_all, told};
 
-use crate::alone::{Alone, OWN, Post, make_alone};
-use crate::fixtures::{child, crash};
+use crate::alone::{Alone, OWN, Post, make_table};
+use crate::fixtures::of_one_child;
+use crate::script::{Known, Step, plays};
 use otp_inbox::{InboxNaming, UnnamedInbox};
 use otp_reason::{Note, Reason};
-use otp_rules::{Call, CallFault, Item, Reply, SupEnd};
+use otp_rules::{Item, SupEnd};
 use otp_signals::{OpenWords, Signal, WordsNaming};
-use otp_sup::{Letter, NewProcess, Port, Table, ToldNote, TurnAnswer, TurnFault};
+use otp_sup::{Letter, NewProcess, Port, ToldNote, TurnAnswer, TurnFault};
 use otp_tally::Tally;
 use std::alloc::Global;
 use std::marker::Brand;
@@ -18,107 +19,68 @@ use std::process::Abort;
 use std::sync::Wait;
 use std::test::*;
 
+// Opened, restarted, stopped, killed and ended: after each turn its orders are sent, and counted.
+const BY_ORDERS: [Step; 32] = [
+    // It opens, and starts its child; nothing else happens then.
+    Step::Turn(0, 0, Signal::None, Ok(TurnAnswer::Opened)),
+    Step::Turn(0, 0, Signal::None, Ok(TurnAnswer::Pending)),
+    Step::Sends(1),
+    Step::Puts(1, 0, OWN),
+    Step::Turn(0, 0, Signal::None, Ok(TurnAnswer::Quiet)),
+    Step::Sends(0),
+    // A turn under another number is refused; its child runs, and its parent is told.
+    Step::Turn(3, 0, Signal::None, Err(TurnFault::WrongNumber)),
+    Step::Sends(0),
+    Step::Up(1, 1),
+    Step::Tells(Note::Up(0)),
+    // Its child is killed, and is restarted with the body that came home.
+    Step::ComesKilled(1, 7),
+    Step::Turn(0, 1000, Signal::None, Ok(TurnAnswer::Took)),
+    Step::Sends(1),
+    Step::Puts(2, 0, 7),
+    Step::ComesUp(2),
+    Step::Turn(0, 1000, Signal::None, Ok(TurnAnswer::Took)),
+    Step::Sends(0),
+    // It is told to stop: its child sees the shutdown once the order was sent.
+    Step::Turn(0, 1000, Signal::Shutdown, Ok(TurnAnswer::Stopped)),
+    Step::Shows(2, Signal::None),
+    Step::Sends(1),
+    Step::Shows(2, Signal::Shutdown),
+    // The deadline has come.
+    Step::Turn(0, 6000, Signal::None, Ok(TurnAnswer::Ticked)),
+    Step::Sends(1),
+    Step::Shows(2, Signal::Kill),
+    Step::ComesKilled(2, 8),
+    Step::Turn(0, 6000, Signal::None, Ok(TurnAnswer::Took)),
+    // Its child has ended: it has ended, and tells it.
+    Step::Sends(1),
+    Step::TellsAsked,
+    Step::Tells(Note::Exit(0, Reason::Shutdown)),
+    Step::Turn(0, 6000, Signal::None, Ok(TurnAnswer::Ended)),
+    Step::Sends(0),
+    Step::PortIsEmpty,
+];
+
+// A start_child of an id that runs orders nothing, and its body can be had back once, under the call's number.
+const REFUSED_START: [Step; 6] = [
+    Step::Opens(1),
+    Step::Up(1, 1),
+    Step::StartsFirst(40, 9),
+    Step::Knows(40, Known::Runs(1)),
+    Step::GivesBack(40, Some(9)),
+    Step::GivesBack(40, None),
+];
+
 #[test]
 fn one_child_by_orders(rt: HostRuntime) -> Result<(), Fail> {
-    let words = OpenWords::open(rt.alloc(), 256)?;
-    let inbox = UnnamedInbox::<Item, Post>::open(rt.alloc())?;
-    by_orders_in::<Brand, _>(&rt, rt.alloc(), words, inbox)
+    let supervisor = of_one_child(rt.alloc())?;
+    plays(&rt, rt.alloc(), supervisor, &[OWN], &BY_ORDERS, 7)
 }
 
-// Opened, restarted, stopped, killed and ended: after each turn its orders are sent, and counted.
-fn by_orders_in<N: WordsNaming + InboxNaming, R: Wait + Abort>(
-    rt: &R,
-    alloc: Global,
-    words: OpenWords,
-    inbox: UnnamedInbox<Item, Post>,
-) -> Result<(), Fail>
-    requires words { words.words ≡ N.words }
-    requires slots { words.slots ≡ 256 }
-    requires inbox { inbox ≡ N.inbox 0 }
-{
-    let mut one = make_alone::<N>(alloc, words, inbox)?;
-    lives(rt, &mut one);
-    has_history(rt, one.table, 7);
-    Ok(())
-}
-
-// From its opening to its end.
-fn lives<N: WordsNaming + InboxNaming, R: Wait + Abort>(rt: &R, one: &mut Alone<N>) {
-    opens(rt, one);
-    comes_up(rt, one);
-    crashes(rt, one);
-    is_asked(rt, one);
-    is_killed(rt, one);
-    ends(rt, one);
-}
-
-// As many events happened.
-fn has_history<N: WordsNaming + InboxNaming, R: Abort>(
-    rt: &R,
-    table: Table<N, u64>,
-    events: usize,
-) {
-    let (office, _, _) = table.into_parts();
-    let (core, _) = office.into_parts();
-    assert_eq!(rt; core.history().len(), events);
-}
-
-// It opens, and starts its child; nothing else happens then.
-fn opens<N: WordsNaming + InboxNaming, R: Wait + Abort>(rt: &R, one: &mut Alone<N>) {
-    one.opens(rt);
-    one.turns(rt, 0, 0, Signal::None, Ok(TurnAnswer::Pending));
-    one.sends(rt, 1);
-    one.puts(rt, (1, 0, OWN));
-    one.turns(rt, 0, 0, Signal::None, Ok(TurnAnswer::Quiet));
-    one.sends(rt, 0);
-}
-
-// A turn under another number is refused; its child runs, and its parent is told.
-fn comes_up<N: WordsNaming + InboxNaming, R: Wait + Abort>(rt: &R, one: &mut Alone<N>) {
-    one.turns(rt, 3, 0, Signal::None, Err(TurnFault::WrongNumber));
-    one.sends(rt, 0);
-    one.up(rt, 1);
-    one.takes(rt, 0);
-    one.sends(rt, 1);
-    one.tells(rt, Note::Up(0));
-}
-
-// Its child crashes, and is restarted with the body that came home.
-fn crashes<N: WordsNaming + InboxNaming, R: Wait + Abort>(rt: &R, one: &mut Alone<N>) {
-    one.exit(rt, 1, crash(), 7);
-    one.takes(rt, 1000);
-    one.sends(rt, 1);
-    one.puts(rt, (2, 0, 7));
-    one.up(rt, 2);
-    one.takes(rt, 1000);
-    one.sends(rt, 0);
-}
-
-// It is told to stop: its child sees the shutdown once the order was sent.
-fn is_asked<N: WordsNaming + InboxNaming, R: Wait + Abort>(rt: &R, one: &mut Alone<N>) {
-    one.turns(rt, 0, 1000, Signal::Shutdown, Ok(TurnAnswer::Stopped));
-    one.shows(rt, 2, Signal::None);
-    one.sends(rt, 1);
-    one.shows(rt, 2, Signal::Shutdown);
-}
-
-// The deadline has come.
-fn is_killed<N: WordsNaming + InboxNaming, R: Wait + Abort>(rt: &R, one: &mut Alone<N>) {
-    one.turns(rt, 0, 6000, Signal::None, Ok(TurnAnswer::Ticked));
-    one.sends(rt, 1);
-    one.shows(rt, 2, Signal::Kill);
-    one.exit(rt, 2, Reason::Killed, 8);
-    one.takes(rt, 6000);
-}
-
-// Its child has ended: it has ended, and tells it.
-fn ends<N: WordsNaming + InboxNaming, R: Wait + Abort>(rt: &R, one: &mut Alone<N>) {
-    one.sends(rt, 1);
-    assert!(rt; one.has_told_asked());
-    one.tells(rt, Note::Exit(0, Reason::Shutdown));
-    one.turns(rt, 0, 6000, Signal::None, Ok(TurnAnswer::Ended));
-    one.sends(rt, 0);
-    assert!(rt; one.has_empty_port());
+#[test]
+fn refused_start_call(rt: HostRuntime) -> Result<(), Fail> {
+    let supervisor = of_one_child(rt.alloc())?;
+    plays(&rt, rt.alloc(), supervisor, &[OWN], &REFUSED_START, 3)
 }
 
 // A port that takes nothing.
@@ -184,7 +146,15 @@ fn refused_in<N: WordsNaming + InboxNaming, R: Wait + Abort>(
     requires slots { words.slots ≡ 256 }
     requires inbox { inbox ≡ N.inbox 0 }
 {
-    let mut one = make_alone::<N>(alloc, words, inbox)?;
+    let supervisor = match of_one_child(alloc) {
+        Ok(supervisor) => supervisor,
+        Err(fail) => {
+            drop(words);
+            drop(inbox);
+            return Err(fail);
+        }
+    };
+    let mut one = make_table::<N>(alloc, words, inbox, supervisor, &[OWN])?;
     let mut shut = Shut {
         processes: Vec::new(alloc),
         notes: Vec::new(alloc),
@@ -192,6 +162,8 @@ fn refused_in<N: WordsNaming + InboxNaming, R: Wait + Abort>(
     };
     start_is_refused(rt, &mut one, &mut shut);
     note_is_refused(rt, &mut one, &mut shut);
+    drop(shut);
+    drop(one);
     Ok(())
 }
 
@@ -216,65 +188,9 @@ fn note_is_refused<N: WordsNaming + InboxNaming, R: Wait + Abort>(
     one: &mut Alone<N>,
     shut: &mut Shut,
 ) {
-    one.up(rt, 1);
+    one.send(rt, Letter::note(Note::Up(1), None));
     one.takes(rt, 0);
     one.is_refused(rt, shut);
     one.sends(rt, 1);
     one.tells(rt, Note::Up(0));
-}
-
-#[test]
-fn refused_start_call(rt: HostRuntime) -> Result<(), Fail> {
-    let words = OpenWords::open(rt.alloc(), 256)?;
-    let inbox = UnnamedInbox::<Item, Post>::open(rt.alloc())?;
-    start_call_in::<Brand, _>(&rt, rt.alloc(), words, inbox)
-}
-
-// A start_child of an id that runs orders nothing, and its body can be had back once, under the call's number.
-fn start_call_in<N: WordsNaming + InboxNaming, R: Wait + Abort>(
-    rt: &R,
-    alloc: Global,
-    words: OpenWords,
-    inbox: UnnamedInbox<Item, Post>,
-) -> Result<(), Fail>
-    requires words { words.words ≡ N.words }
-    requires slots { words.slots ≡ 256 }
-    requires inbox { inbox ≡ N.inbox 0 }
-{
-    let mut one = make_alone::<N>(alloc, words, inbox)?;
-    is_called(rt, alloc, &mut one)
-}
-
-// While its child runs it is called to start that.
-fn is_called<N: WordsNaming + InboxNaming, R: Wait + Abort>(
-    rt: &R,
-    alloc: Global,
-    one: &mut Alone<N>,
-) -> Result<(), Fail> {
-    runs(rt, one);
-    let Ok(letter) = Letter::call(alloc, 40, Call::StartChild(child()?), Some(9)) else {
-        return Err("memory was refused".into());
-    };
-    one.send(rt, letter);
-    gives_back(rt, one);
-    Ok(())
-}
-
-// It opens, and its child runs.
-fn runs<N: WordsNaming + InboxNaming, R: Wait + Abort>(rt: &R, one: &mut Alone<N>) {
-    one.opens(rt);
-    one.sends(rt, 1);
-    one.up(rt, 1);
-    one.takes(rt, 0);
-    one.sends(rt, 1);
-}
-
-// The call is refused, and its body comes back once.
-fn gives_back<N: WordsNaming + InboxNaming, R: Wait + Abort>(rt: &R, one: &mut Alone<N>) {
-    one.takes(rt, 0);
-    one.sends(rt, 0);
-    let reply = one.table.reply(40);
-    assert!(rt; matches!(reply, Some(Reply::Refused(CallFault::AlreadyStarted(1)))));
-    assert_eq!(rt; one.table.take_box(40), Some(9));
-    assert_eq!(rt; one.table.take_box(40), None);
 }

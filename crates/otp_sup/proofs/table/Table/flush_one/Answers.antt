@@ -1,5 +1,5 @@
 use Rattle.std.proofs.Common.{◌≡◌, List, Option, ℕ, ap, arith, length, refl, sym, ◌∙◌, subst, IsSome}
-use Rattle.otp_core.specs.View.{View, state_of}
+use Rattle.otp_core.specs.View.{View, state_of, stored_of}
 use Rattle.otp_counts.specs.Counts.{EndsWith}
 use Rattle.otp_rules.specs.Counts.{counts_of}
 use Rattle.otp_rules.specs.Waits.{starts_waiting}
@@ -45,7 +45,7 @@ invariant_of-self g c =
           ∙ ap (λ (v : View). starts_waiting (state_of v).waiting) (sym core);
       bodies = subst Has (sym is) (subst Slot (sym c.starting_slot-slot.ensures) (bodies_flushed _ _ _ _ _ _ _ c.self.inside.bodies.kept c.keeps_rules.ensures sent.flushed c.self.invariant.bodies));
       counts = subst (λ (v : View). EndsWith (counts_of (state_of v)) c.self.inside.counts.published) (sym core) c.self.invariant.counts;
-      told = told_same _ _ _ _ (ap (λ (v : View). v.history) core) refl c.self.invariant.told;
+      told = told_same _ _ _ _ (ap stored_of core) refl c.self.invariant.told;
       starts =
           let given = ap (λ (t : TakerState Item). t.given.starts) c.credit_start.ensures.taker in
           let more = starts_sent_on _ _ _ _ _ _ _ c.keeps_rules.ensures sent.flushed in

@@ -7,6 +7,7 @@ use Rattle.otp_sup.proofs.Calls.{nothing_waits, settled_calls}
 use Rattle.otp_sup.proofs.Telling.{none_told, told_same}
 use Rattle.otp_sup.proofs.Shared.{none_sent}
 use Rattle.otp_inbox.specs.declared.rule.Shares.{Shares}
+use Rattle.otp_core.specs.View.{stored_of}
 use Rattle.otp_rules.specs.declared.event.Event.{Event}
 use Rattle.otp_sup.proofs.table.Table.new.Goals as goal
 
@@ -18,7 +19,7 @@ invariant_of-result g c =
       calls = ap calls_waiting c.settle.ensures ∙ settled_calls [] false c.args.bodies.kept ∙ sym (nothing_waits c.args.office c.keeps_rules.ensures.begins c.requires.history);
       bodies = subst Has (sym c.settle.ensures) (first_bodies c.args.office c.args.bodies.kept c.keeps_rules.ensures c.requires.history c.requires.bodies c.has_one_each.ensures);
       counts = ([], c.requires.counts);
-      told = told_same _ _ [] _ refl c.new.ensures.items (none_told c.args.office.core.history);
+      told = told_same _ _ [] _ refl c.new.ensures.items (none_told (stored_of c.args.office.core));
       starts = ap (λ (s : Shares). s.starts) c.requires.unused.1 ∙ sym (none_sent c.args.office c.requires.history);
       turns =
           let given = ap (λ (s : Shares). s.turns) c.requires.unused.1 in

@@ -1,0 +1,40 @@
+-- Checkpoints of a supervisor: its events are stored no longer, and nothing that comes depends on them. (own)
+use Rattle.std.specs.Prelude.{◌≡◌, ◌⊎◌, ◌<◌, true, false, [], Result, Ok, Err, length}
+use Rattle.otp_core.specs.declared.cut.CutFault.{CutFault}
+use Rattle.otp_core.specs.declared.cut.TheConstants.{MAX_EVENTS_IN_ALL}
+use Rattle.otp_core.specs.View.{View}
+use Rattle.otp_sup.specs.declared.turns.CutAnswer.{CutAnswer}
+use Rattle.otp_sup.specs.declared.turns.CutAnswer.TheVariants as cut
+use Rattle.otp_sup.specs.declared.turns.TurnAnswer.{TurnAnswer}
+use Rattle.otp_sup.specs.declared.turns.TurnAnswer.TheVariants as answer
+use Rattle.otp_sup.specs.declared.turns.TurnFault.{TurnFault}
+use Rattle.otp_sup.specs.Facts.{OfficeView, TableView, has_some}
+use Rattle.otp_core.specs.Full.{is_full}
+
+-- no event is stored any more: the state that all of them gave is where the next one begins
+abbrev pub cut_office : OfficeView → OfficeView
+cut_office o = record o { core = record o.core { cut = length o.core.history; effects = [] } }
+
+-- nor is an end that they told
+abbrev pub cut_table : TableView → TableView
+cut_table t = record t { office = cut_office t.office; ends_told = [] }
+
+-- there were more events in all than a checkpoint counts
+abbrev pub HasTooManyEvents : View → Type 0
+HasTooManyEvents v = MAX_EVENTS_IN_ALL < length v.history
+
+-- a checkpoint was made, and there is room again
+pub record IsCut (old new : TableView) : Type 0 where
+  pub is : new ≡ cut_table old
+  pub room : is_full new.office.core ≡ false
+
+-- what a cut does: nothing while an order is still to be sent, and nothing after too many events
+abbrev pub WasCut : Result CutAnswer CutFault → TableView → TableView → Type 0
+WasCut (Ok cut.Cut) old new = (old.office.outbox ≡ []) × IsCut old new
+WasCut (Ok cut.Pending) old new = (has_some old.office.outbox ≡ true) × (new ≡ old)
+WasCut (Err _) old new = (old.office.outbox ≡ []) × HasTooManyEvents old.office.core × (new ≡ old)
+
+-- what is done after a turn with this answer: where the core is full, a checkpoint, but after too many events; else nothing
+abbrev pub CutWhereFull : Result TurnAnswer TurnFault → TableView → TableView → Type 0
+CutWhereFull (Ok answer.Full) old new = IsCut old new ⊎ (HasTooManyEvents old.office.core × (new ≡ old))
+CutWhereFull _ old new = new ≡ old
