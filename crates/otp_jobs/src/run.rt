@@ -217,7 +217,9 @@ fn write_run(
 {
     let lines = lines_of(alloc, run.report.tables.as_slice())?;
     write_counts(is_counted, run.counts.as_slice(), out)?;
-    write_report(lines.as_slice(), run.report.live, out)
+    let written = write_report(lines.as_slice(), run.report.live, out);
+    drop(lines);
+    written
 }
 
 /// Runs a tree of worked jobs: each hand makes its turns, the root is asked to stop, each hand makes as many turns again,
@@ -255,6 +257,11 @@ where
         gate,
         settings.turns(),
     )?;
-    write_run(alloc, settings.is_counted(), &whole, out)?;
-    Ok(whole)
+    match write_run(alloc, settings.is_counted(), &whole, out) {
+        Ok(()) => Ok(whole),
+        Err(AllocError) => {
+            drop(whole);
+            Err(FileRunFault::OutOfMemory)
+        }
+    }
 }

@@ -16,10 +16,6 @@ pub nothing_left : {A : Type 0} (xs : List A) → length xs ≡ 0 → xs ≡ []
 nothing_left [] none = refl
 nothing_left (x ∷ xs) none = absurd (omega (arith, none))
 
-pub zero_unless : (n : ℕ) → (0 < n → ⊥) → n ≡ 0
-zero_unless zero isnt = refl
-zero_unless (suc n) isnt = absurd (isnt (omega arith))
-
 module _ {J S : Type 0} where
   -- a hand of what it runs processes with, its senders and its passes
   abbrev pub of_runner : RunnerView J S → List (SenderState Item) → List Reading → HandView J S

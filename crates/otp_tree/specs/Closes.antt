@@ -1,4 +1,5 @@
 -- When all parts of a tree are there, and what it leaves. (own)
+use Rattle.otp_core.specs.View.{stored_of}
 use Rattle.std.specs.Prelude.{◌≡◌, ℕ, ◌+◌, ◌<◌, ◌≤◌, ⊤, List, ◌∷◌, Option, Some, None, Result, Ok, Err, MatchOption, All, AllPairs, length, map}
 use Rattle.otp_inbox.specs.Tokens.{SenderState, all_parts}
 use Rattle.otp_rules.specs.declared.event.Item.{Item}
@@ -48,7 +49,7 @@ HasBegun t = Begins t.core.base
 
 -- each end of another supervisor that the history was told is for the note's reason, and shown
 abbrev pub HasTold : TableReport → Type 0
-HasTold t = AreTold t.core.history t.ends_told.items
+HasTold t = AreTold (stored_of t.core) t.ends_told.items
 
 -- no process number is in the histories of two of these supervisors
 abbrev pub AreApart : List TableReport → Type 0

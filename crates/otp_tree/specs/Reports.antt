@@ -1,13 +1,15 @@
 -- What is read off a supervisor's history in a report. (own)
-use Rattle.std.specs.Prelude.{ℕ, ◌-◌, Option, Some, None, length, slice_get, if◌then◌else◌}
+use Rattle.std.specs.Prelude.{Option, Some, None}
 use Rattle.otp_reason.specs.declared.reason.Reason.{Reason}
-use Rattle.otp_rules.specs.declared.ending.SupEnd.{SupEnd}
-use Rattle.otp_rules.specs.State.{State, is_over}
+use Rattle.otp_rules.specs.declared.work.Phase.{Phase}
+use Rattle.otp_rules.specs.declared.work.Phase.TheVariants.{Ended}
+use Rattle.otp_rules.specs.Ends.{reason_of}
+use Rattle.otp_rules.specs.State.{State}
 
-abbrev pub reason_in : Option (ℕ × SupEnd) → Option Reason
-reason_in None = None
-reason_in (Some x) = Some x.1.reason
+abbrev pub reason_in : Phase → Option Reason
+reason_in (Ended own ending) = Some (reason_of ending)
+reason_in _ = None
 
--- the reason of the last end, where the supervisor has ended
+-- the reason for which the supervisor has ended; none where it runs, or was never opened
 abbrev pub last_reason : State → Option Reason
-last_reason s = if is_over s.phase then reason_in (slice_get s.ends (length s.ends - 1)) else None
+last_reason s = reason_in s.phase

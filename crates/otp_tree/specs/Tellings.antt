@@ -1,6 +1,6 @@
 -- What supervisors are told of the ends of others, and when that is so (Supervisor Behaviour, nested supervisors).
-use Rattle.std.specs.Prelude.{◌≡◌, ◌⊎◌, ℕ, ⊤, List, Option, Some, None, MatchOption, slice_get}
-use Rattle.otp_core.specs.View.{state_of}
+use Rattle.std.specs.Prelude.{◌≡◌, ◌⊎◌, ℕ, ◌<◌, ⊤, List, Option, Some, None, MatchOption, slice_get}
+use Rattle.otp_core.specs.View.{stored_of, stored_state}
 use Rattle.otp_reason.specs.declared.note.Note.{Note}
 use Rattle.otp_reason.specs.declared.note.Note.TheVariants as note
 use Rattle.otp_reason.specs.declared.reason.Reason.{Reason}
@@ -64,7 +64,7 @@ pub record Agrees (s : State) (number : ℕ) (reason : Option Reason) : Type 0 w
 
 -- the histories of all supervisors agree with the end of this process
 abbrev pub AllAgree : List (TableReport) → ℕ → Option Reason → Type 0
-AllAgree tables number reason = AllAt (λ _ (t : TableReport). Agrees (state_of t.core) number reason) tables
+AllAgree tables number reason = AllAt (λ _ (t : TableReport). Agrees (stored_state t.core) number reason) tables
 
 -- an event tells no end, or one with which the histories of all supervisors agree
 pub record IsSo (tables : List (TableReport)) (event : Event) : Type 0 where
@@ -95,13 +95,28 @@ Gives number end s = IsThere (IsEndUnder number end) s.ends
 
 -- an end that was told is the one that the history of the supervisor with that number gives
 abbrev pub IsGiven : List TableReport → ToldEnd → Type 0
-IsGiven tables x = IsThere (λ (t : TableReport). Gives x.number x.end (state_of t.core)) tables
+IsGiven tables x = IsThere (λ (t : TableReport). Gives x.number x.end (stored_state t.core)) tables
 
--- each end that a supervisor was told is one with which the histories of all supervisors agree; and where it came with what
--- shows it, one of them gives the same
+-- the history knows of no opening under this number: the supervisor doesn't run under it, and no end is that of such an opening
+pub record KnowsNone (number : ℕ) (s : State) : Type 0 where
+  pub not_open : ¬ (s.phase ≡ Open number)
+  pub no_end : AllAt (λ _ x. ¬ (x.0 ≡ number)) s.ends
+
+-- a checkpoint cut off the opening under this number, and its end: events of one of the supervisors were cut off, and what is
+-- stored of them knows of no such opening
+pub record IsCutOff (tables : List TableReport) (number : ℕ) : Type 0 where
+  pub cut : IsThere (λ (t : TableReport). 0 < t.core.cut) tables
+  pub unknown : AllAt (λ _ (t : TableReport). KnowsNone number (stored_state t.core)) tables
+
+-- an end that was told is the one that the history gives, as far as it is stored
+abbrev pub IsBorneOut : List TableReport → ToldEnd → Type 0
+IsBorneOut tables x = IsGiven tables x ⊎ IsCutOff tables x.number
+
+-- each end that a supervisor was told is one with which the histories of all supervisors agree, as far as they are stored; and
+-- where it came with what shows it, one of them gives the same, or a checkpoint cut it off
 pub record IsToldSo (tables : List TableReport) (t : TableReport) : Type 0 where
-  pub events : AllAt (λ _ e. IsSo tables e) t.core.history
-  pub ends : AllAt (λ _ x. IsGiven tables x) t.ends_told.items
+  pub events : AllAt (λ _ e. IsSo tables e) (stored_of t.core)
+  pub ends : AllAt (λ _ x. IsBorneOut tables x) t.ends_told.items
 
 -- the same of all supervisors
 abbrev pub AreSo : List (TableReport) → Type 0
@@ -109,11 +124,11 @@ AreSo tables = AllAt (λ _ t. IsToldSo tables t) tables
 
 -- the event tells an end with which a history doesn't agree
 abbrev pub IsFalseEvent : List TableReport → TableReport → ℕ → Type 0
-IsFalseEvent tables t place = MatchOption (slice_get t.core.history place) ⊥ (λ event. ¬ (IsSo tables event))
+IsFalseEvent tables t place = MatchOption (slice_get (stored_of t.core) place) ⊥ (λ event. ¬ (IsSo tables event))
 
--- the event told an end that no history gives
+-- the event told an end that no history gives, and that no checkpoint cut off
 abbrev pub IsFalseEnd : List TableReport → TableReport → ℕ → Type 0
-IsFalseEnd tables t place = IsThere (λ (x : ToldEnd). (x.event ≡ place) × ¬ (IsGiven tables x)) t.ends_told.items
+IsFalseEnd tables t place = IsThere (λ (x : ToldEnd). (x.event ≡ place) × ¬ (IsBorneOut tables x)) t.ends_told.items
 
 -- an event of this supervisor tells an end that isn't so
 abbrev pub IsMismatchOf : List TableReport → TableReport → ℕ → Type 0

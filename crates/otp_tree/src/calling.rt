@@ -2,12 +2,14 @@
 //! exports.
 ghost use Rattle.std.specs.Prelude.{◌≡◌, ◌<◌, ◌≤◌, None, Ok, is_some, true, IfErr, IfOk, OnOk, length};
 ghost use Rattle.otp_rules.specs.Homes.{is_start_call};
+ghost use Rattle.otp_core.specs.declared.reply.ReplyAnswer.TheVariants as answer;
 ghost use Rattle.otp_sup.specs.Bodies.{is_left_of};
 ghost use Rattle.otp_sup.specs.Turns.{HadBody, HasReply};
 ghost use Rattle.otp_tree.specs.Callings.{Called, IsNotSent, IsUnsendable, fits_call, is_no_table, is_of_type};
 
 use crate::client::Client;
 use crate::system::System;
+use otp_core::ReplyAnswer;
 use otp_inbox::{Inbox, InboxNaming};
 use otp_job::Body;
 use otp_rules::{Call, Item, Reply};
@@ -69,8 +71,9 @@ impl<N: WordsNaming + InboxNaming, J: Drop, S: Drop> System<N, J, S> {
         client.send_call(rt, alloc, &self.words, self.inbox_of(table), call, body)
     }
 
-    /// A copy of the answer to the call with this number, which that supervisor keeps. None where it wasn't answered yet, or
-    /// the tree has no supervisor of this number.
+    /// What that supervisor knows of the answer to the call with this number: [`ReplyAnswer::Kept`] with a copy, where it was given
+    /// since the last checkpoint; [`ReplyAnswer::Gone`] where a checkpoint may have dropped it; [`ReplyAnswer::NotYet`] where it
+    /// wasn't answered yet, or the tree has no supervisor of this number. An error where memory for the copy is refused (E0).
     ///
     /// As of each thing that lies under a lock, contracts say that the answer, or that there is none, is that of a supervisor
     /// which keeps the rules.
@@ -79,13 +82,13 @@ impl<N: WordsNaming + InboxNaming, J: Drop, S: Drop> System<N, J, S> {
         rt: &R,
         table: usize,
         call: u64,
-    ) -> Result<Option<Reply>, AllocError>
+    ) -> Result<ReplyAnswer<Reply>, AllocError>
         ensures kept { table < self.now.tables → IfOk result (HasReply call) }
-        ensures none { self.now.tables ≤ table → result ≡ Ok None }
+        ensures none { self.now.tables ≤ table → result ≡ Ok answer.NotYet }
     {
         match self.sups.get(table) {
             Some(sup) => sup.reply(rt, call),
-            None => Ok(None),
+            None => Ok(ReplyAnswer::NotYet),
         }
     }
 

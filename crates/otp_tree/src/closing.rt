@@ -21,6 +21,7 @@ use crate::evidence::Mismatch;
 use crate::hand::Hand;
 use crate::joining::{Joined, join_all};
 use crate::parting::{Gathered, HandsFault, gather_hands};
+use crate::places::next_of;
 use crate::report::{Report, TableReport};
 use crate::rooms::LeftRoom;
 use crate::settling::settle;
@@ -34,7 +35,6 @@ use otp_signals::{Owner, Words, WordsNaming};
 use otp_sup::{Letter, SupParts, Unlocked};
 use std::alloc::Global;
 use std::sync::Wait;
-use std::vec::IntoIter;
 
 /// Why a tree has no report, or one that tells of a mismatch. `K` is what comes back where nothing was taken apart: the
 /// whole tree ([`Unclosed`]), or nothing where it can't leave the call.
@@ -48,7 +48,8 @@ pub enum CloseFault<J: Drop, S: Drop, K: Drop> {
     /// A supervisor's lock holds another one's. It doesn't happen, since each is opened with its own and nothing moves
     /// them; but what lies under a lock is known by its type alone, which doesn't say whose it is.
     Misplaced(K),
-    /// E17: a supervisor was told an end of another that isn't the one that the other's own history gives.
+    /// E17: a supervisor was told an end of another that isn't the one that the other's own history gives, as far as that is
+    /// stored ([`Report::find_mismatch`]).
     Mismatch(Mismatch, Report<J, S>),
 }
 
@@ -220,9 +221,10 @@ fn report_of<N: WordsNaming + InboxNaming, J: Drop, S: Drop, R: Wait>(
         outer,
         rooms,
         last: room,
-        tables,
-        back: _,
+        tables: list,
+        back,
     } = loose;
+    drop(back);
     let Gathered { total, rests } = gathered;
     let LiveTotal {
         live,
@@ -240,13 +242,17 @@ fn report_of<N: WordsNaming + InboxNaming, J: Drop, S: Drop, R: Wait>(
     let Joined { senders, held } = join_all(sups.as_slice(), &outer, senders, rests);
     let (senders, sender) = senders.into_last();
     let Some(waiter) = waiter else { unreachable!() };
+    let tables = take_all_apart(rt, &words, sups, senders, rooms, owner, list);
+    let last = settle(rt, &outer, waiter, sender, room);
+    drop(words);
+    drop(outer);
     Report {
-        tables: take_all_apart(rt, &words, sups, senders, rooms, owner, tables),
+        tables,
         live,
         begun,
         ended,
         processes: left,
-        last: settle(rt, &outer, waiter, sender, room),
+        last,
         heard,
         held,
     }
@@ -283,18 +289,6 @@ fn take_all_apart<N: WordsNaming + InboxNaming, B: Drop, R: Wait>(
         tables.push_reserved(take_apart(rt, words, sup, sender, room, &mut owner));
     }
     tables
-}
-
-/// The next of what is left.
-fn next_of<T: Drop>(items: &mut IntoIter<T, Global>) -> T
-    requires { 0 < items.old.rest.len }
-    ensures next { items.old.rest.items ≡ result ∷ items.new.rest.items }
-    ensures len { items.new.rest.len + 1 ≡ items.old.rest.len }
-{
-    match items.next() {
-        Some(item) => item,
-        None => unreachable!(),
-    }
 }
 
 /// Takes a supervisor apart, and empties its inbox. Its seat is joined to the owner, which shows that no number was drawn by

@@ -4,6 +4,7 @@ ghost use Rattle.otp_rules.specs.declared.event.Item.TheVariants as item;
 ghost use Rattle.otp_tree.specs.Ended.{end_of, ends_held};
 
 use crate::hand::Unsent;
+use crate::places::said_in;
 use otp_reason::Note;
 use otp_rules::Item;
 
@@ -24,7 +25,7 @@ pub(crate) fn count_held<J: Drop, S: Drop>(unsent: Option<Unsent<J, S>>) -> u64
     let Some(Unsent { table: _, letter }) = unsent else {
         return 0;
     };
-    match letter.into_parts().0 {
+    match said_in(letter) {
         Item::Note(note) => count_end(note),
         Item::Call(..) => 0,
     }

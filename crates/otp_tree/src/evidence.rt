@@ -1,11 +1,11 @@
 //! What supervisors were told of the ends of others, held against the others' own histories.
-ghost use Rattle.std.specs.Prelude.{◌≡◌, ◌↔◌, IfNone, IfSome, IsTrue, MatchOption, slice_get};
-ghost use Rattle.otp_core.specs.View.{state_of};
+ghost use Rattle.std.specs.Prelude.{◌≡◌, ◌↔◌, ◌<◌, IfNone, IfSome, IsTrue, MatchOption, slice_get};
+ghost use Rattle.otp_core.specs.View.{stored_state};
 ghost use Rattle.otp_reason.specs.Names.{name_bytes};
 ghost use Rattle.otp_reason.specs.Texts.{text_bytes};
 ghost use Rattle.otp_rules.specs.declared.work.Phase.TheVariants.{Open};
 ghost use Rattle.otp_run.specs.Lists.{AllAt};
-ghost use Rattle.otp_tree.specs.Tellings.{Agrees, AllAgree, AreSo, EndedSo, Gives, IsEndTold, IsEndUnder, IsFalseEnd, IsGiven, IsMismatch, IsMismatchOf, IsSameCause, IsSameReason, IsSo, IsThere, IsToldSo, told_end};
+ghost use Rattle.otp_tree.specs.Tellings.{Agrees, AllAgree, AreSo, EndedSo, Gives, IsBorneOut, IsCutOff, IsEndTold, IsEndUnder, IsFalseEnd, IsGiven, IsMismatch, IsMismatchOf, IsSameCause, IsSameReason, IsSo, IsThere, IsToldSo, KnowsNone, told_end};
 
 use crate::report::TableReport;
 use otp_core::{Core, History};
@@ -18,7 +18,7 @@ use otp_sup::ToldEnd;
 pub struct Mismatch {
     /// The number of the supervisor that was told it.
     pub table: usize,
-    /// The place of the event in that supervisor's history, from 0 on.
+    /// The place of the event in what is stored of that supervisor's history, from 0 on.
     pub event: usize,
 }
 
@@ -96,7 +96,7 @@ fn all_agree(tables: &[TableReport], number: u64, reason: Option<Reason>) -> boo
 
 /// Whether a supervisor doesn't run under this number, and each opening under it ended with this reason.
 fn agrees(core: &Core, number: u64, reason: Option<Reason>) -> bool
-    ensures { IsTrue result ↔ Agrees (state_of core.now) number reason }
+    ensures { IsTrue result ↔ Agrees (stored_state core.now) number reason }
 {
     !is_open_under(core.phase(), number) && all_ended_so(core.ends(), number, reason)
 }
@@ -171,17 +171,51 @@ fn is_open_under(phase: Phase, number: u64) -> bool
     }
 }
 
-/// The event of the first end that was told and that no history gives.
+/// The event of the first end that was told and that isn't borne out.
 fn find_false_end(ends: &[ToldEnd], tables: &[TableReport]) -> Option<usize>
-    ensures none { IfNone result (AllAt (λ _ x. IsGiven tables.now x) ends.now) }
-    ensures found { IfSome result (λ event. IsThere (λ x. (x.event ≡ event) × ¬ (IsGiven tables.now x)) ends.now) }
+    ensures none { IfNone result (AllAt (λ _ x. IsBorneOut tables.now x) ends.now) }
+    ensures found { IfSome result (λ event. IsThere (λ x. (x.event ≡ event) × ¬ (IsBorneOut tables.now x)) ends.now) }
 {
     for place in 0..ends.len() {
-        if !is_given(&ends[place], tables) {
+        if !is_borne_out(&ends[place], tables) {
             return Some(ends[place].event);
         }
     }
     None
+}
+
+/// Whether the history of one of the supervisors gives this end, or a checkpoint cut it off.
+fn is_borne_out(told: &ToldEnd, tables: &[TableReport]) -> bool
+    ensures { IsTrue result ↔ IsBorneOut tables.now told.now }
+{
+    is_given(told, tables) || is_cut_off(told.number, tables)
+}
+
+/// Whether a checkpoint cut off the opening under this number, and its end.
+fn is_cut_off(number: u64, tables: &[TableReport]) -> bool
+    ensures { IsTrue result ↔ IsCutOff tables.now number }
+{
+    has_checkpoint(tables) && is_unknown(number, tables)
+}
+
+/// Whether events of one of the supervisors were cut off.
+fn has_checkpoint(tables: &[TableReport]) -> bool
+    ensures { IsTrue result ↔ IsThere (λ t. 0 < t.core.cut) tables.now }
+{
+    for table in 0..tables.len() {
+        if tables[table].core.events_cut() > 0 {
+            return true;
+        }
+    }
+    false
+}
+
+/// Whether nothing that is stored of the supervisors knows of an opening under this number. No opening ends without a reason: so that
+/// all agree with such an end says just this.
+fn is_unknown(number: u64, tables: &[TableReport]) -> bool
+    ensures { IsTrue result ↔ AllAt (λ _ t. KnowsNone number (stored_state t.core)) tables.now }
+{
+    all_agree(tables, number, None)
 }
 
 /// Whether the history of one of the supervisors gives this end.

@@ -8,6 +8,7 @@ ghost use Rattle.otp_tree.specs.Begun.{NoneBegan};
 ghost use Rattle.otp_tree.specs.Ended.{NoneEnded, end_of, ends_held};
 ghost use Rattle.otp_tree.specs.Readings.{HasRead};
 
+use crate::places::put_into;
 use crate::reading::read_at;
 use crate::resting::{Rested, Resting};
 use crate::senders::Senders;
@@ -148,7 +149,7 @@ impl<N: WordsNaming + RunNaming, J: Drop, S: Drop> Port<Body<J, S>> for Runner<N
     {
         if self.unsent.is_none() {
             if let Some(unsent) = self.letter_of(note, end) {
-                self.unsent = Some(unsent);
+                put_into(&mut self.unsent, Some(unsent));
                 return Ok(());
             }
         }
@@ -198,16 +199,16 @@ impl<N: WordsNaming + RunNaming, J: Drop, S: Drop> Runner<N, J, S> {
         let process = self.turning.take()?;
         let table = process.table();
         let Ok(end) = evidence_of(self.alloc, note, end) else {
-            self.turning = Some(process);
+            put_into(&mut self.turning, Some(process));
             return None;
         };
         if let Note::Up(_) = note {
-            self.turning = Some(process);
+            put_into(&mut self.turning, Some(process));
             let letter = Letter::with_end(note, None, end);
             return Some(Unsent { table, letter });
         }
         if self.scheduler.share().ended >= SHARE_LIMIT {
-            self.turning = Some(process);
+            put_into(&mut self.turning, Some(process));
             return None;
         }
         match end_nested(process) {
@@ -217,7 +218,7 @@ impl<N: WordsNaming + RunNaming, J: Drop, S: Drop> Runner<N, J, S> {
                 Some(Unsent { table, letter })
             }
             Err(process) => {
-                self.turning = Some(process);
+                put_into(&mut self.turning, Some(process));
                 None
             }
         }
@@ -281,7 +282,8 @@ impl<N: WordsNaming + RunNaming, J: Drop, S: Drop> Runner<N, J, S> {
         let Some(place) = place else {
             return;
         };
-        self.turning = Some(self.resting.take_at(place).process);
+        let rested = self.resting.take_at(place);
+        put_into(&mut self.turning, Some(rested.process));
     }
 
     /// Gives its turn to a job that waits and was told something, if it is one of those that are looked at now.
@@ -291,7 +293,8 @@ impl<N: WordsNaming + RunNaming, J: Drop, S: Drop> Runner<N, J, S> {
         ensures begun { NoneBegan self.old.scheduler self.new.scheduler }
         ensures ended { NoneEnded self.old.scheduler self.new.scheduler }
     {
-        self.turning = self.waiting.take_told(words, &mut self.viewer);
+        let told = self.waiting.take_told(words, &mut self.viewer);
+        put_into(&mut self.turning, told);
     }
 
     /// Gives its turn to the next process of the run queue, if there is one: of its own deque, or else of the others, but for a while after
@@ -303,13 +306,15 @@ impl<N: WordsNaming + RunNaming, J: Drop, S: Drop> Runner<N, J, S> {
         ensures ended { NoneEnded self.old.scheduler self.new.scheduler }
     {
         if self.theft_pause == 0 {
-            self.turning = self.scheduler.next();
+            let next = self.scheduler.next();
+            put_into(&mut self.turning, next);
             if self.turning.is_none() {
                 self.theft_pause = THEFT_PAUSE;
             }
             return;
         }
-        self.turning = self.scheduler.next_own();
+        let next = self.scheduler.next_own();
+        put_into(&mut self.turning, next);
         if self.turning.is_none() {
             self.theft_pause -= 1;
         }
@@ -331,7 +336,7 @@ impl<N: WordsNaming + RunNaming, J: Drop, S: Drop> Runner<N, J, S> {
             told,
         };
         if let Some(back) = self.resting.keep(rested) {
-            self.turning = Some(back.process);
+            put_into(&mut self.turning, Some(back.process));
         }
     }
 
@@ -345,7 +350,7 @@ impl<N: WordsNaming + RunNaming, J: Drop, S: Drop> Runner<N, J, S> {
             return;
         };
         if let Err(process) = self.scheduler.give_back(process) {
-            self.turning = Some(process);
+            put_into(&mut self.turning, Some(process));
         }
     }
 
@@ -376,7 +381,7 @@ impl<N: WordsNaming + RunNaming, J: Drop, S: Drop> Runner<N, J, S> {
             return;
         };
         if let Err(process) = self.scheduler.give_back(rested.process) {
-            self.turning = Some(process);
+            put_into(&mut self.turning, Some(process));
         }
     }
 
@@ -393,7 +398,7 @@ impl<N: WordsNaming + RunNaming, J: Drop, S: Drop> Runner<N, J, S> {
             return;
         };
         if let Err(process) = self.scheduler.give_back(process) {
-            self.turning = Some(process);
+            put_into(&mut self.turning, Some(process));
         }
     }
 
@@ -434,26 +439,25 @@ impl<N: WordsNaming + RunNaming, J: Job, S: Subsystem> Runner<N, J, S> {
             return;
         };
         if !process.is_runnable() || self.scheduler.share().ended >= SHARE_LIMIT {
-            self.turning = Some(process);
+            put_into(&mut self.turning, Some(process));
             return;
         }
         let table = process.table();
         match one_turn(process, told) {
-            After::Again(process) => self.turning = Some(process),
-            After::Waits(process) => self.turning = self.waiting.keep(process),
+            After::Again(process) => put_into(&mut self.turning, Some(process)),
+            After::Waits(process) => {
+                let back = self.waiting.keep(process);
+                put_into(&mut self.turning, back);
+            }
             After::Begun(process, note) => {
-                self.turning = Some(process);
-                self.unsent = Some(Unsent {
-                    table,
-                    letter: started(note),
-                });
+                put_into(&mut self.turning, Some(process));
+                let letter = started(note);
+                put_into(&mut self.unsent, Some(Unsent { table, letter }));
             }
             After::Done(end, spent) => {
                 self.scheduler.finish(spent);
-                self.unsent = Some(Unsent {
-                    table,
-                    letter: ended(end),
-                });
+                let letter = ended(end);
+                put_into(&mut self.unsent, Some(Unsent { table, letter }));
             }
         }
     }

@@ -82,16 +82,21 @@ pub(crate) fn join_all<N: WordsNaming + InboxNaming, J: Drop, S: Drop>(
     let mut held: u64 = 0;
     for rest in rests {
         let Rest {
-            viewer: _,
+            viewer,
             senders: others,
-            turning: _,
-            waiting: _,
-            resting: _,
+            turning,
+            waiting,
+            resting,
             unsent,
             refusals: _,
-            passes: _,
+            passes,
             alloc: _,
         } = rest;
+        drop(viewer);
+        drop(turning);
+        drop(waiting);
+        drop(resting);
+        drop(passes);
         join_senders(sups, outer, &mut senders, others);
         held = held.saturating_add(count_held(unsent));
     }

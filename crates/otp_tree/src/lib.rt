@@ -78,6 +78,7 @@ pub mod hand;
 mod joining;
 pub mod opening;
 mod parting;
+mod places;
 pub mod plan;
 pub mod pool;
 mod reading;

@@ -1,17 +1,22 @@
 //! A tree is opened: its parts without a name first, then the tree under a name.
 ghost use Rattle.std.specs.Prelude.{◌≡◌, ◌+◌, ◌*◌, ◌<◌, ◌≤◌, ◌^◌, ◌++◌, ◌∷◌, [], Contains, IfOk, OnOk, IfSome, length, is_some, true};
-ghost use Rattle.otp_spec.specs.declared.limits.TheConstants.{MAX_TABLES};
-ghost use Rattle.otp_inbox.specs.Tokens.{first_sender};
+ghost use Rattle.otp_spec.specs.declared.limits.TheConstants.{MAX_CHILDREN, MAX_TABLES};
+ghost use Rattle.otp_core.specs.View.{state_of};
+ghost use Rattle.otp_rules.specs.Counts.{counts_of};
+ghost use Rattle.otp_sup.specs.Bodies.{are_ready};
+ghost use Rattle.otp_sup.specs.Facts.{count_opened};
+ghost use Rattle.otp_inbox.specs.Tokens.{first_sender, no_shares};
 ghost use Rattle.otp_run.specs.Lists.{AllAt};
 ghost use Rattle.otp_run.specs.Rule.{all_parts};
 ghost use Rattle.otp_signals.specs.Lists.{EachBetween, StayBelow, StayFrom};
 ghost use Rattle.otp_tree.specs.Begun.{HasRootOnly, IsIdle, starts_credited};
 ghost use Rattle.otp_tree.specs.Ended.{ends_sent};
-ghost use Rattle.otp_tree.specs.Opens.{slots_of, first_slot};
+ghost use Rattle.otp_tree.specs.Opens.{first_slot, slots_of};
 ghost use Rattle.otp_tree.specs.Readings.{CanRead, IsFresh};
 
 use crate::client::Client;
 use crate::hand::{Hand, Runner};
+use crate::places::{keep, next_of};
 use crate::plan::TablePlan;
 use crate::reading::split_all;
 use crate::resting::Resting;
@@ -19,12 +24,12 @@ use crate::senders::Senders;
 use crate::system::System;
 use crate::waiting::Waiting;
 use otp_counts::{CountsPass, Publisher};
-use otp_inbox::{Inbox, InboxNaming, Sender, UnnamedInbox};
+use otp_inbox::{Inbox, InboxNaming, Sender, Taker, UnnamedInbox};
 use otp_job::{Body, Process, TableNo};
 use otp_rules::Item;
 use otp_run::{RunNaming, RunQueue, Scheduler};
 use otp_signals::{OpenWords, Owner, Viewer, Words, WordsNaming};
-use otp_spec::MAX_CHILDREN;
+use otp_spec::{MAX_CHILDREN, SupSpec};
 use otp_sup::{Bodies, Letter, Office, Sup, Table, count_opened};
 use otp_tally::Tally;
 use std::alloc::{AllocError, Global};
@@ -85,11 +90,33 @@ impl<J: Drop, S: Drop> Parts<J, S> {
         ensures few { IfOk result (λ p. length p.inboxes.items ≤ MAX_TABLES) }
         ensures hands { IfOk result (λ p. length p.queue ≡ hands) }
     {
+        let Ok(words) = OpenWords::open(alloc, 1 + SLOTS * plans.len()) else {
+            drop(plans);
+            return Err(AllocError);
+        };
+        let Ok(inboxes) = open_inboxes(alloc, plans.len()) else {
+            drop(plans);
+            drop(words);
+            return Err(AllocError);
+        };
+        let Ok(outer) = UnnamedInbox::open(alloc) else {
+            drop(plans);
+            drop(words);
+            drop(inboxes);
+            return Err(AllocError);
+        };
+        let Ok(queue) = RunQueue::open(alloc, hands) else {
+            drop(plans);
+            drop(words);
+            drop(inboxes);
+            drop(outer);
+            return Err(AllocError);
+        };
         Ok(Parts {
-            words: OpenWords::open(alloc, 1 + SLOTS * plans.len())?,
-            inboxes: open_inboxes(alloc, plans.len())?,
-            outer: UnnamedInbox::open(alloc)?,
-            queue: RunQueue::open(alloc, hands)?,
+            words,
+            inboxes,
+            outer,
+            queue,
             plans,
         })
     }
@@ -104,7 +131,14 @@ fn open_inboxes<B: Drop>(
 {
     let mut inboxes = Vec::new(alloc);
     for _ in 0..count {
-        inboxes.push(UnnamedInbox::open(alloc)?)?;
+        let Ok(inbox) = UnnamedInbox::open(alloc) else {
+            drop(inboxes);
+            return Err(AllocError);
+        };
+        let Ok(()) = keep(&mut inboxes, inbox) else {
+            drop(inboxes);
+            return Err(AllocError);
+        };
     }
     Ok(inboxes)
 }
@@ -137,29 +171,89 @@ fn open_one<N: WordsNaming + InboxNaming, J: Drop, S: Drop>(
     ensures posts { OnOk result (owner.new.posts ≡ []) }
 {
     let first = 1 + SLOTS * number;
+    let TablePlan { supervisor, bodies } = plan;
+    let bodies = ready_bodies(alloc, &supervisor, bodies, number)?;
     let Ok(seat) = words.split(owner, first..first + SLOTS, TABLE_QUOTA) else {
         return Err(SystemFault::OutOfMemory);
     };
-    let TablePlan { supervisor, bodies } = plan;
+    Ok(open_seated(alloc, inbox, number, supervisor, bodies, seat, first)?)
+}
+
+/// The bodies of a plan, one at least for each child that an opening makes.
+fn ready_bodies<B: Drop>(
+    alloc: Global,
+    supervisor: &SupSpec,
+    bodies: Vec<B>,
+    number: usize,
+) -> Result<Bodies<B>, SystemFault>
+    ensures { IfOk result (λ b. are_ready (count_opened supervisor.now.flags supervisor.now.specs) b.kept ≡ true) }
+{
     let bodies = hand_in_all(alloc, bodies)?;
-    if !bodies.are_ready(count_opened(&supervisor)) {
-        return Err(SystemFault::NoBody { table: number });
+    if bodies.are_ready(count_opened(supervisor)) {
+        Ok(bodies)
+    } else {
+        Err(SystemFault::NoBody { table: number })
     }
+}
+
+/// A supervisor that has its seat and its bodies.
+fn open_seated<N: WordsNaming + InboxNaming, J: Drop, S: Drop>(
+    alloc: Global,
+    inbox: UnnamedInbox<Item, Letter<Body<J, S>>>,
+    number: usize,
+    supervisor: SupSpec,
+    bodies: Bodies<Body<J, S>>,
+    seat: Owner<N>,
+    first: usize,
+) -> Result<NamedOne<N, J, S>, AllocError>
+    requires named { inbox ≡ N.inbox number }
+    requires ready { are_ready (count_opened supervisor.flags supervisor.specs) bodies.kept ≡ true }
+    requires drawn { seat.drawn ≡ [] }
+    requires posts { seat.posts ≡ [] }
+    requires slots { EachBetween first (first + MAX_CHILDREN) (Contains seat.slots) }
+    requires fits { first + MAX_CHILDREN < 2 ^ 64 }
+    ensures sup { IfOk result (λ r. r.sup.inbox ≡ number) }
+    ensures sender { IfOk result (λ r. r.sender ≡ first_sender number) }
+{
     let (inbox, taker, sender) = inbox.named::<N>(number);
     let office = Office::open(alloc, supervisor, seat, first);
-    let counts = Publisher::open(alloc, office.counts())?;
-    let mut table = Table::new(alloc, office, taker, bodies, counts);
-    let pass = table.pass()?;
+    let (table, pass) = open_table(alloc, office, taker, bodies)?;
     let sup = Sup::new(inbox, table);
     Ok(NamedOne { sup, sender, pass })
 }
 
-/// Puts it last. Where memory is refused it is dropped.
-fn keep<T: Drop>(list: &mut Vec<T>, item: T) -> Result<(), AllocError>
-    ensures { OnOk result (list.new.items ≡ list.old.items ++ item ∷ []) }
+/// The table of a supervisor that was never opened, and the first pass to its counts.
+fn open_table<N: WordsNaming + InboxNaming, B: Drop>(
+    alloc: Global,
+    office: Office<N>,
+    taker: Taker<N, Item, Letter<B>>,
+    bodies: Bodies<B>,
+) -> Result<(Table<N, B>, CountsPass), AllocError>
+    requires history { office.core.history ≡ [] }
+    requires taken { taker.taken ≡ [] }
+    requires unused { (taker.empty_finds ≡ 0) × (taker.given ≡ no_shares) }
+    requires ready { are_ready (count_opened office.core.base.flags office.core.base.specs) bodies.kept ≡ true }
+    ensures { IfOk result (λ r. r.0.taker ≡ taker) }
 {
-    list.push(item)?;
-    Ok(())
+    let Ok((counts, pass)) = publish(alloc, &office) else {
+        drop(office);
+        drop(taker);
+        drop(bodies);
+        return Err(AllocError);
+    };
+    Ok((Table::new(alloc, office, taker, bodies, counts), pass))
+}
+
+/// What is published of a supervisor that was never opened, and the first pass to it.
+fn publish<N: WordsNaming>(
+    alloc: Global,
+    office: &Office<N>,
+) -> Result<(Publisher, CountsPass), AllocError>
+    ensures { IfOk result (λ r. r.0.published ≡ counts_of (state_of office.now.core) ∷ []) }
+{
+    let mut counts = Publisher::open(alloc, office.counts())?;
+    let pass = counts.pass()?;
+    Ok((counts, pass))
 }
 
 fn hand_in_all<B: Drop>(alloc: Global, bodies: Vec<B>) -> Result<Bodies<B>, AllocError> {
@@ -170,10 +264,14 @@ fn hand_in_all<B: Drop>(alloc: Global, bodies: Vec<B>) -> Result<Bodies<B>, Allo
         let Some(body) = bodies.next() else {
             break;
         };
-        if all.hand_in(place, body).is_err() {
+        if let Err(refused) = all.hand_in(place, body) {
+            drop(refused);
+            drop(bodies);
+            drop(all);
             return Err(AllocError);
         }
     }
+    drop(bodies);
     Ok(all)
 }
 
@@ -183,6 +281,40 @@ struct Named<N: WordsNaming + InboxNaming, J: Drop, S: Drop> {
     sups: Vec<Sup<N, Body<J, S>>>,
     senders: Vec<Sender<N, Item, Letter<Body<J, S>>>>,
     passes: Vec<CountsPass>,
+}
+
+impl<N: WordsNaming + InboxNaming, J: Drop, S: Drop> Named<N, J, S> {
+    /// None so far.
+    fn new(alloc: Global) -> Self
+        ensures sups { result.sups.items ≡ [] }
+        ensures senders { result.senders.items ≡ [] }
+        ensures passes { result.passes.items ≡ [] }
+    {
+        Named {
+            sups: Vec::new(alloc),
+            senders: Vec::new(alloc),
+            passes: Vec::new(alloc),
+        }
+    }
+
+    /// Puts one behind those that are there. Where memory is refused it is dropped.
+    fn keep(&mut self, one: NamedOne<N, J, S>) -> Result<(), AllocError>
+        ensures sups { OnOk result (self.new.sups.items ≡ self.old.sups.items ++ one.sup ∷ []) }
+        ensures senders { OnOk result (self.new.senders.items ≡ self.old.senders.items ++ one.sender ∷ []) }
+        ensures passes { OnOk result (self.new.passes.items ≡ self.old.passes.items ++ one.pass ∷ []) }
+    {
+        let NamedOne { sup, sender, pass } = one;
+        let Ok(()) = keep(&mut self.sups, sup) else {
+            drop(sender);
+            drop(pass);
+            return Err(AllocError);
+        };
+        let Ok(()) = keep(&mut self.senders, sender) else {
+            drop(pass);
+            return Err(AllocError);
+        };
+        keep(&mut self.passes, pass)
+    }
 }
 
 fn open_all<N: WordsNaming + InboxNaming, J: Drop, S: Drop>(
@@ -204,26 +336,38 @@ fn open_all<N: WordsNaming + InboxNaming, J: Drop, S: Drop>(
     ensures root { OnOk result (Contains owner.new.slots 0) }
     ensures posts { OnOk result (owner.new.posts ≡ []) }
 {
-    let mut sups = Vec::new(alloc);
-    let mut senders = Vec::new(alloc);
-    let mut passes = Vec::new(alloc);
+    let count = inboxes.len();
+    let mut named = Named::new(alloc);
+    let mut inboxes = inboxes.into_iter();
     let mut plans = plans.into_iter();
-    let mut number = 0;
-    for inbox in inboxes {
+    for number in 0..count {
+        let inbox = next_of(&mut inboxes);
         let Some(plan) = plans.next() else {
+            drop(inbox);
+            drop(inboxes);
+            drop(plans);
+            drop(named);
             return Err(SystemFault::OutOfMemory);
         };
-        let NamedOne { sup, sender, pass } = open_one(alloc, words, owner, inbox, number, plan)?;
-        keep(&mut sups, sup)?;
-        keep(&mut senders, sender)?;
-        keep(&mut passes, pass)?;
-        number += 1;
+        let one = match open_one(alloc, words, owner, inbox, number, plan) {
+            Ok(one) => one,
+            Err(fault) => {
+                drop(inboxes);
+                drop(plans);
+                drop(named);
+                return Err(fault);
+            }
+        };
+        let Ok(()) = named.keep(one) else {
+            drop(inboxes);
+            drop(plans);
+            drop(named);
+            return Err(SystemFault::OutOfMemory);
+        };
     }
-    Ok(Named {
-        sups,
-        senders,
-        passes,
-    })
+    drop(inboxes);
+    drop(plans);
+    Ok(named)
 }
 
 /// The first sender to each supervisor, and the one that sends to whoever opened the tree.
@@ -236,7 +380,10 @@ fn seat<N: InboxNaming, B: Drop>(
     ensures starts { IfOk result (λ all. starts_credited all ≡ 0) }
     ensures ends { IfOk result (λ all. ends_sent all ≡ 0) }
 {
-    senders.push(outer)?;
+    let Ok(()) = keep(&mut senders, outer) else {
+        drop(senders);
+        return Err(AllocError);
+    };
     Ok(Senders { list: senders })
 }
 
@@ -283,10 +430,17 @@ fn make_hand<N: WordsNaming + InboxNaming + RunNaming, J: Drop, S: Drop>(
     ensures starts { starts_credited senders.new ≡ starts_credited senders.old }
     ensures ends { ends_sent senders.new ≡ ends_sent senders.old }
 {
-    let Some(senders) = system.split_senders(alloc, senders, 1)? else {
+    let Ok(Some(senders)) = system.split_senders(alloc, senders, 1) else {
+        drop(scheduler);
+        drop(viewer);
         return Err(SystemFault::OutOfMemory);
     };
-    let passes = split_all(alloc, passes)?;
+    let Ok(passes) = split_all(alloc, passes) else {
+        drop(scheduler);
+        drop(viewer);
+        drop(senders);
+        return Err(SystemFault::OutOfMemory);
+    };
     let runner = Runner {
         scheduler,
         viewer,

@@ -11,6 +11,7 @@ ghost use Rattle.otp_tree.specs.Settlings.{held_in, senders_in};
 
 use crate::closing::Refusal;
 use crate::hand::{Hand, Runner, Unsent};
+use crate::places::next_of;
 use crate::resting::Resting;
 use crate::senders::Senders;
 use crate::waiting::Waiting;
@@ -63,10 +64,20 @@ impl<N: WordsNaming + InboxNaming + RunNaming, J: Drop, S: Drop> Room<N, J, S> {
         ensures rests { IfOk result (λ r. (r.rests.items ≡ []) × (count ≤ vec_capacity r.rests)) }
         ensures hands { IfOk result (λ r. (r.hands.items ≡ []) × (count ≤ vec_capacity r.hands)) }
     {
+        let schedulers = Vec::with_capacity(alloc, count)?;
+        let Ok(rests) = Vec::with_capacity(alloc, count) else {
+            drop(schedulers);
+            return Err(AllocError);
+        };
+        let Ok(hands) = Vec::with_capacity(alloc, count) else {
+            drop(schedulers);
+            drop(rests);
+            return Err(AllocError);
+        };
         Ok(Room {
-            schedulers: Vec::with_capacity(alloc, count)?,
-            rests: Vec::with_capacity(alloc, count)?,
-            hands: Vec::with_capacity(alloc, count)?,
+            schedulers,
+            rests,
+            hands,
         })
     }
 }
@@ -103,7 +114,10 @@ pub(crate) fn gather_hands<N: WordsNaming + InboxNaming + RunNaming, J: Drop, S:
     } = room;
     part_all(hands, &mut schedulers, &mut rests);
     match gather(alloc, schedulers) {
-        Ok(total) => Ok(Gathered { total, rests }),
+        Ok(total) => {
+            drop(back);
+            Ok(Gathered { total, rests })
+        }
         Err(GatherFault::Missing(schedulers)) => {
             rejoin_all(schedulers, rests, &mut back);
             Err(HandsFault {
@@ -184,9 +198,7 @@ fn rejoin_all<N: WordsNaming + InboxNaming + RunNaming, J: Drop, S: Drop>(
 {
     let mut rests = rests.into_iter();
     for scheduler in schedulers {
-        let Some(rest) = rests.next() else {
-            return;
-        };
+        let rest = next_of(&mut rests);
         let Rest {
             viewer,
             senders,

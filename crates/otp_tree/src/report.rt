@@ -1,6 +1,7 @@
 //! What a tree was when it was taken apart.
 ghost use Rattle.std.specs.Prelude.{◌≡◌, ◌-◌, ◌^◌, ◌≤◌, ◌∷◌, [], length, min, IfNone, IfSome};
-ghost use Rattle.otp_core.specs.View.{state_of};
+ghost use Rattle.otp_core.specs.View.{state_of, stored_of};
+ghost use Rattle.otp_rules.specs.Ends.{init_failed, reason_of};
 ghost use Rattle.otp_rules.specs.Needs.{numbers_of};
 ghost use Rattle.otp_tree.specs.Reports.{last_reason};
 ghost use Rattle.otp_tree.specs.Tellings.{AreSo, IsMismatch};
@@ -8,16 +9,16 @@ ghost use Rattle.otp_tree.specs.Tellings.{AreSo, IsMismatch};
 use crate::evidence::{Mismatch, find_mismatch};
 use otp_core::Core;
 use otp_job::Process;
-use otp_reason::Reason;
-use otp_rules::{Event, Item};
+use otp_reason::{Name, Reason, Text};
+use otp_rules::{Ending, Item, Phase};
 use otp_sup::ToldEnd;
 
 /// What is known of a supervisor when its tree was taken apart.
 #[derive(Drop)]
 pub struct TableReport {
-    /// Its core, as its last turn left it, with its whole history.
+    /// Its core, as its last turn left it, with its history since its last checkpoint.
     pub core: Core,
-    /// The ends of other supervisors that it was told, in their order, each with what shows it.
+    /// The ends of other supervisors that it was told since then, in their order, each with what shows it.
     pub ends_told: Vec<ToldEnd>,
     /// What it hadn't taken from its inbox, in the order in which it would have. Bodies that came with it are dropped.
     pub left: Vec<Item>,
@@ -26,16 +27,11 @@ pub struct TableReport {
 }
 
 impl TableReport {
-    /// How many starts of children its history has.
+    /// How many starts of children its history has, those before its last checkpoint too.
     pub fn starts(&self) -> u64
         ensures { result ≡ length (numbers_of self.now.core.history) }
     {
-        let history = self.core.history();
-        let mut starts = 0;
-        for place in 0..history.len() {
-            starts += count_start(&history.get(place));
-        }
-        starts
+        self.core.count_starts()
     }
 
     /// How many restarts it made since its last opening: exactly, below 2^64.
@@ -49,37 +45,43 @@ impl TableReport {
     pub fn end(&self) -> Option<Reason>
         ensures { result ≡ last_reason (state_of self.now.core) }
     {
-        if !self.core.has_ended() {
-            return None;
-        }
-        match self.core.ends().last() {
-            Some((_, end)) => Some(end.reason),
-            None => None,
+        match self.core.phase() {
+            Phase::Ended(_, ending) => Some(reason_of(ending)),
+            Phase::Unopened | Phase::Open(_) => None,
         }
     }
 
-    /// How many events its history has.
+    /// How many events are stored of it: all since its last checkpoint ([`Core::cut`]).
     pub fn events(&self) -> u64
-        ensures { result ≡ length self.now.core.history }
+        ensures { result ≡ length (stored_of self.now.core) }
     {
         self.core.history().len() as u64
     }
 }
 
-/// How many children an event starts: one or none.
-fn count_start(event: &Event) -> u64
-    ensures value { result ≡ length (numbers_of (event.now ∷ [])) }
-    ensures few { result ≤ 1 }
+/// The reason that the parent of a supervisor sees (Supervisor Behaviour, Maximum Restart Intensity and Automatic Shutdown).
+fn reason_of(ending: Ending) -> Reason
+    ensures { result ≡ reason_of ending }
 {
-    match event.number {
-        Some(_) => 1,
-        None => 0,
+    match ending {
+        Ending::Intensity | Ending::Significant(_) | Ending::Asked => Reason::Shutdown,
+        Ending::InitFailed(id) => init_failed(id),
     }
+}
+
+/// The reason of a supervisor that failed to start the child with this id.
+fn init_failed(id: Name) -> Reason
+    ensures { result ≡ init_failed id }
+{
+    Reason::ShutdownWith(Text::joined(b"failed_to_start_child/", id.as_bytes()))
 }
 
 impl<J: Drop, S: Drop> Report<J, S> {
     /// The first event that tells a supervisor an end of another one that isn't the one that the other's own history
     /// gives: another reason, or another cause. [`System::close`](crate::System::close) looks for it.
+    ///
+    /// Histories are looked at as far as they are stored. An end that a checkpoint of the other supervisor dropped can't be
+    /// compared, and is no mismatch.
     pub fn find_mismatch(&self) -> Option<Mismatch>
         ensures none { IfNone result (AreSo self.now.tables.items) }
         ensures found { IfSome result (IsMismatch self.now.tables.items) }

@@ -17,6 +17,7 @@ use crate::pool::pool_run;
 use crate::report::Report;
 use crate::system::System;
 use otp_bridge::Subsystem;
+use otp_core::ReplyAnswer;
 use otp_inbox::InboxNaming;
 use otp_job::{Body, Job};
 use otp_reason::Note;
@@ -72,6 +73,10 @@ pub enum CallEnd<J: Drop, S: Drop> {
     Answered(CallId, Reply, Option<Body<J, S>>),
     /// It was not answered yet: [`Round::Await`] looks again.
     Unanswered(CallId),
+    /// A checkpoint of the supervisor dropped the answer, so it can't be told any more; a body that no child has is back. Where the
+    /// call still stands in the supervisor's inbox, behind a later one that was answered, it is yet to be answered, and
+    /// [`Round::Await`] may see that.
+    Gone(CallId, Option<Body<J, S>>),
     /// E0: memory for a copy of the answer was refused. It is kept, and [`Round::Await`] looks again.
     OutOfMemory(CallId),
     /// It was not sent, and its body is back.
@@ -151,12 +156,20 @@ where
     ensures report { IfOk result (λ led. IfOk led.report (IsReportOf (length parts.inboxes.items))) }
     ensures mismatch { IfOk result (λ led. IfErr led.report IsMismatchOnly) }
 {
+    let opened = match parts.named::<N>(alloc) {
+        Ok(opened) => opened,
+        Err(fault) => {
+            drop(leader);
+            return Err(fault);
+        }
+    };
     let Opened {
         system,
         mut hands,
         mut client,
-        passes: _,
-    } = parts.named::<N>(alloc)?;
+        passes,
+    } = opened;
+    drop(passes);
     for _ in 0..rounds {
         let round = leader.next(system.root_note(rt, &mut client));
         if !make_round(
@@ -234,11 +247,15 @@ where
     S: Drop,
 {
     match system.reply(rt, asked.table, asked.number) {
-        Ok(Some(reply)) => {
+        Ok(ReplyAnswer::Kept(reply)) => {
             let body = system.take_box(rt, asked.table, asked.number);
             CallEnd::Answered(asked, reply, body)
         }
-        Ok(None) => CallEnd::Unanswered(asked),
+        Ok(ReplyAnswer::Gone) => {
+            let body = system.take_box(rt, asked.table, asked.number);
+            CallEnd::Gone(asked, body)
+        }
+        Ok(ReplyAnswer::NotYet) => CallEnd::Unanswered(asked),
         Err(_) => CallEnd::OutOfMemory(asked),
     }
 }

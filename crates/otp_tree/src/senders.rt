@@ -12,6 +12,7 @@ ghost use Rattle.otp_rules.specs.declared.event.Item.{Item};
 ghost use Rattle.otp_rules.specs.declared.event.Item.TheVariants as item;
 ghost use Rattle.otp_rules.specs.Homes.{is_start_call};
 
+use crate::places::body_in;
 use otp_inbox::{Inbox, InboxNaming, Sender};
 use otp_rules::{Call, Item};
 use otp_signals::{Signal, Words, WordsNaming};
@@ -134,7 +135,7 @@ impl<N: InboxNaming, B: Drop> Senders<N, B> {
         };
         match self.send(rt, inbox, letter) {
             Ok(()) => Ok(()),
-            Err(letter) => Err(letter.into_parts().1),
+            Err(letter) => Err(body_in(letter)),
         }
     }
 

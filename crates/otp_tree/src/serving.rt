@@ -4,6 +4,7 @@ ghost use Rattle.otp_spec.specs.declared.limits.TheConstants.{MAX_READING};
 
 use crate::clock::Millis;
 use crate::hand::{Hand, Unsent};
+use crate::places::put_into;
 use crate::system::System;
 use otp_bridge::Subsystem;
 use otp_inbox::InboxNaming;
@@ -100,7 +101,7 @@ impl<N: WordsNaming + InboxNaming, J: Job, S: Subsystem> System<N, J, S> {
         };
         let inbox = self.inbox_of(table);
         if inbox.number() >= hand.senders.len() {
-            hand.runner.unsent = Some(Unsent { table, letter });
+            put_into(&mut hand.runner.unsent, Some(Unsent { table, letter }));
             return false;
         }
         match hand.senders.send(rt, inbox, letter) {
@@ -109,7 +110,7 @@ impl<N: WordsNaming + InboxNaming, J: Job, S: Subsystem> System<N, J, S> {
                 true
             }
             Err(letter) => {
-                hand.runner.unsent = Some(Unsent { table, letter });
+                put_into(&mut hand.runner.unsent, Some(Unsent { table, letter }));
                 false
             }
         }

@@ -65,11 +65,19 @@ fn run_named<
     requires slots { parts.words.slots ≡ slots_of (length parts.inboxes.items) }
     requires few { length parts.inboxes.items ≤ MAX_TABLES }
 {
+    let opened = match parts.named::<N>(alloc) {
+        Ok(opened) => opened,
+        Err(fault) => {
+            drop(session);
+            return Err(fault);
+        }
+    };
     let Opened {
         system,
         hands,
         client,
-        passes: _,
-    } = parts.named::<N>(alloc)?;
+        passes,
+    } = opened;
+    drop(passes);
     Ok(session.run::<N>(rt, system, hands, client))
 }

@@ -4,6 +4,7 @@ ghost use Rattle.otp_inbox.specs.Lists.{AsOften};
 ghost use Rattle.otp_inbox.specs.Tokens.{all_parts, all_sent};
 ghost use Rattle.otp_tree.specs.Settlings.{IsRoom};
 
+use crate::places::said_in;
 use crate::rooms::LeftRoom;
 use otp_inbox::{Inbox, InboxNaming, Sender, Taker};
 use otp_rules::Item;
@@ -17,7 +18,7 @@ fn items_of<B: Drop>(letters: Vec<Letter<B>>, mut items: Vec<Item>) -> Vec<Item>
     ensures { result.items ≡ map (λ l. l.item) letters.items }
 {
     for letter in letters {
-        items.push_reserved(letter.into_parts().0);
+        items.push_reserved(said_in(letter));
     }
     items
 }

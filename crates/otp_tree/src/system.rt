@@ -11,6 +11,7 @@ ghost use Rattle.otp_tree.specs.Readings.{HasRead};
 use crate::client::Client;
 use crate::ending::count_end;
 use crate::hand::Hand;
+use crate::places::{keep, said_in};
 use crate::senders::Senders;
 use otp_inbox::{Inbox, InboxNaming};
 use otp_job::Body;
@@ -76,7 +77,7 @@ impl<N: WordsNaming + InboxNaming, J: Drop, S: Drop> System<N, J, S> {
             return None;
         }
         let letter = self.outer.take(rt, waiter)?;
-        match letter.into_parts().0 {
+        match said_in(letter) {
             Item::Note(note) => {
                 client.heard = client.heard.saturating_add(count_end(note));
                 Some(note)
@@ -125,12 +126,17 @@ impl<N: WordsNaming + InboxNaming, J: Drop, S: Drop> System<N, J, S> {
         for place in 0..senders.len() {
             let inbox = self.inbox_of(place);
             if inbox.number() != place {
+                drop(list);
                 return Ok(None);
             }
             let Some(sender) = senders.split_at(inbox, parts) else {
+                drop(list);
                 return Ok(None);
             };
-            list.push(sender)?;
+            let Ok(()) = keep(&mut list, sender) else {
+                drop(list);
+                return Err(AllocError);
+            };
         }
         Ok(Some(Senders { list }))
     }

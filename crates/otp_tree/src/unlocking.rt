@@ -45,11 +45,14 @@ impl<N: WordsNaming + InboxNaming, J: Drop, S: Drop> Loose<N, J, S> {
             words,
             sups,
             outer,
-            rooms: _,
-            last: _,
-            tables: _,
+            rooms,
+            last,
+            tables,
             back,
         } = self;
+        drop(rooms);
+        drop(last);
+        drop(tables);
         lock_all(words, outer, sups, back)
     }
 }
@@ -77,11 +80,27 @@ impl<N: WordsNaming + InboxNaming, J: Drop, S: Drop> Space<N, J, S> {
         ensures tables { IfOk result (λ s. (s.tables.items ≡ []) × (count ≤ vec_capacity s.tables)) }
         ensures back { IfOk result (λ s. (s.back.items ≡ []) × (count ≤ vec_capacity s.back)) }
     {
+        let sups = Vec::with_capacity(alloc, count)?;
+        let Ok(rooms) = Vec::with_capacity(alloc, count) else {
+            drop(sups);
+            return Err(AllocError);
+        };
+        let Ok(tables) = Vec::with_capacity(alloc, count) else {
+            drop(sups);
+            drop(rooms);
+            return Err(AllocError);
+        };
+        let Ok(back) = Vec::with_capacity(alloc, count) else {
+            drop(sups);
+            drop(rooms);
+            drop(tables);
+            return Err(AllocError);
+        };
         Ok(Space {
-            sups: Vec::with_capacity(alloc, count)?,
-            rooms: Vec::with_capacity(alloc, count)?,
-            tables: Vec::with_capacity(alloc, count)?,
-            back: Vec::with_capacity(alloc, count)?,
+            sups,
+            rooms,
+            tables,
+            back,
         })
     }
 }
@@ -104,6 +123,7 @@ pub(crate) fn loosen<N: WordsNaming + InboxNaming + RunNaming, J: Drop, S: Drop>
         return Err(make_unready(Refusal::OutOfMemory, system));
     };
     let Some(last) = last_room(alloc, tables, hands, client) else {
+        drop(space);
         return Err(make_unready(Refusal::OutOfMemory, system));
     };
     let System { words, sups, outer } = system;
@@ -124,10 +144,13 @@ pub(crate) fn loosen<N: WordsNaming + InboxNaming + RunNaming, J: Drop, S: Drop>
             tables,
             back,
         }),
-        Err(cause) => Err(Unready {
-            cause,
-            system: lock_all(words, outer, sups, back),
-        }),
+        Err(cause) => {
+            drop(rooms);
+            drop(last);
+            drop(tables);
+            let system = lock_all(words, outer, sups, back);
+            Err(Unready { cause, system })
+        }
     }
 }
 

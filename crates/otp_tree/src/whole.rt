@@ -187,13 +187,23 @@ where
     ensures report { IfOk result (λ run. IsReportOf (length parts.inboxes.items) run.report) }
     ensures mismatch { IfErr result IsRunMismatchOnly }
 {
+    let Ok(mut counts) = Vec::with_capacity(alloc, parts.inboxes.len()) else {
+        drop(parts);
+        return Err(RunFault::Open(SystemFault::OutOfMemory));
+    };
+    let opened = match parts.named::<N>(alloc) {
+        Ok(opened) => opened,
+        Err(fault) => {
+            drop(counts);
+            return Err(RunFault::Open(fault));
+        }
+    };
     let Opened {
         system,
         mut hands,
         mut client,
         mut passes,
-    } = parts.named::<N>(alloc)?;
-    let mut counts = Vec::with_capacity(alloc, passes.len())?;
+    } = opened;
     run_half(
         rt,
         alloc,
@@ -216,8 +226,14 @@ where
         turns,
         passes.as_mut_slice(),
     );
-    let report = system.finish(rt, alloc, hands, client)?;
-    Ok(CountedRun { counts, report })
+    drop(passes);
+    match system.finish(rt, alloc, hands, client) {
+        Ok(report) => Ok(CountedRun { counts, report }),
+        Err(fault) => {
+            drop(counts);
+            Err(RunFault::Close(fault))
+        }
+    }
 }
 
 /// The same without the counts.

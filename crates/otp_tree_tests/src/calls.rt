@@ -2,15 +2,15 @@
 ghost use Rattle.std.specs.Prelude.{◌≡◌, ◌<◌, ◌≤◌, false, length, IfOk};
 ghost use Rattle.otp_run.specs.Rule.{all_parts};
 
-use crate::drafts::Draft;
-use crate::fixtures::{Still, same};
+use crate::drafts::{Draft, both};
+use crate::fixtures::{Still, closed, same};
 use otp_bridge::BoxedSubsystem;
 use otp_job::{Body, Job, TableNo, Told, Turn};
 use otp_reason::{Name, Note, Reason, Started, Text};
 use otp_rules::{Call, CallFault, Cause, Reply};
 use otp_spec::{ChildSpec, SupFlags};
 use otp_tree::{
-    CallEnd, CallId, CallRefusal, CallRequest, Leader, Led, Round, TablePlan, TableReport,
+    CallEnd, CallId, CallRefusal, CallRequest, Leader, Led, Report, Round, TablePlan, TableReport,
     Uncalled, lead,
 };
 use std::alloc::{AllocError, Global};
@@ -63,17 +63,20 @@ fn plans(alloc: Global, wanted: &Arc<AtomicU64>, starts: &Arc<AtomicU64>) -> Res
     ensures { IfOk result (λ plans. length plans.items ≡ 2) }
 {
     let mut root = Draft::new(alloc);
-    root.add_supervisor(b"sub", 1)?;
+    let filled = root.add_supervisor(b"sub", 1);
+    let root = root.filled(filled, SupFlags::default())?;
+    both(alloc, root, plan_sub(alloc, wanted, starts))
+}
+
+fn plan_sub(alloc: Global, wanted: &Arc<AtomicU64>, starts: &Arc<AtomicU64>) -> Result<Plan, Fail> {
+    let worker = make_worker(wanted, starts)?;
     let mut sub = Draft::new(alloc);
-    sub.add_worker(b"x", make_worker(wanted, starts)?)?;
+    let filled = sub.add_worker(b"x", worker);
     let flags = SupFlags {
         intensity: 0,
         ..SupFlags::default()
     };
-    let mut plans = Vec::new(alloc);
-    plans.push(root.plan()?)?;
-    plans.push(sub.plan_with(flags)?)?;
-    Ok(plans)
+    sub.filled(filled, flags)
 }
 
 // Turns of a round. Where hands wait for each other they may be spent on nothing, so the leader asks for another round until
@@ -249,6 +252,7 @@ impl Leader<Fragile, BoxedSubsystem> for Adder {
         match answer {
             CallEnd::Answered(_, reply, body) => self.note_answer(reply, body.is_some()),
             CallEnd::Unsent(fault) => self.count_unsent(fault),
+            CallEnd::Gone(..) => {}
             CallEnd::Unanswered(asked) | CallEnd::OutOfMemory(asked) => {
                 self.unanswered = Some(asked);
             }
@@ -323,9 +327,14 @@ fn call_with<R: Threads + Wait + Abort + Sync>(
         Err(_why) => return Err("the tree was refused".into()),
     };
     check(rt, &leader);
-    let Ok(report) = report else {
-        return Err("the tree was not closed".into());
-    };
+    drop(leader);
+    let report = closed(report)?;
+    let checked = check_report(rt, &report);
+    drop(report);
+    checked
+}
+
+fn check_report<R: Abort>(rt: &R, report: &Report<Fragile, BoxedSubsystem>) -> Result<(), Fail> {
     let root = report.tables.first().ok_or("a root")?;
     check_told(rt, root);
     Ok(())

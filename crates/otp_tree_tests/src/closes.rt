@@ -3,16 +3,16 @@ ghost use Rattle.std.specs.Prelude.{◌≡◌, ◌<◌, ◌≤◌, false, length
 ghost use Rattle.otp_run.specs.Rule.{all_parts};
 
 use crate::drafts::Draft;
-use crate::fixtures::{Still, same};
+use crate::fixtures::{Still, closed, ran, same};
 use otp_bridge::BoxedSubsystem;
 use otp_job::{Job, Told, Turn};
 use otp_reason::{Note, Reason, Started};
 use otp_rules::{Call, CountsNow, Item, Kind};
-use otp_spec::MAX_TABLES;
+use otp_spec::{MAX_TABLES, SupFlags};
 use otp_tree::{
     CallEnd, CallRequest, Gate, Leader, Led, Report, Round, TablePlan, TableReport, lead, run_tree,
 };
-use std::alloc::Global;
+use std::alloc::{AllocError, Global};
 use std::process::Abort;
 use std::sync::Wait;
 use std::sync::atomic::{AtomicU64, Ordering};
@@ -46,6 +46,11 @@ const DIGITS: [u8; 16] = *b"0123456789abcdef";
 // A supervisor of 256 children, of which the first are supervisors, so many.
 fn full_plan(alloc: Global, nested: usize) -> Result<Plan, Fail> {
     let mut draft = Draft::new(alloc);
+    let filled = fill(&mut draft, nested);
+    draft.filled(filled, SupFlags::default())
+}
+
+fn fill(draft: &mut Draft<Steady>, nested: usize) -> Result<(), Fail> {
     for high in DIGITS {
         for low in DIGITS {
             let table = draft.len().saturating_add(1);
@@ -56,17 +61,27 @@ fn full_plan(alloc: Global, nested: usize) -> Result<Plan, Fail> {
             }
         }
     }
-    draft.plan()
+    Ok(())
 }
 
 // As many supervisors as there may be, each with 256 children.
 fn full_plans(alloc: Global) -> Result<Vec<Plan>, Fail> {
     let mut plans = Vec::new(alloc);
+    match add_plans(alloc, &mut plans) {
+        Ok(()) => Ok(plans),
+        Err(fault) => {
+            drop(plans);
+            Err(fault)
+        }
+    }
+}
+
+fn add_plans(alloc: Global, plans: &mut Vec<Plan>) -> Result<(), Fail> {
     plans.push(full_plan(alloc, MAX_TABLES - 1)?)?;
     for _ in 1..MAX_TABLES {
         plans.push(full_plan(alloc, 0)?)?;
     }
-    Ok(plans)
+    Ok(())
 }
 
 // So few turns leave most children unstarted, and most of those that were started unended.
@@ -82,13 +97,11 @@ fn close_full<R: Threads + Wait + Abort + Sync>(
     if plans.len() > 64 {
         return Err("more supervisors than a tree may have".into());
     }
-    match run_tree(rt, alloc, plans, hands, &Still, 20_000) {
-        Ok(report) => {
-            check_open(rt, &report);
-            check_numbers(rt, alloc, &report)
-        }
-        Err(_) => Err("the tree was not closed".into()),
-    }
+    let report = ran(run_tree(rt, alloc, plans, hands, &Still, 20_000))?;
+    check_open(rt, &report);
+    let checked = check_numbers(rt, alloc, &report);
+    drop(report);
+    checked
 }
 
 fn check_open<R: Abort>(rt: &R, report: &Report<Steady, BoxedSubsystem>) {
@@ -207,21 +220,28 @@ fn small_plans(alloc: Global) -> Result<Vec<Plan>, Fail>
     ensures { IfOk result (λ plans. length plans.items ≤ 64) }
 {
     let mut draft = Draft::new(alloc);
+    let filled = fill_small(&mut draft);
+    let plan = draft.filled(filled, SupFlags::default())?;
+    let Ok(mut plans) = Vec::with_capacity(alloc, 1) else {
+        drop(plan);
+        return Err(AllocError.into());
+    };
+    plans.push_reserved(plan);
+    Ok(plans)
+}
+
+fn fill_small(draft: &mut Draft<Steady>) -> Result<(), Fail> {
     draft.add_worker(b"a", Steady)?;
     draft.add_worker(b"b", Steady)?;
-    draft.add_worker(b"c", Steady)?;
-    let mut plans = Vec::new(alloc);
-    plans.push(draft.plan()?)?;
-    Ok(plans)
+    draft.add_worker(b"c", Steady)
 }
 
 #[test]
 fn a_report_counts_starts_events_and_processes(rt: HostRuntime) -> Result<(), Fail> {
     let plans = small_plans(rt.alloc())?;
-    match run_tree(&rt, rt.alloc(), plans, 1, &Still, 1000) {
-        Ok(report) => check_small(&rt, &report),
-        Err(_) => return Err("the tree was not closed".into()),
-    }
+    let report = ran(run_tree(&rt, rt.alloc(), plans, 1, &Still, 1000))?;
+    check_small(&rt, &report);
+    drop(report);
     Ok(())
 }
 
@@ -259,16 +279,16 @@ fn trees_that_are_closed_early_tell_what_is_left(rt: HostRuntime) -> Result<(), 
     let mut left: u64 = 0;
     for turns in 1..20 {
         let plans = small_plans(rt.alloc())?;
-        match run_tree(&rt, rt.alloc(), plans, 1, &Still, turns) {
-            Ok(report) => {
-                check_accounts(&rt, &report);
-                left = left.saturating_add(count_left(&report));
-                if turns == 1 {
-                    has_answer_left(&rt, &report)?;
-                }
-            }
-            Err(_) => return Err("the tree was not closed".into()),
-        }
+        let report = ran(run_tree(&rt, rt.alloc(), plans, 1, &Still, turns))?;
+        check_accounts(&rt, &report);
+        left = left.saturating_add(count_left(&report));
+        let checked = if turns == 1 {
+            has_answer_left(&rt, &report)
+        } else {
+            Ok(())
+        };
+        drop(report);
+        checked?;
     }
     assert!(rt; left > 0);
     Ok(())
@@ -316,18 +336,14 @@ fn has_call_left<R: Abort>(rt: &R, report: &Report<Steady, BoxedSubsystem>) -> R
 fn a_call_that_nobody_took_is_left(rt: HostRuntime) -> Result<(), Fail> {
     let plans = small_plans(rt.alloc())?;
     let leader = CallsLate { is_up: false };
-    match lead(&rt, rt.alloc(), plans, 2, &Still, 1000, leader) {
-        Ok(
-            Led {
-                leader,
-                report: Ok(report),
-            },
-        ) => {
-            assert!(rt; leader.is_up);
-            has_call_left(&rt, &report)
-        }
-        _ => Err("the tree was not closed".into()),
-    }
+    let Ok(Led { leader, report }) = lead(&rt, rt.alloc(), plans, 2, &Still, 1000, leader) else {
+        return Err("the tree was refused".into());
+    };
+    assert!(rt; leader.is_up);
+    let report = closed(report)?;
+    let checked = has_call_left(&rt, &report);
+    drop(report);
+    checked
 }
 
 // What a gate was told of a run: how often, the turns made and those in all as told last, the children that were up

@@ -1,4 +1,9 @@
 //! What a supervisor of a test's tree is made of, child by child.
+//!
+//! A draft is filled where it is lent ([`Draft::filled`]), and plans are put together here, so that no test has an exit beside
+//! one of its own: the drop of a draft or a plan at an exit is walked by the prover, each time.
+
+ghost use Rattle.std.specs.Prelude.{◌≡◌, length, IfOk};
 
 use otp_bridge::BoxedSubsystem;
 use otp_reason::Name;
@@ -43,6 +48,21 @@ impl<J: Drop> Draft<J> {
         self.plan_with(SupFlags::default())
     }
 
+    /// The plan of a supervisor with these flags, once the draft was filled.
+    pub fn filled(
+        self,
+        filled: Result<(), Fail>,
+        flags: SupFlags,
+    ) -> Result<TablePlan<J, BoxedSubsystem>, Fail> {
+        match filled {
+            Ok(()) => self.plan_with(flags),
+            Err(fault) => {
+                drop(self);
+                Err(fault)
+            }
+        }
+    }
+
     /// The plan of a supervisor with these flags.
     pub fn plan_with(self, flags: SupFlags) -> Result<TablePlan<J, BoxedSubsystem>, Fail> {
         match self.children.plan(flags) {
@@ -50,4 +70,29 @@ impl<J: Drop> Draft<J> {
             Err(Unplanned { fault, draft: _ }) => Err(fault.into()),
         }
     }
+}
+
+/// The plans of a tree of two supervisors.
+pub fn both<J: Drop>(
+    alloc: Global,
+    root: TablePlan<J, BoxedSubsystem>,
+    sub: Result<TablePlan<J, BoxedSubsystem>, Fail>,
+) -> Result<Vec<TablePlan<J, BoxedSubsystem>>, Fail>
+    ensures { IfOk result (λ plans. length plans.items ≡ 2) }
+{
+    let sub = match sub {
+        Ok(sub) => sub,
+        Err(fault) => {
+            drop(root);
+            return Err(fault);
+        }
+    };
+    let Ok(mut plans) = Vec::with_capacity(alloc, 2) else {
+        drop(root);
+        drop(sub);
+        return Err(AllocError.into());
+    };
+    plans.push_reserved(root);
+    plans.push_reserved(sub);
+    Ok(plans)
 }

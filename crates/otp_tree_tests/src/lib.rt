@@ -12,6 +12,8 @@ mod drafts;
 #[cfg(test)]
 mod fixtures;
 #[cfg(test)]
+mod long_lives;
+#[cfg(test)]
 mod meetings;
 #[cfg(test)]
 mod rests;

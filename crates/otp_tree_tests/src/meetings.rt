@@ -1,7 +1,7 @@
 // Two jobs that end well only where they run at once: several threads run them so, and one thread can't.
 ghost use Rattle.std.specs.Prelude.{◌≡◌, false, length, IfOk};
 
-use crate::fixtures::{Still, same};
+use crate::fixtures::{Still, ran, same};
 use otp_bridge::BoxedSubsystem;
 use otp_job::{Body, Job, Told, Turn};
 use otp_reason::{Name, Note, Reason, Started, Text};
@@ -139,10 +139,10 @@ fn ends_in(report: &Report<Meeting, BoxedSubsystem>) -> (u64, u64) {
 fn several_threads_run_two_jobs_at_once(rt: HostRuntime) -> Result<(), Fail> {
     let started: Counter = Arc::new(rt.alloc(), AtomicU64::new(0))?;
     let plans = plans(rt.alloc(), &started, 10_000_000)?;
-    match run_tree(&rt, rt.alloc(), plans, 3, &Doors { started }, 20_000) {
-        Ok(report) => same(&rt, "the ends", ends_in(&report), (2, 0)),
-        Err(_) => return Err("the tree was not closed".into()),
-    }
+    let doors = Doors { started };
+    let report = ran(run_tree(&rt, rt.alloc(), plans, 3, &doors, 20_000))?;
+    same(&rt, "the ends", ends_in(&report), (2, 0));
+    drop(report);
     Ok(())
 }
 
@@ -151,9 +151,8 @@ fn several_threads_run_two_jobs_at_once(rt: HostRuntime) -> Result<(), Fail> {
 fn one_thread_runs_one_job_at_a_time(rt: HostRuntime) -> Result<(), Fail> {
     let started: Counter = Arc::new(rt.alloc(), AtomicU64::new(0))?;
     let plans = plans(rt.alloc(), &started, 1000)?;
-    match run_tree(&rt, rt.alloc(), plans, 1, &Still, 1000) {
-        Ok(report) => same(&rt, "the ends", ends_in(&report), (1, 1)),
-        Err(_) => return Err("the tree was not closed".into()),
-    }
+    let report = ran(run_tree(&rt, rt.alloc(), plans, 1, &Still, 1000))?;
+    same(&rt, "the ends", ends_in(&report), (1, 1));
+    drop(report);
     Ok(())
 }

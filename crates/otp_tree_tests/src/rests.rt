@@ -2,12 +2,13 @@
 ghost use Rattle.std.specs.Prelude.{◌≡◌, ◌<◌, ◌≤◌, true, length, IfOk};
 ghost use Rattle.otp_run.specs.Rule.{all_parts};
 
-use crate::drafts::Draft;
-use crate::fixtures::same;
+use crate::drafts::{Draft, both};
+use crate::fixtures::{closed, same};
 use otp_bridge::BoxedSubsystem;
 use otp_job::{Job, Told, Turn};
 use otp_reason::{Name, Note, Reason, Started, Text};
 use otp_rules::{Call, Reply};
+use otp_spec::SupFlags;
 use otp_tree::{CallEnd, CallId, CallRequest, Gate, Leader, Led, Report, Round, TablePlan, lead};
 use std::alloc::{AllocError, Global};
 use std::process::Abort;
@@ -92,15 +93,21 @@ fn plans(alloc: Global, wanted: &Counter, starts: &Counter) -> Result<Vec<Plan>,
     ensures { IfOk result (λ plans. length plans.items ≡ 2) }
 {
     let mut root = Draft::new(alloc);
-    root.add_supervisor(b"sub", 1)?;
+    let filled = root.add_supervisor(b"sub", 1);
+    let root = root.filled(filled, SupFlags::default())?;
+    both(alloc, root, plan_sub(alloc, wanted, starts))
+}
+
+fn plan_sub(alloc: Global, wanted: &Counter, starts: &Counter) -> Result<Plan, Fail> {
     let mut sub = Draft::new(alloc);
+    let filled = fill_sub(&mut sub, wanted, starts);
+    sub.filled(filled, SupFlags::default())
+}
+
+fn fill_sub(sub: &mut Draft<Guest>, wanted: &Counter, starts: &Counter) -> Result<(), Fail> {
     sub.add_worker(b"meek", make_guest(Kind::Meek, wanted, starts)?)?;
     sub.add_worker(b"stubborn", make_guest(Kind::Stubborn, wanted, starts)?)?;
-    sub.add_worker(b"fragile", make_guest(Kind::Fragile, wanted, starts)?)?;
-    let mut plans = Vec::new(alloc);
-    plans.push(root.plan()?)?;
-    plans.push(sub.plan()?)?;
-    Ok(plans)
+    sub.add_worker(b"fragile", make_guest(Kind::Fragile, wanted, starts)?)
 }
 
 // Turns of a round. Where hands wait for each other they may be spent on nothing, so the leader goes on until it sees what
@@ -235,7 +242,7 @@ impl Leader<Guest, BoxedSubsystem> for Disturber {
     fn hear(&mut self, answer: CallEnd<Guest, BoxedSubsystem>) {
         match answer {
             CallEnd::Answered(_, reply, _) => self.note_answer(&reply),
-            CallEnd::Unsent(_) => {}
+            CallEnd::Unsent(_) | CallEnd::Gone(..) => {}
             CallEnd::Unanswered(asked) | CallEnd::OutOfMemory(asked) => {
                 self.unanswered = Some(asked);
             }
@@ -284,10 +291,10 @@ fn disturb_with<R: Threads + Wait + Abort + Sync>(
     same(rt, "the starts of workers", starts, 5);
     let end = Note::Exit(1, Reason::Shutdown);
     same(rt, "the root's end", leader.end, Some(end));
-    match report {
-        Ok(report) => check(rt, &report),
-        Err(_why) => return Err("the tree was not closed".into()),
-    }
+    drop(leader);
+    let report = closed(report)?;
+    check(rt, &report);
+    drop(report);
     Ok(())
 }
 

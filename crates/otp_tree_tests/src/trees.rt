@@ -2,8 +2,8 @@
 ghost use Rattle.std.specs.Prelude.{◌≡◌, ◌<◌, ◌≤◌, false, length, IfOk};
 ghost use Rattle.otp_run.specs.Rule.{all_parts};
 
-use crate::drafts::Draft;
-use crate::fixtures::{Still, same};
+use crate::drafts::{Draft, both};
+use crate::fixtures::{Still, closed, ran, same};
 use otp_bridge::BoxedSubsystem;
 use otp_inbox::InboxNaming;
 use otp_job::{Body, Job, Told, Turn};
@@ -11,6 +11,7 @@ use otp_reason::{Note, Reason, Started, Text};
 use otp_rules::CountsNow;
 use otp_run::RunNaming;
 use otp_signals::WordsNaming;
+use otp_spec::SupFlags;
 use otp_tree::{
     Client, CloseFault, Gate, Hand, Leader, Led, Report, Round, Session, System, SystemFault,
     TablePlan, TableReport, Unclosed, lead, run_tree, with_system,
@@ -69,17 +70,31 @@ const WORKERS: u64 = 3;
 fn plans(alloc: Global, starts: &Starts) -> Result<Vec<Plan>, Fail>
     ensures { IfOk result (λ plans. length plans.items ≡ 2) }
 {
-    let crash = Text::new(b"crash").ok_or("a text")?;
+    let root = plan_root(alloc, starts)?;
+    both(alloc, root, plan_sub(alloc, starts))
+}
+
+fn plan_root(alloc: Global, starts: &Starts) -> Result<Plan, Fail> {
     let mut root = Draft::new(alloc);
+    let filled = fill_root(&mut root, starts);
+    root.filled(filled, SupFlags::default())
+}
+
+fn fill_root(root: &mut Draft<Worker>, starts: &Starts) -> Result<(), Fail> {
     root.add_worker(b"a", make_worker(starts, None)?)?;
-    root.add_supervisor(b"sub", 1)?;
+    root.add_supervisor(b"sub", 1)
+}
+
+fn plan_sub(alloc: Global, starts: &Starts) -> Result<Plan, Fail> {
     let mut sub = Draft::new(alloc);
+    let filled = fill_sub(&mut sub, starts);
+    sub.filled(filled, SupFlags::default())
+}
+
+fn fill_sub(sub: &mut Draft<Worker>, starts: &Starts) -> Result<(), Fail> {
+    let crash = Text::new(b"crash").ok_or("a text")?;
     sub.add_worker(b"b", make_worker(starts, None)?)?;
-    sub.add_worker(b"c", make_worker(starts, Some(crash))?)?;
-    let mut plans = Vec::new(alloc);
-    plans.push(root.plan()?)?;
-    plans.push(sub.plan()?)?;
-    Ok(plans)
+    sub.add_worker(b"c", make_worker(starts, Some(crash))?)
 }
 
 // Serves until the tree is up and so many starts were made, then stops it, and leaves at the root's end.
@@ -154,14 +169,12 @@ fn live_with<R: Threads + Wait + Abort + Sync>(
         Err(_why) => return Err("the tree was refused".into()),
     };
     leader.check(rt);
-    match report {
-        Ok(report) => {
-            check_ended(rt, &report);
-            let told = (report.heard, report.held, report.last.len());
-            same(rt, "what was told", told, (1, 0, 0));
-        }
-        Err(_why) => return Err("the tree was not closed".into()),
-    }
+    drop(leader);
+    let report = closed(report)?;
+    check_ended(rt, &report);
+    let told = (report.heard, report.held, report.last.len());
+    same(rt, "what was told", told, (1, 0, 0));
+    drop(report);
     Ok(())
 }
 
@@ -205,27 +218,59 @@ fn run_with<R: Threads + Wait + Abort + Sync>(
     requires few { hands ≤ all_parts }
 {
     let starts: Starts = Arc::new(alloc, AtomicU64::new(0))?;
-    let whole = plans(alloc, &starts)?;
-    match run_tree(rt, alloc, whole, hands, &Still, 20_000) {
-        Ok(report) => {
-            check_ledger(rt, &report);
-            if hands == 1 {
-                check_ended(rt, &report);
-            }
-        }
-        Err(_) => return Err("the tree was not closed".into()),
+    run_long(rt, alloc, hands, &starts)?;
+    run_short(rt, alloc, hands, &starts)
+}
+
+// So many turns of each hand before the stop, and as many after it.
+fn run_for<R: Threads + Wait + Abort + Sync>(
+    rt: &R,
+    alloc: Global,
+    hands: usize,
+    starts: &Starts,
+    turns: u64,
+) -> Result<Report<Worker, BoxedSubsystem>, Fail>
+    requires some { 0 < hands }
+    requires few { hands ≤ all_parts }
+{
+    let plans = plans(alloc, starts)?;
+    ran(run_tree(rt, alloc, plans, hands, &Still, turns))
+}
+
+fn run_long<R: Threads + Wait + Abort + Sync>(
+    rt: &R,
+    alloc: Global,
+    hands: usize,
+    starts: &Starts,
+) -> Result<(), Fail>
+    requires some { 0 < hands }
+    requires few { hands ≤ all_parts }
+{
+    let report = run_for(rt, alloc, hands, starts, 20_000)?;
+    check_ledger(rt, &report);
+    if hands == 1 {
+        check_ended(rt, &report);
     }
-    let short = plans(alloc, &starts)?;
-    match run_tree(rt, alloc, short, hands, &Still, 1) {
-        Ok(report) => {
-            assert!(rt; report.live > 0);
-            let counted = report.ended + report.live;
-            same(rt, "the processes that began", report.begun, counted);
-            let left = report.processes.len() as u64;
-            same(rt, "the processes that are left", left, report.live);
-        }
-        Err(_) => return Err("the tree was not closed".into()),
-    }
+    drop(report);
+    Ok(())
+}
+
+fn run_short<R: Threads + Wait + Abort + Sync>(
+    rt: &R,
+    alloc: Global,
+    hands: usize,
+    starts: &Starts,
+) -> Result<(), Fail>
+    requires some { 0 < hands }
+    requires few { hands ≤ all_parts }
+{
+    let report = run_for(rt, alloc, hands, starts, 1)?;
+    assert!(rt; report.live > 0);
+    let counted = report.ended.saturating_add(report.live);
+    same(rt, "the processes that began", report.begun, counted);
+    let left = report.processes.len() as u64;
+    same(rt, "the processes that are left", left, report.live);
+    drop(report);
     Ok(())
 }
 

@@ -2,11 +2,12 @@
 ghost use Rattle.std.specs.Prelude.{◌≡◌, ◌<◌, ◌≤◌, true, length, IfOk};
 ghost use Rattle.otp_run.specs.Rule.{all_parts};
 
-use crate::drafts::Draft;
-use crate::fixtures::same;
+use crate::drafts::{Draft, both};
+use crate::fixtures::{closed, same};
 use otp_bridge::BoxedSubsystem;
 use otp_job::{Job, Told, Turn};
 use otp_reason::{Note, Reason, Started};
+use otp_spec::SupFlags;
 use otp_tree::{Gate, Leader, Led, Report, Round, TablePlan, lead};
 use std::alloc::{AllocError, Global};
 use std::process::Abort;
@@ -58,21 +59,31 @@ fn plans(alloc: Global, starts: &Counter, turns: &Counter) -> Result<Vec<Plan>, 
     ensures { IfOk result (λ plans. length plans.items ≡ 2) }
 {
     let mut root = Draft::new(alloc);
-    root.add_supervisor(b"sub", 1)?;
+    let filled = root.add_supervisor(b"sub", 1);
+    let root = root.filled(filled, SupFlags::default())?;
+    both(alloc, root, plan_sub(alloc, starts, turns))
+}
+
+fn plan_sub(alloc: Global, starts: &Counter, turns: &Counter) -> Result<Plan, Fail> {
     let mut sub = Draft::new(alloc);
+    let filled = fill_sub(&mut sub, starts, turns);
+    sub.filled(filled, SupFlags::default())
+}
+
+fn fill_sub(sub: &mut Draft<Waiter>, starts: &Counter, turns: &Counter) -> Result<(), Fail> {
     for high in &LETTERS[..4] {
         for low in LETTERS {
-            let worker = Waiter {
-                starts: Arc::try_clone(starts)?,
-                turns: Arc::try_clone(turns)?,
-            };
-            sub.add_worker(&[*high, low], worker)?;
+            sub.add_worker(&[*high, low], make_waiter(starts, turns)?)?;
         }
     }
-    let mut plans = Vec::new(alloc);
-    plans.push(root.plan()?)?;
-    plans.push(sub.plan()?)?;
-    Ok(plans)
+    Ok(())
+}
+
+fn make_waiter(starts: &Counter, turns: &Counter) -> Result<Waiter, AllocError> {
+    Ok(Waiter {
+        starts: Arc::try_clone(starts)?,
+        turns: Arc::try_clone(turns)?,
+    })
 }
 
 // A clock that stands still. It counts the turns, and those in which no hand had anything to do.
@@ -220,10 +231,10 @@ fn idle_with<R: Threads + Wait + Abort + Sync>(
     let told = if stops { WORKERS } else { 0 };
     let wanted = WORKERS.saturating_add(told);
     same(rt, "the turns", turns.load(Ordering::SeqCst), wanted);
-    match report {
-        Ok(report) => check(rt, &report, stops),
-        Err(_why) => return Err("the tree was not closed".into()),
-    }
+    drop(leader);
+    let report = closed(report)?;
+    check(rt, &report, stops);
+    drop(report);
     Ok(())
 }
 

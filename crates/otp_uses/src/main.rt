@@ -40,7 +40,9 @@ fn main(rt: HostRuntime) -> io::Result<()> {
     let inbox = UnnamedInbox::<usize, Number>::open(rt.alloc())?;
     let came = exchange::<Brand, _>(&rt, rt.alloc(), inbox, COUNT)?;
     let last = came.last().map_or(0, |number| number.value);
-    println!(rt; "{} numbers came, the last is {last}", came.len())?;
+    let count = came.len();
+    drop(came);
+    println!(rt; "{count} numbers came, the last is {last}")?;
     let words = OpenWords::open(rt.alloc(), 1)?;
     match stop_from_outside::<Brand, _>(&rt, words) {
         Ok(Signal::Shutdown) => println!(rt; "the process saw its shutdown")?,
@@ -66,7 +68,9 @@ fn main(rt: HostRuntime) -> io::Result<()> {
 // A supervisor of three children: the second crashes, and then all are stopped.
 fn supervise(rt: HostRuntime) -> io::Result<()> {
     let mut core = supervising::open(rt.alloc())?;
-    crash_and_stop(rt, &mut core)
+    let done = crash_and_stop(rt, &mut core);
+    drop(core);
+    done
 }
 
 fn crash_and_stop(rt: HostRuntime, core: &mut Core) -> io::Result<()> {

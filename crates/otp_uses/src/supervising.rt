@@ -20,9 +20,16 @@ pub fn open(alloc: Global) -> io::Result<Core> {
         strategy: Strategy::RestForOne,
         ..SupFlags::default()
     };
-    let mut core = Core::open(alloc, flags, specs.as_slice()).map_err(|_| AllocError)?;
-    drive(alloc, &mut core, Kind::Opened(0))?;
-    Ok(core)
+    let opened = Core::open(alloc, flags, specs.as_slice());
+    drop(specs);
+    let mut core = opened.map_err(|_| AllocError)?;
+    match drive(alloc, &mut core, Kind::Opened(0)) {
+        Ok(()) => Ok(core),
+        Err(fault) => {
+            drop(core);
+            Err(fault)
+        }
+    }
 }
 
 /// A process of a child ends by an error.
@@ -55,14 +62,19 @@ fn drive(alloc: Global, core: &mut Core, first: Kind) -> io::Result<()> {
     Err(no_room())
 }
 
-/// One event: its memory first, and then the step, which draws a number where it starts a child. The clock stands still.
-/// An error where the history holds no more, or no number is left.
+/// One event: room for it first, by a checkpoint where the history is full, so that a supervisor lives as long as it is wanted;
+/// then its memory; and then the step, which draws a number where it starts a child. The clock stands still. An error where
+/// no number is left.
 fn happen(core: &mut Core, kind: Kind) -> io::Result<()> {
+    core.clear_effects();
+    if let Err(_) = core.make_room(MAX_EVENTS) {
+        return Err(no_room());
+    }
     core.prepare()?;
     let mut numbers = Counter {
         last: core.last_number(),
     };
-    if core.is_full() || numbers.last == u64::MAX {
+    if numbers.last == u64::MAX {
         return Err(no_room());
     }
     core.step_with(0, kind, &mut numbers);
@@ -74,13 +86,12 @@ fn no_room() -> io::Error {
 }
 
 /// The orders are carried out: what the children tell of that comes into the inbox.
-fn carry_out(core: &mut Core, inbox: &mut VecDeque<Note>) -> Result<(), AllocError> {
+fn carry_out(core: &Core, inbox: &mut VecDeque<Note>) -> Result<(), AllocError> {
     for order in core.effects() {
         if let Some(note) = answer_of(order) {
             inbox.push_back(note)?;
         }
     }
-    core.clear_effects();
     Ok(())
 }
 

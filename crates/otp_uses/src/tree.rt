@@ -2,6 +2,7 @@
 ghost use Rattle.std.specs.Prelude.{◌≡◌, true, length, IfOk};
 
 use otp_bridge::BoxedSubsystem;
+use otp_core::ReplyAnswer;
 use otp_inbox::InboxNaming;
 use otp_job::{Body, Job, Told, Turn};
 use otp_reason::{Name, Note, Reason, Started};
@@ -12,7 +13,7 @@ use otp_spec::{SpecFault, SupFlags};
 use otp_tree::{
     Client, Hand, Millis, Session, System, SystemFault, TableDraft, TablePlan, with_system,
 };
-use std::alloc::Global;
+use std::alloc::{AllocError, Global};
 use std::sync::Wait;
 
 /// Waits until it is asked to shut down.
@@ -59,20 +60,34 @@ fn plans(alloc: Global) -> Result<Vec<TablePlan<Steady, BoxedSubsystem>>, NoRun>
     ensures { IfOk result (λ plans. length plans.items ≡ 1) }
 {
     let mut root = TableDraft::new(alloc);
-    for id in [b"a", b"b"] {
-        if let Some(id) = Name::new(id) {
-            root.add_worker(id, Steady).map_err(|_| NoRun::OutOfMemory)?;
-        }
-    }
+    let Ok(()) = add_workers(&mut root) else {
+        drop(root);
+        return Err(NoRun::OutOfMemory);
+    };
     let plan = match root.plan(SupFlags::default()) {
         Ok(plan) => plan,
-        Err(back) => return Err(NoRun::Unlawful(back.fault)),
+        Err(back) => {
+            let fault = back.fault;
+            drop(back);
+            return Err(NoRun::Unlawful(fault));
+        }
     };
-    let mut plans = Vec::new(alloc);
-    match plans.push(plan) {
-        Ok(()) => Ok(plans),
-        Err(_) => Err(NoRun::OutOfMemory),
+    let Ok(mut plans) = Vec::with_capacity(alloc, 1) else {
+        drop(plan);
+        return Err(NoRun::OutOfMemory);
+    };
+    plans.push_reserved(plan);
+    Ok(plans)
+}
+
+/// Two workers for a supervisor.
+fn add_workers(root: &mut TableDraft<Steady, BoxedSubsystem>) -> Result<(), AllocError> {
+    for id in [b"a", b"b"] {
+        if let Some(id) = Name::new(id) {
+            root.add_worker(id, Steady).map_err(|_| AllocError)?;
+        }
     }
+    Ok(())
 }
 
 /// A clock that stands still.
@@ -115,6 +130,9 @@ impl<R: Wait> Session<R, Steady, BoxedSubsystem> for UpAndDown {
         let counts = count_children(rt, self.alloc, &system, &mut hands, &mut client);
         system.stop(&mut client);
         let end = next_note(rt, &system, &mut hands, &mut client);
+        drop(system);
+        drop(hands);
+        drop(client);
         Run { up, counts, end }
     }
 }
@@ -150,7 +168,7 @@ where
     let number = call.ok()?;
     serve_all(rt, system, hands);
     match system.reply(rt, 0, number) {
-        Ok(Some(Reply::Count(counts))) => Some(counts),
+        Ok(ReplyAnswer::Kept(Reply::Count(counts))) => Some(counts),
         _ => None,
     }
 }

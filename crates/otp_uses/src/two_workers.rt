@@ -5,7 +5,7 @@ use otp_bridge::BoxedSubsystem;
 use otp_job::{Job, Told, Turn};
 use otp_reason::{Name, Reason, Started};
 use otp_spec::SupFlags;
-use otp_tree::{Gate, TableDraft, TablePlan, run_tree};
+use otp_tree::{Gate, Report, TableDraft, TablePlan, run_tree};
 use std::alloc::{AllocError, Global};
 use std::sync::Wait;
 use std::thread::Threads;
@@ -50,20 +50,33 @@ fn plans(alloc: Global) -> Result<Vec<Plan>, AllocError>
     ensures { IfOk result (λ plans. length plans.items ≡ 1) }
 {
     let mut root = TableDraft::new(alloc);
+    let Ok(()) = add_workers(&mut root) else {
+        drop(root);
+        return Err(AllocError);
+    };
+    let plan = match root.plan(SupFlags::default()) {
+        Ok(plan) => plan,
+        Err(back) => {
+            drop(back);
+            return Err(AllocError);
+        }
+    };
+    let Ok(mut plans) = Vec::with_capacity(alloc, 1) else {
+        drop(plan);
+        return Err(AllocError);
+    };
+    plans.push_reserved(plan);
+    Ok(plans)
+}
+
+/// What is large is lent here, and let go above by name: beside an owner each `?` costs its proof a quarter of a minute.
+fn add_workers(root: &mut TableDraft<Steady, BoxedSubsystem>) -> Result<(), AllocError> {
     for id in [b"db", b"ui"] {
         if let Some(id) = Name::new(id) {
             root.add_worker(id, Steady).map_err(|_| AllocError)?;
         }
     }
-    let plan = match root.plan(SupFlags::default()) {
-        Ok(plan) => plan,
-        Err(_) => return Err(AllocError),
-    };
-    let mut plans = Vec::new(alloc);
-    match plans.push(plan) {
-        Ok(()) => Ok(plans),
-        Err(_) => Err(AllocError),
-    }
+    Ok(())
 }
 
 /// Runs the tree: a thread makes a thousand turns, the root is asked to shut down, and the thread makes a thousand turns
@@ -78,9 +91,20 @@ where
     let Ok(plans) = plans(alloc) else {
         return None;
     };
-    let Ok(report) = run_tree(rt, alloc, plans, 1, &Still, 1000) else {
-        return None;
+    let report = match run_tree(rt, alloc, plans, 1, &Still, 1000) {
+        Ok(report) => report,
+        Err(fault) => {
+            drop(fault);
+            return None;
+        }
     };
+    let counted = count(&report);
+    drop(report);
+    counted
+}
+
+/// How many children the root started, and how many processes are left.
+fn count(report: &Report<Steady, BoxedSubsystem>) -> Option<(u64, u64)> {
     let table = report.tables.first()?;
     Some((table.starts(), report.live))
 }

@@ -5,8 +5,8 @@ use Rattle.otp_tree.specs.Closes.{IsReportOf}
 use Rattle.otp_tree.specs.declared.whole.CountedRun.{CountedRun}
 use Rattle.otp_jobs.proofs.run.run_worked.Goals as goal
 
-pub returns-clause-run : goal.returns-clause-run
-returns-clause-run g c =
+pub returns-in-Ok-clause-run : goal.returns-in-Ok-clause-run
+returns-in-Ok-clause-run g c =
     let run : CountedRun WorkedJob Calm = c.in_ok-whole.whole in
     let is_report : IsReportOf (length c.in_ok-plans.plans.items) run.report = search rules in
     let are_counted : length run.counts.items ≡ length c.in_ok-plans.plans.items = search rules in record {

@@ -6,6 +6,7 @@ use Rattle.otp_sup.specs.Bodies.{started_by}
 use Rattle.std.specs.Prelude.{sum_by}
 use Rattle.otp_rules.specs.Needs.{numbers_of}
 use Rattle.otp_signals.specs.Lists.{AllIn, NoneInBoth}
+use Rattle.otp_core.specs.View.{stored_of}
 use Rattle.otp_sup.specs.Ends.{AreTold}
 use Rattle.otp_sup.specs.Facts.{items_of, sent_of, starts_in}
 use Rattle.otp_tree.proofs.closing.take_apart.Goals as goal
@@ -32,7 +33,7 @@ pub returns-clause-shown : goal.returns-clause-shown
 returns-clause-shown g c =
     let parts = c.into_parts-inbox.ensures in
     let ends = c.into_parts-inbox.result.ends_told.items in
-    subst (λ core. AreTold core.history ends) (sym parts.core) (subst (λ told. AreTold c.args.sup.table.office.core.history told) (sym parts.ends) c.keeps_rules.ensures.told)
+    subst (λ core. AreTold (stored_of core) ends) (sym parts.core) (subst (λ told. AreTold (stored_of c.args.sup.table.office.core) told) (sym parts.ends) c.keeps_rules.ensures.told)
 
 pub returns-clause-starts : goal.returns-clause-starts
 returns-clause-starts g c =

@@ -8,7 +8,7 @@ use Rattle.otp_tree.proofs.opening.seat.Goals as goal
 
 pub returns-clause-starts : goal.returns-clause-starts
 returns-clause-starts g c =
-    let items = (c.in_ok-push.ensures {u = tt}).items in
+    let items = c.in-Ok.ensures {u = tt} in
     let all = ap starts_credited items ∙ starts_push c.args.senders.items c.args.outer in
     let firsts = none_credited c.args.senders.items c.requires.seated in
     let last = ap start_share c.requires.outer in
@@ -16,7 +16,7 @@ returns-clause-starts g c =
 
 pub returns-clause-ends : goal.returns-clause-ends
 returns-clause-ends g c =
-    let items = (c.in_ok-push.ensures {u = tt}).items in
+    let items = c.in-Ok.ensures {u = tt} in
     let all = ap ends_sent items ∙ sum_by_push end_share c.args.senders.items c.args.outer in
     let firsts = none_sent c.args.senders.items c.requires.seated in
     let last = ap end_share c.requires.outer in

@@ -1,20 +1,25 @@
-use Rattle.std.proofs.Common.{refl, sym, ap, ◌∙◌, arith, length}
-use Rattle.std.proofs.lemmas.Bool.{false≢true}
-use Rattle.otp_tree.proofs.Partings.{has-rest, joined-more, paired-cons, zero_unless}
+use Rattle.std.proofs.Common.{◌≡◌, ℕ, zero, suc, ◌<◌, refl, ap, arith, length}
+use Rattle.otp_tree.proofs.Partings.{has-rest, joined-more, paired-cons}
 use Rattle.otp_tree.proofs.parting.rejoin_all.Goals as goal
 
-pub returns-in_default : goal.returns-in_default
-returns-in_default g c =
+some : (n : ℕ) → (n ≡ 0 → ⊥) → 0 < n
+some zero isnt = absurd (isnt refl)
+some (suc n) isnt = omega arith
+
+pub next_of-rest-requires : goal.next_of-rest-requires
+next_of-rest-requires g c =
     let i = c.loop-scheduler.invariant in
-    absurd (has-rest _ _ _ _ (c.in-Some.ensures {u = tt}).steps.0 (sym i.left_too ∙ zero_unless _ (λ more. false≢true ((c.in_default.ensures {u = tt}).variant.1 more))) i.paired)
+    let left_too = i.left_too in
+    let more = some _ (λ none. has-rest _ _ _ _ (c.in-Some.ensures {u = tt}).steps.0 none i.paired) in
+    omega (arith, left_too, more)
 
 pub loop-scheduler-preserved : goal.loop-scheduler-preserved
 loop-scheduler-preserved g c =
     let i = c.loop-scheduler.invariant in
     let next = (c.in-Some.ensures {u = tt}).steps.0 in
     let fewer = (c.in-Some.ensures {u = tt}).steps.1 in
-    let next_too = (c.in-Some-next.ensures {u = tt}).items in
-    let fewer_too = (c.in-Some-next.ensures {u = tt}).len in
+    let next_too = c.next_of-rest.ensures.next in
+    let fewer_too = c.next_of-rest.ensures.len in
     let left = i.left in
     let left_too = i.left_too in
     let room = i.room in

@@ -12,7 +12,7 @@ loop-place-preserved g c =
     let list = c.loop-place.list.items in
     let x = c.in-Some.sender in
     let i = c.loop-place.invariant in
-    let items = (c.in_ok-push.ensures {u = tt}).items in
+    let items = c.in-Ok.ensures {u = tt} in
     let new = (c.in-Some.ensures {u = tt}).new in
     let inbox = ap (λ s. s.inbox) new in
     let parts = ap (λ s. s.parts) new in
