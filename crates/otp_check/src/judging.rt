@@ -42,8 +42,22 @@ pub(crate) fn judge_flag(
     value: &Value,
 ) -> Result<Option<TreeFault>, AllocError> {
     let mut table = Table::new(alloc);
-    put(alloc, &mut table, key, value)?;
-    judge(alloc, &table)
+    let judged = match put(alloc, &mut table, key, value) {
+        Ok(()) => judge(alloc, &table),
+        Err(error) => Err(error),
+    };
+    drop(table);
+    judged
+}
+
+/// Puts children at their key.
+fn put_children(alloc: Global, table: &mut Table, children: Vec<Value>) -> Result<(), AllocError> {
+    let Ok(key) = String::from_str(alloc, FlagKey::Child.name()) else {
+        drop(children);
+        return Err(AllocError);
+    };
+    drop(table.insert(key, Value::Array(children))?);
+    Ok(())
 }
 
 /// The fault of a supervisor with these values beside its children.
@@ -52,9 +66,12 @@ fn judge_children(
     mut table: Table,
     children: Vec<Value>,
 ) -> Result<Option<TreeFault>, AllocError> {
-    let key = String::from_str(alloc, FlagKey::Child.name())?;
-    drop(table.insert(key, Value::Array(children))?);
-    judge(alloc, &table)
+    let judged = match put_children(alloc, &mut table, children) {
+        Ok(()) => judge(alloc, &table),
+        Err(error) => Err(error),
+    };
+    drop(table);
+    judged
 }
 
 /// The fault of a supervisor with these values beside its one child.
@@ -64,17 +81,41 @@ fn judge_only_child(
     child: Table,
 ) -> Result<Option<TreeFault>, AllocError> {
     let mut children = Vec::new(alloc);
-    children.push(Value::Table(child))?;
-    judge_children(alloc, table, children)
+    match children.push(Value::Table(child)) {
+        Ok(()) => judge_children(alloc, table, children),
+        Err(error) => {
+            drop(error);
+            drop(children);
+            drop(table);
+            Err(AllocError)
+        }
+    }
+}
+
+/// Puts a lawful id and start.
+fn put_names(alloc: Global, child: &mut Table, name: &Value) -> Result<(), AllocError> {
+    put(alloc, child, ChildKey::Id.name(), name)?;
+    put(alloc, child, ChildKey::Start.name(), name)
 }
 
 /// A child that has a lawful id and start.
 fn lawful_child(alloc: Global) -> Result<Table, AllocError> {
     let name = Value::string(alloc, "a")?;
     let mut child = Table::new(alloc);
-    put(alloc, &mut child, ChildKey::Id.name(), &name)?;
-    put(alloc, &mut child, ChildKey::Start.name(), &name)?;
-    Ok(child)
+    let put = put_names(alloc, &mut child, &name);
+    drop(name);
+    given(child, put)
+}
+
+/// The table that was made, if all was put there.
+fn given(table: Table, put: Result<(), AllocError>) -> Result<Table, AllocError> {
+    match put {
+        Ok(()) => Ok(table),
+        Err(error) => {
+            drop(table);
+            Err(error)
+        }
+    }
 }
 
 /// Puts the tree of a supervisor of which nothing is said.
@@ -94,34 +135,82 @@ pub(crate) fn judge_key(
     value: &Value,
 ) -> Result<Option<TreeFault>, AllocError> {
     let mut child = lawful_child(alloc)?;
-    put(alloc, &mut child, key, value)?;
-    judge_only_child(alloc, Table::new(alloc), child)
+    match put(alloc, &mut child, key, value) {
+        Ok(()) => judge_only_child(alloc, Table::new(alloc), child),
+        Err(error) => {
+            drop(child);
+            Err(error)
+        }
+    }
+}
+
+/// Puts a lawful value at a key that the child has.
+fn put_if_there(
+    alloc: Global,
+    child: &Table,
+    key: &str,
+    name: &Value,
+    names: &mut Table,
+) -> Result<(), AllocError> {
+    match child.get(key) {
+        Some(_) => put(alloc, names, key, name),
+        None => Ok(()),
+    }
+}
+
+/// Puts a lawful id and start where the child has some.
+fn put_names_of(
+    alloc: Global,
+    child: &Table,
+    name: &Value,
+    names: &mut Table,
+) -> Result<(), AllocError> {
+    put_if_there(alloc, child, ChildKey::Id.name(), name, names)?;
+    put_if_there(alloc, child, ChildKey::Start.name(), name, names)
+}
+
+/// A child that has a lawful id and start where this one has some, and nothing else.
+fn names_of(alloc: Global, child: &Table) -> Result<Table, AllocError> {
+    let name = Value::string(alloc, "a")?;
+    let mut names = Table::new(alloc);
+    let put = put_names_of(alloc, child, &name, &mut names);
+    drop(name);
+    given(names, put)
 }
 
 /// The fault of a child that has a lawful id and start where this one has some, and nothing else.
 pub(crate) fn judge_names(alloc: Global, child: &Table) -> Result<Option<TreeFault>, AllocError> {
-    let name = Value::string(alloc, "a")?;
-    let mut names = Table::new(alloc);
-    if child.get(ChildKey::Id.name()).is_some() {
-        put(alloc, &mut names, ChildKey::Id.name(), &name)?;
-    }
-    if child.get(ChildKey::Start.name()).is_some() {
-        put(alloc, &mut names, ChildKey::Start.name(), &name)?;
-    }
+    let names = names_of(alloc, child)?;
     judge_only_child(alloc, Table::new(alloc), names)
+}
+
+/// Puts a copy of a child, but for what lies in its tree.
+fn put_without_tree(alloc: Global, child: &Table, copy: &mut Table) -> Result<(), AllocError> {
+    for (key, value) in child.iter() {
+        if key.as_str() == ChildKey::Tree.name() && value.is_table() {
+            put_bare_tree(alloc, copy)?;
+        } else {
+            put(alloc, copy, key.as_str(), value)?;
+        }
+    }
+    Ok(())
 }
 
 /// A copy of a child, but for what lies in its tree.
 fn without_tree(alloc: Global, child: &Table) -> Result<Table, AllocError> {
     let mut copy = Table::new(alloc);
-    for (key, value) in child.iter() {
-        if key.as_str() == ChildKey::Tree.name() && value.is_table() {
-            put_bare_tree(alloc, &mut copy)?;
-        } else {
-            put(alloc, &mut copy, key.as_str(), value)?;
-        }
-    }
-    Ok(copy)
+    let put = put_without_tree(alloc, child, &mut copy);
+    given(copy, put)
+}
+
+/// A supervisor that has this value at a key, if there is one, and no children.
+fn table_with(alloc: Global, key: &str, value: Option<&Value>) -> Result<Table, AllocError> {
+    let mut table = Table::new(alloc);
+    let put = match value {
+        Some(value) => put(alloc, &mut table, key, value),
+        None => Ok(()),
+    };
+    given(table, put)
 }
 
 /// The fault of this child, were it the only one of its supervisor; what lies in its tree isn't looked at.
@@ -130,11 +219,36 @@ pub(crate) fn judge_child(
     auto_shutdown: Option<&Value>,
     child: &Table,
 ) -> Result<Option<TreeFault>, AllocError> {
-    let mut table = Table::new(alloc);
-    if let Some(value) = auto_shutdown {
-        put(alloc, &mut table, FlagKey::AutoShutdown.name(), value)?;
+    let table = table_with(alloc, FlagKey::AutoShutdown.name(), auto_shutdown)?;
+    match without_tree(alloc, child) {
+        Ok(copy) => judge_only_child(alloc, table, copy),
+        Err(error) => {
+            drop(table);
+            Err(error)
+        }
     }
-    judge_only_child(alloc, table, without_tree(alloc, child)?)
+}
+
+/// A lawful child, with a tree where this one has one.
+fn lawful_copy(alloc: Global, child: &Value) -> Result<Table, AllocError> {
+    let mut copy = lawful_child(alloc)?;
+    let put = match tree_of(child) {
+        Some(_) => put_bare_tree(alloc, &mut copy),
+        None => Ok(()),
+    };
+    given(copy, put)
+}
+
+/// Puts lawful children, each with a tree where one of these has one.
+fn put_copies(
+    alloc: Global,
+    children: &[Value],
+    copies: &mut Vec<Value>,
+) -> Result<(), AllocError> {
+    for child in children.iter().take(MOST_COUNTED) {
+        copies.push(Value::Table(lawful_copy(alloc, child)?))?;
+    }
+    Ok(())
 }
 
 /// The fault of a supervisor with this strategy and so many children, each lawful, and with a tree where this one has one.
@@ -143,17 +257,14 @@ pub(crate) fn judge_count(
     strategy: Option<&Value>,
     children: &[Value],
 ) -> Result<Option<TreeFault>, AllocError> {
-    let mut table = Table::new(alloc);
-    if let Some(value) = strategy {
-        put(alloc, &mut table, FlagKey::Strategy.name(), value)?;
-    }
+    let table = table_with(alloc, FlagKey::Strategy.name(), strategy)?;
     let mut copies = Vec::new(alloc);
-    for child in children.iter().take(MOST_COUNTED) {
-        let mut copy = lawful_child(alloc)?;
-        if tree_of(child).is_some() {
-            put_bare_tree(alloc, &mut copy)?;
+    match put_copies(alloc, children, &mut copies) {
+        Ok(()) => judge_children(alloc, table, copies),
+        Err(error) => {
+            drop(copies);
+            drop(table);
+            Err(error)
         }
-        copies.push(Value::Table(copy))?;
     }
-    judge_children(alloc, table, copies)
 }

@@ -99,8 +99,10 @@ pub fn draw_file<'a, W: Output>(
     };
     let mut picture = Vec::new(alloc);
     let Ok(()) = draw(alloc, &tree, &mut picture) else {
+        drop(tree);
         return ProgramEnd::OutOfMemory;
     };
+    drop(tree);
     match write_all(output, picture.as_slice()) {
         Ok(()) => ProgramEnd::Done,
         Err(Failed) => ProgramEnd::OutputFailed,

@@ -14,12 +14,12 @@ const OTP_ABOUT: &str =
     "Supervisors of Erlang/OTP by rules that are proved: what they do, and trees of them that run";
 
 const OTP_STATUSES: &str =
-    "Example: otp try examples/storm.toml examples/storm_survived.script\nStatuses: 0 done, 1 a file, its tree or its starts, 2 the words, 3 a line of sim, the input or a full history, 4 output or memory, 5 a line of a script.\nThe formats stand in docs/FORMATS.md; `otp check FILE` explains what is wrong in a tree file.";
+    "Example: otp try examples/storm.toml examples/storm_survived.script\nStatuses: 0 done, 1 a file, its tree or its starts, 2 the words, 3 a line of sim, the input or 2^62 events, 4 output or memory, 5 a line of a script.\nThe formats stand in docs/FORMATS.md; `otp check FILE` explains what is wrong in a tree file.";
 
 const TRY_ABOUT: &str = "Says what a tree does where a script says what goes wrong";
 
 const TRY_EXAMPLE: &str =
-    "Example: otp try examples/storm.toml examples/storm_survived.script\nA script has lines as `at 1s crash db`, `+500ms fail db`, `hang db`, `stop`.\nStatuses: 0 all lines were played, 1 a file or its tree, 2 the words, 3 the input or a full history, 4 output or memory, 5 a line can't be read or could do nothing.\nFormats: docs/FORMATS.md, under Scripts.";
+    "Example: otp try examples/storm.toml examples/storm_survived.script\nA script has lines as `at 1s crash db`, `+500ms fail db`, `hang db`, `stop`.\nStatuses: 0 all lines were played, 1 a file or its tree, 2 the words, 3 the input or 2^62 events, 4 output or memory, 5 a line can't be read or could do nothing.\nFormats: docs/FORMATS.md, under Scripts.";
 
 const RUN_ABOUT: &str =
     "Runs a tree on threads: each child does what the word of its start says, and the report says what came of it";
@@ -45,13 +45,13 @@ const LIMITS_ABOUT: &str =
     "Says what each child's failure costs: so many crashes at once are survived, or crashes so far apart";
 
 const LIMITS_EXAMPLE: &str =
-    "Example: otp limits examples/storm.toml\nburst: so many crashes at once are survived; interval: crashes so far apart are survived, and with a millisecond less not; root, where supervisors stand below: so many crashes the root survives.\nStatuses: 0 the table was written, 1 the file says no tree (`otp check FILE` says why) or can't be read, 2 the words, 3 a full history, 4 output or memory.\nFormats: docs/FORMATS.md, under Limits.";
+    "Example: otp limits examples/storm.toml\nburst: so many crashes at once are survived; interval: crashes so far apart are survived, and with a millisecond less not; root, where supervisors stand below: so many crashes the root survives.\nStatuses: 0 the table was written, 1 the file says no tree (`otp check FILE` says why) or can't be read, 2 the words, 3 2^62 events, 4 output or memory.\nFormats: docs/FORMATS.md, under Limits.";
 
 const SIM_ABOUT: &str =
     "Plays event lines of standard input on a supervisor, and prints each order that it gives";
 
 const SIM_EXAMPLE: &str =
-    "Example: otp sim examples/three_workers.toml < examples/three_workers.events\nStatuses: 0 all lines were played, 1 the file or its tree, 2 the words, 3 a line is refused, the input or a full history, 4 output or memory.\nFormats: docs/FORMATS.md, under Lines and under Orders.";
+    "Example: otp sim examples/three_workers.toml < examples/three_workers.events\nStatuses: 0 all lines were played, 1 the file or its tree, 2 the words, 3 a line is refused, the input or 2^62 events, 4 output or memory.\nFormats: docs/FORMATS.md, under Lines and under Orders.";
 
 const FILES_OR_INPUT: &str = "Tree files, in TOML; - is standard input";
 
@@ -190,8 +190,8 @@ fn check_command<'a>(alloc: Global) -> Result<clap::Command<'a>, AllocError>
 fn try_command<'a>(alloc: Global) -> Result<clap::Command<'a>, AllocError>
     ensures { IfOk result (λ c. app_of c ≡ try_app) }
 {
-    let script = Arg::new(alloc, "SCRIPT").help(SCRIPT_HELP);
     let command = file_command(alloc, "try", TRY_ABOUT, TRY_EXAMPLE, FILE_OR_INPUT)?;
+    let script = Arg::new(alloc, "SCRIPT").help(SCRIPT_HELP);
     let command = with_arg(command, script)?;
     let command = with_arg(command, flag_arg(alloc, "prompt", PROMPT_HELP))?;
     with_arg(command, flag_arg(alloc, "timeline", TIMELINE_HELP))

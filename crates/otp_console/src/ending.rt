@@ -53,7 +53,7 @@ pub enum ProgramEnd<'a> {
     ScriptRefused(u64, ScriptFault),
     /// The line of a script with this number could do nothing.
     ScriptMissed(u64, ActionEnd),
-    /// The history holds no more events.
+    /// There were 2^62 events, as many as a supervisor has in its life.
     HistoryFull,
     InputFailed,
     OutputFailed,

@@ -29,8 +29,12 @@ pub fn limit_file<'a, W: Output>(
     let mut table = Vec::new(alloc);
     match write_tree_limits(alloc, &tree, &mut table) {
         Ok(()) => {}
-        Err(halt) => return ProgramEnd::of_halt(halt),
+        Err(halt) => {
+            drop(tree);
+            return ProgramEnd::of_halt(halt);
+        }
     }
+    drop(tree);
     match write_all(output, table.as_slice()) {
         Ok(()) => ProgramEnd::Done,
         Err(Failed) => ProgramEnd::OutputFailed,

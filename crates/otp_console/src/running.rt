@@ -54,8 +54,10 @@ where
         Err(fault) => return ProgramEnd::of_run(fault),
     };
     let Ok(picture) = picture_of(alloc, is_drawn, file, whole.report.tables.as_slice()) else {
+        drop(whole);
         return ProgramEnd::OutOfMemory;
     };
+    drop(whole);
     match write_all(output, report.as_slice()) {
         Ok(()) => {
             // Where nothing can be told, the report stands all the same.

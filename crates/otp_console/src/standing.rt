@@ -119,6 +119,8 @@ pub(crate) fn picture_of(
     let Ok(tree) = read_tree(alloc, file) else {
         return Err(AllocError);
     };
-    draw_with(alloc, &tree, &Standing { tables }, &mut picture)?;
+    let drawn = draw_with(alloc, &tree, &Standing { tables }, &mut picture);
+    drop(tree);
+    drawn?;
     Ok(picture)
 }

@@ -207,6 +207,22 @@ fn tells(rt: &impl Abort, what: &str, seen: &Streams, told: &str, status: u8) {
     same(rt, what, seen.status, status);
 }
 
+/// Runs the program with these words on the file `tree`, and compares what is written and told, and the status.
+fn shows<H: Abort + Threads + Wait + Sync>(
+    rt: &H,
+    alloc: Global,
+    words: &[&str],
+    (text, fault): (&str, Option<ErrorKind>),
+    lines: &str,
+    (printed, told, status): (&str, &str, u8),
+) -> Result<(), Fail> {
+    let words = words_in(alloc, words)?;
+    let seen = seen(rt, alloc, Ok(words), text, fault, lines);
+    are(rt, text, &seen, printed, told, status);
+    drop(seen);
+    Ok(())
+}
+
 /// A reader of one line a call, as a terminal gives them.
 #[derive(Drop)]
 struct Typed<'a> {
@@ -238,6 +254,7 @@ fn shows_at<H: Abort + Threads + Wait + Sync>(
     lines: &str,
     shown: &str,
 ) -> Result<(), Fail> {
+    let words = words_in(alloc, words)?;
     let files = Shelf {
         alloc,
         name: "tree",
@@ -254,7 +271,7 @@ fn shows_at<H: Abort + Threads + Wait + Sync>(
     let status = run(
         &Pool { rt, gate: &Still },
         alloc,
-        Ok(words_in(alloc, words)?),
+        Ok(words),
         &files,
         &mut input,
         &mut output,
@@ -443,15 +460,19 @@ fn orders_and_sentences(rt: HostRuntime) -> Result<(), Fail> {
         ),
     ];
     for (tree, fault, lines, printed, told, status) in rows {
-        let words = words_in(alloc, &["otp", "sim", "tree"])?;
-        let seen = seen(&rt, alloc, Ok(words), tree, fault, lines);
-        are(&rt, told, &seen, printed, told, status);
+        let words = ["otp", "sim", "tree"];
+        shows(
+            &rt,
+            alloc,
+            &words,
+            (tree, fault),
+            lines,
+            (printed, told, status),
+        )?;
     }
-    let words = words_in(alloc, &["otp", "sim", "three"])?;
-    let seen = seen(&rt, alloc, Ok(words), TREE, None, "up 1\n");
-    let told = b"tree not read\n".as_slice();
-    same(&rt, "another name", seen.errors.as_slice(), told);
-    Ok(())
+    let words = ["otp", "sim", "three"];
+    let told = ("", "tree not read\n", 1);
+    shows(&rt, alloc, &words, (TREE, None), "up 1\n", told)
 }
 
 /// What `check`, `tree`, `try`, `limits` and `run` write, tell and end with.
@@ -482,9 +503,15 @@ fn checks_and_pictures(rt: HostRuntime) -> Result<(), Fail> {
     ];
     for (words, tree, printed, told, status) in rows {
         let [command, name] = words;
-        let words = words_in(alloc, &["otp", command, name])?;
-        let seen = seen(&rt, alloc, Ok(words), tree, None, "");
-        are(&rt, tree, &seen, printed, told, status);
+        let words = ["otp", command, name];
+        shows(
+            &rt,
+            alloc,
+            &words,
+            (tree, None),
+            "",
+            (printed, told, status),
+        )?;
     }
     Ok(())
 }
@@ -492,18 +519,35 @@ fn checks_and_pictures(rt: HostRuntime) -> Result<(), Fail> {
 /// The transcripts of `examples/`, those of `sim` worked out by hand.
 #[test]
 fn transcripts_are_played(rt: HostRuntime) -> Result<(), Fail> {
-    let alloc = rt.alloc();
-    let files = Folder { alloc };
     for (line, lines, shown) in TRANSCRIPTS {
-        let mut words = words_in(alloc, &["otp"])?;
-        for word in line.split(' ') {
-            words.push(word.to_string(alloc)?).map_err(|_| AllocError)?;
-        }
-        let lines = file_named(alloc, lines)?.unwrap_or(Vec::new(alloc));
-        let seen = seen_on(&rt, alloc, &files, Ok(words), lines.as_slice());
-        let text = with_status(alloc, seen.output, seen.errors, seen.status)?;
-        same(&rt, line, text.as_slice(), shown.as_bytes());
+        plays_transcript(&rt, rt.alloc(), line, lines, shown)?;
     }
+    Ok(())
+}
+
+/// The words of a line, behind the program's own name.
+fn words_of(alloc: Global, line: &str) -> Result<Vec<String>, AllocError> {
+    let mut words = words_in(alloc, &["otp"])?;
+    for word in line.split(' ') {
+        words.push(word.to_string(alloc)?).map_err(|_| AllocError)?;
+    }
+    Ok(words)
+}
+
+/// Runs the program with the words of a line, and compares all that is written, told, and the status.
+fn plays_transcript<H: Abort + Threads + Wait + Sync>(
+    rt: &H,
+    alloc: Global,
+    line: &str,
+    lines: &str,
+    shown: &str,
+) -> Result<(), Fail> {
+    let lines = file_named(alloc, lines)?.unwrap_or(Vec::new(alloc));
+    let words = words_of(alloc, line)?;
+    let seen = seen_on(rt, alloc, &Folder { alloc }, Ok(words), lines.as_slice());
+    drop(lines);
+    let text = with_status(alloc, seen.output, seen.errors, seen.status)?;
+    same(rt, line, text.as_slice(), shown.as_bytes());
     Ok(())
 }
 
@@ -535,30 +579,45 @@ const LIMITS: &str =
 /// A file of a byte more than 1 MiB is not parsed by what people use, and one of 1 MiB is.
 #[test]
 fn large_files(rt: HostRuntime) -> Result<(), Fail> {
-    let alloc = rt.alloc();
+    let text = tree_of_size(rt.alloc(), 1_048_576)?;
+    ends_with(&rt, rt.alloc(), &text, 0, "")?;
+    drop(text);
+    let text = tree_of_size(rt.alloc(), 1_048_577)?;
+    ends_with(&rt, rt.alloc(), &text, 1, "1048576 bytes")
+}
+
+/// A tree file of so many bytes.
+fn tree_of_size(alloc: Global, size: usize) -> Result<String, AllocError> {
     let mut text = String::from_str(alloc, TREE)?;
-    for _ in TREE.len()..1_048_576 {
+    for _ in TREE.len()..size {
         text.push('\n').map_err(|_| AllocError)?;
     }
+    Ok(text)
+}
+
+/// Runs what people use on a tree file, and compares the status; a part of what is told is known.
+fn ends_with<H: Abort + Threads + Wait + Sync>(
+    rt: &H,
+    alloc: Global,
+    text: &str,
+    status: u8,
+    part: &str,
+) -> Result<(), Fail> {
     for command in ["check", "tree", "try", "limits"] {
         let words = words_in(alloc, &["otp", command, "tree"])?;
-        let seen = seen(&rt, alloc, Ok(words), &text, None, "");
-        same(&rt, command, seen.status, 0);
-    }
-    text.push('\n').map_err(|_| AllocError)?;
-    for command in ["check", "tree", "try", "limits"] {
-        let words = words_in(alloc, &["otp", command, "tree"])?;
-        let seen = seen(&rt, alloc, Ok(words), &text, None, "");
-        same(&rt, command, seen.status, 1);
-        holds(&rt, command, has(&seen.errors, "1048576 bytes"));
+        let seen = seen(rt, alloc, Ok(words), text, None, "");
+        same(rt, command, seen.status, status);
+        holds(rt, command, has(&seen.errors, part));
     }
     Ok(())
 }
 
 /// Whether a text has this part.
 fn has(text: &[u8], part: &str) -> bool {
-    text.windows(part.len().max(1))
-        .any(|window| window == part.as_bytes())
+    part.is_empty()
+        || text
+            .windows(part.len())
+            .any(|window| window == part.as_bytes())
 }
 
 /// The texts of `clap` are known by a part.
@@ -568,10 +627,12 @@ fn is_told<H: Abort + Threads + Wait + Sync>(
     words: &[&str],
     part: &str,
 ) -> Result<(), Fail> {
-    let seen = seen(rt, alloc, Ok(words_in(alloc, words)?), TREE, None, "up 1\n");
+    let words = words_in(alloc, words)?;
+    let seen = seen(rt, alloc, Ok(words), TREE, None, "up 1\n");
     holds(rt, part, seen.output.is_empty());
     holds(rt, part, has(&seen.errors, part));
     same(rt, part, seen.status, 2);
+    drop(seen);
     Ok(())
 }
 
@@ -617,20 +678,26 @@ fn refuses_faults<H: Abort + Threads + Wait + Sync>(rt: &H, alloc: Global) {
 fn help(rt: HostRuntime) -> Result<(), Fail> {
     let alloc = rt.alloc();
     for words in [["otp", "--help"], ["otp", "help"]] {
-        let shown = seen(
-            &rt,
-            alloc,
-            Ok(words_in(alloc, &words)?),
-            TREE,
-            None,
-            "up 1\n",
-        );
-        holds(&rt, "the usage", has(&shown.output, "Usage: otp"));
-        tells(&rt, "help", &shown, "", 0);
+        is_shown(&rt, alloc, &words, "Usage: otp")?;
     }
     for words in [["otp", "--help", ""], ["otp", "sim", "tree"]] {
         finds_no_room(&rt, alloc, &words)?;
     }
+    Ok(())
+}
+
+/// The texts of help are known by a part.
+fn is_shown<H: Abort + Threads + Wait + Sync>(
+    rt: &H,
+    alloc: Global,
+    words: &[&str],
+    part: &str,
+) -> Result<(), Fail> {
+    let words = words_in(alloc, words)?;
+    let seen = seen(rt, alloc, Ok(words), TREE, None, "up 1\n");
+    holds(rt, part, has(&seen.output, part));
+    tells(rt, part, &seen, "", 0);
+    drop(seen);
     Ok(())
 }
 
@@ -640,6 +707,7 @@ fn finds_no_room<H: Abort + Threads + Wait + Sync>(
     alloc: Global,
     words: &[&str],
 ) -> Result<(), Fail> {
+    let words = words_in(alloc, words)?;
     let files = Shelf {
         alloc,
         name: "tree",
@@ -651,7 +719,6 @@ fn finds_no_room<H: Abort + Threads + Wait + Sync>(
     let mut input = Counted::new(b"up 1\n".as_slice());
     let mut output = Counted::new(Full { calls: 0 });
     let mut errors = Counted::new(Vec::new(alloc));
-    let words = words_in(alloc, words)?;
     let status = run(
         &Pool { rt, gate: &Still },
         alloc,
@@ -673,32 +740,38 @@ fn finds_no_room<H: Abort + Threads + Wait + Sync>(
 #[test]
 fn runs(rt: HostRuntime) -> Result<(), Fail> {
     let alloc = rt.alloc();
+    let words = ["otp", "run", "tree", "--schedulers", "1"];
     for (tree, printed, told, status) in RUNS {
-        let words = words_in(alloc, &["otp", "run", "tree", "--schedulers", "1"])?;
-        let seen = seen(&rt, alloc, Ok(words), tree, None, "");
-        are(&rt, tree, &seen, printed, told, status);
+        shows(
+            &rt,
+            alloc,
+            &words,
+            (tree, None),
+            "",
+            (printed, told, status),
+        )?;
     }
-    let words = words_in(alloc, &["otp", "run", "three"])?;
-    let seen = seen(&rt, alloc, Ok(words), TREE, None, "");
-    tells(&rt, "another name", &seen, "tree not read\n", 1);
-    Ok(())
+    let words = ["otp", "run", "three"];
+    let told = ("", "tree not read\n", 1);
+    shows(&rt, alloc, &words, (TREE, None), "", told)
 }
 
 /// With `--counts` what each supervisor counts before the stop stands first: after it no child would be active.
 #[test]
 fn counts(rt: HostRuntime) -> Result<(), Fail> {
     let alloc = rt.alloc();
-    let words = words_in(
-        alloc,
-        &["otp", "run", "tree", "--schedulers", "1", "--counts"],
-    )?;
-    let counted = seen(&rt, alloc, Ok(words), THREE_STEADY, None, "");
+    let words = ["otp", "run", "tree", "--schedulers", "1", "--counts"];
     let printed =
         "counts 0 specs 3 active 3 supervisors 0 workers 3\ntable 0 starts 3 restarts 0 end shutdown\nlive 0\n";
-    are(&rt, "the counts", &counted, printed, "", 0);
-    let help = words_in(alloc, &["otp", "run", "--help"])?;
-    let shown = seen(&rt, alloc, Ok(help), TREE, None, "");
-    holds(&rt, "the help", has(&shown.output, "--counts"));
+    shows(
+        &rt,
+        alloc,
+        &words,
+        (THREE_STEADY, None),
+        "",
+        (printed, "", 0),
+    )?;
+    is_shown(&rt, alloc, &["otp", "run", "--help"], "--counts")?;
     is_told(
         &rt,
         alloc,

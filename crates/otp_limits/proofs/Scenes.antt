@@ -1,7 +1,9 @@
 -- One event of a scene.
-use Rattle.std.specs.Prelude.{◌≡◌, ℕ, ◌+◌, ◌≤◌, Bool, true, false, List, [], ◌∷◌, ◌++◌, Option, Some, None, MatchOption, refl, is_some, length, unwrap_or, if◌then◌else◌}
+use Rattle.std.specs.Prelude.{◌≡◌, ℕ, ◌+◌, ◌<◌, ◌≤◌, Bool, true, false, List, [], ◌∷◌, ◌++◌, Option, Some, None, MatchOption, refl, is_some, length, unwrap_or, if◌then◌else◌, not}
 use Rattle.std.proofs.Common.{◌∙◌, ap, arith, length-append}
-use Rattle.std.specs.List.{filter_map}
+use Rattle.std.specs.List.{filter, filter_map}
+use Rattle.otp_core.specs.declared.cut.TheConstants.{MAX_EVENTS_IN_ALL}
+use Rattle.otp_rules.specs.Effects.{is_reply}
 use Rattle.otp_machine.specs.declared.numbers.Counter.{Counter}
 use Rattle.otp_reason.specs.declared.note.Note.{Note}
 use Rattle.otp_rules.specs.Needs.{last_from, last_number}
@@ -38,18 +40,22 @@ at_most_next (Some n) true last h = let e : n ≡ last + 1 = cc in omega (arith,
 
 -- what a stage keeps of its history, one event more
 pub still : (history longer : List Event) (e : Event) (needs : Bool) → longer ≡ history ++ e ∷ [] → e.number ≡ (if needs then Some (last_number history + 1) else None)
-    → last_number history ≤ length history → ¬ (65536 ≤ length history)
-    → (length longer ≤ 65536) × (last_number longer ≤ length longer)
+    → last_number history ≤ length history → length history < MAX_EVENTS_IN_ALL
+    → (length longer ≤ MAX_EVENTS_IN_ALL) × (last_number longer ≤ length longer)
 still history longer e needs more next few room =
     let count : length longer ≡ length history + 1 = ap (λ (h : List Event). length h) more ∙ length-append history (e ∷ []) in
     let last : last_number longer ≡ unwrap_or e.number (last_number history) = ap last_number more ∙ last_pushed 0 history e in
     let most : unwrap_or e.number (last_number history) ≤ last_number history + 1 = at_most_next e.number needs (last_number history) next in
     (omega (arith, count, room), omega (arith, count, last, most, few))
 
+-- orders but for answers
+abbrev pub asked : List Effect → List Effect
+asked orders = filter (λ order. not (is_reply order)) orders
+
 -- a scene by its parts
 pub happened-is : (time : ℕ) (kind : Kind) (old : Scene) (event : Event) (state : State) (last : ℕ) (orders : List Effect) (notes : List Note) (events : ℕ)
     → event ≡ event_for time kind old → state ≡ (step old.state event).state → last ≡ unwrap_or event.number old.last
-    → orders ≡ old.orders ++ (step old.state event).orders → notes ≡ old.notes ++ filter_map note_of (step old.state event).orders
+    → orders ≡ old.orders ++ asked (step old.state event).orders → notes ≡ old.notes ++ filter_map note_of (step old.state event).orders
     → events ≡ old.events + 1
     → record { state = state; last = last; orders = orders; notes = notes; events = events } ≡ happened time kind old
 unfolding happened after_event
@@ -57,8 +63,8 @@ happened-is time kind old event state last orders notes events is is_state is_la
     ap (λ (s : State). record { state = s; last = last; orders = orders; notes = notes; events = events }) is_state
     ∙ ap (λ (n : ℕ). record { state = (step old.state event).state; last = n; orders = orders; notes = notes; events = events }) is_last
     ∙ ap (λ (os : List Effect). record { state = (step old.state event).state; last = unwrap_or event.number old.last; orders = os; notes = notes; events = events }) is_orders
-    ∙ ap (λ (ns : List Note). record { state = (step old.state event).state; last = unwrap_or event.number old.last; orders = old.orders ++ (step old.state event).orders; notes = ns; events = events }) is_notes
-    ∙ ap (λ (n : ℕ). record { state = (step old.state event).state; last = unwrap_or event.number old.last; orders = old.orders ++ (step old.state event).orders; notes = old.notes ++ filter_map note_of (step old.state event).orders; events = n }) is_events
+    ∙ ap (λ (ns : List Note). record { state = (step old.state event).state; last = unwrap_or event.number old.last; orders = old.orders ++ asked (step old.state event).orders; notes = ns; events = events }) is_notes
+    ∙ ap (λ (n : ℕ). record { state = (step old.state event).state; last = unwrap_or event.number old.last; orders = old.orders ++ asked (step old.state event).orders; notes = old.notes ++ filter_map note_of (step old.state event).orders; events = n }) is_events
     ∙ ap (λ (e : Event). after_event e old) is
 
 -- one event more

@@ -1,5 +1,5 @@
 -- What a child's failure costs (own).
-use Rattle.std.specs.Prelude.{◌≡◌, ℕ, ◌+◌, ◌*◌, ◌^◌, Bool, ◌&&◌, ◌||◌, ◌==◌, nat_lt, min, List, [], Option, Some, None, unwrap_or, length}
+use Rattle.std.specs.Prelude.{◌≡◌, ℕ, ◌+◌, ◌*◌, ◌^◌, ◌<◌, ◌≤◌, Bool, ◌&&◌, ◌||◌, ◌==◌, nat_lt, min, List, [], Option, Some, None, unwrap_or, length}
 use Rattle.std.specs.List.{filter_map}
 use Rattle.otp_reason.specs.declared.name.Name.{Name}
 use Rattle.otp_rules.specs.declared.event.Effect.{Effect}
@@ -11,11 +11,12 @@ use Rattle.otp_limits.specs.declared.cost.Cost.{Cost}
 use Rattle.otp_limits.specs.declared.cost.TheConstants.{MOST_CRASHES}
 use Rattle.otp_limits.specs.declared.fate.Fate.{Fate}
 use Rattle.otp_limits.specs.declared.fate.Fate.TheVariants as fate
+use Rattle.otp_limits.specs.declared.steady.Bounds.{Bounds}
 use Rattle.otp_limits.specs.declared.steady.Steady.{Steady}
 use Rattle.otp_limits.specs.declared.steady.Steady.TheVariants as steady
 use Rattle.otp_limits.specs.declared.steady.Verdict.{Verdict}
-use Rattle.otp_limits.specs.declared.steady.Verdict.TheVariants.{Lasts, Falls, Unplayed}
-use Rattle.otp_limits.specs.Fates.{Crashes, Plays}
+use Rattle.otp_limits.specs.declared.steady.Verdict.TheVariants.{Lasts, Falls}
+use Rattle.otp_limits.specs.Fates.{Crashes, IsUnplayed, Plays}
 use Rattle.otp_limits.specs.Ranks.{OneEach, ranked}
 use Rattle.otp_limits.specs.Scene.{Opens, Scene}
 
@@ -33,18 +34,23 @@ unfoldable pub verdict_of : Fate → Verdict
 verdict_of fate.Survived = Lasts
 verdict_of (fate.Ended _) = Falls
 verdict_of (fate.Gone _) = Lasts
-verdict_of (fate.Unplayed _) = Unplayed
 
 -- what a run of crashes at this interval shows
 abbrev pub IsJudged : SupFlags → List ChildSpec → Name → ℕ → Verdict → Type 0
 IsJudged flags specs id gap verdict = (ending : Fate) × (Plays flags specs id gap (steady_crashes flags) ending × (verdict_of ending ≡ verdict))
+
+-- the shortest interval lies between these: at the long one the run is survived, and at the short one it isn't
+pub record AreBounds (flags : SupFlags) (specs : List ChildSpec) (id : Name) (bounds : Bounds) : Type 0 where
+  pub order : bounds.short < bounds.long
+  pub limit : bounds.long ≤ 2 ^ 30
+  pub falls : IsJudged flags specs id bounds.short Falls
+  pub lasts : IsJudged flags specs id bounds.long Lasts
 
 -- the shortest interval: with one millisecond less the run ends the supervisor
 unfoldable pub IsSteady : SupFlags → List ChildSpec → Name → Steady → Type 0
 IsSteady flags specs id steady.Always = IsJudged flags specs id 0 Lasts
 IsSteady flags specs id (steady.Apart gap) = IsJudged flags specs id gap Lasts × ((less : ℕ) × ((less + 1 ≡ gap) × IsJudged flags specs id less Falls))
 IsSteady flags specs id steady.Never = IsJudged flags specs id (longest_gap flags) Falls
-IsSteady flags specs id steady.Unplayed = (gap : ℕ) × IsJudged flags specs id gap Unplayed
 
 -- the child that an order stops, and the one that it starts: where it has no id of its own, by that of its specification
 unfoldable pub stopped_by : Name → Effect → Option Name
@@ -64,6 +70,12 @@ started_by spec effect.Ready = None
 started_by spec (effect.End _) = None
 
 -- what one crash of a child stops, and starts again, in this order
+pub record Crashed (id : Name) (opened : Scene) (stops starts : List Name) : Type 0 where
+  pub after : Scene
+  pub crashes : Crashes id 0 1 opened after
+  pub stopped : stops ≡ filter_map (stopped_by id) after.orders
+  pub started : starts ≡ filter_map (started_by id) after.orders
+
 pub record Affects (flags : SupFlags) (specs : List ChildSpec) (id : Name) (stops starts : List Name) : Type 0 where
   pub opened : Scene
   pub opens : Opens flags specs opened
@@ -79,19 +91,24 @@ pub record IsCost (flags : SupFlags) (specs : List ChildSpec) (id : Name) (cost 
   pub burst : Plays flags specs id 0 MOST_CRASHES cost.burst
   pub steady : IsSteady flags specs id cost.steady
 
+-- the costs of this child can't be found: one of the runs that they are found by can't be played to its end
+pub record IsUnknown (flags : SupFlags) (specs : List ChildSpec) (id : Name) : Type 0 where
+  -- the interval of its crashes, and how many there are
+  pub gap : ℕ
+  pub crashes : ℕ
+  pub unplayed : IsUnplayed flags specs id gap crashes
+
 -- how many crashes are survived; a number above all where it is any
 unfoldable pub survived_in : Fate → ℕ
 survived_in fate.Survived = MOST_CRASHES
 survived_in (fate.Ended count) = count
 survived_in (fate.Gone _) = MOST_CRASHES
-survived_in (fate.Unplayed count) = count
 
 -- how far apart crashes must be; a number above all where no crash is survived
 unfoldable pub apart_in : Steady → ℕ
 apart_in steady.Always = 0
 apart_in (steady.Apart gap) = gap
 apart_in steady.Never = 2 ^ 31
-apart_in steady.Unplayed = 0
 
 -- fewer crashes are survived; or as many, and they must be further apart; or no further, and more children are stopped
 unfoldable pub is_worse : Cost → Cost → Bool

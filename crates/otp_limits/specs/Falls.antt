@@ -64,7 +64,6 @@ FallsSo place id old fate.Survived new = StandsAfter place id MOST_FALLS old new
 FallsSo place id old (fate.Ended n) new =
     (last : List Seated) × (StandsAfter place id n old last × (FallsOnce place id last new × (is_root_over new ≡ true)))
 FallsSo place id old (fate.Gone n) new = StandsAfter place id n old new × (process_at id (slice_get new place) ≡ None)
-FallsSo place id old (fate.Unplayed n) new = (last : List Seated) × StandsAfter place id n old last
 
 -- a supervisor has ended though nobody asked it to
 unfoldable pub gave_up_by : Ending → Bool
@@ -89,18 +88,16 @@ abbrev pub given_up : List Seated → List (List ℕ)
 given_up [] = []
 given_up (seat ∷ seats) = given_up seats ++ path_if (gave_up (state_in seat).phase) seat.path
 
--- who has given up in the end; nobody is named where the runs did not come to their end
-unfoldable pub through : Fate → List Seated → List (List ℕ)
-through fate.Survived seats = given_up seats
-through (fate.Ended _) seats = given_up seats
-through (fate.Gone _) seats = given_up seats
-through (fate.Unplayed _) seats = []
+-- this child crashed until the root had ended, or so often: the root fared so, and these have given up
+pub record FallsFrom (place : ℕ) (id : Name) (opened : List Seated) (root : Fate) (ends : List (List ℕ)) : Type 0 where
+  pub after : List Seated
+  pub falls : FallsSo place id opened root after
+  pub ended : ends ≡ given_up after
 
--- the tree was opened, and this child crashed until the root had ended, or so often: the root fared so, and these have
--- given up
+-- the same of a tree that was opened
 pub record IsFall (tree : Tree) (place : ℕ) (id : Name) (root : Fate) (ends : List (List ℕ)) : Type 0 where
   pub opened : List Seated
   pub opens : OpensTree tree place opened
   pub after : List Seated
   pub falls : FallsSo place id opened root after
-  pub ended : ends ≡ through root after
+  pub ended : ends ≡ given_up after

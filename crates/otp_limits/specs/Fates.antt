@@ -16,7 +16,7 @@ use Rattle.otp_table.specs.declared.row.Row.{Row}
 use Rattle.otp_table.specs.Rows.{up_number}
 use Rattle.otp_limits.specs.declared.fate.Fate.{Fate}
 use Rattle.otp_limits.specs.declared.fate.Fate.TheVariants as fate
-use Rattle.otp_limits.specs.Scene.{FillsUp, IsFull, Opens, Scene, Settles, happened}
+use Rattle.otp_limits.specs.Scene.{FillsUp, IsFull, OpeningFills, Opens, Scene, Settles, happened}
 
 unfoldable pub running : Option Row → Option ℕ
 running None = None
@@ -59,7 +59,7 @@ RunsAfter id gap n old new = Crashes id gap n old new × (is_over new.state.phas
 abbrev pub IsOverAfter : Name → ℕ → ℕ → Scene → Type 0
 IsOverAfter id gap n old = (new : Scene) × Crashes id gap n old new × (is_over new.state.phase ≡ true)
 
--- the next crash of this child can't be played to its end: a core's history has no room for its events
+-- the next crash of this child can't be played to its end: a supervisor has no more events
 abbrev pub HasNoRoom : Name → ℕ → Scene → Type 0
 HasNoRoom id time s = IsFull s ⊎ FillsUp time (crashed id time s)
 
@@ -68,10 +68,27 @@ unfoldable pub Fares : Name → ℕ → ℕ → Scene → Fate → Type 0
 Fares id gap crashes s fate.Survived = (new : Scene) × RunsAfter id gap crashes s new
 Fares id gap crashes s (fate.Ended n) = (n < crashes) × (((new : Scene) × RunsAfter id gap n s new) × IsOverAfter id gap (n + 1) s)
 Fares id gap crashes s (fate.Gone n) = (new : Scene) × (RunsAfter id gap n s new × (process_of id new.state.rows ≡ None))
-Fares id gap crashes s (fate.Unplayed n) = (n < crashes) × ((new : Scene) × (RunsAfter id gap n s new × HasNoRoom id ((n + 1) * gap) new))
+
+-- one of so many crashes can't be played to its end
+pub record Fills (id : Name) (gap crashes : ℕ) (s : Scene) : Type 0 where
+  pub count : ℕ
+  pub inside : count < crashes
+  pub before : Scene
+  pub crashed : Crashes id gap count s before
+  pub fills : HasNoRoom id ((count + 1) * gap) before
 
 -- the same from the opening on
 pub record Plays (flags : SupFlags) (specs : List ChildSpec) (id : Name) (gap crashes : ℕ) (ending : Fate) : Type 0 where
   pub opened : Scene
   pub opens : Opens flags specs opened
   pub fares : Fares id gap crashes opened ending
+
+-- it can't be played: the opening ends the supervisor, or one of the crashes after it does not come to its end
+pub record CrashFills (flags : SupFlags) (specs : List ChildSpec) (id : Name) (gap crashes : ℕ) : Type 0 where
+  pub opened : Scene
+  pub opens : Opens flags specs opened
+  pub fills : (is_over opened.state.phase ≡ true) ⊎ Fills id gap crashes opened
+
+-- the same, or the opening does not come to its end
+abbrev pub IsUnplayed : SupFlags → List ChildSpec → Name → ℕ → ℕ → Type 0
+IsUnplayed flags specs id gap crashes = OpeningFills flags specs ⊎ CrashFills flags specs id gap crashes

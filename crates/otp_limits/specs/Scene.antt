@@ -1,8 +1,9 @@
 -- A supervisor that is played in a world where all goes well: each start succeeds, and each process that is asked to shut
 -- down ends, or is killed, at once (own).
-use Rattle.std.specs.Prelude.{◌≡◌, ℕ, ◌+◌, ◌≤◌, Bool, List, [], ◌++◌, Option, Some, None, is_some, drop, slice_get, unwrap_or, true, false, if◌then◌else◌}
+use Rattle.std.specs.Prelude.{◌≡◌, ◌⊎◌, ℕ, ◌+◌, ◌≤◌, Bool, List, [], ◌++◌, Option, Some, None, is_some, drop, not, slice_get, unwrap_or, true, false, if◌then◌else◌}
 use Prim.Native.Nat.{zero, suc}
-use Rattle.std.specs.List.{filter_map}
+use Rattle.std.specs.List.{filter, filter_map}
+use Rattle.otp_core.specs.declared.cut.TheConstants.{MAX_EVENTS_IN_ALL}
 use Rattle.otp_reason.specs.declared.note.Note.{Note}
 use Rattle.otp_reason.specs.declared.note.Note.TheVariants as note
 use Rattle.otp_reason.specs.declared.reason.Reason.TheVariants as reason
@@ -13,6 +14,7 @@ use Rattle.otp_rules.specs.declared.event.Event.{Event}
 use Rattle.otp_rules.specs.declared.event.Item.TheVariants as item
 use Rattle.otp_rules.specs.declared.event.Kind.{Kind}
 use Rattle.otp_rules.specs.declared.event.Kind.TheVariants as kind
+use Rattle.otp_rules.specs.Effects.{is_reply}
 use Rattle.otp_rules.specs.Needs.{needs_number}
 use Rattle.otp_rules.specs.Next.{next_kind}
 use Rattle.otp_rules.specs.Run.{empty_state}
@@ -21,14 +23,13 @@ use Rattle.otp_rules.specs.Step.{step}
 use Rattle.otp_spec.specs.declared.child.ChildSpec.{ChildSpec}
 use Rattle.otp_spec.specs.declared.flags.SupFlags.{SupFlags}
 use Rattle.otp_spec.specs.Flags.{is_simple}
-use Rattle.otp_spec.specs.declared.limits.TheConstants.{MAX_EVENTS}
 
 -- a supervisor, and what the processes of its children tell next
 pub record Scene : Type 0 where
   pub state : State
   -- the greatest process number that was given
   pub last : ℕ
-  -- the orders since the last crash
+  -- the orders since the last crash, but for answers
   pub orders : List Effect
   -- what processes tell and the supervisor has not yet heard, in order
   pub notes : List Note
@@ -55,7 +56,7 @@ after_event e s =
     record {
       state = (step s.state e).state;
       last = unwrap_or e.number s.last;
-      orders = s.orders ++ (step s.state e).orders;
+      orders = s.orders ++ filter (λ order. not (is_reply order)) (step s.state e).orders;
       notes = s.notes ++ filter_map note_of (step s.state e).orders;
       events = s.events + 1;
     }
@@ -91,11 +92,11 @@ pub record Settles (time : ℕ) (old new : Scene) : Type 0 where
   pub runs : new ≡ turns count time old
   pub done : next_in time new ≡ None
 
--- a core's history has no room for another event
+-- there were as many events as a supervisor has in its life
 abbrev pub IsFull : Scene → Type 0
-IsFull s = MAX_EVENTS ≤ s.events
+IsFull s = MAX_EVENTS_IN_ALL ≤ s.events
 
--- what comes next by itself fills the history, and there is more to come
+-- what comes next by itself comes to that, and there is more to come
 pub record FillsUp (time : ℕ) (s : Scene) : Type 0 where
   pub count : ℕ
   pub is_full : IsFull (turns count time s)
@@ -110,9 +111,27 @@ abbrev pub joined : Bool → Scene → Scene
 joined false s = s
 joined true s = happened 0 (kind.Took (item.Call 1 call.StartDynamic)) s
 
--- a supervisor with these flags and children that was opened, and whose children run; under simple_one_for_one one child
--- that was started by a call
+-- a supervisor that was opened, and whose children run; under simple_one_for_one one child that was started by a call
+pub record Begins (simple : Bool) (s t : Scene) : Type 0 where
+  pub opened : Scene
+  pub opens : Settles 0 (happened 0 (kind.Opened 0) s) opened
+  pub joins : Settles 0 (joined simple opened) t
+
+-- the same of these flags and children
 pub record Opens (flags : SupFlags) (specs : List ChildSpec) (s : Scene) : Type 0 where
   pub opened : Scene
   pub opens : Settles 0 (happened 0 (kind.Opened 0) (unopened flags specs)) opened
   pub joins : Settles 0 (joined (is_simple flags.strategy) opened) s
+
+-- the call that starts the first child of simple_one_for_one comes too late, or what follows from it does not end
+pub record JoinFills (simple : Bool) (s : Scene) : Type 0 where
+  pub opened : Scene
+  pub opens : Settles 0 (happened 0 (kind.Opened 0) s) opened
+  pub fills : IsFull opened ⊎ FillsUp 0 (joined simple opened)
+
+-- the opening can't be played to its end: a supervisor has no more events
+abbrev pub BeginFills : Bool → Scene → Type 0
+BeginFills simple s = IsFull s ⊎ (FillsUp 0 (happened 0 (kind.Opened 0) s) ⊎ JoinFills simple s)
+
+abbrev pub OpeningFills : SupFlags → List ChildSpec → Type 0
+OpeningFills flags specs = BeginFills (is_simple flags.strategy) (unopened flags specs)

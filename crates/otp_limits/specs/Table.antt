@@ -29,28 +29,24 @@ unfoldable pub burst_text : Fate → List ℕ
 burst_text fate.Survived = codes "any"
 burst_text (fate.Ended count) = decimal count
 burst_text (fate.Gone count) = gone_text count (codes "-") (codes "any")
-burst_text (fate.Unplayed count) = decimal count ++ codes "+"
 
 -- how far apart crashes must be
 unfoldable pub steady_text : Steady → List ℕ
 steady_text steady.Always = codes "any"
 steady_text (steady.Apart gap) = decimal gap ++ codes " ms"
 steady_text steady.Never = codes "none"
-steady_text steady.Unplayed = codes "unknown"
 
 -- the same of a child that fares so
 unfoldable pub interval_text : Fate → Steady → List ℕ
 interval_text fate.Survived steady = steady_text steady
 interval_text (fate.Ended _) steady = steady_text steady
 interval_text (fate.Gone count) steady = gone_text count (codes "-") (steady_text steady)
-interval_text (fate.Unplayed _) steady = steady_text steady
 
 -- who gives up after a burst
 unfoldable pub who_text : Fate → List ℕ
 who_text fate.Survived = codes "nobody"
 who_text (fate.Ended _) = codes "supervisor"
 who_text (fate.Gone count) = gone_text count (codes "isn't up") (codes "nobody")
-who_text (fate.Unplayed _) = codes "unknown"
 
 -- the line of a child
 unfoldable pub row_text : Cost → List ℕ

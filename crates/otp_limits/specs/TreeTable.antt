@@ -34,7 +34,6 @@ unfoldable pub root_text : Fate → List ℕ
 root_text fate.Survived = decimal MOST_FALLS ++ codes "+"
 root_text (fate.Ended count) = decimal count
 root_text (fate.Gone count) = gone_text count (codes "-") (codes "any")
-root_text (fate.Unplayed count) = decimal count ++ codes "+"
 
 -- a supervisor by its path, where that fits
 unfoldable pub word_of : List ℕ → List ℕ
@@ -45,7 +44,6 @@ unfoldable pub giver_text : List ℕ → Fate → List ℕ
 giver_text path fate.Survived = codes "nobody"
 giver_text path (fate.Ended _) = word_of (supervisor_path path)
 giver_text path (fate.Gone count) = gone_text count (codes "isn't up") (codes "nobody")
-giver_text path (fate.Unplayed _) = codes "unknown"
 
 -- the line of a child
 unfoldable pub child_text : TreeCost → List ℕ

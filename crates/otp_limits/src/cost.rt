@@ -1,8 +1,10 @@
 //! What the failure of one child costs.
 
-ghost use Rattle.std.specs.Prelude.{◌≡◌, ◌≤◌, ◌^◌, ◌++◌, None, IfOk, OnOk, length};
+ghost use Rattle.std.specs.Prelude.{◌≡◌, ◌≤◌, ◌^◌, ◌++◌, None, IfErr, IfOk, OnOk, length};
 ghost use Rattle.std.specs.List.{filter_map};
-ghost use Rattle.otp_limits.specs.Costs.{Affects, IsCost, apart_in, is_worse, started_by, stopped_by, survived_in};
+ghost use Rattle.otp_limits.specs.Costs.{Affects, Crashed, IsCost, IsUnknown, apart_in, is_worse, started_by, stopped_by, survived_in};
+ghost use Rattle.otp_limits.specs.Fates.{Fills, IsUnplayed};
+ghost use Rattle.otp_try.specs.declared.trial.Halt.TheVariants.{HistoryFull};
 
 use crate::fate::{Fate, play};
 use crate::list::Listed;
@@ -89,24 +91,51 @@ fn find_affected(
     supervisor: &SupSpec,
     id: &Name,
 ) -> Result<(Listed<Name>, Listed<Name>), Halt>
-    ensures { IfOk result (λ found. Affects supervisor.now.flags supervisor.now.specs id.now found.0 found.1) }
+    ensures ok { IfOk result (λ found. Affects supervisor.now.flags supervisor.now.specs id.now found.0 found.1) }
+    ensures full { IfErr result (λ halt. halt ≡ HistoryFull → IsUnplayed supervisor.now.flags supervisor.now.specs id.now 0 1) }
 {
     let mut stage = Stage::open(alloc, supervisor)?;
+    find_crashed(alloc, &mut stage, id)
+}
+
+/// What one crash of a child of this supervisor stops, and what is started again.
+fn find_crashed(
+    alloc: Global,
+    stage: &mut Stage,
+    id: &Name,
+) -> Result<(Listed<Name>, Listed<Name>), Halt>
+    ensures ok { IfOk result (λ found. Crashed id.now stage.old found.0 found.1) }
+    ensures full { IfErr result (λ halt. halt ≡ HistoryFull → Fills id.now 0 1 stage.old) }
+{
     stage.crash(id, 0)?;
     let mut stops = Listed::new(alloc);
-    put_stopped(id, stage.orders(), &mut stops)?;
     let mut starts = Listed::new(alloc);
-    put_started(id, stage.orders(), &mut starts)?;
+    put_affected(id, stage.orders(), &mut stops, &mut starts)?;
     Ok((stops, starts))
+}
+
+/// Puts the children that these orders stop, and those that they start, behind others.
+fn put_affected(
+    id: &Name,
+    orders: &[Effect],
+    stops: &mut Listed<Name>,
+    starts: &mut Listed<Name>,
+) -> Result<(), AllocError>
+    ensures stops { OnOk result (stops.new ≡ stops.old ++ filter_map (stopped_by id.now) orders.now) }
+    ensures starts { OnOk result (starts.new ≡ starts.old ++ filter_map (started_by id.now) orders.now) }
+{
+    put_stopped(id, orders, stops)?;
+    put_started(id, orders, starts)
 }
 
 /// What the failure of the child with this id costs.
 ///
 /// # Errors
 ///
-/// Where memory is refused, or a core's history has no room for the opening and one crash.
+/// Where memory is refused, or a supervisor has 2^62 events before the last crash of a run.
 pub fn find_cost(alloc: Global, supervisor: &SupSpec, id: &Name) -> Result<Cost, Halt>
-    ensures { IfOk result (λ cost. IsCost supervisor.now.flags supervisor.now.specs id.now cost) }
+    ensures ok { IfOk result (λ cost. IsCost supervisor.now.flags supervisor.now.specs id.now cost) }
+    ensures full { IfErr result (λ halt. halt ≡ HistoryFull → IsUnknown supervisor.now.flags supervisor.now.specs id.now) }
 {
     let (stops, starts) = find_affected(alloc, supervisor, id)?;
     let burst = play(alloc, supervisor, id, 0, MOST_CRASHES)?;
@@ -128,7 +157,7 @@ impl Fate {
     {
         match self {
             Fate::Survived | Fate::Gone(_) => MOST_CRASHES,
-            Fate::Ended(count) | Fate::Unplayed(count) => count,
+            Fate::Ended(count) => count,
         }
     }
 }
@@ -140,7 +169,7 @@ impl Steady {
         ensures { result ≡ apart_in self }
     {
         match self {
-            Steady::Always | Steady::Unplayed => 0,
+            Steady::Always => 0,
             Steady::Apart(gap) => gap,
             Steady::Never => NO_INTERVAL,
         }

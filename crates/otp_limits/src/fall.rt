@@ -1,7 +1,7 @@
 //! How the root of a tree fares where a child crashes again and again.
 
 ghost use Rattle.std.specs.Prelude.{◌≡◌, ◌<◌, ◌++◌, false, IfOk, IfSome, OnOk, length, slice_get};
-ghost use Rattle.otp_limits.specs.Falls.{FallsOnce, FallsSo, IsFall, Joins, OpensTree, gave_up, gave_up_by, given_up, is_joined, path_if, process_at, supervisor_path, through};
+ghost use Rattle.otp_limits.specs.Falls.{FallsFrom, FallsOnce, FallsSo, IsFall, Joins, OpensTree, gave_up, gave_up_by, given_up, is_joined, path_if, process_at, supervisor_path};
 ghost use Rattle.otp_try.specs.Played.{Seated, is_root_over};
 
 use crate::fate::Fate;
@@ -62,16 +62,28 @@ fn join(trial: &mut Trial, place: usize, page: &mut Vec<u8>) -> Result<(), Halt>
     Ok(())
 }
 
+/// The same, where there is such a supervisor.
+fn join_at(trial: &mut Trial, place: usize, page: &mut Vec<u8>) -> Result<(), Halt>
+    ensures { OnOk result (Joins (is_joined (slice_get trial.old place)) place trial.old trial.new) }
+{
+    if place >= trial.seats().len() {
+        return Err(Halt::OutOfMemory);
+    }
+    join(trial, place, page)
+}
+
 /// A tree that is opened, and the supervisor at this place has a child.
 fn open(alloc: Global, tree: &TreeSpec, place: usize, page: &mut Vec<u8>) -> Result<Trial, Halt>
     ensures { IfOk result (λ trial. OpensTree tree.now place trial) }
 {
     let mut trial = Trial::open(alloc, tree, false, page)?;
-    if place >= trial.seats().len() {
-        return Err(Halt::OutOfMemory);
+    match join_at(&mut trial, place, page) {
+        Ok(()) => Ok(trial),
+        Err(halt) => {
+            drop(trial);
+            Err(halt)
+        }
     }
-    join(&mut trial, place, page)?;
-    Ok(trial)
 }
 
 /// A child of the supervisor at this place crashes until the root has ended, or so often as is played.
@@ -85,11 +97,7 @@ fn crash_often(trial: &mut Trial, place: usize, id: &Name, page: &mut Vec<u8>) -
             return Ok(Fate::Gone(count));
         };
         page.clear();
-        match trial.end_number(place, process, Reason::Killed, page) {
-            Ok(()) => {}
-            Err(Halt::HistoryFull) => return Ok(Fate::Unplayed(count)),
-            Err(Halt::OutOfMemory) => return Err(Halt::OutOfMemory),
-        }
+        trial.end_number(place, process, Reason::Killed, page)?;
         if trial.has_ended() {
             return Ok(Fate::Ended(count));
         }
@@ -159,16 +167,12 @@ fn put_given_up(alloc: Global, seats: &[Seat], ends: &mut Listed<Path>) -> Resul
     }
 }
 
-/// Who has given up in the end.
-#[tactic(auto, unfolding(crate::specs::Falls::through))]
-fn through(alloc: Global, fate: Fate, seats: &[Seat]) -> Result<Listed<Path>, Halt>
-    ensures { IfOk result (λ ends. ends ≡ through fate seats.now) }
+/// The supervisors that gave up, those below before those above them.
+fn find_given_up(alloc: Global, seats: &[Seat]) -> Result<Listed<Path>, Halt>
+    ensures { IfOk result (λ ends. ends ≡ given_up seats.now) }
 {
     let mut ends = Listed::new(alloc);
-    match fate {
-        Fate::Unplayed(_) => {}
-        Fate::Survived | Fate::Ended(_) | Fate::Gone(_) => put_given_up(alloc, seats, &mut ends)?,
-    }
+    put_given_up(alloc, seats, &mut ends)?;
     Ok(ends)
 }
 
@@ -182,10 +186,25 @@ pub fn find_fall(alloc: Global, tree: &TreeSpec, place: usize, id: &Name) -> Res
 {
     let mut page = Vec::new(alloc);
     let mut trial = open(alloc, tree, place, &mut page)?;
+    let fall = fall_in(alloc, &mut trial, place, id, &mut page);
+    drop(trial);
+    fall
+}
+
+/// Lets a child of the supervisor at this place of an opened tree crash until the root has ended.
+fn fall_in(
+    alloc: Global,
+    trial: &mut Trial,
+    place: usize,
+    id: &Name,
+    page: &mut Vec<u8>,
+) -> Result<Fall, Halt>
+    ensures { IfOk result (λ fall. FallsFrom place id.now trial.old fall.root fall.ends) }
+{
     if trial.has_ended() {
         return Err(Halt::HistoryFull);
     }
-    let root = crash_often(&mut trial, place, id, &mut page)?;
-    let ends = through(alloc, root, trial.seats())?;
+    let root = crash_often(trial, place, id, page)?;
+    let ends = find_given_up(alloc, trial.seats())?;
     Ok(Fall { root, ends })
 }

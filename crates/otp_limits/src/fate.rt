@@ -1,9 +1,10 @@
 //! How a supervisor fares where a child crashes again and again.
 
-ghost use Rattle.std.specs.Prelude.{◌≡◌, ◌≤◌, ◌*◌, None, IfOk, false};
+ghost use Rattle.std.specs.Prelude.{◌≡◌, ◌≤◌, ◌*◌, None, IfErr, IfOk, false};
 ghost use Rattle.otp_spec.specs.declared.limits.TheConstants.{MAX_READING};
-ghost use Rattle.otp_limits.specs.Fates.{Fares, Plays};
+ghost use Rattle.otp_limits.specs.Fates.{Fares, Fills, IsUnplayed, Plays};
 ghost use Rattle.otp_rules.specs.State.{is_over};
+ghost use Rattle.otp_try.specs.declared.trial.Halt.TheVariants.{HistoryFull};
 
 use crate::stage::Stage;
 use otp_reason::Name;
@@ -20,8 +21,6 @@ pub enum Fate {
     Ended(u64),
     /// It runs after so many, and then the child isn't there any more.
     Gone(u64),
-    /// It runs after so many; the history of a core has no room for the next.
-    Unplayed(u64),
 }
 
 /// Lets a child of an opened supervisor crash so often, each time after so many milliseconds.
@@ -29,17 +28,14 @@ pub enum Fate {
 fn fare(stage: &mut Stage, id: &Name, gap: u64, crashes: u64) -> Result<Fate, Halt>
     requires runs { is_over stage.old.state.phase ≡ false }
     requires time { crashes * gap ≤ MAX_READING }
-    ensures { IfOk result (λ fate. Fares id.now gap crashes stage.old fate) }
+    ensures ok { IfOk result (λ fate. Fares id.now gap crashes stage.old fate) }
+    ensures full { IfErr result (λ halt. halt ≡ HistoryFull → Fills id.now gap crashes stage.old) }
 {
     for count in 0..crashes {
         if stage.process_of(id).is_none() {
             return Ok(Fate::Gone(count));
         }
-        match stage.crash(id, (count + 1) * gap) {
-            Ok(()) => {}
-            Err(Halt::HistoryFull) => return Ok(Fate::Unplayed(count)),
-            Err(Halt::OutOfMemory) => return Err(Halt::OutOfMemory),
-        }
+        stage.crash(id, (count + 1) * gap)?;
         if stage.has_ended() {
             return Ok(Fate::Ended(count));
         }
@@ -51,7 +47,7 @@ fn fare(stage: &mut Stage, id: &Name, gap: u64, crashes: u64) -> Result<Fate, Ha
 ///
 /// # Errors
 ///
-/// Where memory is refused, or the opening itself doesn't come to its end.
+/// Where memory is refused, or a supervisor has 2^62 events before the last crash.
 pub(crate) fn play(
     alloc: Global,
     supervisor: &SupSpec,
@@ -60,11 +56,15 @@ pub(crate) fn play(
     crashes: u64,
 ) -> Result<Fate, Halt>
     requires time { crashes * gap ≤ MAX_READING }
-    ensures { IfOk result (λ fate. Plays supervisor.now.flags supervisor.now.specs id.now gap crashes fate) }
+    ensures ok { IfOk result (λ fate. Plays supervisor.now.flags supervisor.now.specs id.now gap crashes fate) }
+    ensures full { IfErr result (λ halt. halt ≡ HistoryFull → IsUnplayed supervisor.now.flags supervisor.now.specs id.now gap crashes) }
 {
     let mut stage = Stage::open(alloc, supervisor)?;
     if stage.has_ended() {
+        drop(stage);
         return Err(Halt::HistoryFull);
     }
-    fare(&mut stage, id, gap, crashes)
+    let fate = fare(&mut stage, id, gap, crashes);
+    drop(stage);
+    fate
 }

@@ -1,7 +1,9 @@
 //! What the failure of each child costs, the worst first.
 
-ghost use Rattle.std.specs.Prelude.{◌≡◌, None, IfOk};
-ghost use Rattle.otp_limits.specs.Costs.{AreLimits};
+ghost use Rattle.std.specs.Prelude.{◌≡◌, None, IfErr, IfOk};
+ghost use Rattle.otp_limits.specs.Costs.{AreLimits, IsUnknown};
+ghost use Rattle.otp_reason.specs.declared.name.Name.{Name};
+ghost use Rattle.otp_try.specs.declared.trial.Halt.TheVariants.{HistoryFull};
 
 use crate::cost::{Cost, find_cost};
 use crate::rank::put_in;
@@ -13,9 +15,10 @@ use std::alloc::Global;
 ///
 /// # Errors
 ///
-/// Where memory is refused, or a core's history has no room for the opening and one crash.
+/// Where memory is refused, or a supervisor has 2^62 events before the last crash of a run.
 pub fn find_limits(alloc: Global, supervisor: &SupSpec) -> Result<Vec<Cost>, Halt>
-    ensures { IfOk result (λ costs. AreLimits supervisor.now.flags supervisor.now.specs costs.items) }
+    ensures ok { IfOk result (λ costs. AreLimits supervisor.now.flags supervisor.now.specs costs.items) }
+    ensures full { IfErr result (λ halt. halt ≡ HistoryFull → (id : Name) × IsUnknown supervisor.now.flags supervisor.now.specs id) }
 {
     let mut costs = Vec::new(alloc);
     let specs = supervisor.specs();

@@ -1,17 +1,19 @@
 //! A supervisor that is played in a world where all goes well, but for one child that crashes.
 
-ghost use Rattle.std.specs.Prelude.{ℕ, ◌≡◌, ◌≤◌, ◌<◌, ◌++◌, None, OnOk, IfErr, IfOk, IfSome, length, position, option_map, slice_get};
-ghost use Rattle.std.specs.List.{filter_map};
+ghost use Rattle.std.specs.Prelude.{ℕ, [], ◌≡◌, ◌+◌, ◌≤◌, ◌<◌, ◌++◌, None, OnOk, IfErr, IfOk, IfSome, length, not, position, option_map, slice_get, vec_capacity, vec_len};
+ghost use Rattle.std.specs.List.{filter, filter_map};
 ghost use Rattle.otp_limits.specs.Fates.{HasNoRoom, crashed, is_of, process_of, running_at};
-ghost use Rattle.otp_limits.specs.Scene.{FillsUp, IsFull, Opens, Settles, happened, heard, joined, next_in, note_of};
+ghost use Rattle.otp_limits.specs.Scene.{BeginFills, Begins, FillsUp, IsFull, OpeningFills, Opens, Settles, happened, heard, joined, next_in, note_of};
+ghost use Rattle.otp_rules.specs.Effects.{is_reply};
 ghost use Rattle.otp_rules.specs.State.{is_over};
 ghost use Rattle.otp_try.specs.declared.trial.Halt.TheVariants.{HistoryFull};
 ghost use Rattle.otp_spec.specs.Flags.{is_simple};
 ghost use Rattle.otp_spec.specs.declared.limits.TheConstants.{MAX_READING};
 
-use otp_core::{Core, Counter, MAX_EVENTS};
+use otp_core::{Core, Counter, MAX_EVENTS_IN_ALL};
 use otp_reason::{Name, Note, Reason};
 use otp_rules::{Call, Effect, Item, Kind};
+use otp_sim::make_room;
 use otp_spec::{Strategy, SupSpec};
 use otp_table::Row;
 use otp_try::Halt;
@@ -42,6 +44,43 @@ fn obey(orders: &[Effect], notes: &mut VecDeque<Note>) -> Result<(), AllocError>
         }
     }
     Ok(())
+}
+
+/// Processes do what the orders of a core ask, and there is room for those that are no answers.
+fn obey_all(
+    core: &Core,
+    notes: &mut VecDeque<Note>,
+    orders: &mut Vec<Effect>,
+) -> Result<(), AllocError>
+    ensures notes { OnOk result (notes.new.items ≡ notes.old.items ++ filter_map note_of core.now.effects) }
+    ensures orders { orders.new.items ≡ orders.old.items }
+    ensures room { OnOk result (vec_len orders.new + length (filter (λ order. not (is_reply order)) core.now.effects) ≤ vec_capacity orders.new) }
+{
+    obey(core.effects(), notes)?;
+    orders.reserve(core.count_orders())
+}
+
+/// Processes do what the orders of a core ask. Those that are no answers are put behind others, and the core has none any
+/// more.
+fn take_orders(
+    core: &mut Core,
+    notes: &mut VecDeque<Note>,
+    orders: &mut Vec<Effect>,
+) -> Result<(), AllocError>
+    ensures notes { OnOk result (notes.new.items ≡ notes.old.items ++ filter_map note_of core.old.effects) }
+    ensures orders { OnOk result (orders.new.items ≡ orders.old.items ++ filter (λ order. not (is_reply order)) core.old.effects) }
+    ensures core { core.new ≡ record core.old { effects = [] } }
+{
+    match obey_all(core, notes, orders) {
+        Ok(()) => {
+            core.move_orders(orders);
+            Ok(())
+        }
+        Err(error) => {
+            core.clear_effects();
+            Err(error)
+        }
+    }
 }
 
 /// Whether a row is that of a child of the specification with this id.
@@ -86,6 +125,8 @@ pub(crate) fn process_of(rows: &[Row], id: &Name) -> Option<u64>
 #[derive(Drop)]
 pub(crate) struct Stage {
     core: Core,
+    /// The orders since the last crash, but for answers.
+    orders: Vec<Effect>,
     notes: VecDeque<Note>,
 }
 
@@ -104,23 +145,39 @@ impl Model for Stage {
 impl Stage {
     /// A supervisor that was opened, and whose children run.
     pub fn open(alloc: Global, supervisor: &SupSpec) -> Result<Self, Halt>
-        ensures { IfOk result (λ stage. Opens supervisor.now.flags supervisor.now.specs stage) }
+        ensures ok { IfOk result (λ stage. Opens supervisor.now.flags supervisor.now.specs stage) }
+        ensures full { IfErr result (λ halt. halt ≡ HistoryFull → OpeningFills supervisor.now.flags supervisor.now.specs) }
     {
         let core = Core::of(alloc, supervisor.try_clone(alloc)?);
         let mut stage = Stage {
             core,
+            orders: Vec::new(alloc),
             notes: VecDeque::new(alloc),
         };
-        stage.happen(0, Kind::Opened(0))?;
-        stage.settle(0)?;
-        stage.join(supervisor.flags().strategy)?;
-        stage.settle(0)?;
-        Ok(stage)
+        match stage.begin(supervisor.flags().strategy) {
+            Ok(()) => Ok(stage),
+            Err(halt) => {
+                drop(stage);
+                Err(halt)
+            }
+        }
+    }
+
+    /// It opens, and its children start.
+    fn begin(&mut self, strategy: Strategy) -> Result<(), Halt>
+        ensures ok { OnOk result (Begins (is_simple strategy) self.old self.new) }
+        ensures full { IfErr result (λ halt. halt ≡ HistoryFull → BeginFills (is_simple strategy) self.old) }
+    {
+        self.happen(0, Kind::Opened(0))?;
+        self.settle(0)?;
+        self.join(strategy)?;
+        self.settle(0)
     }
 
     /// Under simple_one_for_one somebody starts a child; the other strategies have all theirs by then.
     fn join(&mut self, strategy: Strategy) -> Result<(), Halt>
-        ensures { OnOk result (self.new ≡ joined (is_simple strategy) self.old) }
+        ensures ok { OnOk result (self.new ≡ joined (is_simple strategy) self.old) }
+        ensures full { IfErr result (λ halt. halt ≡ HistoryFull → IsFull self.old) }
     {
         if strategy.is_simple() {
             self.happen(0, Kind::Took(Item::Call(1, Call::StartDynamic)))
@@ -136,11 +193,11 @@ impl Stage {
         self.core.has_ended()
     }
 
-    /// The orders since the last crash.
+    /// The orders since the last crash, but for answers.
     pub fn orders(&self) -> &[Effect]
         ensures { result.now ≡ self.now.orders }
     {
-        self.core.effects()
+        self.orders.as_slice()
     }
 
     /// The process of the first child of the specification with this id, if it runs.
@@ -156,16 +213,13 @@ impl Stage {
         ensures ok { OnOk result (self.new ≡ happened time kind self.old) }
         ensures full { IfErr result (λ halt. halt ≡ HistoryFull → IsFull self.old) }
     {
-        if self.core.is_full() {
-            return Err(Halt::HistoryFull);
-        }
+        make_room(&mut self.core)?;
         self.core.prepare()?;
-        let from = self.core.effects().len();
         let mut numbers = Counter {
             last: self.core.last_number(),
         };
         self.core.step_with(time, kind, &mut numbers);
-        obey(&self.core.effects()[from..], &mut self.notes)?;
+        take_orders(&mut self.core, &mut self.notes, &mut self.orders)?;
         Ok(())
     }
 
@@ -193,7 +247,7 @@ impl Stage {
         ensures ok { OnOk result (Settles time self.old self.new) }
         ensures full { IfErr result (λ halt. halt ≡ HistoryFull → FillsUp time self.old) }
     {
-        for _ in 0..=MAX_EVENTS {
+        for _ in 0..=MAX_EVENTS_IN_ALL {
             let Some(kind) = self.next_kind(time) else {
                 return Ok(());
             };
@@ -212,7 +266,7 @@ impl Stage {
         ensures full { IfErr result (λ halt. halt ≡ HistoryFull → HasNoRoom id.now time self.old) }
     {
         let process = self.process_of(id);
-        self.core.clear_effects();
+        self.orders.clear();
         if let Some(process) = process {
             self.happen(
                 time,

@@ -79,10 +79,6 @@ pub(crate) fn write_burst(burst: Fate, out: &mut Vec<u8>) -> Result<(), AllocErr
         Fate::Survived => out.extend_from_slice(b"any"),
         Fate::Gone(count) => write_gone(count, b"-", b"any", out),
         Fate::Ended(count) => write_number(count, out),
-        Fate::Unplayed(count) => {
-            write_number(count, out)?;
-            out.extend_from_slice(b"+")
-        }
     }
 }
 
@@ -94,7 +90,6 @@ fn write_steady(steady: Steady, out: &mut Vec<u8>) -> Result<(), AllocError>
     match steady {
         Steady::Always => out.extend_from_slice(b"any"),
         Steady::Never => out.extend_from_slice(b"none"),
-        Steady::Unplayed => out.extend_from_slice(b"unknown"),
         Steady::Apart(gap) => {
             write_number(gap, out)?;
             out.extend_from_slice(b" ms")
@@ -126,7 +121,6 @@ fn write_who(burst: Fate, out: &mut Vec<u8>) -> Result<(), AllocError>
         Fate::Survived => out.extend_from_slice(b"nobody"),
         Fate::Gone(count) => write_gone(count, b"isn't up", b"nobody", out),
         Fate::Ended(_) => out.extend_from_slice(b"supervisor"),
-        Fate::Unplayed(_) => out.extend_from_slice(b"unknown"),
     }
 }
 
@@ -251,7 +245,7 @@ pub fn write_table(alloc: Global, costs: &[Cost], out: &mut Vec<u8>) -> Result<(
 ///
 /// # Errors
 ///
-/// Where memory is refused, or a core's history has no room for the opening and one crash.
+/// Where memory is refused, or a supervisor has 2^62 events before the last crash of a run.
 pub fn write_limits(alloc: Global, supervisor: &SupSpec, out: &mut Vec<u8>) -> Result<(), Halt>
     ensures { OnOk result (TellsLimits supervisor.now.flags supervisor.now.specs out.old.items out.new.items) }
 {

@@ -78,10 +78,6 @@ fn write_root(root: Fate, out: &mut Vec<u8>) -> Result<(), AllocError>
         }
         Fate::Ended(count) => write_number(count, out),
         Fate::Gone(count) => write_gone(count, b"-", b"any", out),
-        Fate::Unplayed(count) => {
-            write_number(count, out)?;
-            out.extend_from_slice(b"+")
-        }
     }
 }
 
@@ -106,7 +102,6 @@ fn write_giver(path: &[u8], burst: Fate, out: &mut Vec<u8>) -> Result<(), AllocE
         Fate::Survived => out.extend_from_slice(b"nobody"),
         Fate::Ended(_) => write_word(supervisor_path(path), out),
         Fate::Gone(count) => write_gone(count, b"isn't up", b"nobody", out),
-        Fate::Unplayed(_) => out.extend_from_slice(b"unknown"),
     }
 }
 
@@ -283,7 +278,7 @@ pub fn write_tree_table(
 ///
 /// # Errors
 ///
-/// Where memory is refused, or a core's history has no room for the opening and one crash.
+/// Where memory is refused, or a supervisor has 2^62 events before the last crash of a run.
 #[tactic(auto, unfolding(crate::specs::TreeTable::TellsFor))]
 pub fn write_tree_limits(alloc: Global, tree: &TreeSpec, out: &mut Vec<u8>) -> Result<(), Halt>
     ensures { OnOk result (TellsAll tree.now out.old.items out.new.items) }

@@ -1,5 +1,5 @@
 -- Pieces of a run that come one after another.
-use Rattle.std.specs.Prelude.{◌≡◌, ℕ, Bool, true, false, List, [], ◌∷◌, ◌++◌, refl, slice_set}
+use Rattle.std.specs.Prelude.{◌≡◌, ℕ, Bool, List, [], ◌∷◌, ◌++◌, refl, slice_set}
 use Rattle.std.proofs.Common.{◌∙◌, ap, sym, subst, append_assoc, append-nil}
 use Rattle.otp_try.specs.Page.{Adds, Leads, Moved, Piece, Remark, Said, heading_line, pieces_text, remark_text, shown, verdict_text}
 use Rattle.otp_try.specs.Page.Remark.{Heading, Verdict}

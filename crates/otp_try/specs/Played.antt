@@ -1,8 +1,7 @@
 -- A tree that is tried: its supervisors, each with its events so far, and how calls of a trial add to them (own).
-use Rattle.std.specs.Prelude.{◌≡◌, ℕ, ◌<◌, ◌==◌, ◌&&◌, nat_lt, Bool, true, false, List, [], ◌∷◌, ◌++◌, Option, Some, None, if◌then◌else◌, length, position, slice_get, slice_index_or, slice_set}
-use Rattle.std.specs.List.{flat_map, list_any}
+use Rattle.std.specs.Prelude.{◌≡◌, ℕ, ◌<◌, Bool, true, false, List, [], ◌∷◌, ◌++◌, Option, Some, None, if◌then◌else◌, is_some, length, position, slice_get, slice_index_or, slice_set}
+use Rattle.std.specs.List.{flat_map}
 use Rattle.otp_file.specs.Trees.{Table, Tree}
-use Rattle.otp_reason.specs.declared.note.Note.{Note}
 use Rattle.otp_reason.specs.declared.note.Note.TheVariants as note
 use Rattle.otp_reason.specs.declared.reason.Reason.{Reason}
 use Rattle.otp_rules.specs.declared.event.Event.{Event}
@@ -12,6 +11,7 @@ use Rattle.otp_rules.specs.declared.event.Kind.TheVariants as kind
 use Rattle.otp_rules.specs.Next.{idle_kind}
 use Rattle.otp_rules.specs.Run.{empty_state, state_after}
 use Rattle.otp_rules.specs.State.{State, is_over}
+use Rattle.otp_rules.specs.Stops.{is_exit}
 use Rattle.otp_spec.specs.declared.child.ChildSpec.{ChildSpec}
 use Rattle.otp_spec.specs.declared.flags.SupFlags.{SupFlags}
 use Rattle.otp_spec.specs.Flags.{is_simple}
@@ -129,29 +129,9 @@ TellsFirst place k old new before after = (seat : Seated) × (e : Event) × (ms 
     × Lead old (record { place = place; seat = seat; event = Some e } ∷ ms) new × (e.kind ≡ k)
     × (after ≡ before ++ story (record { place = place; seat = seat; event = Some e } ∷ ms))
 
--- the note tells the end of this process
-unfoldable pub tells_end_of : ℕ → Note → Bool
-tells_end_of p (note.Up _) = false
-tells_end_of p (note.Ignored n) = n == p
-tells_end_of p (note.Failed n _) = n == p
-tells_end_of p (note.Exit n _) = n == p
-
--- an event of this kind told it
-unfoldable pub told_end_of : ℕ → Kind → Bool
-told_end_of p (kind.Opened _) = false
-told_end_of p (kind.Took (item.Note x)) = tells_end_of p x
-told_end_of p (kind.Took (item.Call _ _)) = false
-told_end_of p kind.Resumed = false
-told_end_of p kind.Ticked = false
-told_end_of p kind.Stopped = false
-
-abbrev pub was_end_of : ℕ → Event → Bool
-was_end_of p e = told_end_of p e.kind
-
--- something waits until no work is open, and the end of this process was told: of a child that still has the process it
--- is among what waits
-unfoldable pub has_end_waiting : Seated → ℕ → Bool
-has_end_waiting seat p = nat_lt 0 (length (state_in seat).waiting) && list_any (was_end_of p) seat.history
+-- the end of this process was told, and waits until no work is open
+abbrev pub has_end_waiting : Seated → ℕ → Bool
+has_end_waiting seat p = is_some (position (is_exit p) (state_in seat).waiting)
 
 -- the end of this process is what happens first, unless it waits already; then nothing happens
 unfoldable pub EndsUnless : Bool → ℕ → ℕ → Reason → List Seated → ActionEnd → List Seated → Type 0

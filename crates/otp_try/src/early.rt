@@ -14,7 +14,7 @@ pub(crate) enum EarlyEnd {
     LineRefused(u64, ScriptFault),
     /// The line with this number could do nothing.
     LineMissed(u64, ActionEnd),
-    /// The history has no room for another event.
+    /// There were 2^62 events, as many as a supervisor has in its life.
     HistoryFull,
     InputFailed,
     OutputFailed,

@@ -249,7 +249,7 @@ impl Line {
     ///
     /// # Errors
     ///
-    /// Where memory is refused, or the history of a supervisor has no room.
+    /// Where memory is refused, or a supervisor has had 2^62 events.
     pub fn play(
         self,
         trial: &mut Trial,

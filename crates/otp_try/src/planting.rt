@@ -100,8 +100,13 @@ pub(crate) fn plant(alloc: Global, tree: &TreeSpec, tells: bool) -> Result<Plant
         seats: Vec::new(alloc),
         homes: Vec::new(alloc),
     };
-    plants.add_tree(alloc, tree, &[], tells, Home::new(0, None), MAX_DEPTH)?;
-    Ok(plants)
+    match plants.add_tree(alloc, tree, &[], tells, Home::new(0, None), MAX_DEPTH) {
+        Ok(()) => Ok(plants),
+        Err(halt) => {
+            drop(plants);
+            Err(halt)
+        }
+    }
 }
 
 /// The supervisors of a tree, of which none was ever opened: one for each table of the file, by their numbers.

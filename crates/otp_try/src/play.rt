@@ -31,7 +31,7 @@ pub enum TryEnd {
     /// The line with this number could do nothing: the child or the supervisor that it means is not there or has no process,
     /// its time has gone by, or the root has ended.
     LineMissed(u64, ActionEnd),
-    /// The history has no room for another event.
+    /// There were 2^62 events, as many as a supervisor has in its life.
     HistoryFull,
     InputFailed,
     OutputFailed,
@@ -692,8 +692,12 @@ pub fn try_tree<R: Input, W: Output>(
     let mut told = Vec::new(alloc);
     let trial = match Trial::open(alloc, &tree, settings.tells, &mut told) {
         Ok(trial) => trial,
-        Err(halt) => return EarlyEnd::from(halt).told(),
+        Err(halt) => {
+            drop(tree);
+            return EarlyEnd::from(halt).told();
+        }
     };
+    drop(tree);
     let mut play = Play {
         alloc,
         trial,
@@ -701,5 +705,7 @@ pub fn try_tree<R: Input, W: Output>(
         page: told,
         sketch: sketch_of(alloc, shows),
     };
-    play.play(settings, input, output)
+    let end = play.play(settings, input, output);
+    drop(play);
+    end
 }

@@ -1,20 +1,19 @@
 //! A supervisor of a tree that is tried.
 
 ghost use Rattle.std.specs.Prelude.{◌≡◌, ◌≤◌, ◌^◌, [], false, length, nat_lt, IfOk, OnOk};
-ghost use Rattle.std.specs.List.{list_any};
 ghost use Rattle.otp_rules.specs.Ends.{last_stamps};
 ghost use Rattle.otp_rules.specs.Next.{idle_kind, next_kind};
 ghost use Rattle.otp_rules.specs.Run.{empty_state};
 ghost use Rattle.otp_rules.specs.State.{is_over};
 ghost use Rattle.otp_spec.specs.declared.limits.TheConstants.{MAX_READING};
-ghost use Rattle.otp_try.specs.Played.{Happens, has_end_waiting, state_in, tells_end_of, told_end_of, unplayed, was_end_of};
+ghost use Rattle.otp_try.specs.Played.{Happens, has_end_waiting, state_in, unplayed};
 
 use crate::starts::{Started, put_starts};
 use crate::telling::tell;
 use crate::trial::Halt;
-use otp_core::{Core, Counter, History};
-use otp_reason::Note;
-use otp_rules::{Effect, Event, Item, Kind, Phase};
+use otp_core::{Core, Counter};
+use otp_rules::{Effect, Kind, Phase};
+use otp_sim::make_room;
 use otp_spec::{MAX_READING, SupFlags, SupSpec};
 use otp_table::Row;
 use otp_text::Printer;
@@ -52,51 +51,9 @@ impl Model for Seat {
 
 /// A core that was never opened.
 fn core_of(alloc: Global, supervisor: &SupSpec) -> Result<Core, Halt>
-    ensures { IfOk result (λ core. core ≡ record { base = empty_state supervisor.now.flags supervisor.now.specs; history = []; effects = []; prepared = false }) }
+    ensures { IfOk result (λ core. core ≡ record { base = empty_state supervisor.now.flags supervisor.now.specs; history = []; cut = 0; effects = []; prepared = false }) }
 {
     Ok(Core::of(alloc, supervisor.try_clone(alloc)?))
-}
-
-/// Whether a note tells the end of this process.
-#[tactic(auto, unfolding(crate::specs::Played::tells_end_of))]
-fn tells_end_of(note: &Note, process: u64) -> bool
-    ensures { result ≡ tells_end_of process note.now }
-{
-    match note {
-        Note::Up(_) => false,
-        Note::Ignored(number) | Note::Failed(number, _) | Note::Exit(number, _) => *number
-            == process,
-    }
-}
-
-/// Whether an event of this kind told it.
-#[tactic(auto, unfolding(crate::specs::Played::told_end_of))]
-fn told_end_of(kind: &Kind, process: u64) -> bool
-    ensures { result ≡ told_end_of process kind.now }
-{
-    match kind {
-        Kind::Took(Item::Note(note)) => tells_end_of(note, process),
-        _ => false,
-    }
-}
-
-/// Whether an event did.
-fn was_end_of(event: &Event, process: u64) -> bool
-    ensures { result ≡ was_end_of process event.now }
-{
-    told_end_of(&event.kind, process)
-}
-
-/// Whether one of these events did.
-fn is_any_end_of(history: &History, process: u64) -> bool
-    ensures { result ≡ list_any (was_end_of process) history.now.events }
-{
-    for place in 0..history.len() {
-        if was_end_of(&history.get(place), process) {
-            return true;
-        }
-    }
-    false
 }
 
 impl Seat {
@@ -109,7 +66,13 @@ impl Seat {
     ) -> Result<Self, Halt>
         ensures { IfOk result (λ seat. seat ≡ unplayed tells path.items supervisor.flags supervisor.specs) }
     {
-        let core = core_of(alloc, &supervisor)?;
+        let core = match core_of(alloc, &supervisor) {
+            Ok(core) => core,
+            Err(halt) => {
+                drop(supervisor);
+                return Err(halt);
+            }
+        };
         Ok(Seat {
             path,
             tells,
@@ -146,15 +109,13 @@ impl Seat {
         if !self.is_whole {
             return Err(Halt::OutOfMemory);
         }
-        if self.core.is_full() {
-            return Err(Halt::HistoryFull);
-        }
         let last = last.max(self.core.last_number());
         if last >= MAX_READING {
             return Err(Halt::HistoryFull);
         }
-        self.core.prepare()?;
         self.core.clear_effects();
+        make_room(&mut self.core)?;
+        self.core.prepare()?;
         let mut numbers = Counter { last };
         self.is_whole = false;
         self.core.step_with(time, kind, &mut numbers);
@@ -227,13 +188,11 @@ impl Seat {
         self.core.has_ended()
     }
 
-    /// Whether something waits until no work is open, and the end of this process was told: of a child that still has the
-    /// process it is among what waits.
-    #[tactic(auto, unfolding(crate::specs::Played::has_end_waiting))]
+    /// Whether the end of this process was told, and waits until no work is open.
     pub(crate) fn has_end_waiting(&self, process: u64) -> bool
         ensures { result ≡ has_end_waiting self.now process }
     {
-        self.core.has_waiting() && is_any_end_of(self.core.history(), process)
+        self.core.has_exit_waiting(process)
     }
 
     /// Whether something waits until no work is open.

@@ -1,14 +1,15 @@
 //! Orders as they are told.
 
-ghost use Rattle.std.specs.Prelude.{◌≡◌, ◌++◌, OnOk};
-ghost use Rattle.otp_core.specs.View.{state_of};
+ghost use Rattle.std.specs.Prelude.{◌≡◌, ◌++◌, OnOk, option_map};
+ghost use Rattle.otp_core.specs.View.{stored_state};
+ghost use Rattle.otp_rules.specs.Run.{reply_of};
 ghost use Rattle.otp_try.specs.Story.{cause_text, child_order, end_text, heading, id_text, is_told, limit_text, line_if, number_after, order_text, restarts_text, restarts_word, significant_text, started_between, started_text, told_line, told_lines};
 
 use crate::starts::{Started, start_of};
 use crate::time::{write_few_times, write_time};
-use otp_core::Core;
+use otp_core::{Core, ReplyAnswer};
 use otp_reason::Name;
-use otp_rules::{Cause, Effect, SupEnd};
+use otp_rules::{Cause, Effect, Reply, SupEnd};
 use otp_spec::SupFlags;
 use otp_text::{Printer, write_child_name, write_name, write_number, write_process, write_reason};
 use std::alloc::AllocError;
@@ -199,6 +200,16 @@ pub(crate) fn write_heading(path: &[u8], out: &mut Vec<u8>) -> Result<(), AllocE
     }
 }
 
+/// The answer to a call that was given since the last checkpoint.
+fn kept_reply(core: &Core, call: u64) -> Option<&Reply>
+    ensures { option_map (λ r. r.now) result ≡ reply_of call (stored_state core.now).replies }
+{
+    match core.reply(call) {
+        ReplyAnswer::Kept(reply) => Some(reply),
+        ReplyAnswer::Gone | ReplyAnswer::NotYet => None,
+    }
+}
+
 /// Appends an order as it is told: of an end also why.
 #[tactic(auto, unfolding(crate::specs::Story::order_text))]
 fn write_order(
@@ -209,7 +220,7 @@ fn write_order(
     printer: &mut Printer,
     out: &mut Vec<u8>,
 ) -> Result<(), AllocError>
-    ensures { OnOk result (out.new.items ≡ out.old.items ++ order_text path.now starts.now order.now (state_of core.now).replies) }
+    ensures { OnOk result (out.new.items ≡ out.old.items ++ order_text path.now starts.now order.now (stored_state core.now).replies) }
 {
     match order {
         Effect::Start(name, number) => write_child_order(b"start ", path, name, *number, out),
@@ -217,7 +228,7 @@ fn write_order(
         Effect::Kill(name, number) => write_child_order(b"kill ", path, name, *number, out),
         Effect::Reply(call) => {
             write_heading(path, out)?;
-            printer.print(order, core.reply(*call), out)
+            printer.print(order, kept_reply(core, *call), out)
         }
         Effect::Ready => {
             write_heading(path, out)?;
@@ -241,7 +252,7 @@ fn write_told(
     printer: &mut Printer,
     out: &mut Vec<u8>,
 ) -> Result<(), AllocError>
-    ensures { OnOk result (out.new.items ≡ out.old.items ++ told_line time path.now starts.now (state_of core.now).replies order.now) }
+    ensures { OnOk result (out.new.items ≡ out.old.items ++ told_line time path.now starts.now (stored_state core.now).replies order.now) }
 {
     write_time(time, out)?;
     out.extend_from_slice(b"  ")?;
@@ -272,7 +283,7 @@ fn write_line_if(
     printer: &mut Printer,
     out: &mut Vec<u8>,
 ) -> Result<(), AllocError>
-    ensures { OnOk result (out.new.items ≡ out.old.items ++ line_if tells time path.now starts.now (state_of core.now).replies order.now) }
+    ensures { OnOk result (out.new.items ≡ out.old.items ++ line_if tells time path.now starts.now (stored_state core.now).replies order.now) }
 {
     if is_told(tells, order) {
         write_told(time, path, starts, core, order, printer, out)
@@ -293,7 +304,7 @@ fn write_all(
     printer: &mut Printer,
     out: &mut Vec<u8>,
 ) -> Result<(), AllocError>
-    ensures { OnOk result (out.new.items ≡ out.old.items ++ told_lines tells time path.now starts.now (state_of core.now).replies orders.now) }
+    ensures { OnOk result (out.new.items ≡ out.old.items ++ told_lines tells time path.now starts.now (stored_state core.now).replies orders.now) }
 {
     for order in orders {
         write_line_if(time, path, tells, starts, core, order, printer, out)?;
@@ -312,7 +323,7 @@ pub(crate) fn tell(
     printer: &mut Printer,
     out: &mut Vec<u8>,
 ) -> Result<(), AllocError>
-    ensures { OnOk result (out.new.items ≡ out.old.items ++ told_lines tells time path.now starts.now (state_of core.now).replies core.now.effects) }
+    ensures { OnOk result (out.new.items ≡ out.old.items ++ told_lines tells time path.now starts.now (stored_state core.now).replies core.now.effects) }
 {
     write_all(
         time,

@@ -16,6 +16,7 @@ use crate::script::{Action, Child, NextStart};
 use crate::seat::Seat;
 use crate::sketch::moment_of;
 use crate::world::{Deed, What, World};
+use otp_core::CutFault;
 use otp_file::TreeSpec;
 use otp_reason::{Name, Note, Reason};
 use otp_rules::{Call, Item, Kind};
@@ -27,9 +28,20 @@ use std::marker::Model;
 /// Why a trial can't go on. It is not used again then.
 #[derive(Clone, Copy, Debug, PartialEq, Eq)]
 pub enum Halt {
-    /// The history has no room for another event.
+    /// There were 2^62 events, as many as a supervisor has in its life.
     HistoryFull,
     OutOfMemory,
+}
+
+impl From<CutFault> for Halt {
+    ghost use Rattle.std.specs.Prelude.{◌≡◌};
+    ghost use Rattle.otp_try.specs.declared.trial.Halt.TheVariants.{HistoryFull};
+
+    ghost from_gives = { λ _ halt. halt ≡ HistoryFull };
+
+    fn from(_fault: CutFault) -> Self {
+        Halt::HistoryFull
+    }
 }
 
 impl From<AllocError> for Halt {
@@ -142,6 +154,7 @@ impl Trial {
     {
         let plants = plant(alloc, tree, tells)?;
         if plants.seats.is_empty() {
+            drop(plants);
             return Err(Halt::OutOfMemory);
         }
         let mut trial = Trial {
@@ -153,8 +166,13 @@ impl Trial {
             calls: 0,
             last: 0,
         };
-        trial.play(0, Kind::Opened(0), out)?;
-        Ok(trial)
+        match trial.play(0, Kind::Opened(0), out) {
+            Ok(()) => Ok(trial),
+            Err(halt) => {
+                drop(trial);
+                Err(halt)
+            }
+        }
     }
 
     /// The supervisors, the root first, and each before its children.
@@ -396,7 +414,7 @@ impl Trial {
     ///
     /// # Errors
     ///
-    /// Where memory is refused, or the history of a supervisor has no room.
+    /// Where memory is refused, or a supervisor has had 2^62 events.
     pub fn end_number(
         &mut self,
         place: usize,

@@ -14,7 +14,7 @@ loop-spec-preserved c =
     let next : c.loop-spec.spec-index + 1 ≡ suc c.loop-spec.spec-index = omega arith in
     let each : List Cost = c.loop-spec.invariant.0 in
     let are : AreCosts c.args.supervisor.now.flags c.args.supervisor.now.specs _ (each ++ cost ∷ []) =
-    one_more (IsCost c.args.supervisor.now.flags c.args.supervisor.now.specs) _ _ each cost c.loop-spec.invariant.1.0 c.in_ok-cost.ensures in (
+    one_more (IsCost c.args.supervisor.now.flags c.args.supervisor.now.specs) _ _ each cost c.loop-spec.invariant.1.0 c.in_ok-cost.ensures.ok in (
       each ++ cost ∷ [],
       (
         subst (λ (xs : List ChildSpec). AreCosts c.args.supervisor.now.flags c.args.supervisor.now.specs xs (each ++ cost ∷ []))

@@ -8,6 +8,6 @@ returns-in-Err g c = inl (unopened c.from.result c.told.result (g.W.Output.conte
 
 pub returns : goal.returns
 returns g c =
-    subst (λ (b : Bool). Tries c.play.result c.args.tree b (g.W.Output.contents c.args.output.now) (g.W.Output.contents c.play.new.output)) c.tells_orders.ensures
-    (inr (opens_at c.play.result c.args.tree c.tells_orders.result c.in-Ok.trial c.new-told.result.items c.open.new.out.items
-    (g.W.Output.contents c.args.output.now) (g.W.Output.contents c.play.new.output) c.new-told.ensures.items c.in-Ok.ensures.told c.play.ensures))
+    subst (λ (b : Bool). Tries c.play-end.result c.args.tree b (g.W.Output.contents c.args.output.now) (g.W.Output.contents c.play-end.new.output)) c.tells_orders.ensures
+    (inr (opens_at c.play-end.result c.args.tree c.tells_orders.result c.in-Ok.trial c.new-told.result.items c.open.new.out.items
+    (g.W.Output.contents c.args.output.now) (g.W.Output.contents c.play-end.new.output) c.new-told.ensures.items c.in-Ok.ensures.told c.play-end.ensures))

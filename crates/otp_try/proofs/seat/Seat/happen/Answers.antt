@@ -1,5 +1,7 @@
-use Rattle.std.proofs.Common.{◌≡◌, ℕ, Bool, ◌++◌, List, [], ◌∷◌, ◌∙◌, ap, refl, rules, subst, sym, true}
-use Rattle.otp_core.specs.View.{View, state_of}
+use Rattle.std.proofs.Common.{◌≡◌, ℕ, Bool, ◌++◌, List, [], ◌∷◌, ◌∙◌, ap, refl, rules, subst, true}
+use Rattle.std.specs.List.{All}
+use Rattle.otp_core.specs.View.{View, state_of, stored_state}
+use Rattle.otp_rules.specs.Answers.{IsKeptIn}
 use Rattle.otp_rules.specs.declared.event.Effect.{Effect}
 use Rattle.otp_rules.specs.declared.event.Event.{Event}
 use Rattle.otp_rules.specs.Run.{state_after}
@@ -9,6 +11,7 @@ use Rattle.otp_try.specs.Played.{Happens, Seated}
 use Rattle.otp_try.specs.Starts.{started_by}
 use Rattle.otp_try.specs.Story.{event_text, told_lines}
 use Rattle.otp_try.specs.declared.starts.Started.{Started}
+use Rattle.otp_try.proofs.Kept.{lines_same}
 use Rattle.otp_try.proofs.Tellings.{pushed, started_after}
 use Rattle.otp_try.proofs.seat.Seat.happen.Goals as goal
 
@@ -16,33 +19,35 @@ pub returns : goal.returns
 unfolding event_text
 returns c =
     let old : View = c.self.inside.core in
-    let core : View = c.clear_effects.new.self in
+    let core : View = c.prepare.new.self in
     let after : View = c.step_with.new.self in
     let path : List ℕ = c.self.inside.path.items in
     let tells : Bool = c.self.inside.tells in
     let before : List Started = started_by old.base old.history in
-    let prepared : c.prepare.new.self ≡ record old { prepared = true } = c.in_ok-prepare.ensures.ok in
-    let cleared : core ≡ record c.prepare.new.self { effects = [] } = c.clear_effects.ensures in
+    let ready : core ≡ record old { cut = c.make_room.new.core.cut; effects = []; prepared = true } =
+    c.in_ok-prepare.ensures.ok
+    ∙ ap (λ (v : View). record v { prepared = true }) c.make_room.ensures.core
+    ∙ ap (λ (v : View). record v { cut = c.make_room.new.core.cut; prepared = true }) c.clear_effects.ensures in
     let event : Event = record { reading = c.args.time; number = c.step_with.result; kind = c.args.kind } in
-    let base_before : core.base ≡ old.base = ap (λ (v : View). v.base) cleared ∙ ap (λ (v : View). v.base) prepared in
-    let history_before : core.history ≡ old.history = ap (λ (v : View). v.history) cleared ∙ ap (λ (v : View). v.history) prepared in
-    let same : state_of core ≡ state_of old =
-    ap (λ (b : State). state_after b core.history) base_before ∙ ap (state_after old.base) history_before in
+    let same : state_of core ≡ state_of old = ap state_of ready in
     let moved : state_of after ≡ (step (state_of core) event).state =
     ap (λ (b : State). state_after b after.history) c.step_with.ensures.base ∙ ap (state_after core.base) c.step_with.ensures.history ∙ pushed core.base core.history event in
     let stepped : state_of after ≡ (step (state_of old) event).state = moved ∙ ap (λ (s : State). (step s event).state) same in
-    let orders : after.effects ≡ (step (state_of old) event).orders =
-    c.step_with.ensures.effects ∙ ap (λ (xs : List Effect). xs ++ (step (state_of core) event).orders) (ap (λ (v : View). v.effects) cleared)
+    let fresh : List Effect = (step (state_of old) event).orders in
+    let orders : after.effects ≡ fresh =
+    c.step_with.ensures.effects ∙ ap (λ (xs : List Effect). xs ++ (step (state_of core) event).orders) (ap (λ (v : View). v.effects) ready)
     ∙ ap (λ (s : State). (step s event).orders) same in
-    let base : after.base ≡ old.base = c.step_with.ensures.base ∙ base_before in
+    let base : after.base ≡ old.base = c.step_with.ensures.base ∙ ap (λ (v : View). v.base) ready in
     let longer : after.history ≡ old.history ++ event ∷ [] =
-    c.step_with.ensures.history ∙ ap (λ (h : List Event). h ++ event ∷ []) history_before in
+    c.step_with.ensures.history ∙ ap (λ (v : View). v.history ++ event ∷ []) ready in
     let kept : c.as_slice-starts.result.now ≡ before = c.as_slice-starts.ensures.value ∙ c.self.invariant.starts (search rules) in
-    let lines : told_lines tells c.args.time c.as_slice.result.now c.as_slice-starts.result.now (state_of after).replies after.effects ≡ event_text tells path before (state_of old) event =
-    ap (λ (p : List ℕ). told_lines tells c.args.time p c.as_slice-starts.result.now (state_of after).replies after.effects) c.as_slice.ensures.value
-    ∙ ap (λ (starts : List Started). told_lines tells c.args.time path starts (state_of after).replies after.effects) kept
-    ∙ ap (λ (s : State). told_lines tells c.args.time path before s.replies after.effects) stepped
-    ∙ ap (λ (xs : List Effect). told_lines tells c.args.time path before (step (state_of old) event).state.replies xs) orders in
+    let Kept : State → Type 0 = λ s. All (IsKeptIn (state_of after).replies (stored_state after).replies) (step s event).orders in
+    let lines : told_lines tells c.args.time c.as_slice.result.now c.as_slice-starts.result.now (stored_state after).replies after.effects ≡ event_text tells path before (state_of old) event =
+    ap (λ (p : List ℕ). told_lines tells c.args.time p c.as_slice-starts.result.now (stored_state after).replies after.effects) c.as_slice.ensures.value
+    ∙ ap (λ (starts : List Started). told_lines tells c.args.time path starts (stored_state after).replies after.effects) kept
+    ∙ ap (λ (xs : List Effect). told_lines tells c.args.time path before (stored_state after).replies xs) orders
+    ∙ lines_same tells c.args.time path before (state_of after).replies (stored_state after).replies fresh (subst Kept same c.step_with.ensures.answers)
+    ∙ ap (λ (s : State). told_lines tells c.args.time path before s.replies fresh) stepped in
     let now : Seated = record { path = path; tells = tells; base = after.base; history = after.history } in
     let P : Seated → Type 0 = λ p. Happens c.args.kind p now c.args.out.now.items c.tell.new.out.items in
     subst P c.self.view_is (
@@ -55,21 +60,20 @@ returns c =
 pub invariant_of-self-2 : goal.invariant_of-self-2
 invariant_of-self-2 c =
     let old : View = c.self.inside.core in
-    let core : View = c.clear_effects.new.self in
+    let core : View = c.prepare.new.self in
     let after : View = c.step_with.new.self in
-    let prepared : c.prepare.new.self ≡ record old { prepared = true } = c.in_ok-prepare.ensures.ok in
-    let cleared : core ≡ record c.prepare.new.self { effects = [] } = c.clear_effects.ensures in
+    let ready : core ≡ record old { cut = c.make_room.new.core.cut; effects = []; prepared = true } =
+    c.in_ok-prepare.ensures.ok
+    ∙ ap (λ (v : View). record v { prepared = true }) c.make_room.ensures.core
+    ∙ ap (λ (v : View). record v { cut = c.make_room.new.core.cut; prepared = true }) c.clear_effects.ensures in
     let event : Event = record { reading = c.args.time; number = c.step_with.result; kind = c.args.kind } in
-    let base_before : core.base ≡ old.base = ap (λ (v : View). v.base) cleared ∙ ap (λ (v : View). v.base) prepared in
-    let history_before : core.history ≡ old.history = ap (λ (v : View). v.history) cleared ∙ ap (λ (v : View). v.history) prepared in
-    let same : state_of core ≡ state_of old =
-    ap (λ (b : State). state_after b core.history) base_before ∙ ap (state_after old.base) history_before in
+    let same : state_of core ≡ state_of old = ap state_of ready in
     let orders : c.effects.result.now ≡ (step (state_of old) event).orders =
-    c.effects.ensures ∙ c.step_with.ensures.effects ∙ ap (λ (xs : List Effect). xs ++ (step (state_of core) event).orders) (ap (λ (v : View). v.effects) cleared)
+    c.effects.ensures ∙ c.step_with.ensures.effects ∙ ap (λ (xs : List Effect). xs ++ (step (state_of core) event).orders) (ap (λ (v : View). v.effects) ready)
     ∙ ap (λ (s : State). (step s event).orders) same in
-    let base : after.base ≡ old.base = c.step_with.ensures.base ∙ base_before in
+    let base : after.base ≡ old.base = c.step_with.ensures.base ∙ ap (λ (v : View). v.base) ready in
     let longer : after.history ≡ old.history ++ event ∷ [] =
-    c.step_with.ensures.history ∙ ap (λ (h : List Event). h ++ event ∷ []) history_before in record {
+    c.step_with.ensures.history ∙ ap (λ (v : View). v.history ++ event ∷ []) ready in record {
       base = base ∙ c.self.invariant.base;
       starts = λ _. started_after old.base after.base old.history after.history event c.self.inside.starts.items c.put_starts.new.starts.items c.effects.result.now
           (c.self.invariant.starts (search rules)) base longer orders c.in_ok-put_starts.ensures;
