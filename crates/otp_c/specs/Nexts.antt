@@ -1,0 +1,20 @@
+-- What is handed out when the next order is asked for (own).
+use Rattle.std.specs.Prelude.{◌≡◌, ℕ, Option, Some, None, Result, Ok, Err}
+use Rattle.otp_driver.specs.declared.fault.DriveFault.{DriveFault}
+use Rattle.otp_driver.specs.declared.order.Order.{Order}
+use Rattle.otp_driver.specs.declared.session.Session.{Session}
+use Rattle.otp_driver.specs.Sessions.{NextTold}
+use Rattle.otp_c.specs.declared.status.TheConstants.{OTP_NONE, OTP_OK}
+use Rattle.otp_c.specs.declared.structs.COrder.{COrder}
+use Rattle.otp_c.specs.Orders.{ShowsOrder}
+use Rattle.otp_c.specs.Statuses.{status_of}
+
+-- the status says which answer it is, and the struct is written where it is an order
+abbrev pub SaysNext : Result (Option Order) DriveFault → ℕ → COrder → COrder → Type 0
+SaysNext (Ok (Some order)) status old new = (status ≡ OTP_OK) × ShowsOrder order new
+SaysNext (Ok None) status old new = (status ≡ OTP_NONE) × (new ≡ old)
+SaysNext (Err fault) status old new = (status ≡ status_of fault) × (new ≡ old)
+
+-- the next order of the tree was taken, and said
+abbrev pub HandsOut : ℕ → COrder → COrder → Session → Session → Type 0
+HandsOut status old new before after = (answer : Result (Option Order) DriveFault) × NextTold answer before after × SaysNext answer status old new

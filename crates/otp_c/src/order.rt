@@ -1,0 +1,109 @@
+//! An order as a struct of C.
+
+ghost use Rattle.std.specs.Prelude.{◌≡◌};
+ghost use Rattle.otp_c.specs.Orders.{ShowsDeadline, ShowsEnding, ShowsOrder, ShowsTask};
+ghost use Rattle.otp_c.specs.Words.{cause_number, reason_number};
+
+use crate::structs::COrder;
+use crate::words::{
+    cause_number, name_out, no_name, no_text, reason_number, reason_text, some_name_out,
+};
+use otp_driver::{Order, Task, What};
+use otp_reason::Reason;
+use otp_rules::Ending;
+
+/// An order of this kind with nothing beside its number.
+fn plain(supervisor: u32, kind: u32, number: u64) -> COrder
+    ensures kind { result.kind ≡ kind }
+    ensures supervisor { result.supervisor ≡ supervisor }
+    ensures number { result.number ≡ number }
+    ensures deadline { result.has_deadline ≡ 0 }
+{
+    COrder {
+        number,
+        deadline: 0,
+        kind,
+        supervisor,
+        has_deadline: 0,
+        reason: 0,
+        cause: 0,
+        id: no_name(),
+        start: no_name(),
+        text: no_text(),
+    }
+}
+
+/// An order of this kind for a process.
+fn of_task(supervisor: u32, kind: u32, task: &Task) -> COrder
+    ensures kind { result.kind ≡ kind }
+    ensures supervisor { result.supervisor ≡ supervisor }
+    ensures task { ShowsTask task.now result }
+    ensures deadline { result.has_deadline ≡ 0 }
+{
+    COrder {
+        id: some_name_out(&task.id),
+        start: some_name_out(&task.start),
+        ..plain(supervisor, kind, task.number)
+    }
+}
+
+fn with_deadline(order: COrder, deadline: Option<u64>) -> COrder
+    requires { order.has_deadline ≡ 0 }
+    ensures deadline { ShowsDeadline deadline result }
+    ensures kind { result.kind ≡ order.kind }
+    ensures supervisor { result.supervisor ≡ order.supervisor }
+    ensures number { result.number ≡ order.number }
+    ensures id { result.id ≡ order.id }
+    ensures start { result.start ≡ order.start }
+{
+    match deadline {
+        None => order,
+        Some(deadline) => COrder {
+            has_deadline: 1,
+            deadline,
+            ..order
+        },
+    }
+}
+
+/// The end of the root.
+fn of_end(supervisor: u32, reason: &Reason, ending: &Ending) -> COrder
+    ensures kind { result.kind ≡ 6 }
+    ensures supervisor { result.supervisor ≡ supervisor }
+    ensures reason { result.reason ≡ reason_number reason.now }
+    ensures cause { result.cause ≡ cause_number ending.now }
+    ensures ending { ShowsEnding ending.now result }
+{
+    let order = COrder {
+        reason: reason_number(reason),
+        cause: cause_number(ending),
+        text: reason_text(reason),
+        ..plain(supervisor, 6, 0)
+    };
+    match ending {
+        Ending::Significant(number) => COrder {
+            number: *number,
+            ..order
+        },
+        Ending::InitFailed(id) => COrder {
+            id: name_out(id),
+            ..order
+        },
+        Ending::Intensity | Ending::Asked => order,
+    }
+}
+
+/// The order as plain numbers and bytes.
+pub fn order_out(order: &Order) -> COrder
+    ensures { ShowsOrder order.now result }
+{
+    let supervisor = order.supervisor.min(1_000_000) as u32;
+    match &order.what {
+        What::Start(task) => of_task(supervisor, 1, task),
+        What::Ask(task, deadline) => with_deadline(of_task(supervisor, 2, task), *deadline),
+        What::Kill(task) => of_task(supervisor, 3, task),
+        What::Reply(call) => plain(supervisor, 4, *call),
+        What::Ready => plain(supervisor, 5, 0),
+        What::End(reason, ending) => of_end(supervisor, reason, ending),
+    }
+}

@@ -1,0 +1,3 @@
+pub mod Plantings
+pub mod Steps
+pub mod Tellings

@@ -1,0 +1,10 @@
+use Rattle.std.proofs.Common.{subst}
+use Rattle.otp_driver.specs.Turns.{Turns}
+use Rattle.otp_driver.specs.declared.driver.Turn.{Turn}
+use Rattle.otp_driver.proofs.Steps.{goes_then}
+use Rattle.otp_driver.proofs.driver.Driver.advance.Goals as goal
+
+pub loop-preserved : goal.loop-preserved
+loop-preserved c =
+    goes_then _ c.loop.self c.go_on.new.self c.loop.invariant
+    (subst (λ (t : Turn). Turns t c.loop.self c.go_on.new.self) c.in-Went.is c.in_ok-place.ensures.ok)

@@ -1,0 +1,17 @@
+use Rattle.std.proofs.Common.{Bool, true, inl, subst}
+use Rattle.otp_driver.specs.Driven.{Carried, Does}
+use Rattle.otp_driver.proofs.driver.Driver.go_on_at.Goals as goal
+
+pub returns-then-done-clause-ok : goal.returns-then-done-clause-ok
+returns-then-done-clause-ok c =
+    let done : Does c.in-Some.route c.args.place c.args.self.now c.carry_out.new.self =
+    subst (λ (b : Bool). Carried b c.in-Some.route c.args.place c.args.self.now c.carry_out.new.self) c.if-done.true c.in_ok-done.ensures.ok in
+    inl (record {
+      place = c.args.place;
+      order = c.in-Some.ensures.0;
+      route = c.in-Some.route;
+      next = c.in-Some.ensures.1;
+      mid = c.carry_out.new.self;
+      does = done;
+      takes = c.pass.ensures;
+    })

@@ -1,0 +1,10 @@
+pub mod Links
+pub mod Members
+pub mod MemberInside
+pub mod Routes
+pub mod Orders
+pub mod Driven
+pub mod DriverInside
+pub mod Turns
+pub mod Opened
+pub mod Sessions

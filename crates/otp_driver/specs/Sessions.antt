@@ -1,0 +1,37 @@
+-- Orders that are taken one by one (own).
+use Rattle.std.specs.Prelude.{◌≡◌, Option, Some, None, Result, Ok, Err}
+use Rattle.otp_rules.specs.declared.event.Effect.{Effect}
+use Rattle.otp_driver.specs.declared.fault.DriveFault.{DriveFault}
+use Rattle.otp_driver.specs.declared.order.Order.{Order}
+use Rattle.otp_driver.specs.declared.route.Route.TheVariants.{Outside}
+use Rattle.otp_driver.specs.declared.session.Session.{Session}
+use Rattle.otp_driver.specs.Driven.{Driven, GoesOn, IsAt, IsIdle, IsNext, Takes}
+use Rattle.otp_driver.specs.Members.{Member, state_in}
+use Rattle.otp_driver.specs.Orders.{what_of}
+use Rattle.std.specs.Prelude.{ℕ, slice_get}
+
+-- the order is what the supervisor at this place orders next
+pub record IsToldAt (place : ℕ) (order : Order) (t : Driven) : Type 0 where
+  pub member : Member
+  pub at : IsAt t.members place member
+  pub effect : Effect
+  pub is_next : slice_get member.effects member.taken ≡ Some effect
+  pub supervisor : order.supervisor ≡ place
+  pub what_is : order.what ≡ what_of (state_in member).rows effect
+
+-- the tree goes on by itself until an order for the outside is next; that is told, and taken by that
+pub record Told (order : Order) (old new : Driven) : Type 0 where
+  pub mid : Driven
+  pub goes_on : GoesOn old mid
+  pub place : ℕ
+  pub supervisor : order.supervisor ≡ place
+  pub effect : Effect
+  pub next : IsNext mid place effect Outside
+  pub what_is : order.what ≡ what_of (state_in next.member).rows effect
+  pub takes : Takes place mid new
+
+-- an order, or none, since nothing is left to do; a refusal tells none, and takes none
+abbrev pub NextTold : Result (Option Order) DriveFault → Session → Session → Type 0
+NextTold (Ok (Some order)) old new = Told order old.driver new.driver
+NextTold (Ok None) old new = GoesOn old.driver new.driver × IsIdle new.driver × (new.answer ≡ old.answer)
+NextTold (Err _) old new = GoesOn old.driver new.driver × (new.answer ≡ old.answer)

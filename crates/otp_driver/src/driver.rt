@@ -1,0 +1,465 @@
+//! The tree.
+
+ghost use Rattle.std.specs.Prelude.{Err, true, false, ◌≡◌, ◌<◌, ◌≤◌, ◌+◌, OnOk, OnErr, None, IfErr, IfOk, IfSome, ℕ, IfNone, Some, length, position, slice_get, min, max};
+ghost use Rattle.otp_rules.specs.declared.event.Item.TheVariants as item;
+ghost use Rattle.otp_rules.specs.declared.event.Kind.TheVariants as kind;
+ghost use Rattle.otp_spec.specs.declared.limits.TheConstants.{MAX_READING};
+ghost use Rattle.otp_driver.specs.Driven.{AllTaken, Called, Carried, Does, GoesOn, IsAsked, is_nested, IsNextBy, IsOutside, least_deadline, process_of, Occurs, Relinks, Routed, Stands, Takes, comes_at, with_link};
+ghost use Rattle.otp_rules.specs.Next.{earlier};
+ghost use Rattle.otp_driver.specs.declared.fault.DriveFault.TheVariants as fault;
+ghost use Rattle.otp_driver.specs.declared.route.Route.TheVariants as route;
+ghost use Rattle.otp_driver.specs.Links.{asked, begun, is_link_of, told};
+ghost use Rattle.otp_driver.specs.Members.{has_order};
+ghost use Rattle.otp_driver.specs.Turns.{Turns};
+
+use crate::fault::DriveFault;
+use crate::link::{Link, find_process, find_row};
+use crate::route::{Route, nested_of, route_of, row_at};
+use crate::supervisor::Supervisor;
+use otp_reason::Note;
+use otp_rules::{Call, Ending, Item, Kind};
+use otp_spec::MAX_READING;
+use otp_table::Row;
+use std::alloc::Global;
+use std::marker::Model;
+
+/// A tree of supervisors whose processes live outside. A supervisor below the root is a child of another: its start opens
+/// its core, and what it tells is told to its parent. Every other process is the outside's.
+///
+/// ```text
+/// let mut driver = Driver::open(alloc, &tree)?;            // the root starts
+/// loop {
+///     while let Some(place) = driver.advance()? {          // what follows by itself is done
+///         carry_out(&driver.supervisors()[place]);         // its next order: start, ask, kill, an answer, the root's end
+///         driver.took(place);
+///     }
+///     wait(driver.next_deadline());
+///     driver.tick(now)?;                                   // milliseconds
+///     driver.note(place, Note::Exit(number, reason))?;     // what a process tells, a call, or the stop
+/// }
+/// ```
+///
+/// An `Err` leaves the tree as it was, but that `advance` may have gone on by whole steps; so the same may be told again.
+#[derive(Drop)]
+pub struct Driver {
+    /// The root first, and each before its children.
+    pub(crate) supervisors: Vec<Supervisor>,
+    pub(crate) links: Vec<Link>,
+    pub(crate) reading: u64,
+    /// The last process number.
+    pub(crate) last: u64,
+    /// The last number of a call.
+    pub(crate) calls: u64,
+}
+
+impl Model for Driver {
+    ghost use Rattle.otp_driver.specs.Driven.{Driven};
+
+    ghost Value = { Driven };
+
+    ghost use Rattle.otp_driver.specs.DriverInside.{IsDriver, driven_of};
+
+    ghost view = { driven_of };
+
+    ghost invariant = { IsDriver };
+}
+
+/// What was done of what comes by itself.
+#[derive(Clone, Copy)]
+enum Turn {
+    /// Nothing: the next order of the supervisor at this place is for the outside.
+    Outside(usize),
+    /// A step.
+    Went,
+    /// Nothing, since nothing is left to do.
+    Idle,
+}
+
+/// The place of the first supervisor that has an order.
+fn find_order(supervisors: &[Supervisor]) -> Option<usize>
+    ensures { result ≡ position has_order supervisors.now }
+{
+    supervisors
+        .iter()
+        .position(|supervisor| supervisor.has_order())
+}
+
+impl Driver {
+    /// The supervisors by the numbers of their tables, the root first.
+    pub fn supervisors(&self) -> &[Supervisor]
+        ensures { result.now ≡ self.now.members }
+    {
+        self.supervisors.as_slice()
+    }
+
+    /// Whose child each of them is, and how it stands.
+    pub fn links(&self) -> &[Link]
+        ensures { result.now ≡ self.now.links }
+    {
+        self.links.as_slice()
+    }
+
+    /// The supervisor of the tree that this child of the supervisor at this place is, if it is one.
+    pub fn nested(&self, place: usize, row: &Row) -> Option<usize>
+        ensures { result ≡ position (is_link_of place row.now) self.now.links }
+    {
+        find_row(self.links.as_slice(), place, row)
+    }
+
+    /// The last reading of the clock.
+    pub fn reading(&self) -> u64
+        ensures { result ≡ self.now.reading }
+    {
+        self.reading
+    }
+
+    /// Something happens now at the supervisor at this place.
+    pub(crate) fn happen(&mut self, place: usize, kind: Kind) -> Result<(), DriveFault>
+        requires { place < length self.old.members }
+        ensures ok { OnOk result (Occurs place kind self.old self.new) }
+        ensures err { OnErr result (self.new ≡ self.old) }
+    {
+        self.last = self.supervisors[place].happen(self.reading, kind, self.last)?;
+        Ok(())
+    }
+
+    /// The next order of the supervisor at this place is taken.
+    fn pass(&mut self, place: usize)
+        requires { place < length self.old.members }
+        ensures { Takes place self.old self.new }
+    {
+        self.supervisors[place].pass();
+    }
+
+    fn set_link(&mut self, place: usize, link: Link)
+        requires { place < length self.old.links }
+        ensures { self.new ≡ with_link place link self.old }
+    {
+        self.links[place] = link;
+    }
+
+    /// The link at this place, changed so: a supervisor was started under this number.
+    fn begin(&mut self, place: usize, number: u64)
+        requires { place < length self.old.links }
+        ensures { Relinks place (begun number) self.old self.new }
+    {
+        let link = self.links[place];
+        self.set_link(place, link.begun(number));
+    }
+
+    /// A supervisor is wanted to shut down.
+    fn ask(&mut self, place: usize)
+        requires { place < length self.old.links }
+        ensures { Relinks place asked self.old self.new }
+    {
+        let link = self.links[place];
+        self.set_link(place, link.asked());
+    }
+
+    /// A supervisor has told its parent this, and why it ended, where it did.
+    fn tell(&mut self, place: usize, note: Note, ended: Option<Ending>)
+        requires { place < length self.old.links }
+        ensures { Relinks place (told note ended) self.old self.new }
+    {
+        let link = self.links[place];
+        self.set_link(place, link.told(note, ended));
+    }
+
+    /// A supervisor starts, as this process.
+    fn start_below(&mut self, place: usize, below: usize, number: u64) -> Result<(), DriveFault>
+        ensures ok { OnOk result (Does (route.Start below number) place self.old self.new) }
+        ensures err { OnErr result (self.new ≡ self.old) }
+    {
+        if below >= self.supervisors.len() {
+            return Err(DriveFault::NoSupervisor);
+        }
+        self.happen(below, Kind::Opened(number))?;
+        self.begin(below, number);
+        Ok(())
+    }
+
+    fn stop_below(&mut self, place: usize, below: usize) -> Result<(), DriveFault>
+        ensures ok { OnOk result (Does (route.Stop below) place self.old self.new) }
+        ensures err { OnErr result (self.new ≡ self.old) }
+    {
+        if below >= self.supervisors.len() {
+            return Err(DriveFault::NoSupervisor);
+        }
+        self.ask(below);
+        Ok(())
+    }
+
+    /// The parent of the supervisor at this place is told so.
+    fn tell_parent(
+        &mut self,
+        place: usize,
+        parent: usize,
+        note: Note,
+        ended: Option<Ending>,
+    ) -> Result<(), DriveFault>
+        requires { place < length self.old.members }
+        ensures ok { OnOk result (Does (route.Tell parent note ended) place self.old self.new) }
+        ensures err { OnErr result (self.new ≡ self.old) }
+    {
+        if parent >= self.supervisors.len() {
+            return Err(DriveFault::NoSupervisor);
+        }
+        self.happen(parent, Kind::Took(Item::Note(note)))?;
+        self.tell(place, note, ended);
+        Ok(())
+    }
+
+    /// An order that stays in the tree is done; an order for the outside is not.
+    fn carry_out(&mut self, place: usize, route: Route) -> Result<bool, DriveFault>
+        requires { place < length self.old.members }
+        ensures ok { IfOk result (λ done. Carried done route place self.old self.new) }
+        ensures err { OnErr result (self.new ≡ self.old) }
+    {
+        match route {
+            Route::Outside => return Ok(false),
+            Route::Start(below, number) => self.start_below(place, below, number)?,
+            Route::Stop(below) => self.stop_below(place, below)?,
+            Route::Tell(parent, note, ended) => self.tell_parent(place, parent, note, ended)?,
+        }
+        Ok(true)
+    }
+
+    /// Where the next order of the supervisor at this place goes.
+    fn next_route(&self, place: usize) -> Option<Route>
+        requires { place < length self.now.members }
+        ensures { IfSome result (λ route. IsNextBy self.now place route) }
+    {
+        let supervisor = &self.supervisors[place];
+        match supervisor.order() {
+            None => None,
+            Some(order) => Some(route_of(self.links.as_slice(), place, supervisor.rows(), order)),
+        }
+    }
+
+    /// The next order of the supervisor at this place is done, if it stays in the tree.
+    fn go_on_at(&mut self, place: usize) -> Result<Turn, DriveFault>
+        requires { place < length self.old.members }
+        ensures ok { IfOk result (λ turn. Turns turn self.old self.new) }
+        ensures err { OnErr result (self.new ≡ self.old) }
+    {
+        let Some(route) = self.next_route(place) else {
+            return Err(DriveFault::NoSupervisor);
+        };
+        let done = self.carry_out(place, route)?;
+        if done {
+            self.pass(place);
+            Ok(Turn::Went)
+        } else {
+            Ok(Turn::Outside(place))
+        }
+    }
+
+    /// What the supervisor at this place does next by itself.
+    #[tactic(auto, unfolding(crate::specs::Driven::comes_at))]
+    fn comes_at(&self, place: usize) -> Option<Kind>
+        ensures { result ≡ comes_at self.now place }
+    {
+        let supervisor = self.supervisors.get(place)?;
+        let link = self.links.get(place)?;
+        if link.runs(place) {
+            supervisor.next_kind(self.reading, link.is_stopping)
+        } else {
+            None
+        }
+    }
+
+    /// What comes next by itself once all orders were taken: a deadline, a stop that is wanted, what waits.
+    fn next_by_itself(&self) -> Option<(usize, Kind)>
+        ensures some { IfSome result (λ next. (next.0 < length self.now.members) × (comes_at self.now next.0 ≡ Some next.1)) }
+        ensures none { IfNone result ((place : ℕ) → place < length self.now.members → comes_at self.now place ≡ None) }
+    {
+        for place in 0..self.supervisors.len() {
+            if let Some(kind) = self.comes_at(place) {
+                return Some((place, kind));
+            }
+        }
+        None
+    }
+
+    /// What comes next by itself is done.
+    fn go_on_idle(&mut self) -> Result<Turn, DriveFault>
+        requires { AllTaken self.old }
+        ensures ok { IfOk result (λ turn. Turns turn self.old self.new) }
+        ensures err { OnErr result (self.new ≡ self.old) }
+    {
+        match self.next_by_itself() {
+            None => Ok(Turn::Idle),
+            Some((place, kind)) => {
+                self.happen(place, kind)?;
+                Ok(Turn::Went)
+            }
+        }
+    }
+
+    /// One step, if one comes by itself.
+    fn go_on(&mut self) -> Result<Turn, DriveFault>
+        ensures ok { IfOk result (λ turn. Turns turn self.old self.new) }
+        ensures err { OnErr result (self.new ≡ self.old) }
+    {
+        match find_order(self.supervisors.as_slice()) {
+            Some(place) => self.go_on_at(place),
+            None => self.go_on_idle(),
+        }
+    }
+
+    /// Goes on by itself until an order for the outside is next, and says which supervisor has it; `None` where nothing is left
+    /// to do. What comes by itself: orders that stay in the tree, and, once all orders were taken, a deadline that has come, a
+    /// stop that is wanted, what waits.
+    ///
+    /// # Errors
+    ///
+    /// [`DriveFault::OutOfMemory`], [`DriveFault::OrdersWait`], [`DriveFault::Spent`]; the steps before were whole, and the next
+    /// call goes on from there.
+    pub fn advance(&mut self) -> Result<Option<usize>, DriveFault>
+        ensures goes_on { GoesOn self.old self.new }
+        ensures stands { IfOk result (λ found. Stands found self.new) }
+    {
+        for _ in 0..u64::MAX {
+            match self.go_on()? {
+                Turn::Outside(place) => return Ok(Some(place)),
+                Turn::Idle => return Ok(None),
+                Turn::Went => {}
+            }
+        }
+        Err(DriveFault::Spent)
+    }
+
+    /// The order that is next at this place was taken by the outside.
+    pub fn took(&mut self, place: usize)
+        requires { place < length self.old.members }
+        ensures { Takes place self.old self.new }
+    {
+        self.pass(place);
+    }
+
+    /// The clock is read, in milliseconds. A reading below an earlier one counts as that one.
+    ///
+    /// # Errors
+    ///
+    /// [`DriveFault::BadReading`] above [`MAX_READING`].
+    pub fn tick(&mut self, reading: u64) -> Result<(), DriveFault>
+        ensures ok { OnOk result (self.new ≡ record self.old { reading = max self.old.reading reading }) }
+        ensures err { IfErr result (λ why. (why ≡ fault.BadReading) × (self.new ≡ self.old)) }
+        ensures within { OnOk result (reading ≤ MAX_READING) }
+    {
+        if reading > MAX_READING {
+            return Err(DriveFault::BadReading);
+        }
+        self.reading = self.reading.max(reading);
+        Ok(())
+    }
+
+    /// Whether the process of this number, a child of the supervisor at this place, is a supervisor of the tree: it runs as
+    /// one, or is to start as one.
+    #[tactic(auto, unfolding(crate::specs::Driven::is_nested))]
+    fn is_nested(&self, place: usize, number: u64) -> bool
+        requires { place < length self.now.members }
+        ensures { result ≡ is_nested self.now place number }
+    {
+        let links = self.links.as_slice();
+        if find_process(links, place, number).is_some() {
+            return true;
+        }
+        let row = row_at(self.supervisors[place].rows(), number);
+        nested_of(links, place, row).is_some()
+    }
+
+    /// A process outside tells its supervisor, at this place, that it is up, was ignored, has failed, or has ended.
+    ///
+    /// # Errors
+    ///
+    /// [`DriveFault::NoSupervisor`], [`DriveFault::IsNested`], [`DriveFault::OutOfMemory`], [`DriveFault::OrdersWait`],
+    /// [`DriveFault::Spent`].
+    pub fn note(&mut self, place: usize, note: Note) -> Result<(), DriveFault>
+        ensures ok { OnOk result (Occurs place (kind.Took (item.Note note)) self.old self.new) }
+        ensures outside { OnOk result (is_nested self.old place (process_of note) ≡ false) }
+        ensures nested { place < length self.old.members → is_nested self.old place (process_of note) ≡ true → result ≡ Err fault.IsNested }
+        ensures missing { length self.old.members ≤ place → result ≡ Err fault.NoSupervisor }
+        ensures err { OnErr result (self.new ≡ self.old) }
+    {
+        if place >= self.supervisors.len() {
+            return Err(DriveFault::NoSupervisor);
+        }
+        if self.is_nested(place, process_of(&note)) {
+            return Err(DriveFault::IsNested);
+        }
+        self.happen(place, Kind::Took(Item::Note(note)))
+    }
+
+    /// Somebody calls the supervisor at this place; the answer is the call's number. Its reply comes as an order of that
+    /// supervisor, under this number.
+    ///
+    /// # Errors
+    ///
+    /// [`DriveFault::NoSupervisor`], [`DriveFault::OutOfMemory`], [`DriveFault::OrdersWait`], [`DriveFault::Spent`].
+    pub fn call(&mut self, place: usize, call: Call) -> Result<u64, DriveFault>
+        ensures ok { IfOk result (λ number. Called number place call self.old self.new) }
+        ensures err { OnErr result (self.new ≡ self.old) }
+    {
+        if place >= self.supervisors.len() {
+            return Err(DriveFault::NoSupervisor);
+        }
+        if self.calls >= MAX_READING {
+            return Err(DriveFault::Spent);
+        }
+        let number = self.calls + 1;
+        self.happen(place, Kind::Took(Item::Call(number, call)))?;
+        self.calls = number;
+        Ok(number)
+    }
+
+    /// The root is wanted to shut down.
+    pub fn stop(&mut self)
+        ensures { IsAsked self.old self.new }
+    {
+        if !self.links.is_empty() {
+            self.ask(0);
+        }
+    }
+
+    /// The reading at which the clock has to be read again at the latest: the least deadline of all supervisors.
+    pub fn next_deadline(&self) -> Option<u64>
+        ensures { result ≡ least_deadline self.now.members }
+    {
+        least_deadline(self.supervisors.as_slice())
+    }
+}
+
+/// The number of the process that tells this.
+fn process_of(note: &Note) -> u64
+    ensures { result ≡ process_of note.now }
+{
+    match note {
+        Note::Up(number)
+        | Note::Ignored(number)
+        | Note::Failed(number, _)
+        | Note::Exit(number, _) => *number,
+    }
+}
+
+/// The least deadline of these supervisors.
+fn least_deadline(supervisors: &[Supervisor]) -> Option<u64>
+    ensures { result ≡ least_deadline supervisors.now }
+{
+    let mut least = None;
+    for supervisor in supervisors {
+        least = earlier(least, supervisor.next_deadline());
+    }
+    least
+}
+
+/// The earlier of two times, where there are any.
+fn earlier(one: Option<u64>, other: Option<u64>) -> Option<u64>
+    ensures { result ≡ earlier one other }
+{
+    match (one, other) {
+        (Some(one), Some(other)) => Some(one.min(other)),
+        (Some(one), None) => Some(one),
+        (None, other) => other,
+    }
+}

@@ -1,0 +1,96 @@
+//! Orders as the outside sees them.
+
+ghost use Rattle.std.specs.Prelude.{◌≡◌};
+ghost use Rattle.otp_driver.specs.Orders.{deadline_in, start_in, task_of, what_of};
+ghost use Rattle.otp_driver.specs.Routes.{row_at};
+
+use crate::route::{ending_in, row_at};
+use otp_reason::{Name, Reason};
+use otp_rules::{Effect, Ending};
+use otp_table::{Row, RowState};
+
+/// A process outside, as an order names it.
+#[derive(Clone, Copy, Debug, PartialEq, Eq)]
+pub struct Task {
+    /// Its number, which no other process of the tree ever has.
+    pub number: u64,
+    /// The child's id; a dynamic one has none.
+    pub id: Option<Name>,
+    /// The child's start word, as its specification has it; `None` where the child is gone meanwhile.
+    pub start: Option<Name>,
+}
+
+/// What is ordered.
+#[derive(Clone, Copy, Debug, PartialEq, Eq)]
+pub enum What {
+    /// Start it, and tell how that went.
+    Start(Task),
+    /// Ask it to shut down, and tell when it has ended. At the reading, if there is one, the order to kill it comes.
+    Ask(Task, Option<u64>),
+    /// Kill it, and tell when it has ended.
+    Kill(Task),
+    /// The call with this number was answered.
+    Reply(u64),
+    /// The root is up: its children have started.
+    Ready,
+    /// The root has ended, with this reason and for this cause.
+    End(Reason, Ending),
+}
+
+/// An order for the outside.
+#[derive(Clone, Copy, Debug, PartialEq, Eq)]
+pub struct Order {
+    /// The supervisor whose order it is: the number of its table.
+    pub supervisor: usize,
+    pub what: What,
+}
+
+fn start_in(row: Option<Row>) -> Option<Name>
+    ensures { result ≡ start_in row }
+{
+    match row {
+        None => None,
+        Some(row) => Some(row.spec.start),
+    }
+}
+
+fn deadline_in(row: Option<Row>) -> Option<u64>
+    ensures { result ≡ deadline_in row }
+{
+    let Some(row) = row else {
+        return None;
+    };
+    match row.state {
+        RowState::Asked(_, deadline) => deadline,
+        _ => None,
+    }
+}
+
+fn task_of(rows: &[Row], id: &Option<Name>, number: u64) -> Task
+    ensures { result ≡ task_of rows.now id.now number }
+{
+    let start = start_in(row_at(rows, number));
+    Task {
+        number,
+        id: *id,
+        start,
+    }
+}
+
+/// What an order says, of a supervisor that has these children.
+#[tactic(auto, unfolding(crate::specs::Orders::what_of))]
+pub(crate) fn what_of(rows: &[Row], order: &Effect) -> What
+    ensures { result ≡ what_of rows.now order.now }
+{
+    match order {
+        Effect::Start(id, number) => What::Start(task_of(rows, id, *number)),
+        Effect::Ask(id, number) => What::Ask(
+            task_of(rows, id, *number),
+            deadline_in(row_at(rows, *number)),
+        ),
+        Effect::Kill(id, number) => What::Kill(task_of(rows, id, *number)),
+        Effect::Reply(call) => What::Reply(*call),
+        Effect::Ready => What::Ready,
+        Effect::End(end) => What::End(end.reason, ending_in(&end.cause)),
+    }
+}

@@ -1,0 +1,135 @@
+//! What an order of a supervisor is in the tree: whom it reaches, and as what.
+
+ghost use Rattle.std.specs.Prelude.{◌≡◌, position, slice_get};
+ghost use Rattle.otp_table.specs.Rows.{has_process, row_has};
+ghost use Rattle.otp_driver.specs.Routes.{end_route, ending_in, nested_of, ready_route, route_of, row_at, start_route, stop_route};
+
+use crate::link::{Link, find_process, find_row, note_of_end};
+use otp_reason::{Note, Reason};
+use otp_rules::{Cause, Effect, Ending};
+use otp_table::Row;
+
+/// What an order of a supervisor is in the tree.
+#[derive(Clone, Copy, Debug, PartialEq, Eq)]
+pub enum Route {
+    /// It is for the outside.
+    Outside,
+    /// The supervisor of this number starts, as this process.
+    Start(usize, u64),
+    /// The supervisor of this number is wanted to shut down.
+    Stop(usize),
+    /// The supervisor of this number, the parent, is told so, by one that is up or has ended for this reason.
+    Tell(usize, Note, Option<Ending>),
+}
+
+/// The place of the child that has this process.
+fn find_child(rows: &[Row], number: u64) -> Option<usize>
+    ensures { result ≡ position (row_has (has_process number)) rows.now }
+{
+    rows.iter().position(|row| row.state.has_process(number))
+}
+
+/// The child that has this process.
+#[tactic(auto, unfolding(crate::specs::Routes::row_at))]
+pub(crate) fn row_at(rows: &[Row], number: u64) -> Option<Row>
+    ensures { result ≡ row_at rows.now number }
+{
+    let place = find_child(rows, number)?;
+    let row = rows.get(place)?;
+    Some(*row)
+}
+
+pub(crate) fn link_at(links: &[Link], place: usize) -> Option<Link>
+    ensures { result ≡ slice_get links.now place }
+{
+    let link = links.get(place)?;
+    Some(*link)
+}
+
+/// The supervisor of the tree that is this child of the supervisor at a place.
+#[tactic(auto, unfolding(crate::specs::Routes::nested_of))]
+pub(crate) fn nested_of(links: &[Link], place: usize, row: Option<Row>) -> Option<usize>
+    ensures { result ≡ nested_of links.now place row }
+{
+    match row {
+        None => None,
+        Some(row) => find_row(links, place, &row),
+    }
+}
+
+fn start_route(below: Option<usize>, number: u64) -> Route
+    ensures { result ≡ start_route below number }
+{
+    match below {
+        None => Route::Outside,
+        Some(below) => Route::Start(below, number),
+    }
+}
+
+fn stop_route(below: Option<usize>) -> Route
+    ensures { result ≡ stop_route below }
+{
+    match below {
+        None => Route::Outside,
+        Some(below) => Route::Stop(below),
+    }
+}
+
+/// What the parent of a supervisor is told that has started its children.
+fn ready_route(link: Option<Link>) -> Route
+    ensures { result ≡ ready_route link }
+{
+    let Some(link) = link else {
+        return Route::Outside;
+    };
+    match link.process {
+        None => Route::Outside,
+        Some(number) => Route::Tell(link.parent, Note::Up(number), None),
+    }
+}
+
+/// Why a supervisor ended, without what shows it.
+pub(crate) fn ending_in(cause: &Cause) -> Ending
+    ensures { result ≡ ending_in cause.now }
+{
+    match cause {
+        Cause::Intensity { .. } => Ending::Intensity,
+        Cause::Significant(number) => Ending::Significant(*number),
+        Cause::Asked => Ending::Asked,
+        Cause::InitFailed(id) => Ending::InitFailed(*id),
+    }
+}
+
+/// What the parent of a supervisor is told that has ended.
+fn end_route(link: Option<Link>, reason: Reason, ending: Ending) -> Route
+    ensures { result ≡ end_route link reason ending }
+{
+    let Some(link) = link else {
+        return Route::Outside;
+    };
+    match link.process {
+        None => Route::Outside,
+        Some(number) => Route::Tell(
+            link.parent,
+            note_of_end(link.is_up, number, reason),
+            Some(ending),
+        ),
+    }
+}
+
+/// What this order is, of the supervisor at this place that has these children.
+#[tactic(auto, unfolding(crate::specs::Routes::route_of))]
+pub(crate) fn route_of(links: &[Link], place: usize, rows: &[Row], order: &Effect) -> Route
+    ensures { result ≡ route_of links.now place rows.now order.now }
+{
+    match order {
+        Effect::Start(_, number) => {
+            start_route(nested_of(links, place, row_at(rows, *number)), *number)
+        }
+        Effect::Ask(_, number) => stop_route(find_process(links, place, *number)),
+        Effect::Kill(_, number) => stop_route(find_process(links, place, *number)),
+        Effect::Reply(_) => Route::Outside,
+        Effect::Ready => ready_route(link_at(links, place)),
+        Effect::End(end) => end_route(link_at(links, place), end.reason, ending_in(&end.cause)),
+    }
+}

@@ -1,0 +1,96 @@
+//! A tree with the last answer: for whoever takes orders one by one and reads them as plain values.
+
+ghost use Rattle.std.specs.Prelude.{◌≡◌, ◌<◌, IfOk, IfSome, OnErr, length};
+ghost use Rattle.otp_driver.specs.Opened.{Opens};
+ghost use Rattle.otp_driver.specs.Sessions.{IsToldAt, NextTold};
+
+use crate::driver::Driver;
+use crate::fault::DriveFault;
+use crate::order::{Order, What, what_of};
+use crate::supervisor::Supervisor;
+use otp_core::ReplyAnswer;
+use otp_file::TreeSpec;
+use otp_rules::Answered;
+use std::alloc::Global;
+
+/// A tree whose orders are taken one by one, and the answer that the last [`What::Reply`] told of.
+#[derive(Drop)]
+pub struct Session {
+    pub driver: Driver,
+    /// The call's number, and the answer.
+    pub answer: Option<Answered>,
+}
+
+/// A copy of what is known of an answer, if it is kept.
+fn copy_answer(supervisor: &Supervisor, call: u64) -> Result<Option<Answered>, DriveFault> {
+    match supervisor.reply(call) {
+        ReplyAnswer::Kept(reply) => {
+            let reply = reply.try_clone()?;
+            Ok(Some(Answered { call, reply }))
+        }
+        _ => Ok(None),
+    }
+}
+
+impl Session {
+    /// The tree that a file says; its root starts.
+    ///
+    /// # Errors
+    ///
+    /// [`DriveFault::OutOfMemory`].
+    pub fn open(alloc: Global, tree: &TreeSpec) -> Result<Self, DriveFault>
+        ensures { IfOk result (λ session. Opens tree.now session.driver) }
+    {
+        let driver = Driver::open(alloc, tree)?;
+        Ok(Session {
+            driver,
+            answer: None,
+        })
+    }
+
+    /// The next order of the supervisor at this place.
+    fn order_at(&self, place: usize) -> Option<Order>
+        requires { place < length self.now.driver.members }
+        ensures { IfSome result (λ order. IsToldAt place order self.now.driver) }
+    {
+        let supervisor = &self.driver.supervisors()[place];
+        match supervisor.order() {
+            None => None,
+            Some(order) => Some(Order {
+                supervisor: place,
+                what: what_of(supervisor.rows(), order),
+            }),
+        }
+    }
+
+    /// The answer that an order tells of is kept from now on; any other order leaves the last one.
+    fn keep_answer(&mut self, order: Order) -> Result<(), DriveFault>
+        requires { order.supervisor < length self.old.driver.members }
+        ensures driven { self.new.driver ≡ self.old.driver }
+        ensures err { OnErr result (self.new ≡ self.old) }
+    {
+        if let What::Reply(call) = order.what {
+            self.answer = copy_answer(&self.driver.supervisors()[order.supervisor], call)?;
+        }
+        Ok(())
+    }
+
+    /// The next order for the outside, which is taken by that; `None` where nothing is left to do.
+    ///
+    /// # Errors
+    ///
+    /// As of [`Driver::advance`], and where there is no memory for a copy of an answer: its order is then still the next.
+    pub fn next(&mut self) -> Result<Option<Order>, DriveFault>
+        ensures { NextTold result self.old self.new }
+    {
+        let Some(place) = self.driver.advance()? else {
+            return Ok(None);
+        };
+        let Some(order) = self.order_at(place) else {
+            return Err(DriveFault::NoSupervisor);
+        };
+        self.keep_answer(order)?;
+        self.driver.took(place);
+        Ok(Some(order))
+    }
+}

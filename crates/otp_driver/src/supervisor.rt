@@ -1,0 +1,185 @@
+//! A supervisor of the tree: its core, and how many of its orders were taken.
+
+ghost use Rattle.std.specs.Prelude.{◌≡◌, ◌≤◌, ◌<◌, [], slice_get, length, nat_lt, option_map, IfOk, OnOk, OnErr};
+ghost use Rattle.otp_rules.specs.Counts.{counts_of};
+ghost use Rattle.otp_rules.specs.Next.{next_deadline, next_kind};
+ghost use Rattle.otp_rules.specs.Run.{empty_state};
+ghost use Rattle.otp_rules.specs.State.{is_over};
+ghost use Rattle.otp_spec.specs.declared.limits.TheConstants.{MAX_READING};
+ghost use Rattle.otp_driver.specs.Members.{Happens, has_order, passed, state_in, unopened};
+
+use crate::fault::DriveFault;
+use crate::limits::KEPT_EVENTS;
+use otp_core::{Core, Counter, ReplyAnswer};
+use otp_rules::{CountsNow, Effect, Kind, Phase, Reply};
+use otp_spec::{MAX_READING, SupFlags, SupSpec};
+use otp_table::Row;
+use std::alloc::Global;
+use std::collections::VecDeque;
+use std::marker::Model;
+
+/// A supervisor with its core. Contracts see all its events, the orders that are not forgotten yet, and how many of them,
+/// the first, were taken.
+#[derive(Drop)]
+pub struct Supervisor {
+    flags: SupFlags,
+    core: Core,
+    taken: usize,
+}
+
+impl Model for Supervisor {
+    ghost use Rattle.otp_driver.specs.Members.{Member};
+
+    ghost Value = { Member };
+
+    ghost use Rattle.otp_driver.specs.MemberInside.{IsMember, member_of};
+
+    ghost view = { member_of };
+
+    ghost invariant = { IsMember };
+}
+
+impl Supervisor {
+    /// A supervisor that was never opened.
+    pub(crate) fn new(alloc: Global, supervisor: SupSpec) -> Self
+        ensures { result ≡ unopened supervisor.flags supervisor.specs }
+    {
+        Supervisor {
+            flags: supervisor.flags(),
+            core: Core::of(alloc, supervisor),
+            taken: 0,
+        }
+    }
+
+    /// Takes the memory of the next event, and makes room for it: where no order waits, only the last events are kept.
+    fn make_ready(&mut self) -> Result<(), DriveFault>
+        ensures same { self.new ≡ self.old }
+    {
+        self.core.prepare()?;
+        if self.core.effects().is_empty() {
+            self.core.make_room(KEPT_EVENTS)?;
+        }
+        Ok(())
+    }
+
+    /// Something happens at this reading of the clock. A child that is started gets the next number after `last`; the answer
+    /// is the last number then.
+    ///
+    /// # Errors
+    ///
+    /// [`DriveFault::OutOfMemory`], [`DriveFault::OrdersWait`], [`DriveFault::Spent`].
+    pub(crate) fn happen(&mut self, reading: u64, kind: Kind, last: u64) -> Result<u64, DriveFault>
+        requires { reading ≤ MAX_READING }
+        ensures ok { IfOk result (λ after. Happens reading last kind self.old self.new after) }
+        ensures err { OnErr result (self.new ≡ self.old) }
+    {
+        if last >= MAX_READING || last < self.core.last_number() {
+            return Err(DriveFault::Spent);
+        }
+        self.make_ready()?;
+        if !self.core.is_prepared() || self.core.is_full() {
+            return Err(DriveFault::OrdersWait);
+        }
+        let mut numbers = Counter { last };
+        let _number = self.core.step_with(reading, kind, &mut numbers);
+        Ok(numbers.last)
+    }
+
+    /// The next order that was not taken.
+    pub fn order(&self) -> Option<&Effect>
+        ensures { option_map (λ o. o.now) result ≡ slice_get self.now.effects self.now.taken }
+    {
+        self.core.effects().get(self.taken)
+    }
+
+    /// That order is taken. After the last one all are forgotten.
+    #[tactic(auto, unfolding(crate::specs::Members::passed))]
+    pub(crate) fn pass(&mut self)
+        ensures { self.new ≡ passed self.old }
+    {
+        let next = self.taken.saturating_add(1);
+        if next < self.core.effects().len() {
+            self.taken = next;
+        } else {
+            self.core.clear_effects();
+            self.taken = 0;
+        }
+    }
+
+    /// Whether an order was not taken.
+    pub fn has_order(&self) -> bool
+        ensures { result ≡ has_order self.now }
+    {
+        self.taken < self.core.effects().len()
+    }
+
+    /// What it was opened with, the children aside.
+    pub fn flags(&self) -> SupFlags
+        ensures { result ≡ self.now.base.flags }
+    {
+        self.flags
+    }
+
+    /// The children in start order.
+    pub fn rows(&self) -> &[Row]
+        ensures { result.now ≡ (state_in self.now).rows }
+    {
+        self.core.rows()
+    }
+
+    /// Whether it runs, and how it ended.
+    pub fn phase(&self) -> Phase
+        ensures { result ≡ (state_in self.now).phase }
+    {
+        self.core.phase()
+    }
+
+    /// Whether it was never opened, or has ended.
+    pub fn has_ended(&self) -> bool
+        ensures { result ≡ is_over (state_in self.now).phase }
+    {
+        self.core.has_ended()
+    }
+
+    /// Whether children are being stopped or started.
+    pub fn has_open_work(&self) -> bool {
+        self.core.has_open_work()
+    }
+
+    /// What count_children would answer now.
+    pub fn counts(&self) -> CountsNow
+        ensures { result ≡ counts_of (state_in self.now) }
+    {
+        self.core.counts()
+    }
+
+    /// How many restarts there were since the last opening.
+    pub fn count_restarts(&self) -> u64 {
+        self.core.count_restarts()
+    }
+
+    /// The times in milliseconds of the last restarts since then: all of them, or one more than the intensity.
+    pub fn kept_restarts(&self) -> &VecDeque<u64> {
+        self.core.kept_restarts()
+    }
+
+    /// What is known of the answer to the call with this number. It is kept until the next event comes after the order that
+    /// tells of it was taken.
+    pub fn reply(&self, call: u64) -> ReplyAnswer<&Reply> {
+        self.core.reply(call)
+    }
+
+    /// What it does next by itself at this reading of the clock.
+    pub(crate) fn next_kind(&self, reading: u64, is_stopping: bool) -> Option<Kind>
+        ensures { result ≡ next_kind (state_in self.now) reading is_stopping }
+    {
+        self.core.next_kind(reading, is_stopping)
+    }
+
+    /// The least deadline in milliseconds of the children that were told to shut down.
+    pub fn next_deadline(&self) -> Option<u64>
+        ensures { result ≡ next_deadline (state_in self.now).rows }
+    {
+        self.core.next_deadline()
+    }
+}

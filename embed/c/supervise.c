@@ -1,0 +1,69 @@
+/* Runs the workers of a tree file as real processes; a start word is the name of the program. usage: supervise TREE */
+#include "otp.h"
+#include <signal.h>
+#include <stdio.h>
+#include <sys/wait.h>
+#include <time.h>
+#include <unistd.h>
+
+static otp_tree tree = OTP_TREE_INIT;
+static struct { uint64_t number; uint32_t supervisor; pid_t pid; } live[256];
+static int count;
+
+static uint64_t now(void) {
+    struct timespec t;
+    clock_gettime(CLOCK_MONOTONIC, &t);
+    return (uint64_t)t.tv_sec * 1000 + (uint64_t)t.tv_nsec / 1000000;
+}
+
+static void carry_out(const otp_order *order) {
+    static const char *const words[] = {"", "start", "ask", "kill", "reply", "ready", "end"};
+    printf("%s %.*s #%d\n", words[order->kind], order->id.len, (const char *)order->id.bytes, (int)order->number);
+    fflush(stdout);
+    if (order->kind == OTP_ORDER_START) {
+        char program[33] = {0};
+        for (int i = 0; i < order->start.len; i++) program[i] = (char)order->start.bytes[i];
+        pid_t pid = count < 256 ? fork() : -1;
+        if (pid == 0) { execlp(program, program, "60", (char *)NULL); _exit(127); }
+        if (pid > 0) live[count].number = order->number, live[count].supervisor = order->supervisor, live[count++].pid = pid;
+        otp_note(&tree, order->supervisor, pid > 0 ? OTP_UP : OTP_FAILED, order->number, OTP_ERROR, (const uint8_t *)"fork", 4);
+    }
+    for (int i = 0; i < count; i++)
+        if (live[i].number == order->number && (order->kind == OTP_ORDER_ASK || order->kind == OTP_ORDER_KILL))
+            kill(live[i].pid, order->kind == OTP_ORDER_ASK ? SIGTERM : SIGKILL);
+}
+
+static void wait_and_tell(const sigset_t *signals) {
+    uint64_t reading = now(), due = reading + 60000;
+    otp_deadline(&tree, &due);
+    uint64_t left = due > reading ? due - reading : 0;
+    struct timespec wait = {(time_t)(left / 1000), (long)(left % 1000) * 1000000};
+    sigtimedwait(signals, NULL, &wait);
+    int status;
+    for (pid_t pid; (pid = waitpid(-1, &status, WNOHANG)) > 0;)
+        for (int i = count - 1; i >= 0; i--)
+            if (live[i].pid == pid) {
+                uint32_t reason = WIFSIGNALED(status) ? OTP_SHUTDOWN : WEXITSTATUS(status) ? OTP_ERROR : OTP_NORMAL;
+                otp_note(&tree, live[i].supervisor, OTP_EXIT, live[i].number, reason, (const uint8_t *)"failed", 6);
+                live[i] = live[--count];
+            }
+}
+
+int main(int argc, char **argv) {
+    static uint8_t text[65536];
+    FILE *file = argc == 2 ? fopen(argv[1], "rb") : NULL;
+    if (!file) return fputs("usage: supervise TREE\n", stderr), 2;
+    size_t length = fread(text, 1, sizeof text, file);
+    fclose(file);
+    otp_fault fault;
+    if (otp_open(&tree, text, length, &fault) != OTP_OK) return fprintf(stderr, "the tree is refused\n"), 1;
+    sigset_t signals;
+    sigemptyset(&signals), sigaddset(&signals, SIGCHLD), sigprocmask(SIG_BLOCK, &signals, NULL);
+    for (otp_order order = {0}; order.kind != OTP_ORDER_END;) {
+        otp_tick(&tree, now());
+        while (order.kind != OTP_ORDER_END && otp_next(&tree, &order) == OTP_OK) carry_out(&order);
+        if (order.kind != OTP_ORDER_END) wait_and_tell(&signals);
+    }
+    otp_close(&tree);
+    return 0;
+}

@@ -1,0 +1,303 @@
+//! The daemon: it sleeps until something happens or is due, tells the tree, and carries out what the tree orders.
+
+use crate::control::Control;
+use crate::live::Live;
+use crate::log::{Class, Log, Record};
+use crate::os::{self, READABLE, Waited};
+use crate::plan::Plans;
+use crate::strays;
+use crate::told::Told;
+use otp_embed::{Cause, End, Fault, Tree};
+use std::collections::{BTreeMap, VecDeque};
+use std::os::fd::{AsRawFd, OwnedFd};
+use std::time::{Duration, Instant};
+
+/// After so many milliseconds the tree is told again what it had no memory for.
+const AGAIN: u64 = 100;
+
+/// How the daemon has ended; the number is its exit status.
+#[derive(Clone, Copy, Debug, PartialEq, Eq)]
+pub enum Ended {
+    /// The root was told to shut down, and did.
+    Asked = 0,
+    /// More restarts than the root's intensity allows.
+    Intensity = 3,
+    /// A child of the root didn't start when the tree was opened.
+    InitFailed = 4,
+    /// A significant child of the root has ended.
+    Significant = 5,
+    /// All processes were killed, since a second signal asked for it.
+    Killed = 6,
+    /// The library refuses what it should take: the daemon's own fault.
+    Broken = 7,
+}
+
+/// What is done once a call is answered.
+#[derive(Clone, Debug, PartialEq, Eq)]
+pub(crate) struct Waiter {
+    /// The client that waits.
+    pub token: u64,
+    /// The call's number.
+    pub call: u64,
+    /// The call that follows, if this one is done.
+    pub then: Option<Told>,
+    /// The path that was named.
+    pub path: String,
+}
+
+/// Something that is to be told to the tree, with its line of the log.
+#[derive(Debug)]
+pub(crate) struct Untold {
+    pub told: Told,
+    pub record: Record,
+    /// The client that waits for a call's answer, and what follows then.
+    pub waiter: Option<Waiter>,
+}
+
+/// What was last seen of a nested supervisor: how often it was started, and whether it has ended since.
+#[derive(Clone, Copy, Debug, Default, PartialEq, Eq)]
+pub(crate) struct Seen {
+    pub starts: u64,
+    pub has_ended: bool,
+}
+
+/// The daemon.
+pub struct Daemon {
+    pub(crate) tree: Tree,
+    pub(crate) plans: Plans,
+    pub(crate) log: Log,
+    pub(crate) control: Option<Control>,
+    pub(crate) signals: OwnedFd,
+    begun: Instant,
+    /// The reading of the clock that the tree was told last: milliseconds since the daemon began.
+    pub(crate) reading: u64,
+    /// By the tree's numbers.
+    pub(crate) live: BTreeMap<u64, Live>,
+    pub(crate) untold: VecDeque<Untold>,
+    /// Nothing is told before this reading, since memory was refused.
+    again: Option<u64>,
+    pub(crate) waiters: Vec<Waiter>,
+    /// Clients that wait for the end of the root.
+    pub(crate) until_end: Vec<u64>,
+    /// Children may have ended that were not reaped.
+    pub(crate) has_more_ends: bool,
+    /// The reading at which a signal first asked for an end.
+    pub(crate) asked: Option<u64>,
+    pub(crate) is_killing: bool,
+    pub(crate) paths: Vec<String>,
+    pub(crate) seen: Vec<Seen>,
+    pub(crate) end: Option<End>,
+    is_broken: bool,
+}
+
+impl Daemon {
+    /// A daemon whose tree was opened. The signals come by this descriptor.
+    pub fn new(
+        mut tree: Tree,
+        plans: Plans,
+        log: Log,
+        control: Option<Control>,
+        signals: OwnedFd,
+    ) -> Result<Self, Fault> {
+        let count = tree.supervisors();
+        let paths = (0..count).map(|number| tree.path_of(number)).collect::<Result<Vec<_>, _>>()?;
+        Ok(Daemon {
+            tree,
+            plans,
+            log,
+            control,
+            signals,
+            begun: Instant::now(),
+            reading: 0,
+            live: BTreeMap::new(),
+            untold: VecDeque::new(),
+            again: None,
+            waiters: Vec::new(),
+            until_end: Vec::new(),
+            has_more_ends: false,
+            asked: None,
+            is_killing: false,
+            seen: vec![Seen::default(); paths.len()],
+            paths,
+            end: None,
+            is_broken: false,
+        })
+    }
+
+    /// Runs the tree until its root has ended, and says how.
+    pub fn run(mut self) -> Ended {
+        self.go_on();
+        while self.end.is_none() && !self.is_broken {
+            self.tell_followers();
+            let mut waited = vec![Waited::new(self.signals.as_raw_fd(), READABLE)];
+            let clients = self.control.as_ref().map_or_else(Vec::new, |control| control.waited(self.now()));
+            let after_clients = 1 + clients.len();
+            waited.extend(clients);
+            let mut tells: Vec<u64> = Vec::new();
+            for (number, live) in &self.live {
+                for fd in live.descriptors() {
+                    waited.push(Waited::new(fd, READABLE));
+                    tells.push(*number);
+                }
+            }
+            if let Err(error) = os::wait(&mut waited, self.time_left()) {
+                self.remark(Record::new(Class::Remark, "broken").text("text", error.to_string()));
+                self.is_broken = true;
+            }
+            self.read_clock();
+            self.go_on();
+            self.take_signals();
+            self.take_requests(&waited[1..after_clients]);
+            for (number, _) in tells.iter().zip(&waited[after_clients..]).filter(|(_, seen)| seen.is_seen()) {
+                self.read_output(*number);
+            }
+            self.take_ends();
+            self.take_dues();
+        }
+        self.finish()
+    }
+
+    pub(crate) fn now(&self) -> u64 {
+        u64::try_from(self.begun.elapsed().as_millis()).unwrap_or(u64::MAX)
+    }
+
+    /// The tree is told the time.
+    fn read_clock(&mut self) {
+        let now = self.now();
+        match self.tree.tick(now) {
+            Ok(()) => self.reading = self.reading.max(now),
+            Err(fault) => self.fail(fault),
+        }
+    }
+
+    /// How long may be slept: until the first deadline of the tree, of a start or of a client.
+    fn time_left(&mut self) -> Option<Duration> {
+        if self.has_more_ends {
+            return Some(Duration::ZERO);
+        }
+        let now = self.now();
+        let starts = self.live.values().filter_map(Live::due).min();
+        let clients = self.control.as_ref().and_then(|control| control.next_due(now));
+        // A tree that had no memory would be asked in vain before that.
+        let tree = if self.again.is_some() { self.again } else { self.tree.next_deadline() };
+        let due = [starts, clients, tree].into_iter().flatten().min()?;
+        Some(Duration::from_millis(due).saturating_sub(self.begun.elapsed()))
+    }
+
+    pub(crate) fn remark(&mut self, record: Record) {
+        self.log.tell(self.reading, &record);
+    }
+
+    /// The library refuses what its header says it takes. All processes are killed, and the daemon ends.
+    fn fail(&mut self, fault: Fault) {
+        self.remark(Record::new(Class::Remark, "broken").text("text", fault.to_string()));
+        self.is_broken = true;
+    }
+
+    /// Puts something into the row of what the tree is told.
+    pub(crate) fn push(&mut self, told: Told, record: Record) {
+        self.untold.push_back(Untold { told, record, waiter: None });
+    }
+
+    /// Tells the tree what is untold, and carries out all orders, until nothing is left.
+    pub(crate) fn go_on(&mut self) {
+        if self.again.is_some_and(|again| self.now() < again) {
+            return;
+        }
+        self.again = None;
+        loop {
+            // What is due by now comes before what is told now: so a log can be played again from its lines alone.
+            self.read_clock();
+            if !self.take_orders() || self.end.is_some() {
+                return;
+            }
+            let Some(untold) = self.untold.pop_front() else { break };
+            match untold.told.tell(&mut self.tree) {
+                Ok(call) => {
+                    self.log.tell(self.reading, &untold.record);
+                    if let (Some(call), Some(waiter)) = (call, untold.waiter) {
+                        self.waiters.push(Waiter { call, ..waiter });
+                    }
+                }
+                Err(fault) if Daemon::comes_again(fault) || untold.waiter.is_none() => {
+                    self.untold.push_front(untold);
+                    self.wait_for_memory(fault);
+                    return;
+                }
+                // What a client asks for ends nothing but its own request.
+                Err(fault) => {
+                    let token = untold.waiter.map_or(0, |waiter| waiter.token);
+                    self.answer(token, Err(&fault.to_string()));
+                }
+            }
+        }
+        self.look_at_supervisors();
+    }
+
+    /// Whether all orders were taken.
+    fn take_orders(&mut self) -> bool {
+        loop {
+            match self.tree.next_order() {
+                Ok(Some(order)) => self.carry_out(order),
+                Ok(None) => return true,
+                Err(fault) => {
+                    self.wait_for_memory(fault);
+                    return false;
+                }
+            }
+        }
+    }
+
+    /// Whether the same may be told again later.
+    fn comes_again(fault: Fault) -> bool {
+        matches!(fault, Fault::Memory | Fault::Full)
+    }
+
+    fn wait_for_memory(&mut self, fault: Fault) {
+        if Daemon::comes_again(fault) {
+            self.remark(Record::new(Class::Remark, "again").number("after_ms", AGAIN).text("text", fault.to_string()));
+            self.again = Some(self.now() + AGAIN);
+        } else {
+            self.fail(fault);
+        }
+    }
+
+    pub(crate) fn tell_followers(&mut self) {
+        let lines = self.log.take_fresh();
+        if let Some(control) = &mut self.control {
+            control.tell(&lines);
+        }
+    }
+
+    /// Nothing is left running: neither a process of the tree nor what one has left behind.
+    fn finish(mut self) -> Ended {
+        for live in self.live.values() {
+            let _ = os::signal_group(live.pid, os::SIGKILL);
+        }
+        let strays = strays::kill_all();
+        if strays > 0 {
+            self.remark(Record::new(Class::Remark, "strays").number("killed", strays));
+        }
+        let ended = match self.end {
+            None => Ended::Broken,
+            _ if self.is_killing => Ended::Killed,
+            Some(end) => match end.cause {
+                Cause::Asked => Ended::Asked,
+                Cause::Intensity => Ended::Intensity,
+                Cause::InitFailed(_) => Ended::InitFailed,
+                Cause::Significant(_) => Ended::Significant,
+            },
+        };
+        self.tell_followers();
+        let now = self.now();
+        let tokens: Vec<u64> =
+            self.until_end.iter().copied().chain(self.waiters.iter().map(|waiter| waiter.token)).collect();
+        if let Some(mut control) = self.control.take() {
+            for token in tokens {
+                control.answer(now, token, Ok("the tree has ended"));
+            }
+            control.close();
+        }
+        ended
+    }
+}

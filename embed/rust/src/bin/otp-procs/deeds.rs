@@ -1,0 +1,236 @@
+//! Carries out what the tree orders, and what clients ask for.
+
+use crate::daemon::{Daemon, Seen, Untold, Waiter};
+use crate::live::Live;
+use crate::log::{Class, Record};
+use crate::os;
+use crate::plan::{Ready, SignalTo};
+use crate::request::{Request, request_of};
+use crate::spawn::{NotStarted, spawn};
+use crate::status;
+use crate::told::{CallKind, Told};
+use otp_embed::{Answer, Name, Note, Order, Phase, Process, Reason, Reply};
+
+impl Daemon {
+    /// Carries out an order, and tells it to the log.
+    pub(crate) fn carry_out(&mut self, order: Order) {
+        match order {
+            Order::Start(process) => self.start(process),
+            Order::Ask { process, deadline } => self.ask(process, deadline),
+            Order::Kill(process) => self.kill(process),
+            Order::Reply(reply) => self.reply(reply),
+            Order::Ready => self.remark(Record::new(Class::Order, "ready")),
+            Order::End(end) => {
+                let record = Record::new(Class::Order, "end").text("reason", end.reason.to_string());
+                self.remark(record.text("cause", end.cause.to_string()));
+                self.end = Some(end);
+            }
+        }
+    }
+
+    /// The path of a child: a dynamic one has its number in the place of an id.
+    fn path_of(&self, process: &Process) -> String {
+        let above = self.paths.get(process.supervisor as usize).map_or("", String::as_str);
+        match process.id {
+            Some(id) => format!("{above}{id}"),
+            None => format!("{above}#{}", process.number),
+        }
+    }
+
+    fn order(&self, what: &'static str, process: &Process) -> Record {
+        let record = Record::new(Class::Order, what).text("path", self.path_of(process));
+        record.number("number", process.number).number("supervisor", u64::from(process.supervisor))
+    }
+
+    fn start(&mut self, process: Process) {
+        let path = self.path_of(&process);
+        let spawned = match self.plans.get(process.start.as_str()).cloned() {
+            _ if self.is_killing => {
+                let text = "all processes are being killed".to_string();
+                Err(NotStarted { reason: Reason::error("killing"), text })
+            }
+            None => {
+                let text = format!("no table [{}] in the file of commands", process.start);
+                Err(NotStarted { reason: Reason::error("no_command"), text })
+            }
+            Some(plan) => spawn(&plan, &path, process.number).map(|spawned| (spawned, plan)),
+        };
+        let record = self.order("start", &process);
+        match spawned {
+            Ok((spawned, plan)) => {
+                let pid = spawned.pid;
+                let is_up = plan.ready == Ready::Start;
+                let live = Live::new(process, path, plan, spawned, self.reading);
+                self.live.insert(process.number, live);
+                self.remark(record.number("pid", pid as u64));
+                if is_up {
+                    self.note_up(process.number);
+                }
+            }
+            Err(refused) => {
+                self.remark(record);
+                let told = Told::Note(process.supervisor, Note::Failed(process.number, refused.reason));
+                let record = told.record(&path).text("text", refused.text);
+                self.push(told, record);
+            }
+        }
+    }
+
+    fn ask(&mut self, process: Process, deadline: Option<u64>) {
+        let mut record = self.order("ask", &process);
+        if let Some(live) = self.live.get_mut(&process.number) {
+            live.is_asked = true;
+            let (name, signal) = live.plan.signal;
+            let sent = match live.plan.signal_to {
+                SignalTo::Group => os::signal_group(live.pid, signal),
+                SignalTo::Process => os::signal_process(live.pid, signal),
+            };
+            record = record.text("signal", name).maybe("text", sent.err().map(|error| error.to_string()));
+        }
+        if let Some(deadline) = deadline {
+            record = record.number("within_ms", deadline.saturating_sub(self.reading));
+        }
+        self.remark(record);
+    }
+
+    fn kill(&mut self, process: Process) {
+        let mut record = self.order("kill", &process);
+        if let Some(live) = self.live.get(&process.number) {
+            let sent = os::signal_group(live.pid, os::SIGKILL);
+            record = record.text("signal", "KILL").maybe("text", sent.err().map(|error| error.to_string()));
+        }
+        self.remark(record);
+    }
+
+    fn reply(&mut self, reply: Reply) {
+        let answer = reply.answer.to_string();
+        let record = Record::new(Class::Order, "reply").number("call", reply.call).text("answer", answer.as_str());
+        self.remark(record.number("supervisor", u64::from(reply.supervisor)));
+        let Some(at) = self.waiters.iter().position(|waiter| waiter.call == reply.call) else {
+            return;
+        };
+        let waiter = self.waiters.remove(at);
+        match (&reply.answer, waiter.then) {
+            (Answer::Refused(refusal), None) => {
+                self.answer(waiter.token, Err(&format!("{}: {refusal}", waiter.path)));
+            }
+            // A child that had no process is started all the same.
+            (_, Some(told)) => {
+                let record = told.record(&waiter.path);
+                let waiter = Waiter { then: None, ..waiter };
+                self.untold.push_back(Untold { told, record, waiter: Some(waiter) });
+            }
+            (Answer::Which(lines), None) => {
+                let text: String = lines.iter().map(|line| format!("{line}\n")).collect();
+                self.answer(waiter.token, Ok(&text));
+            }
+            (Answer::Count(counts), None) => self.answer(waiter.token, Ok(&counts.to_string())),
+            (_, None) => self.answer(waiter.token, Ok(&format!("{}: {answer}", waiter.path))),
+        }
+    }
+
+    /// The whole answer of a client.
+    pub(crate) fn answer(&mut self, token: u64, answer: Result<&str, &str>) {
+        let now = self.reading;
+        if let Some(control) = &mut self.control {
+            control.answer(now, token, answer);
+        }
+    }
+
+    /// A client asks for something.
+    pub(crate) fn request(&mut self, token: u64, line: &str) {
+        let request = match request_of(line) {
+            Ok(request) => request,
+            Err(text) => return self.answer(token, Err(&text)),
+        };
+        self.remark(Record::new(Class::Remark, "asked").text("line", line));
+        match request {
+            Request::Status(is_json) => {
+                let text = if is_json { status::as_json(self) } else { status::as_text(self) };
+                self.answer(token, Ok(&text));
+            }
+            Request::Tail(count, follows) => {
+                let text: String = self.log.last(count).map(|line| format!("{line}\n")).collect();
+                if follows {
+                    // What the text has is not told again.
+                    self.tell_followers();
+                    if let Some(control) = &mut self.control {
+                        control.follow(token, &text);
+                    }
+                } else {
+                    self.answer(token, Ok(&text));
+                }
+            }
+            Request::Shutdown => {
+                self.until_end.push(token);
+                self.stop();
+            }
+            Request::Which(path) => self.call_supervisor(token, &path, CallKind::Which),
+            Request::Count(path) => self.call_supervisor(token, &path, CallKind::Count),
+            Request::Start(path) if path.ends_with('/') => self.call_supervisor(token, &path, CallKind::StartDynamic),
+            Request::Start(path) => self.call_child(token, &path, CallKind::Restart, None),
+            Request::Stop(path) => self.call_child(token, &path, CallKind::Terminate, None),
+            Request::Restart(path) => self.call_child(token, &path, CallKind::Terminate, Some(CallKind::Restart)),
+        }
+    }
+
+    fn call(&mut self, token: u64, path: &str, told: Told, then: Option<Told>) {
+        let record = told.record(path);
+        let waiter = Waiter { token, call: 0, then, path: path.to_string() };
+        self.untold.push_back(Untold { told, record, waiter: Some(waiter) });
+        self.go_on();
+    }
+
+    fn call_supervisor(&mut self, token: u64, path: &str, kind: CallKind) {
+        match self.paths.iter().position(|known| known == path.trim_start_matches('/')) {
+            Some(supervisor) => self.call(token, path, Told::Call(supervisor as u32, kind), None),
+            None => self.answer(token, Err(&format!("{path}: there is no such supervisor"))),
+        }
+    }
+
+    /// Calls a child's supervisor, by the child's path: with its id, or with `#` and the number of a dynamic child.
+    fn call_child(&mut self, token: u64, path: &str, kind: fn(Name) -> CallKind, then: Option<fn(Name) -> CallKind>) {
+        let (above, id) = path.rsplit_once('/').map_or(("", path), |(above, id)| (&path[..above.len() + 1], id));
+        let Some(supervisor) = self.paths.iter().position(|known| known == above) else {
+            return self.answer(token, Err(&format!("{path}: there is no supervisor {above}")));
+        };
+        let supervisor = supervisor as u32;
+        let number = id.strip_prefix('#').and_then(|number| number.parse().ok());
+        match (number, Name::new(id)) {
+            (Some(number), _) if then.is_none() => {
+                self.call(token, path, Told::Call(supervisor, CallKind::TerminateProcess(number)), None);
+            }
+            (None, Ok(id)) => {
+                let then = then.map(|kind| Told::Call(supervisor, kind(id)));
+                self.call(token, path, Told::Call(supervisor, kind(id)), then);
+            }
+            (Some(_), _) => self.answer(token, Err("a dynamic child is not restarted: stop it, and start PATH/")),
+            (None, Err(bad)) => self.answer(token, Err(&format!("{path}: {bad}"))),
+        }
+    }
+
+    /// Tells the log of nested supervisors that were started or have ended, of which no order tells.
+    pub(crate) fn look_at_supervisors(&mut self) {
+        for number in 1..self.paths.len() {
+            let Ok(now) = self.tree.supervisor(number as u32) else {
+                continue;
+            };
+            let seen = Seen { starts: now.starts, has_ended: now.phase == Phase::Ended };
+            let before = std::mem::replace(&mut self.seen[number], seen);
+            if before == seen {
+                continue;
+            }
+            let what = match (seen.starts > before.starts, before.starts) {
+                (true, 0) => "opened",
+                (true, _) => "anew",
+                (false, _) => "closed",
+            };
+            let mut line = Record::new(Class::Remark, what).text("path", self.paths[number].as_str());
+            if let Some(process) = now.process {
+                line = line.number("number", process);
+            }
+            let line = line.number("starts", seen.starts).maybe("cause", now.cause.map(|cause| cause.as_str()));
+            self.remark(line);
+        }
+    }
+}

@@ -1,0 +1,188 @@
+//! What happens: signals, requests, output, ends of processes, and starts whose time is over.
+
+use crate::control::Spoken;
+use crate::daemon::Daemon;
+use crate::live::{Stage, text_of};
+use crate::log::{Class, Record};
+use crate::os::{self, Waited};
+use crate::plan::Ready;
+use crate::told::Told;
+use otp_embed::{Note, Reason};
+use std::process::ExitStatus;
+
+/// So many children are reaped before others have their turn.
+const ENDS: usize = 64;
+/// So many milliseconds after the first signal to stop another one is the same.
+const SAME: u64 = 500;
+
+impl Daemon {
+    /// Signals that were sent to the daemon.
+    pub(crate) fn take_signals(&mut self) {
+        while let Some(sent) = os::next_signal(&self.signals) {
+            let remark = |what| Record::new(Class::Remark, what).number("from_pid", u64::from(sent.pid));
+            match sent.signal {
+                os::SIGTERM | os::SIGINT => {
+                    let name = if sent.signal == os::SIGTERM { "TERM" } else { "INT" };
+                    self.remark(remark("signal").text("name", name));
+                    self.take_stop_signal();
+                }
+                os::SIGHUP => self
+                    .remark(remark("signal").text("name", "HUP").text("text", "does nothing: the files are read once")),
+                _ => {}
+            }
+        }
+        self.go_on();
+    }
+
+    /// The first signal stops. One that comes with it counts as the same: who signals a group and its leader sends two.
+    fn take_stop_signal(&mut self) {
+        let now = self.now();
+        match self.asked {
+            None => {
+                self.asked = Some(now);
+                self.stop();
+            }
+            Some(first) if now < first.saturating_add(SAME) => {}
+            Some(_) => self.kill_all(),
+        }
+    }
+
+    /// The root is wanted to shut down.
+    pub(crate) fn stop(&mut self) {
+        self.push(Told::Stop, Told::Stop.record(""));
+        self.go_on();
+    }
+
+    /// All processes are killed, and no other is started any more.
+    fn kill_all(&mut self) {
+        if !self.is_killing {
+            self.is_killing = true;
+            self.remark(
+                Record::new(Class::Remark, "killing").text("text", "a second signal: all processes are killed"),
+            );
+        }
+        for live in self.live.values() {
+            let _ = os::signal_group(live.pid, os::SIGKILL);
+        }
+    }
+
+    /// What control clients ask for.
+    pub(crate) fn take_requests(&mut self, seen: &[Waited]) {
+        let now = self.now();
+        let spoken = self.control.as_mut().map_or_else(Vec::new, |control| control.turn(now, seen));
+        for one in spoken {
+            match one {
+                Spoken::Asked(token, line) => self.request(token, &line),
+                Spoken::TurnedAway(user) => {
+                    self.remark(Record::new(Class::Remark, "turned_away").number("user", u64::from(user)));
+                }
+            }
+        }
+    }
+
+    /// Reads what a process has written, and tells the tree if that says that it is up.
+    pub(crate) fn read_output(&mut self, number: u64) {
+        let Some(live) = self.live.get_mut(&number) else {
+            return;
+        };
+        let news = live.read();
+        let path = live.path.clone();
+        for line in news.lines {
+            self.remark(
+                Record::new(Class::Remark, "says").text("path", &path).number("number", number).text("line", line),
+            );
+        }
+        if news.is_up {
+            self.is_up(number);
+        }
+    }
+
+    /// The start of a process has succeeded: that is told, and what follows is done.
+    fn is_up(&mut self, number: u64) {
+        self.note_up(number);
+        self.go_on();
+    }
+
+    /// The start of a process has succeeded: that is to be told.
+    pub(crate) fn note_up(&mut self, number: u64) {
+        let reading = self.now();
+        let Some(live) = self.live.get_mut(&number) else {
+            return;
+        };
+        let Stage::Starting(since) = live.stage else {
+            return;
+        };
+        live.stage = Stage::Up(reading);
+        let told = Told::Note(live.process.supervisor, Note::Up(number));
+        let mut record = told.record(&live.path);
+        if live.plan.ready != Ready::Start {
+            record = record.number("after_ms", reading.saturating_sub(since));
+        }
+        self.push(told, record);
+    }
+
+    /// Reaps children that have ended, and tells the tree of those that are its own: so many at the most that children
+    /// that end as fast as they are started keep nobody else waiting.
+    pub(crate) fn take_ends(&mut self) {
+        self.has_more_ends = false;
+        for _ in 0..ENDS {
+            let Some(pid) = os::ended_child() else { return };
+            let number = self.live.iter().find(|(_, live)| live.pid == pid).map(|(number, _)| *number);
+            if let Some(number) = number {
+                // Until it is reaped its number is its own, so this reaches nobody else.
+                let _ = os::signal_group(pid, os::SIGKILL);
+                self.read_output(number);
+            }
+            // One that isn't the tree's was left behind by a child.
+            let Some(status) = os::reap(pid) else { return };
+            if let Some(number) = number {
+                self.take_end(number, pid, status);
+            }
+        }
+        self.has_more_ends = true;
+    }
+
+    fn take_end(&mut self, number: u64, pid: i32, status: ExitStatus) {
+        let Some(live) = self.live.remove(&number) else {
+            return;
+        };
+        let reason = live.reason_of(status);
+        let is_ignored = status.code().is_some() && status.code() == live.plan.ignored_status;
+        let note = match live.stage {
+            Stage::Up(_) => Note::Exit(number, reason),
+            Stage::Starting(_) if is_ignored => Note::Ignored(number),
+            Stage::Starting(_) if live.is_late => Note::Failed(number, Reason::error("not_up_in_time")),
+            Stage::Starting(_) => Note::Failed(number, reason),
+        };
+        let told = Told::Note(live.process.supervisor, note);
+        let record = told.record(&live.path).number("pid", pid as u64).text("ended", text_of(status));
+        self.push(told, record);
+        self.go_on();
+    }
+
+    /// Starts whose time is over: they have succeeded, or failed.
+    pub(crate) fn take_dues(&mut self) {
+        let now = self.now();
+        let due: Vec<u64> = self
+            .live
+            .iter()
+            .filter(|(_, live)| live.due().is_some_and(|due| due <= now))
+            .map(|(number, _)| *number)
+            .collect();
+        for number in due {
+            let Some(live) = self.live.get_mut(&number) else {
+                continue;
+            };
+            if live.is_up_when_due() {
+                self.is_up(number);
+                continue;
+            }
+            // The tree is told once the process is gone, so that the next one doesn't meet it.
+            live.is_late = true;
+            let _ = os::signal_group(live.pid, os::SIGKILL);
+            let record = Record::new(Class::Remark, "late").text("path", &live.path).number("number", number);
+            self.remark(record.text("text", "not up in time: it is killed"));
+        }
+        self.go_on();
+    }
+}

@@ -1,0 +1,149 @@
+//! `otp-procs`: a supervisor of real processes. What is started, asked, killed and restarted is decided by the proved library
+//! behind `otp_embed`; this program starts, asks, kills and watches.
+#![deny(unsafe_code, unsafe_op_in_unsafe_fn, missing_docs)]
+
+mod client;
+mod control;
+mod daemon;
+mod deeds;
+mod happenings;
+mod live;
+mod log;
+mod os;
+mod plan;
+mod replay;
+mod request;
+mod spawn;
+mod status;
+mod strays;
+mod subset;
+mod told;
+mod words;
+
+use crate::control::Control;
+use crate::daemon::{Daemon, Ended};
+use crate::log::Log;
+use crate::plan::Plans;
+use crate::words::{Run, Words};
+use otp_embed::{Fault, Note, Order, Strategy, Tree};
+use std::error::Error;
+use std::fs;
+use std::io::{self, Write};
+use std::path::Path;
+use std::process::ExitCode;
+
+/// A file is refused, or the daemon can't begin.
+const REFUSED: u8 = 1;
+/// The words are refused.
+const MISUSED: u8 = 2;
+
+fn main() -> ExitCode {
+    let words = match words::read(std::env::args_os().skip(1)) {
+        Ok(words) => words,
+        Err(text) => {
+            let _ = writeln!(io::stderr(), "otp-procs: {text}");
+            return ExitCode::from(MISUSED);
+        }
+    };
+    match serve(words) {
+        Ok(status) => ExitCode::from(status),
+        Err(error) => {
+            let _ = writeln!(io::stderr(), "otp-procs: {error}");
+            ExitCode::from(REFUSED)
+        }
+    }
+}
+
+fn serve(words: Words) -> Result<u8, Box<dyn Error>> {
+    match words {
+        Words::Print(text) => {
+            io::stdout().write_all(text.as_bytes())?;
+            Ok(0)
+        }
+        Words::Run(run) => Ok(run_tree(&run)? as u8),
+        Words::Check(tree, commands) => {
+            let (_, plans) = read_files(&tree, &commands)?;
+            let lacking = lacking(&tree, &plans)?;
+            if lacking.is_empty() {
+                return Ok(0);
+            }
+            Err(no_tables(&commands, &lacking).into())
+        }
+        Words::Replay(tree, log) => {
+            let mut tree = open(&tree)?;
+            let text = read(&log)?;
+            let played = replay::replay(&mut tree, &text).map_err(|differs| format!("{}: {differs}", log.display()))?;
+            writeln!(io::stdout(), "{} events and {} orders, as the rules give them", played.events, played.orders)?;
+            Ok(0)
+        }
+        Words::Ctl(folder, line) => {
+            let asked = client::ask(&folder, &line, &mut io::stdout());
+            let is_done = asked.map_err(|error| format!("{}: {error}; does a daemon run there?", folder.display()))?;
+            Ok(if is_done { 0 } else { REFUSED })
+        }
+    }
+}
+
+fn read(file: &Path) -> Result<String, Box<dyn Error>> {
+    let bytes = fs::read(file).map_err(|error| format!("{}: {error}", file.display()))?;
+    String::from_utf8(bytes).map_err(|_| format!("{} is not UTF-8", file.display()).into())
+}
+
+fn open(file: &Path) -> Result<Tree, Box<dyn Error>> {
+    let text = fs::read(file).map_err(|error| format!("{}: {error}", file.display()))?;
+    Tree::open(text).map_err(|error| format!("{}: {error}", file.display()).into())
+}
+
+fn read_files(tree: &Path, commands: &Path) -> Result<(Tree, Plans), Box<dyn Error>> {
+    let tree = open(tree)?;
+    let plans = plan::read(&read(commands)?).map_err(|bad| format!("{}: {bad}", commands.display()))?;
+    Ok((tree, plans))
+}
+
+/// The start words of the tree for which the file of commands has no table. They are those of the processes that a tree of
+/// the same file starts, where each start succeeds: the word of a child with a tree starts none.
+fn lacking(file: &Path, plans: &Plans) -> Result<Vec<String>, Box<dyn Error>> {
+    let mut tree = open(file)?;
+    let mut lacking = Vec::new();
+    take_starts(&mut tree, plans, &mut lacking)?;
+    for number in 0..tree.supervisors() {
+        if tree.supervisor(number)?.strategy == Strategy::SimpleOneForOne {
+            tree.start_dynamic(number)?;
+        }
+    }
+    take_starts(&mut tree, plans, &mut lacking)?;
+    Ok(lacking)
+}
+
+fn take_starts(tree: &mut Tree, plans: &Plans, lacking: &mut Vec<String>) -> Result<(), Fault> {
+    while let Some(order) = tree.next_order()? {
+        let Order::Start(process) = order else { continue };
+        tree.note(process.supervisor, Note::Up(process.number))?;
+        let word = process.start.to_string();
+        if !plans.contains_key(&word) && !lacking.contains(&word) {
+            lacking.push(word);
+        }
+    }
+    Ok(())
+}
+
+fn no_tables(commands: &Path, lacking: &[String]) -> String {
+    format!("{} has no table for {}; write [{}] and its command", commands.display(), lacking.join(", "), lacking[0])
+}
+
+fn run_tree(run: &Run) -> Result<Ended, Box<dyn Error>> {
+    let (tree, plans) = read_files(&run.tree, &run.commands)?;
+    let lacking = lacking(&run.tree, &plans)?;
+    if !lacking.is_empty() {
+        return Err(no_tables(&run.commands, &lacking).into());
+    }
+    os::keep_descriptors()?;
+    let _reserved = os::reserve_descriptors()?;
+    let signals = os::signals_as_descriptor(&[os::SIGTERM, os::SIGINT, os::SIGHUP, os::SIGCHLD])?;
+    os::adopt_orphans()?;
+    let control = run.control.as_deref().map(Control::open).transpose()?;
+    let log =
+        Log::open(run.log.as_deref(), run.is_json).map_err(|error| format!("the log can't be opened: {error}"))?;
+    let daemon = Daemon::new(tree, plans, log, control, signals)?;
+    Ok(daemon.run())
+}

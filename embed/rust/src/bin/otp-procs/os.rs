@@ -1,0 +1,335 @@
+//! The calls of Linux that the standard library lacks, each behind a safe function. All `unsafe` of this program is here.
+#![allow(unsafe_code)]
+
+use std::ffi::{c_int, c_void};
+use std::fs::File;
+use std::io;
+use std::os::fd::{AsRawFd, BorrowedFd, FromRawFd, OwnedFd, RawFd};
+use std::os::unix::net::UnixStream;
+use std::os::unix::process::{CommandExt, ExitStatusExt};
+use std::process::{Command, ExitStatus};
+use std::time::Duration;
+
+#[cfg(not(target_os = "linux"))]
+compile_error!("otp-procs uses signalfd, SO_PEERCRED and the subreaper of Linux");
+
+/// Signals by the numbers of Linux on x86-64 and AArch64.
+pub const SIGHUP: i32 = 1;
+/// As Ctrl-C sends it.
+pub const SIGINT: i32 = 2;
+/// Ends a process that can do nothing against it.
+pub const SIGKILL: i32 = 9;
+/// Asks a process to end.
+pub const SIGTERM: i32 = 15;
+/// A child has ended.
+pub const SIGCHLD: i32 = 17;
+
+/// Something can be read, or a client waits.
+pub const READABLE: i16 = 1;
+/// Something can be written.
+pub const WRITABLE: i16 = 4;
+
+/// `POLLERR`, `POLLHUP` and `POLLNVAL`.
+const HUNG_UP: i16 = 0x38;
+
+const SFD_FLAGS: c_int = 0o2_004_000; // non-blocking, closed on exec
+const SIG_DFL: usize = 0;
+const SIG_BLOCK: c_int = 0;
+const SIG_SETMASK: c_int = 2;
+const F_GETFD: c_int = 1;
+const F_SETFD: c_int = 2;
+const F_GETFL: c_int = 3;
+const F_SETFL: c_int = 4;
+const FD_CLOEXEC: c_int = 1;
+const O_NONBLOCK: c_int = 0o4000;
+const PR_SET_PDEATHSIG: c_int = 1;
+const PR_SET_CHILD_SUBREAPER: c_int = 36;
+const P_ALL: c_int = 0;
+const WNOHANG: c_int = 1;
+const WEXITED: c_int = 4;
+const WNOWAIT: c_int = 0x0100_0000;
+const SOL_SOCKET: c_int = 1;
+const SO_PEERCRED: c_int = 17;
+const ESRCH: i32 = 3;
+const EPERM: i32 = 1;
+
+/// A descriptor that is waited for, in the form of `poll`. A negative one is skipped.
+#[repr(C)]
+#[derive(Clone, Copy, Debug)]
+pub struct Waited {
+    fd: c_int,
+    events: i16,
+    seen: i16,
+}
+
+impl Waited {
+    /// Waits until one of these things can be done.
+    pub fn new(fd: RawFd, events: i16) -> Self {
+        Waited { fd, events, seen: 0 }
+    }
+
+    /// Whether something was seen: what was waited for, an end or an error.
+    pub fn is_seen(&self) -> bool {
+        self.seen != 0
+    }
+
+    /// Whether nobody is at the other end any more.
+    pub fn is_hung_up(&self) -> bool {
+        self.seen & HUNG_UP != 0
+    }
+
+    /// Whether something can be read, or the end is reached.
+    pub fn is_readable(&self) -> bool {
+        self.seen & READABLE != 0
+    }
+
+    /// Whether it can be written to.
+    pub fn is_writable(&self) -> bool {
+        self.seen & WRITABLE != 0
+    }
+}
+
+#[repr(C)]
+struct SignalSet([u64; 16]);
+
+#[repr(C, align(8))]
+struct SignalInfo([u8; 128]);
+
+#[repr(C)]
+struct PeerUser {
+    pid: i32,
+    uid: u32,
+    gid: u32,
+}
+
+unsafe extern "C" {
+    fn poll(fds: *mut Waited, count: u64, milliseconds: c_int) -> c_int;
+    fn kill(pid: c_int, signal: c_int) -> c_int;
+    fn signal(signal: c_int, handler: usize) -> usize;
+    fn sigemptyset(set: *mut SignalSet) -> c_int;
+    fn sigaddset(set: *mut SignalSet, signal: c_int) -> c_int;
+    fn sigprocmask(how: c_int, set: *const SignalSet, old: *mut SignalSet) -> c_int;
+    fn signalfd(fd: c_int, set: *const SignalSet, flags: c_int) -> c_int;
+    fn prctl(option: c_int, ...) -> c_int;
+    fn fcntl(fd: c_int, command: c_int, ...) -> c_int;
+    fn dup2(from: c_int, to: c_int) -> c_int;
+    fn read(fd: c_int, room: *mut c_void, length: usize) -> isize;
+    fn write(fd: c_int, from: *const c_void, length: usize) -> isize;
+    fn waitid(kind: c_int, id: u32, info: *mut SignalInfo, options: c_int) -> c_int;
+    fn waitpid(pid: c_int, status: *mut c_int, options: c_int) -> c_int;
+    fn getsockopt(fd: c_int, level: c_int, name: c_int, value: *mut c_void, length: *mut u32) -> c_int;
+    fn geteuid() -> u32;
+    fn getppid() -> c_int;
+}
+
+fn checked(answer: c_int) -> io::Result<c_int> {
+    if answer < 0 { Err(io::Error::last_os_error()) } else { Ok(answer) }
+}
+
+fn set_of(signals: &[c_int]) -> SignalSet {
+    let mut set = SignalSet([0; 16]);
+    // SAFETY: `set` has the size of glibc's `sigset_t` (128 bytes), and is this function's own.
+    unsafe {
+        sigemptyset(&mut set);
+        for &signal in signals {
+            sigaddset(&mut set, signal);
+        }
+    }
+    set
+}
+
+/// A signal that was sent to this process, and by whom.
+#[derive(Clone, Copy, Debug, PartialEq, Eq)]
+pub struct Sent {
+    /// Its number.
+    pub signal: i32,
+    /// The sender's process; 0 where the system sent it.
+    pub pid: u32,
+}
+
+/// Blocks the signals, and gives a descriptor from which they are read. Before any thread is started.
+pub fn signals_as_descriptor(signals: &[c_int]) -> io::Result<OwnedFd> {
+    let set = set_of(signals);
+    // SAFETY: `set` is initialised; the descriptor that comes back is nobody else's.
+    unsafe {
+        // Where it is ignored, which is inherited, the system itself reaps the children.
+        signal(SIGCHLD, SIG_DFL);
+        checked(sigprocmask(SIG_BLOCK, &set, std::ptr::null_mut()))?;
+        Ok(OwnedFd::from_raw_fd(checked(signalfd(-1, &set, SFD_FLAGS))?))
+    }
+}
+
+/// The next signal that was sent, if there is one.
+pub fn next_signal(descriptor: &OwnedFd) -> Option<Sent> {
+    let mut info = [0u8; 128];
+    // SAFETY: the length is that of `info`.
+    let count = unsafe { read(descriptor.as_raw_fd(), info.as_mut_ptr().cast(), info.len()) };
+    if count != 128 {
+        return None;
+    }
+    let word = |at: usize| u32::from_ne_bytes([info[at], info[at + 1], info[at + 2], info[at + 3]]);
+    Some(Sent { signal: word(0) as i32, pid: word(12) })
+}
+
+/// Sleeps until something is seen or the time is over; without a time until something is seen. A signal handler may end it too.
+pub fn wait(waited: &mut [Waited], time: Option<Duration>) -> io::Result<()> {
+    let milliseconds = match time {
+        None => -1,
+        Some(time) => {
+            let up = u128::from(time.subsec_nanos() % 1_000_000 > 0);
+            (time.as_millis() + up).min(i32::MAX as u128) as c_int
+        }
+    };
+    // SAFETY: the pointer and the count are those of one slice.
+    match checked(unsafe { poll(waited.as_mut_ptr(), waited.len() as u64, milliseconds) }) {
+        Err(error) if error.kind() != io::ErrorKind::Interrupted => Err(error),
+        _ => Ok(()),
+    }
+}
+
+/// Whether a write of at most 4,096 bytes to this pipe, socket, terminal or file would not wait.
+pub fn can_write(fd: BorrowedFd<'_>) -> bool {
+    let mut waited = [Waited::new(fd.as_raw_fd(), WRITABLE)];
+    wait(&mut waited, Some(Duration::ZERO)).is_ok() && waited[0].is_writable()
+}
+
+/// Writes once, and says how many bytes were taken.
+pub fn write_once(fd: BorrowedFd<'_>, bytes: &[u8]) -> io::Result<usize> {
+    // SAFETY: the pointer and the length are those of one slice.
+    let count = unsafe { write(fd.as_raw_fd(), bytes.as_ptr().cast(), bytes.len()) };
+    usize::try_from(count).map_err(|_| io::Error::last_os_error())
+}
+
+/// Reads once into the room, and says how many bytes came; 0 at the end.
+pub fn read_once(fd: BorrowedFd<'_>, room: &mut [u8]) -> io::Result<usize> {
+    // SAFETY: the pointer and the length are those of one slice.
+    let count = unsafe { read(fd.as_raw_fd(), room.as_mut_ptr().cast(), room.len()) };
+    usize::try_from(count).map_err(|_| io::Error::last_os_error())
+}
+
+fn send(pid: c_int, signal: i32) -> io::Result<()> {
+    // SAFETY: no memory is handed over.
+    match checked(unsafe { kill(pid, signal) }) {
+        Ok(_) => Ok(()),
+        // Nobody is left there, which is what a signal is sent for.
+        Err(error) if error.raw_os_error() == Some(ESRCH) => Ok(()),
+        Err(error) => Err(error),
+    }
+}
+
+/// Sends a signal to one process: a child that was not reaped, so that its number is still its own.
+pub fn signal_process(pid: i32, signal: i32) -> io::Result<()> {
+    send(pid.max(1), signal)
+}
+
+/// Sends a signal to all of a process group. The group of number 1 or less is none.
+pub fn signal_group(leader: i32, signal: i32) -> io::Result<()> {
+    if leader <= 1 {
+        return Err(io::Error::from_raw_os_error(EPERM));
+    }
+    send(-leader, signal)
+}
+
+/// Whose parent has ended becomes a child of this process, if it descends from it.
+pub fn adopt_orphans() -> io::Result<()> {
+    // SAFETY: this option takes a number.
+    checked(unsafe { prctl(PR_SET_CHILD_SUBREAPER, 1u64, 0u64, 0u64, 0u64) }).map(|_| ())
+}
+
+/// A child that has ended and was not reaped, if there is one.
+pub fn ended_child() -> Option<i32> {
+    let mut info = SignalInfo([0; 128]);
+    // SAFETY: `info` has the size and the alignment of `siginfo_t`.
+    let answer = unsafe { waitid(P_ALL, 0, &mut info, WEXITED | WNOHANG | WNOWAIT) };
+    let at = |at: usize| i32::from_ne_bytes([info.0[at], info.0[at + 1], info.0[at + 2], info.0[at + 3]]);
+    // `si_pid` stands behind three numbers and four bytes of padding.
+    (answer == 0 && at(16) > 0).then(|| at(16))
+}
+
+/// Takes the status of a child that has ended, and with it its number; nothing where there is none.
+pub fn reap(pid: i32) -> Option<ExitStatus> {
+    let mut status = 0;
+    // SAFETY: the status is this function's own.
+    let answer = unsafe { waitpid(pid, &mut status, WNOHANG) };
+    (answer == pid).then(|| ExitStatus::from_raw(status))
+}
+
+/// The user that this process acts as.
+pub fn own_user() -> u32 {
+    // SAFETY: it has no argument and cannot fail.
+    unsafe { geteuid() }
+}
+
+/// The user at the other end of a socket, as it was when it connected.
+pub fn peer_user(stream: &UnixStream) -> io::Result<u32> {
+    let mut peer = PeerUser { pid: 0, uid: u32::MAX, gid: u32::MAX };
+    let mut length = size_of::<PeerUser>() as u32;
+    // SAFETY: the length is that of `peer`, which has the form of `struct ucred`.
+    checked(unsafe { getsockopt(stream.as_raw_fd(), SOL_SOCKET, SO_PEERCRED, (&raw mut peer).cast(), &mut length) })?;
+    Ok(peer.uid)
+}
+
+/// A read or write of this descriptor never waits.
+pub fn never_wait(fd: BorrowedFd<'_>) -> io::Result<()> {
+    // SAFETY: the descriptor is open, and these commands take a number.
+    unsafe {
+        let flags = checked(fcntl(fd.as_raw_fd(), F_GETFL))?;
+        checked(fcntl(fd.as_raw_fd(), F_SETFL, flags | O_NONBLOCK))?;
+    }
+    Ok(())
+}
+
+/// No program that is started gets a descriptor that this process was started with, but the first three.
+pub fn keep_descriptors() -> io::Result<()> {
+    let open: Vec<c_int> = std::fs::read_dir("/proc/self/fd")?
+        .filter_map(|entry| entry.ok()?.file_name().to_str()?.parse().ok())
+        .collect();
+    for fd in open.into_iter().filter(|&fd| fd > 2) {
+        // SAFETY: these commands take a number; one that was closed meanwhile (that of the folder) is refused.
+        unsafe {
+            let flags = fcntl(fd, F_GETFD);
+            if flags >= 0 {
+                fcntl(fd, F_SETFD, flags | FD_CLOEXEC);
+            }
+        }
+    }
+    Ok(())
+}
+
+/// The greatest number that a descriptor may get in a child.
+pub const RESERVED: RawFd = 9;
+
+/// Takes all free descriptors up to [`RESERVED`], as long as the answer lives. So a descriptor that is put there in a child
+/// never takes the place of the one by which the standard library learns that its program didn't start.
+pub fn reserve_descriptors() -> io::Result<Vec<File>> {
+    let mut taken = Vec::new();
+    loop {
+        let file = File::open("/dev/null")?;
+        if file.as_raw_fd() > RESERVED {
+            return Ok(taken);
+        }
+        taken.push(file);
+    }
+}
+
+/// What is done in the child before its program begins: no signal is blocked, it is killed if this process ends, and
+/// the descriptor on which it tells that it is up gets the number wanted.
+pub fn prepare_child(command: &mut Command, notify: Option<(RawFd, RawFd)>) {
+    let none = set_of(&[]);
+    let parent = std::process::id();
+    // SAFETY: between fork and exec only calls are made that are safe in a signal handler, and no memory is taken.
+    unsafe {
+        command.pre_exec(move || {
+            checked(sigprocmask(SIG_SETMASK, &none, std::ptr::null_mut()))?;
+            checked(prctl(PR_SET_PDEATHSIG, SIGKILL as u64))?;
+            // The parent may have ended before it asked for that.
+            if getppid() as u32 != parent {
+                return Err(io::Error::from_raw_os_error(ESRCH));
+            }
+            match notify {
+                Some((from, to)) => checked(dup2(from, to)).map(|_| ()),
+                None => Ok(()),
+            }
+        });
+    }
+}

@@ -1,0 +1,177 @@
+//! The tree as it stands, for `ctl status`.
+
+use crate::daemon::Daemon;
+use crate::live::{Live, Stage};
+use crate::log::quoted;
+use otp_embed::{Child, Phase, Supervisor};
+use std::fmt::Write;
+
+/// The column in which what stands behind the names begins.
+const COLUMN: usize = 26;
+
+/// A span of milliseconds for people.
+fn span(milliseconds: u64) -> String {
+    let seconds = milliseconds / 1000;
+    let (minutes, hours, days) = (seconds / 60, seconds / 3600, seconds / 86_400);
+    match (days, hours, minutes) {
+        (0, 0, 0) => format!("{seconds}.{} s", milliseconds / 100 % 10),
+        (0, 0, _) => format!("{minutes} min {} s", seconds % 60),
+        (0, _, _) => format!("{hours} h {} min", minutes % 60),
+        _ => format!("{days} d {} h", hours % 24),
+    }
+}
+
+/// How a supervisor stands, in words.
+fn words_of(supervisor: &Supervisor) -> String {
+    let mut words = format!(
+        "{}  {} of {} restarts in {} s",
+        supervisor.strategy, supervisor.in_period, supervisor.intensity, supervisor.period
+    );
+    match supervisor.process {
+        Some(0) => {}
+        Some(number) => drop(write!(words, "  #{number}")),
+        // The root has no number.
+        None if supervisor.phase == Phase::Runs => {}
+        None => words.push_str("  down"),
+    }
+    if supervisor.starts > 1 {
+        let _ = write!(words, "  {} starts", supervisor.starts);
+    }
+    if let Some(cause) = supervisor.cause {
+        let when = if supervisor.phase == Phase::Ended { "ended" } else { "last ended" };
+        let _ = write!(words, "  {when}: {cause}");
+    }
+    if supervisor.is_stopping {
+        words.push_str("  stopping");
+    }
+    words
+}
+
+/// How a child without a tree of its own stands, in words.
+fn words_of_child(child: &Child, live: Option<&Live>, now: u64) -> String {
+    let mut words = format!("{:<10}", child.state);
+    if let Some(number) = child.number {
+        let _ = write!(words, "  #{number}");
+    }
+    if let Some(live) = live {
+        let (Stage::Starting(since) | Stage::Up(since)) = live.stage;
+        let _ = write!(words, "  pid {}  {}", live.pid, span(now.saturating_sub(since)));
+    }
+    if let Some(deadline) = child.deadline {
+        let _ = write!(words, "  killed in {}", span(deadline.saturating_sub(now)));
+    }
+    words.trim_end().to_string()
+}
+
+/// For people: a line for each supervisor and each child, those of a supervisor two columns further to the right.
+pub fn as_text(daemon: &mut Daemon) -> String {
+    let mut text = String::new();
+    if let Ok(root) = daemon.tree.supervisor(0) {
+        let _ = writeln!(text, "{}  up {}", words_of(&root), span(daemon.reading));
+        add_children(daemon, 0, 1, &mut text);
+    }
+    text
+}
+
+fn add_children(daemon: &mut Daemon, supervisor: u32, level: usize, text: &mut String) {
+    for child in daemon.tree.children(supervisor).unwrap_or_default() {
+        let name = name_of(&child);
+        let indent = "  ".repeat(level);
+        let nested = child.nested.and_then(|nested| daemon.tree.supervisor(nested).ok().map(|found| (nested, found)));
+        match nested {
+            Some((nested, found)) => {
+                let _ = writeln!(text, "{:<COLUMN$} {}", format!("{indent}{name}/"), words_of(&found));
+                // The children of one that doesn't run are those that it had.
+                if found.process.is_some() {
+                    add_children(daemon, nested, level + 1, text);
+                }
+            }
+            None => {
+                let live = child.number.and_then(|number| daemon.live.get(&number));
+                let words = words_of_child(&child, live, daemon.reading);
+                let _ = writeln!(text, "{:<COLUMN$} {words}", format!("{indent}{name}"));
+            }
+        }
+    }
+}
+
+fn name_of(child: &Child) -> String {
+    match (child.id, child.number) {
+        (Some(id), _) => id.to_string(),
+        (None, Some(number)) => format!("#{number}"),
+        (None, None) => "-".to_string(),
+    }
+}
+
+/// For machines: an object for each supervisor, with its children in it.
+pub fn as_json(daemon: &mut Daemon) -> String {
+    let mut text = String::new();
+    add_json(daemon, 0, &mut text);
+    text.push('\n');
+    text
+}
+
+fn add_json(daemon: &mut Daemon, number: u32, text: &mut String) {
+    let Ok(supervisor) = daemon.tree.supervisor(number) else {
+        return;
+    };
+    let path = quoted(daemon.paths.get(number as usize).map_or("", String::as_str));
+    let _ = write!(
+        text,
+        "{{\"path\":{path},\"strategy\":\"{}\",\"intensity\":{},\"period\":{},\"phase\":\"{}\",\"restarts\":{},\
+         \"restarts_in_period\":{},\"stopping\":{},\"starts\":{}",
+        supervisor.strategy,
+        supervisor.intensity,
+        supervisor.period,
+        supervisor.phase,
+        supervisor.restarts,
+        supervisor.in_period,
+        supervisor.is_stopping,
+        supervisor.starts,
+    );
+    if let Some(process) = supervisor.process {
+        let _ = write!(text, ",\"number\":{process}");
+    }
+    if let Some(cause) = supervisor.cause {
+        let _ = write!(text, ",\"cause\":\"{cause}\"");
+    }
+    text.push_str(",\"children\":[");
+    for (index, child) in daemon.tree.children(number).unwrap_or_default().iter().enumerate() {
+        if index > 0 {
+            text.push(',');
+        }
+        add_child_json(daemon, child, text);
+    }
+    text.push_str("]}");
+}
+
+fn add_child_json(daemon: &mut Daemon, child: &Child, text: &mut String) {
+    let id = child.id.map_or_else(|| "null".to_string(), |id| quoted(id.as_str()));
+    let _ = write!(text, "{{\"id\":{id},\"start\":{},\"state\":\"{}\"", quoted(child.spec.start.as_str()), child.state);
+    if let Some(number) = child.number {
+        let _ = write!(text, ",\"number\":{number}");
+        if let Some(live) = daemon.live.get(&number) {
+            let (Stage::Starting(since) | Stage::Up(since)) = live.stage;
+            let _ = write!(text, ",\"pid\":{},\"since_ms\":{since}", live.pid);
+        }
+    }
+    if let Some(nested) = child.nested {
+        text.push_str(",\"supervisor\":");
+        add_json(daemon, nested, text);
+    }
+    text.push('}');
+}
+
+#[cfg(test)]
+mod tests {
+    use super::span;
+
+    #[test]
+    fn spans_have_two_units_at_the_most() {
+        for (milliseconds, text) in
+            [(0, "0.0 s"), (1_250, "1.2 s"), (61_000, "1 min 1 s"), (3_660_000, "1 h 1 min"), (90_000_000, "1 d 1 h")]
+        {
+            assert_eq!(span(milliseconds), text);
+        }
+    }
+}

@@ -1,0 +1,110 @@
+//! What the tree is told, and how the log tells it.
+
+use crate::log::{Class, Record};
+use otp_embed::{Fault, Name, Note, Tree};
+
+/// A call on a supervisor.
+#[derive(Clone, Copy, Debug, PartialEq, Eq)]
+pub enum CallKind {
+    /// `restart_child`.
+    Restart(Name),
+    /// `start_child` under `simple_one_for_one`.
+    StartDynamic,
+    /// `terminate_child` by id.
+    Terminate(Name),
+    /// `terminate_child` by process.
+    TerminateProcess(u64),
+    /// `which_children`.
+    Which,
+    /// `count_children`.
+    Count,
+}
+
+impl CallKind {
+    /// Its word in the log.
+    pub fn as_str(self) -> &'static str {
+        match self {
+            CallKind::Restart(_) => "restart_child",
+            CallKind::StartDynamic => "start_child",
+            CallKind::Terminate(_) => "terminate_child",
+            CallKind::TerminateProcess(_) => "terminate_process",
+            CallKind::Which => "which_children",
+            CallKind::Count => "count_children",
+        }
+    }
+
+    /// The call of a line of the log.
+    pub fn from_log(word: &str, id: Option<Name>, number: Option<u64>) -> Option<Self> {
+        Some(match word {
+            "restart_child" => CallKind::Restart(id?),
+            "start_child" => CallKind::StartDynamic,
+            "terminate_child" => CallKind::Terminate(id?),
+            "terminate_process" => CallKind::TerminateProcess(number?),
+            "which_children" => CallKind::Which,
+            "count_children" => CallKind::Count,
+            _ => return None,
+        })
+    }
+
+    /// Makes the call, and gives its number.
+    pub fn make(self, tree: &mut Tree, supervisor: u32) -> Result<u64, Fault> {
+        Ok(match self {
+            CallKind::Restart(id) => tree.restart_child(supervisor, id)?.number(),
+            CallKind::StartDynamic => tree.start_dynamic(supervisor)?.number(),
+            CallKind::Terminate(id) => tree.terminate_child(supervisor, id)?.number(),
+            CallKind::TerminateProcess(number) => tree.terminate_process(supervisor, number)?.number(),
+            CallKind::Which => tree.which_children(supervisor)?.number(),
+            CallKind::Count => tree.count_children(supervisor)?.number(),
+        })
+    }
+}
+
+/// Something that the tree is told.
+#[derive(Clone, Debug, PartialEq, Eq)]
+pub enum Told {
+    /// A process tells its supervisor this.
+    Note(u32, Note),
+    /// The root is to shut down.
+    Stop,
+    /// A supervisor is called.
+    Call(u32, CallKind),
+}
+
+impl Told {
+    /// Tells it; the answer is the number of a call.
+    pub fn tell(&self, tree: &mut Tree) -> Result<Option<u64>, Fault> {
+        match *self {
+            Told::Note(supervisor, note) => tree.note(supervisor, note).map(|()| None),
+            Told::Stop => tree.stop().map(|()| None),
+            Told::Call(supervisor, kind) => kind.make(tree, supervisor).map(Some),
+        }
+    }
+
+    /// The line of the log, without what only the daemon knows.
+    pub fn record(&self, path: &str) -> Record {
+        let event = |what| Record::new(Class::Event, what);
+        match *self {
+            Told::Stop => event("stop"),
+            Told::Note(supervisor, note) => {
+                let (what, reason) = match note {
+                    Note::Up(_) => ("up", None),
+                    Note::Ignored(_) => ("ignore", None),
+                    Note::Failed(_, reason) => ("fail", Some(reason)),
+                    Note::Exit(_, reason) => ("exit", Some(reason)),
+                };
+                let line = event(what).text("path", path).number("number", note.number());
+                line.maybe("reason", reason.map(|reason| reason.to_string()))
+                    .number("supervisor", u64::from(supervisor))
+            }
+            Told::Call(supervisor, kind) => {
+                let line = event("call").text("path", path).text("call", kind.as_str());
+                let line = match kind {
+                    CallKind::Restart(id) | CallKind::Terminate(id) => line.text("id", id.to_string()),
+                    CallKind::TerminateProcess(number) => line.number("number", number),
+                    _ => line,
+                };
+                line.number("supervisor", u64::from(supervisor))
+            }
+        }
+    }
+}

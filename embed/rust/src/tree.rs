@@ -1,0 +1,307 @@
+//! The tree: what happened goes in, orders come out.
+
+use crate::call::{Answer, Call, ChildLine, Counts, RawKind, Reply, kind_of};
+use crate::fault::{Fault, OpenError, TreeFault};
+use crate::look::{Child, Supervisor};
+use crate::name::{Name, Reason};
+use crate::order::{Cause, End, Note, Order, Process};
+use crate::spec::ChildSpec;
+use crate::sys::{
+    self, Handle, Plain, RawAnswer, RawChild, RawFault, RawLine, RawName, RawOrder, RawSpec, RawSupervisor,
+};
+
+/// What a struct counts as that has a number out of its list: library and crate don't belong together.
+const STRANGE: Fault = Fault::Unknown(u32::MAX);
+
+/// A whole tree of supervisors, whose processes are the caller's.
+///
+/// The tree decides; it reads no clock and starts no process. Tell it what happened ([`tick`](Tree::tick),
+/// [`note`](Tree::note), [`stop`](Tree::stop) and the calls), and carry out what it orders ([`orders`](Tree::orders)).
+/// It is `Send`, and used by one caller at a time.
+#[derive(Debug)]
+pub struct Tree {
+    handle: Handle,
+}
+
+impl Tree {
+    /// Opens the tree of a tree file (TOML). The root starts, so that orders come at once.
+    ///
+    /// # Errors
+    /// [`OpenError::Refused`] says what is wrong in the file, and where.
+    pub fn open(text: impl AsRef<[u8]>) -> Result<Self, OpenError> {
+        let mut handle = Handle::empty();
+        let mut fault = RawFault::zeroed();
+        match handle.open(text.as_ref(), &mut fault) {
+            sys::OK => Ok(Tree { handle }),
+            sys::MEMORY => Err(OpenError::Memory),
+            sys::BAD_TREE => Err(OpenError::Refused(TreeFault::from_raw(&fault))),
+            status => Err(OpenError::Unknown(status)),
+        }
+    }
+
+    /// The clock is read: so many milliseconds since any beginning. A reading below an earlier one counts as that one.
+    ///
+    /// # Errors
+    /// [`Fault::BadReading`] for one above 2^62.
+    pub fn tick(&mut self, reading: u64) -> Result<(), Fault> {
+        Fault::check(self.handle.tick(reading))
+    }
+
+    /// A process tells the supervisor that ordered its start how it stands. A number that no child has changes nothing.
+    ///
+    /// # Errors
+    /// [`Fault::Memory`], [`Fault::Full`], [`Fault::Spent`], [`Fault::NoSupervisor`], [`Fault::Nested`].
+    pub fn note(&mut self, supervisor: u32, note: Note) -> Result<(), Fault> {
+        let (kind, reason) = note.as_raw();
+        let (reason, text) = reason.map_or((0, ""), Reason::as_raw);
+        Fault::check(self.handle.note(supervisor, kind, note.number(), reason, text.as_bytes()))
+    }
+
+    /// The root is wanted to shut down, and with it the tree.
+    ///
+    /// # Errors
+    /// None that the header lists.
+    pub fn stop(&mut self) -> Result<(), Fault> {
+        Fault::check(self.handle.stop())
+    }
+
+    /// `start_child/2` with a specification. The answer is the number of the process, or nothing where its start was ignored.
+    ///
+    /// # Errors
+    /// As those of [`note`](Tree::note), but for `Nested`. A specification that the rules refuse is answered so.
+    pub fn start_child(&mut self, supervisor: u32, spec: &ChildSpec) -> Result<Call<Option<u64>>, Fault> {
+        let mut number = 0;
+        Fault::check(self.handle.start_child(supervisor, &spec.to_raw(), &mut number))?;
+        Ok(Call::new(number))
+    }
+
+    /// `start_child/2` under `simple_one_for_one`: one more child.
+    ///
+    /// # Errors
+    /// As those of [`start_child`](Tree::start_child).
+    pub fn start_dynamic(&mut self, supervisor: u32) -> Result<Call<Option<u64>>, Fault> {
+        self.call(supervisor, 1, None, 0)
+    }
+
+    /// `restart_child/2`: a child without a process is started again.
+    ///
+    /// # Errors
+    /// As those of [`start_child`](Tree::start_child).
+    pub fn restart_child(&mut self, supervisor: u32, id: Name) -> Result<Call<Option<u64>>, Fault> {
+        self.call(supervisor, 2, Some(id), 0)
+    }
+
+    /// `delete_child/2`: a child without a process is forgotten.
+    ///
+    /// # Errors
+    /// As those of [`start_child`](Tree::start_child).
+    pub fn delete_child(&mut self, supervisor: u32, id: Name) -> Result<Call<()>, Fault> {
+        self.call(supervisor, 3, Some(id), 0)
+    }
+
+    /// `terminate_child/2` by id: the child is shut down, and stays without a process until it is started by a call.
+    ///
+    /// # Errors
+    /// As those of [`start_child`](Tree::start_child).
+    pub fn terminate_child(&mut self, supervisor: u32, id: Name) -> Result<Call<()>, Fault> {
+        self.call(supervisor, 4, Some(id), 0)
+    }
+
+    /// `terminate_child/2` by process, under `simple_one_for_one`.
+    ///
+    /// # Errors
+    /// As those of [`start_child`](Tree::start_child).
+    pub fn terminate_process(&mut self, supervisor: u32, number: u64) -> Result<Call<()>, Fault> {
+        self.call(supervisor, 5, None, number)
+    }
+
+    /// `which_children/1`.
+    ///
+    /// # Errors
+    /// As those of [`start_child`](Tree::start_child).
+    pub fn which_children(&mut self, supervisor: u32) -> Result<Call<Vec<ChildLine>>, Fault> {
+        self.call(supervisor, 6, None, 0)
+    }
+
+    /// `count_children/1`.
+    ///
+    /// # Errors
+    /// As those of [`start_child`](Tree::start_child).
+    pub fn count_children(&mut self, supervisor: u32) -> Result<Call<Counts>, Fault> {
+        self.call(supervisor, 7, None, 0)
+    }
+
+    /// `get_childspec/2`.
+    ///
+    /// # Errors
+    /// As those of [`start_child`](Tree::start_child).
+    pub fn get_childspec(&mut self, supervisor: u32, id: Name) -> Result<Call<ChildSpec>, Fault> {
+        self.call(supervisor, 8, Some(id), 0)
+    }
+
+    fn call<T>(&mut self, supervisor: u32, kind: u32, id: Option<Name>, number: u64) -> Result<Call<T>, Fault> {
+        let id = id.map_or_else(RawName::zeroed, Name::to_raw);
+        let mut call = 0;
+        Fault::check(self.handle.call(supervisor, kind, &id, number, &mut call))?;
+        Ok(Call::new(call))
+    }
+
+    /// The orders that were not taken yet. Each comes once, and counts as carried out from then on.
+    ///
+    /// What follows by itself from what was told (a deadline that has come, a retry, what waited, the start and the end of
+    /// a nested supervisor) happens here. After an `Err` the same order comes again with the next call.
+    pub fn orders(&mut self) -> Orders<'_> {
+        Orders { tree: self }
+    }
+
+    /// The next order, if there is one.
+    ///
+    /// # Errors
+    /// [`Fault::Memory`], [`Fault::Full`], [`Fault::Spent`].
+    pub fn next_order(&mut self) -> Result<Option<Order>, Fault> {
+        let mut raw = RawOrder::zeroed();
+        match self.handle.next(&mut raw) {
+            sys::NONE => return Ok(None),
+            status => Fault::check(status)?,
+        }
+        let order = match raw.kind {
+            1 => process_of(&raw).map(Order::Start),
+            2 => process_of(&raw)
+                .map(|process| Order::Ask { process, deadline: (raw.has_deadline != 0).then_some(raw.deadline) }),
+            3 => process_of(&raw).map(Order::Kill),
+            4 => {
+                self.answer().map(|answer| Order::Reply(Reply { supervisor: raw.supervisor, call: raw.number, answer }))
+            }
+            5 => Some(Order::Ready),
+            6 => end_of(&raw).map(Order::End),
+            _ => None,
+        };
+        order.map(Some).ok_or(STRANGE)
+    }
+
+    /// The answer of the reply that was told last.
+    fn answer(&mut self) -> Option<Answer> {
+        let mut raw = RawAnswer::zeroed();
+        Fault::check(self.handle.answer(&mut raw)).ok()?;
+        match kind_of(&raw)? {
+            RawKind::Whole(answer) => Some(answer),
+            RawKind::Lines(count) => (0..count).map(|index| self.line(index)).collect::<Option<_>>().map(Answer::Which),
+            RawKind::Spec => {
+                let mut spec = RawSpec::zeroed();
+                Fault::check(self.handle.answer_spec(&mut spec)).ok()?;
+                ChildSpec::from_raw(&spec).map(|spec| Answer::Spec(Box::new(spec)))
+            }
+        }
+    }
+
+    fn line(&mut self, index: u32) -> Option<ChildLine> {
+        let mut line = RawLine::zeroed();
+        Fault::check(self.handle.answer_line(index, &mut line)).ok()?;
+        ChildLine::from_raw(&line)
+    }
+
+    /// The reading at which the clock is to be read again at the latest. It is right once no order is left.
+    pub fn next_deadline(&mut self) -> Option<u64> {
+        let mut reading = 0;
+        (self.handle.deadline(&mut reading) == sys::OK).then_some(reading)
+    }
+
+    /// How many supervisors the tree has: their numbers are those below it, and the root's is 0.
+    pub fn supervisors(&mut self) -> u32 {
+        let mut count = 0;
+        self.handle.supervisors(&mut count);
+        count
+    }
+
+    /// A supervisor as it stands.
+    ///
+    /// # Errors
+    /// [`Fault::NoSupervisor`].
+    pub fn supervisor(&mut self, number: u32) -> Result<Supervisor, Fault> {
+        let mut raw = RawSupervisor::zeroed();
+        Fault::check(self.handle.look(number, &mut raw))?;
+        Supervisor::from_raw(&raw).ok_or(STRANGE)
+    }
+
+    /// A child of a supervisor as it stands, in start order from 0; nothing where there are no more.
+    ///
+    /// # Errors
+    /// [`Fault::NoSupervisor`].
+    pub fn child(&mut self, supervisor: u32, index: u32) -> Result<Option<Child>, Fault> {
+        let mut raw = RawChild::zeroed();
+        match self.handle.look_child(supervisor, index, &mut raw) {
+            sys::NONE => return Ok(None),
+            status => Fault::check(status)?,
+        }
+        Child::from_raw(&raw).map(Some).ok_or(STRANGE)
+    }
+
+    /// The children of a supervisor as they stand, in start order.
+    ///
+    /// # Errors
+    /// [`Fault::NoSupervisor`].
+    pub fn children(&mut self, supervisor: u32) -> Result<Vec<Child>, Fault> {
+        let mut children = Vec::new();
+        while let Some(child) = self.child(supervisor, children.len() as u32)? {
+            children.push(child);
+        }
+        Ok(children)
+    }
+
+    /// The path of a supervisor: the ids from the root's child on, each with a `/` behind it, so that a child's id makes
+    /// it the child's path. That of the root is empty.
+    ///
+    /// # Errors
+    /// [`Fault::NoSupervisor`].
+    pub fn path_of(&mut self, supervisor: u32) -> Result<String, Fault> {
+        let mut path = String::new();
+        let mut at = supervisor;
+        while at != 0 {
+            let one = self.supervisor(at)?;
+            let id = one.id.map_or_else(String::new, |id| id.to_string());
+            path = format!("{id}/{path}");
+            // A parent stands before its children.
+            at = one.parent.min(at - 1);
+        }
+        Ok(path)
+    }
+}
+
+fn process_of(raw: &RawOrder) -> Option<Process> {
+    Some(Process {
+        supervisor: raw.supervisor,
+        id: Name::from_raw(&raw.id),
+        start: Name::from_raw(&raw.start)?,
+        number: raw.number,
+    })
+}
+
+fn end_of(raw: &RawOrder) -> Option<End> {
+    Some(End {
+        reason: Reason::from_raw(raw.reason, &raw.text)?,
+        cause: match raw.cause {
+            1 => Cause::Intensity,
+            2 => Cause::Significant(raw.number),
+            3 => Cause::Asked,
+            4 => Cause::InitFailed(Name::from_raw(&raw.id)),
+            _ => return None,
+        },
+    })
+}
+
+/// The orders of a tree that were not taken yet.
+///
+/// An `Err` says that memory was refused (or the little else that [`Tree::next_order`] lists): the iterator may be asked
+/// again, and nothing is lost.
+#[derive(Debug)]
+pub struct Orders<'a> {
+    tree: &'a mut Tree,
+}
+
+impl Iterator for Orders<'_> {
+    type Item = Result<Order, Fault>;
+
+    fn next(&mut self) -> Option<Self::Item> {
+        self.tree.next_order().transpose()
+    }
+}

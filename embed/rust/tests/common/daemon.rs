@@ -1,0 +1,229 @@
+//! A daemon that a test runs, with its files in a folder of its own.
+#![allow(unsafe_code)]
+
+use std::fs;
+use std::os::unix::fs::DirBuilderExt;
+use std::path::{Path, PathBuf};
+use std::process::{Child, Command, Stdio};
+use std::sync::atomic::{AtomicU32, Ordering};
+use std::thread;
+use std::time::{Duration, Instant};
+
+pub const TERM: i32 = 15;
+pub const KILL: i32 = 9;
+pub const HUP: i32 = 1;
+
+unsafe extern "C" {
+    fn kill(pid: i32, signal: i32) -> i32;
+}
+
+/// Sends a signal; whether somebody was there.
+pub fn send(pid: i32, signal: i32) -> bool {
+    assert!(pid > 1);
+    // SAFETY: no memory is handed over.
+    unsafe { kill(pid, signal) == 0 }
+}
+
+pub const PROGRAM: &str = env!("CARGO_BIN_EXE_otp-procs");
+
+static FOLDERS: AtomicU32 = AtomicU32::new(0);
+
+/// How long something is waited for: a busy machine is no fault.
+pub const PATIENCE: Duration = Duration::from_secs(60);
+
+pub struct Daemon {
+    child: Child,
+    pub folder: PathBuf,
+    /// The value of a variable that all processes of this daemon have.
+    pub mark: String,
+}
+
+/// An empty folder.
+pub fn new_folder() -> PathBuf {
+    let number = FOLDERS.fetch_add(1, Ordering::Relaxed);
+    let folder = std::env::temp_dir().join(format!("otp-procs-test-{}-{number}", std::process::id()));
+    let _ = fs::remove_dir_all(&folder);
+    fs::DirBuilder::new().mode(0o755).create(&folder).unwrap();
+    folder
+}
+
+impl Daemon {
+    /// Runs the tree, with a log in JSON and a control socket. `{folder}` in the commands is the daemon's folder.
+    pub fn start(tree: &str, commands: &str) -> Daemon {
+        let folder = new_folder();
+        let commands = commands.replace("{folder}", folder.to_str().unwrap());
+        fs::write(folder.join("tree.toml"), tree).unwrap();
+        fs::write(folder.join("commands.toml"), commands).unwrap();
+        Daemon::start_in(folder, &["--json", "--log", "log", "--control", "control"])
+    }
+
+    /// Runs the tree and the commands of the folder.
+    pub fn start_in(folder: PathBuf, flags: &[&str]) -> Daemon {
+        let mark = folder.file_name().unwrap().to_str().unwrap().to_string();
+        let mut command = Command::new(PROGRAM);
+        command.args(["run", "tree.toml", "commands.toml"]).args(flags).current_dir(&folder);
+        command.env("OTP_TEST_MARK", &mark).stdin(Stdio::null());
+        command.stdout(fs::File::create(folder.join("stdout")).unwrap());
+        command.stderr(fs::File::create(folder.join("stderr")).unwrap());
+        Daemon { child: command.spawn().unwrap(), folder, mark }
+    }
+
+    pub fn pid(&self) -> i32 {
+        self.child.id() as i32
+    }
+
+    pub fn signal(&self, signal: i32) {
+        assert!(send(self.pid(), signal));
+    }
+
+    pub fn read(&self, name: &str) -> String {
+        fs::read_to_string(self.folder.join(name)).unwrap_or_default()
+    }
+
+    pub fn log(&self) -> Vec<Line> {
+        self.read("log").lines().map(|line| Line(line.to_string())).collect()
+    }
+
+    /// Waits for a line of the log.
+    pub fn wait_for(&self, what: &str, is_it: impl Fn(&Line) -> bool) -> Line {
+        let begun = Instant::now();
+        loop {
+            if let Some(line) = self.log().into_iter().find(|line| is_it(line)) {
+                return line;
+            }
+            if begun.elapsed() > PATIENCE {
+                panic!("no {what}\n{}\n{}", self.read("log"), self.read("stderr"));
+            }
+            thread::sleep(Duration::from_millis(10));
+        }
+    }
+
+    pub fn wait_ready(&self) {
+        self.wait_for("ready", |line| line.get("order") == "ready");
+    }
+
+    /// Waits for the end; the exit status.
+    pub fn wait(&mut self) -> i32 {
+        let begun = Instant::now();
+        loop {
+            if let Some(status) = self.child.try_wait().unwrap() {
+                return status.code().unwrap_or(-1);
+            }
+            if begun.elapsed() > PATIENCE {
+                panic!("it doesn't end\n{}\n{}", self.read("log"), self.read("stderr"));
+            }
+            thread::sleep(Duration::from_millis(10));
+        }
+    }
+
+    /// TERM, and then the end.
+    pub fn stop(&mut self) -> i32 {
+        self.signal(TERM);
+        self.wait()
+    }
+
+    /// Asks for something; whether it was done, and what was printed.
+    pub fn ctl(&self, words: &[&str]) -> (bool, String) {
+        let mut command = Command::new(PROGRAM);
+        command.args(["ctl", "--control"]).arg(self.folder.join("control")).args(words);
+        let output = command.output().unwrap();
+        let text = [output.stdout, output.stderr].concat();
+        (output.status.success(), String::from_utf8(text).unwrap())
+    }
+
+    /// The orders and events of the log, without times.
+    pub fn story(&self) -> Vec<String> {
+        self.log().iter().filter_map(Line::short).collect()
+    }
+
+    /// The processes that have this daemon's mark among their variables, the daemon itself left out.
+    pub fn left(&self) -> Vec<i32> {
+        let mark = format!("OTP_TEST_MARK={}", self.mark);
+        let pids =
+            fs::read_dir("/proc").unwrap().filter_map(|entry| entry.ok()?.file_name().to_str()?.parse::<i32>().ok());
+        pids.filter(|pid| {
+            let variables = fs::read(format!("/proc/{pid}/environ")).unwrap_or_default();
+            *pid != self.pid() && variables.split(|&byte| byte == 0).any(|one| one == mark.as_bytes())
+        })
+        .collect()
+    }
+
+    /// The log, played again on the library, gives the same orders.
+    pub fn replay(&self) -> String {
+        let output =
+            Command::new(PROGRAM).args(["replay", "tree.toml", "log"]).current_dir(&self.folder).output().unwrap();
+        let text = String::from_utf8([output.stdout, output.stderr].concat()).unwrap();
+        assert!(output.status.success(), "{text}");
+        text
+    }
+}
+
+impl Drop for Daemon {
+    fn drop(&mut self) {
+        let _ = self.child.kill();
+        let _ = self.child.wait();
+        if !thread::panicking() {
+            let _ = fs::remove_dir_all(&self.folder);
+        }
+    }
+}
+
+/// A line of the log in JSON.
+#[derive(Clone, Debug)]
+pub struct Line(pub String);
+
+impl Line {
+    /// The text or the number of this key; empty where there is none.
+    pub fn get(&self, key: &str) -> &str {
+        let head = format!("\"{key}\":");
+        let Some(at) = self.0.find(&head) else {
+            return "";
+        };
+        let rest = &self.0[at + head.len()..];
+        match rest.strip_prefix('"') {
+            Some(text) => text.split('"').next().unwrap_or(""),
+            None => rest.split([',', '}']).next().unwrap_or(""),
+        }
+    }
+
+    pub fn number(&self, key: &str) -> u64 {
+        self.get(key).parse().unwrap_or(u64::MAX)
+    }
+
+    /// What it tells, in a few words; nothing of remarks.
+    pub fn short(&self) -> Option<String> {
+        let (order, event) = (self.get("order"), self.get("event"));
+        let path = self.get("path");
+        let reason = self.get("reason");
+        match (order, event) {
+            ("end", _) => Some(format!("end {reason}")),
+            ("ready", _) => Some("ready".to_string()),
+            ("", "stop") => Some("-> stop".to_string()),
+            ("", "call") => Some(format!("-> {} {path}", self.get("call"))),
+            ("reply", _) => Some(format!("reply {}", self.get("answer"))),
+            ("", "") => None,
+            ("", event) => Some(format!("-> {event} {path} #{} {reason}", self.get("number")).trim_end().to_string()),
+            (order, _) => Some(format!("{order} {path} #{}", self.get("number"))),
+        }
+    }
+}
+
+/// Waits until something is so.
+pub fn wait_until(what: &str, is_so: impl Fn() -> bool) {
+    let begun = Instant::now();
+    while !is_so() {
+        assert!(begun.elapsed() < PATIENCE, "not so: {what}");
+        thread::sleep(Duration::from_millis(10));
+    }
+}
+
+/// The processor time of a process so far, in clock ticks.
+pub fn ticks_of(pid: i32) -> u64 {
+    let stat = fs::read_to_string(format!("/proc/{pid}/stat")).unwrap();
+    let fields: Vec<&str> = stat.rsplit_once(')').unwrap().1.split_ascii_whitespace().collect();
+    fields[11].parse::<u64>().unwrap() + fields[12].parse::<u64>().unwrap()
+}
+
+pub fn exists(path: &Path) -> bool {
+    path.symlink_metadata().is_ok()
+}

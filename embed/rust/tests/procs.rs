@@ -1,0 +1,337 @@
+//! `otp-procs` with real processes: starts, ends, signals, output, and what nobody should wait for.
+
+mod common;
+
+use common::daemon::{Daemon, HUP, KILL, TERM, send, ticks_of, wait_until};
+use std::fs;
+use std::thread;
+use std::time::Duration;
+
+fn tree_of(children: &str) -> String {
+    format!("intensity = 3\nperiod = 60\n{children}")
+}
+
+fn child(id: &str, more: &str) -> String {
+    format!("[[child]]\nid = \"{id}\"\nstart = \"{id}\"\n{more}\n")
+}
+
+const STEADY: &str = "[a]\ncommand = [\"sleep\", \"1000\"]\n";
+
+#[test]
+fn a_missing_command_is_a_failed_start() {
+    let mut daemon = Daemon::start(&tree_of(&child("a", "")), "[a]\ncommand = [\"/nowhere/at/all\"]\n");
+    assert_eq!(daemon.wait(), 4);
+    assert_eq!(daemon.story(), ["start a #1", "-> fail a #1 error:no_command", "end shutdown:failed_to_start_child/a"]);
+    let line = daemon.wait_for("fail", |line| line.get("event") == "fail");
+    assert!(line.get("text").contains("/nowhere/at/all"), "{line:?}");
+    daemon.replay();
+}
+
+#[test]
+fn a_command_that_goes_missing_is_tried_again_as_the_rules_say() {
+    let commands = "[a]\ncommand = [\"{folder}/program\"]\n";
+    let folder = common::daemon::new_folder();
+    fs::write(folder.join("tree.toml"), tree_of(&child("a", ""))).unwrap();
+    fs::write(folder.join("commands.toml"), commands.replace("{folder}", folder.to_str().unwrap())).unwrap();
+    std::os::unix::fs::symlink("/bin/cat", folder.join("program")).unwrap();
+    // Its input is empty, so that it ends at once; but it is gone before it is started a second time.
+    let script = folder.join("program");
+    fs::remove_file(&script).unwrap();
+    fs::write(&script, "#!/bin/sh\nrm \"$0\"\nexit 1\n").unwrap();
+    fs::set_permissions(&script, std::os::unix::fs::PermissionsExt::from_mode(0o755)).unwrap();
+    let mut daemon = Daemon::start_in(folder, &["--json", "--log", "log", "--no-control"]);
+    assert_eq!(daemon.wait(), 3);
+    let story = daemon.story();
+    let failed = |number: u32| format!("-> fail a #{number} error:no_command");
+    assert_eq!(story[..4], ["start a #1", "-> up a #1", "ready", "-> exit a #1 error:status_1"]);
+    // One restart after the crash, and two more tries: the fourth would be one too many.
+    assert_eq!(
+        story[4..],
+        ["start a #2", &failed(2), "start a #3", &failed(3), "start a #4", &failed(4), "end shutdown"]
+    );
+    daemon.replay();
+}
+
+#[test]
+fn readiness_is_waited_for() {
+    let tree = tree_of(&[child("line", ""), child("told", ""), child("time", ""), child("a", "")].concat());
+    let commands = "[line]\ncommand = ['sh', '-c', 'sleep 0.2; echo now it is up; exec sleep 1000']\nready = 'line'\nready_line = 'is up'\noutput = 'log'\n\
+                    [told]\ncommand = ['sh', '-c', 'sleep 0.2; echo >&4; exec sleep 1000']\nready = 'notify'\nnotify_fd = 4\n\
+                    [time]\ncommand = ['sleep', '1000']\nready = 'after'\nready_after = 200\n"
+        .to_string()
+        + STEADY;
+    let mut daemon = Daemon::start(&tree, &commands);
+    daemon.wait_ready();
+    let ups: Vec<String> = daemon.story().into_iter().filter(|line| line.starts_with("-> up")).collect();
+    assert_eq!(ups, ["-> up line #1", "-> up told #2", "-> up time #3", "-> up a #4"]);
+    for number in 1..4 {
+        let line = daemon.wait_for("up", |line| line.get("event") == "up" && line.number("number") == number);
+        assert!(line.number("after_ms") >= 200, "{line:?}");
+    }
+    daemon.wait_for("what it says", |line| line.get("remark") == "says" && line.get("line") == "now it is up");
+    assert_eq!(daemon.stop(), 0);
+    daemon.replay();
+}
+
+#[test]
+fn a_start_that_takes_too_long_has_failed() {
+    let commands = "[a]\ncommand = ['sleep', '1000']\nready = 'notify'\nready_within = 300\n";
+    let mut daemon = Daemon::start(&tree_of(&child("a", "")), commands);
+    assert_eq!(daemon.wait(), 4);
+    assert_eq!(daemon.story()[1], "-> fail a #1 error:not_up_in_time");
+    assert_eq!(daemon.left(), []);
+}
+
+#[test]
+fn an_early_end_is_a_failed_start_or_an_ignored_one() {
+    let tree = tree_of(&[child("ignored", ""), child("a", "")].concat());
+    let early = |status: u32| {
+        format!("[ignored]\ncommand = ['sh', '-c', 'exit {status}']\nready = 'notify'\nignored_status = 7\n{STEADY}")
+    };
+    let mut daemon = Daemon::start(&tree, &early(7));
+    daemon.wait_ready();
+    assert_eq!(daemon.story()[1], "-> ignore ignored #1");
+    assert_eq!(daemon.stop(), 0);
+    let mut daemon = Daemon::start(&tree, &early(8));
+    assert_eq!(daemon.wait(), 4);
+    assert_eq!(daemon.story()[1], "-> fail ignored #1 error:status_8");
+}
+
+#[test]
+fn a_process_gets_no_descriptor_and_no_blocked_signal() {
+    let commands = "[a]\ncommand = ['sh', '-c', 'ls -l /proc/self/fd > {folder}/fds; grep Sig /proc/self/status > {folder}/signals; \
+                    echo $OTP_CHILD $OTP_NUMBER $A $HOME > {folder}/env; pwd > {folder}/pwd; touch {folder}/done; exec sleep 1000']\n\
+                    env = ['A=b c']\nfolder = '/'\nclear_env = true\n";
+    let mut daemon = Daemon::start(&tree_of(&child("a", "")), commands);
+    daemon.wait_ready();
+    wait_until("done", || daemon.folder.join("done").exists());
+    // 0, 1, 2, and the one by which ls reads the folder.
+    let fds = daemon.read("fds");
+    assert_eq!(fds.lines().filter(|line| line.contains("->")).count(), 4, "{fds}");
+    let signals = daemon.read("signals");
+    let mask = |word: &str| {
+        let line = signals.lines().find_map(|line| line.strip_prefix(word)).unwrap();
+        u64::from_str_radix(line.trim(), 16).unwrap()
+    };
+    const PIPE: u64 = 1 << 12;
+    assert_eq!((mask("SigBlk:"), mask("SigIgn:") & PIPE), (0, 0), "{signals}");
+    assert_eq!(daemon.read("env").trim_end(), "a 1 b c");
+    assert_eq!(daemon.read("pwd"), "/\n");
+    assert_eq!(daemon.stop(), 0);
+}
+
+#[test]
+fn output_goes_where_the_file_says() {
+    let tree = tree_of(&[child("file", ""), child("null", ""), child("log", ""), child("plain", "")].concat());
+    let say = |id: &str, more: &str| {
+        format!("[{id}]\ncommand = ['sh', '-c', 'echo out {id}; echo err {id} >&2; exec sleep 1000']\n{more}\n")
+    };
+    let commands = [
+        say("file", "output = 'file'\noutput_file = '{folder}/out'"),
+        say("null", "output = 'null'"),
+        say("log", "output = 'log'"),
+        say("plain", ""),
+    ];
+    let mut daemon = Daemon::start(&tree, &commands.concat());
+    daemon.wait_ready();
+    daemon.wait_for("log", |line| line.get("remark") == "says" && line.get("line") == "err log");
+    wait_until("the outputs", || daemon.read("stdout") == "out plain\n" && daemon.read("stderr") == "err plain\n");
+    wait_until("the file", || daemon.read("out") == "out file\nerr file\n");
+    assert_eq!(daemon.stop(), 0);
+}
+
+#[test]
+fn a_kill_reaches_what_a_process_has_started() {
+    let commands = "[a]\ncommand = ['sh', '-c', 'trap \"\" TERM; sleep 1000 & (trap \"\" TERM; sleep 1000; sleep 1000) & setsid sleep 1000 & while :; do sleep 1; done']\n";
+    let mut daemon = Daemon::start(&tree_of(&child("a", "shutdown = 200")), commands);
+    daemon.wait_ready();
+    wait_until("descendants", || daemon.left().len() >= 5);
+    assert_eq!(daemon.stop(), 0);
+    assert_eq!(daemon.left(), []);
+}
+
+#[test]
+fn an_orphan_is_reaped() {
+    let commands =
+        "[a]\ncommand = ['sh', '-c', 'setsid sh -c \"sleep 0.1; exit 1\" & setsid sleep 0.2 & exit 1']\n".to_string();
+    let mut daemon = Daemon::start(
+        "intensity = 1\nperiod = 1\n[[child]]\nid = \"a\"\nstart = \"a\"\nrestart = \"temporary\"\n[[child]]\nid = \"b\"\nstart = \"b\"\n",
+        &(commands + "[b]\ncommand = ['sleep', '1000']\n"),
+    );
+    daemon.wait_ready();
+    thread::sleep(Duration::from_millis(500));
+    let children = fs::read_to_string(format!("/proc/{0}/task/{0}/children", daemon.pid())).unwrap();
+    assert_eq!(children.split_whitespace().count(), 1, "{children}");
+    assert_eq!(daemon.stop(), 0);
+}
+
+#[test]
+fn many_that_ignore_their_signal_are_killed_at_their_deadline() {
+    let mut tree = "strategy = \"one_for_one\"\n".to_string();
+    for pool in 0..4 {
+        tree += &format!("[[child]]\nid = \"pool{pool}\"\nstart = \"pool\"\n[child.tree]\n");
+        for number in 0..16 {
+            tree += &format!("[[child.tree.child]]\nid = \"c{number}\"\nstart = \"deaf\"\nshutdown = 20\n");
+        }
+    }
+    let commands = "[deaf]\ncommand = ['sh', '-c', 'trap \"\" TERM; echo >&3; while :; do sleep 100; done']\nready = 'notify'\nsignal_to = 'process'\n";
+    let mut daemon = Daemon::start(&tree, commands);
+    daemon.wait_ready();
+    assert_eq!(daemon.stop(), 0);
+    let story = daemon.story();
+    let kills: Vec<&String> = story.iter().filter(|line| line.starts_with("kill")).collect();
+    assert_eq!(kills.len(), 64);
+    assert!(kills[0].starts_with("kill pool3/c15 ") && kills[63].starts_with("kill pool0/c0 "));
+    assert_eq!(daemon.left(), []);
+    daemon.replay();
+}
+
+#[test]
+fn a_second_signal_kills() {
+    let commands =
+        "[a]\ncommand = ['sh', '-c', 'trap \"\" TERM; echo >&3; while :; do sleep 1; done']\nready = 'notify'\n";
+    let mut daemon = Daemon::start(&tree_of(&child("a", "shutdown = \"infinity\"")), commands);
+    daemon.wait_ready();
+    daemon.signal(TERM);
+    daemon.wait_for("ask", |line| line.get("order") == "ask");
+    // One that comes with the first is the same.
+    daemon.signal(TERM);
+    thread::sleep(Duration::from_millis(700));
+    assert_eq!(daemon.left().len(), 2);
+    daemon.signal(2);
+    assert_eq!(daemon.wait(), 6);
+    assert_eq!(daemon.left(), []);
+    daemon.replay();
+}
+
+#[test]
+fn a_second_signal_ends_starts_that_never_tell() {
+    let commands = "[a]\ncommand = ['sleep', '1000']\nready = 'notify'\nready_within = 'infinity'\n";
+    let mut daemon = Daemon::start(&tree_of(&child("a", "")), commands);
+    daemon.wait_for("start", |line| line.get("order") == "start");
+    daemon.signal(TERM);
+    thread::sleep(Duration::from_millis(700));
+    daemon.signal(TERM);
+    assert_eq!(daemon.wait(), 6);
+    assert_eq!(daemon.left(), []);
+}
+
+#[test]
+fn ends_have_their_reasons() {
+    let tree = "intensity = 10\n[[child]]\nid = \"a\"\nstart = \"a\"\n[[child]]\nid = \"t\"\nstart = \"a\"\nrestart = \"transient\"\n";
+    let mut daemon = Daemon::start(tree, STEADY);
+    daemon.wait_ready();
+    let pid_of = |number: u64| {
+        let line = daemon.wait_for("start", |line| line.get("order") == "start" && line.number("number") == number);
+        line.number("pid") as i32
+    };
+    assert!(send(pid_of(1), KILL));
+    daemon.wait_for("exit", |line| line.get("event") == "exit" && line.get("reason") == "killed");
+    assert!(send(pid_of(2), TERM));
+    // Nobody asked it to, so that this is no shutdown: it is started again.
+    daemon.wait_for("exit", |line| line.get("event") == "exit" && line.get("reason") == "error:signal_15");
+    daemon.wait_for("start", |line| line.get("order") == "start" && line.number("number") == 4);
+    assert_eq!(daemon.stop(), 0);
+    let exits: Vec<String> =
+        daemon.story().into_iter().filter(|line| line.ends_with(" shutdown") && line.starts_with("->")).collect();
+    assert_eq!(exits.len(), 2);
+    daemon.replay();
+}
+
+#[test]
+fn statuses_say_how_the_root_has_ended() {
+    let crash = "[a]\ncommand = ['sh', '-c', 'exit 1']\n";
+    assert_eq!(Daemon::start(&tree_of(&child("a", "")), crash).wait(), 3);
+    let significant = "auto_shutdown = \"any_significant\"\n[[child]]\nid = \"a\"\nstart = \"a\"\nrestart = \"temporary\"\nsignificant = true\n";
+    assert_eq!(Daemon::start(significant, crash).wait(), 5);
+    assert_eq!(Daemon::start("strategy = 1", STEADY).wait(), 1);
+    assert_eq!(Daemon::start(&tree_of(&child("b", "")), STEADY).wait(), 1);
+    assert_eq!(Daemon::start(&tree_of(&child("a", "")), "[a]\n").wait(), 1);
+}
+
+#[test]
+fn it_sleeps_where_nothing_is_due_and_tells_that_hup_does_nothing() {
+    let mut daemon = Daemon::start(&tree_of(&child("a", "")), STEADY);
+    daemon.wait_ready();
+    thread::sleep(Duration::from_millis(300));
+    let before = ticks_of(daemon.pid());
+    thread::sleep(Duration::from_secs(2));
+    assert_eq!(ticks_of(daemon.pid()), before);
+    daemon.signal(HUP);
+    daemon.wait_for("HUP", |line| line.get("remark") == "signal" && line.get("name") == "HUP");
+    assert_eq!(daemon.stop(), 0);
+}
+
+#[test]
+fn its_own_death_takes_the_processes_with_it() {
+    let daemon = Daemon::start(&tree_of(&child("a", "")), STEADY);
+    daemon.wait_ready();
+    assert_eq!(daemon.left().len(), 1);
+    daemon.signal(KILL);
+    wait_until("nothing is left", || daemon.left().is_empty());
+}
+
+#[test]
+fn a_full_disk_under_the_log_changes_nothing() {
+    let folder = common::daemon::new_folder();
+    fs::write(folder.join("tree.toml"), tree_of(&child("a", ""))).unwrap();
+    let commands = format!("[a]\ncommand = ['sh', '-c', 'touch {0}/up; exec sleep 1000']\n", folder.display());
+    fs::write(folder.join("commands.toml"), commands).unwrap();
+    let mut daemon = Daemon::start_in(folder, &["--log", "/dev/full", "--control", "control"]);
+    wait_until("up", || daemon.folder.join("up").exists());
+    let (is_done, text) = daemon.ctl(&["tail"]);
+    assert!(is_done && text.contains("ready"), "{text}");
+    assert_eq!(daemon.stop(), 0);
+    assert_eq!(daemon.left(), []);
+}
+
+#[test]
+fn a_log_that_is_not_the_trees_is_told() {
+    let mut daemon = Daemon::start(&tree_of(&child("a", "")), STEADY);
+    daemon.wait_ready();
+    assert_eq!(daemon.stop(), 0);
+    assert!(daemon.replay().contains("3 events and 4 orders"));
+    let log = daemon.read("log");
+    let is_taken = |log: &str| {
+        fs::write(daemon.folder.join("changed"), log).unwrap();
+        let mut replay = std::process::Command::new(common::daemon::PROGRAM);
+        let output = replay.args(["replay", "tree.toml", "changed"]).current_dir(&daemon.folder).output().unwrap();
+        (output.status.success(), String::from_utf8_lossy(&output.stderr).into_owned())
+    };
+    assert!(is_taken(&log).0);
+    for (old, new) in [
+        ("\"order\":\"start\",\"path\":\"a\",\"number\":1", "\"order\":\"start\",\"path\":\"a\",\"number\":2"),
+        ("\"order\":\"ask\"", "\"order\":\"kill\""),
+        ("\"event\":\"up\"", "\"event\":\"ignore\""),
+        ("\"order\":\"ready\"", "\"remark\":\"ready\""),
+        ("\"event\":\"stop\"", "\"remark\":\"stop\""),
+        ("{\"time\"", "\"time\""),
+    ] {
+        assert!(log.contains(old), "{old}");
+        let (is_taken, text) = is_taken(&log.replacen(old, new, 1));
+        assert!(!is_taken && text.contains("line "), "{new}: {text}");
+    }
+}
+
+#[test]
+fn a_log_that_nobody_reads_keeps_nobody_waiting() {
+    let folder = common::daemon::new_folder();
+    fs::write(folder.join("tree.toml"), tree_of(&child("a", ""))).unwrap();
+    let commands = "[a]\ncommand = ['sh', '-c', 'i=0; while [ $i -lt 3000 ]; do echo line $i; i=$((i + 1)); done; touch {}; exec sleep 1000']\noutput = 'log'\n";
+    fs::write(folder.join("commands.toml"), commands.replace("{}", folder.join("done").to_str().unwrap())).unwrap();
+    assert!(std::process::Command::new("mkfifo").arg(folder.join("log")).status().unwrap().success());
+    // Opened for both, so that the daemon's opening doesn't wait for a reader.
+    let mut reader = fs::File::options().read(true).write(true).open(folder.join("log")).unwrap();
+    let mut daemon = Daemon::start_in(folder, &["--json", "--log", "log", "--control", "control"]);
+    wait_until("all was said", || daemon.folder.join("done").exists());
+    wait_until("the last line", || daemon.ctl(&["tail", "100"]).1.contains("line 2999"));
+    // What there is room for is read; the next line says how many were lost.
+    let mut room = vec![0; 1 << 16];
+    assert!(std::io::Read::read(&mut reader, &mut room).unwrap() > 50_000);
+    let (is_done, text) = daemon.ctl(&["status"]);
+    assert!(is_done, "{text}");
+    let count = std::io::Read::read(&mut reader, &mut room).unwrap();
+    let text = String::from_utf8_lossy(&room[..count]);
+    assert!(text.contains("{\"remark\":\"lost\",\"lines\":"), "{text}");
+    assert_eq!(daemon.stop(), 0);
+}
