@@ -1,11 +1,11 @@
 -- Kept items that wait, and their calls.
-use Rattle.std.proofs.Common.{◌≡◌, ℕ, ◌+◌, ◌-◌, ◌<◌, ◌≤◌, ◌++◌, List, [], ◌∷◌, ◌∙◌, None, Option, Some, ap, arith, cond, drop, get_or, length, refl, subst, suc, sym, zero}
+use Rattle.std.proofs.Common.{◌≡◌, ℕ, ◌+◌, ◌-◌, ◌<◌, ◌≤◌, ◌++◌, List, [], ◌∷◌, ◌∙◌, None, Option, Some, ap, arith, cond, drop, get_or, length, refl, subst, suc, sym, take, zero}
 use Rattle.std.specs.Prelude.{Bool, true, false, count_by, nat_lt, not, position, remove}
 use Rattle.std.specs.List.{cons_option, filter_map, position_or_len}
 use Rattle.std.proofs.lemmas.Bool.{false≢true}
-use Rattle.std.proofs.lemmas.List.{get_or_append_left, length-append, length-drop}
+use Rattle.std.proofs.lemmas.List.{get_or_append_left, length-append, length-drop, take_more}
 use Rattle.std.proofs.lemmas.List.Quantifiers.{position-Some}
-use Rattle.std.proofs.lemmas.List.Sums.{sum_by-append, sum_by-cons, sum_by-remove}
+use Rattle.std.proofs.lemmas.List.Sums.{sum_by-append, sum_by-cons, sum_by-remove, sum_by-take-drop}
 use Rattle.std.proofs.Math.Seq.{drop-append_seam, drop-nil}
 use Rattle.otp_rules.specs.declared.call.Call.{Call}
 use Rattle.otp_rules.specs.declared.call.Call.TheVariants as call
@@ -102,6 +102,24 @@ calls_pushed xs cs x h =
     let none : count_calls [] ≡ 0 = refl in
     let both : count_calls (xs ++ short_item x ∷ []) ≡ count_calls xs + count_calls (short_item x ∷ []) = sum_by-append (λ y. cond (is_call y) 1 0) xs (short_item x ∷ []) in
     omega (arith, none, both, count-cons (short_item x) [], one_call x, h, length-append cs (calls_of x))
+
+-- one item more of those from the first on, with its call
+pub whole_more : (xs : List ShortItem) (cs : List Call) (i : ℕ) (d : ShortItem) → i < length xs →
+    whole_items (take (i + 1) xs) cs ≡ whole_items (take i xs) cs ++ whole_item (get_or xs i d) (drop (count_calls (take i xs)) cs) ∷ []
+whole_more xs cs i d within = ap (λ (ys : List ShortItem). whole_items ys cs) (take_more xs i d within) ∙ whole-append (take i xs) (get_or xs i d ∷ []) cs
+
+-- and the calls among them
+pub calls_more : (xs : List ShortItem) (i : ℕ) (d : ShortItem) → i < length xs → count_calls (take (i + 1) xs) ≡ count_calls (take i xs) + cond (is_call (get_or xs i d)) 1 0
+calls_more xs i d within =
+    let none : count_calls [] ≡ 0 = refl in
+    let both : count_calls (take i xs ++ get_or xs i d ∷ []) ≡ count_calls (take i xs) + count_calls (get_or xs i d ∷ []) = sum_by-append (λ y. cond (is_call y) 1 0) (take i xs) (get_or xs i d ∷ []) in
+    omega (arith, ap (λ (ys : List ShortItem). count_calls ys) (take_more xs i d within), both, count-cons (get_or xs i d) [], none)
+
+-- where the item is a call, a call is left for it
+pub call_left : (xs : List ShortItem) (i : ℕ) (d : ShortItem) → i < length xs → is_call (get_or xs i d) ≡ true → count_calls (take i xs) < count_calls xs
+call_left xs i d within call =
+    let one : ◌≡◌ {A = ℕ} (cond (is_call (get_or xs i d)) 1 0) 1 = ap (λ (b : Bool). cond {A = ℕ} b 1 0) call in
+    omega (arith, calls_more xs i d within, sum_by-take-drop (λ y. cond (is_call y) 1 0) xs (i + 1), one)
 
 -- what doesn't look at what a call asks is seen without it
 seen_from : (test : Waiting → Bool) (xs : List ShortItem) (cs : List Call) → ((x : ShortItem) (ds : List Call) → test (whole_item x ds) ≡ test (whole_item x []))

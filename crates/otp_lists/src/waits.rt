@@ -2,13 +2,13 @@
 //! takes 96 bytes, and 216 more where it is a call. Calls leave in the order in which they came; of the items between others only
 //! ends of processes are taken, which ask nothing.
 
-ghost use Rattle.std.specs.Prelude.{◌≡◌, ◌+◌, ◌^◌, ◌<◌, ◌≤◌, ◌==◌, ◌++◌, ◌∷◌, [], IsTrue, MatchOption, OnErr, OnOk, Some, count_by, length, position, remove, slice_get, vec_len, vec_capacity};
+ghost use Rattle.std.specs.Prelude.{◌≡◌, ◌+◌, ◌^◌, ◌<◌, ◌≤◌, ◌==◌, ◌++◌, ◌∷◌, [], IsTrue, IfOk, MatchOption, OnErr, OnOk, Some, cond, drop, count_by, length, position, remove, slice_get, vec_len, vec_capacity};
 ghost use Rattle.std.specs.List.{filter_map, list_any};
 ghost use Rattle.otp_rules.specs.Cuts.{is_call_of};
 ghost use Rattle.std.specs.VecDeque.{deque_len, deque_capacity};
 ghost use Rattle.otp_rules.specs.Ends.{refusal, refused};
 ghost use Rattle.otp_rules.specs.Stops.{is_exit};
-ghost use Rattle.otp_lists.specs.WaitsInside.{calls_behind, calls_of, is_call, short_item, whole_item};
+ghost use Rattle.otp_lists.specs.WaitsInside.{calls_behind, calls_of, is_call, short_item, whole_item, whole_items};
 
 use crate::answers::Answers;
 use otp_reason::Note;
@@ -165,6 +165,17 @@ impl Waits {
         refuse_items(back, replies, orders);
     }
 
+    /// A list of what waits, in its order, for whoever keeps it.
+    ///
+    /// # Errors
+    ///
+    /// Where memory is refused.
+    pub fn to_vec(&self, alloc: Global) -> Result<Vec<Waiting>, AllocError>
+        ensures { IfOk result (λ list. list.items ≡ self.now.items) }
+    {
+        whole_items(alloc, &self.items, &self.calls)
+    }
+
     /// Nothing waits any more.
     pub fn clear(&mut self)
         ensures items { self.new.items ≡ [] }
@@ -184,6 +195,49 @@ fn whole_item(item: &ShortItem, calls: &VecDeque<Call>) -> Waiting
         ShortItem::Note(note) => Waiting::Item(Item::Note(*note)),
         ShortItem::Call(number) => Waiting::Item(Item::Call(*number, calls[0])),
         ShortItem::Retry(kept) => Waiting::Retry(*kept),
+    }
+}
+
+/// The items, each call among them with the next of these.
+fn whole_items(
+    alloc: Global,
+    items: &VecDeque<ShortItem>,
+    calls: &VecDeque<Call>,
+) -> Result<Vec<Waiting>, AllocError>
+    requires { count_by is_call items.now.items ≡ length calls.now.items }
+    ensures { IfOk result (λ list. list.items ≡ whole_items items.now.items calls.now.items) }
+{
+    let mut list = Vec::with_capacity(alloc, items.len())?;
+    let mut place = 0;
+    let mut asked = 0;
+    while place < items.len() {
+        let item = &items[place];
+        list.push_reserved(whole_at(item, calls, asked));
+        asked += calls_in(item);
+        place += 1;
+    }
+    Ok(list)
+}
+
+/// The item, which has the call at this place if it is one.
+fn whole_at(item: &ShortItem, calls: &VecDeque<Call>, place: usize) -> Waiting
+    requires { IsTrue (is_call item.now) → place < deque_len calls.now }
+    ensures { result ≡ whole_item item.now (drop place calls.now.items) }
+{
+    match item {
+        ShortItem::Note(note) => Waiting::Item(Item::Note(*note)),
+        ShortItem::Call(number) => Waiting::Item(Item::Call(*number, calls[place])),
+        ShortItem::Retry(kept) => Waiting::Retry(*kept),
+    }
+}
+
+/// 1 for a call, 0 for another item.
+fn calls_in(item: &ShortItem) -> usize
+    ensures { result ≡ cond (is_call item.now) 1 0 }
+{
+    match item {
+        ShortItem::Call(_) => 1,
+        _ => 0,
     }
 }
 

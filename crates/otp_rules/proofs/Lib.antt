@@ -47,3 +47,4 @@ pub mod Earlier
 pub mod Cuts
 pub mod Short
 pub mod Answering
+mod Known

@@ -32,3 +32,4 @@ pub mod Lives
 pub mod Alive
 pub mod Cuts
 pub mod Answers
+pub mod Known

@@ -9,6 +9,7 @@ ghost use Rattle.otp_rules.specs.Fit.{StaysFit};
 ghost use Rattle.otp_rules.specs.Frames.{OrdersAppended, StepKeepsPlan, StepKeepsStamped, StepStamps};
 ghost use Rattle.otp_rules.specs.Homes.{HomesKept, HomesKeptFrom};
 ghost use Rattle.otp_rules.specs.InOrder.{WorkAwaits};
+ghost use Rattle.otp_rules.specs.Known.{OpeningsKnown};
 ghost use Rattle.otp_rules.specs.Late.{TicksKillLate, TicksKillLateFromEmpty};
 ghost use Rattle.otp_rules.specs.Named.{OrdersNameRows, OrdersNameRowsFrom, OrdersNumbered, OrdersNumberedFrom};
 ghost use Rattle.otp_rules.specs.Needs.{NumberStartsWork};
@@ -131,6 +132,12 @@ pub fn ends_are_kept()
     ensures from_any { EndsKept }
     ensures from_empty { EndsKeptFromEmpty }
     ensures carried { EndsCarried }
+{}
+
+/// An opening is known from then on, whatever happens from any state: the supervisor runs under its number, or keeps an end
+/// under it. So where a state knows none, no event since its beginning opened the supervisor under that number.
+pub fn openings_are_known()
+    ensures { OpeningsKnown }
 {}
 
 /// No two children of a supervisor have one slot, and each slot is below 256, after every list of events.
