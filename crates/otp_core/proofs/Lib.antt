@@ -2,3 +2,4 @@ pub mod Runs
 pub mod Lawful
 pub mod Drawn
 pub mod Full
+pub mod Begun

@@ -15,15 +15,11 @@ pushed s [] e = refl
 pushed s (x ∷ xs) e = pushed (step s x).state xs e
 
 -- a step goes on with the run
-pub runs_on : (x y : Earlier) (s next : State) (h longer : List Event) (e : Event) → next ≡ (step s e).state → (step (older x s) e).state ≡ older x (step s e).state → y ≡ x → longer ≡ h ++ e ∷ []
-    → next.flags ≡ s.flags → next.specs ≡ s.specs
-    → older x s ≡ state_after (empty_state s.flags s.specs) h → older y next ≡ state_after (empty_state next.flags next.specs) longer
-runs_on x y s next h longer e moved forgets same more flags specs runs =
-    let base : State = empty_state s.flags s.specs in
+pub runs_on : (x y : Earlier) (first s next : State) (h longer : List Event) (e : Event) → next ≡ (step s e).state → (step (older x s) e).state ≡ older x (step s e).state → y ≡ x → longer ≡ h ++ e ∷ []
+    → older x s ≡ state_after first h → older y next ≡ state_after first longer
+runs_on x y first s next h longer e moved forgets same more runs =
     ap (λ (z : Earlier). older z next) same ∙ ap (older x) moved ∙ sym forgets
-    ∙ ap (λ (t : State). (step t e).state) runs ∙ sym (pushed base h e) ∙ ap (state_after base) (sym more)
-    ∙ ap (λ (f : SupFlags). state_after (empty_state f s.specs) longer) (sym flags)
-    ∙ ap (λ (c : List ChildSpec). state_after (empty_state next.flags c) longer) (sym specs)
+    ∙ ap (λ (t : State). (step t e).state) runs ∙ sym (pushed first h e) ∙ ap (state_after first) (sym more)
 
 -- with the answers and ends that a cut drops, the base is the state that was cut
 pub cut_runs : (rs : List Answered) (es : List (ℕ × SupEnd)) (s whole : State) → older (told_before rs es) s ≡ whole → older (told_before whole.replies whole.ends) (base_of s) ≡ whole
@@ -33,7 +29,7 @@ cut_runs rs es s whole runs =
     (ap (λ (all : List Answered). record s { replies = all; ends = (es ++ s.ends) ++ [] }) (append-nil (rs ++ s.replies))
     ∙ ap (λ (ends : List (ℕ × SupEnd)). record s { replies = rs ++ s.replies; ends = ends }) (append-nil (es ++ s.ends)))
 
-greater-assoc : (a b c : Option ℕ) → greater_of (greater_of a b) c ≡ greater_of a (greater_of b c)
+pub greater-assoc : (a b c : Option ℕ) → greater_of (greater_of a b) c ≡ greater_of a (greater_of b c)
 greater-assoc None b c = refl
 greater-assoc (Some l) None c = refl
 greater-assoc (Some l) (Some m) None = refl
@@ -53,3 +49,16 @@ greatest_of rs es s whole runs = ap (λ (w : State). greatest_call w.replies) (s
 pub keeps_on : (s next from again : State) (h longer : List Event) (e : Event) → next ≡ (step s e).state → longer ≡ h ++ e ∷ [] → again ≡ from → s ≡ state_after from h → next ≡ state_after again longer
 keeps_on s next from again h longer e moved more same runs =
     moved ∙ ap (λ (t : State). (step t e).state) runs ∙ sym (pushed from h e) ∙ ap (state_after from) (sym more) ∙ ap (λ (t : State). state_after t longer) (sym same)
+
+-- nothing was answered before
+pub greater_none : (n : Option ℕ) → n ≡ greater_of n None
+greater_none None = refl
+greater_none (Some m) = refl
+
+-- a state without answers and ends is its own base
+pub is_base : (s : State) → s.replies ≡ [] → s.ends ≡ [] → s ≡ base_of s
+is_base s replies ends = ap (λ (rs : List Answered). record s { replies = rs }) replies ∙ ap (λ (es : List (ℕ × SupEnd)). record s { replies = []; ends = es }) ends
+
+-- no answers and ends before it make it the same
+pub none_older : (s : State) (rs : List Answered) (es : List (ℕ × SupEnd)) → rs ≡ [] → es ≡ [] → older (told_before rs es) s ≡ s
+none_older s rs es replies ends = ap (λ (xs : List Answered). older (told_before xs es) s) replies ∙ ap (λ (xs : List (ℕ × SupEnd)). older (told_before [] xs) s) ends

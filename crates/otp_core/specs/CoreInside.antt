@@ -2,18 +2,22 @@
 use Rattle.std.specs.Prelude.{◌≡◌, ◌<◌, ◌≤◌, ◌++◌, All, Bool, true, false, ℕ, List, length}
 use Rattle.std.specs.Bool.{OnTrue}
 use Rattle.otp_rules.specs.declared.event.Event.{Event}
-use Rattle.otp_rules.specs.Cuts.{base_of, greatest_call, older, told_before, Earlier}
+use Rattle.otp_base.specs.Lawful.{AreCounts}
+use Rattle.otp_rules.specs.Evidence.{IsShowing}
+use Rattle.otp_rules.specs.Rate.{IsRated}
+use Rattle.otp_rules.specs.Cuts.{base_of, greater_of, greatest_call, older, told_before, Earlier}
 use Rattle.otp_rules.specs.Needs.{IsLawfulHistory, last_number, numbers_of}
 use Rattle.otp_rules.specs.State.{State}
-use Rattle.otp_rules.specs.Run.{empty_state, state_after}
+use Rattle.otp_rules.specs.Run.{state_after}
 use Rattle.otp_core.specs.declared.supervisor.Core.TheInside.{Inside}
 use Rattle.otp_machine.specs.Seen.{HasMemory, IsSound, outcome_of}
 use Rattle.otp_core.specs.View.{View}
 use Rattle.otp_core.specs.declared.cut.TheConstants.{MAX_EVENTS_IN_ALL}
+use Rattle.otp_spec.specs.declared.limits.TheConstants.{MAX_EVENTS}
 
--- the supervisor that was never opened
+-- the state at which the history begins
 abbrev pub first_of : Inside → State
-first_of a = empty_state (outcome_of a.machine).state.flags a.machine.specs.items
+first_of a = a.origin.state
 
 -- all events, those that were cut off too
 abbrev pub events_of : Inside → List Event
@@ -23,6 +27,7 @@ abbrev pub view_of : Inside → View
 view_of a =
     record {
       base = first_of a;
+      earlier = a.earlier;
       history = events_of a;
       cut = length a.history.past;
       effects = a.machine.orders.items;
@@ -52,9 +57,14 @@ pub record IsCore (a : Inside) : Type 0 where
   pub last : a.last_number ≡ last_number (events_of a)
   pub numbers : All (λ m. m ≤ a.last_number) (numbers_of (events_of a))
   -- what is counted of those that were cut off, and of all
-  pub gone : a.gone_call ≡ greatest_call (dropped a).replies
+  pub gone : a.gone_call ≡ greater_of a.earlier.greatest_call (greatest_call (dropped a).replies)
+  pub stored : length a.history.events ≤ MAX_EVENTS
   pub events_cut : a.events_cut ≡ length a.history.past
   pub events : a.events_cut ≤ MAX_EVENTS_IN_ALL
+  pub counts : AreCounts a.earlier
   pub starts : a.starts ≡ length (numbers_of (events_of a))
+  -- the restarts at the beginning are in order and keep the rate
+  pub shows : IsShowing (first_of a)
+  pub rated : IsRated (first_of a)
   pub sound : IsSound a.machine
   pub room : OnTrue a.prepared (HasRoom a)

@@ -3,3 +3,4 @@ pub mod CoreInside
 pub mod Opened
 pub mod Replies
 pub mod Full
+pub mod Resumed

@@ -3,15 +3,15 @@ use Rattle.std.specs.Prelude.{◌≡◌, ℕ, Bool, true, false, ◌&&◌, not, 
 use Rattle.otp_rules.specs.declared.event.Effect.{Effect}
 use Rattle.otp_rules.specs.Answers.{IsKeptIn}
 use Rattle.otp_rules.specs.declared.call.Reply.{Reply}
-use Rattle.otp_rules.specs.Cuts.{greatest_call, is_at_most, is_open_call}
+use Rattle.otp_rules.specs.Cuts.{greater_of, greatest_call, is_at_most, is_open_call}
 use Rattle.otp_rules.specs.Run.{reply_of, state_after}
 use Rattle.otp_core.specs.declared.reply.ReplyAnswer.{ReplyAnswer}
 use Rattle.otp_core.specs.declared.reply.ReplyAnswer.TheVariants.{Kept, Gone, NotYet}
 use Rattle.otp_core.specs.View.{View, past_of, state_of, stored_state}
 
--- the greatest number of a call whose answer a cut dropped, if one did
+-- the greatest number of a call whose answer a cut dropped, or the checkpoint from which the core was resumed, if one did
 abbrev pub greatest_dropped : View → Option ℕ
-greatest_dropped v = greatest_call (state_after v.base (past_of v)).replies
+greatest_dropped v = greater_of v.earlier.greatest_call (greatest_call (state_after v.base (past_of v)).replies)
 
 -- a cut may have dropped the answer: the call's number is no greater than that one, and the call is not still to be answered
 abbrev pub is_gone : ℕ → View → Bool

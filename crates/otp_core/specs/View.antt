@@ -1,15 +1,21 @@
 -- What a caller sees of a core.
-use Rattle.std.specs.Prelude.{ℕ, List, Bool, drop, take}
+use Rattle.std.specs.Prelude.{ℕ, List, [], Bool, false, drop, take}
 use Rattle.otp_rules.specs.declared.event.Event.{Event}
 use Rattle.otp_rules.specs.declared.event.Effect.{Effect}
 use Rattle.otp_rules.specs.Cuts.{base_of}
 use Rattle.otp_rules.specs.State.{State}
-use Rattle.otp_rules.specs.Run.{state_after}
+use Rattle.otp_rules.specs.Run.{empty_state, state_after}
+use Rattle.otp_spec.specs.declared.child.ChildSpec.{ChildSpec}
+use Rattle.otp_spec.specs.declared.flags.SupFlags.{SupFlags}
+use Rattle.otp_base.specs.declared.base.Counts.{Counts}
+use Rattle.otp_base.specs.States.{nothing}
 
 pub record View : Type 0 where
-  -- the supervisor that was never opened
+  -- the supervisor that was never opened, or the checkpoint from which it was resumed
   pub base : State
-  -- all events, those that were cut off too
+  -- what that checkpoint counts
+  pub earlier : Counts
+  -- all events since, those that were cut off too
   pub history : List Event
   -- how many of them, the first, were cut off
   pub cut : ℕ
@@ -17,6 +23,11 @@ pub record View : Type 0 where
   pub effects : List Effect
   -- memory for the next event is there
   pub prepared : Bool
+
+-- the core of a supervisor that was never opened, for children of these specifications
+abbrev pub new_core : SupFlags → List ChildSpec → View
+new_core flags specs =
+    record { base = empty_state flags specs; earlier = nothing; history = []; cut = 0; effects = []; prepared = false }
 
 -- the state that the history leads to: nothing else is known of it
 abbrev pub state_of : View → State

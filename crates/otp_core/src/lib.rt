@@ -11,6 +11,7 @@ pub mod supervisor;
 
 pub use cut::{CutFault, MAX_EVENTS_IN_ALL, MAX_KEPT_LINES};
 pub use opening::OpenFault;
+pub use otp_base::{Base, BaseFault, Counts, ResumeFault};
 pub use otp_lists::history::History;
 pub use otp_machine::{Counter, Given, Numbers};
 pub use otp_rules::laws;

@@ -2,7 +2,7 @@
 
 ghost use Rattle.std.specs.Prelude.{ℕ, All, ◌≡◌, ◌+◌, ◌-◌, ◌<◌, ◌≤◌, ◌^◌, ◌↔◌, ◌++◌, ◌∷◌, [], true, false, length, not, is_some, is_none, nat_lt, max, min, IsTrue, None, Some, IfOk, IfErr, OnOk, OnErr, MatchOption, position, slice_get, vec_len, vec_capacity};
 ghost use Rattle.std.specs.List.{filter, list_any};
-ghost use Rattle.otp_core.specs.View.{past_of, state_of, stored_of, stored_state};
+ghost use Rattle.otp_core.specs.View.{new_core, past_of, state_of, stored_of, stored_state};
 ghost use Rattle.otp_core.specs.Opened.{IsOpenFault};
 ghost use Rattle.otp_core.specs.Full.{cut_after, has_most_events, has_most_lines, is_full, wants_cut};
 ghost use Rattle.otp_core.specs.Replies.{IsKept, IsReplyAnswer, greatest_dropped};
@@ -12,11 +12,17 @@ ghost use Rattle.otp_rules.specs.Effects.{is_reply};
 ghost use Rattle.otp_rules.specs.Needs.{IsLawfulHistory, last_number, needs_number, numbers_of};
 ghost use Rattle.otp_rules.specs.Next.{has_come, idle_kind, next_deadline, next_kind};
 ghost use Rattle.otp_rules.specs.Rate.{IsRated};
-ghost use Rattle.otp_rules.specs.Run.{empty_state, reply_of};
+ghost use Rattle.otp_rules.specs.Run.{reply_of};
 ghost use Rattle.otp_spec.specs.Supervisor.{supervisor_fault};
 ghost use Rattle.otp_spec.specs.declared.limits.TheConstants.{MAX_CHILDREN, MAX_EVENTS, MAX_READING};
 ghost use Rattle.otp_core.specs.declared.cut.TheConstants.{MAX_EVENTS_IN_ALL, MAX_KEPT_LINES};
 ghost use Rattle.otp_core.specs.CoreInside.{one_if};
+ghost use Rattle.otp_core.specs.Resumed.{counted, GoesOn};
+ghost use Rattle.otp_base.specs.Lawful.{AreCounts, IsLawful, IsResumeFault};
+ghost use Rattle.otp_machine.specs.Seen.{IsSound, outcome_of};
+ghost use Rattle.otp_rules.specs.Evidence.{IsShowing};
+ghost use Rattle.otp_base.specs.States.{state_in};
+ghost use Rattle.otp_rules.specs.Cuts.{short_base_of};
 ghost use Rattle.otp_rules.specs.State.{is_over};
 ghost use Rattle.otp_rules.specs.Stops.{is_exit};
 ghost use Rattle.otp_rules.specs.Step.{is_late, step};
@@ -25,6 +31,7 @@ ghost use Rattle.otp_rules.specs.Ends.{last_stamps};
 use crate::cut::{CutFault, MAX_EVENTS_IN_ALL, MAX_KEPT_LINES};
 use crate::opening::OpenFault;
 use crate::reply::ReplyAnswer;
+use otp_base::{Base, Counts, Origin, ResumeFault, base_at, machine_at, origin_of};
 use otp_lists::answers::{Answers, greater_of};
 use otp_lists::effects::{count_orders, move_orders};
 use otp_lists::history::History;
@@ -56,7 +63,7 @@ pub struct Spare {
 ///
 /// ```text
 /// let mut core = Core::open(alloc, flags, specs)?;         // lawful flags and specifications
-/// let mut numbers = Counter { last: core.last_number() };  // whatever gives process numbers
+/// let mut numbers = Counter { last: core.greatest_number() }; // whatever gives process numbers
 /// let mut next = Some(Kind::Opened(own));
 /// while let Some(kind) = next {
 ///     core.make_room(MAX_EVENTS)?;                         // a cut where the core is full: no history fills
@@ -82,6 +89,10 @@ pub struct Spare {
 pub struct Core {
     machine: Machine,
     history: History,
+    /// The state at which the history begins. It has no bytes.
+    origin: Origin,
+    /// What the checkpoint counted from which the core was resumed.
+    earlier: Counts,
     /// The last process number that an event gave.
     last_number: u64,
     /// The greatest number of a call whose answer a cut dropped, if one did.
@@ -112,7 +123,7 @@ impl Core {
     /// The first fault, as [`check_supervisor`] has it, or that there is no memory for the copy.
     pub fn open(alloc: Global, flags: SupFlags, specs: &[ChildSpec]) -> Result<Core, OpenFault>
         ensures ok { OnOk result (supervisor_fault flags specs.now ≡ None) }
-        ensures core { IfOk result (λ core. core ≡ record { base = empty_state flags specs.now; history = []; cut = 0; effects = []; prepared = false }) }
+        ensures core { IfOk result (λ core. core ≡ new_core flags specs.now) }
         ensures fault { IfErr result (λ why. IsOpenFault why (supervisor_fault flags specs.now)) }
         ensures limit { OnOk result (length specs.now ≤ MAX_CHILDREN) }
     {
@@ -127,7 +138,7 @@ impl Core {
 
     /// The same for what was tested before: nothing is tested again or copied, and by its code no memory is taken.
     pub fn of(alloc: Global, supervisor: SupSpec) -> Core
-        ensures core { result ≡ record { base = empty_state supervisor.flags supervisor.specs; history = []; cut = 0; effects = []; prepared = false } }
+        ensures core { result ≡ new_core supervisor.flags supervisor.specs }
         ensures limit { length supervisor.specs ≤ MAX_CHILDREN }
     {
         let (flags, specs) = supervisor.into_parts();
@@ -151,14 +162,78 @@ impl Core {
             spare_stamps: Vec::new(alloc),
             spare_kept_stamps: Vec::new(alloc),
         };
+        laws::restart_rate();
+        Core::begin(alloc, machine, Counts::new())
+    }
+
+    /// A core that goes on from a checkpoint ([`Core::checkpoint`]), which is copied: it gives the same orders for the same
+    /// later events as the one that the checkpoint was made of. Its processes are none of its business: whoever resumes it has
+    /// them still, or tells it of their ends. Process numbers go on above [`Core::greatest_number`].
+    ///
+    /// # Errors
+    ///
+    /// The first fault of the checkpoint, where no core stands so, or E0 where there is no memory. The checkpoint stays as it is.
+    pub fn resume(alloc: Global, base: &Base) -> Result<Core, ResumeFault>
+        ensures core { IfOk result (λ core. core ≡ record { base = state_in base.now; earlier = base.now.counts; history = []; cut = 0; effects = []; prepared = false }) }
+        ensures lawful { OnOk result (IsLawful base.now) }
+        ensures fault { IfErr result (IsResumeFault base.now) }
+    {
+        let machine = machine_at(alloc, base)?;
+        Ok(Core::begin(alloc, machine, base.counts))
+    }
+
+    fn begin(alloc: Global, machine: Machine, earlier: Counts) -> Core
+        requires orders { (outcome_of machine).orders ≡ [] }
+        requires replies { (outcome_of machine).state.replies ≡ [] }
+        requires ends { (outcome_of machine).state.ends ≡ [] }
+        requires sound { IsSound machine }
+        requires shows { IsShowing (outcome_of machine).state }
+        requires rated { IsRated (outcome_of machine).state }
+        requires counts { AreCounts earlier }
+        ensures { result ≡ record { base = (outcome_of machine).state; earlier = earlier; history = []; cut = 0; effects = []; prepared = false } }
+    {
+        let origin = origin_of(&machine);
         Core {
             machine,
             history: History::new(alloc),
+            origin,
+            earlier,
             last_number: 0,
-            gone_call: None,
+            gone_call: earlier.greatest_call,
             events_cut: 0,
             starts: 0,
             prepared: false,
+        }
+    }
+
+    /// A checkpoint as plain data, which may be written out: a core that is resumed from it goes on as this one
+    /// ([`Core::resume`]). Of the restarts it has the last, one more than the intensity, since no older one counts; answers and
+    /// ends aren't in it. The core itself stays as it is.
+    ///
+    /// # Errors
+    ///
+    /// Where memory is refused.
+    pub fn checkpoint(&self, alloc: Global) -> Result<Base, AllocError>
+        requires { self.now.effects ≡ [] }
+        ensures state { IfOk result (λ base. state_in base ≡ short_base_of (state_of self.now)) }
+        ensures counts { IfOk result (λ base. base.counts ≡ counted self.now) }
+        ensures goes_on { GoesOn (state_of self.now) }
+    {
+        laws::cuts_agree();
+        laws::end_evidence();
+        base_at(alloc, &self.machine, self.count())
+    }
+
+    /// What a checkpoint counts now.
+    fn count(&self) -> Counts
+        ensures { result ≡ counted self.now }
+    {
+        Counts {
+            events: self.earlier.events + self.events_cut + self.history.len() as u64,
+            starts: self.earlier.starts + self.starts,
+            restarts: self.count_restarts(),
+            greatest_number: self.greatest_number(),
+            greatest_call: greater_of(self.gone_call, self.machine.replies.greatest()),
         }
     }
 
@@ -415,12 +490,22 @@ impl Core {
         needs_number(&self.machine, reading, kind)
     }
 
-    /// The last process number that was given to a child, or 0 where none was. Any above it may be the next.
+    /// The last process number that an event of the history gave to a child, or 0 where none did. A core that was resumed has
+    /// children of before: [`Core::greatest_number`] counts these too.
     pub fn last_number(&self) -> u64
         ensures last { result ≡ last_number self.now.history }
         ensures next { (n : ℕ) → result < n → All (λ m. m < n) (numbers_of self.now.history) }
     {
         self.last_number
+    }
+
+    /// The greatest process number that was given to a child, also before the checkpoint from which the core was resumed; or 0.
+    /// Any above it may be the next.
+    pub fn greatest_number(&self) -> u64
+        ensures greatest { result ≡ max self.now.earlier.greatest_number (last_number self.now.history) }
+        ensures next { (n : ℕ) → result < n → All (λ m. m < n) (numbers_of self.now.history) }
+    {
+        self.earlier.greatest_number.max(self.last_number)
     }
 
     /// For how many more events, orders and answers there is memory. Where the core is prepared, that is at least what
@@ -563,6 +648,7 @@ impl Core {
         ensures number { is_some result ≡ needs_number (state_of self.old) reading kind }
         ensures drawn { MatchOption result (numbers.new ≡ numbers.old) (λ n. N.gives numbers.old n numbers.new) }
         ensures base { self.new.base ≡ self.old.base }
+        ensures earlier { self.new.earlier ≡ self.old.earlier }
         ensures cut { self.new.cut ≡ self.old.cut }
         ensures history { self.new.history ≡ self.old.history ++ record { reading = reading; number = result; kind = kind } ∷ [] }
         ensures stored { stored_of self.new ≡ stored_of self.old ++ record { reading = reading; number = result; kind = kind } ∷ [] }
@@ -594,6 +680,7 @@ impl Core {
         requires number { is_some event.number ≡ needs_number (state_of self.old) event.reading event.kind }
         requires rises { (n : ℕ) → event.number ≡ Some n → All (λ m. m < n) (numbers_of self.old.history) }
         ensures base { self.new.base ≡ self.old.base }
+        ensures earlier { self.new.earlier ≡ self.old.earlier }
         ensures cut { self.new.cut ≡ self.old.cut }
         ensures history { self.new.history ≡ self.old.history ++ event ∷ [] }
         ensures stored { stored_of self.new ≡ stored_of self.old ++ event ∷ [] }

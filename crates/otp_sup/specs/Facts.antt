@@ -24,7 +24,7 @@ use Rattle.otp_rules.specs.Slots.{AreSlotted}
 use Rattle.otp_table.specs.declared.row.Row.{Row}
 use Rattle.otp_table.specs.declared.row.RowState.{RowState}
 use Rattle.otp_table.specs.Rows.{has_process, has_slot}
-use Rattle.otp_core.specs.View.{View, state_of, stored_of}
+use Rattle.otp_core.specs.View.{View, new_core, state_of, stored_of}
 use Rattle.otp_counts.specs.Counts.{EndsWith, Publishing}
 use Rattle.otp_inbox.specs.Tokens.{TakerState}
 use Rattle.otp_signals.specs.declared.view.Holding.{Holding}
@@ -121,7 +121,7 @@ pub record IsOffice (o : OfficeView) : Type 0 where
 -- the office of a supervisor that was never opened
 abbrev pub new_office : SupFlags → List ChildSpec → Holding → ℕ → OfficeView
 new_office flags specs owner first_slot = record {
-  core = record { base = empty_state flags specs; history = []; cut = 0; effects = []; prepared = false };
+  core = new_core flags specs;
   owner = owner;
   outbox = [];
   sent = 0;

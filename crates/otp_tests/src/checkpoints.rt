@@ -18,7 +18,7 @@ fn cut(core: &mut Core) -> Result<(), Fail> {
     Ok(())
 }
 
-fn is_gone(core: &Core, call: u64) -> bool {
+pub(crate) fn is_gone(core: &Core, call: u64) -> bool {
     matches!(core.reply(call), ReplyAnswer::Gone)
 }
 

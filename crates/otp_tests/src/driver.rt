@@ -130,7 +130,7 @@ impl Driver {
         assert!(rt; !self.core.is_full());
         assert!(rt; self.reading <= 1 << 62);
         let mut numbers = Counter {
-            last: self.core.last_number(),
+            last: self.core.greatest_number(),
         };
         assert!(rt; numbers.last < u64::MAX);
         let is_needed = self.core.needs_number(self.reading, &kind);

@@ -22,6 +22,8 @@ mod history;
 #[cfg(test)]
 mod reason;
 #[cfg(test)]
+mod resumes;
+#[cfg(test)]
 mod rules;
 #[cfg(test)]
 mod spec;

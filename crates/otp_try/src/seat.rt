@@ -1,6 +1,7 @@
 //! A supervisor of a tree that is tried.
 
 ghost use Rattle.std.specs.Prelude.{◌≡◌, ◌≤◌, ◌^◌, [], false, length, nat_lt, IfOk, OnOk};
+ghost use Rattle.otp_core.specs.View.{new_core};
 ghost use Rattle.otp_rules.specs.Ends.{last_stamps};
 ghost use Rattle.otp_rules.specs.Next.{idle_kind, next_kind};
 ghost use Rattle.otp_rules.specs.Run.{empty_state};
@@ -51,7 +52,7 @@ impl Model for Seat {
 
 /// A core that was never opened.
 fn core_of(alloc: Global, supervisor: &SupSpec) -> Result<Core, Halt>
-    ensures { IfOk result (λ core. core ≡ record { base = empty_state supervisor.now.flags supervisor.now.specs; history = []; cut = 0; effects = []; prepared = false }) }
+    ensures { IfOk result (λ core. core ≡ new_core supervisor.now.flags supervisor.now.specs) }
 {
     Ok(Core::of(alloc, supervisor.try_clone(alloc)?))
 }

@@ -9,12 +9,12 @@ use Rattle.otp_rules.specs.declared.event.Effect.{Effect}
 use Rattle.otp_rules.specs.declared.event.Event.{Event}
 use Rattle.otp_rules.specs.State.{Outcome, State}
 use Rattle.otp_rules.specs.Step.{step}
-use Rattle.otp_rules.specs.Run.{empty_state, state_after}
-use Rattle.otp_rules.specs.Cuts.{base_of, greatest_call, told_before, Earlier}
+use Rattle.otp_rules.specs.Run.{state_after}
+use Rattle.otp_rules.specs.Cuts.{base_of, greater_of, greatest_call, told_before, Earlier}
 use Rattle.otp_rules.specs.Needs.{IsLawfulHistory, needs_number, numbers_of}
 use Rattle.std.specs.Prelude.{Some, is_some, ◌<◌}
 use Rattle.otp_machine.specs.Seen.{outcome_of}
-use Rattle.otp_core.specs.CoreInside.{dropped, events_of, one_if}
+use Rattle.otp_core.specs.CoreInside.{dropped, events_of, first_of, one_if}
 use Rattle.otp_core.specs.View.{View, state_of, stored_of}
 use Rattle.otp_core.proofs.Full.{few_stored}
 use Rattle.otp_core.proofs.Lawful.{lawful_on}
@@ -39,38 +39,36 @@ invariant_of-self g c =
     let last : after.state.last ≡ max event.reading before.state.last = ap (λ (s : State). s.last) moved ∙ c.step_stamps.ensures before.state event in
     let count : length after.state.specs ≡ length before.state.specs = ap (λ (xs : List ChildSpec). length xs) specs in
     let intensity : after.state.flags.intensity ≡ before.state.flags.intensity = ap (λ (f : SupFlags). f.intensity) flags in
-    let base : State = empty_state before.state.flags before.state.specs in
-    let same_base : base ≡ empty_state after.state.flags after.state.specs =
-    ap (λ (f : SupFlags). empty_state f before.state.specs) (sym flags) ∙ ap (λ (xs : List ChildSpec). empty_state after.state.flags xs) (sym specs) in
+    let first : State = first_of c.self.inside in
     let x : Earlier = dropped c.self.inside in
     let of : State → Earlier = λ s. told_before s.replies s.ends in
-    let y : Earlier = of (state_after (empty_state after.state.flags after.state.specs) c.push.new.self.past) in
-    let same : y ≡ x =
-    ap (λ (p : List Event). of (state_after (empty_state after.state.flags after.state.specs) p)) c.push.ensures.past
-    ∙ ap (λ (s : State). of (state_after s c.self.inside.history.past)) (sym same_base) in
-    let Lawful : State → Type 0 = λ s. IsLawfulHistory s longer in
-    let needs : is_some event.number ≡ needs_number (state_after base events) event.reading event.kind =
+    let y : Earlier = of (state_after first c.push.new.self.past) in
+    let same : y ≡ x = ap (λ (p : List Event). of (state_after first p)) c.push.ensures.past in
+    let stored : length c.self.inside.history.events ≡ length (stored_of c.args.self.now) =
+    ap (λ (es : List Event). length es) (sym (drop-append_seam c.self.inside.history.past c.self.inside.history.events)) ∙ ap (λ (v : View). length (stored_of v)) c.self.view_is in
+    let needs : is_some event.number ≡ needs_number (state_after first events) event.reading event.kind =
     c.step-number.ensures.starts ∙ sym (c.cuts_agree.ensures.needs x.replies x.ends before.state event.reading event.kind)
     ∙ ap (λ (s : State). needs_number s event.reading event.kind) c.self.invariant.runs in
     let numbers : (n : ℕ) → event.number ≡ Some n → All (λ m. m < n) (numbers_of events) =
     λ n is. subst (λ (v : View). All (λ m. m < n) (numbers_of v.history)) (sym c.self.view_is) (c.requires.rises n c.step-number.new.numbers (drawn_is _ _ event.number c.step-number.ensures.drawn n is)) in
-    let lawful_after : IsLawfulHistory (empty_state after.state.flags after.state.specs) longer =
-    subst Lawful same_base (lawful_on base events longer event more c.self.invariant.lawful needs numbers) in
     let Reached : ℕ → Type 0 = λ p. All (λ m. m ≤ p) (numbers_of longer) in
     let IsStamped : State → Type 0 = λ s. All (λ t. t ≤ s.last) s.stamps in
     record {
-      runs = runs_on x y before.state after.state events longer event moved (c.cuts_agree.ensures.step x.replies x.ends before.state event).0 same more flags specs c.self.invariant.runs;
-      kept = keeps_on before.state after.state (base_of (state_after base c.self.inside.history.past)) (base_of (state_after (empty_state after.state.flags after.state.specs) c.push.new.self.past)) c.self.inside.history.events c.push.new.self.events event moved c.push.ensures.events
-          (ap (λ (p : List Event). base_of (state_after (empty_state after.state.flags after.state.specs) p)) c.push.ensures.past
-          ∙ ap (λ (s : State). base_of (state_after s c.self.inside.history.past)) (sym same_base))
+      runs = runs_on x y first before.state after.state events longer event moved (c.cuts_agree.ensures.step x.replies x.ends before.state event).0 same more c.self.invariant.runs;
+      kept = keeps_on before.state after.state (base_of (state_after first c.self.inside.history.past)) (base_of (state_after first c.push.new.self.past)) c.self.inside.history.events c.push.new.self.events event moved c.push.ensures.events
+          (ap (λ (p : List Event). base_of (state_after first p)) c.push.ensures.past)
           c.self.invariant.kept;
-      lawful = lawful_after;
+      lawful = lawful_on first events longer event more c.self.invariant.lawful needs numbers;
       last = c.unwrap_or-self-inside.ensures ∙ last_on c.self.inside.last_number events longer event more c.self.invariant.last;
       numbers = subst Reached (sym c.unwrap_or-self-inside.ensures) (reached_on c.self.inside.last_number events longer event more c.self.invariant.numbers numbers);
-      gone = c.self.invariant.gone ∙ ap (λ (z : Earlier). greatest_call z.replies) (sym same);
+      gone = c.self.invariant.gone ∙ ap (λ (z : Earlier). greater_of c.self.inside.earlier.greatest_call (greatest_call z.replies)) (sym same);
+      stored = omega (arith, ap (λ (es : List Event). length es) c.push.ensures.events, length-append c.self.inside.history.events (event ∷ []), stored, few_stored c.args.self.now c.requires.room);
       events_cut = c.self.invariant.events_cut ∙ ap (λ (p : List Event). length p) (sym c.push.ensures.past);
       events = c.self.invariant.events;
+      counts = c.self.invariant.counts;
       starts = omega (arith, c.self.invariant.starts, starts_on events longer event more, c.one_if.ensures, ap one_if c.is_some.ensures);
+      shows = c.self.invariant.shows;
+      rated = c.self.invariant.rated;
       sound = record {
         limit = omega (arith, count, c.self.invariant.sound.limit);
         ordered = subst IsStamped (sym moved) (c.step_keeps_stamped.ensures before.state event c.self.invariant.sound.ordered);
@@ -79,18 +77,6 @@ invariant_of-self g c =
       };
       room = search rules;
     }
-
-pub returns-clause-base : goal.returns-clause-base
-returns-clause-base g c =
-    let before : Outcome = outcome_of c.self.inside.machine in
-    let after : Outcome = outcome_of c.step-number.new.self in
-    let event : Event = record { reading = c.args.reading; number = c.step-number.result; kind = c.args.kind } in
-    let moved : after.state ≡ (step before.state event).state =
-    ap (λ (o : Outcome). o.state) c.step-number.ensures.outcome ∙ ap (λ (o : Outcome). o.state) (c.orders_are_appended.ensures event before) in
-    let flags : after.state.flags ≡ before.state.flags = ap (λ (s : State). s.flags) moved ∙ (c.step_keeps_plan.ensures before.state event).0 in
-    let specs : after.state.specs ≡ before.state.specs = ap (λ (s : State). s.specs) moved ∙ (c.step_keeps_plan.ensures before.state event).1 in
-    ap (λ (f : SupFlags). empty_state f after.state.specs) flags ∙ ap (λ (xs : List ChildSpec). empty_state before.state.flags xs) specs
-    ∙ ap (λ (v : View). v.base) c.self.view_is
 
 pub returns-clause-history : goal.returns-clause-history
 returns-clause-history g c =
@@ -124,7 +110,7 @@ returns-clause-answers g c =
     let event : Event = record { reading = c.args.reading; number = c.step-number.result; kind = c.args.kind } in
     let moved : after.state ≡ (step before.state event).state =
     ap (λ (o : Outcome). o.state) c.step-number.ensures.outcome ∙ ap (λ (o : Outcome). o.state) (c.orders_are_appended.ensures event before) in
-    let first : State = empty_state after.state.flags after.state.specs in
+    let first : State = first_of c.self.inside in
     let past : List Event = c.push.new.self.past in
     let events : List Event = c.push.new.self.events in
     let whole : State = state_after first (past ++ events) in
