@@ -15,7 +15,7 @@ pub invariant_of-result : goal.invariant_of-result
 invariant_of-result c =
     let s : State = (outcome_of c.args.machine).state in
     let first : State = c.origin_of-origin.result.state in
-    let same : first ≡ s = c.origin_of-origin.ensures in
+    let same : first ≡ s = c.origin_of-origin.ensures.state in
     let past : c.new.result.past ≡ [] = c.new.ensures.past in
     let none : c.new.result.events ≡ [] = c.new.ensures.events in
     let all : c.new.result.past ++ c.new.result.events ≡ [] = ap (λ (es : List Event). es ++ c.new.result.events) past ∙ none in
@@ -28,7 +28,7 @@ invariant_of-result c =
           none_older s _ _ (ap (λ (w : State). w.replies) begun ∙ c.requires.replies) (ap (λ (w : State). w.ends) begun ∙ c.requires.ends)
           ∙ sym same ∙ sym (ap (state_after first) all);
       kept = is_base s c.requires.replies c.requires.ends ∙ ap base_of (sym begun) ∙ sym (ap (state_after (base_of (state_after first c.new.result.past))) none);
-      lawful = subst Lawful (sym all) (tt, (λ i j d within. absurd (omega (arith, within))));
+      lawful = subst Lawful (sym all) (tt, (λ i j d less within. absurd (omega (arith, within))));
       last = ap last_number (sym all);
       numbers = subst Reached (sym all) (All-nil (λ m. m ≤ 0));
       gone = greater_none before ∙ ap (greater_of before) (sym (ap greatest_call (ap (λ (w : State). w.replies) begun ∙ c.requires.replies)));
