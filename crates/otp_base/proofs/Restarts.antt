@@ -3,13 +3,12 @@ use Rattle.std.proofs.Common.{◌≡◌, ℕ, ◌+◌, ◌-◌, ◌*◌, ◌≤�
 use Rattle.std.specs.Prelude.{◌⊎◌}
 use Rattle.std.specs.List.{Contains}
 use Rattle.std.specs.List.Sorted.{IsNonDecreasing}
-use Rattle.std.proofs.lemmas.Bool.{cases_Bool, leb-true, leb-false, ltb-true, ltb-false, and_parts, and_from, false≢true, false_from_ne_true, le-leb, lt-ltb}
+use Rattle.std.proofs.lemmas.Bool.{cases_Bool, leb-true, leb-false, ltb-true, ltb-false, and_parts, false≢true, false_from_ne_true}
 use Rattle.std.proofs.lemmas.List.{get_or-take, take_all, take_more}
 use Rattle.std.proofs.lemmas.Grind.{get_or_default_zero}
 use Rattle.std.proofs.lemmas.List.Sums.{sum_by-cons, count_by-le-length, count_by_more_no}
 use Rattle.otp_spec.specs.declared.flags.SupFlags.{SupFlags}
-use Rattle.otp_window.specs.Period.{in_period, is_in_period}
-use Rattle.otp_rules.specs.declared.ending.Ending.{Ending}
+use Rattle.otp_window.specs.Period.{is_in_period}
 use Rattle.otp_rules.specs.declared.ending.Ending.TheVariants.{Intensity, Significant, Asked, InitFailed}
 use Rattle.otp_rules.specs.declared.work.Phase.{Phase}
 use Rattle.otp_rules.specs.declared.work.Phase.TheVariants.{Unopened, Open, Ended}
@@ -120,12 +119,14 @@ none_cut n m few = omega (arith, few)
 
 -- and show why the supervisor ends
 pub shows : (s : State) → AreRestarts s.flags s.stamps s.last s.follows s.phase → IsShowing s
-shows s r =
-    (r.ordered, r.latest,
-    λ (f : s.follows ≡ Some (sequel.End Intensity)).
-    let ending : ends_by_intensity s.follows s.phase ≡ true = ap (λ (o : Option Sequel). ends_by_intensity o s.phase) f in
-    let all : last_stamps s.flags.intensity s.stamps ≡ s.stamps = ap (λ (n : ℕ). drop n s.stamps) (none_cut (length s.stamps) (s.flags.intensity + 1) r.few) in
-    subst (λ (xs : List ℕ). IsTooMany s.flags.intensity s.flags.period xs) (sym all) (too_many s.flags.intensity s.flags.period s.stamps r.ordered r.few (r.rate ∙ ending)))
+shows s r = (
+  r.ordered,
+  r.latest,
+  λ (f : s.follows ≡ Some (sequel.End Intensity)).
+      let ending : ends_by_intensity s.follows s.phase ≡ true = ap (λ (o : Option Sequel). ends_by_intensity o s.phase) f in
+      let all : last_stamps s.flags.intensity s.stamps ≡ s.stamps = ap (λ (n : ℕ). drop n s.stamps) (none_cut (length s.stamps) (s.flags.intensity + 1) r.few) in
+      subst (λ (xs : List ℕ). IsTooMany s.flags.intensity s.flags.period xs) (sym all) (too_many s.flags.intensity s.flags.period s.stamps r.ordered r.few (r.rate ∙ ending)),
+)
 
 -- of stamps in order none is later than one behind it
 pub past_before : (stamps : List ℕ) (i d : ℕ) → IsNonDecreasing stamps → i < length stamps → All (λ s. s ≤ get_or stamps i d) (take i stamps)

@@ -15,7 +15,10 @@ pub(crate) fn copy_list<T: Copy + Drop>(alloc: Global, items: &[T]) -> Result<Ve
 }
 
 /// A queue's items, in their order.
-pub(crate) fn list_queue<T: Copy + Drop>(alloc: Global, items: &VecDeque<T>) -> Result<Vec<T>, AllocError>
+pub(crate) fn list_queue<T: Copy + Drop>(
+    alloc: Global,
+    items: &VecDeque<T>,
+) -> Result<Vec<T>, AllocError>
     ensures { IfOk result (λ list. list.items ≡ items.now.items) }
 {
     let mut list = Vec::new(alloc);

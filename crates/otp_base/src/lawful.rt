@@ -27,7 +27,13 @@ pub(crate) fn fault_of(base: &Base) -> Option<BaseFault>
     if base.last > MAX_READING {
         return Some(BaseFault::Reading);
     }
-    if !are_restarts(&base.flags, base.stamps.as_slice(), base.last, base.follows, base.phase) {
+    if !are_restarts(
+        &base.flags,
+        base.stamps.as_slice(),
+        base.last,
+        base.follows,
+        base.phase,
+    ) {
         return Some(BaseFault::Restarts);
     }
     if !are_counts(&base.counts) {

@@ -1,13 +1,11 @@
 use Rattle.std.proofs.Common.{◌≡◌, ℕ, List, [], ◌∷◌, ◌++◌, Option, None, Some, append-nil, arith, max, refl, ap, subst, sym, ◌∙◌}
 use Rattle.otp_rules.specs.declared.call.Answered.{Answered}
 use Rattle.otp_rules.specs.declared.ending.SupEnd.{SupEnd}
-use Rattle.otp_spec.specs.declared.child.ChildSpec.{ChildSpec}
-use Rattle.otp_spec.specs.declared.flags.SupFlags.{SupFlags}
 use Rattle.otp_rules.specs.declared.event.Event.{Event}
 use Rattle.otp_rules.specs.Cuts.{base_of, greater_of, greatest_call, older, told_before, Earlier}
 use Rattle.otp_rules.specs.State.{State}
 use Rattle.otp_rules.specs.Step.{step}
-use Rattle.otp_rules.specs.Run.{empty_state, state_after}
+use Rattle.otp_rules.specs.Run.{state_after}
 
 -- one event more
 pub pushed : (s : State) (es : List Event) (e : Event) → state_after s (es ++ e ∷ []) ≡ (step (state_after s es) e).state

@@ -1,5 +1,5 @@
 -- What a checkpoint counts, and that what happens after it is the same.
-use Rattle.std.specs.Prelude.{ℕ, ◌+◌, ◌-◌, ◌^◌, List, length, max, min}
+use Rattle.std.specs.Prelude.{◌+◌, ◌-◌, ◌^◌, List, length, max, min}
 use Rattle.otp_rules.specs.declared.event.Event.{Event}
 use Rattle.otp_rules.specs.Cuts.{greater_of, greatest_call, GoesOnFromCut}
 use Rattle.otp_rules.specs.Needs.{last_number, numbers_of}

@@ -1,6 +1,6 @@
 -- An opening is known from then on.
 use Rattle.std.specs.Prelude.{◌≡◌, ◌⊎◌, ℕ, ◌++◌, Bool, true, false, List, [], ◌∷◌, map, refl, unwrap_or, if◌then◌else◌}
-use Rattle.std.proofs.Common.{◌∙◌, ◌+◌, ◌<◌, ◌==◌, ap, arith, cond, inl, inr, rules, subst, sym, ⊎_elim}
+use Rattle.std.proofs.Common.{◌∙◌, ◌==◌, ap, arith, cond, inl, inr, rules, subst, sym, ⊎_elim}
 use Rattle.std.proofs.lemmas.Bool.{eq-eqb, false≢true}
 use Rattle.std.proofs.lemmas.List.{map-append}
 use Rattle.otp_rules.specs.declared.ending.Ending.{Ending}
@@ -9,7 +9,6 @@ use Rattle.otp_rules.specs.declared.call.Reply.{Reply}
 use Rattle.otp_rules.specs.declared.event.Event.{Event}
 use Rattle.otp_rules.specs.declared.event.Kind.{Kind}
 use Rattle.otp_rules.specs.declared.event.Kind.TheVariants as kind
-use Rattle.otp_rules.specs.declared.work.Phase.{Phase}
 use Rattle.otp_rules.specs.declared.work.Phase.TheVariants.{Open}
 use Rattle.otp_rules.specs.State.{Outcome, State, answer, is_busy, is_over, own_number}
 use Rattle.otp_rules.specs.Ends.{end_all, refuse_all, sup_end_of}

@@ -1,4 +1,4 @@
-use Rattle.std.proofs.Common.{rules, ◌≡◌, ◌+◌, ◌<◌, ◌≤◌, IsTrue, ℕ, List, Bool, true, false, arith, get_or, length}
+use Rattle.std.proofs.Common.{rules, ◌+◌, ◌<◌, ◌≤◌, IsTrue, ℕ, List, Bool, true, false, arith, get_or, length}
 use Rattle.std.specs.Prelude.{MatchBool}
 use Rattle.std.specs.List.Sorted.{IsNonDecreasing}
 use Rattle.std.proofs.lemmas.List.Sorted.{non_decreasing_from_is_sorted}

@@ -1,4 +1,3 @@
-use Rattle.std.proofs.Common.{rules}
 use Rattle.otp_base.specs.Lawful.{IsLawful}
 use Rattle.otp_base.specs.States.{state_in}
 use Rattle.otp_base.proofs.Restarts.{rated, shows}

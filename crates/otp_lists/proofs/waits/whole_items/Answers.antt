@@ -1,4 +1,4 @@
-use Rattle.std.proofs.Common.{◌≡◌, ◌+◌, ◌<◌, ◌++◌, ◌∷◌, [], ℕ, List, ap, arith, cond, count_by, drop, get_or, length, sym, take, ◌∙◌}
+use Rattle.std.proofs.Common.{◌≡◌, ◌<◌, ◌++◌, ◌∷◌, [], ℕ, List, ap, arith, cond, count_by, drop, get_or, length, sym, take, ◌∙◌}
 use Rattle.otp_rules.specs.declared.call.Call.{Call}
 use Rattle.otp_rules.specs.declared.event.Waiting.{Waiting}
 use Rattle.otp_lists.specs.WaitsInside.{is_call, whole_item, whole_items}

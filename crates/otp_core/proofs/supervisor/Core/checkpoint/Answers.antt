@@ -1,11 +1,9 @@
-use Rattle.std.proofs.Common.{◌≡◌, List, None, ap, subst, sym, ◌∙◌}
+use Rattle.std.proofs.Common.{List, None, subst}
 use Rattle.otp_rules.specs.declared.event.Event.{Event}
 use Rattle.otp_rules.specs.declared.event.Kind.TheVariants as kind
-use Rattle.otp_rules.specs.Cuts.{short_base_of}
 use Rattle.otp_rules.specs.Evidence.{IsShowing}
 use Rattle.otp_rules.specs.Run.{state_after}
 use Rattle.otp_rules.specs.State.{State}
-use Rattle.otp_machine.specs.Seen.{outcome_of}
 use Rattle.otp_core.specs.CoreInside.{events_of, first_of}
 use Rattle.otp_core.specs.Resumed.{GoesOn}
 use Rattle.otp_core.specs.View.{View, state_of}

@@ -11,7 +11,7 @@ use Rattle.otp_rules.specs.State.{Outcome, State}
 use Rattle.otp_rules.specs.Step.{step}
 use Rattle.otp_rules.specs.Run.{state_after}
 use Rattle.otp_rules.specs.Cuts.{base_of, greater_of, greatest_call, told_before, Earlier}
-use Rattle.otp_rules.specs.Needs.{IsLawfulHistory, needs_number, numbers_of}
+use Rattle.otp_rules.specs.Needs.{needs_number, numbers_of}
 use Rattle.std.specs.Prelude.{Some, is_some, ◌<◌}
 use Rattle.otp_machine.specs.Seen.{outcome_of}
 use Rattle.otp_core.specs.CoreInside.{dropped, events_of, first_of, one_if}
