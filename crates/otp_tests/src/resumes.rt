@@ -123,7 +123,7 @@ fn counts_all(rt: &impl Abort, alloc: Global, driver: &mut Driver) -> Result<(),
 }
 
 // A supervisor of one child that crashed once, as it stands.
-fn sample(rt: &impl Abort, alloc: Global) -> Result<Base, Fail> {
+pub(crate) fn sample(rt: &impl Abort, alloc: Global) -> Result<Base, Fail> {
     let a = child(b"a")?;
     let mut driver = Driver::open(rt, alloc, SupFlags::default(), &[a])?;
     sample_of(rt, alloc, &mut driver)
@@ -152,7 +152,12 @@ fn restarts_are_refused(rt: &impl Abort, alloc: Global, base: &mut Base) -> Resu
     let restarts = Some(BaseFault::Restarts);
     same(rt, "as it stands", fault_of(alloc, base), None);
     base.stamps.push(900)?;
-    same(rt, "a restart before another", fault_of(alloc, base), restarts);
+    same(
+        rt,
+        "a restart before another",
+        fault_of(alloc, base),
+        restarts,
+    );
     base.stamps[0] = 800;
     same(rt, "one too many", fault_of(alloc, base), restarts);
     base.phase = Phase::Ended(0, Ending::Intensity);
@@ -163,7 +168,12 @@ fn restarts_are_refused(rt: &impl Abort, alloc: Global, base: &mut Base) -> Resu
     base.stamps.push(9_000)?;
     same(rt, "more than are kept", fault_of(alloc, base), restarts);
     base.stamps.clear();
-    same(rt, "an end without restarts", fault_of(alloc, base), restarts);
+    same(
+        rt,
+        "an end without restarts",
+        fault_of(alloc, base),
+        restarts,
+    );
     Ok(())
 }
 
@@ -194,7 +204,7 @@ fn refused_children(rt: HostRuntime) -> Result<(), Fail> {
 }
 
 fn children_are_refused(rt: &impl Abort, alloc: Global, base: &mut Base) -> Result<(), Fail> {
-    let row = base.rows[0];
+    let row = *base.rows.first().ok_or("a row")?;
     for _ in 1..MAX_CHILDREN {
         base.rows.push(row)?;
     }
@@ -202,7 +212,7 @@ fn children_are_refused(rt: &impl Abort, alloc: Global, base: &mut Base) -> Resu
     base.rows.push(row)?;
     let rows = Some(BaseFault::Rows);
     same(rt, "one child more", fault_of(alloc, base), rows);
-    let spec: ChildSpec = base.specs[0];
+    let spec: ChildSpec = *base.specs.first().ok_or("a specification")?;
     base.specs.push(spec)?;
     let twice = BaseFault::Spec(SpecFault::DuplicateId { index: 1 });
     same(rt, "an id twice", fault_of(alloc, base), Some(twice));
