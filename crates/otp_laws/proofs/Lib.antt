@@ -1,0 +1,13 @@
+mod Basis
+mod Falls
+mod Heeded
+mod Notes
+mod Still
+mod Specs
+mod Ids
+mod Numbered
+mod Life
+mod Significant
+mod Deletes
+mod Oks
+mod Truths

@@ -1,0 +1,54 @@
+-- From a child's start to the note of its end, over whole histories (Supervisor Behaviour, Restart Strategy and Stopping:
+-- a child is started again only when it has ended).
+use Rattle.std.specs.Prelude.{◌≡◌, ◌++◌, ℕ, true, None, List, [], ◌∷◌, Option, Some, Contains}
+use Rattle.otp_reason.specs.declared.name.Name.{Name}
+use Rattle.otp_spec.specs.declared.child.ChildSpec.{ChildSpec}
+use Rattle.otp_spec.specs.declared.flags.SupFlags.{SupFlags}
+use Rattle.otp_spec.specs.Supervisor.{supervisor_fault}
+use Rattle.otp_table.specs.declared.row.Row.{Row}
+use Rattle.otp_table.specs.Rows.{has_id, has_process}
+use Rattle.otp_rules.specs.declared.event.Event.{Event}
+use Rattle.otp_rules.specs.State.{State, is_over}
+use Rattle.otp_rules.specs.Step.{step}
+use Rattle.otp_rules.specs.Run.{empty_state, state_after}
+use Rattle.otp_rules.specs.Needs.{IsLawfulHistory}
+use Rattle.otp_rules.specs.Lives.{IsHeldIn, TakesEnd}
+
+-- one of these events takes the note of this process's end
+abbrev pub EndIsTaken : List Event → ℕ → Type 0
+EndIsTaken events p = (e : Event) × Contains events e × TakesEnd e.kind p
+
+-- the event starts this process, of the child in this slot
+abbrev pub StartsIn : State → Event → ℕ → ℕ → Type 0
+StartsIn s e slot p = (e.number ≡ Some p) × IsHeldIn (step s e).state.rows slot p
+
+-- a child with this id has this process
+abbrev pub IsHeldAs : List Row → Name → ℕ → Type 0
+IsHeldAs rows id p = (row : Row) × Contains rows row × (has_id id row ≡ true) × (has_process p row.state ≡ true)
+
+-- the event starts this process, of the child with this id
+abbrev pub StartsAs : State → Event → Name → ℕ → Type 0
+StartsAs s e id p = (e.number ≡ Some p) × IsHeldAs (step s e).state.rows id p
+
+-- in a lawful history, after a start of a child no other start in the child's slot comes before the note of its end was taken
+abbrev pub RowsStartAnew : Type 0
+RowsStartAnew =
+    (flags : SupFlags) (specs : List ChildSpec) (events between : List Event) (e f : Event) (slot p q : ℕ) → supervisor_fault flags specs ≡ None
+    → IsLawfulHistory (empty_state flags specs) (events ++ e ∷ between ++ f ∷ [])
+    → StartsIn (state_after (empty_state flags specs) events) e slot p → StartsIn (state_after (empty_state flags specs) (events ++ e ∷ between)) f slot q
+    → EndIsTaken (between ++ f ∷ []) p
+
+-- nor one of a child with its id
+abbrev pub IdsStartAnew : Type 0
+IdsStartAnew =
+    (flags : SupFlags) (specs : List ChildSpec) (events between : List Event) (e f : Event) (id : Name) (p q : ℕ) → supervisor_fault flags specs ≡ None
+    → IsLawfulHistory (empty_state flags specs) (events ++ e ∷ between ++ f ∷ [])
+    → StartsAs (state_after (empty_state flags specs) events) e id p → StartsAs (state_after (empty_state flags specs) (events ++ e ∷ between)) f id q
+    → EndIsTaken (between ++ f ∷ []) p
+
+-- nor the end of the supervisor
+abbrev pub EndsAfterAll : Type 0
+EndsAfterAll =
+    (flags : SupFlags) (specs : List ChildSpec) (events between : List Event) (e : Event) (slot p : ℕ)
+    → IsLawfulHistory (empty_state flags specs) (events ++ e ∷ between) → StartsIn (state_after (empty_state flags specs) events) e slot p
+    → is_over (state_after (empty_state flags specs) (events ++ e ∷ between)).phase ≡ true → EndIsTaken between p

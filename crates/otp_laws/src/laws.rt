@@ -1,0 +1,58 @@
+//! Laws over all states, events and histories. A law is a function that does nothing: what it ensures is the law.
+ghost use Rattle.otp_laws.specs.Ids.{IdsApart, IdsStayApart, ProcessesNumbered, ProcessesNumberedFrom};
+ghost use Rattle.otp_laws.specs.Life.{EndsAfterAll, IdsStartAnew, RowsStartAnew};
+ghost use Rattle.otp_laws.specs.Musts.{DeletesUndefined, DeletesUndefinedFrom, SignificantEndsEnd};
+ghost use Rattle.otp_laws.specs.Notes.{NotesCountOnce, NotesCountOnceFrom, UnawaitedChangesNone, UnawaitedChangesNoneFrom};
+ghost use Rattle.otp_laws.specs.Oks.{AnswersTrue, AnswersTrueFrom};
+
+/// Of the notes that name one process, at most one answer to its start and at most one Exit change the children's rows.
+/// Each other changes none: it comes where no child awaits it. An answer is awaited by a child whose start has none yet; an
+/// Exit by one whose process runs or was told to stop (Supervisor Behaviour, Starting a Supervisor and Stopping).
+pub fn notes_count_once()
+    ensures unawaited { UnawaitedChangesNone }
+    ensures unawaited_from_any { UnawaitedChangesNoneFrom }
+    ensures once { NotesCountOnce }
+    ensures once_from_any { NotesCountOnceFrom }
+{}
+
+/// After the start of a child its slot and its id see no other start, and the supervisor doesn't end, before the note of the
+/// process's end was taken: that it ended, or never came up (Supervisor Behaviour, Restart Strategy and Stopping).
+pub fn ends_come_between()
+    ensures slots { RowsStartAnew }
+    ensures ids { IdsStartAnew }
+    ensures end { EndsAfterAll }
+{}
+
+/// No two children of a supervisor have one id, after every list of events (Supervisor Behaviour, Child Specification, id).
+pub fn ids_differ()
+    ensures from_empty { IdsApart }
+    ensures from_any { IdsStayApart }
+{}
+
+/// In a lawful history each child's process is one that the history started.
+pub fn processes_are_numbered()
+    ensures from_empty { ProcessesNumbered }
+    ensures from_any { ProcessesNumberedFrom }
+{}
+
+/// An answer says what has happened. `ok` comes where the child that the call names has no process when the call is taken, or
+/// where the open work is that of the call and the note that the child's process ended was taken; `{ok, Child}` where the
+/// open work is that of the call, with the note that the process came up, which is up from then on (supervisor,
+/// delete_child/2, terminate_child/2, start_child/2 and restart_child/2).
+pub fn answers_are_true()
+    ensures from_empty { AnswersTrue }
+    ensures from_any { AnswersTrueFrom }
+{}
+
+/// The end of a significant child which isn't restarted ends the supervisor: under any_significant each such, under
+/// all_significant that of the last that is left. So it is in every state where no work is open; else the note waits
+/// (Supervisor Behaviour, Automatic Shutdown).
+pub fn significant_ends_end()
+    ensures { SignificantEndsEnd }
+{}
+
+/// delete_child removes the row of a child that is undefined, or changes no row (supervisor, delete_child/2).
+pub fn deletes_undefined()
+    ensures from_empty { DeletesUndefined }
+    ensures from_any { DeletesUndefinedFrom }
+{}
