@@ -157,7 +157,7 @@ unawaited-rests s e x h b none =
 -- an answer to a start: nobody is starting under its number any more
 
 -- what follows the work starts children, so that the failure of one counts
-abbrev starts_some : Option Sequel → Bool
+abbrev pub starts_some : Option Sequel → Bool
 starts_some (Some sequel.Ready) = true
 starts_some (Some sequel.Nothing) = true
 starts_some (Some (sequel.Added _)) = true

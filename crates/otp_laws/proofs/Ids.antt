@@ -192,7 +192,7 @@ decided-apart id s e specs h =
     (λ (not : (i : Item) → Brings e.kind s.waiting i → adds_named i ≡ false).
     decide-survives_event e.kind G start (Few (has_id id) 1)
     (few-survives (has_id id) (still_id id) 1 e.kind G start
-    (λ n other spec o u got few.
+    (λ n other spec o u got noted few.
     let none : ◌≡◌ {A = ℕ} (cond (has_id id (new_row (free_slot o.state.rows) other spec)) 1 0) 0 = ap (λ (b : Bool). cond b 1 0) (added-apart id e.kind s.waiting n other spec o got) in
     omega (arith, none, few))
     (λ own is over. open-apart id own start specs)) (λ i b idle. (b, not i b)) h)

@@ -11,3 +11,5 @@ mod Significant
 mod Deletes
 mod Oks
 mod Truths
+mod Dynamic
+mod Simple

@@ -64,7 +64,7 @@ kept-apart slot p t still m s e order held none =
     advance-few u still_other 0 (unwrap_or e.number 0) (decide e.kind start)
     (decide-survives_event e.kind (Brings e.kind s.waiting) start (Few u 0)
     (few-survives u still_other 0 e.kind (Brings e.kind s.waiting) start
-    (λ n id spec o unmoved got few.
+    (λ n id spec o unmoved got noted few.
     let new : Row = new_row (free_slot o.state.rows) id spec in
     let same : o.state.rows ≡ s.rows = ap (λ (x : Outcome). x.state.rows) unmoved in
     let free : holding (free_slot o.state.rows) o.state.rows ≡ 0 = free_slot-free o.state.rows in

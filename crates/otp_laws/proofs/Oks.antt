@@ -310,7 +310,7 @@ like-said s k o same = ([], same ∙ sym (append-nil s.replies), All-nil (λ (a 
 quiet-said : (s : State) (k : Kind) (o new : Outcome) → Quiet o new → o.state.replies ≡ s.replies → Said s k new
 quiet-said s k o new quiet same = like-said s k new (quiet ∙ same)
 
-at_starting-by : (P : Outcome → Type 0) (p : ℕ) (f : ℕ → ℕ → Row → Outcome → Outcome) (o : Outcome) → P o → ((kept place : ℕ) (row : Row) → StandsAt place row o → P (f kept place row o)) → P (at_starting p f o)
+pub at_starting-by : (P : Outcome → Type 0) (p : ℕ) (f : ℕ → ℕ → Row → Outcome → Outcome) (o : Outcome) → P o → ((kept place : ℕ) (row : Row) → StandsAt place row o → P (f kept place row o)) → P (at_starting p f o)
 unfolding at_starting
 at_starting-by P p f o x each = at_number-survives P p (λ place row. if_starting (λ kept. f kept place row) row.state) o x (λ place row at has. by place row row.state at)
   where

@@ -1,6 +1,6 @@
 -- How many rows have what no change of their state touches: their slot, their id, their specification. Only a child that is
 -- added, and an opening, makes them more.
-use Rattle.std.specs.Prelude.{◌≡◌, ◌⊎◌, ℕ, ◌==◌, ◌+◌, ◌≤◌, ◌<◌, ◌++◌, Bool, true, false, List, [], ◌∷◌, Option, None, Some, refl, position, is_some, slice_set, slice_range, remove, unwrap_or, take, drop, map, count_by}
+use Rattle.std.specs.Prelude.{◌≡◌, ◌⊎◌, ℕ, ◌==◌, ◌+◌, ◌≤◌, ◌<◌, ◌++◌, not, Bool, true, false, List, [], ◌∷◌, Option, None, Some, refl, position, is_some, slice_set, slice_range, remove, unwrap_or, take, drop, map, count_by}
 use Rattle.std.proofs.Common.{◌∙◌, ap, sym, arith, cond}
 use Rattle.std.proofs.lemmas.Bool.{cond_both}
 use Rattle.std.proofs.lemmas.List.Folds.{drop_split}
@@ -19,6 +19,7 @@ use Rattle.otp_rules.specs.declared.event.Item.{Item}
 use Rattle.otp_rules.specs.declared.event.Kind.{Kind}
 use Rattle.otp_rules.specs.declared.event.Kind.TheVariants as kind
 use Rattle.otp_rules.specs.declared.work.Sequel.TheVariants as sequel
+use Rattle.otp_spec.specs.Flags.{is_simple}
 use Rattle.otp_rules.specs.State.{Outcome, State, answer, is_over, with_rows, with_waiting, with_work}
 use Rattle.otp_rules.specs.Places.{end_process, end_row, is_removed, set_row}
 use Rattle.otp_rules.specs.Restarts.{running}
@@ -113,7 +114,7 @@ answer-few t c n r o h = h
 
 -- a decision keeps it so, if a child that is added does, and an opening
 pub few-survives : (t : Row → Bool) → IsStill t → (c : ℕ) (k : Kind) (G : Item → Type 0) (old : Outcome)
-    → ((n : ℕ) (id : Option Name) (spec : ChildSpec) (o : Outcome) → IsUnmoved old o → BringsStart G n id spec o → Few t c o → count_by t o.state.rows + cond (t (new_row (free_slot o.state.rows) id spec)) 1 0 ≤ c)
+    → ((n : ℕ) (id : Option Name) (spec : ChildSpec) (o : Outcome) → IsUnmoved old o → BringsStart G n id spec o → is_some id ≡ not (is_simple o.state.flags.strategy) → Few t c o → count_by t o.state.rows + cond (t (new_row (free_slot o.state.rows) id spec)) 1 0 ≤ c)
     → ((own : ℕ) → k ≡ kind.Opened own → is_over old.state.phase ≡ true → Few t c (open_rows own old)) → SurvivesEvent k G old (Few t c)
 few-survives t still c k G old added opened =
     record {
@@ -134,7 +135,7 @@ few-survives t still c k G old added opened =
       ends = λ e o u other idle runs h. terminate-few t still c e o h;
       ticks = λ is h. tick-few t still c old h;
       opens = λ own is over h. opened own is over;
-      adds = λ n id spec o u idle runs named few got h. omega (arith, added n id spec o u got h, sum_by-append (λ (r : Row). cond (t r) 1 0) o.state.rows (new_row (free_slot o.state.rows) id spec ∷ []), sum_by-cons (λ (r : Row). cond (t r) 1 0) (new_row (free_slot o.state.rows) id spec) []);
+      adds = λ n id spec o u idle runs named few got h. omega (arith, added n id spec o u got named h, sum_by-append (λ (r : Row). cond (t r) 1 0) o.state.rows (new_row (free_slot o.state.rows) id spec ∷ []), sum_by-cons (λ (r : Row). cond (t r) 1 0) (new_row (free_slot o.state.rows) id spec) []);
       starts_again = λ n id place row o u idle runs at has is noted found h. h;
       removed = λ place row o u idle runs at down h. remove-few t c place row o at h;
       given_up = λ place row o u idle runs at down h. set-few t still c place row Undefined o at h;

@@ -4,3 +4,4 @@ pub mod Ids
 pub mod Life
 pub mod Musts
 pub mod Oks
+pub mod Simple

@@ -4,6 +4,7 @@ ghost use Rattle.otp_laws.specs.Life.{EndsAfterAll, IdsStartAnew, RowsStartAnew}
 ghost use Rattle.otp_laws.specs.Musts.{DeletesUndefined, DeletesUndefinedFrom, SignificantEndsEnd};
 ghost use Rattle.otp_laws.specs.Notes.{NotesCountOnce, NotesCountOnceFrom, UnawaitedChangesNone, UnawaitedChangesNoneFrom};
 ghost use Rattle.otp_laws.specs.Oks.{AnswersTrue, AnswersTrueFrom};
+ghost use Rattle.otp_laws.specs.Simple.{SimpleHasNoneUndefined};
 
 /// Of the notes that name one process, at most one answer to its start and at most one Exit change the children's rows.
 /// Each other changes none: it comes where no child awaits it. An answer is awaited by a child whose start has none yet; an
@@ -55,4 +56,10 @@ pub fn significant_ends_end()
 pub fn deletes_undefined()
     ensures from_empty { DeletesUndefined }
     ensures from_any { DeletesUndefinedFrom }
+{}
+
+/// Under simple_one_for_one no child is undefined between two events, but while the supervisor ends: one whose process ended is
+/// gone, or is started again by the same event (Supervisor Behaviour, Simplified one_for_one Supervisors).
+pub fn simple_has_none_undefined()
+    ensures { SimpleHasNoneUndefined }
 {}
