@@ -143,10 +143,10 @@ pub record Holds (tmp : Bool) (s : State) : Type 0 where
 pub no_row : (t : Row → Bool) (place : ℕ) (row : Row) (rows : List Row) → slice_get rows place ≡ Some row → count_by t rows ≤ 0 → t row ≡ false
 no_row t place row rows at few =
     ⊎_elim
-    (λ (yes : t row ≡ true).
-    let one : ◌≡◌ {A = ℕ} (cond (t row) 1 0) 1 = ap (λ (b : Bool). cond b 1 0) yes in
+    (λ (holds_so : t row ≡ true).
+    let one : ◌≡◌ {A = ℕ} (cond (t row) 1 0) 1 = ap (λ (b : Bool). cond b 1 0) holds_so in
     absurd (omega (arith, few, one, remove_count t rows place row at)))
-    (λ (no : t row ≡ false). no)
+    (λ (isnt : t row ≡ false). isnt)
     (cases_Bool (t row))
 
 pub no_id : (x : Option Name) → is_some x ≡ false → x ≡ None
@@ -181,8 +181,8 @@ fine-closed tmp s reading ws rows h other less fewer =
 
 -- how the counts change
 pub set-counts : (t : RowState → Bool) (place : ℕ) (row : Row) (state : RowState) (rows : List Row) → slice_get rows place ≡ Some row → t state ≡ false → rows_in t (slice_set rows place (with_state state row)) ≤ rows_in t rows
-set-counts t place row state rows at no =
-    let zero_new : ◌≡◌ {A = ℕ} (cond (t state) 1 0) 0 = ap (λ (b : Bool). cond b 1 0) no in
+set-counts t place row state rows at isnt =
+    let zero_new : ◌≡◌ {A = ℕ} (cond (t state) 1 0) 0 = ap (λ (b : Bool). cond b 1 0) isnt in
     omega (arith, zero_new, rows_in-set t place row state rows at)
 
 pub remove-counts : (t : RowState → Bool) (place : ℕ) (row : Row) (rows : List Row) → slice_get rows place ≡ Some row → rows_in t (remove rows place) ≤ rows_in t rows
@@ -191,8 +191,8 @@ remove-counts t place row rows at =
     omega (arith, e)
 
 fine-set : (tmp : Bool) (s : State) (reading : ℕ) (ws : List Waiting) (place : ℕ) (row : Row) (state : RowState) → Holds tmp s → slice_get s.rows place ≡ Some row → is_undefined state ≡ false → is_restarting state ≡ false → FineAt tmp (set_row place row state (At reading s ws))
-fine-set tmp s reading ws place row state h at no none =
-    fine-rows tmp s reading ws (slice_set s.rows place (with_state state row)) h (set-counts is_undefined place row state s.rows at no) (set-counts is_restarting place row state s.rows at none)
+fine-set tmp s reading ws place row state h at isnt none =
+    fine-rows tmp s reading ws (slice_set s.rows place (with_state state row)) h (set-counts is_undefined place row state s.rows at isnt) (set-counts is_restarting place row state s.rows at none)
 
 fine-remove : (tmp : Bool) (s : State) (reading : ℕ) (ws : List Waiting) (place : ℕ) (row : Row) → Holds tmp s → slice_get s.rows place ≡ Some row → FineAt tmp (with_rows (remove s.rows place) (At reading s ws))
 fine-remove tmp s reading ws place row h at =
@@ -269,17 +269,17 @@ fine-add tmp s reading ws c spec h idle =
     let o : Outcome = At reading s ws in
     let new : Row = new_row (free_slot s.rows) None spec in
     let due : Due = record { id = None; kept = None } in
-    let no : s.follows ≡ None = no_after s.follows idle in
-    let calm : rows_in is_awaited s.rows ≡ 0 = subst (λ (f : Option Sequel). IsLimited f (rows_in is_awaited s.rows)) no h.sound.0 in
+    let isnt : s.follows ≡ None = no_after s.follows idle in
+    let calm : rows_in is_awaited s.rows ≡ 0 = subst (λ (f : Option Sequel). IsLimited f (rows_in is_awaited s.rows)) isnt h.sound.0 in
     by_test (FineAt tmp) (nat_le MAX_CHILDREN (length o.state.rows)) _ _ (λ _. fine-answer tmp c (reply.Refused fault.TooManyChildren) o (fine-rest tmp s reading ws h))
     (λ _.
     record {
       again = refl;
       never = λ is _. (
-        (let was = (h.never is (ap is_end no)).0 in omega (arith, was, rows_in-append is_restarting s.rows (new ∷ []), rows_in-cons is_restarting new [])),
+        (let was = (h.never is (ap is_end isnt)).0 in omega (arith, was, rows_in-append is_restarting s.rows (new ∷ []), rows_in-cons is_restarting new [])),
         refl,
       );
-      goal = ⊎_elim (λ (ends : is_end s.follows ≡ true). absurd (false≢true (sym (ap is_end no) ∙ ends)))
+      goal = ⊎_elim (λ (ends : is_end s.follows ≡ true). absurd (false≢true (sym (ap is_end isnt) ∙ ends)))
           (λ (is : IsDefined s.rows s.to_start).
           inr (inr (record {
             due = due;
@@ -307,7 +307,7 @@ fine-call tmp s reading ws c x h idle = by x
 
     -- what only supervisors of other children do
     simply : (done other : Outcome) → FineAt tmp done → FineAt tmp (if is_simple o.state.flags.strategy then done else other)
-    simply done other f = by_test (FineAt tmp) (is_simple o.state.flags.strategy) done other (λ _. f) (λ no. absurd (false≢true (sym no ∙ h.simple)))
+    simply done other f = by_test (FineAt tmp) (is_simple o.state.flags.strategy) done other (λ _. f) (λ isnt. absurd (false≢true (sym isnt ∙ h.simple)))
 
     shared : (spec : Option ChildSpec) → FineAt tmp (start_shared c spec o)
     shared None = answers (reply.Refused fault.NotSimple)
@@ -419,8 +419,8 @@ fine-again tmp s reading ws k place row h idle at plain =
     let here : slice_get rows place ≡ Some down =
     slice_get-get_or rows place down (omega (arith, within, length-set s.rows place down)) ∙ ap (λ (r : Row). Some r) (get_or-set_same s.rows place down down within) in
     let slice : slice_range rows place (place + 1) ≡ down ∷ [] = one_slice rows place down here in
-    let no : s.follows ≡ None = no_after s.follows idle in
-    let awaited : rows_in is_awaited s.rows ≡ 0 = subst (λ (f : Option Sequel). IsLimited f (rows_in is_awaited s.rows)) no h.sound.0 in
+    let isnt : s.follows ≡ None = no_after s.follows idle in
+    let awaited : rows_in is_awaited s.rows ≡ 0 = subst (λ (f : Option Sequel). IsLimited f (rows_in is_awaited s.rows)) isnt h.sound.0 in
     let due : Due = record { id = row.id; kept = Some k } in
     let split : (t : RowState → Bool) → rows_in t (take place rows ++ calm_rows (slice_range rows place (place + 1)) ++ drop (place + 1) rows) + rows_in t (down ∷ []) ≡ rows_in t rows + rows_in t (calm_rows (down ∷ [])) = λ t.
     let n : Row → ℕ = λ (r : Row). cond (row_has t r) 1 0 in
@@ -439,7 +439,7 @@ fine-again tmp s reading ws k place row h idle at plain =
     record {
       again = refl;
       never = λ temporary _. absurd (false≢true (sym plain ∙ like_row tmp s place row h at ∙ temporary));
-      goal = ⊎_elim (λ (ends : is_end s.follows ≡ true). absurd (false≢true (sym (ap is_end no) ∙ ends)))
+      goal = ⊎_elim (λ (ends : is_end s.follows ≡ true). absurd (false≢true (sym (ap is_end isnt) ∙ ends)))
           (λ (is : IsDefined s.rows s.to_start).
           inr (inr (record {
             due = due;

@@ -208,7 +208,7 @@ goes-falls t f p own c m s e less (inl (n, is, le)) h =
     (advance-on (unwrap_or e.number 0) (λ _. AtMost t c) (Grows t c 0) (going-grows t f c 0 (unwrap_or e.number 0) one) (decide e.kind (record { state = stamped e.reading s; orders = [] })) (λ _. inl h) (λ _ _. h))
   where
     other : (x y : ℕ) → y < x → (x == y) ≡ false
-    other x y k = ⊎_elim (λ same. absurd (let z : x ≡ y = eqb-true x y same in omega (arith, z, k))) (λ no. no) (cases_Bool (x == y))
+    other x y k = ⊎_elim (λ same. absurd (let z : x ≡ y = eqb-true x y same in omega (arith, z, k))) (λ isnt. isnt) (cases_Bool (x == y))
 goes-falls t f p own c m s e less (inr quiet) h =
     ⊎_elim (λ (k : AtMost t c (step s e)). k) (λ (k : (list_any is_start (step s e).orders ≡ true) × AtMost t (c + 1) (step s e)). absurd (false≢true (sym quiet ∙ k.0)))
     (advance-on (unwrap_or e.number 0) (λ _. AtMost t c) (Grows t c 1) (going-grows t f c 1 (unwrap_or e.number 0) (λ kept. at_most_1 (t (Starting (unwrap_or e.number 0) kept)))) (decide e.kind (record { state = stamped e.reading s; orders = [] })) (λ _. inl h) (λ _ _. h))

@@ -109,7 +109,7 @@ at_process P p f o none each =
 -- one of no rows isn't so
 pub none_at : (t : RowState → Bool) (place : ℕ) (row : Row) (o : Outcome) → StandsAt place row o → rows_in t o.state.rows ≡ 0 → t row.state ≡ false
 none_at t place row o at none =
-    ⊎_elim (λ yes. absurd (let one : ◌≡◌ {A = ℕ} (cond (t row.state) 1 0) 1 = ap (λ (b : Bool). cond b 1 0) yes in omega (arith, one, none, rows_in-at t place row o.state.rows at))) (λ no. no) (cases_Bool (t row.state))
+    ⊎_elim (λ holds_so. absurd (let one : ◌≡◌ {A = ℕ} (cond (t row.state) 1 0) 1 = ap (λ (b : Bool). cond b 1 0) holds_so in omega (arith, one, none, rows_in-at t place row o.state.rows at))) (λ isnt. isnt) (cases_Bool (t row.state))
 
 -- a note that no child awaits
 
@@ -120,12 +120,12 @@ starting-rests p f o none =
     (λ place row at has. one place row row.state has (none_at (is_starting p) place row o at none))
   where
     one : (place : ℕ) (row : Row) (state : RowState) → has_process p state ≡ true → is_starting p state ≡ false → Same o (if_starting (λ k. f k place row) state o)
-    one place row Undefined has no = (refl, refl)
-    one place row (Starting q k) has no = absurd (false≢true (sym no ∙ has))
-    one place row (Up _) has no = (refl, refl)
-    one place row (Asked _ _) has no = (refl, refl)
-    one place row (Killed _) has no = (refl, refl)
-    one place row (Restarting _) has no = (refl, refl)
+    one place row Undefined has isnt = (refl, refl)
+    one place row (Starting q k) has isnt = absurd (false≢true (sym isnt ∙ has))
+    one place row (Up _) has isnt = (refl, refl)
+    one place row (Asked _ _) has isnt = (refl, refl)
+    one place row (Killed _) has isnt = (refl, refl)
+    one place row (Restarting _) has isnt = (refl, refl)
 
 exit-rests : (p : ℕ) (r : Reason) (o : Outcome) → rows_in (has_come_up p) o.state.rows ≡ 0 → Same o (take_exit p r o)
 unfolding take_exit exit_in
@@ -134,12 +134,12 @@ exit-rests p r o none =
     (λ place row at has. one place row row.state has (none_at (has_come_up p) place row o at none))
   where
     one : (place : ℕ) (row : Row) (state : RowState) → has_process p state ≡ true → has_come_up p state ≡ false → Same o (exit_in p r place row state o)
-    one place row Undefined has no = (refl, refl)
-    one place row (Starting q k) has no = (refl, refl)
-    one place row (Up _) has no = absurd (false≢true (sym no ∙ has))
-    one place row (Asked _ _) has no = absurd (false≢true (sym no ∙ has))
-    one place row (Killed _) has no = absurd (false≢true (sym no ∙ has))
-    one place row (Restarting _) has no = (refl, refl)
+    one place row Undefined has isnt = (refl, refl)
+    one place row (Starting q k) has isnt = (refl, refl)
+    one place row (Up _) has isnt = absurd (false≢true (sym isnt ∙ has))
+    one place row (Asked _ _) has isnt = absurd (false≢true (sym isnt ∙ has))
+    one place row (Killed _) has isnt = absurd (false≢true (sym isnt ∙ has))
+    one place row (Restarting _) has isnt = (refl, refl)
 
 note-rests : (x : Note) (o : Outcome) → rows_in (awaits x) o.state.rows ≡ 0 → Same o (take_note x o)
 unfolding take_note take_up take_ignored take_failed
@@ -184,21 +184,21 @@ starting_begun p = rows_in-le (is_starting p) is_begun one
     one (Restarting _) = omega arith
 
 pub starts_in_work : (m : ℕ) (s : State) → IsInOrder m s → (p : ℕ) → starts_some s.follows ≡ false → rows_in (is_starting p) s.rows ≡ 0
-starts_in_work m s h p no = by s.follows refl no
+starts_in_work m s h p isnt = by s.follows refl isnt
   where
     none : rows_in is_begun s.rows ≡ 0 → rows_in (is_starting p) s.rows ≡ 0
     none z = omega (arith, z, starting_begun p s.rows)
 
     by : (f : Option Sequel) → s.follows ≡ f → starts_some f ≡ false → rows_in (is_starting p) s.rows ≡ 0
-    by None is no =
+    by None is isnt =
         let limit : rows_in is_awaited s.rows ≡ 0 = subst (λ (f : Option Sequel). IsLimited f (rows_in is_awaited s.rows)) is h.0.0 in
         none (omega (arith, limit, begun_awaited s.rows))
-    by (Some sequel.Ready) is no = absurd (false≢true (sym no))
-    by (Some sequel.Nothing) is no = absurd (false≢true (sym no))
-    by (Some (sequel.Added _)) is no = absurd (false≢true (sym no))
-    by (Some (sequel.Restarted _)) is no = absurd (false≢true (sym no))
-    by (Some (sequel.Stopped c)) is no = none (h.4 (ap (λ (f : Option Sequel). is_stop f) is)).0
-    by (Some (sequel.End x)) is no = none (h.2 (ap (λ (f : Option Sequel). is_end f) is)).1
+    by (Some sequel.Ready) is isnt = absurd (false≢true (sym isnt))
+    by (Some sequel.Nothing) is isnt = absurd (false≢true (sym isnt))
+    by (Some (sequel.Added _)) is isnt = absurd (false≢true (sym isnt))
+    by (Some (sequel.Restarted _)) is isnt = absurd (false≢true (sym isnt))
+    by (Some (sequel.Stopped c)) is isnt = none (h.4 (ap (λ (f : Option Sequel). is_stop f) is)).0
+    by (Some (sequel.End x)) is isnt = none (h.2 (ap (λ (f : Option Sequel). is_end f) is)).1
 
 starting_held : (p : ℕ) (rows : List Row) → rows_in (is_starting p) rows + rows_in (has_come_up p) rows ≤ rows_in (has_process p) rows
 starting_held p = rows_in-apart (is_starting p) (has_come_up p) (has_process p) one
@@ -227,8 +227,8 @@ starting-heard p f o one each =
     few = omega (arith, one, starting_held p o.state.rows)
 
     up : (place : ℕ) (row : Row) → StandsAt place row o → has_come_up p row.state ≡ true → NoStart p o
-    up place row at yes =
-        let c : ◌≡◌ {A = ℕ} (cond (has_come_up p row.state) 1 0) 1 = ap (λ (b : Bool). cond b 1 0) yes in
+    up place row at holds_so =
+        let c : ◌≡◌ {A = ℕ} (cond (has_come_up p row.state) 1 0) 1 = ap (λ (b : Bool). cond b 1 0) holds_so in
         omega (arith, one, c, starting_held p o.state.rows, rows_in-at (has_come_up p) place row o.state.rows at)
 
     by : (place : ℕ) (row : Row) (state : RowState) → row.state ≡ state → StandsAt place row o → has_process p state ≡ true → NoStart p (if_starting (λ k. f k place row) state o)
@@ -240,10 +240,10 @@ starting-heard p f o one each =
     by place row (Restarting k) is at has = absurd (false≢true has)
 
 set-no_start : (p place : ℕ) (row : Row) (state : RowState) (o : Outcome) → StandsAt place row o → is_starting p row.state ≡ true → rows_in (is_starting p) o.state.rows ≤ 1 → is_starting p state ≡ false → NoStart p (set_row place row state o)
-set-no_start p place row state o at starts few no =
+set-no_start p place row state o at starts few isnt =
     let e : rows_in (is_starting p) (slice_set o.state.rows place (with_state state row)) + cond (is_starting p row.state) 1 0 ≡ rows_in (is_starting p) o.state.rows + cond (is_starting p state) 1 0 = rows_in-set (is_starting p) place row state o.state.rows at in
     let c : ◌≡◌ {A = ℕ} (cond (is_starting p row.state) 1 0) 1 = ap (λ (b : Bool). cond b 1 0) starts in
-    let z : ◌≡◌ {A = ℕ} (cond (is_starting p state) 1 0) 0 = ap (λ (b : Bool). cond b 1 0) no in
+    let z : ◌≡◌ {A = ℕ} (cond (is_starting p state) 1 0) 0 = ap (λ (b : Bool). cond b 1 0) isnt in
     omega (arith, e, c, z, few)
 
 up_after-rows : (p : ℕ) (f : Option Sequel) (o : Outcome) → (up_after p f o).state.rows ≡ o.state.rows

@@ -64,7 +64,7 @@ one_id id other same rows = alike (has_id id) (has_id other) (λ row. by row row
         ∙ ap (λ (bytes : List ℕ). bytes_eq (name_bytes name) bytes) (sym same)
         ∙ sym (ap (λ (y : Option Name). has_id other (record row { id = y })) is)
 
-still_id : (id : Name) → IsStill (has_id id)
+pub still_id : (id : Name) → IsStill (has_id id)
 still_id id state row = refl
 
 -- start_child
@@ -81,12 +81,12 @@ add-apart id c spec o h none =
     by_test (Few (has_id id) 1) (nat_le MAX_CHILDREN (length o.state.rows)) _ _ (λ _. answer-few (has_id id) 1 c (reply.Refused fault.TooManyChildren) o h)
     (λ _.
     ⊎_elim
-    (λ (yes : bytes_eq (name_bytes spec.id) (name_bytes id) ≡ true).
-    let same : name_bytes spec.id ≡ name_bytes id = (bytes_eq-Decides (name_bytes spec.id) (name_bytes id)).0 yes in
-    let one : ◌≡◌ {A = ℕ} (cond (has_id id new) 1 0) 1 = ap (λ (b : Bool). cond b 1 0) yes in
+    (λ (holds_so : bytes_eq (name_bytes spec.id) (name_bytes id) ≡ true).
+    let same : name_bytes spec.id ≡ name_bytes id = (bytes_eq-Decides (name_bytes spec.id) (name_bytes id)).0 holds_so in
+    let one : ◌≡◌ {A = ℕ} (cond (has_id id new) 1 0) 1 = ap (λ (b : Bool). cond b 1 0) holds_so in
     omega (arith, one, none, one_id id spec.id same o.state.rows, sum_by-append n o.state.rows (new ∷ []), sum_by-cons n new []))
-    (λ (no : bytes_eq (name_bytes spec.id) (name_bytes id) ≡ false).
-    let zero : ◌≡◌ {A = ℕ} (cond (has_id id new) 1 0) 0 = ap (λ (b : Bool). cond b 1 0) no in
+    (λ (isnt : bytes_eq (name_bytes spec.id) (name_bytes id) ≡ false).
+    let zero : ◌≡◌ {A = ℕ} (cond (has_id id new) 1 0) 0 = ap (λ (b : Bool). cond b 1 0) isnt in
     omega (arith, zero, h, sum_by-append n o.state.rows (new ∷ []), sum_by-cons n new []))
     (cases_Bool (bytes_eq (name_bytes spec.id) (name_bytes id))))
 

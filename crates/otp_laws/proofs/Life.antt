@@ -70,8 +70,8 @@ kept-apart slot p t still m s e order held none =
     let free : holding (free_slot o.state.rows) o.state.rows ≡ 0 = free_slot-free o.state.rows in
     let some : 0 < count_by (has_slot slot) o.state.rows = subst (λ (rows : List Row). 0 < count_by (has_slot slot) rows) (sym same) (holds_slot slot p s.rows held) in
     let other : (free_slot o.state.rows == slot) ≡ false =
-    ⊎_elim (λ (yes : (free_slot o.state.rows == slot) ≡ true). absurd (let z : holding slot o.state.rows ≡ 0 = subst (λ (k : ℕ). holding k o.state.rows ≡ 0) (eqb-true (free_slot o.state.rows) slot yes) free in omega (arith, z, some)))
-    (λ (no : (free_slot o.state.rows == slot) ≡ false). no) (cases_Bool (free_slot o.state.rows == slot)) in
+    ⊎_elim (λ (holds_so : (free_slot o.state.rows == slot) ≡ true). absurd (let z : holding slot o.state.rows ≡ 0 = subst (λ (k : ℕ). holding k o.state.rows ≡ 0) (eqb-true (free_slot o.state.rows) slot holds_so) free in omega (arith, z, some)))
+    (λ (isnt : (free_slot o.state.rows == slot) ≡ false). isnt) (cases_Bool (free_slot o.state.rows == slot)) in
     let zero : ◌≡◌ {A = ℕ} (cond (u new) 1 0) 0 = ap (λ (b : Bool). cond {A = ℕ} (b && not (t new)) 1 0) other ∙ ap (λ (b : Bool). cond b 1 0) (and_false (not (t new))) in
     omega (arith, few, zero))
     (λ own is over. absurd (let c : Contains [] held.0 = subst (λ (rows : List Row). Contains rows held.0) (order.3 over) held.1 in omega (arith, c.1)))) (λ i b idle. b) none)
@@ -99,12 +99,12 @@ run-keeps : (slot p : ℕ) (t : Row → Bool) → IsStill t → (m : ℕ) (s : S
 run-keeps slot p t still m s [] order lawful h = inr h
 run-keeps slot p t still m s (e ∷ events) order lawful h =
     let parts = split_lawful m s (e ∷ []) events lawful in
-    let then : IsInOrder (next_number m (numbers_of (e ∷ []))) (step s e).state = stays_in_order m s (e ∷ []) order parts.0 in
+    let mid : IsInOrder (next_number m (numbers_of (e ∷ []))) (step s e).state = stays_in_order m s (e ∷ []) order parts.0 in
     ⊎_elim
     (λ (takes : TakesEnd e.kind p). inl (e, (0, omega arith, refl), takes))
     (λ (kept : Keeps slot p t (step s e).state).
     ⊎_elim (λ (taken : EndIsTaken events p). inl (later-taken e events p taken)) (λ (last : Keeps slot p t (state_after s (e ∷ events))). inr last)
-    (run-keeps slot p t still (next_number m (numbers_of (e ∷ []))) (step s e).state events then parts.1 kept))
+    (run-keeps slot p t still (next_number m (numbers_of (e ∷ []))) (step s e).state events mid parts.1 kept))
     (step-keeps slot p t still m s e order h)
 
 -- no end waits of a process that an event starts: its number is new
@@ -131,12 +131,15 @@ kept_from flags specs events rest e slot p t still lawful starts none =
     let parts : IsLawfulFrom 0 base events × IsLawfulFrom k a (e ∷ rest) = split_lawful 0 base events (e ∷ rest) (lawful_from_0 base (events ++ e ∷ rest) lawful) in
     let order : IsInOrder k a = stays_in_order 0 base events (empty_in_order flags specs) parts.0 in
     let above : k ≤ p = number_above k p a e rest starts.0 parts.1 in
-    let then : IsLawfulFrom k a (e ∷ []) × IsLawfulFrom (next_number k (numbers_of (e ∷ []))) (step a e).state rest = split_lawful k a (e ∷ []) rest parts.1 in
+    let mid : IsLawfulFrom k a (e ∷ []) × IsLawfulFrom (next_number k (numbers_of (e ∷ []))) (step a e).state rest = split_lawful k a (e ∷ []) rest parts.1 in
     let new : list_any (is_ended p) (step a e).state.waiting ≡ false =
     fresh k a e p order above (λ waited. let low : p < k = given_below 0 p (numbers_of events) (parts.0.0.1, parts.0.1) (ends_tell_started_law flags specs events p parts.0.0 waited) in omega (arith, low, above)) in
     let joined : state_after base (events ++ e ∷ rest) ≡ state_after (step a e).state rest = (runs_joined_law base events (e ∷ rest)).0 in
     ⊎_elim (λ (taken : EndIsTaken rest p). inl taken) (λ (kept : Keeps slot p t (state_after (step a e).state rest)). inr (subst (λ (x : State). Keeps slot p t x) (sym joined) kept))
-    (run-keeps slot p t still (next_number k (numbers_of (e ∷ []))) (step a e).state rest (stays_in_order k a (e ∷ []) order then.0) then.1 (starts.1, new, none))
+    (run-keeps slot p t still (next_number k (numbers_of (e ∷ []))) (step a e).state rest (stays_in_order k a (e ∷ []) order mid.0) mid.1 (starts.1, new, none))
+
+in_two : (events between : List Event) (e f : Event) → events ++ e ∷ between ++ f ∷ [] ≡ events ++ e ∷ (between ++ f ∷ [])
+in_two events between e f = append_assoc events (e ∷ between) (f ∷ [])
 
 -- a later number is greater
 numbers_rise : (flags : SupFlags) (specs : List ChildSpec) (events between : List Event) (e f : Event) (p q : ℕ) → IsLawfulHistory (empty_state flags specs) (events ++ e ∷ between ++ f ∷ []) → e.number ≡ Some p → f.number ≡ Some q → p < q
@@ -145,16 +148,25 @@ numbers_rise flags specs events between e f p q lawful first second =
     let a : State = state_after base events in
     let k : ℕ = next_number 0 (numbers_of events) in
     let one : ℕ = next_number k (numbers_of (e ∷ [])) in
-    let parts = split_lawful 0 base events (e ∷ between ++ f ∷ []) (lawful_from_0 base (events ++ e ∷ between ++ f ∷ []) lawful) in
-    let then : IsLawfulFrom k a (e ∷ []) × IsLawfulFrom one (step a e).state (between ++ f ∷ []) = split_lawful k a (e ∷ []) (between ++ f ∷ []) parts.1 in
-    let last : IsLawfulFrom one (step a e).state between × IsLawfulFrom (next_number one (numbers_of between)) (state_after (step a e).state between) (f ∷ []) = split_lawful one (step a e).state between (f ∷ []) then.1 in
+    let parts = split_lawful 0 base events (e ∷ (between ++ f ∷ [])) (lawful_from_0 base (events ++ e ∷ (between ++ f ∷ [])) (subst (λ (l : List Event). IsLawfulHistory base l) (in_two events between e f) lawful)) in
+    let mid : IsLawfulFrom k a (e ∷ []) × IsLawfulFrom one (step a e).state (between ++ f ∷ []) = split_lawful k a (e ∷ []) (between ++ f ∷ []) parts.1 in
+    let last : IsLawfulFrom one (step a e).state between × IsLawfulFrom (next_number one (numbers_of between)) (state_after (step a e).state between) (f ∷ []) = split_lawful one (step a e).state between (f ∷ []) mid.1 in
     omega (arith, next_one k p e first, next_more one (numbers_of between) (last.0.0.1, last.0.1), number_above (next_number one (numbers_of between)) q (state_after (step a e).state between) f [] second last.1)
 
--- the history with its last event
+-- the history with its last event, and as a beginning and what comes after it
 last_state : (flags : SupFlags) (specs : List ChildSpec) (events between : List Event) (e f : Event)
     → state_after (empty_state flags specs) (events ++ e ∷ between ++ f ∷ []) ≡ (step (state_after (empty_state flags specs) (events ++ e ∷ between)) f).state
-last_state flags specs events between e f =
-    ap (λ (l : List Event). state_after (empty_state flags specs) l) (sym (append_assoc events (e ∷ between) (f ∷ []))) ∙ (run_goes_on_law (empty_state flags specs) (events ++ e ∷ between) f).0
+last_state flags specs events between e f = (run_goes_on_law (empty_state flags specs) (events ++ e ∷ between) f).0
+
+-- what is kept to the last event
+kept_to : (flags : SupFlags) (specs : List ChildSpec) (events between : List Event) (e f : Event) (slot p : ℕ) (t : Row → Bool) → IsStill t → IsLawfulHistory (empty_state flags specs) (events ++ e ∷ between ++ f ∷ [])
+    → StartsIn (state_after (empty_state flags specs) events) e slot p → count_by (is_other slot t) (step (state_after (empty_state flags specs) events) e).state.rows ≤ 0
+    → EndIsTaken (between ++ f ∷ []) p ⊎ Keeps slot p t (state_after (empty_state flags specs) (events ++ e ∷ between ++ f ∷ []))
+kept_to flags specs events between e f slot p t still lawful starts none =
+    let base : State = empty_state flags specs in
+    ⊎_elim (λ (taken : EndIsTaken (between ++ f ∷ []) p). inl taken)
+    (λ (kept : Keeps slot p t (state_after base (events ++ e ∷ (between ++ f ∷ [])))). inr (subst (λ (l : List Event). Keeps slot p t (state_after base l)) (sym (in_two events between e f)) kept))
+    (kept_from flags specs events (between ++ f ∷ []) e slot p t still (subst (λ (l : List Event). IsLawfulHistory base l) (in_two events between e f) lawful) starts none)
 
 -- no row passes a test that none passes
 none_pass : (u : Row → Bool) → ((row : Row) → u row ≡ false) → (rows : List Row) → count_by u rows ≤ 0
@@ -182,7 +194,7 @@ rows_start_anew_law flags specs events between e f slot p q opens lawful first s
     let held : IsHeldIn w.rows slot p = kept.0 in
     let same : p ≡ q = (slots_tell_processes_law w (next_number 0 (numbers_of all)) (slots_owned_law flags specs all opens) order.1 held.0 later.0 p q held.1 later.1 held.3 later.3).0 (held.2 ∙ sym later.2) in
     absurd (omega (arith, same, numbers_rise flags specs events between e f p q lawful first.0 second.0)))
-    (kept_from flags specs events (between ++ f ∷ []) e slot p t (λ state row. refl) lawful first
+    (kept_to flags specs events between e f slot p t (λ state row. refl) lawful first
     (none_pass (is_other slot t) (λ row. never (has_slot slot row)) (step (state_after base events) e).state.rows))
   where
     never : (b : Bool) → (b && not true) ≡ false
@@ -231,12 +243,12 @@ ids_start_anew_law flags specs events between e f id p q opens lawful first seco
     (λ (kept : Keeps slot p (has_id id) w).
     let row : Row = kept.0.0 in
     let named : has_id id row ≡ true =
-    ⊎_elim (λ (yes : has_id id row ≡ true). yes)
-    (λ (no : has_id id row ≡ false).
-    absurd (omega (arith, kept.2, contains_counts (is_other slot (has_id id)) w.rows row kept.0.1 (and_from (has_slot slot row) (not (has_id id row)) (eq-eqb row.slot slot kept.0.2) (ap not no)))))
+    ⊎_elim (λ (holds_so : has_id id row ≡ true). holds_so)
+    (λ (isnt : has_id id row ≡ false).
+    absurd (omega (arith, kept.2, contains_counts (is_other slot (has_id id)) w.rows row kept.0.1 (and_from (has_slot slot row) (not (has_id id row)) (eq-eqb row.slot slot kept.0.2) (ap not isnt)))))
     (cases_Bool (has_id id row)) in
     absurd (two_processes id p q w.rows (λ same. omega (arith, same, numbers_rise flags specs events between e f p q lawful first.0 second.0)) (ids_apart_law flags specs all opens id) (row, kept.0.1, named, kept.0.3) later))
-    (kept_from flags specs events (between ++ f ∷ []) e slot p (has_id id) (still_id id) lawful (first.0, (held.0, held.1, refl, held.3))
+    (kept_to flags specs events between e f slot p (has_id id) (still_id id) lawful (first.0, (held.0, held.1, refl, held.3))
     (one_slot slot (has_id id) (step a e).state.rows held.0 (slotted.one slot) held.1 refl held.2))
 
 pub ends_after_all_law : EndsAfterAll

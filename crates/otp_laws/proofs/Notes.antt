@@ -6,6 +6,7 @@ use Rattle.otp_reason.specs.declared.note.Note.{Note}
 use Rattle.otp_reason.specs.declared.note.Note.TheVariants as note
 use Rattle.otp_table.specs.declared.row.Row.{Row}
 use Rattle.otp_table.specs.declared.row.RowState.{RowState}
+use Rattle.otp_table.specs.declared.row.RowState.TheVariants.{Undefined, Starting, Up, Asked, Killed, Restarting}
 use Rattle.otp_table.specs.Rows.{has_process, row_has}
 use Rattle.otp_rules.specs.declared.event.Event.{Event}
 use Rattle.otp_rules.specs.declared.event.Item.TheVariants as item
@@ -43,6 +44,9 @@ unawaited_changes_none_law flags specs events e x lawful =
     let base : State = empty_state flags specs in
     unawaited_changes_none_from_law 0 base (no_progress base) events e x (empty_basis flags specs) (lawful_from_0 base events lawful)
 
+less_or_not : (p m : ℕ) → (p < m) ⊎ (m ≤ p)
+less_or_not p m = ⊎_elim (λ holds_so. inl (ltb-true p m holds_so)) (λ isnt. inr (ltb-false p m isnt)) (cases_Bool (nat_lt p m))
+
 -- a note that counts has a process, whose number was given before
 given : (m : ℕ) (s : State) (g : Progress) (p : ℕ) (t : RowState → Bool) → IsBasis m s g → ((state : RowState) → t state ≡ true → has_process p state ≡ true) → 0 < rows_in t s.rows → p < m
 given m s g p t h has some =
@@ -63,9 +67,6 @@ exits_come_up (note.Exit q _) p is state = ap (λ (n : ℕ). has_come_up n state
 -- the same rows are counted
 alike_counts : (t u : RowState → Bool) → ((state : RowState) → t state ≡ u state) → (rows : List Row) → rows_in t rows ≤ rows_in u rows
 alike_counts t u same rows = rows_in-le t u (λ state. let e : ◌≡◌ {A = ℕ} (cond (t state) 1 0) (cond (u state) 1 0) = ap (λ (b : Bool). cond b 1 0) (same state) in omega (arith, e)) rows
-
-less_or_not : (p m : ℕ) → (p < m) ⊎ (m ≤ p)
-less_or_not p m = ⊎_elim (λ yes. inl (ltb-true p m yes)) (λ no. inr (ltb-false p m no)) (cases_Bool (nat_lt p m))
 
 -- an answer changes no row, or leaves nobody who is starting under its number
 answer-counts : (m : ℕ) (s : State) (g : Progress) (e : Event) (x : Note) (p : ℕ) → IsBasis m s g → Numbered m s e → p < m → Brings e.kind s.waiting (item.Note x) → answer_number x ≡ Some p → (rows_in (is_starting p) (step s e).state.rows ≤ 0) ⊎ ChangesNone s e

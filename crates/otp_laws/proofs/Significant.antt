@@ -116,7 +116,7 @@ at_first P p f place row o first h =
     equal : (x y : ℕ) → (x < y → ⊥) → (y < x → ⊥) → x ≡ y
     equal x y h k =
         ⊎_elim (λ (less : nat_lt x y ≡ true). absurd (h (ltb-true x y less)))
-        (λ (no : nat_lt x y ≡ false). ⊎_elim (λ (more : nat_lt y x ≡ true). absurd (k (ltb-true y x more))) (λ (none : nat_lt y x ≡ false). omega (arith, ltb-false x y no, ltb-false y x none)) (cases_Bool (nat_lt y x))) (cases_Bool (nat_lt x y))
+        (λ (isnt : nat_lt x y ≡ false). ⊎_elim (λ (more : nat_lt y x ≡ true). absurd (k (ltb-true y x more))) (λ (none : nat_lt y x ≡ false). omega (arith, ltb-false x y isnt, ltb-false y x none)) (cases_Bool (nat_lt y x))) (cases_Bool (nat_lt x y))
 
 -- what the rules ask
 
@@ -129,10 +129,10 @@ none_left : (rows : List Row) → count_by is_left rows ≡ 0 → list_any is_le
 none_left [] h = refl
 none_left (row ∷ rows) h =
     ⊎_elim
-    (λ (yes : is_left row ≡ true). absurd (let one : ◌≡◌ {A = ℕ} (cond (is_left row) 1 0) 1 = ap (λ (b : Bool). cond b 1 0) yes in omega (arith, one, h, sum_by-cons (λ (r : Row). cond (is_left r) 1 0) row rows)))
-    (λ (no : is_left row ≡ false).
-    let zero : ◌≡◌ {A = ℕ} (cond (is_left row) 1 0) 0 = ap (λ (b : Bool). cond b 1 0) no in
-    ap (λ (b : Bool). b || list_any is_left rows) no ∙ none_left rows (omega (arith, zero, h, sum_by-cons (λ (r : Row). cond (is_left r) 1 0) row rows)))
+    (λ (holds_so : is_left row ≡ true). absurd (let one : ◌≡◌ {A = ℕ} (cond (is_left row) 1 0) 1 = ap (λ (b : Bool). cond b 1 0) holds_so in omega (arith, one, h, sum_by-cons (λ (r : Row). cond (is_left r) 1 0) row rows)))
+    (λ (isnt : is_left row ≡ false).
+    let zero : ◌≡◌ {A = ℕ} (cond (is_left row) 1 0) 0 = ap (λ (b : Bool). cond b 1 0) isnt in
+    ap (λ (b : Bool). b || list_any is_left rows) isnt ∙ none_left rows (omega (arith, zero, h, sum_by-cons (λ (r : Row). cond (is_left r) 1 0) row rows)))
     (cases_Bool (is_left row))
 
 end-left : (place : ℕ) (row : Row) (o : Outcome) → StandsAt place row o → count_by is_left (end_row place row o).state.rows + cond (is_left row) 1 0 ≡ count_by is_left o.state.rows
@@ -166,7 +166,7 @@ death-ends p r place row o at up stays ends =
     ap (λ (f : SupFlags). ends_by_significance f.auto_shutdown row gone.state.rows) (end_row-same place row o).3 ∙ ends_so o.state.flags.auto_shutdown p place row o at up ends in
     by_test (Ends x) (is_restarted row.spec.restart r) (restart p place row o) (after_end p row gone)
     (λ back. absurd (false≢true (sym (not_back row.spec.restart r stays) ∙ back)))
-    (λ _. by_test (Ends x) (ends_by_significance gone.state.flags.auto_shutdown row gone.state.rows) (terminate x gone) gone (λ _. terminate-follows x gone) (λ no. absurd (false≢true (sym no ∙ so))))
+    (λ _. by_test (Ends x) (ends_by_significance gone.state.flags.auto_shutdown row gone.state.rows) (terminate x gone) gone (λ _. terminate-follows x gone) (λ isnt. absurd (false≢true (sym isnt ∙ so))))
 
 exit-ends : (s : State) (k : Kind) (p : ℕ) (o : Outcome) → (h : IsSignificantEnd s k p) → o.state.rows ≡ s.rows → o.state.flags ≡ s.flags → is_busy o ≡ false → Ends (ending.Significant p) (take_exit p h.r o)
 unfolding take_exit exit_in

@@ -229,15 +229,15 @@ due_found : (due : Due) (rows : List Row) → due.id ≡ None → count_by named
 due_found due [] none few some = absurd (let z : undefined [] ≡ 0 = refl in omega (arith, z, some))
 due_found due (row ∷ rows) none few some =
     ⊎_elim
-    (λ (yes : is_undefined row.state ≡ true).
+    (λ (holds_so : is_undefined row.state ≡ true).
     let id : row.id ≡ None = no_id row.id (no_row named 0 row (row ∷ rows) refl few) in
     let matches : is_due due row ≡ true =
     and_from (option_eq (on name_bytes bytes_eq) row.id due.id) (is_undefined row.state)
-    (ap (λ (x : Option Name). option_eq (on name_bytes bytes_eq) x due.id) id ∙ ap (λ (x : Option Name). option_eq (on name_bytes bytes_eq) None x) none) yes in
+    (ap (λ (x : Option Name). option_eq (on name_bytes bytes_eq) x due.id) id ∙ ap (λ (x : Option Name). option_eq (on name_bytes bytes_eq) None x) none) holds_so in
     let one : ◌≡◌ {A = ℕ} (cond (is_due due row) 1 0) 1 = ap (λ (b : Bool). cond b 1 0) matches in
     omega (arith, one, sum_by-cons (λ (r : Row). cond (is_due due r) 1 0) row rows))
-    (λ (no : is_undefined row.state ≡ false).
-    let zero_here : ◌≡◌ {A = ℕ} (cond (is_undefined row.state) 1 0) 0 = ap (λ (b : Bool). cond b 1 0) no in
+    (λ (isnt : is_undefined row.state ≡ false).
+    let zero_here : ◌≡◌ {A = ℕ} (cond (is_undefined row.state) 1 0) 0 = ap (λ (b : Bool). cond b 1 0) isnt in
     omega (arith, sum_by-cons (λ (r : Row). cond (is_due due r) 1 0) row rows,
     due_found due rows none (omega (arith, few, sum_by-cons (λ (r : Row). cond (named r) 1 0) row rows)) (omega (arith, some, zero_here, rows_in-cons is_undefined row rows))))
     (cases_Bool (is_undefined row.state))
@@ -254,13 +254,13 @@ started-defined tmp due n o nameless few one list again never =
     (λ (some : 0 < undefined o.state.rows).
     at_row-found (DoneAt tmp) (is_due due) o (start_row due n) o (due_found due o.state.rows nameless few some)
     (λ i row at has.
-    let yes : ◌≡◌ {A = ℕ} (cond (is_undefined row.state) 1 0) 1 = ap (λ (b : Bool). cond b 1 0) (due_undefined due row has) in
+    let holds_so : ◌≡◌ {A = ℕ} (cond (is_undefined row.state) 1 0) 1 = ap (λ (b : Bool). cond b 1 0) (due_undefined due row has) in
     let state : RowState = Starting n (unwrap_or due.kept n) in
     let e : undefined (slice_set o.state.rows i (with_state state row)) + cond (is_undefined row.state) 1 0 ≡ undefined o.state.rows + 0 = rows_in-set is_undefined i row state o.state.rows at in
     record {
       again = again;
       never = λ t other. let was = never t other in (omega (arith, was.0, set-counts is_restarting i row state o.state.rows at refl), was.1);
-      goal = inr (omega (arith, e, yes, one), list);
+      goal = inr (omega (arith, e, holds_so, one), list);
     }))
     (λ (none : undefined o.state.rows ≡ 0).
     let rest : DoneAt tmp o = record { again = again; never = never; goal = inr (omega (arith, none), list) } in
@@ -285,8 +285,8 @@ none_any : (t : RowState → Bool) (rows : List Row) → list_any (row_has t) ro
 none_any t [] h = absurd (false≢true h)
 none_any t (row ∷ rows) h =
     ⊎_elim
-    (λ (yes : t row.state ≡ true). let one : ◌≡◌ {A = ℕ} (cond (t row.state) 1 0) 1 = ap (λ (b : Bool). cond b 1 0) yes in omega (arith, one, rows_in-cons t row rows))
-    (λ (no : t row.state ≡ false). let later : 0 < rows_in t rows = none_any t rows (sym (ap (λ (b : Bool). b || list_any (row_has t) rows) no) ∙ h) in omega (arith, later, rows_in-cons t row rows))
+    (λ (holds_so : t row.state ≡ true). let one : ◌≡◌ {A = ℕ} (cond (t row.state) 1 0) 1 = ap (λ (b : Bool). cond b 1 0) holds_so in omega (arith, one, rows_in-cons t row rows))
+    (λ (isnt : t row.state ≡ false). let later : 0 < rows_in t rows = none_any t rows (sym (ap (λ (b : Bool). b || list_any (row_has t) rows) isnt) ∙ h) in omega (arith, later, rows_in-cons t row rows))
     (cases_Bool (t row.state))
 
 advance-done : (tmp : Bool) (n : ℕ) (o : Outcome) → count_by named o.state.rows ≤ 0 → FineAt tmp o → DoneAt tmp (advance n o)
@@ -409,7 +409,7 @@ simple_has_none_undefined_law flags specs events simple other row among =
     (λ (ends : is_end (state_after base events).follows ≡ true). absurd (false≢true (sym other ∙ ends)))
     (λ (is : IsDefined (state_after base events).rows (state_after base events).to_start).
     ⊎_elim
-    (λ (yes : is_undefined row.state ≡ true). absurd (let some = contains_counts (row_has is_undefined) (state_after base events).rows row among yes in omega (arith, some, is.0)))
-    (λ (no : is_undefined row.state ≡ false). no)
+    (λ (holds_so : is_undefined row.state ≡ true). absurd (let some = contains_counts (row_has is_undefined) (state_after base events).rows row among holds_so in omega (arith, some, is.0)))
+    (λ (isnt : is_undefined row.state ≡ false). isnt)
     (cases_Bool (is_undefined row.state)))
     last.done

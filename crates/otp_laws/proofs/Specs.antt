@@ -1,5 +1,5 @@
 -- The specifications of a supervisor that may be opened have different ids.
-use Rattle.std.specs.Prelude.{◌≡◌, ◌⊎◌, ℕ, ◌==◌, ◌+◌, ◌≤◌, ◌<◌, ◌++◌, ◌&&◌, not, Bool, true, false, List, [], ◌∷◌, Option, None, Some, refl, if◌then◌else◌, nat_lt, length, take, count_by}
+use Rattle.std.specs.Prelude.{◌≡◌, ◌⊎◌, ℕ, ◌==◌, ◌+◌, ◌≤◌, ◌<◌, ◌++◌, ◌&&◌, ◌||◌, not, Bool, true, false, List, [], ◌∷◌, Option, None, Some, refl, if◌then◌else◌, nat_lt, length, take, count_by}
 use Rattle.std.specs.List.{list_any, flat_map, enumerate_from}
 use Rattle.std.specs.Str.{bytes_eq}
 use Rattle.std.proofs.Common.{◌∙◌, ap, sym, subst, inl, inr, arith, ⊎_elim, cond, rules}
@@ -16,7 +16,9 @@ use Rattle.otp_spec.specs.declared.flags.AutoShutdown.{AutoShutdown}
 use Rattle.otp_spec.specs.declared.flags.SupFlags.{SupFlags}
 use Rattle.otp_spec.specs.declared.limits.TheConstants.{MAX_CHILDREN}
 use Rattle.otp_spec.specs.Flags.{are_lawful_flags, is_simple}
-use Rattle.otp_spec.specs.Lawful.{fault_if, faults_at, faults_of, first_fault, first_of, has_id_of}
+use Rattle.otp_spec.specs.declared.fault.SpecKey.TheVariants.{Id, Modules, Start}
+use Rattle.otp_spec.specs.Children.{are_lawful_modules, is_lawful}
+use Rattle.otp_spec.specs.Lawful.{fault_if, is_never, is_permanent, faults_at, faults_of, first_fault, first_of, has_id_of}
 use Rattle.otp_spec.specs.Supervisor.{supervisor_fault}
 use Rattle.otp_rules.specs.Calls.{is_named}
 use Rattle.otp_laws.specs.Ids.{AreSpecsApart}
@@ -50,21 +52,26 @@ no_if false x others h = (refl, h)
 
 no_duplicate : (auto : Option AutoShutdown) (place : ℕ) (earlier : List ChildSpec) (spec : ChildSpec) → faults_at auto place earlier spec ≡ [] → list_any (has_id_of spec) earlier ≡ false
 no_duplicate auto place earlier spec h =
-    let one = no_if _ _ _ h in
-    let two = no_if _ _ _ one.1 in
-    let three = no_if _ _ _ two.1 in
-    let four = no_if _ _ _ three.1 in
-    let five = no_if _ _ _ four.1 in
-    (no_if (list_any (has_id_of spec) earlier) (DuplicateId place) [] five.1).0
+    let last : List SpecFault = fault_if (list_any (has_id_of spec) earlier) (DuplicateId place) [] in
+    let never : List SpecFault = fault_if (spec.significant && is_never auto) (SignificantNever place) last in
+    let permanent : List SpecFault = fault_if (spec.significant && is_permanent spec.restart) (SignificantPermanent place) never in
+    let modules : List SpecFault = fault_if (not (are_lawful_modules spec.modules)) (BadSpec place Modules) permanent in
+    let start : List SpecFault = fault_if (not (is_lawful spec.start)) (BadSpec place Start) modules in
+    let one : start ≡ [] = (no_if (not (is_lawful spec.id)) (BadSpec place Id) start h).1 in
+    let two : modules ≡ [] = (no_if (not (is_lawful spec.start)) (BadSpec place Start) modules one).1 in
+    let three : permanent ≡ [] = (no_if (not (are_lawful_modules spec.modules)) (BadSpec place Modules) permanent two).1 in
+    let four : never ≡ [] = (no_if (spec.significant && is_permanent spec.restart) (SignificantPermanent place) never three).1 in
+    let five : last ≡ [] = (no_if (spec.significant && is_never auto) (SignificantNever place) last four).1 in
+    (no_if (list_any (has_id_of spec) earlier) (DuplicateId place) [] five).0
 
 -- none of these has an id of the same bytes
 none_named : (id : Name) (spec : ChildSpec) (earlier : List ChildSpec) → name_bytes spec.id ≡ name_bytes id → list_any (has_id_of spec) earlier ≡ false → count_by (is_named id) earlier ≡ 0
 none_named id spec [] same none = refl
 none_named id spec (x ∷ xs) same none =
     ⊎_elim
-    (λ (here : has_id_of spec x ≡ true). absurd (false≢true (sym none ∙ ap (λ (b : Bool). cond b true (list_any (has_id_of spec) xs)) here)))
+    (λ (here : has_id_of spec x ≡ true). absurd (false≢true (sym none ∙ ap (λ (b : Bool). b || list_any (has_id_of spec) xs) here)))
     (λ (other : has_id_of spec x ≡ false).
-    let rest : list_any (has_id_of spec) xs ≡ false = sym (ap (λ (b : Bool). cond b true (list_any (has_id_of spec) xs)) other) ∙ none in
+    let rest : list_any (has_id_of spec) xs ≡ false = sym (ap (λ (b : Bool). b || list_any (has_id_of spec) xs) other) ∙ none in
     let zero : ◌≡◌ {A = ℕ} (cond (is_named id x) 1 0) 0 = ap (λ (bytes : List ℕ). cond {A = ℕ} (bytes_eq (name_bytes x.id) bytes) 1 0) (sym same) ∙ ap (λ (b : Bool). cond b 1 0) other in
     omega (arith, zero, none_named id spec xs same rest, sum_by-cons (λ (y : ChildSpec). cond (is_named id y) 1 0) x xs))
     (cases_Bool (has_id_of spec x))
@@ -88,11 +95,11 @@ from-apart id auto all place before (spec ∷ rest) is long h none =
     let n : ChildSpec → ℕ = λ (x : ChildSpec). cond (is_named id x) 1 0 in
     let more : count_by (is_named id) (before ++ spec ∷ []) ≤ 1 =
     ⊎_elim
-    (λ (yes : is_named id spec ≡ true).
-    let one : ◌≡◌ {A = ℕ} (cond (is_named id spec) 1 0) 1 = ap (λ (b : Bool). cond b 1 0) yes in
-    omega (arith, one, none_named id spec before ((bytes_eq-Decides (name_bytes spec.id) (name_bytes id)).0 yes) unique, sum_by-append n before (spec ∷ []), sum_by-cons n spec []))
-    (λ (no : is_named id spec ≡ false).
-    let zero : ◌≡◌ {A = ℕ} (cond (is_named id spec) 1 0) 0 = ap (λ (b : Bool). cond b 1 0) no in
+    (λ (holds_so : is_named id spec ≡ true).
+    let one : ◌≡◌ {A = ℕ} (cond (is_named id spec) 1 0) 1 = ap (λ (b : Bool). cond b 1 0) holds_so in
+    omega (arith, one, none_named id spec before ((bytes_eq-Decides (name_bytes spec.id) (name_bytes id)).0 holds_so) unique, sum_by-append n before (spec ∷ []), sum_by-cons n spec []))
+    (λ (isnt : is_named id spec ≡ false).
+    let zero : ◌≡◌ {A = ℕ} (cond (is_named id spec) 1 0) 0 = ap (λ (b : Bool). cond b 1 0) isnt in
     omega (arith, zero, h, sum_by-append n before (spec ∷ []), sum_by-cons n spec []))
     (cases_Bool (is_named id spec)) in
     let longer : length (before ++ spec ∷ []) ≡ place + 1 = omega (arith, long, length-append before (spec ∷ [])) in

@@ -67,10 +67,10 @@ pub decided-of : (s : State) (e : Event) (g : Progress) → IsSound s → IsOfOp
 decided-of s e g sound h =
     cond_both (is_opened s.follows (decided s e).follows) (opened_now s (taken e.kind s.waiting) (decided s e)) (went_on e.kind g) (λ (x : Progress). IsOfOpened (decided s e) x)
     (λ opened busy. refl)
-    (λ no busy.
+    (λ isnt busy.
     ⊎_elim
     (λ (same : (decided s e).follows ≡ s.follows). h (ap (λ (f : Option Sequel). is_some f) (sym same) ∙ busy) ∙ sym same)
-    (λ rest. ⊎_elim (λ (none : (decided s e).follows ≡ None). absurd (false≢true (sym (ap (λ (f : Option Sequel). is_some f) none) ∙ busy))) (λ (opened : is_opened s.follows (decided s e).follows ≡ true). absurd (false≢true (sym no ∙ opened))) rest)
+    (λ rest. ⊎_elim (λ (none : (decided s e).follows ≡ None). absurd (false≢true (sym (ap (λ (f : Option Sequel). is_some f) none) ∙ busy))) (λ (opened : is_opened s.follows (decided s e).follows ≡ true). absurd (false≢true (sym isnt ∙ opened))) rest)
     (tracked s e sound))
 
 abbrev LeftOrClosed : Option Sequel → Outcome → Type 0
@@ -236,9 +236,9 @@ said-true s e g sound keeps opened h =
 
 step-true : (s : State) (e : Event) (g : Progress) → IsSound s → Keeps s g → IsOfOpened s g → TellsTruth s e (seen s e g)
 step-true s e g sound keeps opened =
-    let then : IsSound (decided s e) × Keeps (decided s e) (seen s e g) = decided-keeps s e g sound keeps in
+    let mid : IsSound (decided s e) × Keeps (decided s e) (seen s e g) = decided-keeps s e g sound keeps in
     ⊎_elim
-    (λ (said : Said s e.kind (decide e.kind (record { state = stamped e.reading s; orders = [] }))). said-true s e g then.0 then.1 (decided-of s e g sound opened) said)
+    (λ (said : Said s e.kind (decide e.kind (record { state = stamped e.reading s; orders = [] }))). said-true s e g mid.0 mid.1 (decided-of s e g sound opened) said)
     (λ (came : CameUp s e.kind (decide e.kind (record { state = stamped e.reading s; orders = [] }))). came-up-true s e g keeps opened (rests-up s e came))
     (decided-answers s e)
 
