@@ -1,28 +1,20 @@
 -- Under simple_one_for_one: what an event decides leaves no child undefined, but for one that is to be started at once, or while
 -- the supervisor ends.
-use Rattle.std.specs.Prelude.{◌≡◌, ◌⊎◌, ℕ, ◌==◌, ◌+◌, ◌-◌, ◌≤◌, ◌<◌, ◌++◌, ◌&&◌, ◌||◌, not, Bool, true, false, List, [], ◌∷◌, Option, None, Some, Contains, refl, if◌then◌else◌, position, is_none, is_some, nat_le, slice_get, slice_range, slice_set, filter, length, map, remove, reverse, take, drop, unwrap_or, count_by}
-use Rattle.std.specs.List.{list_any}
-use Rattle.std.specs.Option.{option_eq}
-use Rattle.std.specs.Ordering.{on}
-use Rattle.std.specs.Str.{bytes_eq}
-use Rattle.std.proofs.Common.{◌∙◌, ap, sym, subst, inl, inr, arith, ⊎_elim, cond, rules}
-use Rattle.std.proofs.lemmas.Bool.{and_from, and_parts, cases_Bool, false≢true}
+use Rattle.std.specs.Prelude.{◌≡◌, ◌⊎◌, ℕ, ◌+◌, ◌-◌, ◌≤◌, ◌<◌, ◌++◌, ◌||◌, not, Bool, true, false, List, [], ◌∷◌, Option, None, Some, refl, if◌then◌else◌, is_none, is_some, nat_le, slice_get, slice_range, slice_set, length, map, remove, take, drop, count_by}
+use Rattle.std.proofs.Common.{◌∙◌, ap, sym, subst, inl, inr, arith, ⊎_elim, cond}
+use Rattle.std.proofs.lemmas.Bool.{cases_Bool, false≢true}
 use Rattle.std.proofs.lemmas.List.{append-nil, get_or-set_same, length-set}
 use Rattle.std.proofs.lemmas.List.Folds.{drop_split}
 use Rattle.std.proofs.lemmas.Option.{slice_get-get_or, slice_get_within}
-use Rattle.std.proofs.lemmas.List.Sums.{sum_by-append, sum_by-cons, sum_by-take-drop}
+use Rattle.std.proofs.lemmas.List.Sums.{sum_by-take-drop}
 use Prim.Native.Nat.{zero, suc}
 use Rattle.otp_reason.specs.declared.name.Name.{Name}
-use Rattle.otp_reason.specs.Names.{name_bytes}
 use Rattle.otp_reason.specs.declared.note.Note.{Note}
 use Rattle.otp_reason.specs.declared.note.Note.TheVariants as note
 use Rattle.otp_reason.specs.declared.reason.Reason.{Reason}
 use Rattle.otp_spec.specs.declared.child.ChildSpec.{ChildSpec}
-use Rattle.otp_spec.specs.declared.child.Shutdown.{Shutdown}
-use Rattle.otp_spec.specs.declared.child.Shutdown.TheVariants.{BrutalKill, Infinity, Milliseconds}
 use Rattle.otp_spec.specs.declared.child.Restart.{Restart}
 use Rattle.otp_spec.specs.declared.child.Restart.TheVariants.{Permanent, Transient, Temporary}
-use Rattle.otp_spec.specs.declared.flags.SupFlags.{SupFlags}
 use Rattle.otp_spec.specs.declared.flags.Strategy.{Strategy}
 use Rattle.otp_spec.specs.declared.flags.Strategy.TheVariants.{OneForOne, OneForAll, RestForOne, SimpleOneForOne}
 use Rattle.otp_spec.specs.declared.limits.TheConstants.{MAX_CHILDREN}
@@ -30,7 +22,7 @@ use Rattle.otp_spec.specs.Flags.{is_simple}
 use Rattle.otp_table.specs.declared.row.Row.{Row}
 use Rattle.otp_table.specs.declared.row.RowState.{RowState}
 use Rattle.otp_table.specs.declared.row.RowState.TheVariants.{Undefined, Starting, Up, Asked, Killed, Restarting}
-use Rattle.otp_table.specs.Rows.{awaits_retry, calm_rows, free_slot, has_number, has_process, is_awaited, is_restarting, is_undefined, row_has, with_state}
+use Rattle.otp_table.specs.Rows.{awaits_retry, calm_rows, free_slot, has_number, is_awaited, is_restarting, is_undefined, row_has, with_state}
 use Rattle.otp_rules.specs.declared.call.Call.{Call}
 use Rattle.otp_rules.specs.declared.call.Call.TheVariants as call
 use Rattle.otp_rules.specs.declared.call.CallFault.TheVariants as fault
@@ -38,7 +30,6 @@ use Rattle.otp_rules.specs.declared.call.Reply.{Reply}
 use Rattle.otp_rules.specs.declared.call.Reply.TheVariants as reply
 use Rattle.otp_rules.specs.declared.ending.Ending.{Ending}
 use Rattle.otp_rules.specs.declared.ending.Ending.TheVariants as ending
-use Rattle.otp_rules.specs.declared.event.Effect.TheVariants as effect
 use Rattle.otp_rules.specs.declared.event.Event.{Event}
 use Rattle.otp_rules.specs.declared.event.Item.{Item}
 use Rattle.otp_rules.specs.declared.event.Item.TheVariants as item
@@ -49,31 +40,22 @@ use Rattle.otp_rules.specs.declared.event.Waiting.TheVariants as waiting
 use Rattle.otp_rules.specs.declared.work.Due.{Due}
 use Rattle.otp_rules.specs.declared.work.Sequel.{Sequel}
 use Rattle.otp_rules.specs.declared.work.Sequel.TheVariants as sequel
-use Rattle.otp_rules.specs.State.{Outcome, State, answer, closed, emit, is_busy, is_over, put_last, with_rows, with_waiting, with_work}
-use Rattle.otp_rules.specs.Places.{at_number, at_row, end_process, end_row, is_removed, is_temporary, set_row}
-use Rattle.otp_rules.specs.Restarts.{affected_from, affected_to, dues, ends_by_significance, is_restarted, restart_list, running, stop_list}
-use Rattle.otp_rules.specs.Stops.{calm_all, is_exit, tell, tell_row, terminate, told, use_exit, without}
-use Rattle.otp_rules.specs.Starts.{at_starting, failed_after, if_starting, is_due, start, start_row, take_failed, take_ignored, take_up, up_after}
-use Rattle.otp_rules.specs.Ends.{end_all, refuse_all}
-use Rattle.otp_rules.specs.Work.{advance, follow, start_first, stop_first}
+use Rattle.otp_rules.specs.State.{Outcome, State, answer, closed, is_busy, is_over, put_last, with_rows, with_waiting}
+use Rattle.otp_rules.specs.Places.{end_row, is_removed, is_temporary, set_row}
+use Rattle.otp_rules.specs.Restarts.{affected_from, affected_to, dues, ends_by_significance, is_restarted, restart_list, stop_list}
+use Rattle.otp_rules.specs.Stops.{terminate}
+use Rattle.otp_rules.specs.Starts.{failed_after, take_failed, take_ignored, take_up, up_after}
 use Rattle.otp_rules.specs.Deaths.{after_end, death, exit_in, restart, restart_rows, retry, take_exit}
-use Rattle.otp_rules.specs.Calls.{add_child, call_at, call_child, carry_out, fault_at, get_childspec, get_shared, is_named, new_row, start_checked, start_child, start_dynamic, start_lawful, start_shared, stop_child, stop_process, take_call, terminate_process, unless_refused}
+use Rattle.otp_rules.specs.Calls.{add_child, call_at, call_child, fault_at, get_childspec, get_shared, is_named, new_row, start_child, start_dynamic, start_shared, stop_child, stop_process, take_call, terminate_process, unless_refused}
 use Rattle.otp_rules.specs.Counts.{counts_of, which_of}
-use Rattle.otp_rules.specs.Step.{ask, decide, open_rows, open_with, opening_list, opening_specs, resume, rows_from, stamped, step, step_on, take_item, take_note, take_waiting, tick}
-use Rattle.otp_rules.specs.Run.{empty_state, state_after}
-use Rattle.otp_rules.specs.Homes.{Brings, is_start_call}
+use Rattle.otp_rules.specs.Step.{ask, decide, open_rows, open_with, opening_specs, resume, stamped, take_item, take_note, take_waiting, tick}
 use Rattle.otp_rules.specs.Fit.{rows_in, IsLimited, IsSound}
-use Rattle.otp_rules.specs.Progress.{is_end, AsksForChild}
-use Rattle.otp_rules.proofs.Walks.{advance-by, counted_restart, end_waits, restart-by, stop_first-by, with_stops}
-use Rattle.otp_rules.proofs.Decisions.{BringsStart, IsUnmoved, StandsAt, at_number-survives, at_row-survives, by_test, decide-survives, decide-survives_event}
-use Rattle.otp_rules.proofs.Counting.{at_row-found, remove_count, rows_in-append, rows_in-at, rows_in-cons, rows_in-set, set_count, tell-alike, tick_count, use_exit-alike}
-use Rattle.otp_rules.proofs.Keeps.{step_keeps_plan_law}
-use Rattle.otp_rules.proofs.Lasting.{contains_counts}
-use Rattle.otp_rules.proofs.Sound.{advance-sound, empty-sound, sound-survives}
+use Rattle.otp_rules.specs.Progress.{is_end}
+use Rattle.otp_rules.proofs.Walks.{counted_restart, restart-by}
+use Rattle.otp_rules.proofs.Decisions.{at_number-survives, at_row-survives, by_test}
+use Rattle.otp_rules.proofs.Counting.{remove_count, rows_in-append, rows_in-at, rows_in-cons, rows_in-set, tick_count}
 use Rattle.otp_rules.proofs.WhileOpen.{no_after, terminate-follows}
-use Rattle.otp_laws.proofs.Heeded.{zero_or_some}
 use Rattle.otp_laws.proofs.Oks.{at_starting-by}
-use Rattle.otp_laws.proofs.Still.{Few, IsStill, advance-few, few-survives}
 
 -- so many are undefined, so many wait for a retry
 abbrev pub undefined : List Row → ℕ

@@ -1,6 +1,6 @@
 -- How many rows are in such a state that only a start brings them there: no event makes them more, but for a start that it
 -- orders.
-use Rattle.std.specs.Prelude.{◌≡◌, ◌⊎◌, ℕ, ◌==◌, ◌+◌, ◌≤◌, ◌<◌, ◌++◌, ◌||◌, Bool, true, false, List, [], ◌∷◌, Option, None, Some, refl, position, is_some, slice_set, slice_range, remove, unwrap_or, take, drop}
+use Rattle.std.specs.Prelude.{◌≡◌, ◌⊎◌, ℕ, ◌==◌, ◌+◌, ◌≤◌, ◌<◌, ◌++◌, ◌||◌, Bool, true, false, List, [], ◌∷◌, Option, Some, refl, position, is_some, slice_set, slice_range, remove, unwrap_or, take, drop}
 use Rattle.std.specs.List.{list_any}
 use Rattle.std.proofs.Common.{◌∙◌, ap, sym, subst, inl, inr, arith, ⊎_elim, cond}
 use Rattle.std.proofs.lemmas.Bool.{cases_Bool, eqb-true, false≢true}
@@ -28,10 +28,9 @@ use Rattle.otp_rules.specs.Restarts.{running}
 use Rattle.otp_rules.specs.Stops.{calm_all, is_exit, stop_each, tell, tell_row, terminate, told, use_exit, without}
 use Rattle.otp_rules.specs.Starts.{is_due, start, start_row}
 use Rattle.otp_rules.specs.Ends.{end_all, refuse_all}
-use Rattle.otp_rules.specs.Work.{advance}
 use Rattle.otp_rules.specs.Deaths.{restart, restart_rows}
 use Rattle.otp_rules.specs.Calls.{new_row}
-use Rattle.otp_rules.specs.Step.{decide, open_rows, open_with, opening_specs, rows_from, stamped, step, step_on, tick}
+use Rattle.otp_rules.specs.Step.{decide, open_rows, open_with, opening_specs, rows_from, stamped, step, step_on}
 use Rattle.otp_rules.specs.Needs.{is_start}
 use Rattle.otp_rules.specs.Run.{state_after}
 use Rattle.otp_rules.specs.Progress.{decided}

@@ -1,5 +1,5 @@
 -- What an event does that takes a note.
-use Rattle.std.specs.Prelude.{◌≡◌, ◌⊎◌, ℕ, ◌==◌, ◌+◌, ◌≤◌, ◌<◌, ◌++◌, Bool, true, false, List, [], ◌∷◌, Option, None, Some, refl, if◌then◌else◌, is_some, slice_set, remove, unwrap_or}
+use Rattle.std.specs.Prelude.{◌≡◌, ◌⊎◌, ℕ, ◌==◌, ◌+◌, ◌≤◌, ◌<◌, Bool, true, false, List, [], ◌∷◌, Option, None, Some, refl, if◌then◌else◌, is_some, slice_set, remove, unwrap_or}
 use Rattle.std.specs.List.{list_any}
 use Rattle.std.proofs.Common.{◌∙◌, ap, sym, subst, inl, inr, arith, ⊎_elim, cond, rules}
 use Rattle.std.proofs.lemmas.Bool.{cases_Bool, false≢true}
@@ -20,8 +20,8 @@ use Rattle.otp_rules.specs.declared.event.Waiting.{Waiting}
 use Rattle.otp_rules.specs.declared.event.Waiting.TheVariants as waiting
 use Rattle.otp_rules.specs.declared.work.Sequel.{Sequel}
 use Rattle.otp_rules.specs.declared.work.Sequel.TheVariants as sequel
-use Rattle.otp_rules.specs.State.{Outcome, State, answer, closed, is_busy, is_over, put_last, with_rows, with_waiting}
-use Rattle.otp_rules.specs.Places.{at_number, at_row, end_row, set_row}
+use Rattle.otp_rules.specs.State.{Outcome, State, answer, is_busy, is_over, put_last, with_waiting}
+use Rattle.otp_rules.specs.Places.{at_number, end_row, set_row}
 use Rattle.otp_rules.specs.Restarts.{ends_by_significance, is_restarted}
 use Rattle.otp_rules.specs.Stops.{terminate}
 use Rattle.otp_rules.specs.Starts.{at_starting, failed_after, if_starting, take_failed, take_ignored, take_up, up_after}
@@ -34,7 +34,7 @@ use Rattle.otp_rules.specs.Fit.{is_starting, rows_in, IsLimited}
 use Rattle.otp_rules.specs.InOrder.{is_begun, is_stop, Awaits, IsInOrder}
 use Rattle.otp_rules.proofs.Walks.{advance-by}
 use Rattle.otp_rules.proofs.Decisions.{StandsAt, at_number-survives, at_row-survives, by_test}
-use Rattle.otp_rules.proofs.Counting.{at_row-found, cond_le, remove_count, rows_in-apart, rows_in-at, rows_in-end, rows_in-le, rows_in-set}
+use Rattle.otp_rules.proofs.Counting.{at_row-found, remove_count, rows_in-apart, rows_in-at, rows_in-end, rows_in-le, rows_in-set}
 use Rattle.otp_rules.proofs.Finishing.{begun_awaited, zero_or_more}
 use Rattle.otp_rules.proofs.Numbers.{holders}
 use Rattle.otp_laws.specs.Notes.{answer_number, awaits, has_come_up, ChangesNone}

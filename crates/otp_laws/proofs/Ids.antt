@@ -1,5 +1,5 @@
 -- No two children have one id.
-use Rattle.std.specs.Prelude.{◌≡◌, ◌⊎◌, ℕ, ◌==◌, ◌+◌, ◌≤◌, ◌<◌, ◌++◌, Bool, true, false, List, [], ◌∷◌, Option, None, Some, refl, if◌then◌else◌, is_some, nat_le, length, unwrap_or, count_by}
+use Rattle.std.specs.Prelude.{◌≡◌, ◌⊎◌, ℕ, ◌+◌, ◌≤◌, ◌<◌, Bool, true, false, List, [], ◌∷◌, Option, None, Some, refl, nat_le, length, unwrap_or, count_by}
 use Rattle.std.specs.Str.{bytes_eq}
 use Rattle.std.proofs.Common.{◌∙◌, ap, sym, subst, inl, inr, arith, ⊎_elim, cond, rules}
 use Rattle.std.proofs.lemmas.Bool.{cases_Bool, false≢true}
@@ -9,11 +9,9 @@ use Rattle.otp_reason.specs.declared.name.Name.{Name}
 use Rattle.otp_reason.specs.Names.{name_bytes}
 use Rattle.otp_spec.specs.declared.child.ChildSpec.{ChildSpec}
 use Rattle.otp_spec.specs.declared.fault.SpecFault.{SpecFault}
-use Rattle.otp_spec.specs.declared.flags.SupFlags.{SupFlags}
 use Rattle.otp_spec.specs.declared.limits.TheConstants.{MAX_CHILDREN}
 use Rattle.otp_spec.specs.Flags.{is_simple}
 use Rattle.otp_spec.specs.Lawful.{first_fault}
-use Rattle.otp_spec.specs.Supervisor.{supervisor_fault}
 use Rattle.otp_table.specs.declared.row.Row.{Row}
 use Rattle.otp_table.specs.declared.row.RowState.{RowState}
 use Rattle.otp_table.specs.declared.row.RowState.TheVariants.{Undefined, Starting, Up, Asked, Killed, Restarting}
@@ -21,7 +19,6 @@ use Rattle.otp_table.specs.Rows.{free_slot, has_id}
 use Rattle.otp_rules.specs.declared.call.Call.{Call}
 use Rattle.otp_rules.specs.declared.call.Call.TheVariants as call
 use Rattle.otp_rules.specs.declared.call.CallFault.TheVariants as fault
-use Rattle.otp_rules.specs.declared.call.Reply.{Reply}
 use Rattle.otp_rules.specs.declared.call.Reply.TheVariants as reply
 use Rattle.otp_rules.specs.declared.event.Event.{Event}
 use Rattle.otp_rules.specs.declared.event.Item.{Item}
@@ -30,18 +27,18 @@ use Rattle.otp_rules.specs.declared.event.Kind.{Kind}
 use Rattle.otp_rules.specs.declared.event.Kind.TheVariants as kind
 use Rattle.otp_rules.specs.declared.event.Waiting.{Waiting}
 use Rattle.otp_rules.specs.declared.event.Waiting.TheVariants as waiting
-use Rattle.otp_rules.specs.State.{Outcome, State, answer, is_busy, is_over, put_last, with_waiting}
+use Rattle.otp_rules.specs.State.{Outcome, State, is_busy, is_over, put_last, with_waiting}
 use Rattle.otp_rules.specs.Places.{at_row}
 use Rattle.otp_rules.specs.Calls.{add_child, call_at, carry_out, fault_at, is_named, new_row, start_checked, start_child, start_lawful, take_call, unless_refused}
 use Rattle.otp_rules.specs.Step.{ask, decide, open_rows, open_with, opening_specs, rows_from, stamped, step, step_on, take_item}
-use Rattle.otp_rules.specs.Run.{empty_state, state_after}
+use Rattle.otp_rules.specs.Run.{empty_state}
 use Rattle.otp_rules.specs.Homes.{Brings, is_start_call}
 use Rattle.otp_rules.specs.Progress.{AsksForChild}
 use Rattle.otp_rules.proofs.Counting.{at_row-found}
 use Rattle.otp_rules.proofs.Decisions.{AtPassing, BringsStart, at_row-survives, by_test, decide-survives_event}
 use Rattle.otp_rules.proofs.Finishing.{zero_or_more}
 use Rattle.otp_rules.proofs.Keeps.{step_keeps_plan_law}
-use Rattle.otp_laws.specs.Ids.{AreNamedApart, AreSpecsApart, IdsApart, IdsStayApart}
+use Rattle.otp_laws.specs.Ids.{AreSpecsApart, IdsApart, IdsStayApart}
 use Rattle.otp_laws.proofs.Heeded.{brings-item}
 use Rattle.otp_laws.proofs.Specs.{specs_apart}
 use Rattle.otp_laws.proofs.Still.{Few, IsStill, advance-few, answer-few, few-survives}

@@ -1,5 +1,5 @@
 -- A child's process, from its start on: until the note of its end is taken its child has it, in one slot and under one id.
-use Rattle.std.specs.Prelude.{◌≡◌, ◌⊎◌, ℕ, ◌==◌, ◌+◌, ◌≤◌, ◌<◌, ◌++◌, ◌&&◌, not, Bool, true, false, List, [], ◌∷◌, Option, None, Some, Contains, refl, is_some, unwrap_or, count_by}
+use Rattle.std.specs.Prelude.{◌≡◌, ◌⊎◌, ℕ, ◌==◌, ◌+◌, ◌≤◌, ◌<◌, ◌++◌, ◌&&◌, not, Bool, true, false, List, [], ◌∷◌, Some, Contains, refl, unwrap_or, count_by}
 use Rattle.std.specs.List.{list_any}
 use Rattle.std.proofs.Common.{◌∙◌, ap, sym, subst, inl, inr, arith, ⊎_elim, cond}
 use Rattle.std.proofs.lemmas.Bool.{and_from, cases_Bool, eq-eqb, eqb-true, false≢true}
@@ -9,33 +9,27 @@ use Prim.Native.Nat.{suc}
 use Rattle.otp_reason.specs.declared.name.Name.{Name}
 use Rattle.otp_spec.specs.declared.child.ChildSpec.{ChildSpec}
 use Rattle.otp_spec.specs.declared.flags.SupFlags.{SupFlags}
-use Rattle.otp_spec.specs.Supervisor.{supervisor_fault}
 use Rattle.otp_table.specs.declared.row.Row.{Row}
-use Rattle.otp_table.specs.declared.row.RowState.{RowState}
 use Rattle.otp_table.specs.Rows.{free_slot, has_id, has_process, has_slot, row_has}
 use Rattle.otp_rules.specs.declared.event.Event.{Event}
-use Rattle.otp_rules.specs.declared.event.Item.{Item}
-use Rattle.otp_rules.specs.State.{Outcome, State, is_over}
+use Rattle.otp_rules.specs.State.{Outcome, State}
 use Rattle.otp_rules.specs.Calls.{new_row}
-use Rattle.otp_rules.specs.Step.{decide, open_rows, stamped, step, step_on}
+use Rattle.otp_rules.specs.Step.{decide, stamped, step, step_on}
 use Rattle.otp_rules.specs.Run.{empty_state, state_after}
 use Rattle.otp_rules.specs.Needs.{IsLawfulHistory, numbers_of}
 use Rattle.otp_rules.specs.Homes.{Brings, is_ended}
-use Rattle.otp_rules.specs.Progress.{no_progress}
-use Rattle.otp_rules.specs.Fit.{next_number, rows_in, IsDistinct, IsLawfulFrom}
+use Rattle.otp_rules.specs.Fit.{next_number, IsLawfulFrom}
 use Rattle.otp_rules.specs.InOrder.{IsInOrder}
 use Rattle.otp_rules.specs.Lives.{HasEnded, IsHeld, IsHeldIn, TakesEnd}
 use Rattle.otp_rules.specs.Slots.{AreSlotted}
 use Rattle.otp_rules.proofs.Decisions.{decide-survives_event}
 use Rattle.otp_rules.proofs.Heard.{ends_are_heard_law, ends_tell_started_law}
-use Rattle.otp_rules.proofs.Lasting.{contains_counts, counts_contain, empty_in_order, stays_from, stays_in_order}
+use Rattle.otp_rules.proofs.Lasting.{contains_counts, empty_in_order, stays_from, stays_in_order}
 use Rattle.otp_rules.proofs.Runs.{run_goes_on_law, runs_joined_law}
 use Rattle.otp_rules.proofs.Slots.{free_slot-free, holding, slots_owned_law, slots_tell_processes_law}
 use Rattle.otp_rules.proofs.States.{one_process}
-use Rattle.otp_laws.specs.Ids.{AreNamedApart}
-use Rattle.otp_laws.specs.Life.{EndIsTaken, EndsAfterAll, IdsStartAnew, IsHeldAs, RowsStartAnew, StartsAs, StartsIn}
+use Rattle.otp_laws.specs.Life.{EndIsTaken, EndsAfterAll, IdsStartAnew, IsHeldAs, RowsStartAnew, StartsIn}
 use Rattle.otp_laws.proofs.Basis.{given_below, lawful_from_0, next_more, next_one, number_above, split_lawful}
-use Rattle.otp_laws.proofs.Heeded.{zero_or_some}
 use Rattle.otp_laws.proofs.Ids.{ids_apart_law, still_id}
 use Rattle.otp_laws.proofs.Still.{Few, IsStill, advance-few, few-survives}
 

@@ -1,5 +1,5 @@
 -- Of the notes that name one process, at most one answer and at most one Exit change rows.
-use Rattle.std.specs.Prelude.{◌≡◌, ◌⊎◌, ℕ, ◌==◌, ◌+◌, ◌≤◌, ◌<◌, ◌++◌, Bool, true, false, List, [], ◌∷◌, Option, None, Some, Contains, refl, nat_lt}
+use Rattle.std.specs.Prelude.{◌≡◌, ◌⊎◌, ℕ, ◌≤◌, ◌<◌, ◌++◌, Bool, true, List, [], ◌∷◌, Some, Contains, refl, nat_lt}
 use Rattle.std.proofs.Common.{◌∙◌, ap, sym, inl, inr, arith, ⊎_elim, cond}
 use Rattle.std.proofs.lemmas.Bool.{cases_Bool, false≢true, ltb-false, ltb-true}
 use Rattle.otp_reason.specs.declared.note.Note.{Note}
@@ -21,10 +21,9 @@ use Rattle.otp_rules.specs.InOrder.{Awaits}
 use Rattle.otp_rules.proofs.Counting.{cond_le, rows_in-le}
 use Rattle.otp_rules.proofs.Finishing.{zero_or_more}
 use Rattle.otp_rules.proofs.Lasting.{counts_contain}
-use Rattle.otp_rules.proofs.Numbers.{holders}
 use Rattle.otp_rules.proofs.Runs.{runs_joined_law}
 use Rattle.otp_laws.specs.Basis.{IsBasis}
-use Rattle.otp_laws.specs.Notes.{answer_number, awaits, has_come_up, AreAlike, ChangesNone, IsUnawaited, NotesCountOnce, NotesCountOnceFrom, UnawaitedChangesNone, UnawaitedChangesNoneFrom}
+use Rattle.otp_laws.specs.Notes.{answer_number, awaits, has_come_up, ChangesNone, IsUnawaited, NotesCountOnce, NotesCountOnceFrom, UnawaitedChangesNone, UnawaitedChangesNoneFrom}
 use Rattle.otp_laws.proofs.Basis.{Numbered, empty_basis, first_numbered, lawful_from_0, rest_lawful, split_lawful, stays_basis}
 use Rattle.otp_laws.proofs.Falls.{AtMost, Falling, IsOf, goes-falls, process-falling, process-of, run-falls, starting-falling, starting-of}
 use Rattle.otp_laws.proofs.Heeded.{Gone, NoStart, Same, brings-note, none_some, note-ends, note-heard, rests-same, same_some, starts_in_work, unawaited-rests}

@@ -1,5 +1,5 @@
 -- Each child's process is one that the history started, or that was given before.
-use Rattle.std.specs.Prelude.{◌≡◌, ◌⊎◌, ℕ, ◌==◌, ◌+◌, ◌≤◌, ◌<◌, ◌++◌, Bool, true, false, List, [], ◌∷◌, Option, None, Some, All, Contains, refl, is_some, unwrap_or}
+use Rattle.std.specs.Prelude.{◌≡◌, ◌⊎◌, ℕ, ◌==◌, ◌<◌, ◌++◌, Bool, true, false, List, [], ◌∷◌, Option, None, Some, Contains, refl, is_some, unwrap_or}
 use Rattle.std.specs.List.{list_any, filter_map}
 use Rattle.std.proofs.Common.{◌∙◌, ap, sym, subst, inl, inr, arith, ⊎_elim, cond}
 use Rattle.std.proofs.lemmas.Bool.{cases_Bool, eqb-true, false≢true}

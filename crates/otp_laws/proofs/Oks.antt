@@ -1,10 +1,9 @@
 -- An answer to a call says what has happened.
-use Rattle.std.specs.Prelude.{◌≡◌, ◌⊎◌, ℕ, ◌==◌, ◌+◌, ◌≤◌, ◌<◌, ◌++◌, ◌&&◌, Bool, true, false, List, [], ◌∷◌, Option, None, Some, All, Contains, refl, if◌then◌else◌, position, is_some, nat_le, slice_get, slice_set, length, remove, reverse, unwrap_or}
-use Rattle.std.specs.List.{list_any, filter_map}
-use Rattle.std.proofs.Common.{◌∙◌, ap, sym, subst, inl, inr, arith, ⊎_elim}
-use Rattle.std.proofs.lemmas.Bool.{cond_both, false≢true}
+use Rattle.std.specs.Prelude.{◌≡◌, ◌⊎◌, ℕ, ◌<◌, ◌++◌, Bool, true, false, List, [], ◌∷◌, Option, None, Some, All, Contains, refl, if◌then◌else◌, position, nat_le, slice_get, slice_set, length, remove}
+use Rattle.std.proofs.Common.{◌∙◌, ap, sym, subst, inl, inr, arith}
+use Rattle.std.proofs.lemmas.Bool.{false≢true}
 use Rattle.std.proofs.lemmas.List.{append-nil, append_assoc, get_or-set_same, length-set}
-use Rattle.std.proofs.lemmas.List.Elements.{All-append, All-cons, All-nil, All-push}
+use Rattle.std.proofs.lemmas.List.Elements.{All-nil, All-push}
 use Rattle.std.proofs.lemmas.List.Quantifiers.{position-Some}
 use Rattle.std.proofs.lemmas.Option.{get_or_from_slice_get, slice_get_within}
 use Rattle.otp_reason.specs.declared.name.Name.{Name}
@@ -19,7 +18,7 @@ use Rattle.otp_spec.specs.Lawful.{first_fault}
 use Rattle.otp_table.specs.declared.row.Row.{Row}
 use Rattle.otp_table.specs.declared.row.RowState.{RowState}
 use Rattle.otp_table.specs.declared.row.RowState.TheVariants.{Undefined, Starting, Up, Asked, Killed, Restarting}
-use Rattle.otp_table.specs.Rows.{awaits_retry, has_id, has_number, has_process, is_awaited, row_has, with_state}
+use Rattle.otp_table.specs.Rows.{awaits_retry, has_id, has_number, row_has, with_state}
 use Rattle.otp_rules.specs.declared.call.Answered.{Answered}
 use Rattle.otp_rules.specs.declared.call.Call.{Call}
 use Rattle.otp_rules.specs.declared.call.Call.TheVariants as call
@@ -40,16 +39,14 @@ use Rattle.otp_rules.specs.declared.work.Due.{Due}
 use Rattle.otp_rules.specs.declared.work.Sequel.{Sequel}
 use Rattle.otp_rules.specs.declared.work.Sequel.TheVariants as sequel
 use Rattle.otp_rules.specs.State.{Outcome, State, answer, closed, is_busy, is_over, put_last, with_rows, with_waiting, with_work}
-use Rattle.otp_rules.specs.Places.{at_number, at_row, end_process, end_row, is_removed, set_row}
+use Rattle.otp_rules.specs.Places.{end_process, end_row, is_removed, set_row}
 use Rattle.otp_rules.specs.Restarts.{ends_by_significance, is_restarted, running}
-use Rattle.otp_rules.specs.Stops.{calm_all, is_exit, stop_each, tell, tell_row, terminate, use_exit, without}
+use Rattle.otp_rules.specs.Stops.{calm_all, is_exit, tell, tell_row, terminate, use_exit, without}
 use Rattle.otp_rules.specs.Starts.{at_starting, failed_after, if_starting, is_due, start, start_row, take_failed, take_ignored, take_up, up_after}
-use Rattle.otp_rules.specs.Ends.{end_all, refuse_all, refused}
-use Rattle.otp_rules.specs.Work.{advance, follow, start_first, stop_first}
 use Rattle.otp_rules.specs.Deaths.{after_end, death, exit_in, restart, restart_rows, retry, take_exit}
 use Rattle.otp_rules.specs.Calls.{add_child, call_at, call_child, carry_out, fault_at, get_childspec, get_shared, is_named, start_checked, start_child, start_dynamic, start_lawful, start_shared, stop_child, stop_process, take_call, terminate_process, unless_refused}
 use Rattle.otp_rules.specs.Counts.{counts_of, which_of}
-use Rattle.otp_rules.specs.Step.{ask, decide, open_rows, open_with, resume, stamped, step, step_on, take_item, take_note, take_waiting, tick}
+use Rattle.otp_rules.specs.Step.{ask, decide, open_rows, open_with, resume, stamped, take_item, take_note, take_waiting, tick}
 use Rattle.otp_rules.specs.Homes.{Brings, IsFirst}
 use Rattle.otp_rules.specs.Progress.{process_number, IsFirstRow}
 use Rattle.otp_rules.proofs.Walks.{counted_restart, restart-by, stop_each-by, terminate-by}

@@ -1,5 +1,5 @@
 -- A significant child's end ends the supervisor.
-use Rattle.std.specs.Prelude.{◌≡◌, ◌⊎◌, ℕ, ◌==◌, ◌+◌, ◌≤◌, ◌<◌, ◌&&◌, ◌||◌, not, Bool, true, false, List, [], ◌∷◌, Option, None, Some, refl, if◌then◌else◌, position, is_some, slice_get, slice_set, nat_lt, remove, unwrap_or, count_by}
+use Rattle.std.specs.Prelude.{◌≡◌, ℕ, ◌+◌, ◌<◌, ◌&&◌, ◌||◌, not, Bool, true, false, List, [], ◌∷◌, Option, Some, refl, position, slice_get, slice_set, nat_lt, remove, unwrap_or, count_by}
 use Rattle.std.specs.List.{list_any}
 use Rattle.std.proofs.Common.{◌∙◌, ap, sym, subst, inl, inr, arith, ⊎_elim, cond, rules}
 use Rattle.std.proofs.lemmas.Bool.{and_from, cases_Bool, eq-eqb, eqb-true, false≢true, ltb-false, ltb-true}
@@ -21,24 +21,20 @@ use Rattle.otp_table.specs.Rows.{has_process, is_left, is_undefined, row_has, wi
 use Rattle.otp_rules.specs.declared.ending.Ending.{Ending}
 use Rattle.otp_rules.specs.declared.ending.Ending.TheVariants as ending
 use Rattle.otp_rules.specs.declared.event.Event.{Event}
-use Rattle.otp_rules.specs.declared.event.Item.{Item}
 use Rattle.otp_rules.specs.declared.event.Item.TheVariants as item
 use Rattle.otp_rules.specs.declared.event.Kind.{Kind}
-use Rattle.otp_rules.specs.declared.event.Kind.TheVariants as kind
-use Rattle.otp_rules.specs.declared.event.Waiting.{Waiting}
 use Rattle.otp_rules.specs.declared.event.Waiting.TheVariants as waiting
 use Rattle.otp_rules.specs.declared.work.Phase.TheVariants.{Ended}
 use Rattle.otp_rules.specs.declared.work.Sequel.{Sequel}
 use Rattle.otp_rules.specs.declared.work.Sequel.TheVariants as sequel
 use Rattle.otp_rules.specs.State.{Outcome, State, answer, is_busy, is_over, own_number, put_last, with_rows, with_waiting, with_work}
-use Rattle.otp_rules.specs.Places.{at_found, at_number, at_place, at_row, end_row, is_removed, set_row}
+use Rattle.otp_rules.specs.Places.{at_number, end_row, is_removed, set_row}
 use Rattle.otp_rules.specs.Restarts.{ends_by_significance, is_restarted}
-use Rattle.otp_rules.specs.Stops.{is_exit, tell, terminate}
+use Rattle.otp_rules.specs.Stops.{is_exit, terminate}
 use Rattle.otp_rules.specs.Starts.{is_due, start, start_row}
 use Rattle.otp_rules.specs.Ends.{end_all, refuse_all}
 use Rattle.otp_rules.specs.Deaths.{after_end, death, exit_in, restart, take_exit}
-use Rattle.otp_rules.specs.Step.{decide, resume, stamped, step, step_on, take_item, take_note, take_waiting}
-use Rattle.otp_rules.specs.Homes.{Brings, IsFirst}
+use Rattle.otp_rules.specs.Step.{decide, stamped, step, step_on, take_item, take_note}
 use Rattle.otp_rules.specs.Progress.{is_end, process_number, ComesBackAfter, HasProcess, IsFirstRow}
 use Rattle.otp_rules.specs.Taken.{EndsBySignificance}
 use Rattle.otp_rules.proofs.GoesOn.{GoesOn, advance-on}

@@ -1,35 +1,33 @@
 -- How many rows have what no change of their state touches: their slot, their id, their specification. Only a child that is
 -- added, and an opening, makes them more.
-use Rattle.std.specs.Prelude.{◌≡◌, ◌⊎◌, ℕ, ◌==◌, ◌+◌, ◌≤◌, ◌<◌, ◌++◌, not, Bool, true, false, List, [], ◌∷◌, Option, None, Some, refl, position, is_some, slice_set, slice_range, remove, unwrap_or, take, drop, map, count_by}
-use Rattle.std.proofs.Common.{◌∙◌, ap, sym, arith, cond}
-use Rattle.std.proofs.lemmas.Bool.{cond_both}
+use Rattle.std.specs.Prelude.{◌≡◌, ℕ, ◌+◌, ◌≤◌, ◌++◌, not, Bool, true, List, [], ◌∷◌, Option, None, Some, refl, position, is_some, slice_set, slice_range, remove, unwrap_or, take, drop, map, count_by}
+use Rattle.std.proofs.Common.{◌∙◌, ap, arith, cond}
 use Rattle.std.proofs.lemmas.List.Folds.{drop_split}
 use Rattle.std.proofs.lemmas.List.Sums.{sum_by-append, sum_by-cons, sum_by-take-drop}
 use Rattle.otp_reason.specs.declared.name.Name.{Name}
 use Rattle.otp_spec.specs.declared.child.ChildSpec.{ChildSpec}
 use Rattle.otp_table.specs.declared.row.Row.{Row}
 use Rattle.otp_table.specs.declared.row.RowState.{RowState}
-use Rattle.otp_table.specs.declared.row.RowState.TheVariants.{Undefined, Starting, Up, Asked, Killed, Restarting}
+use Rattle.otp_table.specs.declared.row.RowState.TheVariants.{Undefined, Starting, Up, Killed, Restarting}
 use Rattle.otp_table.specs.Rows.{calm_rows, calmed, free_slot, with_state}
 use Rattle.otp_rules.specs.declared.call.Reply.{Reply}
 use Rattle.otp_rules.specs.declared.ending.Ending.{Ending}
 use Rattle.otp_rules.specs.declared.ending.Ending.TheVariants as ending
-use Rattle.otp_rules.specs.declared.event.Event.{Event}
 use Rattle.otp_rules.specs.declared.event.Item.{Item}
 use Rattle.otp_rules.specs.declared.event.Kind.{Kind}
 use Rattle.otp_rules.specs.declared.event.Kind.TheVariants as kind
 use Rattle.otp_rules.specs.declared.work.Sequel.TheVariants as sequel
 use Rattle.otp_spec.specs.Flags.{is_simple}
-use Rattle.otp_rules.specs.State.{Outcome, State, answer, is_over, with_rows, with_waiting, with_work}
+use Rattle.otp_rules.specs.State.{Outcome, answer, is_over, with_rows, with_waiting, with_work}
 use Rattle.otp_rules.specs.Places.{end_process, end_row, is_removed, set_row}
 use Rattle.otp_rules.specs.Restarts.{running}
-use Rattle.otp_rules.specs.Stops.{calm_all, is_exit, stop_each, tell, tell_row, terminate, told, use_exit, without}
+use Rattle.otp_rules.specs.Stops.{calm_all, is_exit, tell, tell_row, terminate, told, use_exit, without}
 use Rattle.otp_rules.specs.Starts.{is_due, start, start_row}
 use Rattle.otp_rules.specs.Ends.{end_all, refuse_all}
 use Rattle.otp_rules.specs.Work.{advance}
 use Rattle.otp_rules.specs.Deaths.{restart, restart_rows}
 use Rattle.otp_rules.specs.Calls.{new_row}
-use Rattle.otp_rules.specs.Step.{killed, late_number, open_rows, stamped, step, step_on, tick}
+use Rattle.otp_rules.specs.Step.{killed, late_number, open_rows, tick}
 use Rattle.otp_rules.proofs.GoesOn.{GoesOn, advance-on}
 use Rattle.otp_rules.proofs.Walks.{counted_restart, stop_each-by, terminate-by, with_stops}
 use Rattle.otp_rules.proofs.Decisions.{BringsStart, IsUnmoved, StandsAt, SurvivesEvent, at_number-survives, at_row-survives, by_test}

@@ -1,33 +1,32 @@
 -- Each answer that an event gives is true, over whole histories.
-use Rattle.std.specs.Prelude.{◌≡◌, ◌⊎◌, ℕ, ◌+◌, ◌≤◌, ◌<◌, ◌++◌, ◌&&◌, Bool, true, false, List, [], ◌∷◌, Option, None, Some, All, Contains, refl, if◌then◌else◌, position, is_some, reverse, unwrap_or}
-use Rattle.std.specs.List.{list_any, filter_map}
+use Rattle.std.specs.Prelude.{◌≡◌, ◌⊎◌, ℕ, ◌++◌, ◌&&◌, Bool, true, false, List, [], ◌∷◌, Option, None, Some, All, refl, if◌then◌else◌, position, is_some, reverse, unwrap_or}
+use Rattle.std.specs.List.{filter_map}
 use Rattle.std.proofs.Common.{◌∙◌, ap, sym, subst, inl, inr, arith, ⊎_elim, get_or}
 use Rattle.std.proofs.lemmas.Bool.{cond_both, false≢true}
 use Rattle.std.proofs.lemmas.List.{append-nil, append_assoc}
 use Rattle.std.proofs.lemmas.List.Elements.{All-append, All-cons, All-nil}
 use Rattle.otp_table.specs.declared.row.Row.{Row}
-use Rattle.otp_table.specs.Rows.{is_awaited, row_has}
+use Rattle.otp_table.specs.Rows.{is_awaited}
 use Rattle.otp_rules.specs.declared.call.Answered.{Answered}
 use Rattle.otp_rules.specs.declared.call.Reply.{Reply}
 use Rattle.otp_rules.specs.declared.call.Reply.TheVariants as reply
 use Rattle.otp_rules.specs.declared.event.Event.{Event}
 use Rattle.otp_rules.specs.declared.event.Item.TheVariants as item
-use Rattle.otp_rules.specs.declared.event.Kind.{Kind}
 use Rattle.otp_rules.specs.declared.event.Waiting.{Waiting}
 use Rattle.otp_rules.specs.declared.event.Waiting.TheVariants as waiting
 use Rattle.otp_rules.specs.declared.work.Due.{Due}
 use Rattle.otp_rules.specs.declared.work.Sequel.{Sequel}
 use Rattle.otp_rules.specs.declared.work.Sequel.TheVariants as sequel
 use Rattle.otp_spec.specs.Flags.{is_simple}
-use Rattle.otp_rules.specs.State.{Outcome, State, answer, closed, is_busy, with_work}
+use Rattle.otp_rules.specs.State.{Outcome, State, answer, closed, with_work}
 use Rattle.otp_rules.specs.Stops.{is_exit, tell, use_exit}
 use Rattle.otp_rules.specs.Starts.{is_due, start, start_row}
 use Rattle.otp_rules.specs.Ends.{end_all, refuse_all, refused}
-use Rattle.otp_rules.specs.Work.{advance, follow, start_first, stop_first}
+use Rattle.otp_rules.specs.Work.{advance, follow, start_first}
 use Rattle.otp_rules.specs.Step.{decide, stamped, step, step_on}
 use Rattle.otp_rules.specs.Run.{empty_state, state_after}
-use Rattle.otp_rules.specs.Progress.{Progress, decided, ends_together, gave, is_end, is_opened, no_progress, opened_now, processes, progress, seen, taken, went_on, IsIn, IsPart}
-use Rattle.otp_rules.specs.Fit.{times, HasPart, HasStops, HasWaiting, IsDistinct, IsFit, IsLawfulFrom, IsListed, IsSound, Keeps}
+use Rattle.otp_rules.specs.Progress.{Progress, decided, ends_together, gave, is_end, is_opened, no_progress, opened_now, processes, progress, seen, taken, went_on, IsPart}
+use Rattle.otp_rules.specs.Fit.{times, HasPart, HasStops, HasWaiting, IsFit, IsLawfulFrom, IsListed, IsSound, Keeps}
 use Rattle.otp_rules.proofs.GoesOn.{GoesOn, advance-on}
 use Rattle.otp_rules.proofs.Walks.{advance-by, stop_first-by, with_stops}
 use Rattle.otp_rules.proofs.Decisions.{at_row-survives, decide-survives}
@@ -38,10 +37,9 @@ use Rattle.otp_rules.proofs.Sound.{IsReady, used-ready}
 use Rattle.otp_rules.proofs.StartTurn.{step-lawful}
 use Rattle.otp_rules.proofs.Taken.{decided-keeps}
 use Rattle.otp_rules.proofs.WhileOpen.{Stays, Tracks, While, while-survives}
-use Rattle.otp_laws.specs.Basis.{IsBasis}
-use Rattle.otp_laws.specs.Oks.{AnswersTrue, AnswersTrueFrom, HasComeUp, HasStopped, IsDownAlready, IsOfOpened, IsTrue, TellsTruth}
+use Rattle.otp_laws.specs.Oks.{AnswersTrue, AnswersTrueFrom, HasComeUp, HasStopped, IsOfOpened, IsTrue, TellsTruth}
 use Rattle.otp_laws.proofs.Basis.{empty_basis, lawful_from_0, stays_basis}
-use Rattle.otp_laws.proofs.Oks.{Answers, AtOnce, CameUp, Quiet, Said, Told, answer-told, decided-answers, kept-told, start-quiet, tell-quiet, use_exit-quiet}
+use Rattle.otp_laws.proofs.Oks.{AtOnce, CameUp, Said, Told, answer-told, decided-answers, kept-told, start-quiet, tell-quiet, use_exit-quiet}
 
 -- open work is the one that was opened last
 

@@ -1,6 +1,6 @@
 -- From a child's start to the note of its end, over whole histories (Supervisor Behaviour, Restart Strategy and Stopping:
 -- a child is started again only when it has ended).
-use Rattle.std.specs.Prelude.{◌≡◌, ◌++◌, ℕ, true, None, List, [], ◌∷◌, Option, Some, Contains}
+use Rattle.std.specs.Prelude.{◌≡◌, ◌++◌, ℕ, true, None, List, [], ◌∷◌, Some, Contains}
 use Rattle.otp_reason.specs.declared.name.Name.{Name}
 use Rattle.otp_spec.specs.declared.child.ChildSpec.{ChildSpec}
 use Rattle.otp_spec.specs.declared.flags.SupFlags.{SupFlags}

@@ -1,6 +1,6 @@
 -- What an event must do: a significant child's end ends the supervisor (Supervisor Behaviour, Automatic Shutdown), and
 -- delete_child takes a child away only if it has no process and waits for no restart (supervisor, delete_child/2).
-use Rattle.std.specs.Prelude.{◌≡◌, ◌⊎◌, ℕ, true, false, List, Option, Some, is_some, remove}
+use Rattle.std.specs.Prelude.{◌≡◌, ◌⊎◌, ℕ, true, false, List, Some, is_some, remove}
 use Rattle.otp_reason.specs.declared.name.Name.{Name}
 use Rattle.otp_reason.specs.declared.note.Note.TheVariants as note
 use Rattle.otp_reason.specs.declared.reason.Reason.{Reason}

@@ -1,6 +1,6 @@
 -- What an answer to a call says of what it asked for (supervisor, start_child/2, restart_child/2, delete_child/2,
 -- terminate_child/2).
-use Rattle.std.specs.Prelude.{◌≡◌, ◌⊎◌, ℕ, ◌++◌, true, None, Option, Some, List, ◌∷◌, [], All, Contains, is_some}
+use Rattle.std.specs.Prelude.{◌≡◌, ◌⊎◌, ℕ, ◌++◌, true, None, Some, List, All, Contains, is_some}
 use Rattle.otp_reason.specs.declared.note.Note.TheVariants as note
 use Rattle.otp_spec.specs.declared.child.ChildSpec.{ChildSpec}
 use Rattle.otp_spec.specs.declared.flags.SupFlags.{SupFlags}
