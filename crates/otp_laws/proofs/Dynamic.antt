@@ -207,7 +207,6 @@ fine-terminate tmp e o =
       goal = inl (ap is_end is);
     }
 
-
 fine-answer : (tmp : Bool) (c : ℕ) (r : Reply) (o : Outcome) → FineAt tmp o → FineAt tmp (answer c r o)
 unfolding answer
 fine-answer tmp c r o h = h
@@ -559,4 +558,3 @@ fine-decided tmp s e h = by e.kind
     by kind.Stopped =
         by_test (FineAt tmp) (is_busy start) start (if is_over start.state.phase then start else terminate ending.Asked start) (λ _. rest)
         (λ _. by_test (FineAt tmp) (is_over start.state.phase) start (terminate ending.Asked start) (λ _. rest) (λ _. fine-terminate tmp ending.Asked start))
-

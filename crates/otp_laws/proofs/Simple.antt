@@ -211,8 +211,11 @@ due_found due (row ∷ rows) none few some =
     omega (arith, one, sum_by-cons (λ (r : Row). cond (is_due due r) 1 0) row rows))
     (λ (isnt : is_undefined row.state ≡ false).
     let zero_here : ◌≡◌ {A = ℕ} (cond (is_undefined row.state) 1 0) 0 = ap (λ (b : Bool). cond b 1 0) isnt in
-    omega (arith, sum_by-cons (λ (r : Row). cond (is_due due r) 1 0) row rows,
-    due_found due rows none (omega (arith, few, sum_by-cons (λ (r : Row). cond (named r) 1 0) row rows)) (omega (arith, some, zero_here, rows_in-cons is_undefined row rows))))
+    omega (
+      arith,
+      sum_by-cons (λ (r : Row). cond (is_due due r) 1 0) row rows,
+      due_found due rows none (omega (arith, few, sum_by-cons (λ (r : Row). cond (named r) 1 0) row rows)) (omega (arith, some, zero_here, rows_in-cons is_undefined row rows)),
+    ))
     (cases_Bool (is_undefined row.state))
 
 due_undefined : (due : Due) (row : Row) → is_due due row ≡ true → is_undefined row.state ≡ true
