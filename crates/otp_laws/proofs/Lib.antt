@@ -9,7 +9,9 @@ mod Numbered
 mod Life
 mod Significant
 mod Deletes
+mod Both
 mod Oks
+mod Ordered
 mod Truths
 mod Dynamic
 mod Simple

@@ -18,7 +18,7 @@ use Rattle.otp_spec.specs.Lawful.{first_fault}
 use Rattle.otp_table.specs.declared.row.Row.{Row}
 use Rattle.otp_table.specs.declared.row.RowState.{RowState}
 use Rattle.otp_table.specs.declared.row.RowState.TheVariants.{Undefined, Starting, Up, Asked, Killed, Restarting}
-use Rattle.otp_table.specs.Rows.{awaits_retry, has_id, has_number, row_has, with_state}
+use Rattle.otp_table.specs.Rows.{awaits_retry, has_id, has_number, has_process, row_has, with_state}
 use Rattle.otp_rules.specs.declared.call.Answered.{Answered}
 use Rattle.otp_rules.specs.declared.call.Call.{Call}
 use Rattle.otp_rules.specs.declared.call.Call.TheVariants as call
@@ -49,6 +49,7 @@ use Rattle.otp_rules.specs.Counts.{counts_of, which_of}
 use Rattle.otp_rules.specs.Step.{ask, decide, open_rows, open_with, resume, stamped, take_item, take_note, take_waiting, tick}
 use Rattle.otp_rules.specs.Homes.{Brings, IsFirst}
 use Rattle.otp_rules.specs.Progress.{process_number, IsFirstRow}
+use Rattle.otp_rules.specs.Fit.{is_starting}
 use Rattle.otp_rules.proofs.Walks.{counted_restart, restart-by, stop_each-by, terminate-by}
 use Rattle.otp_rules.proofs.Decisions.{StandsAt, at_number-survives, at_row-finds, at_row-survives, by_test, first_passes}
 use Rattle.otp_laws.specs.Oks.{IsDownAlready, Names}
@@ -288,9 +289,14 @@ pub record CameUp (s : State) (k : Kind) (o : Outcome) : Type 0 where
   pub p : ℕ
   pub takes : Brings k s.waiting (item.Note (note.Up p))
   pub work : (s.follows ≡ Some (sequel.Added c)) ⊎ (s.follows ≡ Some (sequel.Restarted c))
+  -- the row when it was starting
+  pub was : Row
+  pub there : Contains s.rows was
+  pub started : is_starting p was.state ≡ true
   pub row : Row
   pub among : Contains o.state.rows row
   pub up : row.state ≡ Up p
+  pub same : row.id ≡ was.id
   pub told : o.state.replies ≡ s.replies ++ record { call = c; reply = reply.OkProcess p } ∷ []
   pub idle : is_busy o ≡ false
 
@@ -307,17 +313,23 @@ like-said s k o same = ([], same ∙ sym (append-nil s.replies), All-nil (λ (a 
 quiet-said : (s : State) (k : Kind) (o new : Outcome) → Quiet o new → o.state.replies ≡ s.replies → Said s k new
 quiet-said s k o new quiet same = like-said s k new (quiet ∙ same)
 
-pub at_starting-by : (P : Outcome → Type 0) (p : ℕ) (f : ℕ → ℕ → Row → Outcome → Outcome) (o : Outcome) → P o → ((kept place : ℕ) (row : Row) → StandsAt place row o → P (f kept place row o)) → P (at_starting p f o)
+at_starting-is : (P : Outcome → Type 0) (p : ℕ) (f : ℕ → ℕ → Row → Outcome → Outcome) (o : Outcome) → P o → ((kept place : ℕ) (row : Row) → StandsAt place row o → is_starting p row.state ≡ true → P (f kept place row o)) → P (at_starting p f o)
 unfolding at_starting
-at_starting-by P p f o x each = at_number-survives P p (λ place row. if_starting (λ kept. f kept place row) row.state) o x (λ place row at has. by place row row.state at)
+at_starting-is P p f o x each = at_number-survives P p (λ place row. if_starting (λ kept. f kept place row) row.state) o x (λ place row at has. by place row row.state refl at has)
   where
-    by : (place : ℕ) (row : Row) (state : RowState) → StandsAt place row o → P (if_starting (λ kept. f kept place row) state o)
-    by place row Undefined at = x
-    by place row (Starting q kept) at = each kept place row at
-    by place row (Up _) at = x
-    by place row (Asked _ _) at = x
-    by place row (Killed _) at = x
-    by place row (Restarting _) at = x
+    by : (place : ℕ) (row : Row) (state : RowState) → row.state ≡ state → StandsAt place row o → has_process p state ≡ true → P (if_starting (λ kept. f kept place row) state o)
+    by place row Undefined is at has = x
+    by place row (Starting q kept) is at has = each kept place row at (ap (λ (s : RowState). is_starting p s) is ∙ has)
+    by place row (Up _) is at has = x
+    by place row (Asked _ _) is at has = x
+    by place row (Killed _) is at has = x
+    by place row (Restarting _) is at has = x
+
+pub at_starting-by : (P : Outcome → Type 0) (p : ℕ) (f : ℕ → ℕ → Row → Outcome → Outcome) (o : Outcome) → P o → ((kept place : ℕ) (row : Row) → StandsAt place row o → P (f kept place row o)) → P (at_starting p f o)
+at_starting-by P p f o x each = at_starting-is P p f o x (λ kept place row at starts. each kept place row at)
+
+among-at : (place : ℕ) (row : Row) (rows : List Row) → slice_get rows place ≡ Some row → Contains rows row
+among-at place row rows at = (place, slice_get_within rows place row at, get_or_from_slice_get rows place row row at)
 
 set-among : (place : ℕ) (row new : Row) (rows : List Row) → slice_get rows place ≡ Some row → Contains (slice_set rows place new) new
 set-among place row new rows at =
@@ -327,38 +339,37 @@ set-among place row new rows at =
 up-answers : (s : State) (k : Kind) (p : ℕ) (o : Outcome) → IsLike s o → Brings k s.waiting (item.Note (note.Up p)) → Answers s k (take_up p o)
 unfolding take_up up_after answer
 up-answers s k p o like brings =
-    at_starting-by (Answers s k) p (λ kept place row x. up_after p x.state.follows (set_row place row (Up p) x)) o (inl (like-said s k o like.2)) (λ kept place row at. by place row at o.state.follows refl)
+    at_starting-is (Answers s k) p (λ kept place row x. up_after p x.state.follows (set_row place row (Up p) x)) o (inl (like-said s k o like.2)) (λ kept place row at starts. by place row at starts o.state.follows refl)
   where
-    by : (place : ℕ) (row : Row) → StandsAt place row o → (f : Option Sequel) → o.state.follows ≡ f → Answers s k (up_after p f (set_row place row (Up p) o))
-    by place row at None is = inl (like-said s k (set_row place row (Up p) o) like.2)
-    by place row at (Some sequel.Ready) is = inl (like-said s k (set_row place row (Up p) o) like.2)
-    by place row at (Some sequel.Nothing) is = inl (like-said s k (set_row place row (Up p) o) like.2)
-    by place row at (Some (sequel.Added c)) is =
-        inr (record {
+    came : (c place : ℕ) (row : Row) (o2 : Outcome) → StandsAt place row o → is_starting p row.state ≡ true → (s.follows ≡ Some (sequel.Added c)) ⊎ (s.follows ≡ Some (sequel.Restarted c)) → o2.state.rows ≡ slice_set o.state.rows place (with_state (Up p) row)
+        → o2.state.replies ≡ o.state.replies ++ record { call = c; reply = reply.OkProcess p } ∷ [] → is_busy o2 ≡ false → CameUp s k o2
+    came c place row o2 at starts work rows told idle =
+        record {
           c = c;
           p = p;
           takes = brings;
-          work = inl (sym like.1 ∙ is);
+          work = work;
+          was = row;
+          there = subst (λ (l : List Row). Contains l row) like.0 (among-at place row o.state.rows at);
+          started = starts;
           row = with_state (Up p) row;
-          among = set-among place row (with_state (Up p) row) o.state.rows at;
+          among = subst (λ (l : List Row). Contains l (with_state (Up p) row)) (sym rows) (set-among place row (with_state (Up p) row) o.state.rows at);
           up = refl;
-          told = ap (λ (l : List Answered). l ++ record { call = c; reply = reply.OkProcess p } ∷ []) like.2;
-          idle = refl;
-        })
-    by place row at (Some (sequel.Restarted c)) is =
-        inr (record {
-          c = c;
-          p = p;
-          takes = brings;
-          work = inr (sym like.1 ∙ is);
-          row = with_state (Up p) row;
-          among = set-among place row (with_state (Up p) row) o.state.rows at;
-          up = refl;
-          told = ap (λ (l : List Answered). l ++ record { call = c; reply = reply.OkProcess p } ∷ []) like.2;
-          idle = refl;
-        })
-    by place row at (Some (sequel.Stopped c)) is = inl (like-said s k (set_row place row (Up p) o) like.2)
-    by place row at (Some (sequel.End x)) is = inl (like-said s k (set_row place row (Up p) o) like.2)
+          same = refl;
+          told = told ∙ ap (λ (l : List Answered). l ++ record { call = c; reply = reply.OkProcess p } ∷ []) like.2;
+          idle = idle;
+        }
+
+    by : (place : ℕ) (row : Row) → StandsAt place row o → is_starting p row.state ≡ true → (f : Option Sequel) → o.state.follows ≡ f → Answers s k (up_after p f (set_row place row (Up p) o))
+    by place row at starts None is = inl (like-said s k (set_row place row (Up p) o) like.2)
+    by place row at starts (Some sequel.Ready) is = inl (like-said s k (set_row place row (Up p) o) like.2)
+    by place row at starts (Some sequel.Nothing) is = inl (like-said s k (set_row place row (Up p) o) like.2)
+    by place row at starts (Some (sequel.Added c)) is =
+        inr (came c place row (answer c (reply.OkProcess p) (closed (set_row place row (Up p) o))) at starts (inl (sym like.1 ∙ is)) refl refl refl)
+    by place row at starts (Some (sequel.Restarted c)) is =
+        inr (came c place row (answer c (reply.OkProcess p) (closed (set_row place row (Up p) o))) at starts (inr (sym like.1 ∙ is)) refl refl refl)
+    by place row at starts (Some (sequel.Stopped c)) is = inl (like-said s k (set_row place row (Up p) o) like.2)
+    by place row at starts (Some (sequel.End x)) is = inl (like-said s k (set_row place row (Up p) o) like.2)
 
 ignored-said : (s : State) (k : Kind) (p : ℕ) (o : Outcome) → IsLike s o → Said s k (take_ignored p o)
 unfolding take_ignored

@@ -69,7 +69,7 @@ use_exit-few t still c p place o h =
     at_number-survives (Few t c) p end_row left h (λ i row at has. end-few t still c i row left at h)
 
 -- rows that are changed one by one
-each-counts : (t : Row → Bool) (f : Row → Row) → ((row : Row) → t (f row) ≡ t row) → (rows : List Row) → count_by t (map f rows) ≡ count_by t rows
+pub each-counts : (t : Row → Bool) (f : Row → Row) → ((row : Row) → t (f row) ≡ t row) → (rows : List Row) → count_by t (map f rows) ≡ count_by t rows
 each-counts t f same [] = refl
 each-counts t f same (row ∷ rows) =
     let e : ◌≡◌ {A = ℕ} (cond (t (f row)) 1 0) (cond (t row) 1 0) = ap (λ (b : Bool). cond b 1 0) (same row) in

@@ -1,11 +1,10 @@
 -- Each answer that an event gives is true, over whole histories.
-use Rattle.std.specs.Prelude.{◌≡◌, ◌⊎◌, ℕ, ◌++◌, ◌&&◌, Bool, true, false, List, [], ◌∷◌, Option, None, Some, All, refl, if◌then◌else◌, position, is_some, reverse, unwrap_or}
+use Rattle.std.specs.Prelude.{◌≡◌, ◌⊎◌, ℕ, ◌++◌, ◌&&◌, Bool, true, false, List, [], ◌∷◌, Option, None, Some, All, Contains, map, refl, if◌then◌else◌, position, is_some, reverse, unwrap_or}
 use Rattle.std.specs.List.{filter_map}
 use Rattle.std.proofs.Common.{◌∙◌, ap, sym, subst, inl, inr, arith, ⊎_elim, get_or}
 use Rattle.std.proofs.lemmas.Bool.{cond_both, false≢true}
 use Rattle.std.proofs.lemmas.List.{append-nil, append_assoc}
 use Rattle.std.proofs.lemmas.List.Elements.{All-append, All-cons, All-nil}
-use Rattle.otp_table.specs.declared.row.Row.{Row}
 use Rattle.otp_table.specs.Rows.{is_awaited}
 use Rattle.otp_rules.specs.declared.call.Answered.{Answered}
 use Rattle.otp_rules.specs.declared.call.Reply.{Reply}
@@ -25,8 +24,8 @@ use Rattle.otp_rules.specs.Ends.{end_all, refuse_all, refused}
 use Rattle.otp_rules.specs.Work.{advance, follow, start_first}
 use Rattle.otp_rules.specs.Step.{decide, stamped, step, step_on}
 use Rattle.otp_rules.specs.Run.{empty_state, state_after}
-use Rattle.otp_rules.specs.Progress.{Progress, decided, ends_together, gave, is_end, is_opened, no_progress, opened_now, processes, progress, seen, taken, went_on, IsPart}
-use Rattle.otp_rules.specs.Fit.{times, HasPart, HasStops, HasWaiting, IsFit, IsLawfulFrom, IsListed, IsSound, Keeps}
+use Rattle.otp_rules.specs.Progress.{Ordered, Progress, decided, ends_together, gave, id_bytes, is_end, is_opened, no_progress, opened_now, processes, progress, seen, start_list, taken, went_on, IsAbout, IsPart}
+use Rattle.otp_rules.specs.Fit.{times, HasPart, HasStops, HasWaiting, IsFit, IsLawfulFrom, IsListed, IsSound, Keeps, KeepsStarts}
 use Rattle.otp_rules.proofs.GoesOn.{GoesOn, advance-on}
 use Rattle.otp_rules.proofs.Walks.{advance-by, stop_first-by, with_stops}
 use Rattle.otp_rules.proofs.Decisions.{at_row-survives, decide-survives}
@@ -37,7 +36,9 @@ use Rattle.otp_rules.proofs.Sound.{IsReady, used-ready}
 use Rattle.otp_rules.proofs.StartTurn.{step-lawful}
 use Rattle.otp_rules.proofs.Taken.{decided-keeps}
 use Rattle.otp_rules.proofs.WhileOpen.{Stays, Tracks, While, while-survives}
-use Rattle.otp_laws.specs.Oks.{AnswersTrue, AnswersTrueFrom, HasComeUp, HasStopped, IsOfOpened, IsTrue, TellsTruth}
+use Rattle.otp_laws.specs.Oks.{AnswersTrue, AnswersTrueFrom, HasComeUp, HasStopped, IsOfOpened, IsTrue, StartsAreOrdered, TellsTruth, is_call_start}
+use Rattle.otp_table.specs.declared.row.Row.{Row}
+use Rattle.otp_laws.proofs.Ordered.{ordered-child, step-ordered}
 use Rattle.otp_laws.proofs.Basis.{empty_basis, lawful_from_0, stays_basis}
 use Rattle.otp_laws.proofs.Oks.{AtOnce, CameUp, Said, Told, answer-told, decided-answers, kept-told, start-quiet, tell-quiet, use_exit-quiet}
 
@@ -102,9 +103,11 @@ step-of s e g sound h busy =
     (λ (none : is_some (step s e).state.follows ≡ false). absurd (false≢true (sym none ∙ busy)))
     (step-left s e)
 
-run-of : (m : ℕ) (s : State) (g : Progress) (events : List Event) → IsFit m s g → IsOfOpened s g → IsLawfulFrom m s events → IsOfOpened (state_after s events) (progress s g events)
-run-of m s g events fit h lawful =
-    (along (λ n t x. IsFit n t x × IsOfOpened t x) (λ n t x both. both.0.2) (λ n k t e x both distinct. (step-lawful n k t e x both.0 distinct, step-of t e x both.0.0.0 both.1)) m s g events (fit, h) lawful).1
+run-of : (m : ℕ) (s : State) (g : Progress) (events : List Event) → IsFit m s g → IsOfOpened s g → StartsAreOrdered s g → IsLawfulFrom m s events → IsOfOpened (state_after s events) (progress s g events) × StartsAreOrdered (state_after s events) (progress s g events)
+run-of m s g events fit h ordered lawful =
+    (along (λ n t x. IsFit n t x × (IsOfOpened t x × StartsAreOrdered t x)) (λ n t x all. all.0.2)
+    (λ n k t e x all distinct. (step-lawful n k t e x all.0 distinct, (step-of t e x all.0.0.0 all.1.0, step-ordered t e x all.0.0.0 (tracked t e all.0.0.0) (step-left t e) all.1.1)))
+    m s g events (fit, (h, ordered)) lawful).1
 
 -- the work that goes on
 
@@ -183,39 +186,46 @@ at_once-true s e g c (reply.Which _) h = tt
 at_once-true s e g c (reply.Count _) h = tt
 at_once-true s e g c (reply.Spec _) h = tt
 
--- the part that open work is about
-part_of : (s : State) (g : Progress) → Keeps s g → is_some s.follows ≡ true → is_end s.follows ≡ false → (part : List Row) × IsPart g part
-part_of s g keeps busy other =
+-- the lists of open work are those of the children that it is about
+listed_of : (s : State) (g : Progress) → Keeps s g → is_some s.follows ≡ true → is_end s.follows ≡ false → IsListed g
+listed_of s g keeps busy other =
     let apart : ends_together s ≡ false = ap (λ (b : Bool). b && is_simple s.flags.strategy) other in
     let part : HasPart s g = (keeps busy).1 apart in
-    let listed : IsListed g = part.0 in
-    (listed.0, listed.1)
+    part.0
 
 -- a child that a call starts came up
-came-up-true : (s : State) (e : Event) (g : Progress) → Keeps s g → IsOfOpened s g → CameUp s e.kind (step s e) → TellsTruth s e (seen s e g)
-came-up-true s e g keeps opened h =
+came-up-true : (s : State) (e : Event) (g : Progress) → Keeps s g → KeepsStarts s g → IsOfOpened s g → StartsAreOrdered s g → CameUp s e.kind (step s e) → TellsTruth s e (seen s e g)
+came-up-true s e g keeps starts opened ordered h =
     ⊎_elim
-    (λ (is : s.follows ≡ Some (sequel.Added h.c)). told (Some (sequel.Added h.c)) is refl refl (λ x. refl) (inl refl))
-    (λ (is : s.follows ≡ Some (sequel.Restarted h.c)). told (Some (sequel.Restarted h.c)) is refl refl (λ x. refl) (inr refl))
+    (λ (is : s.follows ≡ Some (sequel.Added h.c)). told (Some (sequel.Added h.c)) is refl refl refl (λ x. refl) (inl refl) (λ p about. (about.row, about.is)) (λ p. refl))
+    (λ (is : s.follows ≡ Some (sequel.Restarted h.c)). told (Some (sequel.Restarted h.c)) is refl refl refl (λ x. refl) (inr refl) (λ p about. (about.row, about.is)) (λ p. refl))
     h.work
   where
-    told : (f : Option Sequel) → s.follows ≡ f → is_some f ≡ true → is_end f ≡ false → ((x : Option Sequel) → is_opened f x ≡ false) → (f ≡ Some (sequel.Added h.c)) ⊎ (f ≡ Some (sequel.Restarted h.c)) → TellsTruth s e (seen s e g)
-    told f is some other never which =
-        let not : is_opened s.follows (decided s e).follows ≡ false = ap (λ (x : Option Sequel). is_opened x (decided s e).follows) is ∙ never (decided s e).follows in
-        let same : seen s e g ≡ went_on e.kind g = ap (λ (b : Bool). if b then opened_now s (taken e.kind s.waiting) (decided s e) else went_on e.kind g) not in
+    told : (f : Option Sequel) → s.follows ≡ f → is_some f ≡ true → is_end f ≡ false → is_call_start f ≡ true → ((x : Option Sequel) → is_opened f x ≡ false) → (f ≡ Some (sequel.Added h.c)) ⊎ (f ≡ Some (sequel.Restarted h.c))
+        → ((part : List Row) → IsAbout g.took g.before f g.opened part → (child : Row) × (part ≡ child ∷ [])) → ((part : List Row) → start_list f part ≡ part) → TellsTruth s e (seen s e g)
+    told f is some other calls never which single all =
+        let isnt : is_opened s.follows (decided s e).follows ≡ false = ap (λ (x : Option Sequel). is_opened x (decided s e).follows) is ∙ never (decided s e).follows in
+        let same : seen s e g ≡ went_on e.kind g = ap (λ (b : Bool). if b then opened_now s (taken e.kind s.waiting) (decided s e) else went_on e.kind g) isnt in
         let busy : is_some s.follows ≡ true = ap (λ (x : Option Sequel). is_some x) is ∙ some in
         let work : g.opened.follows ≡ f = opened busy ∙ is in
-        let part : (part : List Row) × IsPart g part = part_of s g keeps busy (ap is_end is ∙ other) in
+        let listed : IsListed g = listed_of s g keeps busy (ap is_end is ∙ other) in
+        let part : List Row = listed.0 in
+        let child : (child : Row) × (part ≡ child ∷ []) = single part (subst (λ (x : Option Sequel). IsAbout g.took g.before x g.opened part) work listed.1) in
+        let ids : map (λ (y : Due). id_bytes y.id) g.opened.to_start ≡ map (λ (y : Row). id_bytes y.id) part =
+        listed.7 ∙ ap (λ (x : Option Sequel). map (λ (y : Row). id_bytes y.id) (start_list x part)) work ∙ ap (λ (l : List Row). map (λ (y : Row). id_bytes y.id) l) (all part) in
+        let order : (x : Ordered) × Contains g.ordered x × (id_bytes x.id ≡ id_bytes h.was.id) = ordered (ap is_call_start is ∙ calls) h.was h.p h.there h.started in
+        let named : id_bytes order.0.id ≡ id_bytes child.0.id = ordered-child s g order.0 child.0 part (starts busy) ids child.1 order.1 in
         let one : Answered = record { call = h.c; reply = reply.OkProcess h.p } in
         let true_one : HasComeUp s e (went_on e.kind g) h.c h.p =
         record {
           follows = ⊎_elim (λ (x : f ≡ Some (sequel.Added h.c)). inl (work ∙ x)) (λ (x : f ≡ Some (sequel.Restarted h.c)). inr (work ∙ x)) which;
-          part = part.0;
-          is = part.1;
+          child = child.0;
+          is = subst (λ (l : List Row). IsPart g l) child.1 listed.1;
           takes = h.takes;
           row = h.row;
           among = h.among;
           up = h.up;
+          same = ap id_bytes h.same ∙ sym order.2 ∙ named;
         } in
         subst (λ (x : Progress). TellsTruth s e x) (sym same) (one ∷ [], h.told, All-cons (Truth s e (went_on e.kind g)) one [] true_one (All-nil (Truth s e (went_on e.kind g))))
 
@@ -232,20 +242,21 @@ said-true s e g sound keeps opened h =
     let d : Outcome = decide e.kind (record { state = stamped e.reading s; orders = [] }) in
     advance-true s e (seen s e g) (unwrap_or e.number 0) d sound keeps opened (h.0, h.1, λ i x within. at_once-true s e (seen s e g) (get_or h.0 i x).call (get_or h.0 i x).reply (h.2 i x within))
 
-step-true : (s : State) (e : Event) (g : Progress) → IsSound s → Keeps s g → IsOfOpened s g → TellsTruth s e (seen s e g)
-step-true s e g sound keeps opened =
+step-true : (s : State) (e : Event) (g : Progress) → IsSound s → Keeps s g → KeepsStarts s g → IsOfOpened s g → StartsAreOrdered s g → TellsTruth s e (seen s e g)
+step-true s e g sound keeps starts opened ordered =
     let mid : IsSound (decided s e) × Keeps (decided s e) (seen s e g) = decided-keeps s e g sound keeps in
     ⊎_elim
     (λ (said : Said s e.kind (decide e.kind (record { state = stamped e.reading s; orders = [] }))). said-true s e g mid.0 mid.1 (decided-of s e g sound opened) said)
-    (λ (came : CameUp s e.kind (decide e.kind (record { state = stamped e.reading s; orders = [] }))). came-up-true s e g keeps opened (rests-up s e came))
+    (λ (came : CameUp s e.kind (decide e.kind (record { state = stamped e.reading s; orders = [] }))). came-up-true s e g keeps starts opened ordered (rests-up s e came))
     (decided-answers s e)
 
 pub answers_true_from_law : AnswersTrueFrom
-answers_true_from_law m s g events e h opened lawful =
+answers_true_from_law m s g events e h opened ordered lawful =
     let now = stays_basis m s g events h lawful in
-    step-true (state_after s events) e (progress s g events) now.0.0.0 now.0.0.1 (run-of m s g events h.0 opened lawful)
+    let both = run-of m s g events h.0 opened ordered lawful in
+    step-true (state_after s events) e (progress s g events) now.0.0.0 now.0.0.1 now.0.3 both.0 both.1
 
 pub answers_true_law : AnswersTrue
 answers_true_law flags specs events e lawful =
     let base : State = empty_state flags specs in
-    answers_true_from_law 0 base (no_progress base) events e (empty_basis flags specs) (λ busy. absurd (false≢true busy)) (lawful_from_0 base events lawful)
+    answers_true_from_law 0 base (no_progress base) events e (empty_basis flags specs) (λ busy. absurd (false≢true busy)) (λ call row q among starts. absurd (omega (arith, among.1))) (lawful_from_0 base events lawful)

@@ -1,6 +1,6 @@
 -- What an answer to a call says of what it asked for (supervisor, start_child/2, restart_child/2, delete_child/2,
 -- terminate_child/2).
-use Rattle.std.specs.Prelude.{◌≡◌, ◌⊎◌, ℕ, ◌++◌, true, None, Some, List, All, Contains, is_some}
+use Rattle.std.specs.Prelude.{◌≡◌, ◌⊎◌, ℕ, ◌++◌, Bool, true, false, List, [], ◌∷◌, Option, None, Some, All, Contains, is_some}
 use Rattle.otp_reason.specs.declared.note.Note.TheVariants as note
 use Rattle.otp_spec.specs.declared.child.ChildSpec.{ChildSpec}
 use Rattle.otp_spec.specs.declared.flags.SupFlags.{SupFlags}
@@ -15,14 +15,15 @@ use Rattle.otp_rules.specs.declared.call.Reply.TheVariants as reply
 use Rattle.otp_rules.specs.declared.event.Event.{Event}
 use Rattle.otp_rules.specs.declared.event.Item.TheVariants as item
 use Rattle.otp_rules.specs.declared.event.Kind.{Kind}
+use Rattle.otp_rules.specs.declared.work.Sequel.{Sequel}
 use Rattle.otp_rules.specs.declared.work.Sequel.TheVariants as sequel
 use Rattle.otp_rules.specs.State.{State}
 use Rattle.otp_rules.specs.Step.{step}
 use Rattle.otp_rules.specs.Run.{empty_state, state_after}
 use Rattle.otp_rules.specs.Needs.{IsLawfulHistory}
 use Rattle.otp_rules.specs.Homes.{Brings}
-use Rattle.otp_rules.specs.Progress.{Progress, no_progress, process_number, processes, IsFirstRow, IsIn, IsPart}
-use Rattle.otp_rules.specs.Fit.{IsLawfulFrom}
+use Rattle.otp_rules.specs.Progress.{Ordered, Progress, id_bytes, no_progress, process_number, processes, IsFirstRow, IsIn, IsPart}
+use Rattle.otp_rules.specs.Fit.{is_starting, IsLawfulFrom}
 use Rattle.otp_rules.specs.Order.{progress_at}
 use Rattle.otp_laws.specs.Basis.{IsBasis}
 
@@ -51,15 +52,16 @@ pub record HasStopped (g : Progress) (c : ℕ) : Type 0 where
   pub ended : (q : ℕ) → IsIn q (processes part) → IsIn q g.ended
 
 -- the open work is that of this call to start a child, or to start it again; the event takes the note that the process
--- came up, which a child has from then on
+-- came up, and from then on the child that the call asks for has it, and is up
 pub record HasComeUp (s : State) (e : Event) (g : Progress) (c p : ℕ) : Type 0 where
   pub follows : (g.opened.follows ≡ Some (sequel.Added c)) ⊎ (g.opened.follows ≡ Some (sequel.Restarted c))
-  pub part : List Row
-  pub is : IsPart g part
+  pub child : Row
+  pub is : IsPart g (child ∷ [])
   pub takes : Brings e.kind s.waiting (item.Note (note.Up p))
   pub row : Row
   pub among : Contains (step s e).state.rows row
   pub up : row.state ≡ Up p
+  pub same : id_bytes row.id ≡ id_bytes child.id
 
 -- what an answer says
 abbrev pub IsTrue : State → Event → Progress → ℕ → Reply → Type 0
@@ -71,14 +73,24 @@ IsTrue s e g c _ = Unit {0}
 abbrev pub TellsTruth : State → Event → Progress → Type 0
 TellsTruth s e g = (given : List Answered) × ((step s e).state.replies ≡ s.replies ++ given) × All (λ (a : Answered). IsTrue s e g a.call a.reply) given
 
+-- a child is started for a call
+abbrev pub is_call_start : Option Sequel → Bool
+is_call_start (Some (sequel.Added _)) = true
+is_call_start (Some (sequel.Restarted _)) = true
+is_call_start _ = false
+
 -- open work is the one that was opened last
 abbrev pub IsOfOpened : State → Progress → Type 0
 IsOfOpened s g = is_some s.follows ≡ true → g.opened.follows ≡ s.follows
 
+-- a start that is awaited for a call is among those that the work has ordered, of the same id
+abbrev pub StartsAreOrdered : State → Progress → Type 0
+StartsAreOrdered s g = is_call_start s.follows ≡ true → (row : Row) (q : ℕ) → Contains s.rows row → is_starting q row.state ≡ true → (x : Ordered) × Contains g.ordered x × (id_bytes x.id ≡ id_bytes row.id)
+
 -- so it is after each lawful history from such a basis
 abbrev pub AnswersTrueFrom : Type 0
 AnswersTrueFrom =
-    (m : ℕ) (s : State) (g : Progress) (events : List Event) (e : Event) → IsBasis m s g → IsOfOpened s g → IsLawfulFrom m s events
+    (m : ℕ) (s : State) (g : Progress) (events : List Event) (e : Event) → IsBasis m s g → IsOfOpened s g → StartsAreOrdered s g → IsLawfulFrom m s events
     → TellsTruth (state_after s events) e (progress_at s g events e)
 
 -- and from the state that was never opened
