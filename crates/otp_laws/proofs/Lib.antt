@@ -13,5 +13,7 @@ mod Both
 mod Oks
 mod Ordered
 mod Truths
+mod Starts
+mod Between
 mod Dynamic
 mod Simple

@@ -132,7 +132,7 @@ kept_from flags specs events rest e slot p t still lawful starts none =
     ⊎_elim (λ (taken : EndIsTaken rest p). inl taken) (λ (kept : Keeps slot p t (state_after (step a e).state rest)). inr (subst (λ (x : State). Keeps slot p t x) (sym joined) kept))
     (run-keeps slot p t still (next_number k (numbers_of (e ∷ []))) (step a e).state rest (stays_in_order k a (e ∷ []) order mid.0) mid.1 (starts.1, new, none))
 
-in_two : (events between : List Event) (e f : Event) → events ++ e ∷ between ++ f ∷ [] ≡ events ++ e ∷ (between ++ f ∷ [])
+pub in_two : (events between : List Event) (e f : Event) → events ++ e ∷ between ++ f ∷ [] ≡ events ++ e ∷ (between ++ f ∷ [])
 in_two events between e f = append_assoc events (e ∷ between) (f ∷ [])
 
 -- a later number is greater

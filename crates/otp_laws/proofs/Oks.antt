@@ -331,7 +331,7 @@ at_starting-by P p f o x each = at_starting-is P p f o x (λ kept place row at s
 among-at : (place : ℕ) (row : Row) (rows : List Row) → slice_get rows place ≡ Some row → Contains rows row
 among-at place row rows at = (place, slice_get_within rows place row at, get_or_from_slice_get rows place row row at)
 
-set-among : (place : ℕ) (row new : Row) (rows : List Row) → slice_get rows place ≡ Some row → Contains (slice_set rows place new) new
+pub set-among : (place : ℕ) (row new : Row) (rows : List Row) → slice_get rows place ≡ Some row → Contains (slice_set rows place new) new
 set-among place row new rows at =
     let within : place < length rows = slice_get_within rows place row at in
     (place, omega (arith, within, length-set rows place new), get_or-set_same rows place new new within)

@@ -37,7 +37,7 @@ use Rattle.otp_laws.proofs.Falls.{starting-falling}
 abbrev same_id : Option Name → Row → Bool
 same_id id row = option_eq (on name_bytes bytes_eq) row.id id
 
-one_id : (x y : Option Name) → option_eq (on name_bytes bytes_eq) x y ≡ true → id_bytes x ≡ id_bytes y
+pub one_id : (x y : Option Name) → option_eq (on name_bytes bytes_eq) x y ≡ true → id_bytes x ≡ id_bytes y
 one_id None None h = refl
 one_id None (Some b) h = absurd (false≢true h)
 one_id (Some a) None h = absurd (false≢true h)

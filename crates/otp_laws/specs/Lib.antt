@@ -5,3 +5,4 @@ pub mod Life
 pub mod Musts
 pub mod Oks
 pub mod Simple
+pub mod Starts

@@ -2,11 +2,13 @@
 -- a child is started again only when it has ended).
 use Rattle.std.specs.Prelude.{◌≡◌, ◌++◌, ℕ, true, None, List, [], ◌∷◌, Some, Contains}
 use Rattle.otp_reason.specs.declared.name.Name.{Name}
+use Rattle.otp_reason.specs.Names.{name_bytes}
 use Rattle.otp_spec.specs.declared.child.ChildSpec.{ChildSpec}
 use Rattle.otp_spec.specs.declared.flags.SupFlags.{SupFlags}
 use Rattle.otp_spec.specs.Supervisor.{supervisor_fault}
 use Rattle.otp_table.specs.declared.row.Row.{Row}
 use Rattle.otp_table.specs.Rows.{has_id, has_process}
+use Rattle.otp_rules.specs.declared.event.Effect.TheVariants as effect
 use Rattle.otp_rules.specs.declared.event.Event.{Event}
 use Rattle.otp_rules.specs.State.{State, is_over}
 use Rattle.otp_rules.specs.Step.{step}
@@ -44,6 +46,15 @@ IdsStartAnew =
     (flags : SupFlags) (specs : List ChildSpec) (events between : List Event) (e f : Event) (id : Name) (p q : ℕ) → supervisor_fault flags specs ≡ None
     → IsLawfulHistory (empty_state flags specs) (events ++ e ∷ between ++ f ∷ [])
     → StartsAs (state_after (empty_state flags specs) events) e id p → StartsAs (state_after (empty_state flags specs) (events ++ e ∷ between)) f id q
+    → EndIsTaken (between ++ f ∷ []) p
+
+-- as the orders tell it: after an order to start a child the next for its id, the same bytes, comes only so
+abbrev pub OrdersStartAnew : Type 0
+OrdersStartAnew =
+    (flags : SupFlags) (specs : List ChildSpec) (events between : List Event) (e f : Event) (id other : Name) (p q : ℕ) → supervisor_fault flags specs ≡ None
+    → IsLawfulHistory (empty_state flags specs) (events ++ e ∷ between ++ f ∷ []) → name_bytes other ≡ name_bytes id
+    → Contains (step (state_after (empty_state flags specs) events) e).orders (effect.Start (Some id) p)
+    → Contains (step (state_after (empty_state flags specs) (events ++ e ∷ between)) f).orders (effect.Start (Some other) q)
     → EndIsTaken (between ++ f ∷ []) p
 
 -- nor the end of the supervisor

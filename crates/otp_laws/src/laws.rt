@@ -1,10 +1,11 @@
 //! Laws over all states, events and histories. A law is a function that does nothing: what it ensures is the law.
 ghost use Rattle.otp_laws.specs.Ids.{IdsApart, IdsStayApart, ProcessesNumbered, ProcessesNumberedFrom};
-ghost use Rattle.otp_laws.specs.Life.{EndsAfterAll, IdsStartAnew, RowsStartAnew};
+ghost use Rattle.otp_laws.specs.Life.{EndsAfterAll, IdsStartAnew, OrdersStartAnew, RowsStartAnew};
 ghost use Rattle.otp_laws.specs.Musts.{DeletesUndefined, DeletesUndefinedFrom, SignificantEndsEnd};
 ghost use Rattle.otp_laws.specs.Notes.{NotesCountOnce, NotesCountOnceFrom, UnawaitedChangesNone, UnawaitedChangesNoneFrom};
 ghost use Rattle.otp_laws.specs.Oks.{AnswersTrue, AnswersTrueFrom};
 ghost use Rattle.otp_laws.specs.Simple.{SimpleHasNoneUndefined};
+ghost use Rattle.otp_laws.specs.Starts.{StartsOfChildren, StartsOfChildrenFrom};
 
 /// Of the notes that name one process, at most one answer to its start and at most one Exit change the children's rows.
 /// Each other changes none: it comes where no child awaits it. An answer is awaited by a child whose start has none yet; an
@@ -21,6 +22,7 @@ pub fn notes_count_once()
 pub fn ends_come_between()
     ensures slots { RowsStartAnew }
     ensures ids { IdsStartAnew }
+    ensures orders { OrdersStartAnew }
     ensures end { EndsAfterAll }
 {}
 
@@ -62,4 +64,10 @@ pub fn deletes_undefined()
 /// gone, or is started again by the same event (Supervisor Behaviour, Simplified one_for_one Supervisors).
 pub fn simple_has_none_undefined()
     ensures { SimpleHasNoneUndefined }
+{}
+
+/// Each order to start gives the event's number to the child with the order's id, which has it as its process from then on.
+pub fn starts_are_of_children()
+    ensures from_empty { StartsOfChildren }
+    ensures from_any { StartsOfChildrenFrom }
 {}
