@@ -31,7 +31,7 @@ passes id (Some name) row is h =
     ap (λ (y : Option Name). has_id id (record row { id = y })) is ∙ (bytes_eq-Decides (name_bytes name) (name_bytes id)).1 same
 
 -- of all orders this one
-of_all : (P : Effect → Type 0) (xs : List Effect) (x : Effect) → All P xs → Contains xs x → P x
+pub of_all : (P : Effect → Type 0) (xs : List Effect) (x : Effect) → All P xs → Contains xs x → P x
 of_all P xs x all c = subst P c.2 (all c.0 x c.1)
 
 -- an order to start is one of a child with its id

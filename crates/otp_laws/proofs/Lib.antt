@@ -15,5 +15,6 @@ mod Ordered
 mod Truths
 mod Starts
 mod Between
+mod EndOrders
 mod Dynamic
 mod Simple

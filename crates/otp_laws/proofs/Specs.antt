@@ -3,7 +3,7 @@ use Rattle.std.specs.Prelude.{◌≡◌, ℕ, ◌==◌, ◌+◌, ◌≤◌, ◌+
 use Rattle.std.specs.List.{list_any, flat_map, enumerate_from}
 use Rattle.std.specs.Str.{bytes_eq}
 use Rattle.std.proofs.Common.{◌∙◌, ap, sym, subst, arith, ⊎_elim, cond, rules}
-use Rattle.std.proofs.lemmas.Bool.{cases_Bool, cond_both, false≢true}
+use Rattle.std.proofs.lemmas.Bool.{cases_Bool, cond_both, false≢true, ltb-false}
 use Rattle.std.proofs.lemmas.List.{append-nil, append_assoc, length-append}
 use Rattle.std.proofs.lemmas.List.Sums.{sum_by-append, sum_by-cons}
 use Rattle.std.proofs.lemmas.Slice.Eq.{bytes_eq-Decides}
@@ -36,6 +36,20 @@ no_fault flags specs =
     (λ _. cond_both (nat_lt MAX_CHILDREN (length specs)) (Some TooManyChildren) (first_fault specs (Some flags.auto_shutdown)) P
     (λ _ e. absurd (search (rules, e)))
     (λ _ e. e)))
+
+-- nor are there more than MAX_CHILDREN specifications
+pub few_specs : (flags : SupFlags) (specs : List ChildSpec) → supervisor_fault flags specs ≡ None → length specs ≤ MAX_CHILDREN
+unfolding supervisor_fault
+few_specs flags specs =
+    let P : Option SpecFault → Type 0 = λ fault. fault ≡ None → length specs ≤ MAX_CHILDREN in
+    let last : Option SpecFault = if nat_lt MAX_CHILDREN (length specs) then Some TooManyChildren else first_fault specs (Some flags.auto_shutdown) in
+    cond_both (not (are_lawful_flags flags)) (Some BadFlag) (if is_simple flags.strategy && not (length specs == 1) then Some SimpleNeedsOne else last) P
+    (λ _ e. absurd (search (rules, e)))
+    (λ _. cond_both (is_simple flags.strategy && not (length specs == 1)) (Some SimpleNeedsOne) last P
+    (λ _ e. absurd (search (rules, e)))
+    (λ _. cond_both (nat_lt MAX_CHILDREN (length specs)) (Some TooManyChildren) (first_fault specs (Some flags.auto_shutdown)) P
+    (λ _ e. absurd (search (rules, e)))
+    (λ few _. ltb-false MAX_CHILDREN (length specs) few)))
 
 no_first : (faults : List SpecFault) → first_of faults ≡ None → faults ≡ []
 no_first [] h = refl

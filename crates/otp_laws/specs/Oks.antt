@@ -52,7 +52,7 @@ pub record HasStopped (g : Progress) (c : ℕ) : Type 0 where
   pub ended : (q : ℕ) → IsIn q (processes part) → IsIn q g.ended
 
 -- the open work is that of this call to start a child, or to start it again; the event takes the note that the process
--- came up, and from then on the child that the call asks for has it, and is up
+-- came up, and after it a child with the id that the call asks for has it, and is up
 pub record HasComeUp (s : State) (e : Event) (g : Progress) (c p : ℕ) : Type 0 where
   pub follows : (g.opened.follows ≡ Some (sequel.Added c)) ⊎ (g.opened.follows ≡ Some (sequel.Restarted c))
   pub child : Row

@@ -7,7 +7,8 @@ use Rattle.otp_table.specs.Rows.{has_process}
 use Rattle.otp_rules.specs.declared.event.Effect.{Effect}
 use Rattle.otp_rules.specs.declared.event.Effect.TheVariants as effect
 use Rattle.otp_rules.specs.declared.event.Event.{Event}
-use Rattle.otp_rules.specs.State.{State}
+use Rattle.otp_rules.specs.declared.work.Phase.{Phase}
+use Rattle.otp_rules.specs.State.{State, is_over}
 use Rattle.otp_rules.specs.Step.{step}
 use Rattle.otp_rules.specs.Run.{empty_state, state_after}
 use Rattle.otp_rules.specs.Needs.{IsLawfulHistory}
@@ -31,3 +32,12 @@ abbrev pub StartsOfChildren : Type 0
 StartsOfChildren =
     (flags : SupFlags) (specs : List ChildSpec) (events : List Event) (e : Event) → IsLawfulHistory (empty_state flags specs) (events ++ e ∷ [])
     → All (StartsItsChild (state_after (empty_state flags specs) events) e) (step (state_after (empty_state flags specs) events) e).orders
+
+-- an End is that of a supervisor that has ended
+abbrev pub EndsIf : Phase → Effect → Type 0
+EndsIf phase (effect.End _) = is_over phase ≡ true
+EndsIf phase _ = Unit {0}
+
+-- after an event that orders an End the supervisor has ended, whatever happened before
+abbrev pub EndOrdersEnd : Type 0
+EndOrdersEnd = (s : State) (e : Event) → All (EndsIf (step s e).state.phase) (step s e).orders

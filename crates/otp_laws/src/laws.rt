@@ -1,11 +1,11 @@
 //! Laws over all states, events and histories. A law is a function that does nothing: what it ensures is the law.
 ghost use Rattle.otp_laws.specs.Ids.{IdsApart, IdsStayApart, ProcessesNumbered, ProcessesNumberedFrom};
-ghost use Rattle.otp_laws.specs.Life.{EndsAfterAll, IdsStartAnew, OrdersStartAnew, RowsStartAnew};
+ghost use Rattle.otp_laws.specs.Life.{EndsAfterAll, EndsAfterAllFrom, IdsStartAnew, IdsStartAnewFrom, OrdersEndAfterAll, OrdersStartAnew, RowsStartAnew, RowsStartAnewFrom};
 ghost use Rattle.otp_laws.specs.Musts.{DeletesUndefined, DeletesUndefinedFrom, SignificantEndsEnd};
 ghost use Rattle.otp_laws.specs.Notes.{NotesCountOnce, NotesCountOnceFrom, UnawaitedChangesNone, UnawaitedChangesNoneFrom};
 ghost use Rattle.otp_laws.specs.Oks.{AnswersTrue, AnswersTrueFrom};
 ghost use Rattle.otp_laws.specs.Simple.{SimpleHasNoneUndefined};
-ghost use Rattle.otp_laws.specs.Starts.{StartsOfChildren, StartsOfChildrenFrom};
+ghost use Rattle.otp_laws.specs.Starts.{EndOrdersEnd, StartsOfChildren, StartsOfChildrenFrom};
 
 /// Of the notes that name one process, at most one answer to its start and at most one Exit change the children's rows.
 /// Each other changes none: it comes where no child awaits it. An answer is awaited by a child whose start has none yet; an
@@ -21,9 +21,13 @@ pub fn notes_count_once()
 /// process's end was taken: that it ended, or never came up (Supervisor Behaviour, Restart Strategy and Stopping).
 pub fn ends_come_between()
     ensures slots { RowsStartAnew }
+    ensures slots_from_any { RowsStartAnewFrom }
     ensures ids { IdsStartAnew }
+    ensures ids_from_any { IdsStartAnewFrom }
     ensures orders { OrdersStartAnew }
     ensures end { EndsAfterAll }
+    ensures end_from_any { EndsAfterAllFrom }
+    ensures end_order { OrdersEndAfterAll }
 {}
 
 /// No two children of a supervisor have one id, after every list of events (Supervisor Behaviour, Child Specification, id).
@@ -38,10 +42,10 @@ pub fn processes_are_numbered()
     ensures from_any { ProcessesNumberedFrom }
 {}
 
-/// An answer says what has happened. `ok` comes where the child that the call names has no process when the call is taken, or
-/// where the open work is that of the call and the note that the child's process ended was taken; `{ok, Child}` where the
-/// open work is that of the call, with the note that the process came up, which is up from then on (supervisor,
-/// delete_child/2, terminate_child/2, start_child/2 and restart_child/2).
+/// An answer says what has happened (supervisor, delete_child/2, terminate_child/2, start_child/2 and restart_child/2). `ok`
+/// comes where the child that the call names has no process when the call is taken. Else the open work is that of the call,
+/// and the note that the child's process ended was taken. `{ok, Child}` comes where the open work is that of the call, with
+/// the note that the process came up. After the event a child with the id that the call asks for has it, and is up.
 pub fn answers_are_true()
     ensures from_empty { AnswersTrue }
     ensures from_any { AnswersTrueFrom }
@@ -66,8 +70,13 @@ pub fn simple_has_none_undefined()
     ensures { SimpleHasNoneUndefined }
 {}
 
-/// Each order to start gives the event's number to the child with the order's id, which has it as its process from then on.
+/// Each order to start gives the event's number to the child with the order's id, which has it after the event.
 pub fn starts_are_of_children()
     ensures from_empty { StartsOfChildren }
     ensures from_any { StartsOfChildrenFrom }
+{}
+
+/// After an event that orders an End the supervisor has ended.
+pub fn end_orders_end()
+    ensures { EndOrdersEnd }
 {}
