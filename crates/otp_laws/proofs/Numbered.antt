@@ -6,19 +6,23 @@ use Rattle.std.proofs.lemmas.Bool.{cases_Bool, eqb-true, false≢true}
 use Rattle.std.proofs.lemmas.List.{append_assoc}
 use Rattle.std.proofs.lemmas.List.Elements.{All-cons, All-head, All-tail, Contains-append_left, Contains-push, filter_map-append}
 use Rattle.otp_table.specs.declared.row.Row.{Row}
-use Rattle.otp_table.specs.Rows.{has_process}
+use Rattle.otp_table.specs.Rows.{has_process, row_has}
 use Rattle.otp_rules.specs.declared.event.Event.{Event}
 use Rattle.otp_rules.specs.State.{Outcome, State}
 use Rattle.otp_rules.specs.Step.{decide, stamped, step}
 use Rattle.otp_rules.specs.Run.{empty_state, state_after}
 use Rattle.otp_rules.specs.Needs.{is_start, needs_number, numbers_of, IsNumbered}
-use Rattle.otp_rules.specs.Fit.{rows_in}
+use Rattle.otp_rules.specs.Fit.{next_number, rows_in}
+use Rattle.otp_rules.specs.Lives.{IsHeld}
 use Rattle.otp_rules.specs.Named.{AreAmong}
 use Rattle.otp_rules.proofs.Counting.{rows_in-cons}
 use Rattle.otp_rules.proofs.Decisions.{decide-survives}
+use Rattle.otp_rules.proofs.Lasting.{contains_counts, counts_contain}
+use Rattle.otp_rules.proofs.Runs.{runs_joined_law}
 use Rattle.otp_rules.proofs.Numbers.{NoMore, no_more-survives, step-grown}
-use Rattle.otp_laws.specs.Ids.{ProcessesNumbered, ProcessesNumberedFrom}
-use Rattle.otp_laws.proofs.Basis.{quiet_event}
+use Rattle.otp_laws.specs.Ids.{ProcessesNumbered, ProcessesNumberedFrom, ProcessesStayGone, ProcessesStayGoneFrom}
+use Rattle.otp_laws.proofs.Basis.{given_below, lawful_from_0, quiet_event, split_lawful}
+use Rattle.otp_laws.proofs.Falls.{process-falling, process-of, run-falls}
 use Rattle.otp_laws.proofs.Heeded.{zero_or_some}
 
 -- the process of each row is one of these
@@ -89,3 +93,20 @@ pub processes_numbered_law : ProcessesNumbered
 processes_numbered_law flags specs events lawful =
     given-among (numbers_of events) (state_after (empty_state flags specs) events).rows
     (run-given [] (empty_state flags specs) events lawful.0 (λ q has. absurd (let z : rows_in (has_process q) [] ≡ 0 = refl in omega (arith, has, z))))
+
+-- a process that is gone stays so
+
+nobody : (p : ℕ) (rows : List Row) → (IsHeld rows p → ⊥) → rows_in (has_process p) rows ≡ 0
+nobody p rows none =
+    ⊎_elim (λ (some : 0 < rows_in (has_process p) rows). absurd (none (counts_contain (row_has (has_process p)) rows some))) (λ (zero : rows_in (has_process p) rows ≡ 0). zero) (zero_or_some (rows_in (has_process p) rows))
+
+pub processes_stay_gone_from_law : ProcessesStayGoneFrom
+processes_stay_gone_from_law m s events p lawful less none held =
+    omega (arith, nobody p s.rows none, run-falls (has_process p) (process-falling p) p (process-of p) m s events less lawful, contains_counts (row_has (has_process p)) (state_after s events).rows held.0 held.1 held.2)
+
+pub processes_stay_gone_law : ProcessesStayGone
+processes_stay_gone_law flags specs events later p lawful given none held =
+    let base : State = empty_state flags specs in
+    let parts = split_lawful 0 base events later (lawful_from_0 base (events ++ later) lawful) in
+    processes_stay_gone_from_law (next_number 0 (numbers_of events)) (state_after base events) later p parts.1 (given_below 0 p (numbers_of events) (parts.0.0.1, parts.0.1) given) none
+    (subst (λ (x : State). IsHeld x.rows p) (runs_joined_law base events later).0 held)

@@ -1,5 +1,5 @@
 -- Whose children and processes they are (supervisor, child_id(); Supervisor Behaviour, Child Specification, id).
-use Rattle.std.specs.Prelude.{◌≡◌, ℕ, ◌≤◌, ◌++◌, List, None, count_by}
+use Rattle.std.specs.Prelude.{◌<◌, ◌≡◌, ℕ, ◌≤◌, ◌++◌, List, None, count_by}
 use Rattle.otp_reason.specs.declared.name.Name.{Name}
 use Rattle.otp_spec.specs.declared.child.ChildSpec.{ChildSpec}
 use Rattle.otp_spec.specs.declared.flags.SupFlags.{SupFlags}
@@ -11,7 +11,10 @@ use Rattle.otp_rules.specs.State.{State}
 use Rattle.otp_rules.specs.Calls.{is_named}
 use Rattle.otp_rules.specs.Run.{empty_state, state_after}
 use Rattle.otp_rules.specs.Needs.{IsLawfulHistory, numbers_of}
+use Rattle.otp_rules.specs.Fit.{IsLawfulFrom}
+use Rattle.otp_rules.specs.Lives.{IsHeld}
 use Rattle.otp_rules.specs.Named.{AreAmong}
+use Rattle.otp_rules.specs.Progress.{IsIn}
 
 -- no two children have one id
 abbrev pub AreNamedApart : List Row → Type 0
@@ -39,3 +42,13 @@ abbrev pub ProcessesNumbered : Type 0
 ProcessesNumbered =
     (flags : SupFlags) (specs : List ChildSpec) (events : List Event) → IsLawfulHistory (empty_state flags specs) events
     → AreAmong (numbers_of events) (state_after (empty_state flags specs) events).rows
+
+-- a process that was given and that no child has any more, no child has again
+abbrev pub ProcessesStayGoneFrom : Type 0
+ProcessesStayGoneFrom = (m : ℕ) (s : State) (events : List Event) (p : ℕ) → IsLawfulFrom m s events → p < m → (IsHeld s.rows p → ⊥) → IsHeld (state_after s events).rows p → ⊥
+
+-- and so from the state that was never opened
+abbrev pub ProcessesStayGone : Type 0
+ProcessesStayGone =
+    (flags : SupFlags) (specs : List ChildSpec) (events later : List Event) (p : ℕ) → IsLawfulHistory (empty_state flags specs) (events ++ later) → IsIn p (numbers_of events)
+    → (IsHeld (state_after (empty_state flags specs) events).rows p → ⊥) → IsHeld (state_after (empty_state flags specs) (events ++ later)).rows p → ⊥

@@ -1,5 +1,5 @@
 //! Laws over all states, events and histories. A law is a function that does nothing: what it ensures is the law.
-ghost use Rattle.otp_laws.specs.Ids.{IdsApart, IdsStayApart, ProcessesNumbered, ProcessesNumberedFrom};
+ghost use Rattle.otp_laws.specs.Ids.{IdsApart, IdsStayApart, ProcessesNumbered, ProcessesNumberedFrom, ProcessesStayGone, ProcessesStayGoneFrom};
 ghost use Rattle.otp_laws.specs.Life.{EndsAfterAll, EndsAfterAllFrom, IdsStartAnew, IdsStartAnewFrom, OrdersEndAfterAll, OrdersStartAnew, RowsStartAnew, RowsStartAnewFrom};
 ghost use Rattle.otp_laws.specs.Musts.{DeletesUndefined, DeletesUndefinedFrom, SignificantEndsEnd};
 ghost use Rattle.otp_laws.specs.Notes.{NotesCountOnce, NotesCountOnceFrom, UnawaitedChangesNone, UnawaitedChangesNoneFrom};
@@ -40,6 +40,12 @@ pub fn ids_differ()
 pub fn processes_are_numbered()
     ensures from_empty { ProcessesNumbered }
     ensures from_any { ProcessesNumberedFrom }
+{}
+
+/// In a lawful history a process that was started and that no child has any more, no child has again: it ends once.
+pub fn processes_stay_gone()
+    ensures from_empty { ProcessesStayGone }
+    ensures from_any { ProcessesStayGoneFrom }
 {}
 
 /// An answer says what has happened (supervisor, delete_child/2, terminate_child/2, start_child/2 and restart_child/2). `ok`
