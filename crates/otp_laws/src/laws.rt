@@ -1,0 +1,88 @@
+//! Laws over all states, events and histories. A law is a function that does nothing: what it ensures is the law.
+ghost use Rattle.otp_laws.specs.Ids.{IdsApart, IdsStayApart, ProcessesNumbered, ProcessesNumberedFrom, ProcessesStayGone, ProcessesStayGoneFrom};
+ghost use Rattle.otp_laws.specs.Life.{EndsAfterAll, EndsAfterAllFrom, IdsStartAnew, IdsStartAnewFrom, OrdersEndAfterAll, OrdersStartAnew, RowsStartAnew, RowsStartAnewFrom};
+ghost use Rattle.otp_laws.specs.Musts.{DeletesUndefined, DeletesUndefinedFrom, SignificantEndsEnd};
+ghost use Rattle.otp_laws.specs.Notes.{NotesCountOnce, NotesCountOnceFrom, UnawaitedChangesNone, UnawaitedChangesNoneFrom};
+ghost use Rattle.otp_laws.specs.Oks.{AnswersTrue, AnswersTrueFrom};
+ghost use Rattle.otp_laws.specs.Simple.{SimpleHasNoneUndefined};
+ghost use Rattle.otp_laws.specs.Starts.{EndOrdersEnd, StartsOfChildren, StartsOfChildrenFrom};
+
+/// Of the notes that name one process, at most one answer to its start and at most one Exit change the children's rows.
+/// Each other changes none: it comes where no child awaits it. An answer is awaited by a child whose start has none yet; an
+/// Exit by one whose process runs or was told to stop (Supervisor Behaviour, Starting a Supervisor and Stopping).
+pub fn notes_count_once()
+    ensures unawaited { UnawaitedChangesNone }
+    ensures unawaited_from_any { UnawaitedChangesNoneFrom }
+    ensures once { NotesCountOnce }
+    ensures once_from_any { NotesCountOnceFrom }
+{}
+
+/// After the start of a child its slot and its id see no other start, and the supervisor doesn't end, before the note of the
+/// process's end was taken: that it ended, or never came up (Supervisor Behaviour, Restart Strategy and Stopping).
+pub fn ends_come_between()
+    ensures slots { RowsStartAnew }
+    ensures slots_from_any { RowsStartAnewFrom }
+    ensures ids { IdsStartAnew }
+    ensures ids_from_any { IdsStartAnewFrom }
+    ensures orders { OrdersStartAnew }
+    ensures end { EndsAfterAll }
+    ensures end_from_any { EndsAfterAllFrom }
+    ensures end_order { OrdersEndAfterAll }
+{}
+
+/// No two children of a supervisor have one id, after every list of events (Supervisor Behaviour, Child Specification, id).
+pub fn ids_differ()
+    ensures from_empty { IdsApart }
+    ensures from_any { IdsStayApart }
+{}
+
+/// In a lawful history each child's process is one that the history started.
+pub fn processes_are_numbered()
+    ensures from_empty { ProcessesNumbered }
+    ensures from_any { ProcessesNumberedFrom }
+{}
+
+/// In a lawful history a process that was started and that no child has any more, no child has again: it ends once.
+pub fn processes_stay_gone()
+    ensures from_empty { ProcessesStayGone }
+    ensures from_any { ProcessesStayGoneFrom }
+{}
+
+/// An answer says what has happened (supervisor, delete_child/2, terminate_child/2, start_child/2 and restart_child/2). `ok`
+/// comes where the child that the call names has no process when the call is taken. Else the open work is that of the call,
+/// and the note that the child's process ended was taken. `{ok, Child}` comes where the open work is that of the call, with
+/// the note that the process came up. After the event a child with the id that the call asks for has it, and is up.
+pub fn answers_are_true()
+    ensures from_empty { AnswersTrue }
+    ensures from_any { AnswersTrueFrom }
+{}
+
+/// The end of a significant child which isn't restarted ends the supervisor: under any_significant each such, under
+/// all_significant that of the last that is left. So it is in every state where no work is open; else the note waits
+/// (Supervisor Behaviour, Automatic Shutdown).
+pub fn significant_ends_end()
+    ensures { SignificantEndsEnd }
+{}
+
+/// delete_child removes the row of a child that is undefined, or changes no row (supervisor, delete_child/2).
+pub fn deletes_undefined()
+    ensures from_empty { DeletesUndefined }
+    ensures from_any { DeletesUndefinedFrom }
+{}
+
+/// Under simple_one_for_one no child is undefined between two events, but while the supervisor ends: one whose process ended is
+/// gone, or is started again by the same event (Supervisor Behaviour, Simplified one_for_one Supervisors).
+pub fn simple_has_none_undefined()
+    ensures { SimpleHasNoneUndefined }
+{}
+
+/// Each order to start gives the event's number to the child with the order's id, which has it after the event.
+pub fn starts_are_of_children()
+    ensures from_empty { StartsOfChildren }
+    ensures from_any { StartsOfChildrenFrom }
+{}
+
+/// After an event that orders an End the supervisor has ended.
+pub fn end_orders_end()
+    ensures { EndOrdersEnd }
+{}
