@@ -1,5 +1,5 @@
 -- What comes back of a tree that was not run. (own)
-use Rattle.std.specs.Prelude.{◌≡◌, ◌<◌, ◌≤◌, ⊎, ℕ, Some, None}
+use Rattle.std.specs.Prelude.{◌≡◌, ◌<◌, ◌⊎◌, ℕ, Some, None}
 use Rattle.otp_draft.specs.Faults.{IsOfDraft, finish_fault}
 use Rattle.otp_draft.specs.Plans.{Planned}
 use Rattle.otp_draft.specs.Trees.{Tree}
@@ -22,6 +22,6 @@ module _ {J S : Type 0} where
 
   -- the tree comes back, but where its life had begun
   abbrev pub IsBack : ℕ → Tree J S → Unrun J S → Type 0
-  IsBack hands root (unrun.Hands given) = (given ≡ root) × (hands < 1 ⊎ all_parts < hands)
+  IsBack hands root (unrun.Hands given) = (given ≡ root) × ((hands < 1) ⊎ (all_parts < hands))
   IsBack hands root (unrun.Unfinished back) = IsUnfinished root back
   IsBack hands root (unrun.Run why) = (finish_fault root ≡ None) × IsRunMismatchOnly why

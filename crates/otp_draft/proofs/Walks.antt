@@ -1,14 +1,12 @@
 -- The plan of a tree has its supervisors in the order of the walk.
-use Rattle.std.proofs.Common.{◌≡◌, ℕ, suc, zero, ◌+◌, List, [], ◌∷◌, ◌++◌, map, length, arith, refl, sym, ap, ◌∙◌, length-append}
+use Rattle.std.proofs.Common.{◌≡◌, ℕ, ◌+◌, List, [], ◌∷◌, ◌++◌, map, length, arith, refl, ap, ◌∙◌, length-append}
 use Rattle.std.proofs.lemmas.List.{map-append}
 use Rattle.otp_bridge.specs.declared.bridge.BridgePhase.TheVariants.{New}
 use Rattle.otp_job.specs.declared.body.Body.{Body}
 use Rattle.otp_job.specs.declared.body.Body.TheVariants as body
-use Rattle.otp_spec.specs.declared.child.ChildSpec.{ChildSpec}
-use Rattle.otp_spec.specs.declared.flags.SupFlags.{SupFlags}
 use Rattle.otp_draft.specs.Drawings.{Drawing, Alone, Worker, Bridge, Above, Template, bodies_of, below, count, flags_of, specs_of, top, tree_of, walk}
 use Rattle.otp_draft.specs.Plans.{Planned, body_at, numbered, numbered_one}
-use Rattle.otp_draft.specs.Trees.{Tree, plans_of, size}
+use Rattle.otp_draft.specs.Trees.{plans_of, size}
 
 module _ {J S : Type 0} where
   -- supervisors behind others are numbered on from these

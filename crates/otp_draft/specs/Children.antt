@@ -5,7 +5,6 @@ use Rattle.otp_reason.specs.Names.{name_of}
 use Rattle.otp_reason.specs.declared.name.TheConstants.{NAME_SIZE}
 use Rattle.otp_spec.specs.Children.{default_shutdown}
 use Rattle.otp_spec.specs.declared.child.ChildSpec.{ChildSpec}
-use Rattle.otp_spec.specs.declared.child.Modules.{Modules}
 use Rattle.otp_spec.specs.declared.child.Modules.TheVariants.{One}
 use Rattle.otp_spec.specs.declared.child.Restart.TheVariants.{Permanent}
 use Rattle.otp_spec.specs.declared.child.ChildType.{ChildType}

@@ -1,7 +1,5 @@
 -- A tree that is drawn up by value: a supervisor, its children, and the supervisors below it. (own)
-use Rattle.std.specs.Prelude.{◌≡◌, ◌≤◌, ◌<◌, ℕ, ◌+◌, List, [], ◌∷◌, ◌++◌, All, length, max}
-use Rattle.otp_bridge.specs.Bridges.{BridgeState}
-use Rattle.otp_bridge.specs.declared.bridge.BridgePhase.TheVariants.{New}
+use Rattle.std.specs.Prelude.{ℕ, ◌+◌, List, [], ◌∷◌, ◌++◌, length, max}
 use Rattle.otp_job.specs.declared.body.Body.{Body}
 use Rattle.otp_job.specs.declared.body.Body.TheVariants as body
 use Rattle.otp_spec.specs.declared.child.ChildSpec.{ChildSpec}

@@ -1,4 +1,3 @@
-//! A tree of jobs of one's own: a database, and a pool of two workers under a supervisor of its own.
 ghost use Rattle.std.specs.Prelude.{true};
 
 use otp::{Fault, Job, Reason, Started, Still, SupFlags, Told, TreeDraft, Turn, run_turns};
@@ -29,7 +28,7 @@ impl Job for Steady {
     }
 }
 
-/// Runs the tree, and tells how many processes are left.
+/// Runs a database, and a pool of two workers under a supervisor of its own; tells how many processes are left.
 pub fn run_shop<R: Threads + Wait + Sync>(rt: &R, alloc: Global) -> Result<u64, Fault> {
     let mut pool = TreeDraft::new(alloc, SupFlags::default());
     pool.add_worker("a", Steady)?;
