@@ -3,7 +3,7 @@
 // children.
 use otp_draft::{TablePlan, TreeDraft, TreePlan};
 use otp_job::Body;
-use otp_spec::ChildSpec;
+use otp_spec::{ChildSpec, MAX_TABLES};
 use std::alloc::{AllocError, Global};
 use std::test::*;
 
@@ -40,7 +40,7 @@ fn show_table(
 
 // The plans, the root having this number.
 pub(crate) fn shown(alloc: Global, plan: TreePlan<u64, u64>, first: usize) -> Result<String, Fail> {
-    if first + plan.len() > 64 {
+    if first > MAX_TABLES - plan.len() {
         drop(plan);
         return Err("too many supervisors".into());
     }
