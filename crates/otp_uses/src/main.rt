@@ -1,4 +1,5 @@
-//! Six worked uses, short enough to copy: a tree of two workers that is run in one call, a supervisor that is driven by hand, an
+//! Seven worked uses, short enough to copy: a tree of two supervisors and three jobs, drawn up and run in one call; the same of
+//! two workers, over what lies below; a supervisor that is driven by hand, an
 //! inbox between two threads, a signal from one thread to another, a tree that is served turn by turn, and a job whose process
 //! is taken turn by turn.
 //!
@@ -11,6 +12,7 @@ mod mailbox;
 mod signalling;
 mod supervising;
 mod tree;
+mod two_supervisors;
 mod two_workers;
 
 use countdown::{Countdown, run_all, step};
@@ -24,12 +26,17 @@ use std::alloc::{AllocError, Global};
 use std::io;
 use std::marker::Brand;
 use tree::{Run, up_and_down};
+use two_supervisors::run_shop;
 use two_workers::run_two_workers;
 
 /// How many numbers are sent.
 const COUNT: usize = 1000;
 
 fn main(rt: HostRuntime) -> io::Result<()> {
+    match run_shop(&rt, rt.alloc()) {
+        Ok(live) => println!(rt; "two supervisors: {live} processes are left")?,
+        Err(fault) => println!(rt; "the tree was not run: {fault}")?,
+    }
     match run_two_workers(&rt, rt.alloc()) {
         Some((starts, live)) => println!(rt;
             "two workers: {starts} starts, {live} processes are left"

@@ -1,7 +1,7 @@
 //! Trees and scripts by chance: this crate gives what the program `otp sim` prints, to the byte.
 //!
-//! The program is the one that OTP_PROGRAM names, or `crates/otp/out/otp`, where `./otp` builds it. Without it nothing is
-//! compared and the tests say so; with OTP_EMBED_WHOLE they fail then.
+//! The program is the one that OTP_PROGRAM names, or `crates/otp_program/out/otp_program`, where the gate builds it. Without
+//! it nothing is compared and the tests say so; with OTP_EMBED_WHOLE they fail then.
 
 mod common;
 
@@ -14,7 +14,7 @@ use std::path::PathBuf;
 use std::process::{Command, Stdio};
 
 fn program() -> Option<PathBuf> {
-    let usual = PathBuf::from(env!("CARGO_MANIFEST_DIR")).join("../../crates/otp/out/otp");
+    let usual = PathBuf::from(env!("CARGO_MANIFEST_DIR")).join("../../crates/otp_program/out/otp_program");
     let program = std::env::var_os("OTP_PROGRAM").map_or(usual, PathBuf::from);
     program.is_file().then_some(program)
 }

@@ -1,0 +1,50 @@
+//! A tree of supervisors with jobs of your own: all that its users need, from one crate.
+//!
+//! A child is a [`Job`]. A supervisor is drawn up child by child ([`TreeDraft`]), and goes by value below another; so
+//! nobody numbers supervisors. [`run_turns`] is the whole life of a tree in one call, and [`lead`] goes round by round, as a
+//! [`Leader`] says. Each fault of a draft has its name ([`DraftFault`]), and what was handed in comes back with it ([`Refused`],
+//! [`Unrun`]); where it needn't, `?` makes a [`Fault`] of it.
+//!
+//! ```text
+//! let mut pool = TreeDraft::new(alloc, SupFlags::default());
+//! pool.add_worker("a", Steady)?;
+//! pool.add_worker("b", Steady)?;
+//! let mut root = TreeDraft::new(alloc, SupFlags::default());
+//! root.add_worker("db", Steady)?;
+//! root.add_supervisor("pool", pool)?;
+//! let report = run_turns(rt, alloc, root, 1, &Still, 1000)?;
+//! ```
+//!
+//! `crates/otp_uses/src/two_supervisors.rt` is this whole, with its job. Whoever does more with the open tree writes a [`Session`]:
+//! [`plans`] makes what [`with_system`] takes.
+//!
+//! # Limits
+//!
+//! A tree has at most [`MAX_TABLES`] supervisors, on at most [`MAX_DEPTH`] levels, each with at most [`MAX_CHILDREN`] children, and
+//! is served by 1 to [`MAX_HANDS`] hands. `docs/FORMATS.md` has what happens at each limit.
+#![tactic(auto)]
+
+pub mod fault;
+pub mod run;
+pub mod still;
+
+pub use fault::{Fault, Unrun};
+pub use otp_bridge::{BoxedSubsystem, Bridge, Subsystem};
+pub use otp_core::ReplyAnswer;
+pub use otp_draft::{Child, ChildKeys, DraftFault, MAX_DEPTH, Refused, Runs, TreeDraft};
+pub use otp_inbox::InboxNaming;
+pub use otp_job::{Body, BoxedJob, Job, Told, Turn};
+pub use otp_reason::{Name, Note, Reason, Started, Text};
+pub use otp_rules::{Call, CountsNow, Reply};
+pub use otp_run::RunNaming;
+pub use otp_signals::WordsNaming;
+pub use otp_spec::{
+    AutoShutdown, ChildSpec, ChildType, MAX_CHILDREN, MAX_TABLES, Modules, Restart, Shutdown,
+    SpecFault, SpecKey, Strategy, SupFlags,
+};
+pub use otp_tree::{
+    CallEnd, CallId, CallRequest, Client, CountedRun, Gate, Hand, Leader, Led, MAX_HANDS, Millis,
+    Report, Round, RunFault, Session, System, SystemFault, TablePlan, TableReport, with_system,
+};
+pub use run::{lead, plans, run_counted, run_turns};
+pub use still::Still;

@@ -1,0 +1,190 @@
+//! A tree that was drawn up is run.
+ghost use Rattle.std.specs.Prelude.{◌≡◌, ◌+◌, ◌<◌, ◌≤◌, IfErr, IfOk, None, OnOk, [], length, map, vec_capacity};
+ghost use Rattle.otp_draft.specs.Faults.{finish_fault};
+ghost use Rattle.otp_draft.specs.Plans.{numbered, seen};
+ghost use Rattle.otp_draft.specs.Trees.{plans_of, size};
+ghost use Rattle.otp_run.specs.Rule.{all_parts};
+ghost use Rattle.otp_spec.specs.declared.limits.TheConstants.{MAX_TABLES};
+ghost use Rattle.otp_tree.specs.Closes.{IsMismatchOnly, IsReportOf};
+ghost use Rattle.otp.specs.Runs.{IsBack, IsUnfinished, seen_in_tree};
+
+use crate::fault::Unrun;
+use otp_bridge::Subsystem;
+use otp_draft::{DraftFault, Refused, TablePlan, TreeDraft};
+use otp_job::Job;
+use otp_tree::{CountedRun, Gate, Leader, Led, MAX_HANDS, Report, RunFault, run_tree_counted};
+use std::alloc::Global;
+use std::sync::Wait;
+use std::thread::Threads;
+
+/// The same plans, as `otp_tree` has them. Takes no memory.
+fn handed_on<J: Drop, S: Drop>(
+    plans: Vec<TablePlan<J, S>>,
+    room: Vec<otp_tree::TablePlan<J, S>>,
+) -> Vec<otp_tree::TablePlan<J, S>>
+    requires none { room.items ≡ [] }
+    requires room { length plans.items ≤ vec_capacity room }
+    ensures plans { map seen_in_tree result.items ≡ map seen plans.items }
+    ensures count { length result.items ≡ length plans.items }
+{
+    let mut handed = room;
+    for plan in plans {
+        let TablePlan { supervisor, bodies } = plan;
+        handed.push_reserved(otp_tree::TablePlan { supervisor, bodies });
+    }
+    handed
+}
+
+/// The plans of a tree, the root first, each supervisor before those below its own children, as [`otp_tree::with_system`] and
+/// [`otp_tree::lead`] take them: what the children of each run stands in its plan, a child that is a supervisor by its number.
+///
+/// # Errors
+///
+/// As [`TreeDraft::finish`], with the tree.
+pub fn plans<J: Drop, S: Drop>(
+    alloc: Global,
+    root: TreeDraft<J, S>,
+) -> Result<Vec<otp_tree::TablePlan<J, S>>, Refused<TreeDraft<J, S>>>
+    ensures plans { IfOk result (λ all. map seen_in_tree all.items ≡ numbered 0 (plans_of root)) }
+    ensures count { IfOk result (λ all. length all.items ≡ size root) }
+    ensures few { IfOk result (λ all. length all.items ≤ MAX_TABLES) }
+    ensures lawful { OnOk result (finish_fault root ≡ None) }
+    ensures back { IfErr result (IsUnfinished root) }
+{
+    let Ok(room) = Vec::with_capacity(alloc, root.tables()) else {
+        return Err(Refused {
+            fault: DraftFault::OutOfMemory,
+            given: root,
+        });
+    };
+    match root.finish(alloc) {
+        Ok(plan) => {
+            let _ = plan.len();
+            Ok(handed_on(plan.numbered(0), room))
+        }
+        Err(back) => {
+            drop(room);
+            Err(back)
+        }
+    }
+}
+
+/// The plans of a tree for 1 to 8 hands.
+fn plans_for<J: Drop, S: Drop>(
+    alloc: Global,
+    root: TreeDraft<J, S>,
+    hands: usize,
+) -> Result<Vec<otp_tree::TablePlan<J, S>>, Unrun<J, S>>
+    ensures count { IfOk result (λ all. length all.items ≡ size root) }
+    ensures few { IfOk result (λ all. length all.items ≤ MAX_TABLES) }
+    ensures lawful { OnOk result (finish_fault root ≡ None) }
+    ensures some { OnOk result (0 < hands) }
+    ensures served { OnOk result (hands ≤ all_parts) }
+    ensures back { IfErr result (IsBack hands root) }
+{
+    if hands == 0 || hands > MAX_HANDS {
+        return Err(Unrun::Hands(root));
+    }
+    match plans(alloc, root) {
+        Ok(all) => Ok(all),
+        Err(back) => Err(Unrun::Unfinished(back)),
+    }
+}
+
+/// The whole life of a tree in one call, counted in turns: each of 1 to 8 hands makes so many turns in a thread of its own, then the
+/// root is asked to stop, each hand makes as many turns again, and the tree is closed. Out comes the report of what it was, with
+/// the counts of each supervisor before the stop ([`otp_tree::run_tree_counted`]).
+///
+/// The gate is asked the time before each turn; [`Still`](crate::Still) is one for which no time passes. Of one hand a few turns
+/// for each child are enough, and turns in which there is nothing to do cost little.
+///
+/// # Errors
+///
+/// [`Unrun::Hands`] and [`Unrun::Unfinished`] with the tree; [`Unrun::Run`] where it was not opened or not closed.
+pub fn run_counted<R, J, S, G>(
+    rt: &R,
+    alloc: Global,
+    root: TreeDraft<J, S>,
+    hands: usize,
+    gate: &G,
+    turns: u64,
+) -> Result<CountedRun<J, S>, Unrun<J, S>>
+where
+    R: Threads + Wait + Sync,
+    J: Job + Send,
+    S: Subsystem + Send,
+    G: Gate + Sync,
+    ensures counts { IfOk result (λ run. length run.counts.items ≡ size root) }
+    ensures report { IfOk result (λ run. IsReportOf (size root) run.report) }
+    ensures lawful { OnOk result (finish_fault root ≡ None) }
+    ensures back { IfErr result (IsBack hands root) }
+{
+    let plans = plans_for(alloc, root, hands)?;
+    match run_tree_counted(rt, alloc, plans, hands, gate, turns) {
+        Ok(run) => Ok(run),
+        Err(why) => Err(Unrun::Run(why)),
+    }
+}
+
+/// The same without the counts.
+pub fn run_turns<R, J, S, G>(
+    rt: &R,
+    alloc: Global,
+    root: TreeDraft<J, S>,
+    hands: usize,
+    gate: &G,
+    turns: u64,
+) -> Result<Report<J, S>, Unrun<J, S>>
+where
+    R: Threads + Wait + Sync,
+    J: Job + Send,
+    S: Subsystem + Send,
+    G: Gate + Sync,
+    ensures report { IfOk result (IsReportOf (size root)) }
+    ensures lawful { OnOk result (finish_fault root ≡ None) }
+    ensures back { IfErr result (IsBack hands root) }
+{
+    match run_counted(rt, alloc, root, hands, gate, turns) {
+        Ok(CountedRun { counts: _, report }) => Ok(report),
+        Err(why) => Err(why),
+    }
+}
+
+/// Opens a tree and serves it with each of 1 to 8 hands in a thread of its own, round by round as the leader says: at most so many
+/// rounds. Then the tree is closed, and the leader comes back with the report ([`otp_tree::lead`]).
+///
+/// # Errors
+///
+/// [`Unrun::Hands`] and [`Unrun::Unfinished`] with the tree; [`Unrun::Run`] where it was not opened. The leader is dropped then.
+pub fn lead<R, J, S, G, L>(
+    rt: &R,
+    alloc: Global,
+    root: TreeDraft<J, S>,
+    hands: usize,
+    gate: &G,
+    rounds: u64,
+    leader: L,
+) -> Result<Led<J, S, L>, Unrun<J, S>>
+where
+    R: Threads + Wait + Sync,
+    J: Job + Send,
+    S: Subsystem + Send,
+    G: Gate + Sync,
+    L: Leader<J, S>,
+    ensures report { IfOk result (λ led. IfOk led.report (IsReportOf (size root))) }
+    ensures mismatch { IfOk result (λ led. IfErr led.report IsMismatchOnly) }
+    ensures lawful { OnOk result (finish_fault root ≡ None) }
+    ensures back { IfErr result (IsBack hands root) }
+{
+    let plans = match plans_for(alloc, root, hands) {
+        Ok(plans) => plans,
+        Err(why) => {
+            drop(leader);
+            return Err(why);
+        }
+    };
+    match otp_tree::lead(rt, alloc, plans, hands, gate, rounds, leader) {
+        Ok(led) => Ok(led),
+        Err(why) => Err(Unrun::Run(RunFault::Open(why))),
+    }
+}
