@@ -34,6 +34,7 @@ const HUNG_UP: i16 = 0x38;
 
 const SFD_FLAGS: c_int = 0o2_004_000; // non-blocking, closed on exec
 const SIG_DFL: usize = 0;
+const LAST_SIGNAL: c_int = 64;
 const SIG_BLOCK: c_int = 0;
 const SIG_SETMASK: c_int = 2;
 const F_GETFD: c_int = 1;
@@ -152,8 +153,10 @@ pub fn signals_as_descriptor(signals: &[c_int]) -> io::Result<OwnedFd> {
     let set = set_of(signals);
     // SAFETY: `set` is initialised; the descriptor that comes back is nobody else's.
     unsafe {
-        // Where it is ignored, which is inherited, the system itself reaps the children.
+        // Whether a signal is ignored is inherited. Where SIGCHLD is, the system itself reaps the children; and one that is
+        // ignored comes by no descriptor. INT and HUP stay as they are: a shell ignores INT for what it runs in the background.
         signal(SIGCHLD, SIG_DFL);
+        signal(SIGTERM, SIG_DFL);
         checked(sigprocmask(SIG_BLOCK, &set, std::ptr::null_mut()))?;
         Ok(OwnedFd::from_raw_fd(checked(signalfd(-1, &set, SFD_FLAGS))?))
     }
@@ -312,14 +315,18 @@ pub fn reserve_descriptors() -> io::Result<Vec<File>> {
     }
 }
 
-/// What is done in the child before its program begins: no signal is blocked, it is killed if this process ends, and
-/// the descriptor on which it tells that it is up gets the number wanted.
+/// What is done in the child before its program begins: no signal is blocked or ignored, it is killed if this process ends,
+/// and the descriptor on which it tells that it is up gets the number wanted.
 pub fn prepare_child(command: &mut Command, notify: Option<(RawFd, RawFd)>) {
     let none = set_of(&[]);
     let parent = std::process::id();
     // SAFETY: between fork and exec only calls are made that are safe in a signal handler, and no memory is taken.
     unsafe {
         command.pre_exec(move || {
+            // Those that can't be set (KILL, STOP, and two of the C library's own) are refused, which does nothing.
+            for number in 1..=LAST_SIGNAL {
+                signal(number, SIG_DFL);
+            }
             checked(sigprocmask(SIG_SETMASK, &none, std::ptr::null_mut()))?;
             checked(prctl(PR_SET_PDEATHSIG, SIGKILL as u64))?;
             // The parent may have ended before it asked for that.

@@ -2,6 +2,7 @@
 
 use crate::os;
 use crate::plan::{Output, Plan, Ready};
+use crate::program;
 use otp_embed::Reason;
 use std::fs::File;
 use std::io::{self, PipeReader};
@@ -125,5 +126,12 @@ fn refused(plan: &Plan, error: &io::Error) -> NotStarted {
         io::ErrorKind::PermissionDenied => "not_allowed",
         _ => "not_started",
     };
-    NotStarted::new(word, format!("{} doesn't start: {error}", plan.command[0]))
+    let more = match (error.kind(), program::find(plan)) {
+        // A script's first line may name what isn't there.
+        (io::ErrorKind::NotFound, Some(file)) => {
+            format!("; {} is there, but what it is to be run by is not", file.display())
+        }
+        _ => String::new(),
+    };
+    NotStarted::new(word, format!("{} doesn't start: {error}{more}", plan.command[0]))
 }
