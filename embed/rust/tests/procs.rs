@@ -121,6 +121,18 @@ fn a_process_gets_no_descriptor_and_no_blocked_signal() {
 }
 
 #[test]
+fn a_pipe_that_nobody_reads_is_no_place_for_output() {
+    let commands = "[a]\ncommand = ['sleep', '1000']\noutput = 'file'\noutput_file = '{folder}/pipe'\n";
+    let folder = common::daemon::new_folder();
+    assert!(std::process::Command::new("mkfifo").arg(folder.join("pipe")).status().unwrap().success());
+    fs::write(folder.join("tree.toml"), tree_of(&child("a", ""))).unwrap();
+    fs::write(folder.join("commands.toml"), commands.replace("{folder}", folder.to_str().unwrap())).unwrap();
+    let mut daemon = Daemon::start_in(folder, &["--json", "--log", "log", "--no-control"]);
+    assert_eq!(daemon.wait(), 4);
+    assert_eq!(daemon.story()[1], "-> fail a #1 error:no_output");
+}
+
+#[test]
 fn signals_that_the_daemon_ignores_are_not_ignored_by_its_processes() {
     let folder = common::daemon::new_folder();
     fs::write(folder.join("tree.toml"), tree_of(&child("a", ""))).unwrap();

@@ -160,10 +160,6 @@ fn written(time: SystemTime) -> String {
     format!("{year:04}-{month:02}-{day:02}T{hour:02}:{minute:02}:{second:02}.{milliseconds:03}Z")
 }
 
-fn append_to(file: &Path) -> io::Result<File> {
-    File::options().append(true).create(true).open(file)
-}
-
 enum Sink {
     Errors(io::Stderr),
     File(File),
@@ -189,7 +185,7 @@ impl Log {
         let file = file.map(std::path::absolute).transpose()?;
         let sink = match &file {
             None => Sink::Errors(io::stderr()),
-            Some(file) => Sink::File(append_to(file)?),
+            Some(file) => Sink::File(os::append_to(file)?),
         };
         Ok(Log { sink, file, is_json, lost: 0, is_torn: false, kept: VecDeque::new(), fresh: Vec::new() })
     }
@@ -198,7 +194,7 @@ impl Log {
     /// Nothing is done, and `false` the answer, where the lines go to no file.
     pub fn reopen(&mut self) -> io::Result<bool> {
         let Some(file) = &self.file else { return Ok(false) };
-        self.sink = Sink::File(append_to(file)?);
+        self.sink = Sink::File(os::append_to(file)?);
         self.is_torn = false;
         Ok(true)
     }

@@ -5,8 +5,10 @@ use std::ffi::{c_int, c_void};
 use std::fs::File;
 use std::io;
 use std::os::fd::{AsRawFd, BorrowedFd, FromRawFd, OwnedFd, RawFd};
+use std::os::unix::fs::OpenOptionsExt;
 use std::os::unix::net::UnixStream;
 use std::os::unix::process::{CommandExt, ExitStatusExt};
+use std::path::Path;
 use std::process::{Command, ExitStatus};
 use std::time::Duration;
 
@@ -43,6 +45,7 @@ const F_GETFL: c_int = 3;
 const F_SETFL: c_int = 4;
 const FD_CLOEXEC: c_int = 1;
 const O_NONBLOCK: c_int = 0o4000;
+const O_NOCTTY: c_int = 0o400;
 const PR_SET_PDEATHSIG: c_int = 1;
 const PR_SET_CHILD_SUBREAPER: c_int = 36;
 const P_ALL: c_int = 0;
@@ -280,6 +283,22 @@ pub fn never_wait(fd: BorrowedFd<'_>) -> io::Result<()> {
         checked(fcntl(fd.as_raw_fd(), F_SETFL, flags | O_NONBLOCK))?;
     }
     Ok(())
+}
+
+/// A write to this descriptor waits again where it has to.
+pub fn may_wait(fd: BorrowedFd<'_>) -> io::Result<()> {
+    // SAFETY: the descriptor is open, and these commands take a number.
+    unsafe {
+        let flags = checked(fcntl(fd.as_raw_fd(), F_GETFL))?;
+        checked(fcntl(fd.as_raw_fd(), F_SETFL, flags & !O_NONBLOCK))?;
+    }
+    Ok(())
+}
+
+/// Opens a file to write to its end, and makes it where it isn't there. A pipe without a reader is refused, since to open it would
+/// keep this process waiting; no terminal becomes this process's own.
+pub fn append_to(file: &Path) -> io::Result<File> {
+    File::options().append(true).create(true).custom_flags(O_NONBLOCK | O_NOCTTY).open(file)
 }
 
 /// No program that is started gets a descriptor that this process was started with, but the first three.

@@ -101,9 +101,9 @@ fn give_output(plan: &Plan, command: &mut Command) -> Result<Option<PipeReader>,
     Ok(None)
 }
 
-/// The file that output goes to the end of.
+/// The file that output goes to the end of. Who writes to it may have to wait, as a process expects.
 pub fn open_output(file: &Path) -> Result<File, NotStarted> {
-    let opened = File::options().append(true).create(true).open(file);
+    let opened = os::append_to(file).and_then(|opened| os::may_wait(opened.as_fd()).map(|()| opened));
     opened.map_err(|error| NotStarted::new("no_output", format!("{} can't be opened: {error}", file.display())))
 }
 
