@@ -145,7 +145,9 @@ fn signals_that_the_daemon_ignores_are_not_ignored_by_its_processes() {
     shell.args(["-c", "trap '' INT QUIT TERM USR1; exec \"$0\" \"$@\"", common::daemon::PROGRAM]);
     let mut daemon = Daemon::start_by(folder, shell, &["--json", "--log", "log", "--no-control"]);
     wait_until("done", || daemon.folder.join("done").exists());
-    assert_eq!(daemon.read("signals").split_whitespace().nth(1), Some("0000000000000000"));
+    // Signals 32 and 33 are the C library's own, and stay as they are.
+    let ignored = daemon.read("signals").split_whitespace().nth(1).map(|mask| u64::from_str_radix(mask, 16).unwrap());
+    assert_eq!(ignored.map(|mask| mask & !(3 << 31)), Some(0));
     // TERM reaches the daemon, and INT the process, which has 5 seconds: it isn't killed.
     assert_eq!(daemon.stop(), 0);
     assert!(daemon.story().iter().all(|line| !line.starts_with("kill")), "{:?}", daemon.story());
