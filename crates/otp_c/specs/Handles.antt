@@ -14,3 +14,7 @@ IsKept old new = is_some new ≡ is_some old
 -- what a call does with the tree of a handle, where there is one
 abbrev pub OnTree : Option Session → Option Session → (Session → Session → Type 0) → Type 0
 OnTree old new does = (before : Session) → old ≡ Some before → (after : Session) × (new ≡ Some after) × does before after
+
+-- a call that only reads the tree
+abbrev pub Reading : (Session → Type 0) → Session → Session → Type 0
+Reading Says before after = (after ≡ before) × Says before

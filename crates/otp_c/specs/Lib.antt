@@ -1,6 +1,12 @@
 pub mod Held
 pub mod Handles
+pub mod Words
 pub mod Orders
+pub mod Shown
+pub mod AnswersShown
+pub mod Stands
 pub mod Nexts
 pub mod Statuses
-pub mod Words
+pub mod Told
+pub mod Opens
+pub mod Limits

@@ -1,5 +1,23 @@
 -- The words of a supervisor as numbers: those of the header (own).
-use Rattle.std.specs.Prelude.{ℕ}
+use Rattle.std.specs.Prelude.{ℕ, Bool, true, false}
+use Rattle.otp_driver.specs.declared.order.What.{What}
+use Rattle.otp_driver.specs.declared.order.What.TheVariants as what
+use Rattle.otp_file.specs.declared.fault.ChildKey.{ChildKey}
+use Rattle.otp_file.specs.declared.fault.ChildKey.TheVariants as child_key
+use Rattle.otp_file.specs.declared.fault.FlagKey.{FlagKey}
+use Rattle.otp_file.specs.declared.fault.FlagKey.TheVariants as flag_key
+use Rattle.otp_reason.specs.declared.note.Note.{Note}
+use Rattle.otp_reason.specs.declared.note.Note.TheVariants as note
+use Rattle.otp_rules.specs.declared.call.CallFault.{CallFault}
+use Rattle.otp_rules.specs.declared.call.CallFault.TheVariants as fault
+use Rattle.otp_rules.specs.declared.call.ChildProcess.{ChildProcess}
+use Rattle.otp_rules.specs.declared.call.ChildProcess.TheVariants as process
+use Rattle.otp_rules.specs.declared.call.Reply.{Reply}
+use Rattle.otp_rules.specs.declared.call.Reply.TheVariants as reply
+use Rattle.otp_rules.specs.declared.work.Phase.{Phase}
+use Rattle.otp_rules.specs.declared.work.Phase.TheVariants.{Unopened, Open, Ended}
+use Rattle.otp_table.specs.declared.row.RowState.{RowState}
+use Rattle.otp_table.specs.declared.row.RowState.TheVariants as row
 use Rattle.otp_reason.specs.declared.reason.Reason.{Reason}
 use Rattle.otp_reason.specs.declared.reason.Reason.TheVariants as reason
 use Rattle.otp_rules.specs.declared.ending.Ending.{Ending}
@@ -54,3 +72,79 @@ abbrev pub auto_shutdown_number : AutoShutdown → ℕ
 auto_shutdown_number Never = 1
 auto_shutdown_number AnySignificant = 2
 auto_shutdown_number AllSignificant = 3
+
+abbrev pub note_kind_number : Note → ℕ
+note_kind_number (note.Up _) = 1
+note_kind_number (note.Ignored _) = 2
+note_kind_number (note.Failed _ _) = 3
+note_kind_number (note.Exit _ _) = 4
+
+abbrev pub order_kind_number : What → ℕ
+order_kind_number (what.Start _) = 1
+order_kind_number (what.Ask _ _) = 2
+order_kind_number (what.Kill _) = 3
+order_kind_number (what.Reply _) = 4
+order_kind_number what.Ready = 5
+order_kind_number (what.End _ _) = 6
+
+abbrev pub answer_kind_number : Reply → ℕ
+answer_kind_number reply.Ok = 1
+answer_kind_number (reply.OkProcess _) = 2
+answer_kind_number reply.OkUndefined = 3
+answer_kind_number (reply.Refused _) = 4
+answer_kind_number (reply.Which _) = 5
+answer_kind_number (reply.Count _) = 6
+answer_kind_number (reply.Spec _) = 7
+answer_kind_number reply.NoProc = 8
+
+abbrev pub call_fault_number : CallFault → ℕ
+call_fault_number fault.NotFound = 1
+call_fault_number fault.Running = 2
+call_fault_number fault.Restarting = 3
+call_fault_number fault.SimpleOneForOne = 4
+call_fault_number fault.NotSimple = 5
+call_fault_number fault.AlreadyPresent = 6
+call_fault_number (fault.AlreadyStarted _) = 7
+call_fault_number fault.TooManyChildren = 8
+call_fault_number (fault.BadSpec _) = 9
+call_fault_number (fault.Start _) = 10
+
+abbrev pub process_number : ChildProcess → ℕ
+process_number (process.Number _) = 1
+process_number process.Restarting = 2
+process_number process.Undefined = 3
+
+abbrev pub child_state_number : RowState → ℕ
+child_state_number row.Undefined = 1
+child_state_number (row.Starting _ _) = 2
+child_state_number (row.Up _) = 3
+child_state_number (row.Asked _ _) = 4
+child_state_number (row.Killed _) = 5
+child_state_number (row.Restarting _) = 6
+
+abbrev pub phase_number : Phase → ℕ
+phase_number Unopened = 1
+phase_number (Open _) = 2
+phase_number (Ended _ _) = 3
+
+abbrev pub flag_key_number : FlagKey → ℕ
+flag_key_number flag_key.Strategy = 1
+flag_key_number flag_key.Intensity = 2
+flag_key_number flag_key.Period = 3
+flag_key_number flag_key.AutoShutdown = 4
+flag_key_number flag_key.Child = 5
+
+abbrev pub child_key_number : ChildKey → ℕ
+child_key_number child_key.Id = 1
+child_key_number child_key.Start = 2
+child_key_number child_key.Restart = 3
+child_key_number child_key.Significant = 4
+child_key_number child_key.Shutdown = 5
+child_key_number child_key.Kind = 6
+child_key_number child_key.Modules = 7
+child_key_number child_key.Tree = 8
+
+-- 1 for yes, 0 for no
+abbrev pub flag_number : Bool → ℕ
+flag_number true = 1
+flag_number false = 0

@@ -1,5 +1,9 @@
 //! The answer to a call as a struct of C.
 
+ghost use Rattle.std.specs.Prelude.{◌≡◌};
+ghost use Rattle.otp_c.specs.AnswersShown.{ShowsAnswer, ShowsLine, ShowsRefusal, key_of};
+ghost use Rattle.otp_c.specs.Words.{call_fault_number};
+
 use crate::spec::modules_out;
 use crate::structs::{CAnswer, CLine};
 use crate::words::{child_type_number, no_text, reason_number, reason_text, some_name_out};
@@ -7,7 +11,11 @@ use otp_rules::{Answered, CallFault, ChildLine, ChildProcess, Reply};
 use otp_spec::{SpecFault, SpecKey};
 
 /// An answer of this kind with nothing beside it.
-fn plain(call: u64, kind: u32) -> CAnswer {
+fn plain(call: u64, kind: u32) -> CAnswer
+    ensures call { result.call ≡ call }
+    ensures kind { result.kind ≡ kind }
+    ensures number { result.number ≡ 0 }
+{
     CAnswer {
         call,
         number: 0,
@@ -25,7 +33,9 @@ fn plain(call: u64, kind: u32) -> CAnswer {
     }
 }
 
-fn key_number(fault: &SpecFault) -> u32 {
+fn key_number(fault: &SpecFault) -> u32
+    ensures { result ≡ key_of fault.now }
+{
     match fault {
         SpecFault::BadSpec {
             key: SpecKey::Id,
@@ -43,7 +53,9 @@ fn key_number(fault: &SpecFault) -> u32 {
     }
 }
 
-fn fault_number(fault: &CallFault) -> u32 {
+fn fault_number(fault: &CallFault) -> u32
+    ensures { result ≡ call_fault_number fault.now }
+{
     match fault {
         CallFault::NotFound => 1,
         CallFault::Running => 2,
@@ -59,7 +71,12 @@ fn fault_number(fault: &CallFault) -> u32 {
 }
 
 /// A refusal.
-fn refused(call: u64, fault: &CallFault) -> CAnswer {
+fn refused(call: u64, fault: &CallFault) -> CAnswer
+    ensures call { result.call ≡ call }
+    ensures kind { result.kind ≡ 4 }
+    ensures fault { result.fault ≡ call_fault_number fault.now }
+    ensures refusal { ShowsRefusal fault.now result }
+{
     let answer = CAnswer {
         fault: fault_number(fault),
         ..plain(call, 4)
@@ -84,7 +101,9 @@ fn refused(call: u64, fault: &CallFault) -> CAnswer {
 }
 
 /// The answer as plain numbers and bytes.
-pub fn answer_out(answered: &Answered) -> CAnswer {
+pub fn answer_out(answered: &Answered) -> CAnswer
+    ensures { ShowsAnswer answered.now result }
+{
     let call = answered.call;
     match &answered.reply {
         Reply::Ok => plain(call, 1),
@@ -111,7 +130,9 @@ pub fn answer_out(answered: &Answered) -> CAnswer {
 }
 
 /// A line of which_children as plain numbers and bytes.
-pub fn line_out(line: &ChildLine) -> CLine {
+pub fn line_out(line: &ChildLine) -> CLine
+    ensures { ShowsLine line.now result }
+{
     let (modules, module) = modules_out(&line.modules);
     let (process, number) = match line.process {
         ChildProcess::Number(number) => (1, number),

@@ -1,41 +1,47 @@
 //! What is told to a tree: the clock, notes, calls, the stop.
 
-ghost use Rattle.otp_c.specs.Handles.{IsKept, IsTold};
+ghost use Rattle.std.specs.Prelude.{◌≡◌, None};
+ghost use Rattle.otp_c.specs.Handles.{IsKept, IsTold, OnTree};
+ghost use Rattle.otp_c.specs.Told.{AnswersCall, AnswersNote, CallSaid, Calls, NoteSaid, Notes, StartSaid, Stops, TakesCall, TakesNote, Ticks};
 
 use crate::handle::Handle;
-use crate::spec::spec_in;
-use crate::status::{OTP_BAD_KIND, OTP_BAD_NAME, OTP_BAD_TEXT, OTP_CLOSED, OTP_OK, status_of};
+use crate::spec::{named, spec_in};
+use crate::status::{OTP_BAD_KIND, OTP_BAD_READING, OTP_BAD_TEXT, OTP_CLOSED, OTP_OK, status_of};
 use crate::structs::{CName, CSpec};
-use crate::words::{NoReason, name_in, reason_in};
-use otp_driver::{DriveFault, Session};
-use otp_reason::{Name, Note};
+use crate::words::{NoReason, reason_in};
+use otp_driver::Session;
+use otp_reason::Note;
 use otp_rules::Call;
 use std::alloc::Global;
 
-/// The status of what was done or refused.
-fn status(done: Result<(), DriveFault>) -> u32 {
-    match done {
+fn tick(session: &mut Session, reading: u64) -> u32
+    ensures { Ticks reading result session.old session.new }
+{
+    match session.driver.tick(reading) {
         Ok(()) => OTP_OK,
-        Err(fault) => status_of(fault),
+        Err(_) => OTP_BAD_READING,
     }
 }
 
 /// The clock is read.
 #[unsafe(no_mangle)]
 pub extern "C" fn otp_tick(alloc: Global, tree: &mut Handle, reading: u64) -> u32
+    ensures ticks { OnTree tree.old.room.held tree.new.room.held (Ticks reading result) }
     ensures closed { IsTold tree.old.room.held result }
     ensures kept { IsKept tree.old.room.held tree.new.room.held }
 {
     let Some(mut held) = tree.take(alloc) else {
         return OTP_CLOSED;
     };
-    let status = status(held.driver.tick(reading));
+    let status = tick(&mut held, reading);
     *tree = Handle::of(held);
     status
 }
 
 /// What a process tells.
-fn note_in(kind: u32, number: u64, reason: u32, text: &[u8]) -> Result<Note, NoReason> {
+fn note_in(kind: u32, number: u64, reason: u32, text: &[u8]) -> Result<Note, NoReason>
+    ensures { NoteSaid kind number reason text.now result }
+{
     match kind {
         1 => Ok(Note::Up(number)),
         2 => Ok(Note::Ignored(number)),
@@ -45,12 +51,37 @@ fn note_in(kind: u32, number: u64, reason: u32, text: &[u8]) -> Result<Note, NoR
     }
 }
 
-fn note(session: &mut Session, place: usize, note: Result<Note, NoReason>) -> u32 {
-    match note {
-        Ok(note) => status(session.driver.note(place, note)),
+fn note(session: &mut Session, place: usize, note: Note) -> u32
+    ensures { TakesNote place note result session.old session.new }
+{
+    match session.driver.note(place, note) {
+        Ok(()) => OTP_OK,
+        Err(fault) => status_of(fault),
+    }
+}
+
+fn answer_note(session: &mut Session, place: usize, said: Result<Note, NoReason>) -> u32
+    ensures { AnswersNote said place result session.old session.new }
+{
+    match said {
+        Ok(said) => note(session, place, said),
         Err(NoReason::Kind) => OTP_BAD_KIND,
         Err(NoReason::Text) => OTP_BAD_TEXT,
     }
+}
+
+fn tell(
+    session: &mut Session,
+    place: usize,
+    kind: u32,
+    number: u64,
+    reason: u32,
+    text: &[u8],
+) -> u32
+    ensures { Notes place kind number reason text.now result session.old session.new }
+{
+    let said = note_in(kind, number, reason, text);
+    answer_note(session, place, said)
 }
 
 /// A process outside tells its supervisor something.
@@ -64,50 +95,72 @@ pub extern "C" fn otp_note(
     reason: u32,
     text: &[u8],
 ) -> u32
+    ensures notes { OnTree tree.old.room.held tree.new.room.held (Notes supervisor kind number reason text.now result) }
     ensures closed { IsTold tree.old.room.held result }
     ensures kept { IsKept tree.old.room.held tree.new.room.held }
 {
     let Some(mut held) = tree.take(alloc) else {
         return OTP_CLOSED;
     };
-    let status = note(
-        &mut held,
-        supervisor as usize,
-        note_in(kind, number, reason, text),
-    );
+    let status = tell(&mut held, supervisor as usize, kind, number, reason, text);
     *tree = Handle::of(held);
     status
+}
+
+fn stop(session: &mut Session) -> u32
+    ensures { Stops result session.old session.new }
+{
+    session.driver.stop();
+    OTP_OK
 }
 
 /// The root is wanted to shut down.
 #[unsafe(no_mangle)]
 pub extern "C" fn otp_stop(alloc: Global, tree: &mut Handle) -> u32
+    ensures stops { OnTree tree.old.room.held tree.new.room.held (Stops result) }
     ensures closed { IsTold tree.old.room.held result }
     ensures kept { IsKept tree.old.room.held tree.new.room.held }
 {
     let Some(mut held) = tree.take(alloc) else {
         return OTP_CLOSED;
     };
-    held.driver.stop();
+    let status = stop(&mut held);
     *tree = Handle::of(held);
-    OTP_OK
+    status
 }
 
-fn call(session: &mut Session, place: usize, call: Result<Call, u32>, out: &mut u64) -> u32 {
-    match call {
-        Err(status) => status,
-        Ok(call) => match session.driver.call(place, call) {
-            Err(fault) => status_of(fault),
-            Ok(number) => {
-                *out = number;
-                OTP_OK
-            }
-        },
+fn call(session: &mut Session, place: usize, call: Call, out: &mut u64) -> u32
+    ensures { TakesCall place call result out.old out.new session.old session.new }
+{
+    match session.driver.call(place, call) {
+        Ok(number) => {
+            *out = number;
+            OTP_OK
+        }
+        Err(fault) => status_of(fault),
     }
 }
 
-fn start_in(spec: &CSpec) -> Result<Call, u32> {
+fn answer_call(session: &mut Session, place: usize, said: Result<Call, u32>, out: &mut u64) -> u32
+    ensures { AnswersCall said place result out.old out.new session.old session.new }
+{
+    match said {
+        Ok(said) => call(session, place, said, out),
+        Err(status) => status,
+    }
+}
+
+fn start_in(spec: &CSpec) -> Result<Call, u32>
+    ensures { StartSaid spec.now result }
+{
     Ok(Call::StartChild(spec_in(spec)?))
+}
+
+fn start(session: &mut Session, place: usize, spec: &CSpec, out: &mut u64) -> u32
+    ensures { Calls (StartSaid spec.now) place result out.old out.new session.old session.new }
+{
+    let said = start_in(spec);
+    answer_call(session, place, said, out)
 }
 
 /// Asks for start_child with a specification.
@@ -119,26 +172,23 @@ pub extern "C" fn otp_start_child(
     spec: &CSpec,
     out: &mut u64,
 ) -> u32
+    ensures calls { OnTree tree.old.room.held tree.new.room.held (Calls (StartSaid spec.now) supervisor result out.old out.new) }
+    ensures unsaid { tree.old.room.held ≡ None → out.new ≡ out.old }
     ensures closed { IsTold tree.old.room.held result }
     ensures kept { IsKept tree.old.room.held tree.new.room.held }
 {
     let Some(mut held) = tree.take(alloc) else {
         return OTP_CLOSED;
     };
-    let status = call(&mut held, supervisor as usize, start_in(spec), out);
+    let status = start(&mut held, supervisor as usize, spec, out);
     *tree = Handle::of(held);
     status
 }
 
-fn named(id: &CName) -> Result<Name, u32> {
-    match name_in(id) {
-        Some(name) => Ok(name),
-        None => Err(OTP_BAD_NAME),
-    }
-}
-
 /// The call of this kind.
-fn call_in(kind: u32, id: &CName, number: u64) -> Result<Call, u32> {
+fn call_in(kind: u32, id: &CName, number: u64) -> Result<Call, u32>
+    ensures { CallSaid kind id.now number result }
+{
     match kind {
         1 => Ok(Call::StartDynamic),
         2 => Ok(Call::RestartChild(named(id)?)),
@@ -152,6 +202,20 @@ fn call_in(kind: u32, id: &CName, number: u64) -> Result<Call, u32> {
     }
 }
 
+fn ask(
+    session: &mut Session,
+    place: usize,
+    kind: u32,
+    id: &CName,
+    number: u64,
+    out: &mut u64,
+) -> u32
+    ensures { Calls (CallSaid kind id.now number) place result out.old out.new session.old session.new }
+{
+    let said = call_in(kind, id, number);
+    answer_call(session, place, said, out)
+}
+
 /// Asks for another call.
 #[unsafe(no_mangle)]
 pub extern "C" fn otp_call(
@@ -163,18 +227,15 @@ pub extern "C" fn otp_call(
     number: u64,
     out: &mut u64,
 ) -> u32
+    ensures calls { OnTree tree.old.room.held tree.new.room.held (Calls (CallSaid kind id.now number) supervisor result out.old out.new) }
+    ensures unsaid { tree.old.room.held ≡ None → out.new ≡ out.old }
     ensures closed { IsTold tree.old.room.held result }
     ensures kept { IsKept tree.old.room.held tree.new.room.held }
 {
     let Some(mut held) = tree.take(alloc) else {
         return OTP_CLOSED;
     };
-    let status = call(
-        &mut held,
-        supervisor as usize,
-        call_in(kind, id, number),
-        out,
-    );
+    let status = ask(&mut held, supervisor as usize, kind, id, number, out);
     *tree = Handle::of(held);
     status
 }

@@ -1,5 +1,9 @@
 //! Why a tree file is refused, as a struct of C.
 
+ghost use Rattle.std.specs.Prelude.{◌≡◌};
+ghost use Rattle.otp_c.specs.Opens.{ShowsFault, spot, spot_of, spot_of_place, spot_of_spec};
+ghost use Rattle.otp_c.specs.Words.{child_key_number, flag_key_number};
+
 use crate::structs::{CFault, FAULT_SIZE};
 use otp_file::{ChildKey, FaultPlace, FlagKey, TableFault, TreeFault};
 use otp_spec::{SpecFault, SpecKey};
@@ -12,7 +16,9 @@ struct Sentence {
     len: usize,
 }
 
-fn flag_key(key: FlagKey) -> u32 {
+fn flag_key(key: FlagKey) -> u32
+    ensures { result ≡ flag_key_number key }
+{
     match key {
         FlagKey::Strategy => 1,
         FlagKey::Intensity => 2,
@@ -22,7 +28,9 @@ fn flag_key(key: FlagKey) -> u32 {
     }
 }
 
-fn child_key(key: ChildKey) -> u32 {
+fn child_key(key: ChildKey) -> u32
+    ensures { result ≡ child_key_number key }
+{
     match key {
         ChildKey::Id => 1,
         ChildKey::Start => 2,
@@ -43,7 +51,9 @@ struct Spot {
     key: u32,
 }
 
-fn make_spot(place: u32, index: usize, key: u32) -> Spot {
+fn make_spot(place: u32, index: usize, key: u32) -> Spot
+    ensures { result ≡ spot place index key }
+{
     Spot {
         place,
         index: index.min(1_000_000) as u32,
@@ -51,7 +61,9 @@ fn make_spot(place: u32, index: usize, key: u32) -> Spot {
     }
 }
 
-fn spot_of_place(place: FaultPlace) -> Spot {
+fn spot_of_place(place: FaultPlace) -> Spot
+    ensures { result ≡ spot_of_place place }
+{
     match place {
         FaultPlace::Table => make_spot(1, 0, 0),
         FaultPlace::Flag(key) => make_spot(2, 0, flag_key(key)),
@@ -60,7 +72,9 @@ fn spot_of_place(place: FaultPlace) -> Spot {
     }
 }
 
-fn spot_of_spec(fault: SpecFault) -> Spot {
+fn spot_of_spec(fault: SpecFault) -> Spot
+    ensures { result ≡ spot_of_spec fault }
+{
     match fault {
         SpecFault::BadFlag | SpecFault::SimpleNeedsOne | SpecFault::TooManyChildren => make_spot(
             1, 0, 0,
@@ -81,7 +95,9 @@ fn spot_of_spec(fault: SpecFault) -> Spot {
     }
 }
 
-fn spot_of(fault: TreeFault) -> Spot {
+fn spot_of(fault: TreeFault) -> Spot
+    ensures { result ≡ spot_of fault }
+{
     match fault {
         TreeFault::OutOfMemory
         | TreeFault::NotToml
@@ -121,7 +137,9 @@ fn sentence_of(why: &TableFault) -> Sentence {
 }
 
 /// The fault as plain numbers and bytes.
-pub fn fault_of(why: &TableFault) -> CFault {
+pub fn fault_of(why: &TableFault) -> CFault
+    ensures { ShowsFault why.now result }
+{
     let spot = spot_of(why.fault);
     let sentence = sentence_of(why);
     let text = sentence.bytes;

@@ -3,10 +3,17 @@
 //! The header says what a caller owes. Each export takes the tree out of its handle, does one thing, and puts it back.
 #![tactic(auto)]
 
-ghost use Rattle.std.specs.Prelude.{◌≡◌, ◌<◌, IfErr, None, is_some, true};
-ghost use Rattle.otp_c.specs.Handles.{IsKept, IsTold, OnTree};
+ghost use Rattle.std.specs.Prelude.{◌≡◌, None, Some, is_some, length, min, option_map, slice_get, true};
+ghost use Rattle.otp_driver.specs.Driven.{least_deadline};
+ghost use Rattle.otp_c.specs.AnswersShown.{Says, ShowsAnswer, ShowsLine, line_in, spec_in};
+ghost use Rattle.otp_c.specs.Handles.{IsKept, IsTold, OnTree, Reading};
+ghost use Rattle.otp_c.specs.Limits.{limit_of};
 ghost use Rattle.otp_c.specs.Nexts.{HandsOut};
+ghost use Rattle.otp_c.specs.Opens.{OpensIn, Reads, SaysOpen};
+ghost use Rattle.otp_c.specs.Shown.{ShowsSpec};
+ghost use Rattle.otp_c.specs.Stands.{SaysChild, SaysRow, SaysSupervisor};
 ghost use Rattle.otp_c.specs.declared.status.TheConstants.{OTP_OK, OTP_OPEN};
+ghost use Rattle.otp_spec.specs.declared.limits.TheConstants.{MAX_TABLES};
 
 mod answer;
 mod calls;
@@ -23,7 +30,7 @@ mod words;
 
 use crate::answer::{answer_out, line_out};
 use crate::fault::fault_of;
-use crate::look::{child_out, supervisor_out};
+use crate::look::{row_out, supervisor_out};
 use crate::order::order_out;
 use crate::spec::spec_out;
 use crate::status::{
@@ -31,33 +38,54 @@ use crate::status::{
 };
 pub use calls::{otp_call, otp_note, otp_start_child, otp_stop, otp_tick};
 pub use handle::Handle;
-use otp_driver::{KEPT_EVENTS, Session};
-use otp_file::{TreeFault, read_located};
+use otp_driver::{Driver, KEPT_EVENTS, Link, Session, Supervisor};
+use otp_file::{TableFault, TreeFault, read_located};
 use otp_reason::{NAME_SIZE, TEXT_SIZE};
-use otp_rules::Reply;
-use otp_spec::{MAX_CHILDREN, MAX_READING, MAX_TABLES};
+use otp_rules::{ChildLine, Reply};
+use otp_spec::{ChildSpec, MAX_CHILDREN, MAX_READING, MAX_TABLES};
+use otp_table::Row;
 use std::alloc::Global;
 pub use structs::{
     CAnswer, CChild, CFault, CLine, CName, COrder, CSpec, CSupervisor, CText, FAULT_SIZE,
 };
 
-/// The tree that a file says, or the status that says why there is none.
-fn session_of(alloc: Global, text: &[u8], fault: &mut CFault) -> Result<Session, u32>
-    ensures { IfErr result (λ status. OTP_OK < status) }
+/// The tree that a file says, opened; or why it is refused, or nothing where there was no memory.
+fn session_of(alloc: Global, text: &[u8]) -> Result<Session, Option<TableFault>>
+    ensures { Reads text.now result }
 {
     let tree = match read_located(alloc, text) {
         Ok(tree) => tree,
         Err(why) => {
             if why.fault == TreeFault::OutOfMemory {
-                return Err(OTP_MEMORY);
+                return Err(None);
             }
-            *fault = fault_of(&why);
-            return Err(OTP_BAD_TREE);
+            return Err(Some(why));
         }
     };
     match Session::open(alloc, &tree) {
         Ok(session) => Ok(session),
-        Err(_) => Err(OTP_MEMORY),
+        Err(_) => Err(None),
+    }
+}
+
+/// Opens the tree of a file in a handle that is empty.
+fn open_in(alloc: Global, tree: &mut Handle, text: &[u8], fault: &mut CFault) -> u32
+    requires { tree.old.room.held ≡ None }
+    ensures { OpensIn text.now result tree.new.room.held fault.old fault.new }
+{
+    match session_of(alloc, text) {
+        Ok(session) => match Box::new(alloc, session) {
+            Ok(held) => {
+                *tree = Handle::of(held);
+                OTP_OK
+            }
+            Err(_) => OTP_MEMORY,
+        },
+        Err(None) => OTP_MEMORY,
+        Err(Some(why)) => {
+            *fault = fault_of(&why);
+            OTP_BAD_TREE
+        }
     }
 }
 
@@ -66,22 +94,14 @@ fn session_of(alloc: Global, text: &[u8], fault: &mut CFault) -> Result<Session,
 pub extern "C" fn otp_open(alloc: Global, tree: &mut Handle, text: &[u8], fault: &mut CFault) -> u32
     ensures full { is_some tree.old.room.held ≡ true → result ≡ OTP_OPEN }
     ensures same { is_some tree.old.room.held ≡ true → tree.new.room.held ≡ tree.old.room.held }
-    ensures opened { result ≡ OTP_OK → is_some tree.new.room.held ≡ true }
+    ensures unsaid { is_some tree.old.room.held ≡ true → fault.new ≡ fault.old }
+    ensures opens { tree.old.room.held ≡ None → OpensIn text.now result tree.new.room.held fault.old fault.new }
 {
     if let Some(held) = tree.take(alloc) {
         *tree = Handle::of(held);
         return OTP_OPEN;
     }
-    match session_of(alloc, text, fault) {
-        Ok(session) => match Box::new(alloc, session) {
-            Ok(held) => {
-                *tree = Handle::of(held);
-                OTP_OK
-            }
-            Err(_) => OTP_MEMORY,
-        },
-        Err(status) => status,
-    }
+    open_in(alloc, tree, text, fault)
 }
 
 /// Frees the tree, and leaves the handle empty. An empty handle stays empty.
@@ -109,6 +129,7 @@ fn next(session: &mut Session, out: &mut COrder) -> u32
 #[unsafe(no_mangle)]
 pub extern "C" fn otp_next(alloc: Global, tree: &mut Handle, order: &mut COrder) -> u32
     ensures next { OnTree tree.old.room.held tree.new.room.held (HandsOut result order.old order.new) }
+    ensures unsaid { tree.old.room.held ≡ None → order.new ≡ order.old }
     ensures closed { IsTold tree.old.room.held result }
     ensures kept { IsKept tree.old.room.held tree.new.room.held }
 {
@@ -120,7 +141,9 @@ pub extern "C" fn otp_next(alloc: Global, tree: &mut Handle, order: &mut COrder)
     status
 }
 
-fn read_answer(session: &Session, out: &mut CAnswer) -> u32 {
+fn read_answer(session: &Session, out: &mut CAnswer) -> u32
+    ensures { Says ShowsAnswer session.now.answer result out.old out.new }
+{
     match &session.answer {
         None => OTP_NONE,
         Some(answered) => {
@@ -133,6 +156,8 @@ fn read_answer(session: &Session, out: &mut CAnswer) -> u32 {
 /// The answer that the last reply told of.
 #[unsafe(no_mangle)]
 pub extern "C" fn otp_answer_of(alloc: Global, tree: &mut Handle, out: &mut CAnswer) -> u32
+    ensures says { OnTree tree.old.room.held tree.new.room.held (Reading (λ session. Says ShowsAnswer session.answer result out.old out.new)) }
+    ensures unsaid { tree.old.room.held ≡ None → out.new ≡ out.old }
     ensures closed { IsTold tree.old.room.held result }
     ensures kept { IsKept tree.old.room.held tree.new.room.held }
 {
@@ -144,17 +169,27 @@ pub extern "C" fn otp_answer_of(alloc: Global, tree: &mut Handle, out: &mut CAns
     status
 }
 
-fn read_line(session: &Session, index: usize, out: &mut CLine) -> u32 {
+/// The line of this index, of an answer that has lines.
+fn line_in(session: &Session, index: usize) -> Option<ChildLine>
+    ensures { result ≡ line_in index session.now.answer }
+{
     let Some(answered) = &session.answer else {
-        return OTP_NONE;
+        return None;
     };
     let Reply::Which(lines) = &answered.reply else {
-        return OTP_NONE;
+        return None;
     };
-    match lines.as_slice().get(index) {
+    let line = lines.as_slice().get(index)?;
+    Some(*line)
+}
+
+fn read_line(session: &Session, index: usize, out: &mut CLine) -> u32
+    ensures { Says ShowsLine (line_in index session.now.answer) result out.old out.new }
+{
+    match line_in(session, index) {
         None => OTP_NONE,
         Some(line) => {
-            *out = line_out(line);
+            *out = line_out(&line);
             OTP_OK
         }
     }
@@ -168,6 +203,8 @@ pub extern "C" fn otp_answer_line(
     index: u32,
     out: &mut CLine,
 ) -> u32
+    ensures says { OnTree tree.old.room.held tree.new.room.held (Reading (λ session. Says ShowsLine (line_in index session.answer) result out.old out.new)) }
+    ensures unsaid { tree.old.room.held ≡ None → out.new ≡ out.old }
     ensures closed { IsTold tree.old.room.held result }
     ensures kept { IsKept tree.old.room.held tree.new.room.held }
 {
@@ -179,20 +216,36 @@ pub extern "C" fn otp_answer_line(
     status
 }
 
-fn read_spec(session: &Session, out: &mut CSpec) -> u32 {
+/// The specification of an answer that is one.
+fn spec_in(session: &Session) -> Option<ChildSpec>
+    ensures { result ≡ spec_in session.now.answer }
+{
     let Some(answered) = &session.answer else {
-        return OTP_NONE;
+        return None;
     };
     let Reply::Spec(spec) = &answered.reply else {
-        return OTP_NONE;
+        return None;
     };
-    *out = spec_out(spec);
-    OTP_OK
+    Some(*spec)
+}
+
+fn read_spec(session: &Session, out: &mut CSpec) -> u32
+    ensures { Says ShowsSpec (spec_in session.now.answer) result out.old out.new }
+{
+    match spec_in(session) {
+        None => OTP_NONE,
+        Some(spec) => {
+            *out = spec_out(&spec);
+            OTP_OK
+        }
+    }
 }
 
 /// The specification of that answer, if it is one of get_childspec.
 #[unsafe(no_mangle)]
 pub extern "C" fn otp_answer_spec(alloc: Global, tree: &mut Handle, out: &mut CSpec) -> u32
+    ensures says { OnTree tree.old.room.held tree.new.room.held (Reading (λ session. Says ShowsSpec (spec_in session.answer) result out.old out.new)) }
+    ensures unsaid { tree.old.room.held ≡ None → out.new ≡ out.old }
     ensures closed { IsTold tree.old.room.held result }
     ensures kept { IsKept tree.old.room.held tree.new.room.held }
 {
@@ -207,6 +260,8 @@ pub extern "C" fn otp_answer_spec(alloc: Global, tree: &mut Handle, out: &mut CS
 /// When the clock has to be read again: OTP_NONE where never.
 #[unsafe(no_mangle)]
 pub extern "C" fn otp_deadline(alloc: Global, tree: &mut Handle, out: &mut u64) -> u32
+    ensures says { OnTree tree.old.room.held tree.new.room.held (Reading (λ session. Says (λ deadline told. told ≡ deadline) (least_deadline session.driver.members) result out.old out.new)) }
+    ensures unsaid { tree.old.room.held ≡ None → out.new ≡ out.old }
     ensures closed { IsTold tree.old.room.held result }
     ensures kept { IsKept tree.old.room.held tree.new.room.held }
 {
@@ -227,6 +282,8 @@ pub extern "C" fn otp_deadline(alloc: Global, tree: &mut Handle, out: &mut u64) 
 /// How many supervisors the tree has.
 #[unsafe(no_mangle)]
 pub extern "C" fn otp_supervisors(alloc: Global, tree: &mut Handle, out: &mut u32) -> u32
+    ensures says { OnTree tree.old.room.held tree.new.room.held (Reading (λ session. (result ≡ OTP_OK) × (out.new ≡ min (length session.driver.members) MAX_TABLES))) }
+    ensures unsaid { tree.old.room.held ≡ None → out.new ≡ out.old }
     ensures closed { IsTold tree.old.room.held result }
     ensures kept { IsKept tree.old.room.held tree.new.room.held }
 {
@@ -239,13 +296,43 @@ pub extern "C" fn otp_supervisors(alloc: Global, tree: &mut Handle, out: &mut u3
     OTP_OK
 }
 
-fn read_supervisor(session: &Session, place: usize, out: &mut CSupervisor) -> u32 {
-    match supervisor_out(&session.driver, place) {
+fn write_supervisor(
+    supervisor: &Supervisor,
+    link: &Link,
+    reading: u64,
+    out: &mut CSupervisor,
+) -> u32
+    ensures { SaysSupervisor (Some supervisor.now) (Some link.now) reading result out.old out.new }
+{
+    *out = supervisor_out(supervisor, link, reading);
+    OTP_OK
+}
+
+fn read_linked(
+    supervisor: &Supervisor,
+    link: Option<&Link>,
+    reading: u64,
+    out: &mut CSupervisor,
+) -> u32
+    ensures { SaysSupervisor (Some supervisor.now) (option_map (λ l. l.now) link.entry) reading result out.old out.new }
+{
+    match link {
         None => OTP_NO_SUPERVISOR,
-        Some(found) => {
-            *out = found;
-            OTP_OK
-        }
+        Some(link) => write_supervisor(supervisor, link, reading, out),
+    }
+}
+
+fn read_supervisor(session: &Session, place: usize, out: &mut CSupervisor) -> u32
+    ensures { SaysSupervisor (slice_get session.now.driver.members place) (slice_get session.now.driver.links place) session.now.driver.reading result out.old out.new }
+{
+    match session.driver.supervisors().get(place) {
+        None => OTP_NO_SUPERVISOR,
+        Some(supervisor) => read_linked(
+            supervisor,
+            session.driver.links().get(place),
+            session.driver.reading(),
+            out,
+        ),
     }
 }
 
@@ -257,6 +344,8 @@ pub extern "C" fn otp_look(
     supervisor: u32,
     out: &mut CSupervisor,
 ) -> u32
+    ensures says { OnTree tree.old.room.held tree.new.room.held (Reading (λ session. SaysSupervisor (slice_get session.driver.members supervisor) (slice_get session.driver.links supervisor) session.driver.reading result out.old out.new)) }
+    ensures unsaid { tree.old.room.held ≡ None → out.new ≡ out.old }
     ensures closed { IsTold tree.old.room.held result }
     ensures kept { IsKept tree.old.room.held tree.new.room.held }
 {
@@ -268,17 +357,25 @@ pub extern "C" fn otp_look(
     status
 }
 
-fn read_child(session: &Session, place: usize, index: usize, out: &mut CChild) -> u32 {
-    if place >= session.driver.supervisors().len() {
-        return OTP_NO_SUPERVISOR;
-    }
-    match child_out(&session.driver, place, index) {
+fn read_row(driver: &Driver, place: usize, row: Option<&Row>, out: &mut CChild) -> u32
+    ensures { SaysRow driver.now.links place (option_map (λ r. r.now) row.entry) result out.old out.new }
+{
+    match row {
         None => OTP_NONE,
-        Some(found) => {
-            *out = found;
+        Some(row) => {
+            *out = row_out(driver, place, row);
             OTP_OK
         }
     }
+}
+
+fn read_child(session: &Session, place: usize, index: usize, out: &mut CChild) -> u32
+    ensures { SaysChild session.now.driver.links place index (slice_get session.now.driver.members place) result out.old out.new }
+{
+    let Some(supervisor) = session.driver.supervisors().get(place) else {
+        return OTP_NO_SUPERVISOR;
+    };
+    read_row(&session.driver, place, supervisor.rows().get(index), out)
 }
 
 /// A child of a supervisor as it stands.
@@ -290,6 +387,8 @@ pub extern "C" fn otp_look_child(
     index: u32,
     out: &mut CChild,
 ) -> u32
+    ensures says { OnTree tree.old.room.held tree.new.room.held (Reading (λ session. SaysChild session.driver.links supervisor index (slice_get session.driver.members supervisor) result out.old out.new)) }
+    ensures unsaid { tree.old.room.held ≡ None → out.new ≡ out.old }
     ensures closed { IsTold tree.old.room.held result }
     ensures kept { IsKept tree.old.room.held tree.new.room.held }
 {
@@ -303,7 +402,9 @@ pub extern "C" fn otp_look_child(
 
 /// A limit of the library; 0 where there is none of this number.
 #[unsafe(no_mangle)]
-pub extern "C" fn otp_limit(kind: u32) -> u64 {
+pub extern "C" fn otp_limit(kind: u32) -> u64
+    ensures { result ≡ limit_of kind }
+{
     match kind {
         1 => NAME_SIZE as u64,
         2 => TEXT_SIZE as u64,

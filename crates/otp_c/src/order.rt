@@ -1,7 +1,7 @@
 //! An order as a struct of C.
 
 ghost use Rattle.std.specs.Prelude.{◌≡◌};
-ghost use Rattle.otp_c.specs.Orders.{ShowsDeadline, ShowsEnding, ShowsOrder, ShowsTask};
+ghost use Rattle.otp_c.specs.Orders.{ShowsDeadline, ShowsEnding, ShowsOrder, ShowsReasonText, ShowsTask};
 ghost use Rattle.otp_c.specs.Words.{cause_number, reason_number};
 
 use crate::structs::COrder;
@@ -71,6 +71,7 @@ fn of_end(supervisor: u32, reason: &Reason, ending: &Ending) -> COrder
     ensures kind { result.kind ≡ 6 }
     ensures supervisor { result.supervisor ≡ supervisor }
     ensures reason { result.reason ≡ reason_number reason.now }
+    ensures text { ShowsReasonText reason.now result.text }
     ensures cause { result.cause ≡ cause_number ending.now }
     ensures ending { ShowsEnding ending.now result }
 {

@@ -1,5 +1,10 @@
 //! A child's specification as a struct of C, and back.
 
+ghost use Rattle.std.specs.Prelude.{◌≡◌, MatchOption, Ok, Err};
+ghost use Rattle.otp_c.specs.Shown.{IsOutside, ModulesSaid, NameSaid, ShowsModules, ShowsSpec, SpecSaid};
+ghost use Rattle.otp_c.specs.Words.{flag_number};
+ghost use Rattle.otp_c.specs.declared.status.TheConstants.{OTP_BAD_KIND};
+
 use crate::status::{OTP_BAD_KIND, OTP_BAD_NAME};
 use crate::structs::{CName, CSpec};
 use crate::words::{
@@ -13,7 +18,9 @@ use otp_spec::{ChildSpec, Modules};
 pub const DYNAMIC: u32 = 5;
 
 /// How many modules there are, and their names.
-pub fn modules_out(modules: &Modules) -> (u32, [CName; 4]) {
+pub fn modules_out(modules: &Modules) -> (u32, [CName; 4])
+    ensures { ShowsModules modules.now result.0 result.1 }
+{
     let none = no_name();
     match modules {
         Modules::Dynamic => (DYNAMIC, [none, none, none, none]),
@@ -36,7 +43,9 @@ pub fn modules_out(modules: &Modules) -> (u32, [CName; 4]) {
 }
 
 /// A specification as a struct.
-pub fn spec_out(spec: &ChildSpec) -> CSpec {
+pub fn spec_out(spec: &ChildSpec) -> CSpec
+    ensures { ShowsSpec spec.now result }
+{
     let (modules, module) = modules_out(&spec.modules);
     CSpec {
         restart: restart_number(spec.restart),
@@ -52,7 +61,9 @@ pub fn spec_out(spec: &ChildSpec) -> CSpec {
 }
 
 /// The name of these bytes, or the status that says why there is none.
-fn named(name: &CName) -> Result<Name, u32> {
+pub fn named(name: &CName) -> Result<Name, u32>
+    ensures { NameSaid name.now result }
+{
     match name_in(name) {
         Some(name) => Ok(name),
         None => Err(OTP_BAD_NAME),
@@ -60,14 +71,18 @@ fn named(name: &CName) -> Result<Name, u32> {
 }
 
 /// What a word's number stands for, or the status that says that it stands for nothing.
-fn known<T: Copy>(word: Option<T>) -> Result<T, u32> {
+fn known<T: Copy>(word: Option<T>) -> Result<T, u32>
+    ensures { MatchOption word (result ≡ Err OTP_BAD_KIND) (λ it. result ≡ Ok it) }
+{
     match word {
         Some(word) => Ok(word),
         None => Err(OTP_BAD_KIND),
     }
 }
 
-fn modules_in(modules: u32, module: &[CName; 4]) -> Result<Modules, u32> {
+fn modules_in(modules: u32, module: &[CName; 4]) -> Result<Modules, u32>
+    ensures { ModulesSaid modules module.now result }
+{
     match modules {
         0 => Ok(Modules::None),
         1 => Ok(Modules::One(named(&module[0])?)),
@@ -84,7 +99,9 @@ fn modules_in(modules: u32, module: &[CName; 4]) -> Result<Modules, u32> {
     }
 }
 
-fn significant_in(significant: u32) -> Option<bool> {
+fn significant_in(significant: u32) -> Option<bool>
+    ensures { MatchOption result (IsOutside 0 1 significant) (λ said. significant ≡ flag_number said) }
+{
     match significant {
         0 => Some(false),
         1 => Some(true),
@@ -93,7 +110,9 @@ fn significant_in(significant: u32) -> Option<bool> {
 }
 
 /// The specification that a struct says, lawful or not; or the status that says why it says none.
-pub fn spec_in(spec: &CSpec) -> Result<ChildSpec, u32> {
+pub fn spec_in(spec: &CSpec) -> Result<ChildSpec, u32>
+    ensures { SpecSaid spec.now result }
+{
     Ok(ChildSpec {
         id: named(&spec.id)?,
         start: named(&spec.start)?,

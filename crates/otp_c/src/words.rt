@@ -1,8 +1,10 @@
 //! Words of the supervisor as numbers, and back. The numbers are those of `otp.h`; 0 is none of them.
 
-ghost use Rattle.std.specs.Prelude.{◌≡◌};
-ghost use Rattle.otp_c.specs.Orders.{ShowsName, ShowsSome};
-ghost use Rattle.otp_c.specs.Words.{auto_shutdown_number, cause_number, child_type_number, reason_number, restart_number, shutdown_number, strategy_number};
+ghost use Rattle.std.specs.Prelude.{◌≡◌, ◌≤◌, MatchOption, SomeIff};
+ghost use Rattle.otp_c.specs.Orders.{ShowsName, ShowsReasonText, ShowsSome, ShowsText};
+ghost use Rattle.otp_c.specs.Shown.{IsOutside, SaysShutdown, name_said, shutdown_time};
+ghost use Rattle.otp_c.specs.Told.{ReasonSaid};
+ghost use Rattle.otp_c.specs.Words.{auto_shutdown_number, cause_number, child_type_number, flag_number, reason_number, restart_number, shutdown_number, strategy_number};
 
 use crate::structs::{CName, CText};
 use otp_reason::{Name, Reason, Text};
@@ -20,7 +22,9 @@ pub fn no_name() -> CName
 }
 
 /// No text.
-pub fn no_text() -> CText {
+pub fn no_text() -> CText
+    ensures { result.len ≡ 0 }
+{
     CText {
         len: 0,
         bytes: [0; 64],
@@ -54,19 +58,25 @@ pub fn some_name_out(name: &Option<Name>) -> CName
 }
 
 /// The bytes of a text, of which there are 64 at the most.
-pub fn text_out(text: &Text) -> CText {
+pub fn text_out(text: &Text) -> CText
+    ensures { ShowsText text.now result }
+{
     let shown = text.as_bytes();
+    if shown.len() > 64 {
+        return no_text();
+    }
     let mut bytes = [0; 64];
-    let len = shown.len().min(64);
-    bytes[..len].copy_from_slice(&shown[..len]);
+    bytes[..shown.len()].copy_from_slice(shown);
     CText {
-        len: len as u8,
+        len: shown.len() as u8,
         bytes,
     }
 }
 
 /// The name of these bytes, whatever they are; `None` where there are more than 32.
-pub fn name_in(name: &CName) -> Option<Name> {
+pub fn name_in(name: &CName) -> Option<Name>
+    ensures { SomeIff result (name.now.len ≤ 32) (name_said name.now) }
+{
     let len = name.len as usize;
     if len > 32 {
         return None;
@@ -90,7 +100,9 @@ pub fn reason_number(reason: &Reason) -> u32
 }
 
 /// Its text, if it has one.
-pub fn reason_text(reason: &Reason) -> CText {
+pub fn reason_text(reason: &Reason) -> CText
+    ensures { ShowsReasonText reason.now result }
+{
     match reason {
         Reason::ShutdownWith(text) | Reason::Error(text) => text_out(text),
         _ => no_text(),
@@ -107,7 +119,9 @@ pub enum NoReason {
 }
 
 /// The reason that has this number, and this text where it has one.
-pub fn reason_in(reason: u32, text: &[u8]) -> Result<Reason, NoReason> {
+pub fn reason_in(reason: u32, text: &[u8]) -> Result<Reason, NoReason>
+    ensures { ReasonSaid reason text.now result }
+{
     match reason {
         1 => Ok(Reason::Normal),
         2 => Ok(Reason::Shutdown),
@@ -148,7 +162,9 @@ pub fn restart_number(restart: Restart) -> u32
     }
 }
 
-pub fn restart_in(restart: u32) -> Option<Restart> {
+pub fn restart_in(restart: u32) -> Option<Restart>
+    ensures { MatchOption result (IsOutside 1 3 restart) (λ said. restart ≡ restart_number said) }
+{
     match restart {
         1 => Some(Restart::Permanent),
         2 => Some(Restart::Transient),
@@ -169,14 +185,18 @@ pub fn shutdown_number(shutdown: Shutdown) -> u32
 }
 
 /// The milliseconds that it has; 0 where it has no such time.
-pub fn shutdown_ms(shutdown: Shutdown) -> u32 {
+pub fn shutdown_ms(shutdown: Shutdown) -> u32
+    ensures { result ≡ shutdown_time shutdown }
+{
     match shutdown {
         Shutdown::Milliseconds(time) => time,
         Shutdown::BrutalKill | Shutdown::Infinity => 0,
     }
 }
 
-pub fn shutdown_in(shutdown: u32, time: u32) -> Option<Shutdown> {
+pub fn shutdown_in(shutdown: u32, time: u32) -> Option<Shutdown>
+    ensures { MatchOption result (IsOutside 1 3 shutdown) (λ said. SaysShutdown shutdown time said) }
+{
     match shutdown {
         1 => Some(Shutdown::BrutalKill),
         2 => Some(Shutdown::Milliseconds(time)),
@@ -194,7 +214,9 @@ pub fn child_type_number(kind: ChildType) -> u32
     }
 }
 
-pub fn child_type_in(kind: u32) -> Option<ChildType> {
+pub fn child_type_in(kind: u32) -> Option<ChildType>
+    ensures { MatchOption result (IsOutside 1 2 kind) (λ said. kind ≡ child_type_number said) }
+{
     match kind {
         1 => Some(ChildType::Worker),
         2 => Some(ChildType::Supervisor),
@@ -224,6 +246,8 @@ pub fn auto_shutdown_number(auto_shutdown: AutoShutdown) -> u32
 }
 
 /// 1 or 0.
-pub fn flag(is_so: bool) -> u32 {
+pub fn flag(is_so: bool) -> u32
+    ensures { result ≡ flag_number is_so }
+{
     if is_so { 1 } else { 0 }
 }

@@ -1,3 +1,6 @@
+pub mod Answered
+pub mod Kept
 pub mod Plantings
+pub mod Linkings
 pub mod Steps
 pub mod Tellings

@@ -1,5 +1,5 @@
 -- A tree of supervisors that is driven, and how it goes on (own).
-use Rattle.std.specs.Prelude.{◌≡◌, ℕ, ◌+◌, ◌<◌, ◌⊎◌, Bool, true, false, List, [], ◌∷◌, Option, Some, None, is_some, ◌||◌, length, map, slice_get, slice_index_or, slice_set, if◌then◌else◌, position}
+use Rattle.std.specs.Prelude.{◌≡◌, ℕ, ◌+◌, ◌<◌, ◌≤◌, ◌⊎◌, Bool, true, false, List, [], ◌∷◌, Option, Some, None, is_some, ◌||◌, length, map, slice_get, slice_index_or, slice_set, if◌then◌else◌, position}
 use Rattle.otp_reason.specs.declared.note.Note.{Note}
 use Rattle.otp_reason.specs.declared.note.Note.TheVariants as note
 use Rattle.otp_rules.specs.declared.call.Call.{Call}
@@ -8,11 +8,14 @@ use Rattle.otp_rules.specs.declared.event.Item.TheVariants as item
 use Rattle.otp_rules.specs.declared.event.Kind.{Kind}
 use Rattle.otp_rules.specs.declared.event.Kind.TheVariants as kind
 use Rattle.otp_rules.specs.Next.{earlier, next_deadline, next_kind}
+use Rattle.otp_spec.specs.declared.limits.TheConstants.{MAX_READING}
+use Rattle.otp_driver.specs.declared.fault.DriveFault.{DriveFault}
+use Rattle.otp_driver.specs.declared.fault.DriveFault.TheVariants.{IsNested, NoSupervisor, Spent}
 use Rattle.otp_driver.specs.declared.link.Link.{Link}
 use Rattle.otp_driver.specs.declared.route.Route.{Route}
 use Rattle.otp_driver.specs.declared.route.Route.TheVariants.{Outside, Start, Stop, Tell}
 use Rattle.otp_driver.specs.Links.{asked, begun, holds_process, runs, told}
-use Rattle.otp_driver.specs.Members.{Happens, Member, has_order, passed, state_in}
+use Rattle.otp_driver.specs.Members.{Happens, IsRefused, Member, has_order, passed, state_in}
 use Rattle.otp_driver.specs.Routes.{nested_of, route_of, row_at}
 
 -- a tree: its supervisors by the numbers of their tables, whose child each is, the last reading of the clock, the last process
@@ -42,6 +45,12 @@ pub record Occurs (place : ℕ) (k : Kind) (old new : Driven) : Type 0 where
   pub at : IsAt old.members place before
   pub happens : Happens old.reading old.last k before after last
   pub new_is : new ≡ record old { members = slice_set old.members place after; last = last }
+
+-- the supervisor at this place takes no event now, for this
+pub record Refuses (place : ℕ) (why : DriveFault) (t : Driven) : Type 0 where
+  pub member : Member
+  pub at : IsAt t.members place member
+  pub is : IsRefused t.last member why
 
 abbrev pub with_link : ℕ → Link → Driven → Driven
 with_link place link t = record t { links = slice_set t.links place link }
@@ -158,6 +167,16 @@ process_of (note.Up p) = p
 process_of (note.Ignored p) = p
 process_of (note.Failed p _) = p
 process_of (note.Exit p _) = p
+
+-- why a note isn't taken
+abbrev pub RefusesNote : ℕ → Note → DriveFault → Driven → Type 0
+RefusesNote place note why t =
+    ((why ≡ NoSupervisor) × (length t.members ≤ place))
+    ⊎ (((why ≡ IsNested) × (place < length t.members) × (is_nested t place (process_of note) ≡ true)) ⊎ Refuses place why t)
+
+-- why a call isn't taken: beside what refuses any event the numbers of calls may be used up
+abbrev pub RefusesCall : ℕ → DriveFault → Driven → Type 0
+RefusesCall place why t = ((why ≡ NoSupervisor) × (length t.members ≤ place)) ⊎ (((why ≡ Spent) × (MAX_READING ≤ t.calls)) ⊎ Refuses place why t)
 
 -- a call comes under this number, the next of the tree
 abbrev pub Called : ℕ → ℕ → Call → Driven → Driven → Type 0

@@ -1,5 +1,6 @@
 pub mod Links
 pub mod Members
+pub mod Replies
 pub mod MemberInside
 pub mod Routes
 pub mod Orders

@@ -12,6 +12,10 @@ use Rattle.otp_table.specs.declared.row.Row.{Row}
 use Rattle.otp_table.specs.Rows.{has_id, is_supervisor}
 use Rattle.otp_driver.specs.declared.link.Link.{Link}
 
+-- a supervisor that was not started yet: the child of this parent that has this specification
+abbrev pub first_link : ℕ → Option ChildSpec → Link
+first_link parent child = record { parent = parent; child = child; process = None; is_up = false; is_stopping = false; starts = 0; ended = None }
+
 -- started under this number: not up yet, and nobody wants it to shut down
 abbrev pub begun : ℕ → Link → Link
 begun process link = record link { process = Some process; is_up = false; is_stopping = false; starts = min (link.starts + 1) (2 ^ 64 - 1) }

@@ -2,9 +2,12 @@
 use Rattle.std.specs.Prelude.{◌≡◌}
 use Rattle.otp_driver.specs.declared.supervisor.Supervisor.TheInside.{Inside}
 use Rattle.otp_driver.specs.Members.{Member}
+use Rattle.otp_driver.specs.Replies.{AreAnswered}
 
 abbrev pub member_of : Inside → Member
 member_of s = record { base = s.core.base; history = s.core.history; effects = s.core.effects; taken = s.taken }
 
 pub record IsMember (s : Inside) : Type 0 where
   pub flags : s.flags ≡ s.core.base.flags
+  -- what the orders tell of was answered since the last cut
+  pub answered : AreAnswered s.core

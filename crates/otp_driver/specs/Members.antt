@@ -1,13 +1,20 @@
 -- A supervisor of a tree that is driven, with its events and its orders, and how they go on (own).
-use Rattle.std.specs.Prelude.{◌≡◌, ℕ, ◌+◌, ◌<◌, Bool, List, [], ◌∷◌, ◌++◌, Option, Some, None, length, nat_lt, if◌then◌else◌}
+use Rattle.std.specs.Prelude.{◌≡◌, ℕ, ◌+◌, ◌<◌, ◌≤◌, ◌⊎◌, Bool, List, [], ◌∷◌, ◌++◌, Option, Some, None, length, nat_lt, if◌then◌else◌}
+use Rattle.otp_core.specs.View.{View, state_of}
+use Rattle.otp_core.specs.declared.cut.TheConstants.{MAX_EVENTS_IN_ALL, MAX_KEPT_LINES}
+use Rattle.otp_driver.specs.declared.fault.DriveFault.{DriveFault}
+use Rattle.otp_driver.specs.declared.fault.DriveFault.TheVariants.{OrdersWait, OutOfMemory, Spent}
 use Rattle.otp_rules.specs.declared.event.Effect.{Effect}
 use Rattle.otp_rules.specs.declared.event.Event.{Event}
 use Rattle.otp_rules.specs.declared.event.Kind.{Kind}
+use Rattle.otp_rules.specs.Counts.{lines_told}
+use Rattle.otp_rules.specs.Needs.{last_number}
 use Rattle.otp_rules.specs.Run.{empty_state, state_after}
 use Rattle.otp_rules.specs.State.{State}
 use Rattle.otp_rules.specs.Step.{step}
 use Rattle.otp_spec.specs.declared.child.ChildSpec.{ChildSpec}
 use Rattle.otp_spec.specs.declared.flags.SupFlags.{SupFlags}
+use Rattle.otp_spec.specs.declared.limits.TheConstants.{MAX_EVENTS, MAX_READING}
 
 -- a supervisor: what it was before any event, all its events, the orders that it gave, but for those that were forgotten since all
 -- had been taken, and how many of them, the first, were taken
@@ -39,6 +46,31 @@ Happens reading last k old new after =
       history = old.history ++ record { reading = reading; number = number; kind = k } ∷ [];
       effects = old.effects ++ (step (state_in old) (record { reading = reading; number = number; kind = k })).orders;
     })
+
+-- the same of a core
+abbrev pub CoreHappens : ℕ → ℕ → Kind → View → View → ℕ → Type 0
+CoreHappens reading last kind old new after =
+    (number : Option ℕ) × Counts number last after
+    × (new.base ≡ old.base)
+    × (new.history ≡ old.history ++ record { reading = reading; number = number; kind = kind } ∷ [])
+    × (new.effects ≡ old.effects ++ (step (state_of old) (record { reading = reading; number = number; kind = kind })).orders)
+
+-- there were as many events, or the answers list as many children, as a supervisor keeps while orders wait
+abbrev pub IsMany : State → List Event → Type 0
+IsMany base history = (MAX_EVENTS ≤ length history) ⊎ (MAX_KEPT_LINES ≤ lines_told (state_after base history).replies)
+
+-- no room could be made for an event more: orders wait to be taken, or there were as many events as there may be in all
+abbrev pub HasNoRoom : State → List Event → List Effect → DriveFault → Type 0
+HasNoRoom base history effects why =
+    ((why ≡ OrdersWait) × ¬ (effects ≡ []) × IsMany base history) ⊎ ((why ≡ Spent) × (MAX_EVENTS_IN_ALL < length history))
+
+-- the numbers of processes are used up: the last one of the tree, or one of the supervisor that is greater than it
+abbrev pub IsSpent : ℕ → Member → Type 0
+IsSpent last m = (MAX_READING ≤ last) ⊎ (last < last_number m.history)
+
+-- why a supervisor takes no event: memory was refused, or one of these
+abbrev pub IsRefused : ℕ → Member → DriveFault → Type 0
+IsRefused last m why = (why ≡ OutOfMemory) ⊎ (((why ≡ Spent) × IsSpent last m) ⊎ HasNoRoom m.base m.history m.effects why)
 
 -- an order was not taken
 abbrev pub has_order : Member → Bool

@@ -1,14 +1,18 @@
 -- Orders that are taken one by one (own).
-use Rattle.std.specs.Prelude.{◌≡◌, Option, Some, None, Result, Ok, Err}
+use Rattle.std.specs.Prelude.{◌≡◌, ℕ, Option, Some, None, Result, Ok, Err, slice_get}
+use Rattle.otp_rules.specs.declared.call.Answered.{Answered}
 use Rattle.otp_rules.specs.declared.event.Effect.{Effect}
+use Rattle.otp_rules.specs.declared.event.Effect.TheVariants as effect
 use Rattle.otp_driver.specs.declared.fault.DriveFault.{DriveFault}
 use Rattle.otp_driver.specs.declared.order.Order.{Order}
+use Rattle.otp_driver.specs.declared.order.What.{What}
+use Rattle.otp_driver.specs.declared.order.What.TheVariants as what
 use Rattle.otp_driver.specs.declared.route.Route.TheVariants.{Outside}
 use Rattle.otp_driver.specs.declared.session.Session.{Session}
 use Rattle.otp_driver.specs.Driven.{Driven, GoesOn, IsAt, IsIdle, IsNext, Takes}
 use Rattle.otp_driver.specs.Members.{Member, state_in}
 use Rattle.otp_driver.specs.Orders.{what_of}
-use Rattle.std.specs.Prelude.{ℕ, slice_get}
+use Rattle.otp_driver.specs.Replies.{IsAnswerTo}
 
 -- the order is what the supervisor at this place orders next
 pub record IsToldAt (place : ℕ) (order : Order) (t : Driven) : Type 0 where
@@ -19,19 +23,31 @@ pub record IsToldAt (place : ℕ) (order : Order) (t : Driven) : Type 0 where
   pub supervisor : order.supervisor ≡ place
   pub what_is : order.what ≡ what_of (state_in member).rows effect
 
+-- an order that tells of an answer is the next one of its supervisor
+abbrev pub TellsReply : Order → Driven → Type 0
+TellsReply order t =
+    (m : Member) → IsAt t.members order.supervisor m → (call : ℕ) → order.what ≡ what.Reply call
+    → slice_get m.effects m.taken ≡ Some (effect.Reply call)
+
+-- where an order tells that a call was answered, the answer is kept from then on; else the last one stays
+abbrev pub KeepsOf : What → ℕ → Driven → Option Answered → Option Answered → Type 0
+KeepsOf (what.Reply call) place t old new = (m : Member) × IsAt t.members place m × IsAnswerTo call (state_in m).replies new
+KeepsOf _ place t old new = new ≡ old
+
 -- the tree goes on by itself until an order for the outside is next; that is told, and taken by that
-pub record Told (order : Order) (old new : Driven) : Type 0 where
+pub record Told (order : Order) (old new : Session) : Type 0 where
   pub mid : Driven
-  pub goes_on : GoesOn old mid
+  pub goes_on : GoesOn old.driver mid
   pub place : ℕ
   pub supervisor : order.supervisor ≡ place
   pub effect : Effect
   pub next : IsNext mid place effect Outside
   pub what_is : order.what ≡ what_of (state_in next.member).rows effect
-  pub takes : Takes place mid new
+  pub takes : Takes place mid new.driver
+  pub keeps : KeepsOf order.what order.supervisor mid old.answer new.answer
 
 -- an order, or none, since nothing is left to do; a refusal tells none, and takes none
 abbrev pub NextTold : Result (Option Order) DriveFault → Session → Session → Type 0
-NextTold (Ok (Some order)) old new = Told order old.driver new.driver
+NextTold (Ok (Some order)) old new = Told order old new
 NextTold (Ok None) old new = GoesOn old.driver new.driver × IsIdle new.driver × (new.answer ≡ old.answer)
 NextTold (Err _) old new = GoesOn old.driver new.driver × (new.answer ≡ old.answer)

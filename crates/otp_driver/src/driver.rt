@@ -4,7 +4,7 @@ ghost use Rattle.std.specs.Prelude.{Err, true, false, ◌≡◌, ◌<◌, ◌≤
 ghost use Rattle.otp_rules.specs.declared.event.Item.TheVariants as item;
 ghost use Rattle.otp_rules.specs.declared.event.Kind.TheVariants as kind;
 ghost use Rattle.otp_spec.specs.declared.limits.TheConstants.{MAX_READING};
-ghost use Rattle.otp_driver.specs.Driven.{AllTaken, Called, Carried, Does, GoesOn, IsAsked, is_nested, IsNextBy, IsOutside, least_deadline, process_of, Occurs, Relinks, Routed, Stands, Takes, comes_at, with_link};
+ghost use Rattle.otp_driver.specs.Driven.{AllTaken, Called, Carried, Does, GoesOn, IsAsked, is_nested, IsNextBy, IsOutside, least_deadline, process_of, Occurs, Refuses, RefusesCall, RefusesNote, Relinks, Routed, Stands, Takes, comes_at, with_link};
 ghost use Rattle.otp_rules.specs.Next.{earlier};
 ghost use Rattle.otp_driver.specs.declared.fault.DriveFault.TheVariants as fault;
 ghost use Rattle.otp_driver.specs.declared.route.Route.TheVariants as route;
@@ -118,6 +118,7 @@ impl Driver {
         requires { place < length self.old.members }
         ensures ok { OnOk result (Occurs place kind self.old self.new) }
         ensures err { OnErr result (self.new ≡ self.old) }
+        ensures why { IfErr result (λ why. Refuses place why self.old) }
     {
         self.last = self.supervisors[place].happen(self.reading, kind, self.last)?;
         Ok(())
@@ -346,6 +347,7 @@ impl Driver {
         ensures ok { OnOk result (self.new ≡ record self.old { reading = max self.old.reading reading }) }
         ensures err { IfErr result (λ why. (why ≡ fault.BadReading) × (self.new ≡ self.old)) }
         ensures within { OnOk result (reading ≤ MAX_READING) }
+        ensures above { OnErr result (MAX_READING < reading) }
     {
         if reading > MAX_READING {
             return Err(DriveFault::BadReading);
@@ -381,6 +383,7 @@ impl Driver {
         ensures nested { place < length self.old.members → is_nested self.old place (process_of note) ≡ true → result ≡ Err fault.IsNested }
         ensures missing { length self.old.members ≤ place → result ≡ Err fault.NoSupervisor }
         ensures err { OnErr result (self.new ≡ self.old) }
+        ensures why { IfErr result (λ why. RefusesNote place note why self.old) }
     {
         if place >= self.supervisors.len() {
             return Err(DriveFault::NoSupervisor);
@@ -400,6 +403,7 @@ impl Driver {
     pub fn call(&mut self, place: usize, call: Call) -> Result<u64, DriveFault>
         ensures ok { IfOk result (λ number. Called number place call self.old self.new) }
         ensures err { OnErr result (self.new ≡ self.old) }
+        ensures why { IfErr result (λ why. RefusesCall place why self.old) }
     {
         if place >= self.supervisors.len() {
             return Err(DriveFault::NoSupervisor);

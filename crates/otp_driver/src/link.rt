@@ -1,7 +1,7 @@
 //! Whose child each supervisor of a tree is, and how it stands.
 
-ghost use Rattle.std.specs.Prelude.{◌≡◌, None, false, position};
-ghost use Rattle.otp_driver.specs.Links.{asked, begun, holds_process, is_link_of, note_of_end, runs, told};
+ghost use Rattle.std.specs.Prelude.{◌≡◌, position};
+ghost use Rattle.otp_driver.specs.Links.{asked, begun, first_link, holds_process, is_link_of, note_of_end, runs, told};
 
 use otp_reason::{Note, Reason};
 use otp_rules::Ending;
@@ -30,7 +30,7 @@ pub struct Link {
 impl Link {
     /// A supervisor that was not started yet.
     pub(crate) fn new(parent: usize, child: Option<ChildSpec>) -> Self
-        ensures { result ≡ record { parent = parent; child = child; process = None; is_up = false; is_stopping = false; starts = 0; ended = None } }
+        ensures { result ≡ first_link parent child }
     {
         Link {
             parent,

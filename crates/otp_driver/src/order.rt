@@ -1,8 +1,10 @@
 //! Orders as the outside sees them.
 
-ghost use Rattle.std.specs.Prelude.{◌≡◌};
+ghost use Rattle.std.specs.Prelude.{◌≡◌, ℕ};
 ghost use Rattle.otp_driver.specs.Orders.{deadline_in, start_in, task_of, what_of};
 ghost use Rattle.otp_driver.specs.Routes.{row_at};
+ghost use Rattle.otp_driver.specs.declared.order.What.TheVariants as what;
+ghost use Rattle.otp_rules.specs.declared.event.Effect.TheVariants as effect;
 
 use crate::route::{ending_in, row_at};
 use otp_reason::{Name, Reason};
@@ -80,7 +82,8 @@ fn task_of(rows: &[Row], id: &Option<Name>, number: u64) -> Task
 /// What an order says, of a supervisor that has these children.
 #[tactic(auto, unfolding(crate::specs::Orders::what_of))]
 pub(crate) fn what_of(rows: &[Row], order: &Effect) -> What
-    ensures { result ≡ what_of rows.now order.now }
+    ensures what { result ≡ what_of rows.now order.now }
+    ensures reply { (call : ℕ) → result ≡ what.Reply call → order.now ≡ effect.Reply call }
 {
     match order {
         Effect::Start(id, number) => What::Start(task_of(rows, id, *number)),

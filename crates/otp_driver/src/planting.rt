@@ -1,10 +1,10 @@
 //! A tree is opened: its supervisors, each with its link.
 
-ghost use Rattle.std.specs.Prelude.{◌≡◌, ◌<◌, ◌≤◌, ◌++◌, [], ◌∷◌, OnOk, OnErr, IfOk, length};
+ghost use Rattle.std.specs.Prelude.{◌≡◌, ℕ, ◌++◌, [], ◌∷◌, IfOk, IfSome, None, OnOk, Some, length, slice_get};
 ghost use Rattle.otp_rules.specs.declared.event.Kind.TheVariants as kind;
 ghost use Rattle.otp_driver.specs.Driven.{Driven, Occurs};
 ghost use Rattle.otp_driver.specs.Members.{unopened};
-ghost use Rattle.otp_driver.specs.Opened.{AddsTree, IsPlanted, Opens};
+ghost use Rattle.otp_driver.specs.Opened.{AddsLinks, AddsTree, IsPlanted, Opens, nothing};
 
 use crate::driver::Driver;
 use crate::fault::DriveFault;
@@ -16,7 +16,9 @@ use otp_spec::{ChildSpec, SupSpec};
 use std::alloc::{AllocError, Global};
 
 /// The specification of the child that has the tree of this number.
-fn spec_of(supervisor: &SupSpec, nested: &[usize], number: usize) -> Option<ChildSpec> {
+fn spec_of(supervisor: &SupSpec, nested: &[usize], number: usize) -> Option<ChildSpec>
+    ensures { IfSome result (λ spec. (place : ℕ) × (slice_get nested.now number ≡ Some place) × (slice_get supervisor.now.specs place ≡ Some spec)) }
+{
     let place = nested.get(number)?;
     let spec = supervisor.specs().get(*place)?;
     Some(*spec)
@@ -50,18 +52,23 @@ impl Driver {
         link: Link,
         levels: usize,
     ) -> Result<(), AllocError>
-        ensures { OnOk result (AddsTree tree.now self.old self.new) }
+        ensures tree { OnOk result (AddsTree tree.now self.old self.new) }
+        ensures links { OnOk result (AddsLinks tree.now link self.old self.new) }
     {
         // No tree that a file says has more levels.
         let Some(left) = levels.checked_sub(1) else {
             return Err(AllocError);
         };
+        // And each of its trees is a child's.
+        let trees = tree.trees();
+        let children = tree.nested().len();
+        if trees.len() != children {
+            return Err(AllocError);
+        }
         let place = self.supervisors.len();
         let supervisor = supervisor_of(alloc, tree.supervisor())?;
         self.add(supervisor, link)?;
-        let trees = tree.trees();
         for number in 0..trees.len() {
-            // Nor one that is no child's.
             let Some(spec) = spec_of(tree.supervisor(), tree.nested(), number) else {
                 return Err(AllocError);
             };
@@ -70,17 +77,24 @@ impl Driver {
         Ok(())
     }
 
-    /// The tree that a file says, of which no supervisor was opened.
-    fn plant(alloc: Global, tree: &TreeSpec) -> Result<Self, AllocError>
-        ensures { IfOk result (λ driver. IsPlanted tree.now driver) }
+    /// A tree of no supervisor.
+    fn nothing(alloc: Global) -> Self
+        ensures { result ≡ nothing }
     {
-        let mut driver = Driver {
+        Driver {
             supervisors: Vec::new(alloc),
             links: Vec::new(alloc),
             reading: 0,
             last: 0,
             calls: 0,
-        };
+        }
+    }
+
+    /// The tree that a file says, of which no supervisor was opened.
+    fn plant(alloc: Global, tree: &TreeSpec) -> Result<Self, AllocError>
+        ensures { IfOk result (λ driver. IsPlanted tree.now driver) }
+    {
+        let mut driver = Driver::nothing(alloc);
         match driver.add_tree(alloc, tree, Link::new(0, None), MAX_DEPTH) {
             Ok(()) => Ok(driver),
             Err(error) => {

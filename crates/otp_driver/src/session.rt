@@ -1,8 +1,12 @@
 //! A tree with the last answer: for whoever takes orders one by one and reads them as plain values.
 
-ghost use Rattle.std.specs.Prelude.{◌≡◌, ◌<◌, IfOk, IfSome, OnErr, length};
+ghost use Rattle.std.specs.Prelude.{◌≡◌, ◌<◌, IfErr, IfOk, IfSome, None, OnErr, OnOk, Some, length, slice_get};
 ghost use Rattle.otp_driver.specs.Opened.{Opens};
-ghost use Rattle.otp_driver.specs.Sessions.{IsToldAt, NextTold};
+ghost use Rattle.otp_driver.specs.Members.{state_in};
+ghost use Rattle.otp_driver.specs.Replies.{IsAnswerTo};
+ghost use Rattle.otp_driver.specs.Sessions.{IsToldAt, KeepsOf, NextTold, TellsReply};
+ghost use Rattle.otp_driver.specs.declared.fault.DriveFault.TheVariants.{OutOfMemory};
+ghost use Rattle.otp_rules.specs.declared.event.Effect.TheVariants as effect;
 
 use crate::driver::Driver;
 use crate::fault::DriveFault;
@@ -22,7 +26,11 @@ pub struct Session {
 }
 
 /// A copy of what is known of an answer, if it is kept.
-fn copy_answer(supervisor: &Supervisor, call: u64) -> Result<Option<Answered>, DriveFault> {
+fn copy_answer(supervisor: &Supervisor, call: u64) -> Result<Option<Answered>, DriveFault>
+    requires { slice_get supervisor.now.effects supervisor.now.taken ≡ Some (effect.Reply call) }
+    ensures copy { IfOk result (λ answer. IsAnswerTo call (state_in supervisor.now).replies answer) }
+    ensures why { IfErr result (λ why. why ≡ OutOfMemory) }
+{
     match supervisor.reply(call) {
         ReplyAnswer::Kept(reply) => {
             let reply = reply.try_clone()?;
@@ -39,7 +47,8 @@ impl Session {
     ///
     /// [`DriveFault::OutOfMemory`].
     pub fn open(alloc: Global, tree: &TreeSpec) -> Result<Self, DriveFault>
-        ensures { IfOk result (λ session. Opens tree.now session.driver) }
+        ensures tree { IfOk result (λ session. Opens tree.now session.driver) }
+        ensures unanswered { IfOk result (λ session. session.answer ≡ None) }
     {
         let driver = Driver::open(alloc, tree)?;
         Ok(Session {
@@ -51,7 +60,8 @@ impl Session {
     /// The next order of the supervisor at this place.
     fn order_at(&self, place: usize) -> Option<Order>
         requires { place < length self.now.driver.members }
-        ensures { IfSome result (λ order. IsToldAt place order self.now.driver) }
+        ensures told { IfSome result (λ order. IsToldAt place order self.now.driver) }
+        ensures reply { IfSome result (λ order. TellsReply order self.now.driver) }
     {
         let supervisor = &self.driver.supervisors()[place];
         match supervisor.order() {
@@ -65,7 +75,9 @@ impl Session {
 
     /// The answer that an order tells of is kept from now on; any other order leaves the last one.
     fn keep_answer(&mut self, order: Order) -> Result<(), DriveFault>
-        requires { order.supervisor < length self.old.driver.members }
+        requires place { order.supervisor < length self.old.driver.members }
+        requires reply { TellsReply order self.old.driver }
+        ensures kept { OnOk result (KeepsOf order.what order.supervisor self.old.driver self.old.answer self.new.answer) }
         ensures driven { self.new.driver ≡ self.old.driver }
         ensures err { OnErr result (self.new ≡ self.old) }
     {

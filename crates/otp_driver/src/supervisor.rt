@@ -1,16 +1,22 @@
 //! A supervisor of the tree: its core, and how many of its orders were taken.
 
-ghost use Rattle.std.specs.Prelude.{◌≡◌, ◌≤◌, ◌<◌, [], slice_get, length, nat_lt, option_map, IfOk, OnOk, OnErr};
+ghost use Rattle.std.specs.Prelude.{◌≡◌, ℕ, All, ◌≤◌, ◌<◌, ◌^◌, ◌-◌, ◌⊎◌, [], false, true, IsTrue, Some, is_some, min, slice_get, length, nat_lt, option_map, IfErr, IfOk, OnOk, OnErr};
+ghost use Rattle.otp_core.specs.Full.{is_full};
 ghost use Rattle.otp_rules.specs.Counts.{counts_of};
+ghost use Rattle.otp_rules.specs.Ends.{last_stamps};
 ghost use Rattle.otp_rules.specs.Next.{next_deadline, next_kind};
 ghost use Rattle.otp_rules.specs.Run.{empty_state};
 ghost use Rattle.otp_rules.specs.State.{is_over};
 ghost use Rattle.otp_spec.specs.declared.limits.TheConstants.{MAX_READING};
-ghost use Rattle.otp_driver.specs.Members.{Happens, has_order, passed, state_in, unopened};
+ghost use Rattle.otp_driver.specs.Members.{CoreHappens, Happens, HasNoRoom, IsMany, IsRefused, has_order, passed, state_in, unopened};
+ghost use Rattle.otp_driver.specs.Replies.{AreAnswered, IsKept, IsReplyIn};
+ghost use Rattle.otp_driver.specs.declared.fault.DriveFault.TheVariants.{OutOfMemory};
+ghost use Rattle.otp_rules.specs.Needs.{numbers_of};
+ghost use Rattle.otp_rules.specs.declared.event.Effect.TheVariants as effect;
 
 use crate::fault::DriveFault;
 use crate::limits::KEPT_EVENTS;
-use otp_core::{Core, Counter, ReplyAnswer};
+use otp_core::{Core, Counter, ReplyAnswer, laws};
 use otp_rules::{CountsNow, Effect, Kind, Phase, Reply};
 use otp_spec::{MAX_READING, SupFlags, SupSpec};
 use otp_table::Row;
@@ -39,6 +45,64 @@ impl Model for Supervisor {
     ghost invariant = { IsMember };
 }
 
+/// A core that is full has had as many events, or has listed as many children, as it keeps without a cut. Says whether it is.
+fn is_full(core: &Core) -> bool
+    ensures full { result ≡ is_full core.now }
+    ensures many { result ≡ true → IsMany core.now.base core.now.history }
+{
+    laws::cuts_agree();
+    laws::runs_are_joined();
+    core.is_full()
+}
+
+/// Makes room for the next event: where no order waits, only the last events are kept.
+fn make_room(core: &mut Core) -> Result<(), DriveFault>
+    ensures core { core.new ≡ record core.old { cut = core.new.cut } }
+    ensures orders { (core.new ≡ core.old) ⊎ (core.old.effects ≡ []) }
+    ensures room { OnOk result (is_full core.new ≡ false) }
+    ensures err { IfErr result (λ why. HasNoRoom core.old.base core.old.history core.old.effects why) }
+{
+    if core.effects().is_empty() {
+        core.make_room(KEPT_EVENTS)?;
+        return Ok(());
+    }
+    if is_full(core) {
+        Err(DriveFault::OrdersWait)
+    } else {
+        Ok(())
+    }
+}
+
+/// What a cut drops is no answer that an order tells of.
+fn make_ready(core: &mut Core) -> Result<(), DriveFault>
+    ensures core { core.new ≡ record core.old { cut = core.new.cut; prepared = core.new.prepared } }
+    ensures prepared { OnOk result (core.new.prepared ≡ true) }
+    ensures room { OnOk result (is_full core.new ≡ false) }
+    ensures err { IfErr result (λ why. (why ≡ OutOfMemory) ⊎ HasNoRoom core.old.base core.old.history core.old.effects why) }
+    ensures answered { AreAnswered core.old → AreAnswered core.new }
+{
+    core.prepare()?;
+    make_room(core)
+}
+
+/// An event happens to a core that is ready for it: the last process number then.
+fn step(core: &mut Core, reading: u64, kind: Kind, last: u64) -> u64
+    requires prepared { IsTrue core.old.prepared }
+    requires room { is_full core.old ≡ false }
+    requires reading { reading ≤ MAX_READING }
+    requires last { last < MAX_READING }
+    requires numbers { (n : ℕ) → last < n → All (λ m. m < n) (numbers_of core.old.history) }
+    ensures happens { CoreHappens reading last kind core.old core.new result }
+    ensures answered { AreAnswered core.old → AreAnswered core.new }
+{
+    laws::answers_are_told();
+    laws::cuts_agree();
+    laws::runs_are_joined();
+    let mut numbers = Counter { last };
+    let _ = core.step_with(reading, kind, &mut numbers);
+    numbers.last
+}
+
 impl Supervisor {
     /// A supervisor that was never opened.
     pub(crate) fn new(alloc: Global, supervisor: SupSpec) -> Self
@@ -51,17 +115,6 @@ impl Supervisor {
         }
     }
 
-    /// Takes the memory of the next event, and makes room for it: where no order waits, only the last events are kept.
-    fn make_ready(&mut self) -> Result<(), DriveFault>
-        ensures same { self.new ≡ self.old }
-    {
-        self.core.prepare()?;
-        if self.core.effects().is_empty() {
-            self.core.make_room(KEPT_EVENTS)?;
-        }
-        Ok(())
-    }
-
     /// Something happens at this reading of the clock. A child that is started gets the next number after `last`; the answer
     /// is the last number then.
     ///
@@ -72,17 +125,13 @@ impl Supervisor {
         requires { reading ≤ MAX_READING }
         ensures ok { IfOk result (λ after. Happens reading last kind self.old self.new after) }
         ensures err { OnErr result (self.new ≡ self.old) }
+        ensures why { IfErr result (λ why. IsRefused last self.old why) }
     {
         if last >= MAX_READING || last < self.core.last_number() {
             return Err(DriveFault::Spent);
         }
-        self.make_ready()?;
-        if !self.core.is_prepared() || self.core.is_full() {
-            return Err(DriveFault::OrdersWait);
-        }
-        let mut numbers = Counter { last };
-        let _number = self.core.step_with(reading, kind, &mut numbers);
-        Ok(numbers.last)
+        make_ready(&mut self.core)?;
+        Ok(step(&mut self.core, reading, kind, last))
     }
 
     /// The next order that was not taken.
@@ -142,7 +191,9 @@ impl Supervisor {
     }
 
     /// Whether children are being stopped or started.
-    pub fn has_open_work(&self) -> bool {
+    pub fn has_open_work(&self) -> bool
+        ensures { result ≡ is_some (state_in self.now).follows }
+    {
         self.core.has_open_work()
     }
 
@@ -153,19 +204,28 @@ impl Supervisor {
         self.core.counts()
     }
 
-    /// How many restarts there were since the last opening.
-    pub fn count_restarts(&self) -> u64 {
+    /// How many restarts there were since the last opening: exactly, below 2^64.
+    pub fn count_restarts(&self) -> u64
+        ensures { result ≡ min (length (state_in self.now).stamps) (2 ^ 64 - 1) }
+    {
         self.core.count_restarts()
     }
 
     /// The times in milliseconds of the last restarts since then: all of them, or one more than the intensity.
-    pub fn kept_restarts(&self) -> &VecDeque<u64> {
+    pub fn kept_restarts(&self) -> &VecDeque<u64>
+        ensures { result.now.items ≡ last_stamps (state_in self.now).flags.intensity (state_in self.now).stamps }
+    {
         self.core.kept_restarts()
     }
 
     /// What is known of the answer to the call with this number. It is kept until the next event comes after the order that
     /// tells of it was taken.
-    pub fn reply(&self, call: u64) -> ReplyAnswer<&Reply> {
+    pub fn reply(&self, call: u64) -> ReplyAnswer<&Reply>
+        ensures last { IsReplyIn (λ r. r.now) call (state_in self.now).replies result }
+        ensures kept { slice_get self.now.effects self.now.taken ≡ Some (effect.Reply call) → IsKept result }
+    {
+        laws::cuts_agree();
+        laws::runs_are_joined();
         self.core.reply(call)
     }
 

@@ -12,6 +12,7 @@ use std::fmt::Write as _;
 use std::io::Write as _;
 use std::path::PathBuf;
 use std::process::{Command, Stdio};
+use std::sync::atomic::{AtomicU32, Ordering};
 
 fn program() -> Option<PathBuf> {
     let usual = PathBuf::from(env!("CARGO_MANIFEST_DIR")).join("../../crates/otp_program/out/otp_program");
@@ -80,7 +81,10 @@ fn lines_of(chance: &mut Chance) -> String {
 }
 
 fn sim(program: &PathBuf, tree: &str, lines: &str) -> String {
-    let file = std::env::temp_dir().join(format!("otp-chance-{}.toml", std::process::id()));
+    // Two tests call this at once.
+    static FILES: AtomicU32 = AtomicU32::new(0);
+    let number = FILES.fetch_add(1, Ordering::Relaxed);
+    let file = std::env::temp_dir().join(format!("otp-chance-{}-{number}.toml", std::process::id()));
     std::fs::write(&file, tree).unwrap();
     let mut child =
         Command::new(program).arg("sim").arg(&file).stdin(Stdio::piped()).stdout(Stdio::piped()).spawn().unwrap();

@@ -193,6 +193,11 @@ fn a_stale_socket_is_taken_over_and_a_second_daemon_refused() {
     let mut second = start();
     assert_eq!(second.wait(), 1);
     assert!(second.read("stderr").contains("another daemon"), "{}", second.read("stderr"));
+    // Also where somebody has cleaned up.
+    fs::remove_file(control.join("lock")).unwrap();
+    let mut second = start();
+    assert_eq!(second.wait(), 1);
+    assert!(second.read("stderr").contains("another daemon"), "{}", second.read("stderr"));
     first.signal(KILL);
     wait_until("its processes are gone", || first.left().is_empty());
     assert!(exists(&control.join("socket")));

@@ -121,6 +121,76 @@ fn a_process_gets_no_descriptor_and_no_blocked_signal() {
 }
 
 #[test]
+fn a_pipe_that_nobody_reads_is_no_place_for_output() {
+    let commands = "[a]\ncommand = ['sleep', '1000']\noutput = 'file'\noutput_file = '{folder}/pipe'\n";
+    let folder = common::daemon::new_folder();
+    assert!(std::process::Command::new("mkfifo").arg(folder.join("pipe")).status().unwrap().success());
+    fs::write(folder.join("tree.toml"), tree_of(&child("a", ""))).unwrap();
+    fs::write(folder.join("commands.toml"), commands.replace("{folder}", folder.to_str().unwrap())).unwrap();
+    let mut daemon = Daemon::start_in(folder, &["--json", "--log", "log", "--no-control"]);
+    assert_eq!(daemon.wait(), 4);
+    assert_eq!(daemon.story()[1], "-> fail a #1 error:no_output");
+}
+
+#[test]
+fn signals_that_the_daemon_ignores_are_not_ignored_by_its_processes() {
+    let folder = common::daemon::new_folder();
+    fs::write(folder.join("tree.toml"), tree_of(&child("a", ""))).unwrap();
+    let commands = format!(
+        "[a]\ncommand = ['sh', '-c', 'grep SigIgn /proc/self/status > {0}/signals; touch {0}/done; exec sleep 1000']\nsignal = 'INT'\n",
+        folder.display()
+    );
+    fs::write(folder.join("commands.toml"), commands).unwrap();
+    let mut shell = std::process::Command::new("sh");
+    shell.args(["-c", "trap '' INT QUIT TERM USR1; exec \"$0\" \"$@\"", common::daemon::PROGRAM]);
+    let mut daemon = Daemon::start_by(folder, shell, &["--json", "--log", "log", "--no-control"]);
+    wait_until("done", || daemon.folder.join("done").exists());
+    // Signals 32 and 33 are the C library's own, and stay as they are.
+    let ignored = daemon.read("signals").split_whitespace().nth(1).map(|mask| u64::from_str_radix(mask, 16).unwrap());
+    assert_eq!(ignored.map(|mask| mask & !(3 << 31)), Some(0));
+    // TERM reaches the daemon, and INT the process, which has 5 seconds: it isn't killed.
+    assert_eq!(daemon.stop(), 0);
+    assert!(daemon.story().iter().all(|line| !line.starts_with("kill")), "{:?}", daemon.story());
+}
+
+#[test]
+fn check_tells_what_is_missing_on_this_machine() {
+    let folder = common::daemon::new_folder();
+    fs::write(folder.join("tree.toml"), tree_of(&child("a", ""))).unwrap();
+    let check = |commands: &str| {
+        fs::write(folder.join("commands.toml"), commands).unwrap();
+        let mut check = std::process::Command::new(common::daemon::PROGRAM);
+        let output = check.args(["check", "tree.toml", "commands.toml"]).current_dir(&folder).output().unwrap();
+        (output.status.code(), String::from_utf8_lossy(&output.stderr).into_owned())
+    };
+    assert_eq!(check(STEADY), (Some(0), String::new()));
+    for (commands, text) in [
+        ("[b]\ncommand = ['sleep', '1']\n", "no table for a"),
+        ("[a]\ncommand = ['no_such_program']\n", "[a] there is no program no_such_program"),
+        ("[a]\ncommand = ['./sleep']\n", "[a] there is no program ./sleep"),
+        ("[a]\ncommand = ['sleep', '1']\nfolder = '/nowhere'\n", "[a] there is no folder /nowhere"),
+    ] {
+        let (status, told) = check(commands);
+        assert!(status == Some(1) && told.contains(text), "{told}");
+    }
+    fs::remove_dir_all(&folder).unwrap();
+}
+
+#[test]
+fn a_script_without_its_interpreter_is_told_of() {
+    let folder = common::daemon::new_folder();
+    let script = folder.join("script");
+    fs::write(&script, "#!/nowhere/at/all\n").unwrap();
+    fs::set_permissions(&script, std::os::unix::fs::PermissionsExt::from_mode(0o755)).unwrap();
+    fs::write(folder.join("tree.toml"), tree_of(&child("a", ""))).unwrap();
+    fs::write(folder.join("commands.toml"), format!("[a]\ncommand = ['{}']\n", script.display())).unwrap();
+    let mut daemon = Daemon::start_in(folder, &["--json", "--log", "log", "--no-control"]);
+    assert_eq!(daemon.wait(), 4);
+    let line = daemon.wait_for("fail", |line| line.get("event") == "fail");
+    assert!(line.get("text").contains("what it is to be run by is not"), "{line:?}");
+}
+
+#[test]
 fn output_goes_where_the_file_says() {
     let tree = tree_of(&[child("file", ""), child("null", ""), child("log", ""), child("plain", "")].concat());
     let say = |id: &str, more: &str| {
@@ -250,16 +320,19 @@ fn statuses_say_how_the_root_has_ended() {
 }
 
 #[test]
-fn it_sleeps_where_nothing_is_due_and_tells_that_hup_does_nothing() {
+fn it_sleeps_where_nothing_is_due_and_opens_its_log_anew_at_hup() {
     let mut daemon = Daemon::start(&tree_of(&child("a", "")), STEADY);
     daemon.wait_ready();
     thread::sleep(Duration::from_millis(300));
     let before = ticks_of(daemon.pid());
     thread::sleep(Duration::from_secs(2));
     assert_eq!(ticks_of(daemon.pid()), before);
+    fs::rename(daemon.folder.join("log"), daemon.folder.join("log.1")).unwrap();
     daemon.signal(HUP);
     daemon.wait_for("HUP", |line| line.get("remark") == "signal" && line.get("name") == "HUP");
+    assert!(!daemon.read("log.1").contains("HUP"));
     assert_eq!(daemon.stop(), 0);
+    assert!(daemon.read("log").contains("\"order\":\"end\""));
 }
 
 #[test]

@@ -59,8 +59,12 @@ impl Daemon {
 
     /// Runs the tree and the commands of the folder.
     pub fn start_in(folder: PathBuf, flags: &[&str]) -> Daemon {
+        Daemon::start_by(folder, Command::new(PROGRAM), flags)
+    }
+
+    /// The same by a command that runs the program with the words behind it.
+    pub fn start_by(folder: PathBuf, mut command: Command, flags: &[&str]) -> Daemon {
         let mark = folder.file_name().unwrap().to_str().unwrap().to_string();
-        let mut command = Command::new(PROGRAM);
         command.args(["run", "tree.toml", "commands.toml"]).args(flags).current_dir(&folder);
         command.env("OTP_TEST_MARK", &mark).stdin(Stdio::null());
         command.stdout(fs::File::create(folder.join("stdout")).unwrap());

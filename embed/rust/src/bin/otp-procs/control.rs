@@ -138,6 +138,10 @@ impl Control {
             Err(fs::TryLockError::Error(error)) => return Err(system(error)),
         }
         let path = socket_in(folder);
+        // Who cleans up below /tmp may have removed the file that the other daemon has locked: its socket answers still.
+        if UnixStream::connect(&path).is_ok() {
+            return Err(ControlError::Taken(folder.to_path_buf()));
+        }
         match fs::remove_file(&path) {
             Err(error) if error.kind() != io::ErrorKind::NotFound => return Err(system(error)),
             _ => {}

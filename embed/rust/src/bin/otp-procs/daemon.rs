@@ -141,8 +141,10 @@ impl Daemon {
                 }
             }
             if let Err(error) = os::wait(&mut waited, self.time_left()) {
-                self.remark(Record::new(Class::Remark, "broken").text("text", error.to_string()));
-                self.is_broken = true;
+                // The system has no memory for it just now: the processes go on, and so does the daemon in a while.
+                let text = format!("nothing can be waited for: {error}");
+                self.remark(Record::new(Class::Remark, "again").number("after_ms", AGAIN).text("text", text));
+                std::thread::sleep(Duration::from_millis(AGAIN));
             }
             self.read_clock();
             self.go_on();

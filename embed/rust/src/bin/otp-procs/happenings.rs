@@ -26,12 +26,27 @@ impl Daemon {
                     self.remark(remark("signal").text("name", name));
                     self.take_stop_signal();
                 }
-                os::SIGHUP => self
-                    .remark(remark("signal").text("name", "HUP").text("text", "does nothing: the files are read once")),
+                os::SIGHUP => {
+                    let done = self.reopen();
+                    self.remark(remark("signal").text("name", "HUP").text("text", done));
+                }
                 _ => {}
             }
         }
         self.go_on();
+    }
+
+    /// The log's file is opened anew, and those that the daemon writes output to; what was done is the answer.
+    fn reopen(&mut self) -> String {
+        let log = match self.log.reopen() {
+            Ok(true) => "the log is opened anew".to_string(),
+            Ok(false) => "the log goes to no file".to_string(),
+            Err(error) => format!("the log can't be opened anew, and the old one is kept: {error}"),
+        };
+        for live in self.live.values_mut() {
+            live.reopen();
+        }
+        format!("{log}; the tree and the commands are read once")
     }
 
     /// The first signal stops. One that comes with it counts as the same: who signals a group and its leader sends two.

@@ -90,6 +90,16 @@ impl Live {
         }
     }
 
+    /// Opens the file anew to which the daemon passes its output on. One that a process writes to by itself stays its own.
+    pub fn reopen(&mut self) {
+        let Output::File(file) = &self.plan.output else { return };
+        if let Some(outlet) = &mut self.outlet
+            && let Ok(opened) = open_output(file)
+        {
+            outlet.file = Some(opened);
+        }
+    }
+
     /// The reading at which it is up, or its start has failed, if it says nothing before.
     pub fn due(&self) -> Option<u64> {
         let Stage::Starting(since) = self.stage else {

@@ -9,7 +9,7 @@ use std::fmt::Write;
 use std::fs::File;
 use std::io;
 use std::os::fd::{AsFd, BorrowedFd};
-use std::path::Path;
+use std::path::{Path, PathBuf};
 use std::time::{SystemTime, UNIX_EPOCH};
 
 /// So many lines are kept for `ctl tail`.
@@ -168,6 +168,8 @@ enum Sink {
 /// Where the lines go, and those that are kept.
 pub struct Log {
     sink: Sink,
+    /// The file's whole path, if the lines go to one.
+    file: Option<PathBuf>,
     is_json: bool,
     lost: u64,
     /// The last line was written in part.
@@ -180,11 +182,21 @@ pub struct Log {
 impl Log {
     /// A log to the end of a file, or else to the standard error.
     pub fn open(file: Option<&Path>, is_json: bool) -> io::Result<Self> {
-        let sink = match file {
+        let file = file.map(std::path::absolute).transpose()?;
+        let sink = match &file {
             None => Sink::Errors(io::stderr()),
-            Some(file) => Sink::File(File::options().append(true).create(true).open(file)?),
+            Some(file) => Sink::File(os::append_to(file)?),
         };
-        Ok(Log { sink, is_json, lost: 0, is_torn: false, kept: VecDeque::new(), fresh: Vec::new() })
+        Ok(Log { sink, file, is_json, lost: 0, is_torn: false, kept: VecDeque::new(), fresh: Vec::new() })
+    }
+
+    /// Opens the file anew, so that whoever has renamed it gets a new one. Where that can't be had the old one is kept.
+    /// Nothing is done, and `false` the answer, where the lines go to no file.
+    pub fn reopen(&mut self) -> io::Result<bool> {
+        let Some(file) = &self.file else { return Ok(false) };
+        self.sink = Sink::File(os::append_to(file)?);
+        self.is_torn = false;
+        Ok(true)
     }
 
     /// Writes a line, at this reading of the clock (milliseconds since the beginning).
@@ -276,6 +288,28 @@ mod tests {
         let record = Record::new(Class::Remark, "x").text("why", "a\"\n\\b");
         assert_eq!(record.as_text("T", 0), "T    0.000 x     why a\"\\n\\b");
         assert_eq!(record.as_json("T", 0), "{\"time\":\"T\",\"ms\":0,\"remark\":\"x\",\"why\":\"a\\\"\\u000a\\\\b\"}");
+    }
+
+    #[test]
+    fn a_file_that_was_renamed_is_opened_anew() {
+        let folder = std::env::temp_dir().join(format!("otp-procs-log-{}", std::process::id()));
+        std::fs::create_dir_all(&folder).unwrap();
+        let (file, old) = (folder.join("log"), folder.join("log.1"));
+        let mut log = Log::open(Some(&file), false).unwrap();
+        log.tell(0, &Record::new(Class::Remark, "before"));
+        std::fs::rename(&file, &old).unwrap();
+        log.tell(1, &Record::new(Class::Remark, "between"));
+        assert!(log.reopen().unwrap());
+        log.tell(2, &Record::new(Class::Remark, "after"));
+        let (old, new) = (std::fs::read_to_string(&old).unwrap(), std::fs::read_to_string(&file).unwrap());
+        assert!(old.contains("before") && old.contains("between") && !old.contains("after"), "{old}");
+        assert!(new.contains("after") && new.lines().count() == 1, "{new}");
+        std::fs::remove_dir_all(&folder).unwrap();
+        // Where it can't be opened the old one stays.
+        assert!(log.reopen().is_err());
+        log.tell(3, &Record::new(Class::Remark, "later"));
+        assert_eq!(log.lost, 0);
+        assert!(!Log::open(None, false).unwrap().reopen().unwrap());
     }
 
     #[test]

@@ -11,6 +11,7 @@ mod live;
 mod log;
 mod os;
 mod plan;
+mod program;
 mod replay;
 mod request;
 mod spawn;
@@ -23,7 +24,7 @@ mod words;
 use crate::control::Control;
 use crate::daemon::{Daemon, Ended};
 use crate::log::Log;
-use crate::plan::Plans;
+use crate::plan::{Plan, Plans};
 use crate::words::{Run, Words};
 use otp_embed::{Fault, Note, Order, Strategy, Tree};
 use std::error::Error;
@@ -64,10 +65,14 @@ fn serve(words: Words) -> Result<u8, Box<dyn Error>> {
         Words::Check(tree, commands) => {
             let (_, plans) = read_files(&tree, &commands)?;
             let lacking = lacking(&tree, &plans)?;
-            if lacking.is_empty() {
-                return Ok(0);
+            if !lacking.is_empty() {
+                return Err(no_tables(&commands, &lacking).into());
             }
-            Err(no_tables(&commands, &lacking).into())
+            let faults: Vec<String> = plans.iter().filter_map(|(word, plan)| fault_of(word, plan)).collect();
+            if !faults.is_empty() {
+                return Err(format!("{}: {}", commands.display(), faults.join("; ")).into());
+            }
+            Ok(0)
         }
         Words::Replay(tree, log) => {
             let mut tree = open(&tree)?;
@@ -127,6 +132,14 @@ fn take_starts(tree: &mut Tree, plans: &Plans, lacking: &mut Vec<String>) -> Res
     Ok(())
 }
 
+/// What is missing on this machine now that the plan of a start word needs. A start would fail by it.
+fn fault_of(word: &str, plan: &Plan) -> Option<String> {
+    if let Some(folder) = plan.folder.as_ref().filter(|folder| !folder.is_dir()) {
+        return Some(format!("[{word}] there is no folder {}", folder.display()));
+    }
+    (!program::can_be_found(plan)).then(|| format!("[{word}] there is no program {}", plan.command[0]))
+}
+
 fn no_tables(commands: &Path, lacking: &[String]) -> String {
     format!("{} has no table for {}; write [{}] and its command", commands.display(), lacking.join(", "), lacking[0])
 }
@@ -137,10 +150,12 @@ fn run_tree(run: &Run) -> Result<Ended, Box<dyn Error>> {
     if !lacking.is_empty() {
         return Err(no_tables(&run.commands, &lacking).into());
     }
-    os::keep_descriptors()?;
-    let _reserved = os::reserve_descriptors()?;
-    let signals = os::signals_as_descriptor(&[os::SIGTERM, os::SIGINT, os::SIGHUP, os::SIGCHLD])?;
-    os::adopt_orphans()?;
+    os::keep_descriptors()
+        .map_err(|error| format!("/proc/self/fd can't be read, by which descriptors are kept: {error}"))?;
+    let _reserved = os::reserve_descriptors().map_err(|error| format!("/dev/null can't be opened: {error}"))?;
+    let signals = os::signals_as_descriptor(&[os::SIGTERM, os::SIGINT, os::SIGHUP, os::SIGCHLD])
+        .map_err(|error| format!("there is no descriptor for signals: {error}"))?;
+    os::adopt_orphans().map_err(|error| format!("orphans can't be adopted: {error}"))?;
     let control = run.control.as_deref().map(Control::open).transpose()?;
     let log =
         Log::open(run.log.as_deref(), run.is_json).map_err(|error| format!("the log can't be opened: {error}"))?;

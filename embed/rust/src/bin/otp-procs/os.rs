@@ -5,8 +5,10 @@ use std::ffi::{c_int, c_void};
 use std::fs::File;
 use std::io;
 use std::os::fd::{AsRawFd, BorrowedFd, FromRawFd, OwnedFd, RawFd};
+use std::os::unix::fs::OpenOptionsExt;
 use std::os::unix::net::UnixStream;
 use std::os::unix::process::{CommandExt, ExitStatusExt};
+use std::path::Path;
 use std::process::{Command, ExitStatus};
 use std::time::Duration;
 
@@ -34,6 +36,7 @@ const HUNG_UP: i16 = 0x38;
 
 const SFD_FLAGS: c_int = 0o2_004_000; // non-blocking, closed on exec
 const SIG_DFL: usize = 0;
+const LAST_SIGNAL: c_int = 64;
 const SIG_BLOCK: c_int = 0;
 const SIG_SETMASK: c_int = 2;
 const F_GETFD: c_int = 1;
@@ -42,6 +45,7 @@ const F_GETFL: c_int = 3;
 const F_SETFL: c_int = 4;
 const FD_CLOEXEC: c_int = 1;
 const O_NONBLOCK: c_int = 0o4000;
+const O_NOCTTY: c_int = 0o400;
 const PR_SET_PDEATHSIG: c_int = 1;
 const PR_SET_CHILD_SUBREAPER: c_int = 36;
 const P_ALL: c_int = 0;
@@ -152,8 +156,10 @@ pub fn signals_as_descriptor(signals: &[c_int]) -> io::Result<OwnedFd> {
     let set = set_of(signals);
     // SAFETY: `set` is initialised; the descriptor that comes back is nobody else's.
     unsafe {
-        // Where it is ignored, which is inherited, the system itself reaps the children.
+        // Whether a signal is ignored is inherited. Where SIGCHLD is, the system itself reaps the children; and one that is
+        // ignored comes by no descriptor. INT and HUP stay as they are: a shell ignores INT for what it runs in the background.
         signal(SIGCHLD, SIG_DFL);
+        signal(SIGTERM, SIG_DFL);
         checked(sigprocmask(SIG_BLOCK, &set, std::ptr::null_mut()))?;
         Ok(OwnedFd::from_raw_fd(checked(signalfd(-1, &set, SFD_FLAGS))?))
     }
@@ -279,6 +285,22 @@ pub fn never_wait(fd: BorrowedFd<'_>) -> io::Result<()> {
     Ok(())
 }
 
+/// A write to this descriptor waits again where it has to.
+pub fn may_wait(fd: BorrowedFd<'_>) -> io::Result<()> {
+    // SAFETY: the descriptor is open, and these commands take a number.
+    unsafe {
+        let flags = checked(fcntl(fd.as_raw_fd(), F_GETFL))?;
+        checked(fcntl(fd.as_raw_fd(), F_SETFL, flags & !O_NONBLOCK))?;
+    }
+    Ok(())
+}
+
+/// Opens a file to write to its end, and makes it where it isn't there. A pipe without a reader is refused, since to open it would
+/// keep this process waiting; no terminal becomes this process's own.
+pub fn append_to(file: &Path) -> io::Result<File> {
+    File::options().append(true).create(true).custom_flags(O_NONBLOCK | O_NOCTTY).open(file)
+}
+
 /// No program that is started gets a descriptor that this process was started with, but the first three.
 pub fn keep_descriptors() -> io::Result<()> {
     let open: Vec<c_int> = std::fs::read_dir("/proc/self/fd")?
@@ -312,14 +334,18 @@ pub fn reserve_descriptors() -> io::Result<Vec<File>> {
     }
 }
 
-/// What is done in the child before its program begins: no signal is blocked, it is killed if this process ends, and
-/// the descriptor on which it tells that it is up gets the number wanted.
+/// What is done in the child before its program begins: no signal is blocked or ignored, it is killed if this process ends,
+/// and the descriptor on which it tells that it is up gets the number wanted.
 pub fn prepare_child(command: &mut Command, notify: Option<(RawFd, RawFd)>) {
     let none = set_of(&[]);
     let parent = std::process::id();
     // SAFETY: between fork and exec only calls are made that are safe in a signal handler, and no memory is taken.
     unsafe {
         command.pre_exec(move || {
+            // Those that can't be set (KILL, STOP, and two of the C library's own) are refused, which does nothing.
+            for number in 1..=LAST_SIGNAL {
+                signal(number, SIG_DFL);
+            }
             checked(sigprocmask(SIG_SETMASK, &none, std::ptr::null_mut()))?;
             checked(prctl(PR_SET_PDEATHSIG, SIGKILL as u64))?;
             // The parent may have ended before it asked for that.

@@ -2,6 +2,7 @@
 
 use crate::os;
 use crate::plan::{Output, Plan, Ready};
+use crate::program;
 use otp_embed::Reason;
 use std::fs::File;
 use std::io::{self, PipeReader};
@@ -100,9 +101,9 @@ fn give_output(plan: &Plan, command: &mut Command) -> Result<Option<PipeReader>,
     Ok(None)
 }
 
-/// The file that output goes to the end of.
+/// The file that output goes to the end of. Who writes to it may have to wait, as a process expects.
 pub fn open_output(file: &Path) -> Result<File, NotStarted> {
-    let opened = File::options().append(true).create(true).open(file);
+    let opened = os::append_to(file).and_then(|opened| os::may_wait(opened.as_fd()).map(|()| opened));
     opened.map_err(|error| NotStarted::new("no_output", format!("{} can't be opened: {error}", file.display())))
 }
 
@@ -125,5 +126,12 @@ fn refused(plan: &Plan, error: &io::Error) -> NotStarted {
         io::ErrorKind::PermissionDenied => "not_allowed",
         _ => "not_started",
     };
-    NotStarted::new(word, format!("{} doesn't start: {error}", plan.command[0]))
+    let more = match (error.kind(), program::find(plan)) {
+        // A script's first line may name what isn't there.
+        (io::ErrorKind::NotFound, Some(file)) => {
+            format!("; {} is there, but what it is to be run by is not", file.display())
+        }
+        _ => String::new(),
+    };
+    NotStarted::new(word, format!("{} doesn't start: {error}{more}", plan.command[0]))
 }

@@ -39,12 +39,12 @@ const HELP: &str = "\
 otp-procs: supervises real processes by the rules of OTP's supervisor
 
   otp-procs run TREE COMMANDS [--log FILE] [--json] [--control FOLDER | --no-control]
-  otp-procs check TREE COMMANDS       are both files as they should be?
+  otp-procs check TREE COMMANDS       are both files as they should be, and the programs there?
   otp-procs replay TREE LOG           does a log (--json) have the orders that the rules give?
   otp-procs ctl [--control FOLDER] REQUEST
 
 TREE is a tree file, COMMANDS says what each start word runs. TERM or INT shuts the tree down in order, a second
-one kills all. REQUEST is one of:
+one kills all; HUP opens the log's file anew. REQUEST is one of:
 
 ";
 
