@@ -52,3 +52,14 @@ a_picture = refl
 no_word_is_no_command : subcommand_of otp_app (codes "otp" ∷ []) ≡ None
 unfolding clap_on_literals
 no_word_is_no_command = refl
+
+abbrev one_child : List Text
+one_child = codes "otp" ∷ codes "limits" ∷ codes "--child=pool/a" ∷ codes "a.toml" ∷ codes "--each" ∷ []
+
+of_the_child : value_in (codes "child") one_child ≡ Some (Some (codes "pool/a"))
+unfolding clap_on_literals
+of_the_child = refl
+
+of_no_table : value_in (codes "table") one_child ≡ Some None
+unfolding clap_on_literals
+of_no_table = refl

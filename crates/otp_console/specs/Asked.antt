@@ -3,6 +3,10 @@ use Rattle.std.specs.Prelude.{◌≡◌, ℕ, Bool, true, false, List, Option, S
 use Rattle.std.specs.Str.{bytes_eq}
 use Rattle.std.specs.Str.Parse.{IsNumeral, digits_value, without_leading_plus}
 use Rattle.clap.specs.Words.{Row, Text, all_of, first_of, one_of}
+use Rattle.otp_folds.specs.declared.alike.Grain.{Grain}
+use Rattle.otp_folds.specs.declared.alike.Grain.TheVariants.{Alike, Each}
+use Rattle.otp_folds.specs.declared.pick.Pick.{Pick}
+use Rattle.otp_folds.specs.declared.pick.Pick.TheVariants as pick
 use Rattle.otp_try.specs.declared.play.Writer.{Writer}
 use Rattle.otp_try.specs.declared.play.Writer.TheVariants.{Script, Person}
 use Rattle.otp_console.specs.declared.words.Command.{Command}
@@ -36,13 +40,26 @@ abbrev pub is_person : Writer → Bool
 is_person Script = false
 is_person Person = true
 
+-- the children that are asked for by the name of a child, of a supervisor, or by none
+abbrev pub IsPickOf : Option Text → Option Text → Pick → Type 0
+IsPickOf child table pick.All = (child ≡ None) × (table ≡ None)
+IsPickOf child table (pick.Child name) = child ≡ Some name.now
+IsPickOf child table (pick.Table name) = (child ≡ None) × (table ≡ Some name.now)
+
+-- whether each child is played by itself
+abbrev pub plays_each : Grain → Bool
+plays_each Each = true
+plays_each Alike = false
+
 -- what a tree file is used for by the command of this name
 abbrev pub AsksUse : Text → List Row → Usage → Type 0
 AsksUse name rows (usage.Try script writer is_drawn) =
     (name ≡ codes "try") × ((option_map (λ name. name.now) script ≡ script_in (first_of (codes "SCRIPT") rows))
     × (IsFlagOf rows (codes "prompt") (is_person writer) × IsFlagOf rows (codes "timeline") is_drawn))
 AsksUse name rows usage.Draw = name ≡ codes "tree"
-AsksUse name rows usage.Limit = name ≡ codes "limits"
+AsksUse name rows (usage.Limit pick grain) =
+    (name ≡ codes "limits") × (IsPickOf (first_of (codes "child") rows) (first_of (codes "table") rows) pick
+    × IsFlagOf rows (codes "each") (plays_each grain))
 
 -- the subcommand of this name asks for this, with what was found for it
 abbrev pub Asks : Text → List Row → Command → Type 0

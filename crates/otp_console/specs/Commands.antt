@@ -22,6 +22,10 @@ script_rule = new_rule (codes "SCRIPT")
 abbrev pub flag_rule : Text → Rule
 flag_rule name = record (new_rule name) { long = Some name; action = Some SetTrue }
 
+-- a text with this long name, which may be given
+abbrev pub option_rule : Text → Rule
+option_rule name = record (new_rule name) { long = Some name; value_names = 1 }
+
 -- a number from 1 to the most, which is this one where nothing is said
 abbrev pub number_rule : Text → ℕ → Text → Rule
 number_rule name most default = record (new_rule name) {
@@ -43,6 +47,10 @@ run_app =
 abbrev pub try_app : App
 try_app = with_rule (with_rule (with_rule (file_app (codes "try")) script_rule) (flag_rule (codes "prompt"))) (flag_rule (codes "timeline"))
 
+abbrev pub limits_app : App
+limits_app =
+    with_rule (with_rule (with_rule (file_app (codes "limits")) (option_rule (codes "child"))) (option_rule (codes "table"))) (flag_rule (codes "each"))
+
 abbrev pub check_app : App
 check_app = with_rule (new_app (codes "check")) files_rule
 
@@ -53,4 +61,4 @@ bare_app = record (new_app (codes "otp")) { top = record (new_shape (codes "otp"
 abbrev pub otp_app : App
 otp_app =
     with_subcommand (with_subcommand (with_subcommand (with_subcommand (with_subcommand (with_subcommand bare_app run_app.top) try_app.top)
-    check_app.top) (file_app (codes "tree")).top) (file_app (codes "limits")).top) (file_app (codes "sim")).top
+    check_app.top) (file_app (codes "tree")).top) limits_app.top) (file_app (codes "sim")).top

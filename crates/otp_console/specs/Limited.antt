@@ -1,8 +1,12 @@
 -- What `limits` writes (own).
-use Rattle.std.specs.Prelude.{◌≡◌, ℕ, List, [], Ok}
+use Rattle.std.specs.Prelude.{◌≡◌, ℕ, Bool, true, false, List, [], Ok}
+use Rattle.std.specs.Borrow.{Bor}
 use Rattle.otp_file.specs.Files.{Says}
 use Rattle.otp_file.specs.Trees.{Tree}
-use Rattle.otp_limits.specs.TreeTable.{TellsAll}
+use Rattle.otp_folds.specs.Told.{Tells}
+use Rattle.otp_folds.specs.declared.alike.Grain.{Grain}
+use Rattle.otp_folds.specs.declared.pick.Pick.{Pick}
+use Rattle.otp_folds.specs.declared.pick.Pick.TheVariants as pick
 use Rattle.otp_try.specs.declared.trial.Halt.{Halt}
 use Rattle.otp_try.specs.declared.trial.Halt.TheVariants as halt
 use Rattle.otp_console.specs.declared.ending.ProgramEnd.{ProgramEnd}
@@ -13,6 +17,16 @@ abbrev pub ending_of_halt : Halt → ProgramEnd
 ending_of_halt halt.HistoryFull = HistoryFull
 ending_of_halt halt.OutOfMemory = OutOfMemory
 
--- the file says a tree, and the text tells the limits of its supervisors
-abbrev pub HasLimits : List ℕ → List ℕ → Type 0
-HasLimits file text = (tree : Tree) × (Says file (Ok tree) × TellsAll tree [] text)
+-- the file says a tree, and the text tells the limits of those children that are asked for
+abbrev pub HasLimits : Grain → Pick → List ℕ → List ℕ → Type 0
+HasLimits grain pick file text = (tree : Tree) × (Says file (Ok tree) × Tells true grain pick tree [] text)
+
+-- the file says a tree, and there is none
+abbrev pub HasNone : Grain → Pick → List ℕ → Type 0
+HasNone grain pick file = (tree : Tree) × (after : List ℕ) × (Says file (Ok tree) × Tells false grain pick tree [] after)
+
+-- the name of a child or a supervisor that is asked for
+abbrev pub IsNameOf : Pick → Bor (List ℕ) → Type 0
+IsNameOf pick.All what = ⊥
+IsNameOf (pick.Child name) what = what ≡ name
+IsNameOf (pick.Table name) what = what ≡ name

@@ -11,11 +11,13 @@ use Rattle.otp_sim.specs.Runs.{Devices, Writes}
 use Rattle.otp_sim.specs.Sim.{opened}
 use Rattle.otp_check.specs.Checks.{IsFirstFault}
 use Rattle.otp_console.specs.Devices.{HasTree, IsUnread, Written, writer_of}
-use Rattle.otp_console.specs.Limited.{HasLimits}
+use Rattle.otp_folds.specs.declared.alike.Grain.{Grain}
+use Rattle.otp_folds.specs.declared.pick.Pick.{Pick}
+use Rattle.otp_console.specs.Limited.{HasLimits, HasNone, IsNameOf}
 use Rattle.otp_console.specs.Running.{IsTreeRun}
 use Rattle.otp_console.specs.Statuses.{status_of, sentence_of}
 use Rattle.otp_console.specs.declared.ending.ProgramEnd.{ProgramEnd}
-use Rattle.otp_console.specs.declared.ending.ProgramEnd.TheVariants.{Done, WordsRefused, NoCommand, WordNotText, FileAsCommand, TreeNotRead, FileNotRead, TreeRefused, NoTree, UnknownStart, WrongBody, CloseMismatch, CloseMissing, FaultsFound, LineRefused, ScriptRefused, ScriptMissed, HistoryFull, InputFailed, OutputFailed, OutOfMemory}
+use Rattle.otp_console.specs.declared.ending.ProgramEnd.TheVariants.{Done, WordsRefused, NoCommand, WordNotText, FileAsCommand, TreeNotRead, FileNotRead, TreeRefused, NoTree, UnknownStart, NotFound, WrongBody, CloseMismatch, CloseMissing, FaultsFound, LineRefused, ScriptRefused, ScriptMissed, HistoryFull, InputFailed, OutputFailed, OutOfMemory}
 use Rattle.otp_console.specs.declared.files.TheConstants.{LARGEST_TREE}
 use Rattle.otp_console.specs.declared.words.Command.{Command}
 use Rattle.otp_console.specs.declared.words.Command.TheVariants as command
@@ -38,6 +40,7 @@ IsRun FileNotRead file old new = ⊥
 IsRun (TreeRefused why) file old new = (new ≡ old) × IsFirstFault why file
 IsRun (NoTree why named) file old new = ⊥
 IsRun (UnknownStart name) file old new = ⊥
+IsRun (NotFound name) file old new = ⊥
 IsRun WrongBody file old new = ⊥
 IsRun CloseMismatch file old new = ⊥
 IsRun CloseMissing file old new = ⊥
@@ -100,11 +103,12 @@ abbrev pub IsDrawn : List ℕ → ProgramEnd → List ℕ → Written → Writte
 IsDrawn name Done file old new = HasTree file
 IsDrawn name ending file old new = IsNotSaid name ending file old new
 
--- the limits of a tree were written
-abbrev pub IsLimited : List ℕ → ProgramEnd → List ℕ → Written → Written → Type 0
-IsLimited name Done file old new = (text : List ℕ) × (HasLimits file text × Appends old.bytes new.bytes text)
-IsLimited name HistoryFull file old new = (new ≡ old) × HasTree file
-IsLimited name ending file old new = IsNotSaid name ending file old new
+-- the limits of a tree were written, or none of its children has the name that is asked for
+abbrev pub IsLimited : Grain → Pick → List ℕ → ProgramEnd → List ℕ → Written → Written → Type 0
+IsLimited grain pick name Done file old new = (text : List ℕ) × (HasLimits grain pick file text × Appends old.bytes new.bytes text)
+IsLimited grain pick name (NotFound what) file old new = (new ≡ old) × (IsNameOf pick what × HasNone grain pick file)
+IsLimited grain pick name HistoryFull file old new = (new ≡ old) × HasTree file
+IsLimited grain pick name ending file old new = IsNotSaid name ending file old new
 
 -- the script is in another file, of which nothing of the input is read: that can't be read, or the tree was tried by it
 abbrev pub IsTrialOf : List ℕ → Option (List ℕ) → ProgramEnd → List ℕ → Devices → Devices → Type 0
@@ -117,7 +121,7 @@ IsTrialOf name (Some script) ending file old new =
 abbrev pub IsUsed : List ℕ → Usage → ProgramEnd → List ℕ → Devices → Devices → Type 0
 IsUsed name (usage.Try script writer is_drawn) ending file old new = IsTrialOf name (option_map (λ script. script.now) script) ending file old new
 IsUsed name usage.Draw ending file old new = IsUnread old new × IsDrawn name ending file (writer_of old) (writer_of new)
-IsUsed name usage.Limit ending file old new = IsUnread old new × IsLimited name ending file (writer_of old) (writer_of new)
+IsUsed name (usage.Limit pick grain) ending file old new = IsUnread old new × IsLimited grain pick name ending file (writer_of old) (writer_of new)
 
 -- the same of a file of which it is known what bytes it may hold: it can't be read, or it was used
 abbrev pub Uses : (List ℕ → List ℕ → Type 0) → List ℕ → Usage → ProgramEnd → Devices → Devices → Type 0

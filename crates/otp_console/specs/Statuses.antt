@@ -15,7 +15,7 @@ use Rattle.otp_try.specs.Texts.{fault_text, taken_text}
 use Rattle.otp_try.specs.declared.play.TryEnd.{TryEnd}
 use Rattle.otp_try.specs.declared.play.TryEnd.TheVariants as trial
 use Rattle.otp_console.specs.declared.ending.ProgramEnd.{ProgramEnd}
-use Rattle.otp_console.specs.declared.ending.ProgramEnd.TheVariants.{Done, WordsRefused, NoCommand, WordNotText, FileAsCommand, TreeNotRead, FileNotRead, TreeRefused, NoTree, UnknownStart, WrongBody, CloseMismatch, CloseMissing, FaultsFound, LineRefused, ScriptRefused, ScriptMissed, HistoryFull, InputFailed, OutputFailed, OutOfMemory}
+use Rattle.otp_console.specs.declared.ending.ProgramEnd.TheVariants.{Done, WordsRefused, NoCommand, WordNotText, FileAsCommand, TreeNotRead, FileNotRead, TreeRefused, NoTree, UnknownStart, NotFound, WrongBody, CloseMismatch, CloseMissing, FaultsFound, LineRefused, ScriptRefused, ScriptMissed, HistoryFull, InputFailed, OutputFailed, OutOfMemory}
 
 -- 0: done. 1: the tree, or a file. 2: the words. 3: the lines of the input. 4: the machine. 5: a line of a script
 abbrev pub status_of : ProgramEnd → ℕ
@@ -30,6 +30,7 @@ status_of (TreeRefused _) = 1
 status_of (NoTree _ _) = 1
 status_of (UnknownStart _) = 1
 status_of WrongBody = 1
+status_of (NotFound _) = 2
 status_of CloseMismatch = 4
 status_of CloseMissing = 4
 status_of FaultsFound = 1
@@ -53,6 +54,10 @@ not_read_text name why = (codes "error: " ++ name ++ codes " can't be read: ") +
 abbrev pub no_tree_text : ℕ → List ℕ → List ℕ
 no_tree_text code name = codes "tree refused: E" ++ decimal code ++ codes "; otp check " ++ name ++ codes " tells why\n"
 
+-- a name that no child or supervisor has
+abbrev pub not_found_text : List ℕ → List ℕ
+not_found_text name = codes "error: no child is found by the name " ++ name ++ codes "\n"
+
 -- the line on standard error, its end included: none where all went well, where it was told before why the words
 -- are refused or a file can't be read, or where faults were written to the output
 abbrev pub sentence_of : ProgramEnd → List ℕ
@@ -66,6 +71,7 @@ sentence_of FileNotRead = []
 sentence_of (TreeRefused why) = codes "tree refused: E" ++ decimal (code_of why) ++ codes "\n"
 sentence_of (NoTree why name) = no_tree_text (code_of why) name.now
 sentence_of (UnknownStart name) = codes "unknown start " ++ name_bytes name ++ codes "\n"
+sentence_of (NotFound name) = not_found_text name.now
 sentence_of WrongBody = codes "tree refused: E19\n"
 sentence_of CloseMismatch = codes "close refused: E17\n"
 sentence_of CloseMissing = codes "close refused: E20\n"

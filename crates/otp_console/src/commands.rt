@@ -2,7 +2,7 @@
 
 ghost use Rattle.std.specs.Prelude.{◌≡◌, true, false, codes, IfOk};
 ghost use Rattle.clap.specs.Words.{app_of, new_app, rule_of, with_rule, with_subcommand};
-ghost use Rattle.otp_console.specs.Commands.{bare_app, check_app, file_app, file_rule, files_rule, flag_rule, number_rule, otp_app, run_app, try_app};
+ghost use Rattle.otp_console.specs.Commands.{bare_app, check_app, file_app, file_rule, files_rule, flag_rule, limits_app, number_rule, option_rule, otp_app, run_app, try_app};
 
 use clap::{Arg, ArgAction};
 use std::alloc::{AllocError, Global};
@@ -45,7 +45,13 @@ const LIMITS_ABOUT: &str =
     "Says what each child's failure costs: so many crashes at once are survived, or crashes so far apart";
 
 const LIMITS_EXAMPLE: &str =
-    "Example: otp limits examples/storm.toml\nburst: so many crashes at once are survived; interval: crashes so far apart are survived, and with a millisecond less not; root, where supervisors stand below: so many crashes the root survives.\nStatuses: 0 the table was written, 1 the file says no tree (`otp check FILE` says why) or can't be read, 2 the words, 3 2^62 events, 4 output or memory.\nFormats: docs/FORMATS.md, under Limits.";
+    "Example: otp limits examples/storm.toml\nburst: so many crashes at once are survived; interval: crashes so far apart are survived, and with a millisecond less not; root, where supervisors stand below: so many crashes the root survives.\nOTP counts restarts in whole seconds, and may need a longer interval, which stands below the table.\nStatuses: 0 the table was written, 1 the file says no tree (`otp check FILE` says why) or can't be read, 2 the words, 3 2^62 events, 4 output or memory.\nFormats: docs/FORMATS.md, under Limits.";
+
+const CHILD_HELP: &str = "The child with this name alone, as pool/worker, with all that it stops";
+
+const TABLE_HELP: &str = "The children of the supervisor with this name alone; root is the root";
+
+const EACH_HELP: &str = "Plays each child, and takes none together that are alike";
 
 const SIM_ABOUT: &str =
     "Plays event lines of standard input on a supervisor, and prints each order that it gives";
@@ -98,6 +104,17 @@ fn files_arg<'a>(alloc: Global, help: &'a str) -> Arg<'a>
     Arg::new(alloc, "FILE")
         .required(true)
         .num_args(1..)
+        .help(help)
+}
+
+/// A text with this long name, which may be given.
+fn option_arg<'a>(alloc: Global, name: &'a str, value_name: &'a str, help: &'a str) -> Arg<'a>
+    ensures rule { rule_of result ≡ option_rule name.entry.now }
+    ensures local { result.global ≡ false }
+{
+    Arg::new(alloc, name)
+        .long(name)
+        .value_name(value_name)
         .help(help)
 }
 
@@ -197,6 +214,16 @@ fn try_command<'a>(alloc: Global) -> Result<clap::Command<'a>, AllocError>
     with_arg(command, flag_arg(alloc, "timeline", TIMELINE_HELP))
 }
 
+/// `limits FILE [--child NAME] [--table NAME] [--each]`.
+fn limits_command<'a>(alloc: Global) -> Result<clap::Command<'a>, AllocError>
+    ensures { IfOk result (λ c. app_of c ≡ limits_app) }
+{
+    let command = file_command(alloc, "limits", LIMITS_ABOUT, LIMITS_EXAMPLE, FILE_OR_INPUT)?;
+    let command = with_arg(command, option_arg(alloc, "child", "NAME", CHILD_HELP))?;
+    let command = with_arg(command, option_arg(alloc, "table", "NAME", TABLE_HELP))?;
+    with_arg(command, flag_arg(alloc, "each", EACH_HELP))
+}
+
 /// `run FILE [--schedulers N] [--turns N] [--counts] [--tree]`.
 fn run_command<'a>(alloc: Global) -> Result<clap::Command<'a>, AllocError>
     ensures { IfOk result (λ c. app_of c ≡ run_app) }
@@ -223,7 +250,7 @@ pub(crate) fn otp_command<'a>(alloc: Global) -> Result<clap::Command<'a>, AllocE
     ensures { IfOk result (λ c. app_of c ≡ otp_app) }
 {
     let tree = file_command(alloc, "tree", TREE_ABOUT, TREE_EXAMPLE, FILE_OR_INPUT)?;
-    let limits = file_command(alloc, "limits", LIMITS_ABOUT, LIMITS_EXAMPLE, FILE_OR_INPUT)?;
+    let limits = limits_command(alloc)?;
     let sim = file_command(alloc, "sim", SIM_ABOUT, SIM_EXAMPLE, FILE_ALONE)?;
     let command = with_command(bare_command(alloc), run_command(alloc)?)?;
     let command = with_command(command, try_command(alloc)?)?;

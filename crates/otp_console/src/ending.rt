@@ -4,7 +4,7 @@ ghost use Rattle.std.specs.Prelude.{◌≡◌, ◌⊎◌, ◌≤◌, ◌<◌, �
 ghost use Rattle.std.specs.IoError.{error_kind};
 ghost use Rattle.std.specs.Io.KnownBytes.{Appends};
 ghost use Rattle.otp_console.specs.Runs.{IsTold, goes_on, worse};
-ghost use Rattle.otp_console.specs.Statuses.{IsOfFile, line_text, no_tree_text, sentence_of, status_of};
+ghost use Rattle.otp_console.specs.Statuses.{IsOfFile, line_text, no_tree_text, not_found_text, sentence_of, status_of};
 ghost use Rattle.otp_console.specs.declared.ending.ProgramEnd.TheVariants.{OutOfMemory, TreeNotRead};
 
 use crate::files::write_three;
@@ -39,6 +39,8 @@ pub enum ProgramEnd<'a> {
     NoTree(TreeFault, &'a str),
     /// The start of a child that has no tree is no word of a worked job.
     UnknownStart(Name),
+    /// No child or supervisor of the tree has this name, or the supervisor has no children.
+    NotFound(&'a str),
     /// E19: a worker's job stands where a supervisor is wanted.
     WrongBody,
     /// E17: a tree that ran has a report that tells of a mismatch.
@@ -72,7 +74,7 @@ impl<'a> ProgramEnd<'a> {
             ProgramEnd::UnknownStart(_) | ProgramEnd::WrongBody => 1,
             ProgramEnd::FileNotRead | ProgramEnd::FaultsFound => 1,
             ProgramEnd::WordsRefused | ProgramEnd::NoCommand | ProgramEnd::WordNotText => 2,
-            ProgramEnd::FileAsCommand => 2,
+            ProgramEnd::FileAsCommand | ProgramEnd::NotFound(_) => 2,
             ProgramEnd::LineRefused(_) | ProgramEnd::HistoryFull | ProgramEnd::InputFailed => 3,
             ProgramEnd::OutputFailed | ProgramEnd::OutOfMemory => 4,
             ProgramEnd::CloseMismatch | ProgramEnd::CloseMissing => 4,
@@ -146,6 +148,7 @@ fn write_sentence<E: Output>(errors: &mut E, ending: ProgramEnd<'_>) -> Result<(
         ProgramEnd::UnknownStart(name) => {
             write_three(errors, b"unknown start ", name.as_bytes(), b"\n")
         }
+        ProgramEnd::NotFound(name) => write_not_found(errors, name),
         ProgramEnd::CloseMismatch => write_all(errors, b"close refused: E17\n"),
         ProgramEnd::CloseMissing => write_all(errors, b"close refused: E20\n"),
         ProgramEnd::WrongBody => write_all(errors, b"tree refused: E19\n"),
@@ -172,6 +175,20 @@ fn write_no_tree<E: Output>(errors: &mut E, code: u64, name: &str) -> Result<(),
         b"; otp check ",
         name.as_bytes(),
         b" tells why\n",
+    )
+}
+
+/// Writes that no child or supervisor has this name.
+fn write_not_found<E: Output>(errors: &mut E, name: &str) -> Result<(), Failed>
+    ensures ok { OnOk result (Appends (E.contents errors.old) (E.contents errors.new) (not_found_text name.now)) }
+    ensures kept { E.failures errors.old ≤ E.failures errors.new }
+    ensures failed { OnErr result (E.failures errors.old < E.failures errors.new) }
+{
+    write_three(
+        errors,
+        b"error: no child is found by the name ",
+        name.as_bytes(),
+        b"\n",
     )
 }
 

@@ -229,7 +229,7 @@ fn use_file<'a, F: TreeFiles, R: Input, W: Output, E: Output>(
             errors,
         ),
         Usage::Draw => draw_file(alloc, name, file, output),
-        Usage::Limit => limit_file(alloc, name, file, output),
+        Usage::Limit { pick, grain } => limit_file(alloc, name, file, pick, grain, output),
     }
 }
 

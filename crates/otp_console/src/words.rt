@@ -2,7 +2,7 @@
 
 ghost use Rattle.std.specs.Prelude.{◌≡◌, codes, map, option_map, IfErr, IfOk, IfSome};
 ghost use Rattle.clap.specs.Words.{all_of, first_of, found_of, rows_of, subcommand_of};
-ghost use Rattle.otp_console.specs.Asked.{Asks, AsksFor, AsksUse, IsFileOf, IsFlagOf, IsNumberOf, is_person, script_in};
+ghost use Rattle.otp_console.specs.Asked.{Asks, AsksFor, AsksUse, IsFileOf, IsFlagOf, IsNumberOf, IsPickOf, is_person, plays_each, script_in};
 ghost use Rattle.otp_console.specs.Commands.{otp_app};
 ghost use Rattle.otp_console.specs.Words.{IsOfClap, IsOfSystem, IsHandedOn};
 ghost use Rattle.otp_console.specs.declared.words.WordsFault.TheVariants.{OutOfMemory};
@@ -10,6 +10,7 @@ ghost use Rattle.otp_console.specs.declared.words.WordsFault.TheVariants.{OutOfM
 use crate::commands::otp_command;
 use clap::error::ErrorKind;
 use clap::{ArgMatches, Error};
+use otp_folds::{Grain, Pick};
 use otp_jobs::Settings;
 use otp_try::Writer;
 use std::alloc::{AllocError, Global};
@@ -29,8 +30,11 @@ pub enum Usage<'a> {
     },
     /// Its tree is drawn.
     Draw,
-    /// It is found what the failure of each child costs.
-    Limit,
+    /// It is found what the failure of its children costs, or of some of them.
+    Limit {
+        pick: Pick<'a>,
+        grain: Grain,
+    },
 }
 
 /// What the words ask for.
@@ -223,6 +227,34 @@ fn read_try<'a>(found: &ArgMatches<'a>) -> Usage<'a>
     }
 }
 
+/// Which children are asked for by a child's name, by a supervisor's, or by none: a child's comes first.
+fn pick_of<'a>(child: Option<&'a str>, table: Option<&'a str>) -> Pick<'a>
+    ensures { IsPickOf (option_map (λ name. name.now) child.entry) (option_map (λ name. name.now) table.entry) result }
+{
+    match (child, table) {
+        (Some(name), _) => Pick::Child(name),
+        (None, Some(name)) => Pick::Table(name),
+        (None, None) => Pick::All,
+    }
+}
+
+/// Which children are taken together.
+fn grain_of(is_each: bool) -> Grain
+    ensures { plays_each result ≡ is_each }
+{
+    if is_each { Grain::Each } else { Grain::Alike }
+}
+
+/// What the words after `limits` ask for.
+fn read_limits<'a>(found: &ArgMatches<'a>) -> Usage<'a>
+    ensures { AsksUse (codes "limits") (rows_of (found_of found.now)) result }
+{
+    Usage::Limit {
+        pick: pick_of(value_of(found, "child"), value_of(found, "table")),
+        grain: grain_of(is_set(found, "each")),
+    }
+}
+
 /// The files that the words after `check` name.
 fn read_check<'a>(alloc: Global, found: &ArgMatches<'a>) -> Result<Command<'a>, WordsFault>
     ensures asked { IfOk result (Asks (codes "check") (rows_of (found_of found.now))) }
@@ -257,7 +289,7 @@ fn read_command<'a>(
         "run" => return read_run(file, found),
         "try" => read_try(found),
         "tree" => Usage::Draw,
-        "limits" => Usage::Limit,
+        "limits" => read_limits(found),
         _ => return Err(WordsFault::NoCommand),
     };
     Ok(Command::Use { file, usage })

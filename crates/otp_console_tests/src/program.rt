@@ -574,7 +574,36 @@ const STEADY: &str = "[[child]]\nid = \"a\"\nstart = \"steady\"\n";
 const REPORT: &str = "table 0 starts 1 restarts 0 end shutdown\nlive 0\n";
 
 const LIMITS: &str =
-    "child                             burst      interval  stops  starts  gives up\na                                     1       5001 ms      0       1  supervisor\na crash of a\n  stops  nothing\n  starts a\n";
+    "child                             burst      interval  stops  starts  gives up\na                                     1       5001 ms      0       1  root\na crash of a\n  stops  nothing\n  starts a\n  OTP    needs 6000 ms between crashes: it counts restarts in whole seconds\n";
+
+/// What the questions with words of their own write, tell and end with.
+#[test]
+fn questions(rt: HostRuntime) -> Result<(), Fail> {
+    let alloc = rt.alloc();
+    let rows = [
+        ("limits tree --child a", TREE, LIMITS, "", 0u8),
+        ("limits --table=root tree --each", TREE, LIMITS, "", 0),
+        ("limits tree --table b --child a", TREE, LIMITS, "", 0),
+        ("limits tree --child b", TREE, "", NO_CHILD, 2),
+        ("limits tree --table a", TREE, "", NO_TABLE, 2),
+        ("limits tree --child b", "period = 0\n", "", BAD_FLAG, 1),
+    ];
+    for (line, tree, printed, told, status) in rows {
+        let words = words_of(alloc, line)?;
+        let seen = seen(&rt, alloc, Ok(words), tree, None, "");
+        let text = with_status(alloc, seen.output, seen.errors, seen.status)?;
+        let mut wanted = Vec::new(alloc);
+        wanted.extend_from_slice(printed.as_bytes())?;
+        wanted.extend_from_slice(told.as_bytes())?;
+        let wanted = with_status(alloc, wanted, Vec::new(alloc), status)?;
+        same(&rt, line, text.as_slice(), wanted.as_slice());
+    }
+    Ok(())
+}
+
+const NO_CHILD: &str = "error: no child is found by the name b\n";
+
+const NO_TABLE: &str = "error: no child is found by the name a\n";
 
 /// A file of a byte more than 1 MiB is not parsed by what people use, and one of 1 MiB is.
 #[test]

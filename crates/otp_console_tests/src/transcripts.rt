@@ -752,7 +752,7 @@ start = "nap"
 ];
 
 /// The words, the file of the lines of standard input or `-`, and what is written and told, with the status.
-pub(crate) const TRANSCRIPTS: [(&str, &str, &str); 41] = [
+pub(crate) const TRANSCRIPTS: [(&str, &str, &str); 44] = [
     (
         "sim all_significant.toml",
         "all_significant.events",
@@ -1234,10 +1234,11 @@ status 0
         "limits first.toml",
         "-",
         r##"child                             burst      interval  stops  starts  gives up
-db                                    1       5001 ms      0       1  supervisor
+db                                    1       5001 ms      0       1  root
 a crash of db
   stops  nothing
   starts db
+  OTP    needs 6000 ms between crashes: it counts restarts in whole seconds
 status 0
 "##,
     ),
@@ -1245,26 +1246,25 @@ status 0
         "limits nested.toml",
         "-",
         r##"child                     burst      interval  stops  starts    root  gives up
-pool/a                        1      10001 ms      0       1       5  pool
-pool/b                        1      10001 ms      0       1       5  pool
 db                            2      30001 ms      0       1       2  root
 pool                          2      30001 ms      0       1       2  root
-a crash of pool/a
-  stops  nothing
-  starts pool/a
-  ends   pool root
-a crash of pool/b
-  stops  nothing
-  starts pool/b
-  ends   pool root
+pool/a (2 alike)              1      10001 ms      0       1       5  pool
 a crash of db
   stops  nothing
   starts db
   ends   root
+  OTP    needs 30500 ms between crashes: it counts restarts in whole seconds
 a crash of pool
   stops  nothing
   starts pool
   ends   root
+  OTP    needs 30500 ms between crashes: it counts restarts in whole seconds
+a crash of pool/a
+  stops  nothing
+  starts pool/a
+  ends   pool root
+  OTP    needs 11000 ms between crashes: it counts restarts in whole seconds
+  alike  pool/a pool/b
 status 0
 "##,
     ),
@@ -1272,19 +1272,22 @@ status 0
         "limits shop.toml",
         "-",
         r##"child                             burst      interval  stops  starts  gives up
-db                                    3       3334 ms      2       3  supervisor
-cache                                 3       3334 ms      1       2  supervisor
-web                                   3       3334 ms      0       1  supervisor
+db                                    3       3334 ms      2       3  root
+cache                                 3       3334 ms      1       2  root
+web                                   3       3334 ms      0       1  root
 log                                 any           any      0       0  nobody
 a crash of db
   stops  web cache
   starts db cache web
+  OTP    needs 3667 ms between crashes: it counts restarts in whole seconds
 a crash of cache
   stops  web
   starts cache web
+  OTP    needs 3667 ms between crashes: it counts restarts in whole seconds
 a crash of web
   stops  nothing
   starts web
+  OTP    needs 3667 ms between crashes: it counts restarts in whole seconds
 a crash of log
   stops  nothing
   starts nothing
@@ -1295,10 +1298,11 @@ status 0
         "limits simple_one_for_one.toml",
         "-",
         r##"child                             burst      interval  stops  starts  gives up
-connection                            1       5001 ms      0       1  supervisor
+connection                            1       5001 ms      0       1  root
 a crash of connection
   stops  nothing
   starts connection
+  OTP    needs 6000 ms between crashes: it counts restarts in whole seconds
 status 0
 "##,
     ),
@@ -1306,18 +1310,12 @@ status 0
         "limits storm.toml",
         "-",
         r##"child                             burst      interval  stops  starts  gives up
-db                                    3       3334 ms      2       3  supervisor
-cache                                 3       3334 ms      2       3  supervisor
-web                                   3       3334 ms      2       3  supervisor
+db (3 alike)                          3       3334 ms      2       3  root
 a crash of db
   stops  web cache
   starts db cache web
-a crash of cache
-  stops  web db
-  starts db cache web
-a crash of web
-  stops  cache db
-  starts db cache web
+  OTP    needs 3667 ms between crashes: it counts restarts in whole seconds
+  alike  db cache web
 status 0
 "##,
     ),
@@ -1337,6 +1335,20 @@ status 2
 "##,
     ),
     (
+        "limits nested.toml --child pool/b",
+        "-",
+        r##"child                     burst      interval  stops  starts    root  gives up
+pool/a (2 alike)              1      10001 ms      0       1       5  pool
+a crash of pool/a
+  stops  nothing
+  starts pool/a
+  ends   pool root
+  OTP    needs 11000 ms between crashes: it counts restarts in whole seconds
+  alike  pool/a pool/b
+status 0
+"##,
+    ),
+    (
         "run nested.toml --schedulers 1 --counts",
         "-",
         r##"counts 0 specs 2 active 2 supervisors 1 workers 1
@@ -1344,6 +1356,25 @@ counts 1 specs 2 active 2 supervisors 0 workers 2
 table 0 starts 3 restarts 1 end shutdown
 table 1 starts 5 restarts 0 end shutdown
 live 0
+status 0
+"##,
+    ),
+    (
+        "limits nested.toml --table pool --each",
+        "-",
+        r##"child                     burst      interval  stops  starts    root  gives up
+pool/a                        1      10001 ms      0       1       5  pool
+pool/b                        1      10001 ms      0       1       5  pool
+a crash of pool/a
+  stops  nothing
+  starts pool/a
+  ends   pool root
+  OTP    needs 11000 ms between crashes: it counts restarts in whole seconds
+a crash of pool/b
+  stops  nothing
+  starts pool/b
+  ends   pool root
+  OTP    needs 11000 ms between crashes: it counts restarts in whole seconds
 status 0
 "##,
     ),
@@ -1360,6 +1391,13 @@ one_for_one, 2 restarts in 60 s, table 0: 3 starts, 1 restart, end shutdown
   |-- a  -
   `-- b  -
 status 0
+"##,
+    ),
+    (
+        "limits nested.toml --child pool/c",
+        "-",
+        r##"error: no child is found by the name pool/c
+status 2
 "##,
     ),
     (

@@ -1,4 +1,2 @@
 pub mod Scenes
-pub mod Ranked
 pub mod Steadies
-pub mod TreeRanked

@@ -7,6 +7,8 @@ use Rattle.otp_rules.specs.declared.event.Effect.TheVariants as effect
 use Rattle.otp_spec.specs.declared.child.ChildSpec.{ChildSpec}
 use Rattle.otp_spec.specs.declared.flags.SupFlags.{SupFlags}
 use Rattle.otp_spec.specs.declared.limits.TheConstants.{MAX_INTENSITY, MAX_PERIOD}
+use Rattle.otp_limits.specs.declared.clock.Clock.{Clock}
+use Rattle.otp_limits.specs.declared.clock.Clock.TheVariants as clock
 use Rattle.otp_limits.specs.declared.cost.Cost.{Cost}
 use Rattle.otp_limits.specs.declared.cost.TheConstants.{MOST_CRASHES}
 use Rattle.otp_limits.specs.declared.fate.Fate.{Fate}
@@ -17,7 +19,6 @@ use Rattle.otp_limits.specs.declared.steady.Steady.TheVariants as steady
 use Rattle.otp_limits.specs.declared.steady.Verdict.{Verdict}
 use Rattle.otp_limits.specs.declared.steady.Verdict.TheVariants.{Lasts, Falls}
 use Rattle.otp_limits.specs.Fates.{Crashes, IsUnplayed, Plays}
-use Rattle.otp_limits.specs.Ranks.{OneEach, ranked}
 use Rattle.otp_limits.specs.Scene.{Opens, Scene}
 
 -- the longest interval that is tried, in milliseconds: a second longer than the period
@@ -35,22 +36,22 @@ verdict_of fate.Survived = Lasts
 verdict_of (fate.Ended _) = Falls
 verdict_of (fate.Gone _) = Lasts
 
--- what a run of crashes at this interval shows
-abbrev pub IsJudged : SupFlags → List ChildSpec → Name → ℕ → Verdict → Type 0
-IsJudged flags specs id gap verdict = (ending : Fate) × (Plays flags specs id gap (steady_crashes flags) ending × (verdict_of ending ≡ verdict))
+-- what a run of crashes at this interval shows, by this clock
+abbrev pub IsJudged : Clock → SupFlags → List ChildSpec → Name → ℕ → Verdict → Type 0
+IsJudged clock flags specs id gap verdict = (ending : Fate) × (Plays flags specs clock id gap (steady_crashes flags) ending × (verdict_of ending ≡ verdict))
 
 -- the shortest interval lies between these: at the long one the run is survived, and at the short one it isn't
-pub record AreBounds (flags : SupFlags) (specs : List ChildSpec) (id : Name) (bounds : Bounds) : Type 0 where
+pub record AreBounds (clock : Clock) (flags : SupFlags) (specs : List ChildSpec) (id : Name) (bounds : Bounds) : Type 0 where
   pub order : bounds.short < bounds.long
   pub limit : bounds.long ≤ 2 ^ 30
-  pub falls : IsJudged flags specs id bounds.short Falls
-  pub lasts : IsJudged flags specs id bounds.long Lasts
+  pub falls : IsJudged clock flags specs id bounds.short Falls
+  pub lasts : IsJudged clock flags specs id bounds.long Lasts
 
 -- the shortest interval: with one millisecond less the run ends the supervisor
-unfoldable pub IsSteady : SupFlags → List ChildSpec → Name → Steady → Type 0
-IsSteady flags specs id steady.Always = IsJudged flags specs id 0 Lasts
-IsSteady flags specs id (steady.Apart gap) = IsJudged flags specs id gap Lasts × ((less : ℕ) × ((less + 1 ≡ gap) × IsJudged flags specs id less Falls))
-IsSteady flags specs id steady.Never = IsJudged flags specs id (longest_gap flags) Falls
+unfoldable pub IsSteady : Clock → SupFlags → List ChildSpec → Name → Steady → Type 0
+IsSteady clock flags specs id steady.Always = IsJudged clock flags specs id 0 Lasts
+IsSteady clock flags specs id (steady.Apart gap) = IsJudged clock flags specs id gap Lasts × ((less : ℕ) × ((less + 1 ≡ gap) × IsJudged clock flags specs id less Falls))
+IsSteady clock flags specs id steady.Never = IsJudged clock flags specs id (longest_gap flags) Falls
 
 -- the child that an order stops, and the one that it starts: where it has no id of its own, by that of its specification
 unfoldable pub stopped_by : Name → Effect → Option Name
@@ -72,7 +73,7 @@ started_by spec (effect.End _) = None
 -- what one crash of a child stops, and starts again, in this order
 pub record Crashed (id : Name) (opened : Scene) (stops starts : List Name) : Type 0 where
   pub after : Scene
-  pub crashes : Crashes id 0 1 opened after
+  pub crashes : Crashes clock.Milliseconds id 0 1 opened after
   pub stopped : stops ≡ filter_map (stopped_by id) after.orders
   pub started : starts ≡ filter_map (started_by id) after.orders
 
@@ -80,7 +81,7 @@ pub record Affects (flags : SupFlags) (specs : List ChildSpec) (id : Name) (stop
   pub opened : Scene
   pub opens : Opens flags specs opened
   pub after : Scene
-  pub crashes : Crashes id 0 1 opened after
+  pub crashes : Crashes clock.Milliseconds id 0 1 opened after
   pub stopped : stops ≡ filter_map (stopped_by id) after.orders
   pub started : starts ≡ filter_map (started_by id) after.orders
 
@@ -88,40 +89,15 @@ pub record Affects (flags : SupFlags) (specs : List ChildSpec) (id : Name) (stop
 pub record IsCost (flags : SupFlags) (specs : List ChildSpec) (id : Name) (cost : Cost) : Type 0 where
   pub named : cost.id ≡ id
   pub affects : Affects flags specs id cost.stops cost.starts
-  pub burst : Plays flags specs id 0 MOST_CRASHES cost.burst
-  pub steady : IsSteady flags specs id cost.steady
+  pub burst : Plays flags specs clock.Milliseconds id 0 MOST_CRASHES cost.burst
+  pub steady : IsSteady clock.Milliseconds flags specs id cost.steady
+  -- the same by the clock of OTP, from the beginning of a second on
+  pub seconds : IsSteady clock.Seconds flags specs id cost.seconds
 
 -- the costs of this child can't be found: one of the runs that they are found by can't be played to its end
 pub record IsUnknown (flags : SupFlags) (specs : List ChildSpec) (id : Name) : Type 0 where
-  -- the interval of its crashes, and how many there are
+  -- the clock, the interval of its crashes, and how many there are
+  pub clock : Clock
   pub gap : ℕ
   pub crashes : ℕ
-  pub unplayed : IsUnplayed flags specs id gap crashes
-
--- how many crashes are survived; a number above all where it is any
-unfoldable pub survived_in : Fate → ℕ
-survived_in fate.Survived = MOST_CRASHES
-survived_in (fate.Ended count) = count
-survived_in (fate.Gone _) = MOST_CRASHES
-
--- how far apart crashes must be; a number above all where no crash is survived
-unfoldable pub apart_in : Steady → ℕ
-apart_in steady.Always = 0
-apart_in (steady.Apart gap) = gap
-apart_in steady.Never = 2 ^ 31
-
--- fewer crashes are survived; or as many, and they must be further apart; or no further, and more children are stopped
-unfoldable pub is_worse : Cost → Cost → Bool
-is_worse a b =
-    nat_lt (survived_in a.burst) (survived_in b.burst)
-    || ((survived_in a.burst == survived_in b.burst)
-    && (nat_lt (apart_in b.steady) (apart_in a.steady)
-    || ((apart_in a.steady == apart_in b.steady) && nat_lt (length b.stops) (length a.stops))))
-
--- a cost for each of these children, in their order
-abbrev pub AreCosts : SupFlags → List ChildSpec → List ChildSpec → List Cost → Type 0
-AreCosts flags all = OneEach (λ id cost. IsCost flags all id cost)
-
--- a cost for each child, the worst first
-abbrev pub AreLimits : SupFlags → List ChildSpec → List Cost → Type 0
-AreLimits flags specs costs = (each : List Cost) × (AreCosts flags specs specs each × (costs ≡ ranked is_worse [] each))
+  pub unplayed : IsUnplayed flags specs clock id gap crashes

@@ -14,8 +14,10 @@ use Rattle.otp_spec.specs.declared.child.ChildSpec.{ChildSpec}
 use Rattle.otp_spec.specs.declared.flags.SupFlags.{SupFlags}
 use Rattle.otp_table.specs.declared.row.Row.{Row}
 use Rattle.otp_table.specs.Rows.{up_number}
+use Rattle.otp_limits.specs.declared.clock.Clock.{Clock}
 use Rattle.otp_limits.specs.declared.fate.Fate.{Fate}
 use Rattle.otp_limits.specs.declared.fate.Fate.TheVariants as fate
+use Rattle.otp_limits.specs.Clocks.{shown}
 use Rattle.otp_limits.specs.Scene.{FillsUp, IsFull, OpeningFills, Opens, Scene, Settles, happened}
 
 unfoldable pub running : Option Row → Option ℕ
@@ -45,50 +47,51 @@ crashed_at time (Some p) s = happened time (kind.Took (item.Note (note.Exit p re
 abbrev pub crashed : Name → ℕ → Scene → Scene
 crashed id time s = crashed_at time (process_of id s.state.rows) (cleared s)
 
--- so many crashes of this child, one at the end of each interval of so many milliseconds, with all that follows from each
-abbrev pub Crashes : Name → ℕ → ℕ → Scene → Scene → Type 0
-Crashes id gap zero old new = new ≡ old
-Crashes id gap (suc n) old new =
-    (before : Scene) × Crashes id gap n old before × Settles ((n + 1) * gap) (crashed id ((n + 1) * gap) before) new
+-- so many crashes of this child, so many milliseconds apart by this clock, the first at the beginning, with all that follows
+-- from each
+abbrev pub Crashes : Clock → Name → ℕ → ℕ → Scene → Scene → Type 0
+Crashes clock id gap zero old new = new ≡ old
+Crashes clock id gap (suc n) old new =
+    (before : Scene) × Crashes clock id gap n old before × Settles (shown clock (n * gap)) (crashed id (shown clock (n * gap)) before) new
 
 -- the supervisor runs after so many crashes
-abbrev pub RunsAfter : Name → ℕ → ℕ → Scene → Scene → Type 0
-RunsAfter id gap n old new = Crashes id gap n old new × (is_over new.state.phase ≡ false)
+abbrev pub RunsAfter : Clock → Name → ℕ → ℕ → Scene → Scene → Type 0
+RunsAfter clock id gap n old new = Crashes clock id gap n old new × (is_over new.state.phase ≡ false)
 
 -- the supervisor has ended after so many crashes
-abbrev pub IsOverAfter : Name → ℕ → ℕ → Scene → Type 0
-IsOverAfter id gap n old = (new : Scene) × Crashes id gap n old new × (is_over new.state.phase ≡ true)
+abbrev pub IsOverAfter : Clock → Name → ℕ → ℕ → Scene → Type 0
+IsOverAfter clock id gap n old = (new : Scene) × Crashes clock id gap n old new × (is_over new.state.phase ≡ true)
 
 -- the next crash of this child can't be played to its end: a supervisor has no more events
 abbrev pub HasNoRoom : Name → ℕ → Scene → Type 0
 HasNoRoom id time s = IsFull s ⊎ FillsUp time (crashed id time s)
 
 -- how an opened supervisor fares where a child crashes so often, at such an interval
-unfoldable pub Fares : Name → ℕ → ℕ → Scene → Fate → Type 0
-Fares id gap crashes s fate.Survived = (new : Scene) × RunsAfter id gap crashes s new
-Fares id gap crashes s (fate.Ended n) = (n < crashes) × (((new : Scene) × RunsAfter id gap n s new) × IsOverAfter id gap (n + 1) s)
-Fares id gap crashes s (fate.Gone n) = (new : Scene) × (RunsAfter id gap n s new × (process_of id new.state.rows ≡ None))
+unfoldable pub Fares : Clock → Name → ℕ → ℕ → Scene → Fate → Type 0
+Fares clock id gap crashes s fate.Survived = (new : Scene) × RunsAfter clock id gap crashes s new
+Fares clock id gap crashes s (fate.Ended n) = (n < crashes) × (((new : Scene) × RunsAfter clock id gap n s new) × IsOverAfter clock id gap (n + 1) s)
+Fares clock id gap crashes s (fate.Gone n) = (new : Scene) × (RunsAfter clock id gap n s new × (process_of id new.state.rows ≡ None))
 
 -- one of so many crashes can't be played to its end
-pub record Fills (id : Name) (gap crashes : ℕ) (s : Scene) : Type 0 where
+pub record Fills (clock : Clock) (id : Name) (gap crashes : ℕ) (s : Scene) : Type 0 where
   pub count : ℕ
   pub inside : count < crashes
   pub before : Scene
-  pub crashed : Crashes id gap count s before
-  pub fills : HasNoRoom id ((count + 1) * gap) before
+  pub crashed : Crashes clock id gap count s before
+  pub fills : HasNoRoom id (shown clock (count * gap)) before
 
 -- the same from the opening on
-pub record Plays (flags : SupFlags) (specs : List ChildSpec) (id : Name) (gap crashes : ℕ) (ending : Fate) : Type 0 where
+pub record Plays (flags : SupFlags) (specs : List ChildSpec) (clock : Clock) (id : Name) (gap crashes : ℕ) (ending : Fate) : Type 0 where
   pub opened : Scene
   pub opens : Opens flags specs opened
-  pub fares : Fares id gap crashes opened ending
+  pub fares : Fares clock id gap crashes opened ending
 
 -- it can't be played: the opening ends the supervisor, or one of the crashes after it does not come to its end
-pub record CrashFills (flags : SupFlags) (specs : List ChildSpec) (id : Name) (gap crashes : ℕ) : Type 0 where
+pub record CrashFills (flags : SupFlags) (specs : List ChildSpec) (clock : Clock) (id : Name) (gap crashes : ℕ) : Type 0 where
   pub opened : Scene
   pub opens : Opens flags specs opened
-  pub fills : (is_over opened.state.phase ≡ true) ⊎ Fills id gap crashes opened
+  pub fills : (is_over opened.state.phase ≡ true) ⊎ Fills clock id gap crashes opened
 
 -- the same, or the opening does not come to its end
-abbrev pub IsUnplayed : SupFlags → List ChildSpec → Name → ℕ → ℕ → Type 0
-IsUnplayed flags specs id gap crashes = OpeningFills flags specs ⊎ CrashFills flags specs id gap crashes
+abbrev pub IsUnplayed : SupFlags → List ChildSpec → Clock → Name → ℕ → ℕ → Type 0
+IsUnplayed flags specs clock id gap crashes = OpeningFills flags specs ⊎ CrashFills flags specs clock id gap crashes

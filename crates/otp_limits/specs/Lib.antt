@@ -1,9 +1,6 @@
 pub mod Scene
+pub mod Clocks
 pub mod Fates
-pub mod Ranks
 pub mod Costs
-pub mod Table
 pub mod Inside
 pub mod Falls
-pub mod TreeCosts
-pub mod TreeTable

@@ -1,14 +1,15 @@
 //! What the failure of one child costs.
 
-ghost use Rattle.std.specs.Prelude.{◌≡◌, ◌≤◌, ◌^◌, ◌++◌, None, IfErr, IfOk, OnOk, length};
+ghost use Rattle.std.specs.Prelude.{◌≡◌, ◌++◌, None, IfErr, IfOk, OnOk, length};
 ghost use Rattle.std.specs.List.{filter_map};
-ghost use Rattle.otp_limits.specs.Costs.{Affects, Crashed, IsCost, IsUnknown, apart_in, is_worse, started_by, stopped_by, survived_in};
+ghost use Rattle.otp_limits.specs.Costs.{Affects, Crashed, IsCost, IsUnknown, started_by, stopped_by};
 ghost use Rattle.otp_limits.specs.Fates.{Fills, IsUnplayed};
+ghost use Rattle.otp_limits.specs.declared.clock.Clock.TheVariants.{Milliseconds};
 ghost use Rattle.otp_try.specs.declared.trial.Halt.TheVariants.{HistoryFull};
 
+use crate::clock::Clock;
 use crate::fate::{Fate, play};
 use crate::list::Listed;
-use crate::rank::Ranked;
 use crate::stage::Stage;
 use crate::steady::{Steady, find_steady};
 use otp_reason::Name;
@@ -19,9 +20,6 @@ use std::alloc::{AllocError, Global};
 
 /// The most crashes of a burst that are played: more than the greatest intensity.
 pub const MOST_CRASHES: u64 = 1024;
-
-/// A number of milliseconds above each interval that is tried.
-const NO_INTERVAL: u64 = 2_147_483_648;
 
 /// What the failure of a child costs.
 #[derive(Debug, Drop)]
@@ -36,6 +34,8 @@ pub struct Cost {
     pub burst: Fate,
     /// How far apart its crashes must be.
     pub steady: Steady,
+    /// The same by the clock of OTP, which shows whole seconds.
+    pub seconds: Steady,
 }
 
 /// The child that an order stops: one without an id is called by that of its specification.
@@ -92,7 +92,7 @@ fn find_affected(
     id: &Name,
 ) -> Result<(Listed<Name>, Listed<Name>), Halt>
     ensures ok { IfOk result (λ found. Affects supervisor.now.flags supervisor.now.specs id.now found.0 found.1) }
-    ensures full { IfErr result (λ halt. halt ≡ HistoryFull → IsUnplayed supervisor.now.flags supervisor.now.specs id.now 0 1) }
+    ensures full { IfErr result (λ halt. halt ≡ HistoryFull → IsUnplayed supervisor.now.flags supervisor.now.specs Milliseconds id.now 0 1) }
 {
     let mut stage = Stage::open(alloc, supervisor)?;
     find_crashed(alloc, &mut stage, id)
@@ -105,7 +105,7 @@ fn find_crashed(
     id: &Name,
 ) -> Result<(Listed<Name>, Listed<Name>), Halt>
     ensures ok { IfOk result (λ found. Crashed id.now stage.old found.0 found.1) }
-    ensures full { IfErr result (λ halt. halt ≡ HistoryFull → Fills id.now 0 1 stage.old) }
+    ensures full { IfErr result (λ halt. halt ≡ HistoryFull → Fills Milliseconds id.now 0 1 stage.old) }
 {
     stage.crash(id, 0)?;
     let mut stops = Listed::new(alloc);
@@ -138,56 +138,15 @@ pub fn find_cost(alloc: Global, supervisor: &SupSpec, id: &Name) -> Result<Cost,
     ensures full { IfErr result (λ halt. halt ≡ HistoryFull → IsUnknown supervisor.now.flags supervisor.now.specs id.now) }
 {
     let (stops, starts) = find_affected(alloc, supervisor, id)?;
-    let burst = play(alloc, supervisor, id, 0, MOST_CRASHES)?;
-    let steady = find_steady(alloc, supervisor, id)?;
+    let burst = play(alloc, supervisor, Clock::Milliseconds, id, 0, MOST_CRASHES)?;
+    let steady = find_steady(alloc, supervisor, Clock::Milliseconds, id)?;
+    let seconds = find_steady(alloc, supervisor, Clock::Seconds, id)?;
     Ok(Cost {
         id: *id,
         stops,
         starts,
         burst,
         steady,
+        seconds,
     })
-}
-
-impl Fate {
-    /// How many crashes are survived; a number above all where it is any.
-    #[tactic(auto, unfolding(crate::specs::Costs::survived_in))]
-    fn survived(self) -> u64
-        ensures { result ≡ survived_in self }
-    {
-        match self {
-            Fate::Survived | Fate::Gone(_) => MOST_CRASHES,
-            Fate::Ended(count) => count,
-        }
-    }
-}
-
-impl Steady {
-    /// How far apart crashes must be, in milliseconds; a number above all where no crash is survived.
-    #[tactic(auto, unfolding(crate::specs::Costs::apart_in))]
-    fn apart(self) -> u64
-        ensures { result ≡ apart_in self }
-    {
-        match self {
-            Steady::Always => 0,
-            Steady::Apart(gap) => gap,
-            Steady::Never => NO_INTERVAL,
-        }
-    }
-}
-
-impl Ranked for Cost {
-    ghost worse = { is_worse };
-
-    /// Fewer crashes are survived; or as many, and they must be further apart; or no further, and more children are stopped.
-    #[tactic(auto, unfolding(crate::specs::Costs::is_worse))]
-    fn is_worse(&self, other: &Self) -> bool {
-        let (survived, others) = (self.burst.survived(), other.burst.survived());
-        let (apart, apart_other) = (self.steady.apart(), other.steady.apart());
-        survived < others
-            || (survived == others
-                && (apart_other < apart
-                    || (apart == apart_other
-                        && other.stops.as_slice().len() < self.stops.as_slice().len())))
-    }
 }

@@ -129,7 +129,7 @@ fn gave_up(phase: Phase) -> bool
 
 /// The path of a supervisor whose children have this in front of their names.
 #[tactic(auto, unfolding(crate::specs::Falls::supervisor_path))]
-pub(crate) fn supervisor_path(path: &[u8]) -> &[u8]
+pub fn supervisor_path(path: &[u8]) -> &[u8]
     ensures { result.now ≡ supervisor_path path.now }
 {
     match path {

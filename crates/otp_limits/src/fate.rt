@@ -6,6 +6,7 @@ ghost use Rattle.otp_limits.specs.Fates.{Fares, Fills, IsUnplayed, Plays};
 ghost use Rattle.otp_rules.specs.State.{is_over};
 ghost use Rattle.otp_try.specs.declared.trial.Halt.TheVariants.{HistoryFull};
 
+use crate::clock::Clock;
 use crate::stage::Stage;
 use otp_reason::Name;
 use otp_spec::SupSpec;
@@ -23,19 +24,19 @@ pub enum Fate {
     Gone(u64),
 }
 
-/// Lets a child of an opened supervisor crash so often, each time after so many milliseconds.
+/// Lets a child of an opened supervisor crash so often, first at once and then each time after so many milliseconds.
 #[tactic(auto, unfolding(crate::specs::Fates::Fares))]
-fn fare(stage: &mut Stage, id: &Name, gap: u64, crashes: u64) -> Result<Fate, Halt>
+fn fare(stage: &mut Stage, clock: Clock, id: &Name, gap: u64, crashes: u64) -> Result<Fate, Halt>
     requires runs { is_over stage.old.state.phase ≡ false }
     requires time { crashes * gap ≤ MAX_READING }
-    ensures ok { IfOk result (λ fate. Fares id.now gap crashes stage.old fate) }
-    ensures full { IfErr result (λ halt. halt ≡ HistoryFull → Fills id.now gap crashes stage.old) }
+    ensures ok { IfOk result (λ fate. Fares clock id.now gap crashes stage.old fate) }
+    ensures full { IfErr result (λ halt. halt ≡ HistoryFull → Fills clock id.now gap crashes stage.old) }
 {
     for count in 0..crashes {
         if stage.process_of(id).is_none() {
             return Ok(Fate::Gone(count));
         }
-        stage.crash(id, (count + 1) * gap)?;
+        stage.crash(id, clock.shown(count * gap))?;
         if stage.has_ended() {
             return Ok(Fate::Ended(count));
         }
@@ -43,28 +44,30 @@ fn fare(stage: &mut Stage, id: &Name, gap: u64, crashes: u64) -> Result<Fate, Ha
     Ok(Fate::Survived)
 }
 
-/// Opens a supervisor, and lets a child of it crash so often, each time after so many milliseconds.
+/// Opens a supervisor, and lets a child of it crash so often, first at once and then each time after so many milliseconds, by
+/// this clock.
 ///
 /// # Errors
 ///
 /// Where memory is refused, or a supervisor has 2^62 events before the last crash.
-pub(crate) fn play(
+pub fn play(
     alloc: Global,
     supervisor: &SupSpec,
+    clock: Clock,
     id: &Name,
     gap: u64,
     crashes: u64,
 ) -> Result<Fate, Halt>
     requires time { crashes * gap ≤ MAX_READING }
-    ensures ok { IfOk result (λ fate. Plays supervisor.now.flags supervisor.now.specs id.now gap crashes fate) }
-    ensures full { IfErr result (λ halt. halt ≡ HistoryFull → IsUnplayed supervisor.now.flags supervisor.now.specs id.now gap crashes) }
+    ensures ok { IfOk result (λ fate. Plays supervisor.now.flags supervisor.now.specs clock id.now gap crashes fate) }
+    ensures full { IfErr result (λ halt. halt ≡ HistoryFull → IsUnplayed supervisor.now.flags supervisor.now.specs clock id.now gap crashes) }
 {
     let mut stage = Stage::open(alloc, supervisor)?;
     if stage.has_ended() {
         drop(stage);
         return Err(Halt::HistoryFull);
     }
-    let fate = fare(&mut stage, id, gap, crashes);
+    let fate = fare(&mut stage, clock, id, gap, crashes);
     drop(stage);
     fate
 }

@@ -5,26 +5,19 @@
 //! Nothing is reckoned: each number stands for runs of the cores, which `specs/` says event by event.
 #![tactic(auto)]
 
+mod clock;
 mod cost;
 mod fall;
 mod fate;
-mod limits;
 mod list;
 mod path;
-mod rank;
 mod stage;
 mod steady;
-mod table;
-mod tree;
-mod tree_table;
 
+pub use clock::{Clock, first_phase_is_worst};
 pub use cost::{Cost, MOST_CRASHES, find_cost};
-pub use fall::{Fall, MOST_FALLS, find_fall};
-pub use fate::Fate;
-pub use limits::find_limits;
+pub use fall::{Fall, MOST_FALLS, find_fall, supervisor_path};
+pub use fate::{Fate, play};
 pub use list::Listed;
 pub use path::Path;
-pub use steady::Steady;
-pub use table::{write_limits, write_table};
-pub use tree::{TreeCost, find_tree_limits};
-pub use tree_table::{write_tree_limits, write_tree_table};
+pub use steady::{Steady, Verdict, find_steady, judge};

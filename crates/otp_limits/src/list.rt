@@ -37,7 +37,7 @@ impl<T: Drop> Listed<T> {
     }
 
     /// Puts one behind the others.
-    pub(crate) fn push(&mut self, item: T) -> Result<(), AllocError>
+    pub fn push(&mut self, item: T) -> Result<(), AllocError>
         ensures { OnOk result (self.new ≡ self.old ++ item ∷ []) }
     {
         self.items.push(item).map_err(|_| AllocError)

@@ -1,10 +1,11 @@
 //! How far apart crashes must be, so that a supervisor survives them for ever.
 
-ghost use Rattle.std.specs.Prelude.{◌≡◌, ◌≤◌, ◌<◌, ◌^◌, ◌+◌, ◌-◌, ◌*◌, None, IfErr, IfOk};
+ghost use Rattle.std.specs.Prelude.{◌≡◌, ◌≤◌, ◌<◌, ◌^◌, ◌+◌, ◌-◌, ◌*◌, None, IfErr, IfOk, IfSome};
 ghost use Rattle.otp_limits.specs.Costs.{AreBounds, IsJudged, IsSteady, IsUnknown, longest_gap, steady_crashes, verdict_of};
 ghost use Rattle.otp_limits.specs.declared.steady.Verdict.TheVariants.{Falls, Lasts};
 ghost use Rattle.otp_try.specs.declared.trial.Halt.TheVariants.{HistoryFull};
 
+use crate::clock::Clock;
 use crate::fate::{Fate, play};
 use otp_reason::Name;
 use otp_spec::{MAX_INTENSITY, MAX_PERIOD, SupFlags, SupSpec};
@@ -24,7 +25,7 @@ pub enum Steady {
 
 /// What a run of crashes at an interval shows.
 #[derive(Clone, Copy, Debug, PartialEq, Eq)]
-pub(crate) enum Verdict {
+pub enum Verdict {
     /// The supervisor runs at its end.
     Lasts,
     /// It ended the supervisor.
@@ -58,14 +59,24 @@ fn steady_crashes(flags: &SupFlags) -> u64
     flags.intensity.min(MAX_INTENSITY) + 2
 }
 
-/// Plays crashes of a child at an interval in milliseconds.
-fn judge(alloc: Global, supervisor: &SupSpec, id: &Name, gap: u64) -> Result<Verdict, Halt>
+/// Plays crashes of a child at an interval in milliseconds, two more than the intensity.
+///
+/// # Errors
+///
+/// Where memory is refused, or a supervisor has 2^62 events before the last crash.
+pub fn judge(
+    alloc: Global,
+    supervisor: &SupSpec,
+    clock: Clock,
+    id: &Name,
+    gap: u64,
+) -> Result<Verdict, Halt>
     requires gap { gap ≤ 2 ^ 30 }
-    ensures ok { IfOk result (λ verdict. IsJudged supervisor.now.flags supervisor.now.specs id.now gap verdict) }
+    ensures ok { IfOk result (λ verdict. IsJudged clock supervisor.now.flags supervisor.now.specs id.now gap verdict) }
     ensures full { IfErr result (λ halt. halt ≡ HistoryFull → IsUnknown supervisor.now.flags supervisor.now.specs id.now) }
 {
     let crashes = steady_crashes(&supervisor.flags());
-    let fate = play(alloc, supervisor, id, gap, crashes)?;
+    let fate = play(alloc, supervisor, clock, id, gap, crashes)?;
     Ok(verdict_of(fate))
 }
 
@@ -81,17 +92,18 @@ pub(crate) struct Bounds {
 fn narrow(
     alloc: Global,
     supervisor: &SupSpec,
+    clock: Clock,
     id: &Name,
     bounds: Bounds,
     gap: u64,
 ) -> Result<Bounds, Halt>
-    requires bounds { AreBounds supervisor.now.flags supervisor.now.specs id.now bounds }
+    requires bounds { AreBounds clock supervisor.now.flags supervisor.now.specs id.now bounds }
     requires inside { (bounds.short < gap) × (gap < bounds.long) }
-    ensures bounds { IfOk result (AreBounds supervisor.now.flags supervisor.now.specs id.now) }
+    ensures bounds { IfOk result (AreBounds clock supervisor.now.flags supervisor.now.specs id.now) }
     ensures narrower { IfOk result (λ after. after.long - after.short < bounds.long - bounds.short) }
     ensures full { IfErr result (λ halt. halt ≡ HistoryFull → IsUnknown supervisor.now.flags supervisor.now.specs id.now) }
 {
-    match judge(alloc, supervisor, id, gap)? {
+    match judge(alloc, supervisor, clock, id, gap)? {
         Verdict::Lasts => Ok(Bounds {
             short: bounds.short,
             long: gap,
@@ -103,73 +115,102 @@ fn narrow(
     }
 }
 
-/// The same of an interval that may lie elsewhere; then they stay.
-fn narrow_at(
-    alloc: Global,
-    supervisor: &SupSpec,
-    id: &Name,
-    bounds: Bounds,
-    gap: u64,
-) -> Result<Bounds, Halt>
-    requires bounds { AreBounds supervisor.now.flags supervisor.now.specs id.now bounds }
-    ensures bounds { IfOk result (AreBounds supervisor.now.flags supervisor.now.specs id.now) }
-    ensures full { IfErr result (λ halt. halt ≡ HistoryFull → IsUnknown supervisor.now.flags supervisor.now.specs id.now) }
+/// The longest interval at which a period holds a restart more than the intensity, by this clock: a millisecond longer is the
+/// shortest that is survived, where each crash is one restart. It is tried first, and saves nearly all of the halving.
+fn likely_gap(clock: Clock, flags: &SupFlags) -> u64
+    ensures { result < 2 ^ 30 }
 {
-    if bounds.short < gap && gap < bounds.long {
-        narrow(alloc, supervisor, id, bounds, gap)
-    } else {
-        Ok(bounds)
+    let period = flags.period.min(MAX_PERIOD) * 1000;
+    let intensity = flags.intensity.min(MAX_INTENSITY).max(1);
+    match clock {
+        Clock::Milliseconds => period / intensity,
+        Clock::Seconds => (period + 999) / intensity,
     }
 }
 
-/// The longest interval at which a period holds a restart more than the intensity: a millisecond longer is the shortest that is
-/// survived, where each crash is one restart. It is tried first, and saves nearly all of the halving.
-fn likely_gap(flags: &SupFlags) -> u64
-    ensures { result ≤ 2 ^ 30 }
-{
-    flags.period.min(MAX_PERIOD) * 1000 / flags.intensity.min(MAX_INTENSITY).max(1)
-}
-
-/// Finds the shortest interval by halving, from the likely one on.
+/// The shortest interval, if it is a millisecond longer than this one.
 #[tactic(auto, unfolding(crate::specs::Costs::IsSteady))]
-fn search(alloc: Global, supervisor: &SupSpec, id: &Name, longest: u64) -> Result<Steady, Halt>
-    requires limit { (0 < longest) × (longest ≤ 2 ^ 30) }
-    requires falls { IsJudged supervisor.now.flags supervisor.now.specs id.now 0 Falls }
-    requires lasts { IsJudged supervisor.now.flags supervisor.now.specs id.now longest Lasts }
-    ensures ok { IfOk result (λ steady. IsSteady supervisor.now.flags supervisor.now.specs id.now steady) }
+fn find_above(
+    alloc: Global,
+    supervisor: &SupSpec,
+    clock: Clock,
+    id: &Name,
+    less: u64,
+) -> Result<Option<Steady>, Halt>
+    requires limit { less < 2 ^ 30 }
+    ensures ok { IfOk result (λ found. IfSome found (IsSteady clock supervisor.now.flags supervisor.now.specs id.now)) }
     ensures full { IfErr result (λ halt. halt ≡ HistoryFull → IsUnknown supervisor.now.flags supervisor.now.specs id.now) }
 {
-    let likely = likely_gap(&supervisor.flags());
-    let bounds = Bounds {
+    match judge(alloc, supervisor, clock, id, less + 1)? {
+        Verdict::Falls => return Ok(None),
+        Verdict::Lasts => {}
+    }
+    match judge(alloc, supervisor, clock, id, less)? {
+        Verdict::Falls => Ok(Some(Steady::Apart(less + 1))),
+        Verdict::Lasts => Ok(None),
+    }
+}
+
+/// Finds the shortest interval by halving.
+#[tactic(auto, unfolding(crate::specs::Costs::IsSteady))]
+fn search(
+    alloc: Global,
+    supervisor: &SupSpec,
+    clock: Clock,
+    id: &Name,
+    longest: u64,
+) -> Result<Steady, Halt>
+    requires limit { (0 < longest) × (longest ≤ 2 ^ 30) }
+    requires falls { IsJudged clock supervisor.now.flags supervisor.now.specs id.now 0 Falls }
+    requires lasts { IsJudged clock supervisor.now.flags supervisor.now.specs id.now longest Lasts }
+    ensures ok { IfOk result (λ steady. IsSteady clock supervisor.now.flags supervisor.now.specs id.now steady) }
+    ensures full { IfErr result (λ halt. halt ≡ HistoryFull → IsUnknown supervisor.now.flags supervisor.now.specs id.now) }
+{
+    let mut bounds = Bounds {
         short: 0,
         long: longest,
     };
-    let bounds = narrow_at(alloc, supervisor, id, bounds, likely + 1)?;
-    let mut bounds = narrow_at(alloc, supervisor, id, bounds, likely)?;
     'halving: while bounds.long - bounds.short > 1 {
         let middle = bounds.short + (bounds.long - bounds.short) / 2;
-        bounds = narrow(alloc, supervisor, id, bounds, middle)?;
+        bounds = narrow(alloc, supervisor, clock, id, bounds, middle)?;
     }
     Ok(Steady::Apart(bounds.long))
 }
 
-/// The shortest interval between crashes of a child that its supervisor survives.
-///
-/// # Errors
-///
-/// Where memory is refused, or a supervisor has 2^62 events before the last crash of a run.
+/// The shortest interval where it isn't the likely one.
 #[tactic(auto, unfolding(crate::specs::Costs::IsSteady))]
-pub(crate) fn find_steady(alloc: Global, supervisor: &SupSpec, id: &Name) -> Result<Steady, Halt>
-    ensures ok { IfOk result (λ steady. IsSteady supervisor.now.flags supervisor.now.specs id.now steady) }
+fn find_other(alloc: Global, supervisor: &SupSpec, clock: Clock, id: &Name) -> Result<Steady, Halt>
+    ensures ok { IfOk result (λ steady. IsSteady clock supervisor.now.flags supervisor.now.specs id.now steady) }
     ensures full { IfErr result (λ halt. halt ≡ HistoryFull → IsUnknown supervisor.now.flags supervisor.now.specs id.now) }
 {
-    match judge(alloc, supervisor, id, 0)? {
+    match judge(alloc, supervisor, clock, id, 0)? {
         Verdict::Lasts => return Ok(Steady::Always),
         Verdict::Falls => {}
     }
     let longest = longest_gap(&supervisor.flags());
-    match judge(alloc, supervisor, id, longest)? {
+    match judge(alloc, supervisor, clock, id, longest)? {
         Verdict::Falls => Ok(Steady::Never),
-        Verdict::Lasts => search(alloc, supervisor, id, longest),
+        Verdict::Lasts => search(alloc, supervisor, clock, id, longest),
+    }
+}
+
+/// The shortest interval between crashes of a child that its supervisor survives, by this clock.
+///
+/// # Errors
+///
+/// Where memory is refused, or a supervisor has 2^62 events before the last crash of a run.
+pub fn find_steady(
+    alloc: Global,
+    supervisor: &SupSpec,
+    clock: Clock,
+    id: &Name,
+) -> Result<Steady, Halt>
+    ensures ok { IfOk result (λ steady. IsSteady clock supervisor.now.flags supervisor.now.specs id.now steady) }
+    ensures full { IfErr result (λ halt. halt ≡ HistoryFull → IsUnknown supervisor.now.flags supervisor.now.specs id.now) }
+{
+    let likely = likely_gap(clock, &supervisor.flags());
+    match find_above(alloc, supervisor, clock, id, likely)? {
+        Some(steady) => Ok(steady),
+        None => find_other(alloc, supervisor, clock, id),
     }
 }

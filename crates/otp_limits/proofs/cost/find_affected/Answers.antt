@@ -2,6 +2,7 @@ use Rattle.std.proofs.Common.{◌≡◌, inr}
 use Rattle.std.proofs.lemmas.Result.{IfErr-weaker, IfOk-at_ok, IfOk-weaker}
 use Rattle.otp_limits.specs.Costs.{Affects, Crashed}
 use Rattle.otp_limits.specs.Fates.{Fills, IsUnplayed}
+use Rattle.otp_limits.specs.declared.clock.Clock.TheVariants.{Milliseconds}
 use Rattle.otp_limits.specs.Scene.{Opens, Scene}
 use Rattle.otp_try.specs.declared.trial.Halt.{Halt}
 use Rattle.otp_try.specs.declared.trial.Halt.TheVariants.{HistoryFull}
@@ -22,6 +23,6 @@ returns-clause-full c =
     let opened : Scene = c.in_ok-stage.stage in
     let opens : Opens c.args.supervisor.now.flags c.args.supervisor.now.specs opened =
     IfOk-at_ok (λ (s : Scene). Opens c.args.supervisor.now.flags c.args.supervisor.now.specs s) c.in_ok-stage.was c.open.ensures.ok in
-    let Full : Halt → Type 0 = λ halt. halt ≡ HistoryFull → Fills c.args.id.now 0 1 opened in
-    IfErr-weaker c.find_crashed.result Full (λ halt. halt ≡ HistoryFull → IsUnplayed c.args.supervisor.now.flags c.args.supervisor.now.specs c.args.id.now 0 1)
+    let Full : Halt → Type 0 = λ halt. halt ≡ HistoryFull → Fills Milliseconds c.args.id.now 0 1 opened in
+    IfErr-weaker c.find_crashed.result Full (λ halt. halt ≡ HistoryFull → IsUnplayed c.args.supervisor.now.flags c.args.supervisor.now.specs Milliseconds c.args.id.now 0 1)
     (λ halt fills is. inr (record { opened = opened; opens = opens; fills = inr (fills is) })) c.find_crashed.ensures.full

@@ -1,0 +1,50 @@
+-- Children of a supervisor that are taken together (own).
+use Rattle.std.specs.Prelude.{◌≡◌, ℕ, Bool, true, false, List, [], ◌∷◌, ◌++◌, Option, Some, None, if◌then◌else◌}
+use Rattle.std.specs.List.{filter_map, list_any}
+use Rattle.std.specs.Str.{bytes_eq}
+use Rattle.otp_reason.specs.declared.name.Name.{Name}
+use Rattle.otp_reason.specs.Names.{name_bytes}
+use Rattle.otp_limits.specs.Falls.{supervisor_path}
+use Rattle.otp_spec.specs.declared.child.ChildSpec.{ChildSpec}
+use Rattle.otp_folds.specs.declared.group.Group.{Group}
+use Rattle.otp_folds.specs.declared.pick.Pick.{Pick}
+use Rattle.otp_folds.specs.declared.pick.Pick.TheVariants as pick
+
+-- the name of a child, where it is taken together with that one
+abbrev pub name_if : Bool → ChildSpec → Option Name
+name_if false spec = None
+name_if true spec = Some spec.id
+
+-- the names of those that are taken together with a child, itself among them, in start order
+abbrev pub names_with : (ChildSpec → Bool) → List ChildSpec → List Name
+names_with is_with specs = filter_map (λ spec. name_if (is_with spec) spec) specs
+
+-- a group with a child at its head, unless an earlier group has it
+unfoldable pub group_if : Bool → (ChildSpec → Bool) → List ChildSpec → ChildSpec → List Group
+group_if true is_with all spec = []
+group_if false is_with all spec = record { first = spec.id; names = names_with is_with all } ∷ []
+
+unfoldable pub heads_after : Bool → List ChildSpec → ChildSpec → List ChildSpec
+heads_after true heads spec = heads
+heads_after false heads spec = heads ++ spec ∷ []
+
+-- the groups of these children of a supervisor that has all of those, where groups with these heads were found before
+abbrev pub groups_from : (ChildSpec → ChildSpec → Bool) → List ChildSpec → List ChildSpec → List ChildSpec → List Group
+groups_from alike all heads [] = []
+groups_from alike all heads (spec ∷ specs) =
+    group_if (list_any (alike spec) heads) (alike spec) all spec
+    ++ groups_from alike all (heads_after (list_any (alike spec) heads) heads spec) specs
+
+-- the children of a supervisor, those together that are alike
+abbrev pub groups : (ChildSpec → ChildSpec → Bool) → List ChildSpec → List Group
+groups alike specs = groups_from alike specs [] specs
+
+-- the name of a child of a supervisor with this path
+abbrev pub below : List ℕ → Name → List ℕ
+below path name = path ++ name_bytes name
+
+-- whether a group of a supervisor, whose children have this path, is asked for
+unfoldable pub is_wanted : Pick → List ℕ → List Name → Bool
+is_wanted pick.All path names = true
+is_wanted (pick.Child whole) path names = list_any (λ name. bytes_eq (below path name) whole.now) names
+is_wanted (pick.Table whole) path names = bytes_eq (supervisor_path path) whole.now

@@ -1,0 +1,23 @@
+//! What does each child's failure cost, in a whole tree? Children of a supervisor that are alike are taken together: the first
+//! of them is played (otp_limits), and a row stands for them all. The rows are told as a table, the worst first.
+//!
+//! Alike are children with the same restart type and type, both significant or both not, unless their supervisor is of
+//! rest_for_one. That the others of a row fare as the first isn't proved; [`Grain::Each`] plays each.
+#![tactic(auto)]
+
+mod alike;
+mod group;
+mod pick;
+mod rank;
+mod rows;
+mod table;
+mod told;
+mod words;
+
+pub use alike::{Grain, is_alike};
+pub use group::{Group, find_groups};
+pub use pick::Pick;
+pub use rows::{Row, find_rows};
+pub use table::{SHOWN, put_title, write_clipped, write_root, write_table};
+pub use told::write_limits;
+pub use words::{write_burst, write_interval, write_left, write_right};
