@@ -1,7 +1,7 @@
 //! Runs of the whole program, with words and files that are made up: its status, and what it tells on which stream.
 
 use crate::fixtures::{holds, same, with_status};
-use crate::transcripts::{FILES, TRANSCRIPTS};
+use crate::transcripts::{FILES, PLAYED, TRANSCRIPTS};
 use otp_console::files::TreeFiles;
 use otp_console::program::run;
 use otp_console::running::Pool;
@@ -516,7 +516,16 @@ fn checks_and_pictures(rt: HostRuntime) -> Result<(), Fail> {
     Ok(())
 }
 
-/// The transcripts of `examples/`, those of `sim` worked out by hand.
+/// The transcripts of `sim` in `examples/`, worked out by hand.
+#[test]
+fn events_are_played(rt: HostRuntime) -> Result<(), Fail> {
+    for (line, lines, shown) in PLAYED {
+        plays_transcript(&rt, rt.alloc(), line, lines, shown)?;
+    }
+    Ok(())
+}
+
+/// Those of the other commands.
 #[test]
 fn transcripts_are_played(rt: HostRuntime) -> Result<(), Fail> {
     for (line, lines, shown) in TRANSCRIPTS {

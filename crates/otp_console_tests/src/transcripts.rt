@@ -752,7 +752,7 @@ start = "nap"
 ];
 
 /// The words, the file of the lines of standard input or `-`, and what is written and told, with the status.
-pub(crate) const TRANSCRIPTS: [(&str, &str, &str); 44] = [
+pub(crate) const PLAYED: [(&str, &str, &str); 11] = [
     (
         "sim all_significant.toml",
         "all_significant.events",
@@ -934,6 +934,10 @@ end shutdown
 status 0
 "##,
     ),
+];
+
+/// The same of all commands but `sim`. The prover looks at all rows of a table at once, so there are two.
+pub(crate) const TRANSCRIPTS: [(&str, &str, &str); 33] = [
     (
         "try first.toml first.script",
         "-",
