@@ -31,7 +31,9 @@ fn is_not_yet(core: &Core, call: u64) -> bool {
 fn crashes_again(rt: &impl Abort, alloc: Global, at: u64, last: Order) -> Result<(), Fail> {
     let a = child(b"a")?;
     let mut driver = Driver::open(rt, alloc, SupFlags::default(), &[a])?;
-    is_cut_between(rt, &mut driver, a, at, last)
+    let shown = is_cut_between(rt, &mut driver, a, at, last);
+    drop(driver);
+    shown
 }
 
 fn is_cut_between(
@@ -92,7 +94,9 @@ fn restart_grows_old_over_a_cut(rt: HostRuntime) -> Result<(), Fail> {
 #[test]
 fn cut_drops_answers(rt: HostRuntime) -> Result<(), Fail> {
     let mut driver = two_children(&rt, rt.alloc())?;
-    answers_are_gone(&rt, &mut driver)
+    let shown = answers_are_gone(&rt, &mut driver);
+    drop(driver);
+    shown
 }
 
 fn answers_are_gone(rt: &impl Abort, driver: &mut Driver) -> Result<(), Fail> {
@@ -111,7 +115,9 @@ fn answers_are_gone(rt: &impl Abort, driver: &mut Driver) -> Result<(), Fail> {
 #[test]
 fn open_call_is_not_gone(rt: HostRuntime) -> Result<(), Fail> {
     let mut driver = two_children(&rt, rt.alloc())?;
-    answers_open_calls(&rt, &mut driver)
+    let shown = answers_open_calls(&rt, &mut driver);
+    drop(driver);
+    shown
 }
 
 fn answers_open_calls(rt: &impl Abort, driver: &mut Driver) -> Result<(), Fail> {
@@ -136,7 +142,9 @@ fn answers_open_calls(rt: &impl Abort, driver: &mut Driver) -> Result<(), Fail> 
 #[test]
 fn room_is_made_under_a_limit(rt: HostRuntime) -> Result<(), Fail> {
     let mut driver = two_children(&rt, rt.alloc())?;
-    is_cut_at_the_limit(&rt, &mut driver)
+    let shown = is_cut_at_the_limit(&rt, &mut driver);
+    drop(driver);
+    shown
 }
 
 fn is_cut_at_the_limit(rt: &impl Abort, driver: &mut Driver) -> Result<(), Fail> {
@@ -157,7 +165,9 @@ fn lists_of_children_fill_a_core(rt: HostRuntime) -> Result<(), Fail> {
     let mut specs = [child(b"a")?; MAX_CHILDREN];
     name_children(&mut specs)?;
     let mut driver = Driver::open(&rt, rt.alloc(), SupFlags::default(), &specs)?;
-    lists_fill(&rt, &mut driver)
+    let shown = lists_fill(&rt, &mut driver);
+    drop(driver);
+    shown
 }
 
 fn name_children(specs: &mut [ChildSpec]) -> Result<(), Fail> {

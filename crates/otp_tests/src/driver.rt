@@ -101,7 +101,10 @@ impl Driver {
             reading: 0,
             calls: 0,
         };
-        driver.event(rt, Kind::Opened(0))?;
+        if let Err(fail) = driver.event(rt, Kind::Opened(0)) {
+            drop(driver);
+            return Err(fail);
+        }
         Ok(driver)
     }
 
@@ -209,11 +212,13 @@ pub(crate) struct History<'a> {
     pub(crate) stamps: &'a [u64],
 }
 
-// What plays a driver borrows it, here and in the tests: each `?` beside a driver that is one's own costs its proof a quarter of
-// a minute, since the driver is let go there.
+// What plays a driver borrows it, here and in the tests, and whoever made it drops it: each `?` beside a driver that is one's own
+// costs its proof a quarter of a minute, and so does an end that lets it go unsaid.
 pub(crate) fn play(rt: &impl Abort, alloc: Global, history: &History) -> Result<(), Fail> {
     let mut driver = Driver::open(rt, alloc, history.flags, history.children)?;
-    is_played(rt, &mut driver, history)
+    let shown = is_played(rt, &mut driver, history);
+    drop(driver);
+    shown
 }
 
 fn is_played(rt: &impl Abort, driver: &mut Driver, history: &History) -> Result<(), Fail> {

@@ -27,7 +27,9 @@ fn file_with_every_key(rt: HostRuntime) -> Result<(), Fail> {
 [[child]]\nid = \"db\"\nstart = \"steady\"\nrestart = \"transient\"\nsignificant = true\nshutdown = 4294967295\ntype = \"worker\"\nmodules = [\"db\", \"db.log\"]\n
 [[child]]\nid = \"sub\"\nstart = \"s\"\nrestart = \"temporary\"\nshutdown = \"brutal_kill\"\ntype = \"supervisor\"\nmodules = \"dynamic\"\n
 [[child]]\nid = \"last\"\nstart = \"s\"\nrestart = \"permanent\"\nsignificant = false\nshutdown = \"infinity\"\nmodules = []\n";
-    let (supervisor, _, _) = read_tree(rt.alloc(), text)?.into_parts();
+    let (supervisor, nested, trees) = read_tree(rt.alloc(), text)?.into_parts();
+    drop(nested);
+    drop(trees);
     let wanted = SupFlags {
         strategy: Strategy::RestForOne,
         intensity: 1000,
@@ -35,7 +37,9 @@ fn file_with_every_key(rt: HostRuntime) -> Result<(), Fail> {
         auto_shutdown: AutoShutdown::AnySignificant,
     };
     same(&rt, "the flags", supervisor.flags(), wanted);
-    are_children_with_every_key(&rt, supervisor.specs())
+    let shown = are_children_with_every_key(&rt, supervisor.specs());
+    drop(supervisor);
+    shown
 }
 
 fn are_children_with_every_key(rt: &impl Abort, specs: &[ChildSpec]) -> Result<(), Fail> {
@@ -80,7 +84,9 @@ fn defaults_are_the_manuals(rt: HostRuntime) -> Result<(), Fail> {
     let text =
         b"[[child]]\nid = \"a\"\nstart = \"b\"\n[[child]]\nid = \"s\"\nstart = \"b\"\ntype = \"supervisor\"\n";
     let tree = read_tree(rt.alloc(), text)?;
-    are_default_children(&rt, tree.supervisor().specs())
+    let shown = are_default_children(&rt, tree.supervisor().specs());
+    drop(tree);
+    shown
 }
 
 fn has_default_flags(rt: &impl Abort, alloc: Global) -> Result<(), Fail> {
@@ -93,6 +99,7 @@ fn has_default_flags(rt: &impl Abort, alloc: Global) -> Result<(), Fail> {
     };
     same(rt, "the flags", tree.supervisor().flags(), wanted);
     same(rt, "the children", tree.supervisor().specs().len(), 0);
+    drop(tree);
     Ok(())
 }
 
@@ -120,7 +127,12 @@ fn is_default_worker(rt: &impl Abort, worker: &ChildSpec) -> Result<(), Fail> {
 // The flags of a supervisor of one child, of which one is given.
 fn flags_with(alloc: Global, key: FlagKey, word: &str) -> Result<SupFlags, Fail> {
     let text = format!(in alloc; "{key} = \"{word}\"\n[[child]]\nid = \"a\"\nstart = \"a\"\n")?;
-    Ok(read_tree(alloc, text.as_bytes())?.supervisor().flags())
+    let tree = read_tree(alloc, text.as_bytes());
+    drop(text);
+    let tree = tree?;
+    let flags = tree.supervisor().flags();
+    drop(tree);
+    Ok(flags)
 }
 
 #[test]
@@ -327,9 +339,13 @@ fn simple_needs_one_child(rt: &impl Abort, alloc: Global) -> Result<(), Fail> {
     let fault = TreeFault::Unlawful(SpecFault::SimpleNeedsOne);
     let told = read_tree(alloc, &text).err();
     same(rt, "the fault of two children", told, Some(fault));
+    drop(text);
     let text = with_children(alloc, b"strategy = \"simple_one_for_one\"\n", 1)?;
-    let tree = read_tree(alloc, &text)?;
+    let tree = read_tree(alloc, &text);
+    drop(text);
+    let tree = tree?;
     same(rt, "the children", tree.supervisor().specs().len(), 1);
+    drop(tree);
     Ok(())
 }
 
@@ -485,7 +501,9 @@ fn tree_in_a_tree(rt: HostRuntime) -> Result<(), Fail> {
     let text =
         b"[[child]]\nid = \"w\"\nstart = \"w\"\n[[child]]\nid = \"sub\"\nstart = \"s\"\n[child.tree]\nintensity = 0\n[[child.tree.child]]\nid = \"x\"\nstart = \"x\"\n";
     let tree = read_tree(rt.alloc(), text)?;
-    is_tree_of_two(&rt, &tree)
+    let shown = is_tree_of_two(&rt, &tree);
+    drop(tree);
+    shown
 }
 
 fn is_tree_of_two(rt: &impl Abort, tree: &TreeSpec) -> Result<(), Fail> {
@@ -527,10 +545,21 @@ fn is_refused(
 #[test]
 fn depth_of_tables(rt: HostRuntime) -> Result<(), Fail> {
     let alloc = rt.alloc();
-    let text = nested_to(alloc, MAX_DEPTH)?;
-    has_depth(&rt, &read_located(alloc, &text)?, MAX_DEPTH)?;
+    has_deepest(&rt, alloc)?;
     let deeper = nested_to(alloc, MAX_DEPTH + 1)?;
-    is_refused(&rt, alloc, &deeper, 16, TreeFault::TooDeep)
+    let shown = is_refused(&rt, alloc, &deeper, 16, TreeFault::TooDeep);
+    drop(deeper);
+    shown
+}
+
+fn has_deepest(rt: &impl Abort, alloc: Global) -> Result<(), Fail> {
+    let text = nested_to(alloc, MAX_DEPTH)?;
+    let tree = read_located(alloc, &text);
+    drop(text);
+    let tree = tree?;
+    let shown = has_depth(rt, &tree, MAX_DEPTH);
+    drop(tree);
+    shown
 }
 
 fn has_depth(rt: &impl Abort, root: &TreeSpec, depth: usize) -> Result<(), Fail> {
@@ -548,10 +577,16 @@ fn has_depth(rt: &impl Abort, root: &TreeSpec, depth: usize) -> Result<(), Fail>
 #[test]
 fn number_of_tables(rt: HostRuntime) -> Result<(), Fail> {
     let alloc = rt.alloc();
-    let root = read_located(alloc, &beside(alloc, MAX_TABLES - 1)?)?;
+    let text = beside(alloc, MAX_TABLES - 1)?;
+    let root = read_located(alloc, &text);
+    drop(text);
+    let root = root?;
     same(&rt, "the trees", root.trees().len(), 63);
+    drop(root);
     let more = beside(alloc, MAX_TABLES)?;
-    is_refused(&rt, alloc, &more, 64, TreeFault::TooManyTables)
+    let shown = is_refused(&rt, alloc, &more, 64, TreeFault::TooManyTables);
+    drop(more);
+    shown
 }
 
 #[test]

@@ -58,7 +58,9 @@ fn tells_what_it_keeps(rt: HostRuntime) -> Result<(), Fail> {
     let events = all_events()?;
     let mut history = History::new(rt.alloc());
     same(&rt, "the events of a new history", history.len(), 0);
-    keeps(&rt, &mut history, &events)
+    let shown = keeps(&rt, &mut history, &events);
+    drop(history);
+    shown
 }
 
 fn keeps(rt: &impl Abort, history: &mut History, events: &[Event]) -> Result<(), Fail> {

@@ -9,6 +9,7 @@ use otp_reason::Reason;
 use otp_rules::{Call, Ending, Phase, Reply};
 use otp_spec::{ChildSpec, MAX_CHILDREN, MAX_READING, SpecFault, SupFlags};
 use std::alloc::Global;
+use std::mem;
 use std::process::Abort;
 use std::test::Fail;
 
@@ -31,7 +32,9 @@ fn resume(alloc: Global, base: &Base) -> Result<Core, Fail> {
 // In the place of the core comes one that is resumed from its checkpoint.
 fn move_on(alloc: Global, driver: &mut Driver) -> Result<(), Fail> {
     let base = checkpoint(alloc, &mut driver.core)?;
-    driver.core = resume(alloc, &base)?;
+    let resumed = resume(alloc, &base);
+    drop(base);
+    drop(mem::replace(&mut driver.core, resumed?));
     Ok(())
 }
 
@@ -39,7 +42,9 @@ fn move_on(alloc: Global, driver: &mut Driver) -> Result<(), Fail> {
 fn crashes_again(rt: &impl Abort, alloc: Global, at: u64, last: Order) -> Result<(), Fail> {
     let a = child(b"a")?;
     let mut driver = Driver::open(rt, alloc, SupFlags::default(), &[a])?;
-    is_moved_between(rt, alloc, &mut driver, at, last)
+    let shown = is_moved_between(rt, alloc, &mut driver, at, last);
+    drop(driver);
+    shown
 }
 
 fn is_moved_between(
@@ -81,7 +86,9 @@ fn numbers_go_on_above_those_before(rt: HostRuntime) -> Result<(), Fail> {
 #[test]
 fn open_work_and_what_waits_go_on(rt: HostRuntime) -> Result<(), Fail> {
     let mut driver = two_children(&rt, rt.alloc())?;
-    work_goes_on(&rt, rt.alloc(), &mut driver)
+    let shown = work_goes_on(&rt, rt.alloc(), &mut driver);
+    drop(driver);
+    shown
 }
 
 fn work_goes_on(rt: &impl Abort, alloc: Global, driver: &mut Driver) -> Result<(), Fail> {
@@ -106,7 +113,9 @@ fn work_goes_on(rt: &impl Abort, alloc: Global, driver: &mut Driver) -> Result<(
 #[test]
 fn counts_go_on(rt: HostRuntime) -> Result<(), Fail> {
     let mut driver = two_children(&rt, rt.alloc())?;
-    counts_all(&rt, rt.alloc(), &mut driver)
+    let shown = counts_all(&rt, rt.alloc(), &mut driver);
+    drop(driver);
+    shown
 }
 
 fn counts_all(rt: &impl Abort, alloc: Global, driver: &mut Driver) -> Result<(), Fail> {
@@ -119,6 +128,7 @@ fn counts_all(rt: &impl Abort, alloc: Global, driver: &mut Driver) -> Result<(),
     same(rt, "the restarts", base.counts.restarts, 1);
     same(rt, "the greatest number", base.counts.greatest_number, 3);
     same(rt, "the greatest call", base.counts.greatest_call, Some(1));
+    drop(base);
     Ok(())
 }
 
@@ -126,7 +136,9 @@ fn counts_all(rt: &impl Abort, alloc: Global, driver: &mut Driver) -> Result<(),
 pub(crate) fn sample(rt: &impl Abort, alloc: Global) -> Result<Base, Fail> {
     let a = child(b"a")?;
     let mut driver = Driver::open(rt, alloc, SupFlags::default(), &[a])?;
-    sample_of(rt, alloc, &mut driver)
+    let shown = sample_of(rt, alloc, &mut driver);
+    drop(driver);
+    shown
 }
 
 fn sample_of(rt: &impl Abort, alloc: Global, driver: &mut Driver) -> Result<Base, Fail> {
@@ -138,14 +150,20 @@ fn sample_of(rt: &impl Abort, alloc: Global, driver: &mut Driver) -> Result<Base
 fn fault_of(alloc: Global, base: &Base) -> Option<BaseFault> {
     match Core::resume(alloc, base) {
         Err(ResumeFault::Base(why)) => Some(why),
-        _ => None,
+        Err(_) => None,
+        Ok(core) => {
+            drop(core);
+            None
+        }
     }
 }
 
 #[test]
 fn refused_restarts(rt: HostRuntime) -> Result<(), Fail> {
     let mut base = sample(&rt, rt.alloc())?;
-    restarts_are_refused(&rt, rt.alloc(), &mut base)
+    let shown = restarts_are_refused(&rt, rt.alloc(), &mut base);
+    drop(base);
+    shown
 }
 
 fn restarts_are_refused(rt: &impl Abort, alloc: Global, base: &mut Base) -> Result<(), Fail> {
@@ -180,7 +198,9 @@ fn restarts_are_refused(rt: &impl Abort, alloc: Global, base: &mut Base) -> Resu
 #[test]
 fn refused_numbers(rt: HostRuntime) -> Result<(), Fail> {
     let mut base = sample(&rt, rt.alloc())?;
-    numbers_are_refused(&rt, rt.alloc(), &mut base)
+    let shown = numbers_are_refused(&rt, rt.alloc(), &mut base);
+    drop(base);
+    shown
 }
 
 fn numbers_are_refused(rt: &impl Abort, alloc: Global, base: &mut Base) -> Result<(), Fail> {
@@ -200,7 +220,9 @@ fn numbers_are_refused(rt: &impl Abort, alloc: Global, base: &mut Base) -> Resul
 #[test]
 fn refused_children(rt: HostRuntime) -> Result<(), Fail> {
     let mut base = sample(&rt, rt.alloc())?;
-    children_are_refused(&rt, rt.alloc(), &mut base)
+    let shown = children_are_refused(&rt, rt.alloc(), &mut base);
+    drop(base);
+    shown
 }
 
 fn children_are_refused(rt: &impl Abort, alloc: Global, base: &mut Base) -> Result<(), Fail> {

@@ -149,7 +149,9 @@ fn thousand_restarts_are_borne(rt: HostRuntime) -> Result<(), Fail> {
     flags.intensity = 1000;
     flags.period = 1_000_000;
     let mut driver = Driver::open(&rt, rt.alloc(), flags, &[a])?;
-    thousand_restarts(&rt, &mut driver, a.id)
+    let shown = thousand_restarts(&rt, &mut driver, a.id);
+    drop(driver);
+    shown
 }
 
 fn thousand_restarts(rt: &impl Abort, driver: &mut Driver, id: Name) -> Result<(), Fail> {
@@ -197,7 +199,9 @@ fn dynamic_children(rt: HostRuntime) -> Result<(), Fail> {
     let mut flags = SupFlags::default();
     flags.strategy = Strategy::SimpleOneForOne;
     let mut driver = Driver::open(&rt, rt.alloc(), flags, &[w])?;
-    come_and_go(&rt, &mut driver, w.id)
+    let shown = come_and_go(&rt, &mut driver, w.id);
+    drop(driver);
+    shown
 }
 
 fn come_and_go(rt: &impl Abort, driver: &mut Driver, id: Name) -> Result<(), Fail> {
@@ -271,7 +275,9 @@ fn restart_is_tried_again(rt: HostRuntime) -> Result<(), Fail> {
     flags.strategy = Strategy::RestForOne;
     flags.intensity = 3;
     let mut driver = Driver::open(&rt, rt.alloc(), flags, &[a, b, c])?;
-    third_is_tried_again(&rt, rt.alloc(), &mut driver, [a.id, b.id, c.id])
+    let shown = third_is_tried_again(&rt, rt.alloc(), &mut driver, [a.id, b.id, c.id]);
+    drop(driver);
+    shown
 }
 
 fn third_is_tried_again(
@@ -325,6 +331,7 @@ fn gives_orders(
     driver.core.move_orders(&mut list);
     expect(rt, &list, "the orders but for the reply", orders);
     assert!(rt; driver.core.effects().is_empty());
+    drop(list);
     Ok(())
 }
 
@@ -350,7 +357,9 @@ fn tells_children(
 fn children_are_told_again(rt: HostRuntime) -> Result<(), Fail> {
     let a = child(b"a")?;
     let mut driver = Driver::open(&rt, rt.alloc(), SupFlags::default(), &[a])?;
-    is_told_again(&rt, &mut driver, a.id)
+    let shown = is_told_again(&rt, &mut driver, a.id);
+    drop(driver);
+    shown
 }
 
 fn is_told_again(rt: &impl Abort, driver: &mut Driver, id: Name) -> Result<(), Fail> {
@@ -375,7 +384,9 @@ fn is_told_again(rt: &impl Abort, driver: &mut Driver, id: Name) -> Result<(), F
 #[test]
 fn little_memory_is_held_ahead(rt: HostRuntime) -> Result<(), Fail> {
     let mut driver = two_children(&rt, rt.alloc())?;
-    answers_with_little(&rt, &mut driver)
+    let shown = answers_with_little(&rt, &mut driver);
+    drop(driver);
+    shown
 }
 
 fn answers_with_little(rt: &impl Abort, driver: &mut Driver) -> Result<(), Fail> {
@@ -405,7 +416,9 @@ fn holds_little(rt: &impl Abort, driver: &Driver) {
 #[test]
 fn an_answer_is_found_by_its_call(rt: HostRuntime) -> Result<(), Fail> {
     let mut driver = two_children(&rt, rt.alloc())?;
-    answers_by_number(&rt, &mut driver)
+    let shown = answers_by_number(&rt, &mut driver);
+    drop(driver);
+    shown
 }
 
 fn answers_by_number(rt: &impl Abort, driver: &mut Driver) -> Result<(), Fail> {
@@ -454,14 +467,20 @@ fn refused_openings(rt: HostRuntime) -> Result<(), Fail> {
 fn fault_of_opening(alloc: Global, flags: SupFlags, specs: &[ChildSpec]) -> Option<SpecFault> {
     match Core::open(alloc, flags, specs) {
         Err(OpenFault::Spec(why)) => Some(why),
-        _ => None,
+        Err(_) => None,
+        Ok(core) => {
+            drop(core);
+            None
+        }
     }
 }
 
 #[test]
 fn numbers_that_are_drawn_beforehand(rt: HostRuntime) -> Result<(), Fail> {
     let mut core = Core::open(rt.alloc(), SupFlags::default(), &[child(b"a")?])?;
-    takes_given_numbers(&rt, &mut core)
+    let shown = takes_given_numbers(&rt, &mut core);
+    drop(core);
+    shown
 }
 
 fn takes_given_numbers(rt: &impl Abort, core: &mut Core) -> Result<(), Fail> {
@@ -487,7 +506,9 @@ fn takes_given_numbers(rt: &impl Abort, core: &mut Core) -> Result<(), Fail> {
 #[test]
 fn idle_supervisor_tells(rt: HostRuntime) -> Result<(), Fail> {
     let mut driver = two_children(&rt, rt.alloc())?;
-    tells_when_idle(&rt, &mut driver)
+    let shown = tells_when_idle(&rt, &mut driver);
+    drop(driver);
+    shown
 }
 
 fn tells_when_idle(rt: &impl Abort, driver: &mut Driver) -> Result<(), Fail> {
@@ -506,7 +527,9 @@ fn tells_when_idle(rt: &impl Abort, driver: &mut Driver) -> Result<(), Fail> {
 #[test]
 fn stopping_supervisor_tells(rt: HostRuntime) -> Result<(), Fail> {
     let mut driver = two_children(&rt, rt.alloc())?;
-    tells_when_stopping(&rt, &mut driver)
+    let shown = tells_when_stopping(&rt, &mut driver);
+    drop(driver);
+    shown
 }
 
 fn tells_when_stopping(rt: &impl Abort, driver: &mut Driver) -> Result<(), Fail> {
@@ -526,7 +549,9 @@ fn tells_when_stopping(rt: &impl Abort, driver: &mut Driver) -> Result<(), Fail>
 #[test]
 fn ended_supervisor_tells(rt: HostRuntime) -> Result<(), Fail> {
     let mut driver = two_children(&rt, rt.alloc())?;
-    tells_when_ended(&rt, &mut driver)
+    let shown = tells_when_ended(&rt, &mut driver);
+    drop(driver);
+    shown
 }
 
 fn tells_when_ended(rt: &impl Abort, driver: &mut Driver) -> Result<(), Fail> {
@@ -570,7 +595,9 @@ fn added_child_is_gone_after_the_next_start(rt: HostRuntime) -> Result<(), Fail>
     flags.intensity = 0;
     let x = child(b"x")?;
     let mut driver = Driver::open(&rt, rt.alloc(), flags, &[x])?;
-    forgets_the_added(&rt, &mut driver, x.id)
+    let shown = forgets_the_added(&rt, &mut driver, x.id);
+    drop(driver);
+    shown
 }
 
 fn forgets_the_added(rt: &impl Abort, driver: &mut Driver, id: Name) -> Result<(), Fail> {

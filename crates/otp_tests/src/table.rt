@@ -20,12 +20,20 @@ fn row(slot: usize, id: &[u8], state: RowState) -> Result<Row, Fail> {
 fn table_of(rt: &impl Abort, alloc: Global, list: &[Row]) -> Result<Rows, Fail> {
     let mut rows = Rows::new(alloc);
     assert!(rt; rows.is_empty() && !rows.is_full());
+    if let Err(fail) = insert_all(rt, &mut rows, list) {
+        drop(rows);
+        return Err(fail);
+    }
+    Ok(rows)
+}
+
+fn insert_all(rt: &impl Abort, rows: &mut Rows, list: &[Row]) -> Result<(), Fail> {
     rows.reserve(list.len())?;
     for row in list {
         assert!(rt; rows.room() > 0);
         rows.insert(*row)?;
     }
-    Ok(rows)
+    Ok(())
 }
 
 /// Three children, one in each of three states: searched, changed and removed.
@@ -37,13 +45,20 @@ fn three_children(rt: HostRuntime) -> Result<(), Fail> {
         row(2, b"c", RowState::Starting(5, 3))?,
     );
     let mut rows = table_of(&rt, rt.alloc(), &[a, b, c])?;
+    let shown = are_three(&rt, &mut rows, [a, b, c]);
+    drop(rows);
+    shown
+}
+
+fn are_three(rt: &impl Abort, rows: &mut Rows, all: [Row; 3]) -> Result<(), Fail> {
+    let [_, b, c] = all;
     let sizes = (rows.len(), rows.room(), rows.free_slot());
-    same(&rt, "rows, room and the free slot", sizes, (3, 0, 3));
-    same(&rt, "all rows", rows.as_slice(), [a, b, c].as_slice());
-    stand_after_the_first(&rt, &rows, &[b, c]);
-    are_found(&rt, &rows, &c.spec.id)?;
-    are_calmed(&rt, &mut rows, b);
-    is_removed(&rt, &mut rows, b.id, &c.spec.id);
+    same(rt, "rows, room and the free slot", sizes, (3, 0, 3));
+    same(rt, "all rows", rows.as_slice(), all.as_slice());
+    stand_after_the_first(rt, rows, &[b, c]);
+    are_found(rt, rows, &c.spec.id)?;
+    are_calmed(rt, rows, b);
+    is_removed(rt, rows, b.id, &c.spec.id);
     rows.clear();
     assert!(rt; rows.is_empty());
     Ok(())
@@ -109,29 +124,56 @@ fn take_out(rt: &impl Abort, rows: &mut Rows, id: &Name) -> Result<Row, Fail> {
 #[test]
 fn children_by_id(rt: HostRuntime) -> Result<(), Fail> {
     let mut rows = Rows::new(rt.alloc());
+    let shown = are_found_by_id(&rt, &mut rows);
+    drop(rows);
+    shown
+}
+
+fn are_found_by_id(rt: &impl Abort, rows: &mut Rows) -> Result<(), Fail> {
+    fill(rt, rows)?;
+    take_out_half(rt, rows)?;
+    find_half(rt, rows)?;
+    comes_back(rt, rows)
+}
+
+fn fill(rt: &impl Abort, rows: &mut Rows) -> Result<(), Fail> {
     rows.reserve(MAX_CHILDREN)?;
     for place in 0..MAX_CHILDREN {
         assert!(rt; !rows.is_full() && rows.room() > 0);
         rows.insert(child(place)?)?;
     }
+    Ok(())
+}
+
+// Each second child is taken out, and isn't found then.
+fn take_out_half(rt: &impl Abort, rows: &mut Rows) -> Result<(), Fail> {
     for half in 0..MAX_CHILDREN / 2 {
         let id = child(half.saturating_mul(2))?.spec.id;
-        let taken = take_out(&rt, &mut rows, &id)?;
-        same(&rt, "the row that was taken out", taken.spec.id, id);
-        same(&rt, "its place then", rows.find_id(&id), None);
+        let taken = take_out(rt, rows, &id)?;
+        same(rt, "the row that was taken out", taken.spec.id, id);
+        same(rt, "its place then", rows.find_id(&id), None);
     }
+    Ok(())
+}
+
+// The others stand one after the other now.
+fn find_half(rt: &impl Abort, rows: &Rows) -> Result<(), Fail> {
     for place in 0..MAX_CHILDREN / 2 {
         let odd = child(place.saturating_mul(2).saturating_add(1))?;
         let found = rows.find_id(&odd.spec.id);
-        same(&rt, "the place of one that stayed", found, Some(place));
+        same(rt, "the place of one that stayed", found, Some(place));
     }
+    Ok(())
+}
+
+fn comes_back(rt: &impl Abort, rows: &mut Rows) -> Result<(), Fail> {
     rows.reserve(1)?;
     rows.insert(child(0)?)?;
     let found = rows.find_id(&child(0)?.spec.id);
-    same(&rt, "one that came back", found, Some(MAX_CHILDREN / 2));
+    same(rt, "one that came back", found, Some(MAX_CHILDREN / 2));
     rows.clear();
     let found = rows.find_id(&child(1)?.spec.id);
-    same(&rt, "one of a table that was cleared", found, None);
+    same(rt, "one of a table that was cleared", found, None);
     Ok(())
 }
 
@@ -143,11 +185,24 @@ fn one_id_twice(rt: HostRuntime) -> Result<(), Fail> {
         row(1, b"b", RowState::Up(2))?,
     );
     let mut rows = table_of(&rt, rt.alloc(), &[a, b, a])?;
-    same(&rt, "the first of two", rows.find_id(&a.spec.id), Some(0));
-    let taken = take_out(&rt, &mut rows, &a.spec.id)?;
-    same(&rt, "the slot of the first", taken.slot, 0);
-    let places = (rows.find_id(&b.spec.id), rows.find_id(&a.spec.id));
-    same(&rt, "the places then", places, (Some(0), Some(1)));
+    let shown = first_is_taken_out(&rt, &mut rows, [a, b], [Some(0), Some(1)]);
+    drop(rows);
+    shown
+}
+
+// The first row with the id of `a` is found at the place 0, and taken out; after that `b` and `a` are at these places.
+fn first_is_taken_out(
+    rt: &impl Abort,
+    rows: &mut Rows,
+    two: [Row; 2],
+    places: [Option<usize>; 2],
+) -> Result<(), Fail> {
+    let [a, b] = two;
+    same(rt, "the first", rows.find_id(&a.spec.id), Some(0));
+    let taken = take_out(rt, rows, &a.spec.id)?;
+    same(rt, "the slot of the first", taken.slot, 0);
+    let told: [Option<usize>; 2] = [rows.find_id(&b.spec.id), rows.find_id(&a.spec.id)];
+    same(rt, "the places then", told, places);
     Ok(())
 }
 
@@ -159,13 +214,11 @@ fn two_ids_of_one_fingerprint(rt: HostRuntime) -> Result<(), Fail> {
         row(1, b"GReLUrM4wMqfg9yzV3KQ", RowState::Up(2))?,
     );
     let mut rows = table_of(&rt, rt.alloc(), &[a, b])?;
-    let places = (rows.find_id(&a.spec.id), rows.find_id(&b.spec.id));
-    same(&rt, "the places of both", places, (Some(0), Some(1)));
-    let taken = take_out(&rt, &mut rows, &a.spec.id)?;
-    same(&rt, "the slot of the first", taken.slot, 0);
-    let places = (rows.find_id(&a.spec.id), rows.find_id(&b.spec.id));
-    same(&rt, "the places then", places, (None, Some(0)));
-    Ok(())
+    let second = rows.find_id(&b.spec.id);
+    same(&rt, "the place of the second", second, Some(1));
+    let shown = first_is_taken_out(&rt, &mut rows, [a, b], [Some(0), None]);
+    drop(rows);
+    shown
 }
 
 /// What a reader of a row's state sees.
@@ -192,6 +245,12 @@ fn states(rt: HostRuntime) -> Result<(), Fail> {
 fn too_many_children(rt: HostRuntime) -> Result<(), Fail> {
     let child = row(0, b"a", RowState::Undefined)?;
     let mut rows = Rows::new(rt.alloc());
+    let shown = one_more_is_refused(&rt, &mut rows, child);
+    drop(rows);
+    shown
+}
+
+fn one_more_is_refused(rt: &impl Abort, rows: &mut Rows, child: Row) -> Result<(), Fail> {
     rows.reserve(MAX_CHILDREN)?;
     for _ in 0..MAX_CHILDREN {
         assert!(rt; !rows.is_full() && rows.room() > 0);
@@ -199,7 +258,7 @@ fn too_many_children(rt: HostRuntime) -> Result<(), Fail> {
     }
     assert!(rt; rows.is_full());
     let refused = Err(SpecFault::TooManyChildren);
-    same(&rt, "the 257th", rows.insert(child), refused);
-    same(&rt, "the number of rows", rows.len(), MAX_CHILDREN);
+    same(rt, "the 257th", rows.insert(child), refused);
+    same(rt, "the number of rows", rows.len(), MAX_CHILDREN);
     Ok(())
 }

@@ -61,7 +61,7 @@ colour_of (Asked _ _) = Yellow
 colour_of (Killed _) = Yellow
 colour_of (Restarting _) = Red
 
--- what a child does, with the number of its process: a new one is a restart
+-- what a child does, with the number of its process
 unfoldable pub state_text : RowState → List ℕ
 state_text Undefined = codes "down"
 state_text (Starting p _) = codes "+" ++ process_text p
@@ -85,14 +85,57 @@ unfoldable pub mark_found : List Mark → Option ℕ → Option Mark
 mark_found marks None = None
 mark_found marks (Some place) = slice_get marks place
 
-unfoldable pub mark_cell : Bool → Option Mark → List ℕ
-mark_cell is_coloured None = cell is_coloured Plain (codes "-")
-mark_cell is_coloured (Some mark) = cell is_coloured (colour_of mark.state) (state_text mark.state)
+-- the process of a child in this state
+unfoldable pub process_in : RowState → Option ℕ
+process_in Undefined = None
+process_in (Starting p _) = Some p
+process_in (Up p) = Some p
+process_in (Asked p _) = Some p
+process_in (Killed p) = Some p
+process_in (Restarting _) = None
 
--- what the child with this id does at a moment
-unfoldable pub child_cell : Look → Name → Moment → List ℕ
-child_cell look id moment =
-    mark_cell look.is_coloured (mark_found (marks_at look.place moment) (position (is_child id) (marks_at look.place moment)))
+-- a number, or else another
+unfoldable pub or_before : Option ℕ → Option ℕ → Option ℕ
+or_before before None = before
+or_before before (Some p) = Some p
+
+-- the last process of a child that was known before, after what it does now
+unfoldable pub process_after : Option ℕ → Option Mark → Option ℕ
+process_after before None = before
+process_after before (Some mark) = or_before before (process_in mark.state)
+
+-- two numbers that are not the same
+unfoldable pub is_other : Option ℕ → ℕ → Bool
+is_other None p = false
+is_other (Some before) p = not (before == p)
+
+-- whether a child runs as another process than before: it was started again
+unfoldable pub is_again : Option ℕ → RowState → Bool
+is_again before Undefined = false
+is_again before (Starting _ _) = false
+is_again before (Up p) = is_other before p
+is_again before (Asked _ _) = false
+is_again before (Killed _) = false
+is_again before (Restarting _) = false
+
+-- what a child does, with a star where it was started again
+unfoldable pub marked_text : Bool → RowState → List ℕ
+marked_text false state = state_text state
+marked_text true state = codes "*" ++ state_text state
+
+unfoldable pub mark_cell : Bool → Option ℕ → Option Mark → List ℕ
+mark_cell is_coloured before None = cell is_coloured Plain (codes "-")
+mark_cell is_coloured before (Some mark) = cell is_coloured (colour_of mark.state) (marked_text (is_again before mark.state) mark.state)
+
+-- the child with this id at a moment, if there is one
+unfoldable pub mark_at : ℕ → Name → Moment → Option Mark
+mark_at place id moment = mark_found (marks_at place moment) (position (is_child id) (marks_at place moment))
+
+-- what the child with this id does at these moments, of which the last process before is this
+abbrev pub child_cells : Look → Name → Option ℕ → List Moment → List ℕ
+child_cells look id before [] = []
+child_cells look id before (moment ∷ moments) =
+    mark_cell look.is_coloured before (mark_at look.place id moment) ++ child_cells look id (process_after before (mark_at look.place id moment)) moments
 
 -- a child that a supervisor of simple_one_for_one started has no id
 abbrev pub is_added : Mark → Bool
@@ -147,7 +190,7 @@ ids_at place ids (moment ∷ moments) = ids_at place (with_marks ids (marks_at p
 
 -- the line of a child
 unfoldable pub child_line : Look → List ℕ → List Moment → Name → List ℕ
-child_line look path moments id = label (path ++ name_bytes id) ++ flat_map (child_cell look id) moments ++ codes "\n"
+child_line look path moments id = label (path ++ name_bytes id) ++ child_cells look id None moments ++ codes "\n"
 
 unfoldable pub added_line : Look → List ℕ → List Moment → List ℕ
 added_line look path moments = label (path ++ codes "without an id") ++ flat_map (added_cell look) moments ++ codes "\n"

@@ -10,7 +10,7 @@ use std::alloc::AllocError;
 pub(crate) const CELL: usize = 8;
 
 /// The columns of what stands in front of the moments, one of them a space at the least.
-const LABEL: usize = 24;
+pub(crate) const LABEL: usize = 24;
 
 /// The most columns of a line.
 const WIDTH: usize = 80;

@@ -3,7 +3,7 @@
 ghost use Rattle.std.specs.Prelude.{◌≡◌, ◌<◌, ◌++◌, IfSome, OnOk, length, option_map, position, slice_get};
 ghost use Rattle.std.specs.List.{list_any};
 ghost use Rattle.otp_text.specs.Values.{process_text};
-ghost use Rattle.otp_timeline.specs.Picture.{added_cell, added_in, child_cell, is_added, is_child, mark_cell, mark_found, marks_at, restarts_cell, restarts_colour, restarts_text, standing_cell, state_text};
+ghost use Rattle.otp_timeline.specs.Picture.{added_cell, added_in, is_added, is_again, is_child, is_other, mark_at, mark_cell, mark_found, marked_text, marks_at, or_before, process_after, process_in, restarts_cell, restarts_colour, restarts_text, standing_cell, state_text};
 
 use crate::cell::write_cell;
 use crate::colour::Colour;
@@ -96,39 +96,103 @@ fn found<'a>(marks: &'a [Mark], id: &Name) -> Option<Mark>
     }
 }
 
-/// Appends what a child does, if there is one.
+/// The child with this id at a moment, if there is one.
+#[tactic(auto, unfolding(crate::specs::Picture::mark_at))]
+pub(crate) fn mark_at(place: usize, id: &Name, moment: &Moment) -> Option<Mark>
+    ensures { result ≡ mark_at place id.now moment.now }
+{
+    found(marks_at(moment, place), id)
+}
+
+/// The process of a child in this state.
+#[tactic(auto, unfolding(crate::specs::Picture::process_in))]
+fn process_in(state: RowState) -> Option<u64>
+    ensures { result ≡ process_in state }
+{
+    match state {
+        RowState::Starting(process, _)
+        | RowState::Up(process)
+        | RowState::Asked(process, _)
+        | RowState::Killed(process) => Some(process),
+        RowState::Undefined | RowState::Restarting(_) => None,
+    }
+}
+
+/// A number, or else another.
+#[tactic(auto, unfolding(crate::specs::Picture::or_before))]
+fn or_before(before: Option<u64>, process: Option<u64>) -> Option<u64>
+    ensures { result ≡ or_before before process }
+{
+    match process {
+        None => before,
+        Some(process) => Some(process),
+    }
+}
+
+/// The last process of a child that was known before, after what it does now.
+#[tactic(auto, unfolding(crate::specs::Picture::process_after))]
+pub(crate) fn process_after(before: Option<u64>, mark: Option<Mark>) -> Option<u64>
+    ensures { result ≡ process_after before mark }
+{
+    match mark {
+        None => before,
+        Some(mark) => or_before(before, process_in(mark.state)),
+    }
+}
+
+/// Whether two numbers are not the same.
+#[tactic(auto, unfolding(crate::specs::Picture::is_other))]
+fn is_other(before: Option<u64>, process: u64) -> bool
+    ensures { result ≡ is_other before process }
+{
+    match before {
+        None => false,
+        Some(before) => before != process,
+    }
+}
+
+/// Whether a child runs as another process than before: it was started again.
+#[tactic(auto, unfolding(crate::specs::Picture::is_again))]
+fn is_again(before: Option<u64>, state: RowState) -> bool
+    ensures { result ≡ is_again before state }
+{
+    match state {
+        RowState::Up(process) => is_other(before, process),
+        RowState::Undefined | RowState::Starting(..) | RowState::Restarting(_) => false,
+        RowState::Asked(..) | RowState::Killed(_) => false,
+    }
+}
+
+/// Appends what a process does, with a star where it was started again.
+#[tactic(auto, unfolding(crate::specs::Picture::marked_text))]
+fn write_marked(is_again: bool, state: RowState, out: &mut Vec<u8>) -> Result<(), AllocError>
+    ensures { OnOk result (out.new.items ≡ out.old.items ++ marked_text is_again state) }
+{
+    if is_again {
+        out.extend_from_slice(b"*")?;
+    }
+    write_state(state, out)
+}
+
+/// Appends what a child does, if there is one, whose last process before was this.
 #[tactic(auto, unfolding(crate::specs::Picture::mark_cell))]
-fn write_mark(
+pub(crate) fn write_mark(
     is_coloured: bool,
+    before: Option<u64>,
     mark: Option<Mark>,
     word: &mut Vec<u8>,
     out: &mut Vec<u8>,
 ) -> Result<(), AllocError>
-    ensures { OnOk result (out.new.items ≡ out.old.items ++ mark_cell is_coloured mark) }
+    ensures { OnOk result (out.new.items ≡ out.old.items ++ mark_cell is_coloured before mark) }
 {
     match mark {
         None => write_cell(is_coloured, Colour::Plain, NOTHING, out),
         Some(mark) => {
             word.clear();
-            write_state(mark.state, word)?;
+            write_marked(is_again(before, mark.state), mark.state, word)?;
             write_cell(is_coloured, Colour::of(mark.state), word.as_slice(), out)
         }
     }
-}
-
-/// Appends what the child with this id does at a moment.
-#[tactic(auto, unfolding(crate::specs::Picture::child_cell))]
-pub(crate) fn write_child_cell(
-    look: Look,
-    id: &Name,
-    moment: &Moment,
-    word: &mut Vec<u8>,
-    out: &mut Vec<u8>,
-) -> Result<(), AllocError>
-    ensures { OnOk result (out.new.items ≡ out.old.items ++ child_cell look id.now moment.now) }
-{
-    let mark = found(marks_at(moment, look.place), id);
-    write_mark(look.is_coloured, mark, word, out)
 }
 
 /// Whether this is a child without an id.

@@ -14,5 +14,5 @@ mod seconds;
 
 pub use column::Look;
 pub use moment::{Mark, Marks, Moment, Standing, Standings, no_standing, restarts_in, standing_of};
-pub use picture::{LEGEND, MOMENTS, write_heads, write_supervisor};
+pub use picture::{LEGEND, moments_in, write_heads, write_supervisor};
 pub use seconds::write_seconds;

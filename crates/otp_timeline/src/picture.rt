@@ -1,13 +1,14 @@
 //! The lines of a picture.
 
-ghost use Rattle.std.specs.Prelude.{◌≡◌, ◌++◌, OnOk};
+ghost use Rattle.std.specs.Prelude.{◌≡◌, ◌≤◌, ◌++◌, None, OnOk};
 ghost use Rattle.std.specs.List.{flat_map, list_any};
-ghost use Rattle.otp_timeline.specs.Picture.{added_cell, added_line, added_lines, child_cell, child_line, has_added, heads_text, line_cell, line_text, number_between, period_text, restarts_cell, restarts_line, supervisor_text, time_cell, time_text};
+ghost use Rattle.otp_timeline.specs.Picture.{added_cell, added_line, added_lines, child_cells, child_line, has_added, heads_text, line_cell, line_text, number_between, period_text, restarts_cell, restarts_line, supervisor_text, time_cell, time_text};
 
-use crate::cell::{write_cell, write_label};
+use crate::cell::{CELL, LABEL, write_cell, write_label};
 use crate::colour::Colour;
 use crate::column::{
-    Look, has_added, marks_at, write_added_cell, write_child_cell, write_restarts_cell,
+    Look, has_added, mark_at, marks_at, process_after, write_added_cell, write_mark,
+    write_restarts_cell,
 };
 use crate::moment::Moment;
 use crate::names::ids_at;
@@ -17,12 +18,18 @@ use otp_spec::SupFlags;
 use otp_text::{write_name, write_number};
 use std::alloc::{AllocError, Global};
 
-/// How many moments stand side by side.
-pub const MOMENTS: usize = 7;
+/// How many moments stand side by side in so many columns, one at the least.
+pub fn moments_in(width: u32) -> usize
+    ensures { 1 ≤ result }
+{
+    let room = (width as usize).saturating_sub(LABEL) / CELL;
+    room.max(1)
+}
 
 /// What the cells mean.
 pub const LEGEND: &[u8] =
-    b"#N runs as process N, +#N starts, -#N is to end; retry: its start failed\n";
+    b"#N runs as process N, *#N anew; +#N starts, -#N is to end; retry: start failed\n\
+a column is a line of the script, when it was played; N/M: N restarts of M\n";
 
 /// The least time in milliseconds of which the milliseconds have no room.
 const LONG: u64 = 1_000_000;
@@ -125,10 +132,13 @@ fn write_child_cells(
     word: &mut Vec<u8>,
     out: &mut Vec<u8>,
 ) -> Result<(), AllocError>
-    ensures { OnOk result (out.new.items ≡ out.old.items ++ flat_map (child_cell look id.now) moments.now) }
+    ensures { OnOk result (out.new.items ≡ out.old.items ++ child_cells look id.now None moments.now) }
 {
+    let mut before = None;
     for moment in moments {
-        write_child_cell(look, id, moment, word, out)?;
+        let mark = mark_at(look.place, id, moment);
+        write_mark(look.is_coloured, before, mark, word, out)?;
+        before = process_after(before, mark);
     }
     Ok(())
 }
