@@ -4,6 +4,7 @@ ghost use Rattle.otp.specs.Faults.{fault_of, run_fault};
 
 use otp_draft::{DraftFault, Refused, TreeDraft};
 use otp_tree::{CloseFault, RunFault, SystemFault};
+use std::alloc::AllocError;
 use thiserror::Error;
 
 /// Why a tree was not run, or has no report: what is left where nothing that was handed in is wanted back.
@@ -38,6 +39,17 @@ pub enum Unrun<J: Drop, S: Drop> {
     Hands(TreeDraft<J, S>),
     /// It was not opened, or not closed.
     Run(RunFault<J, S>),
+}
+
+impl From<AllocError> for Fault {
+    ghost use Rattle.std.specs.Prelude.{◌≡◌};
+    ghost use Rattle.otp.specs.declared.fault.Fault.TheVariants.{OutOfMemory};
+
+    ghost from_gives = { λ _ fault. fault ≡ OutOfMemory };
+
+    fn from(_: AllocError) -> Fault {
+        Fault::OutOfMemory
+    }
 }
 
 impl From<DraftFault> for Fault {

@@ -1,8 +1,8 @@
 //! A tree of supervisors with jobs of your own: all that its users need, from one crate.
 //!
 //! A child is a [`Job`]. A supervisor is drawn up child by child ([`TreeDraft`]), and goes by value below another; so
-//! nobody numbers supervisors. [`run_turns`] is the whole life of a tree in one call, and [`lead`] goes round by round, as a
-//! [`Leader`] says. Each fault of a draft has its name ([`DraftFault`]), and what was handed in comes back with it ([`Refused`],
+//! nobody numbers supervisors. [`run`] runs a tree until its root has ended or a [`Stop`] is raised, on threads that sleep while
+//! there is nothing to do. [`run_turns`] is a life counted in turns, and [`lead`] goes round by round, as a [`Leader`] says. Each fault of a draft has its name ([`DraftFault`]), and what was handed in comes back with it ([`Refused`],
 //! [`Unrun`]); where it needn't, `?` makes a [`Fault`] of it.
 //!
 //! ```text
@@ -12,10 +12,11 @@
 //! let mut root = TreeDraft::new(alloc, SupFlags::default());
 //! root.add_worker("db", Steady)?;
 //! root.add_supervisor("pool", pool)?;
-//! let report = run_turns(rt, alloc, root, 1, &Still, 1000)?;
+//! let report = run(rt, alloc, root, 4, &stop, &Unwatched)?;
 //! ```
 //!
-//! `crates/otp_uses/src/two_supervisors.rt` is this whole, with its job. Whoever does more with the open tree writes a [`Session`]:
+//! `crates/otp_uses/src/until_stopped.rt` is this whole, with its job: another thread raises the stop, and a watch writes what
+//! happens. Whoever does more with the open tree writes a [`Session`]:
 //! [`plans`] makes what [`with_system`] takes.
 //!
 //! # Limits
@@ -25,7 +26,7 @@
 #![tactic(auto)]
 
 pub mod fault;
-pub mod run;
+pub mod running;
 pub mod still;
 
 pub use fault::{Fault, Unrun};
@@ -33,7 +34,11 @@ pub use otp_bridge::{BoxedSubsystem, Bridge, Subsystem};
 pub use otp_core::ReplyAnswer;
 pub use otp_draft::{Child, ChildKeys, DraftFault, MAX_DEPTH, Refused, Runs, TreeDraft};
 pub use otp_inbox::InboxNaming;
-pub use otp_job::{Body, BoxedJob, Job, Told, Turn};
+pub use otp_job::{Body, BoxedJob, Job, NoWaker, Place, Told, Turn};
+pub use otp_live::{
+    Answer, CallError, Caller, DeleteRefusal, GetRefusal, Happening, LogLines, Mailbox, NoRefusal,
+    RestartRefusal, Seen, StartEnd, StartRefusal, Stop, TerminateRefusal, Unwatched, Waker, Watch,
+};
 pub use otp_reason::{Name, Note, Reason, Started, Text};
 pub use otp_rules::{Call, CountsNow, Reply};
 pub use otp_run::RunNaming;
@@ -46,5 +51,5 @@ pub use otp_tree::{
     CallEnd, CallId, CallRequest, Client, CountedRun, Gate, Hand, Leader, Led, MAX_HANDS, Millis,
     Report, Round, RunFault, Session, System, SystemFault, TablePlan, TableReport, with_system,
 };
-pub use run::{lead, plans, run_counted, run_turns};
+pub use running::{lead, plans, run, run_counted, run_turns, run_with_callers};
 pub use still::Still;

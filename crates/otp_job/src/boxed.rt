@@ -1,5 +1,6 @@
 // A boxed job is a job: each call is one call of what is in the box.
 use crate::job::{Job, Told, Turn};
+use crate::place::Place;
 use otp_reason::Started;
 use std::alloc::Global;
 
@@ -18,6 +19,10 @@ impl Job for Box<dyn Job, Global> {
 
     fn start(&mut self, number: u64) -> Started {
         (**self).start(number)
+    }
+
+    fn begin(&mut self, place: &Place<'_>) -> Started {
+        (**self).begin(place)
     }
 
     fn turn(&mut self, told: Told) -> Turn {

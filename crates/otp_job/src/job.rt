@@ -1,3 +1,4 @@
+use crate::place::Place;
 use otp_reason::{Reason, Started};
 use std::alloc::Global;
 
@@ -15,8 +16,8 @@ pub enum Told {
 pub enum Turn {
     /// It wants another turn.
     Again,
-    /// It has nothing to do until its supervisor tells it something, as a process of Erlang that waits in a receive: it has its
-    /// next turn once it is to be killed, or is asked to shut down and wasn't told so yet.
+    /// It has nothing to do until it is told something, as a process of Erlang that waits in a receive: it has its next turn once
+    /// it is to be killed, or is asked to shut down and wasn't told so yet, or is woken ([`Place::waker`]).
     Wait,
     /// It has ended, with this reason.
     End(Reason),
@@ -30,7 +31,8 @@ pub enum Turn {
 ///   for a lock or reads from a socket that has nothing keeps all of them waiting, and a supervisor that waits for one
 ///   of them too. Do a piece of work, keep in `self` what the next turn needs, and answer [`Turn::Again`].
 /// - **A job that has nothing to do should say so** ([`Turn::Wait`]): else it takes turns that do nothing, and all others wait
-///   for them. One that looks after something outside, as a socket, can't wait: only its supervisor ends a wait.
+///   for them. One that looks after something outside takes a waker at its start ([`Job::begin`]) and gives it to the thread that
+///   knows of that: it wakes the job. A turn may come for no reason, with nothing new.
 /// - **Every turn returns.** A turn can't be broken off. A job that never returns from one is never killed, and keeps
 ///   its thread.
 /// - **`start` begins anew, from whatever state the job is in.** After its end the same value may be started again,
@@ -39,7 +41,8 @@ pub enum Turn {
 ///
 /// # What it is told, and how often
 ///
-/// - The first turn of a process calls `start` once, with the process's number. It looks at no signal: a process that
+/// - The first turn of a process calls `begin` once, which calls `start` with the process's number where a job doesn't say
+///   otherwise. It looks at no signal: a process that
 ///   was to be killed at once has started before it dies. Where the answer isn't [`Started::Up`], that was all.
 /// - Each later turn calls `turn` at most once. A **kill acts between two turns**: the process ends with
 ///   [`Reason::Killed`], and nothing is called. A shutdown ends a job that doesn't trap, with [`Reason::Shutdown`] and no
@@ -72,6 +75,14 @@ pub trait Job: Send + Drop {
     /// Starts it, as the process with this number.
     fn start(&mut self, number: u64) -> Started
         ensures { started self.old number result self.new };
+
+    /// Starts it in this place: what a process calls. A job that needs more than its number, as a waker or the time, writes this
+    /// one, and its `start` is what it does where it is started without a place.
+    fn begin(&mut self, place: &Place<'_>) -> Started
+        ensures { started self.old place.now.number result self.new }
+    {
+        self.start(place.number)
+    }
 
     /// A piece of its work.
     fn turn(&mut self, told: Told) -> Turn

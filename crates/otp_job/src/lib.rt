@@ -9,10 +9,12 @@
 pub mod body;
 mod boxed;
 pub mod job;
+pub mod place;
 pub mod process;
 pub mod turn;
 
 pub use body::{Body, TableNo};
 pub use job::{BoxedJob, Job, Told, Turn};
+pub use place::{NoWaker, Place, Site};
 pub use process::{Process, ProcessPhase, Spent, Ticket};
-pub use turn::{After, EndNote, one_turn};
+pub use turn::{After, EndNote, one_turn, one_turn_at};

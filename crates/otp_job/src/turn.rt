@@ -7,7 +7,8 @@ ghost use Rattle.otp_job.specs.Turns.{done, exited, after_start, StartsJob, Tell
 
 use crate::body::Body;
 use crate::job::{Job, Told, Turn};
-use crate::process::{Inside, Process, ProcessPhase, Spent};
+use crate::place::{Place, Site};
+use crate::process::{Inside, Process, ProcessPhase, Spent, Ticket};
 use otp_bridge::{Bridge, Subsystem};
 use otp_reason::{Delivery, Note, Reason, Started, deliver};
 use otp_signals::Signal;
@@ -47,22 +48,39 @@ pub fn one_turn<J: Job, S: Subsystem>(process: Process<J, S>, signal: Signal) ->
     ensures first { process.phase ≡ Fresh → FirstTurn J.started S.inited process.ticket process.body result }
     ensures later { process.phase ≢ Fresh → LaterTurn J.is_trapping J.turned S.polled S.terminated process.ticket process.phase signal process.body result }
 {
+    one_turn_at(process, signal, &Site::nowhere())
+}
+
+/// The same at a site, which a job hears of at its start.
+pub fn one_turn_at<J: Job, S: Subsystem>(
+    process: Process<J, S>,
+    signal: Signal,
+    site: &Site<'_>,
+) -> After<J, S>
+    requires { IsRunnable process.body }
+    ensures first { process.phase ≡ Fresh → FirstTurn J.started S.inited process.ticket process.body result }
+    ensures later { process.phase ≢ Fresh → LaterTurn J.is_trapping J.turned S.polled S.terminated process.ticket process.phase signal process.body result }
+{
     let Process { mut inside } = process;
     let Some(body) = inside.body.take() else {
         unreachable!();
     };
     if inside.phase == ProcessPhase::Fresh {
-        return first_turn(inside, body);
+        return first_turn(inside, body, site);
     }
     later_turn(inside, signal, body)
 }
 
-fn first_turn<J: Job, S: Subsystem>(inside: Emptied<J, S>, body: Body<J, S>) -> After<J, S>
+fn first_turn<J: Job, S: Subsystem>(
+    inside: Emptied<J, S>,
+    body: Body<J, S>,
+    site: &Site<'_>,
+) -> After<J, S>
     requires { IsRunnable (Some body) }
     ensures { FirstTurn J.started S.inited inside.value.ticket (Some body) result }
 {
     match body {
-        Body::Worker(job) => start_job(inside, job),
+        Body::Worker(job) => start_job(inside, job, site),
         Body::Bridge(bridge) => start_bridge(inside, bridge),
         Body::Sup(_) => unreachable!(),
     }
@@ -84,10 +102,22 @@ fn later_turn<J: Job, S: Subsystem>(
     }
 }
 
-fn start_job<J: Job, S: Drop>(inside: Emptied<J, S>, mut job: J) -> After<J, S>
+fn start_job<J: Job, S: Drop>(inside: Emptied<J, S>, mut job: J, site: &Site<'_>) -> After<J, S>
     ensures { StartsJob J.started inside.value.ticket job result }
 {
-    let answer = job.start(inside.ticket.number);
+    let Ticket {
+        number,
+        slot,
+        table,
+    } = inside.ticket;
+    let place = Place {
+        number,
+        slot,
+        table,
+        reading: site.reading,
+        post: site.post,
+    };
+    let answer = job.begin(&place);
     begin(inside, answer, Body::Worker(job))
 }
 

@@ -9,7 +9,9 @@ use otp_reason::Note;
 use otp_rules::{Cause, Item};
 use otp_signals::{OpenWords, Signal, Viewer, Words, WordsNaming};
 use otp_spec::SupSpec;
-use otp_sup::{Bodies, Flushed, Letter, MemoryPort, Port, Table, ToldNote, TurnAnswer, TurnFault};
+use otp_sup::{
+    Bodies, Flushed, Letter, MemoryPort, NewProcess, Port, Table, ToldNote, TurnAnswer, TurnFault,
+};
 use std::alloc::Global;
 use std::process::Abort;
 use std::sync::Wait;
@@ -159,13 +161,16 @@ impl<N: WordsNaming + InboxNaming> Alone<N> {
 
     // The number, the slot and the body of the process that was put; the port has it no more.
     fn put(&mut self) -> Option<(u64, usize, u64)> {
-        let process = self.port.processes.pop()?;
-        Some((process.number, process.slot, process.body?))
+        let NewProcess { number, slot, body } = self.port.processes.pop()?;
+        Some((number, slot, body?))
     }
 
     // The note that the parent was told; the port has it no more.
     fn told(&mut self) -> Option<Note> {
-        Some(self.port.notes.pop()?.note)
+        let told = self.port.notes.pop()?;
+        let note = told.note;
+        drop(told);
+        Some(note)
     }
 
     // A turn under this number, with this answer.

@@ -3,7 +3,7 @@ ghost use Rattle.std.specs.Prelude.{◌≡◌};
 
 use crate::alone::OWN;
 use crate::driven::{Driven, make_childless};
-use crate::fixtures::of_one_child;
+use crate::fixtures::{of_one_child, open_parts};
 use crate::script::{Known, Step, plays};
 use otp_inbox::{InboxNaming, UnnamedInbox};
 use otp_reason::{Note, Reason};
@@ -74,8 +74,7 @@ fn call_waits_over_a_checkpoint(rt: HostRuntime) -> Result<(), Fail> {
 
 #[test]
 fn full_history_stops_nobody(rt: HostRuntime) -> Result<(), Fail> {
-    let words = OpenWords::open(rt.alloc(), 256)?;
-    let inbox = UnnamedInbox::<Item, Letter<u64>>::open(rt.alloc())?;
+    let (words, inbox) = open_parts(rt.alloc())?;
     full_in::<Brand, _>(&rt, rt.alloc(), words, inbox)
 }
 

@@ -2,6 +2,7 @@
 ghost use Rattle.std.specs.Prelude.{◌≡◌};
 
 use crate::driven::{Driven, make_childless};
+use crate::fixtures::open_parts;
 use otp_core::{History, ReplyAnswer};
 use otp_inbox::{InboxNaming, Sender, UnnamedInbox};
 use otp_rules::{Call, CountsNow, Item, Kind, Reply};
@@ -22,8 +23,7 @@ type Post = Letter<u64>;
 
 #[test]
 fn two_clients_and_a_hand(rt: HostRuntime) -> Result<(), Fail> {
-    let words = OpenWords::open(rt.alloc(), 256)?;
-    let inbox = UnnamedInbox::<Item, Post>::open(rt.alloc())?;
+    let (words, inbox) = open_parts(rt.alloc())?;
     clients_in::<Brand, _>(&rt, rt.alloc(), words, inbox)
 }
 
@@ -121,7 +121,8 @@ fn are_in<R: Abort>(
     assert!(rt; count_taken(history, taken.as_mut_slice()));
     assert!(rt; are_once(taken.as_slice(), first));
     assert!(rt; are_once(taken.as_slice(), second));
-    assert_eq!(rt; history.len() as u64, 2 * CALLS + 1);
+    drop(taken);
+    assert!(rt; history.len() as u64 == 2 * CALLS + 1);
     Ok(())
 }
 
@@ -282,5 +283,7 @@ fn is_count(reply: ReplyAnswer<Reply>) -> bool {
         supervisors: 0,
         workers: 0,
     };
-    matches!(reply, ReplyAnswer::Kept(Reply::Count(now)) if now == none)
+    let is_so = matches!(&reply, ReplyAnswer::Kept(Reply::Count(now)) if *now == none);
+    drop(reply);
+    is_so
 }

@@ -10,7 +10,8 @@ use otp_rules::{Call, Cause, Item};
 use otp_signals::{OpenWords, Signal, Viewer, Words, WordsNaming};
 use otp_spec::{SupFlags, SupSpec};
 use otp_sup::{
-    Bodies, Client, Letter, MemoryPort, SubmitCause, Sup, ToldNote, TurnAnswer, TurnFault,
+    Bodies, Client, Letter, MemoryPort, NewProcess, SubmitCause, Sup, ToldNote, TurnAnswer,
+    TurnFault,
 };
 use std::alloc::Global;
 use std::process::Abort;
@@ -297,6 +298,12 @@ pub(crate) fn launched<N: WordsNaming + InboxNaming, R: Wait + Abort>(
     one.send_orders(rt, number, is_put);
     let process = one.port.processes.pop()?;
     assert!(rt; one.port.processes.is_empty());
+    let seen = seen_of(&process);
+    drop(process);
+    seen
+}
+
+fn seen_of(process: &NewProcess<Body>) -> Option<(u64, usize, u64)> {
     let tag = process.body.as_ref()?.tag();
     Some((process.number, process.slot, tag))
 }
@@ -319,8 +326,10 @@ fn told<N: WordsNaming + InboxNaming, R: Wait + Abort>(
     let is_told = !one.port.notes.is_empty();
     one.send_orders(rt, 0, is_told);
     let told = one.port.notes.pop()?;
+    let note = told.note;
+    drop(told);
     assert!(rt; one.port.notes.is_empty());
-    Some(told.note)
+    Some(note)
 }
 
 // The parent was told this note.

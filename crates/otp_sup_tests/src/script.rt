@@ -5,7 +5,7 @@ ghost use Rattle.std.specs.Prelude.{◌≡◌, true};
 ghost use Rattle.otp_rules.specs.Homes.{is_start_call};
 
 use crate::alone::{Alone, Post, make_table};
-use crate::fixtures::{child, crash, second};
+use crate::fixtures::{child, crash, open_parts, second};
 use otp_core::ReplyAnswer;
 use otp_inbox::{InboxNaming, UnnamedInbox};
 use otp_reason::{Note, Reason};
@@ -301,14 +301,12 @@ pub(crate) fn plays<R: Wait + Abort>(
     steps: &[Step],
     events: usize,
 ) -> Result<(), Fail> {
-    let Ok(words) = OpenWords::open(alloc, 256) else {
-        drop(supervisor);
-        return Err("memory was refused".into());
-    };
-    let Ok(inbox) = UnnamedInbox::<Item, Post>::open(alloc) else {
-        drop(words);
-        drop(supervisor);
-        return Err("memory was refused".into());
+    let (words, inbox) = match open_parts(alloc) {
+        Ok(parts) => parts,
+        Err(fail) => {
+            drop(supervisor);
+            return Err(fail);
+        }
     };
     play_in::<Brand, _>(rt, alloc, words, inbox, supervisor, own, steps, events)
 }

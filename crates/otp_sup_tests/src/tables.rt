@@ -5,7 +5,7 @@ ghost use Rattle.otp_sup.specs.Letters.{Comes};
 ghost use Rattle.otp_sup.specs.Ports.{launched, launched_all, told};
 
 use crate::alone::{Alone, OWN, Post, make_table};
-use crate::fixtures::of_one_child;
+use crate::fixtures::{of_one_child, open_parts};
 use crate::script::{Known, Step, plays};
 use otp_inbox::{InboxNaming, UnnamedInbox};
 use otp_reason::{Note, Reason};
@@ -130,8 +130,7 @@ impl Port<u64> for Shut {
 
 #[test]
 fn refused_order(rt: HostRuntime) -> Result<(), Fail> {
-    let words = OpenWords::open(rt.alloc(), 256)?;
-    let inbox = UnnamedInbox::<Item, Post>::open(rt.alloc())?;
+    let (words, inbox) = open_parts(rt.alloc())?;
     refused_in::<Brand, _>(&rt, rt.alloc(), words, inbox)
 }
 

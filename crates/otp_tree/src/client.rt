@@ -1,8 +1,11 @@
 //! Who calls the supervisors of a tree from outside.
-ghost use Rattle.std.specs.Prelude.{◌≡◌, ◌↔◌, ◌≤◌, [], is_some, length, vec_capacity, IfNone, IfSome, IsTrue, MatchOption};
+ghost use Rattle.std.specs.Prelude.{◌≡◌, ◌↔◌, ◌≤◌, [], Contains, Some, is_some, length, vec_capacity, IfNone, IfSome, IsTrue, MatchOption};
+ghost use Rattle.otp_inbox.specs.Tokens.{no_shares};
 ghost use Rattle.otp_signals.specs.Holdings.{after_post};
 ghost use Rattle.otp_signals.specs.Signals.{word_of};
 ghost use Rattle.otp_signals.specs.declared.signal.Signal.TheVariants.{Shutdown};
+ghost use Rattle.otp_tree.specs.Begun.{starts_credited};
+ghost use Rattle.otp_tree.specs.Ended.{ends_sent};
 ghost use Rattle.otp_tree.specs.Readings.{AreRead};
 
 use crate::reading::read_each;
@@ -43,6 +46,30 @@ impl<N: WordsNaming + InboxNaming, B: Drop> Model for Client<N, B> {
 }
 
 impl<N: WordsNaming + InboxNaming, B: Drop> Client<N, B> {
+    /// The first client, which drew the root's number, and takes the root's notes by this.
+    pub(crate) fn first(
+        owner: Owner<N>,
+        senders: Senders<N, B>,
+        root: u64,
+        waiter: Taker<N, Item, Letter<B>>,
+    ) -> Self
+        requires slot { Contains owner.slots 0 }
+        requires drawn { Contains owner.drawn root }
+        requires starts { starts_credited senders ≡ 0 }
+        requires ends { ends_sent senders ≡ 0 }
+        requires given { waiter.given ≡ no_shares }
+        requires taken { waiter.taken ≡ [] }
+        ensures { result ≡ record { owner = owner; senders = senders; root = Some root; waiter = Some waiter } }
+    {
+        Client {
+            owner,
+            senders,
+            root: Some(root),
+            waiter: Some(waiter),
+            heard: 0,
+        }
+    }
+
     /// Whether it is the client that the tree was opened with, which alone can stop it.
     pub fn is_first(&self) -> bool
         ensures { result ≡ is_some self.now.root }

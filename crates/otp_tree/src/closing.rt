@@ -158,7 +158,7 @@ impl<N: WordsNaming + InboxNaming, J: Drop, S: Drop> System<N, J, S> {
 impl<N: WordsNaming + InboxNaming, J: Drop, S: Drop> System<N, J, S> {
     /// Closes the tree ([`System::close`]), once the processes that wait were given back to the run queue. Where it can't be
     /// closed it is dropped.
-    pub(crate) fn finish<R: Wait>(
+    pub fn finish<R: Wait>(
         self,
         rt: &R,
         alloc: Global,

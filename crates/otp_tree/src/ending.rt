@@ -22,7 +22,14 @@ pub(crate) fn count_end(note: Note) -> u64
 pub(crate) fn count_held<J: Drop, S: Drop>(unsent: Option<Unsent<J, S>>) -> u64
     ensures { result ≡ ends_held unsent }
 {
-    let Some(Unsent { table: _, letter }) = unsent else {
+    let Some(
+        Unsent {
+            table: _,
+            letter,
+            note: _,
+        },
+    ) = unsent
+    else {
         return 0;
     };
     match said_in(letter) {

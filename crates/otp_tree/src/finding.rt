@@ -18,7 +18,7 @@ impl<N: WordsNaming + InboxNaming, J: Drop, S: Drop> System<N, J, S> {
     ///
     /// A process waits only after a turn in which it had nothing to do, and that turn it has from the run queue: so those that
     /// wait don't keep the run queue's from their turns.
-    pub(crate) fn find(&self, hand: &mut Hand<N, J, S>) -> bool
+    pub(crate) fn find(&self, hand: &mut Hand<N, J, S>, reading: u64) -> bool
     where
         N: RunNaming,
         ensures found { IsTrue result → is_some hand.new.turning ≡ true }
@@ -31,18 +31,18 @@ impl<N: WordsNaming + InboxNaming, J: Drop, S: Drop> System<N, J, S> {
         if hand.runner.scheduler.share().ended >= SHARE_LIMIT {
             return false;
         }
-        self.find_waiting(hand);
+        self.find_waiting(hand, reading);
         if hand.runner.turning.is_none() {
             hand.runner.take_next();
         }
         if hand.runner.turning.is_none() {
-            self.find_at_leisure(hand);
+            self.find_at_leisure(hand, reading);
         }
         hand.runner.turning.is_some()
     }
 
     /// One that waits and for which something has come, if it is found with few looks.
-    fn find_waiting(&self, hand: &mut Hand<N, J, S>)
+    fn find_waiting(&self, hand: &mut Hand<N, J, S>, reading: u64)
     where
         N: RunNaming,
         ensures unsent { hand.new.unsent ≡ hand.old.unsent }
@@ -57,7 +57,7 @@ impl<N: WordsNaming + InboxNaming, J: Drop, S: Drop> System<N, J, S> {
             return;
         }
         let (from, to) = hand.runner.resting.next_places();
-        let due = self.find_due(hand, from, to);
+        let due = self.find_due(hand, from, to, reading);
         hand.runner.wake(due);
         if hand.runner.turning.is_some() {
             return;
@@ -66,7 +66,7 @@ impl<N: WordsNaming + InboxNaming, J: Drop, S: Drop> System<N, J, S> {
     }
 
     /// One that waits and for which something has come, where the hand has nothing else to do.
-    fn find_at_leisure(&self, hand: &mut Hand<N, J, S>)
+    fn find_at_leisure(&self, hand: &mut Hand<N, J, S>, reading: u64)
     where
         N: RunNaming,
         ensures unsent { hand.new.unsent ≡ hand.old.unsent }
@@ -76,7 +76,7 @@ impl<N: WordsNaming + InboxNaming, J: Drop, S: Drop> System<N, J, S> {
             return;
         }
         let all = hand.runner.resting.len();
-        let due = self.find_due(hand, 0, all);
+        let due = self.find_due(hand, 0, all, reading);
         hand.runner.wake(due);
         if hand.runner.turning.is_some() {
             return;
@@ -86,7 +86,13 @@ impl<N: WordsNaming + InboxNaming, J: Drop, S: Drop> System<N, J, S> {
     }
 
     /// The first of the supervisors that wait at these places of the hand, for which something has come.
-    fn find_due(&self, hand: &mut Hand<N, J, S>, from: usize, to: usize) -> Option<usize>
+    fn find_due(
+        &self,
+        hand: &mut Hand<N, J, S>,
+        from: usize,
+        to: usize,
+        reading: u64,
+    ) -> Option<usize>
     where
         N: RunNaming,
         requires { to ≤ length hand.old.resting }
@@ -103,6 +109,7 @@ impl<N: WordsNaming + InboxNaming, J: Drop, S: Drop> System<N, J, S> {
             hand.runner.resting.as_slice(),
             from,
             to,
+            reading,
         )
     }
 }
@@ -115,28 +122,41 @@ fn find_due<N: WordsNaming + InboxNaming, J: Drop, S: Drop>(
     resting: &[Rested<J, S>],
     from: usize,
     to: usize,
+    reading: u64,
 ) -> Option<usize>
     requires { to ≤ length resting.now }
     ensures place { IfSome result (λ place. place < length resting.now) }
     ensures senders { senders.new ≡ senders.old }
 {
     for place in from..to {
-        if has_come(system, viewer, senders, &resting[place]) {
+        if has_come(system, viewer, senders, &resting[place], reading) {
             return Some(place);
         }
     }
     None
 }
 
-/// Whether something has come for a supervisor that waits: a letter, or a signal that it didn't know of.
+/// Whether the reading of the clock has come to a deadline.
+pub(crate) fn is_due(due: Option<u64>, reading: u64) -> bool {
+    match due {
+        Some(due) => due <= reading,
+        None => false,
+    }
+}
+
+/// Whether something has come for a supervisor that waits: its deadline, a letter, or a signal that it didn't know of.
 fn has_come<N: WordsNaming + InboxNaming, J: Drop, S: Drop>(
     system: &System<N, J, S>,
     viewer: &mut Viewer<N>,
     senders: &mut Senders<N, Body<J, S>>,
     rested: &Rested<J, S>,
+    reading: u64,
 ) -> bool
     ensures { senders.new ≡ senders.old }
 {
+    if is_due(rested.due, reading) {
+        return true;
+    }
     let (slot, number) = (rested.process.slot(), rested.process.number());
     if slot < system.words.slots() && system.words.look(viewer, slot, number) != rested.told {
         return true;

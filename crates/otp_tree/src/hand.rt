@@ -1,5 +1,5 @@
 //! What one thread needs to serve a tree.
-ghost use Rattle.std.specs.Prelude.{◌≡◌, ◌↔◌, ◌+◌, ◌<◌, ◌≤◌, ◌^◌, ◌++◌, ◌∷◌, [], None, Some, is_some, true, false, option_copied, IsTrue, OnErr, OnOk, IfErr, IfNone, IfSome, length};
+ghost use Rattle.std.specs.Prelude.{◌≡◌, ◌↔◌, ◌+◌, ◌<◌, ◌≤◌, ◌^◌, ◌++◌, ◌∷◌, [], None, Some, is_some, true, false, option_copied, IsTrue, OnErr, OnOk, IfErr, IfNone, IfSome, MatchOption, length};
 ghost use Rattle.otp_sup.specs.Ports.{launched, told};
 ghost use Rattle.otp_sup.specs.Letters.{Comes, carries_body};
 ghost use Rattle.otp_rules.specs.declared.event.Item.TheVariants as item;
@@ -8,6 +8,7 @@ ghost use Rattle.otp_tree.specs.Begun.{NoneBegan};
 ghost use Rattle.otp_tree.specs.Ended.{NoneEnded, end_of, ends_held};
 ghost use Rattle.otp_tree.specs.Readings.{HasRead};
 
+use crate::around::Around;
 use crate::places::put_into;
 use crate::reading::read_at;
 use crate::resting::{Rested, Resting};
@@ -16,26 +17,24 @@ use crate::waiting::Waiting;
 use otp_bridge::Subsystem;
 use otp_counts::CountsPass;
 use otp_inbox::InboxNaming;
-use otp_job::{After, Body, EndNote, Job, Process, Spent, TableNo, one_turn};
+use otp_job::{After, Body, EndNote, Job, Process, Spent, TableNo, one_turn_at};
 use otp_reason::Note;
 use otp_rules::{CountsNow, Item, SupEnd};
 use otp_run::{RunNaming, SHARE_LIMIT, Scheduler};
 use otp_signals::{Signal, Viewer, Words, WordsNaming};
 use otp_sup::{Letter, NewProcess, Port, Sup, TurnAnswer, TurnFault, evidence_of};
 use otp_tally::Tally;
-use std::alloc::Global;
+use otp_wake::Post;
+use std::alloc::{AllocError, Global};
 use std::marker::Model;
-use std::sync::Wait;
+use std::sync::{Arc, Wait};
 
-/// After a try at all other deques that gave nothing, so many looks into the hand's own come before the next. A hand with nothing
-/// to do that tried in each turn would take the one process that has something to do from hand to hand, and its memory with it.
-const THEFT_PAUSE: u32 = 256;
-
-/// A letter that was not sent yet, and the number of the supervisor to which it goes.
+/// A letter that was not sent yet, the number of the supervisor to which it goes, and the note that it brings.
 #[derive(Drop)]
 pub(crate) struct Unsent<J: Drop, S: Drop> {
     pub table: usize,
     pub letter: Letter<Body<J, S>>,
+    pub note: Note,
 }
 
 /// What one thread needs to serve: what it runs processes with, a sender to each supervisor, and a pass to read the counts
@@ -67,8 +66,8 @@ impl<N: WordsNaming + InboxNaming + RunNaming, J: Drop, S: Drop> Model for Hand<
 ///
 /// It has out the process whose turn it is; where that can't be given back for want of memory it stays here and comes
 /// first. So does a note that was refused. Out are also those of its processes that wait: jobs until they are told something
-/// ([`Turn::Wait`](otp_job::Turn::Wait)), and supervisors that found nothing to do until something comes for them. They take no
-/// turns, and no other hand gets them.
+/// or woken ([`Turn::Wait`](otp_job::Turn::Wait)), and supervisors that found nothing to do until something comes for them. They
+/// take no turns, and no other hand gets them.
 #[derive(Drop)]
 pub(crate) struct Runner<N: WordsNaming + RunNaming, J: Drop, S: Drop> {
     pub scheduler: Scheduler<N, J, S>,
@@ -78,8 +77,7 @@ pub(crate) struct Runner<N: WordsNaming + RunNaming, J: Drop, S: Drop> {
     pub resting: Resting<J, S>,
     pub unsent: Option<Unsent<J, S>>,
     pub refusals: Tally,
-    // How many looks into its own deque come before it tries the others again.
-    pub theft_pause: u32,
+    pub around: Around,
     pub alloc: Global,
 }
 
@@ -129,7 +127,10 @@ impl<N: WordsNaming + RunNaming, J: Drop, S: Drop> Port<Body<J, S>> for Runner<N
         let table = nested_in(&self.turning);
         let body = match Process::new(self.alloc, number, slot, table, body) {
             Ok(process) => match self.scheduler.put(process) {
-                Ok(()) => return Ok(()),
+                Ok(()) => {
+                    self.around.gained();
+                    return Ok(());
+                }
                 Err(process) => process.into_body(),
             },
             Err(body) => Some(body),
@@ -205,7 +206,11 @@ impl<N: WordsNaming + RunNaming, J: Drop, S: Drop> Runner<N, J, S> {
         if let Note::Up(_) = note {
             put_into(&mut self.turning, Some(process));
             let letter = Letter::with_end(note, None, end);
-            return Some(Unsent { table, letter });
+            return Some(Unsent {
+                table,
+                letter,
+                note,
+            });
         }
         if self.scheduler.share().ended >= SHARE_LIMIT {
             put_into(&mut self.turning, Some(process));
@@ -215,7 +220,12 @@ impl<N: WordsNaming + RunNaming, J: Drop, S: Drop> Runner<N, J, S> {
             Ok((number, remains)) => {
                 self.scheduler.finish(remains);
                 let letter = Letter::with_end(note, Some(Body::Sup(number)), end);
-                Some(Unsent { table, letter })
+                let unsent = Unsent {
+                    table,
+                    letter,
+                    note,
+                };
+                Some(unsent)
             }
             Err(process) => {
                 put_into(&mut self.turning, Some(process));
@@ -234,6 +244,49 @@ impl<N: WordsNaming + InboxNaming + RunNaming, J: Drop, S: Drop> Hand<N, J, S> {
         ensures passes { self.new.passes ≡ self.old.passes }
     {
         self.runner.rouse();
+    }
+
+    /// The least deadline for which one of its supervisors waits, as a reading of the clock. None where none has one.
+    pub fn next_due(&self) -> Option<u64> {
+        self.runner.resting.next_due()
+    }
+
+    /// The next search tries the deques of all other hands, though it may have tried them not long ago.
+    pub fn try_others(&mut self)
+        ensures unsent { self.new.unsent ≡ self.old.unsent }
+        ensures passes { self.new.passes ≡ self.old.passes }
+    {
+        self.runner.around.is_to_try_others();
+    }
+
+    /// Whether a search may find something at this reading of the clock, though nothing has changed since one that gave nothing: a
+    /// deadline has come, something was refused for want of memory, or it is time to try the deques of other hands again.
+    pub(crate) fn may_find(&mut self, reading: u64) -> bool
+        ensures unsent { self.new.unsent ≡ self.old.unsent }
+        ensures passes { self.new.passes ≡ self.old.passes }
+    {
+        if self.runner.unsent.is_some() || self.runner.turning.is_some() {
+            return true;
+        }
+        let due = self.runner.resting.next_due();
+        self.runner.around.is_worth_a_search(due, reading)
+    }
+
+    /// How many processes its own deque has at most, which other hands might take.
+    pub fn stock(&self) -> u32 {
+        self.runner.around.stock()
+    }
+
+    /// From now on jobs that wait in this hand may be woken by this post.
+    ///
+    /// # Errors
+    ///
+    /// Where there are as many ways to the post as a machine word counts.
+    pub fn open_post(&mut self, post: &Arc<Post>) -> Result<(), AllocError>
+        ensures unsent { self.new.unsent ≡ self.old.unsent }
+        ensures passes { self.new.passes ≡ self.old.passes }
+    {
+        self.runner.around.open_post(post)
     }
 
     /// A turn of the supervisor that runs in the process that it has out. Its sender to that supervisor is credited with what
@@ -293,7 +346,9 @@ impl<N: WordsNaming + RunNaming, J: Drop, S: Drop> Runner<N, J, S> {
         ensures begun { NoneBegan self.old.scheduler self.new.scheduler }
         ensures ended { NoneEnded self.old.scheduler self.new.scheduler }
     {
-        let told = self.waiting.take_told(words, &mut self.viewer);
+        let told = self
+            .waiting
+            .take_told(words, &mut self.viewer, &self.around);
         put_into(&mut self.turning, told);
     }
 
@@ -305,24 +360,22 @@ impl<N: WordsNaming + RunNaming, J: Drop, S: Drop> Runner<N, J, S> {
         ensures begun { NoneBegan self.old.scheduler self.new.scheduler }
         ensures ended { NoneEnded self.old.scheduler self.new.scheduler }
     {
-        if self.theft_pause == 0 {
+        if self.around.tries_others() {
             let next = self.scheduler.next();
             put_into(&mut self.turning, next);
-            if self.turning.is_none() {
-                self.theft_pause = THEFT_PAUSE;
-            }
+            let has_found = self.turning.is_some();
+            note_search(&mut self.around, has_found);
             return;
         }
         let next = self.scheduler.next_own();
         put_into(&mut self.turning, next);
-        if self.turning.is_none() {
-            self.theft_pause -= 1;
-        }
+        let has_found = self.turning.is_some();
+        note_own_search(&mut self.around, has_found);
     }
 
-    /// Lets the supervisor's process that it has out wait, until there is a letter or another signal than this one. Where memory
-    /// is refused it goes on.
-    pub(crate) fn rest(&mut self, table: usize, told: Signal)
+    /// Lets the supervisor's process that it has out wait, until there is a letter or another signal than this one, or the reading
+    /// of the clock has come to this deadline. Where memory is refused it goes on.
+    pub(crate) fn rest(&mut self, table: usize, told: Signal, due: Option<u64>)
         ensures unsent { self.new.unsent ≡ self.old.unsent }
         ensures begun { NoneBegan self.old.scheduler self.new.scheduler }
         ensures ended { NoneEnded self.old.scheduler self.new.scheduler }
@@ -334,6 +387,7 @@ impl<N: WordsNaming + RunNaming, J: Drop, S: Drop> Runner<N, J, S> {
             process,
             table,
             told,
+            due,
         };
         if let Some(back) = self.resting.keep(rested) {
             put_into(&mut self.turning, Some(back.process));
@@ -349,8 +403,9 @@ impl<N: WordsNaming + RunNaming, J: Drop, S: Drop> Runner<N, J, S> {
         let Some(process) = self.turning.take() else {
             return;
         };
-        if let Err(process) = self.scheduler.give_back(process) {
-            put_into(&mut self.turning, Some(process));
+        match self.scheduler.give_back(process) {
+            Ok(()) => self.around.gained(),
+            Err(process) => put_into(&mut self.turning, Some(process)),
         }
     }
 
@@ -402,6 +457,34 @@ impl<N: WordsNaming + RunNaming, J: Drop, S: Drop> Runner<N, J, S> {
         }
     }
 
+    /// Notes the reading of the clock for this turn.
+    pub(crate) fn note_reading(&mut self, reading: u64)
+        ensures turning { self.new.turning ≡ self.old.turning }
+        ensures unsent { self.new.unsent ≡ self.old.unsent }
+        ensures begun { NoneBegan self.old.scheduler self.new.scheduler }
+        ensures ended { NoneEnded self.old.scheduler self.new.scheduler }
+    {
+        self.around.reading = reading;
+    }
+
+    /// The next search looks at all that wait.
+    pub(crate) fn look_at_all(&mut self)
+        ensures turning { self.new.turning ≡ self.old.turning }
+        ensures unsent { self.new.unsent ≡ self.old.unsent }
+        ensures begun { NoneBegan self.old.scheduler self.new.scheduler }
+        ensures ended { NoneEnded self.old.scheduler self.new.scheduler }
+    {
+        self.waiting.look_at_all();
+    }
+
+    /// The number of the supervisor to which the process that it has out belongs.
+    pub(crate) fn parent(&self) -> usize {
+        match &self.turning {
+            Some(process) => process.table(),
+            None => usize::MAX,
+        }
+    }
+
     /// The supervisor that runs in the process that it has out, and that process's number.
     pub(crate) fn nested(&self) -> Option<(usize, u64)> {
         let process = self.turning.as_ref()?;
@@ -443,23 +526,69 @@ impl<N: WordsNaming + RunNaming, J: Job, S: Subsystem> Runner<N, J, S> {
             return;
         }
         let table = process.table();
-        match one_turn(process, told) {
+        self.around.take(process.slot());
+        let after = one_turn_at(process, told, &self.around.site());
+        match after {
             After::Again(process) => put_into(&mut self.turning, Some(process)),
             After::Waits(process) => {
-                let back = self.waiting.keep(process);
+                let hand = self.scheduler.index();
+                let back = keep_waiting(&mut self.waiting, &self.around, hand, process);
                 put_into(&mut self.turning, back);
             }
             After::Begun(process, note) => {
                 put_into(&mut self.turning, Some(process));
                 let letter = started(note);
-                put_into(&mut self.unsent, Some(Unsent { table, letter }));
+                let unsent = Unsent {
+                    table,
+                    letter,
+                    note,
+                };
+                put_into(&mut self.unsent, Some(unsent));
             }
             After::Done(end, spent) => {
                 self.scheduler.finish(spent);
+                let note = end.note;
                 let letter = ended(end);
-                put_into(&mut self.unsent, Some(Unsent { table, letter }));
+                let unsent = Unsent {
+                    table,
+                    letter,
+                    note,
+                };
+                put_into(&mut self.unsent, Some(unsent));
             }
         }
+    }
+}
+
+/// Notes whether a search of all deques found a process.
+fn note_search(around: &mut Around, has_found: bool) {
+    around.tried_own(has_found);
+    if !has_found {
+        around.tried_in_vain();
+    }
+}
+
+/// Notes whether a search of the hand's own deque found a process.
+fn note_own_search(around: &mut Around, has_found: bool) {
+    around.tried_own(has_found);
+    if !has_found {
+        around.spared_others();
+    }
+}
+
+/// Lets a job's process wait. It comes back where the job was woken meanwhile, or memory is refused.
+fn keep_waiting<J: Drop, S: Drop>(
+    waiting: &mut Waiting<J, S>,
+    around: &Around,
+    hand: usize,
+    process: Process<J, S>,
+) -> Option<Process<J, S>>
+    ensures { MatchOption result (waiting.new ≡ waiting.old ++ process ∷ []) (λ back. (back ≡ process) × (waiting.new ≡ waiting.old)) }
+{
+    if around.begins_to_wait(process.slot(), hand) {
+        waiting.keep(process)
+    } else {
+        Some(process)
     }
 }
 

@@ -90,6 +90,7 @@ pub(crate) fn join_all<N: WordsNaming + InboxNaming, J: Drop, S: Drop>(
             unsent,
             refusals: _,
             passes,
+            around,
             alloc: _,
         } = rest;
         drop(viewer);
@@ -97,6 +98,7 @@ pub(crate) fn join_all<N: WordsNaming + InboxNaming, J: Drop, S: Drop>(
         drop(waiting);
         drop(resting);
         drop(passes);
+        drop(around);
         join_senders(sups, outer, &mut senders, others);
         held = held.saturating_add(count_held(unsent));
     }

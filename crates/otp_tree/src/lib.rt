@@ -65,6 +65,7 @@
 //! its parent's `shutdown`, and the root's note is what its parent hears (OTP Design Principles, Supervisor Behaviour).
 #![tactic(auto)]
 
+mod around;
 pub mod calling;
 pub mod client;
 pub mod clock;
@@ -76,6 +77,8 @@ pub mod evidence;
 mod finding;
 pub mod hand;
 mod joining;
+pub mod listener;
+mod meeting;
 pub mod opening;
 mod parting;
 mod places;
@@ -102,6 +105,7 @@ pub use closing::{CloseFault, Unclosed};
 pub use draft::{TableDraft, Unplanned};
 pub use evidence::Mismatch;
 pub use hand::Hand;
+pub use listener::Listener;
 pub use opening::{Opened, Parts, SystemFault};
 pub use plan::TablePlan;
 pub use pool::{MAX_HANDS, pool_run};

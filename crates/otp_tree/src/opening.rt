@@ -14,6 +14,7 @@ ghost use Rattle.otp_tree.specs.Ended.{ends_sent};
 ghost use Rattle.otp_tree.specs.Opens.{first_slot, slots_of};
 ghost use Rattle.otp_tree.specs.Readings.{CanRead, IsFresh};
 
+use crate::around::Around;
 use crate::client::Client;
 use crate::hand::{Hand, Runner};
 use crate::places::{keep, next_of};
@@ -449,7 +450,7 @@ fn make_hand<N: WordsNaming + InboxNaming + RunNaming, J: Drop, S: Drop>(
         resting: Resting::new(alloc),
         unsent: None,
         refusals: Tally::new(),
-        theft_pause: 0,
+        around: Around::new(),
         alloc,
     };
     Ok(Hand {
@@ -540,13 +541,7 @@ impl<J: Drop, S: Drop> Parts<J, S> {
             viewer,
             process,
         )?;
-        let client = Client {
-            owner,
-            senders,
-            root: Some(root),
-            waiter: Some(waiter),
-            heard: 0,
-        };
+        let client = Client::first(owner, senders, root, waiter);
         Ok(Opened {
             system,
             hands,

@@ -9,6 +9,7 @@ ghost use Rattle.otp_tree.specs.Hands.{senders_of};
 ghost use Rattle.otp_tree.specs.Partings.{joined, schedulers_of, ArePaired};
 ghost use Rattle.otp_tree.specs.Settlings.{held_in, senders_in};
 
+use crate::around::Around;
 use crate::closing::Refusal;
 use crate::hand::{Hand, Runner, Unsent};
 use crate::places::next_of;
@@ -34,6 +35,7 @@ pub(crate) struct Rest<N: WordsNaming + InboxNaming, J: Drop, S: Drop> {
     pub unsent: Option<Unsent<J, S>>,
     pub refusals: Tally,
     pub passes: Vec<CountsPass>,
+    pub around: Around,
     pub alloc: Global,
 }
 
@@ -167,7 +169,7 @@ fn part_all<N: WordsNaming + InboxNaming + RunNaming, J: Drop, S: Drop>(
             resting,
             unsent,
             refusals,
-            theft_pause: _,
+            around,
             alloc,
         } = runner;
         schedulers.push_reserved(scheduler);
@@ -180,6 +182,7 @@ fn part_all<N: WordsNaming + InboxNaming + RunNaming, J: Drop, S: Drop>(
             unsent,
             refusals,
             passes,
+            around,
             alloc,
         });
     }
@@ -208,6 +211,7 @@ fn rejoin_all<N: WordsNaming + InboxNaming + RunNaming, J: Drop, S: Drop>(
             unsent,
             refusals,
             passes,
+            around,
             alloc,
         } = rest;
         let runner = Runner {
@@ -218,7 +222,7 @@ fn rejoin_all<N: WordsNaming + InboxNaming + RunNaming, J: Drop, S: Drop>(
             resting,
             unsent,
             refusals,
-            theft_pause: 0,
+            around,
             alloc,
         };
         hands.push_reserved(Hand {

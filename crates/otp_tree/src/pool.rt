@@ -4,6 +4,7 @@ ghost use Rattle.otp_spec.specs.declared.limits.TheConstants.{MAX_READING};
 
 use crate::clock::Gate;
 use crate::hand::Hand;
+use crate::meeting::Meeting;
 use crate::system::System;
 use otp_bridge::Subsystem;
 use otp_inbox::InboxNaming;
@@ -11,22 +12,17 @@ use otp_job::Job;
 use otp_run::RunNaming;
 use otp_signals::WordsNaming;
 use std::sync::Wait;
-use std::sync::atomic::{AtomicU64, Ordering};
 use std::thread;
 use std::thread::Threads;
 
 /// The most hands that serve at once.
 pub const MAX_HANDS: usize = 8;
 
-/// So often a hand that found nothing looks once more in the same turn, while another hand is busy. Without that it makes all its
-/// turns while the other makes a few, and what it is told later waits for the next call.
-const LOOKS: u32 = 8;
-
 /// Gives each hand so many turns, each hand in a thread of its own. Each turn begins with the gate's answer, which is
 /// the reading of the clock for it.
 ///
-/// In a turn in which a hand finds nothing it looks some times more, as long as another hand is busy: what that hand does may
-/// give it something to do. Where none is busy, the gate is told ([`Gate::idle`]).
+/// A hand that finds nothing in a turn looks again as long as another hand may still do something, since that may give it something
+/// to do; meanwhile it uses up no turn. Where no hand has anything to do, the gate is told ([`Gate::idle`]), and the turn is over.
 pub fn pool_run<N, J, S, R, G>(
     rt: &R,
     system: &System<N, J, S>,
@@ -41,17 +37,16 @@ where
     R: Threads + Wait + Sync,
     G: Gate + Sync,
 {
-    let busy = AtomicU64::new(0);
+    let meeting = Meeting::of(hands.len());
     thread::for_each_mut(
         rt,
         hands,
         MAX_HANDS,
-        &|index, hand| serve_beside(rt, system, hand, index, gate, turns, &busy),
+        &|index, hand| serve_beside(rt, system, hand, index, gate, turns, &meeting),
     );
 }
 
-/// Gives a hand so many turns beside others. It is counted among the busy ones from a turn in which it found something to do to
-/// one in which it didn't.
+/// Gives a hand so many turns beside others.
 fn serve_beside<N, J, S, R, G>(
     rt: &R,
     system: &System<N, J, S>,
@@ -59,7 +54,7 @@ fn serve_beside<N, J, S, R, G>(
     index: usize,
     gate: &G,
     turns: u64,
-    busy: &AtomicU64,
+    meeting: &Meeting,
 )
 where
     N: WordsNaming + InboxNaming + RunNaming,
@@ -68,30 +63,31 @@ where
     R: Wait,
     G: Gate,
 {
-    let mut is_busy = false;
+    let mut vain = NEVER;
     for _ in 0..turns {
         let reading = gate.before_turn(index);
-        let found = system.turn(rt, hand, reading);
-        note(busy, &mut is_busy, found);
-        if found {
-            continue;
-        }
-        let found = look_again(rt, system, hand, reading, busy);
-        note(busy, &mut is_busy, found);
-        if !found && is_nobody_busy(busy) {
+        if !turn_beside(rt, system, hand, index, reading, meeting, &mut vain) {
             gate.idle(index);
         }
     }
-    note(busy, &mut is_busy, false);
+    meeting.leave(index);
 }
 
-/// Looks again for a hand that found nothing, a few times and while another hand is busy. False where it found nothing still.
-fn look_again<N, J, S, R>(
+/// No number of changes.
+const NEVER: u64 = u64::MAX;
+
+/// A turn of a hand beside others, which looked in vain last after so many changes. False where no hand has anything to do.
+///
+/// While nothing changes it doesn't search anew but where that may find something ([`Hand::may_find`]): a turn in which nothing is to
+/// be done costs little, though the clock goes on.
+fn turn_beside<N, J, S, R>(
     rt: &R,
     system: &System<N, J, S>,
     hand: &mut Hand<N, J, S>,
+    index: usize,
     reading: u64,
-    busy: &AtomicU64,
+    meeting: &Meeting,
+    vain: &mut u64,
 ) -> bool
 where
     N: WordsNaming + InboxNaming + RunNaming,
@@ -100,31 +96,53 @@ where
     R: Wait,
     requires { reading ≤ MAX_READING }
 {
-    for _ in 0..LOOKS {
-        if is_nobody_busy(busy) {
-            return false;
+    for _ in rt.forever() {
+        let changes = meeting.changes();
+        if *vain != changes || hand.may_find(reading) {
+            meeting.begin(index);
+            if system.turn(rt, hand, reading) || look_again(rt, system, hand, reading) {
+                meeting.found();
+                return true;
+            }
+            meeting.rest(index, changes);
+            *vain = changes;
         }
-        thread::yield_now();
-        if system.turn(rt, hand, reading) {
-            return true;
+        if wait_for_change(rt, meeting, changes) {
+            return false;
         }
     }
     false
 }
 
-/// Counts a hand among the busy ones where it found something, and no longer where it didn't.
-fn note(busy: &AtomicU64, is_busy: &mut bool, found: bool)
-    ensures { is_busy.new ≡ found }
+/// A turn of a hand that found nothing at first, with a look at all that waits. False where there was nothing still.
+fn look_again<N, J, S, R>(
+    rt: &R,
+    system: &System<N, J, S>,
+    hand: &mut Hand<N, J, S>,
+    reading: u64,
+) -> bool
+where
+    N: WordsNaming + InboxNaming + RunNaming,
+    J: Job,
+    S: Subsystem,
+    R: Wait,
+    requires { reading ≤ MAX_READING }
 {
-    if found && !*is_busy {
-        busy.fetch_add(1, Ordering::SeqCst);
-    }
-    if !found && *is_busy {
-        busy.fetch_sub(1, Ordering::SeqCst);
-    }
-    *is_busy = found;
+    system.look_at_all(hand, reading) && system.turn(rt, hand, reading)
 }
 
-fn is_nobody_busy(busy: &AtomicU64) -> bool {
-    busy.load(Ordering::SeqCst) == 0
+/// Waits until something has changed since, or no hand has anything to do. True in that case.
+fn wait_for_change<R: Wait>(rt: &R, meeting: &Meeting, seen: u64) -> bool {
+    let mut looks: u64 = 0;
+    for _ in rt.forever() {
+        if meeting.changes() != seen {
+            return false;
+        }
+        if meeting.is_over(seen, looks) {
+            return true;
+        }
+        looks = looks.saturating_add(1);
+        thread::yield_now();
+    }
+    false
 }

@@ -10,17 +10,18 @@ use std::marker::Model;
 /// How many of them are looked at in each turn, one after the other.
 const FEW: usize = 2;
 
-/// A supervisor's process that waits, and the signal that it knew of when it began to.
+/// A supervisor's process that waits, the signal that it knew of when it began to, and the least deadline of its children.
 #[derive(Drop)]
 pub(crate) struct Rested<J: Drop, S: Drop> {
     pub process: Process<J, S>,
     /// The number of its supervisor.
     pub table: usize,
     pub told: Signal,
+    pub due: Option<u64>,
 }
 
-/// The processes of a hand whose supervisors found nothing to do: no letter, no deadline, no signal that is news. They take
-/// no turns until a letter or another signal has come.
+/// The processes of a hand whose supervisors found nothing to do: no letter, no deadline that had come, no signal that is news.
+/// They take no turns until a letter or another signal has come, or the reading of the clock has come to a deadline.
 #[derive(Drop)]
 pub(crate) struct Resting<J: Drop, S: Drop> {
     list: Vec<Rested<J, S>>,
@@ -108,6 +109,11 @@ impl<J: Drop, S: Drop> Resting<J, S> {
         find_table(self.list.as_slice(), table)
     }
 
+    /// The least of the deadlines for which they wait.
+    pub fn next_due(&self) -> Option<u64> {
+        least_due(self.list.as_slice())
+    }
+
     /// The places that are looked at in this turn, from the first up to the second: a few, one after the other.
     pub fn next_places(&mut self) -> (usize, usize)
         ensures same { self.new ≡ self.old }
@@ -118,6 +124,24 @@ impl<J: Drop, S: Drop> Resting<J, S> {
         let to = from.saturating_add(FEW).min(len);
         self.next = if to < len { to } else { 0 };
         (from, to)
+    }
+}
+
+/// The least of their deadlines.
+fn least_due<J: Drop, S: Drop>(resting: &[Rested<J, S>]) -> Option<u64> {
+    let mut least = None;
+    for rested in resting {
+        least = earlier(least, rested.due);
+    }
+    least
+}
+
+/// The earlier of two deadlines.
+fn earlier(one: Option<u64>, other: Option<u64>) -> Option<u64> {
+    match (one, other) {
+        (Some(one), Some(other)) => Some(one.min(other)),
+        (Some(due), None) | (None, Some(due)) => Some(due),
+        (None, None) => None,
     }
 }
 

@@ -1,17 +1,19 @@
 //! How a hand serves a tree: a turn at a time.
-ghost use Rattle.std.specs.Prelude.{◌≤◌, ◌≡◌, IsTrue, None};
+ghost use Rattle.std.specs.Prelude.{◌≤◌, ◌≡◌, IsTrue, None, Some};
 ghost use Rattle.otp_spec.specs.declared.limits.TheConstants.{MAX_READING};
 
 use crate::clock::Millis;
 use crate::hand::{Hand, Unsent};
+use crate::listener::{Listener, Nobody};
 use crate::places::put_into;
 use crate::system::System;
 use otp_bridge::Subsystem;
 use otp_inbox::InboxNaming;
-use otp_job::Job;
+use otp_job::{Body, Job};
+use otp_reason::Note;
 use otp_run::RunNaming;
 use otp_signals::{Signal, WordsNaming};
-use otp_sup::TurnAnswer;
+use otp_sup::{Letter, TurnAnswer};
 use std::sync::Wait;
 
 impl<N: WordsNaming + InboxNaming, J: Job, S: Subsystem> System<N, J, S> {
@@ -45,23 +47,62 @@ impl<N: WordsNaming + InboxNaming, J: Job, S: Subsystem> System<N, J, S> {
         requires { reading ≤ MAX_READING }
         ensures { hand.new.passes ≡ hand.old.passes }
     {
-        if !self.send_unsent(rt, hand) || !self.find(hand) {
+        self.turn_heard(rt, hand, reading, &Nobody)
+    }
+
+    /// The same, of which a listener is told.
+    pub fn turn_heard<R: Wait, L: Listener>(
+        &self,
+        rt: &R,
+        hand: &mut Hand<N, J, S>,
+        reading: u64,
+        listener: &L,
+    ) -> bool
+    where
+        N: RunNaming,
+        requires { reading ≤ MAX_READING }
+        ensures { hand.new.passes ≡ hand.old.passes }
+    {
+        if !self.send_unsent(rt, hand, listener) || !self.find(hand, reading) {
             return false;
         }
+        hand.runner.note_reading(reading);
         let told = hand.runner.look(&self.words);
+        let parent = hand.runner.parent();
         match hand.runner.nested() {
-            Some((table, number)) => self.supervise(rt, hand, table, number, reading, told),
-            None => hand.runner.work(told),
+            Some((table, number)) => {
+                self.supervise(rt, hand, table, number, reading, told, parent, listener);
+            }
+            None => {
+                let before = hand.runner.waiting.len();
+                hand.runner.work(told);
+                tell_of_wait(listener, parent, before, hand.runner.waiting.len());
+            }
         }
-        if self.send_unsent(rt, hand) {
+        if self.send_unsent(rt, hand, listener) {
             hand.runner.hand_back();
         }
         true
     }
 
-    /// A turn of this supervisor, whose process a hand has out. Where it finds nothing to do, and none of its children has a
-    /// deadline, the process waits from then on.
-    fn supervise<R: Wait>(
+    /// Looks for something to do, for letters, signals and deadlines of **all** that wait in this hand, and in the run queue as a
+    /// turn does. True where the hand's next turn has something to do; false where there was nothing for each that waits at one
+    /// moment of the call.
+    pub fn look_at_all(&self, hand: &mut Hand<N, J, S>, reading: u64) -> bool
+    where
+        N: RunNaming,
+        ensures { hand.new.passes ≡ hand.old.passes }
+    {
+        if hand.runner.unsent.is_some() {
+            return true;
+        }
+        hand.runner.look_at_all();
+        self.find(hand, reading)
+    }
+
+    /// A turn of this supervisor, whose process a hand has out. Where it finds nothing to do, the process waits from then on, until
+    /// the least deadline of its children at most.
+    fn supervise<R: Wait, L: Listener>(
         &self,
         rt: &R,
         hand: &mut Hand<N, J, S>,
@@ -69,6 +110,8 @@ impl<N: WordsNaming + InboxNaming, J: Job, S: Subsystem> System<N, J, S> {
         number: u64,
         reading: u64,
         told: Signal,
+        parent: usize,
+        listener: &L,
     )
     where
         N: RunNaming,
@@ -81,38 +124,78 @@ impl<N: WordsNaming + InboxNaming, J: Job, S: Subsystem> System<N, J, S> {
         let begun = hand.runner.scheduler.share().begun;
         let answer = hand.turn_nested(rt, &self.words, sup, number, reading, told);
         if answer == Ok(TurnAnswer::Quiet) {
-            if sup.next_deadline(rt).is_none() {
-                hand.runner.rest(table, told);
-            }
-        } else if hand.runner.scheduler.share().begun == begun {
+            let due = sup.next_deadline(rt);
+            hand.runner.rest(table, told, due);
+            listener.rests(table, parent);
+            return;
+        }
+        listener.served(table);
+        if hand.runner.scheduler.share().begun == begun {
             hand.runner.waiting.notice();
         }
     }
 
     /// Sends the letter that a hand still has to send. False where it was refused again.
-    fn send_unsent<R: Wait>(&self, rt: &R, hand: &mut Hand<N, J, S>) -> bool
+    fn send_unsent<R: Wait, L: Listener>(
+        &self,
+        rt: &R,
+        hand: &mut Hand<N, J, S>,
+        listener: &L,
+    ) -> bool
     where
         N: RunNaming,
         ensures sent { IsTrue result → hand.new.unsent ≡ None }
         ensures passes { hand.new.passes ≡ hand.old.passes }
     {
-        let Some(Unsent { table, letter }) = hand.runner.unsent.take() else {
+        let Some(
+            Unsent {
+                table,
+                letter,
+                note,
+            },
+        ) = hand.runner.unsent.take()
+        else {
             return true;
         };
         let inbox = self.inbox_of(table);
         if inbox.number() >= hand.senders.len() {
-            put_into(&mut hand.runner.unsent, Some(Unsent { table, letter }));
+            keep_unsent(&mut hand.runner.unsent, table, letter, note);
             return false;
         }
         match hand.senders.send(rt, inbox, letter) {
             Ok(()) => {
                 hand.runner.resting.call(table);
+                listener.sent(table, note);
                 true
             }
             Err(letter) => {
-                put_into(&mut hand.runner.unsent, Some(Unsent { table, letter }));
+                keep_unsent(&mut hand.runner.unsent, table, letter, note);
                 false
             }
         }
+    }
+}
+
+/// Keeps a letter that was refused.
+fn keep_unsent<J: Drop, S: Drop>(
+    place: &mut Option<Unsent<J, S>>,
+    table: usize,
+    letter: Letter<Body<J, S>>,
+    note: Note,
+)
+    ensures { place.new ≡ Some (record { table = table; letter = letter; note = note }) }
+{
+    let unsent = Unsent {
+        table,
+        letter,
+        note,
+    };
+    put_into(place, Some(unsent));
+}
+
+/// Tells that a job waits, where more wait than before.
+fn tell_of_wait<L: Listener>(listener: &L, parent: usize, before: usize, now: usize) {
+    if before < now {
+        listener.waits(parent);
     }
 }

@@ -2,6 +2,7 @@
 ghost use Rattle.std.specs.Prelude.{◌≡◌, ◌<◌, ◌≤◌, ◌++◌, ◌∷◌, [], length, IfSome, MatchOption};
 ghost use Rattle.otp_tree.specs.Waitings.{IsTaken};
 
+use crate::around::Around;
 use otp_job::Process;
 use otp_signals::{Viewer, Words, WordsNaming};
 use std::alloc::Global;
@@ -17,14 +18,17 @@ const OTHERS: usize = 24;
 /// How many of them are looked at in each other turn.
 const FEW: usize = 4;
 
-/// The processes of a hand that have nothing to do until their supervisors tell them something. They take no turns; in each
-/// turn of the hand it is looked whether some of them were told something.
+/// The next look is at all of them.
+const ALL: usize = usize::MAX;
+
+/// The processes of a hand that have nothing to do until their supervisors tell them something, or their jobs are woken. They take
+/// no turns; in each turn of the hand it is looked whether some of them were told something.
 #[derive(Drop)]
 pub(crate) struct Waiting<J: Drop, S: Drop> {
     list: Vec<Process<J, S>>,
     // The place of the first that is looked at in the next turn, of those that are not the newest.
     next: usize,
-    // In how many turns more the newest, and many of the others, are looked at.
+    // In how many turns more the newest, and many of the others, are looked at; or `ALL`.
     alert: usize,
 }
 
@@ -81,15 +85,23 @@ impl<J: Drop, S: Drop> Waiting<J, S> {
         self.alert = self.list.len() / OTHERS + 1;
     }
 
+    /// Notes that the next look is to be at all of them.
+    pub fn look_at_all(&mut self)
+        ensures { self.new ≡ self.old }
+    {
+        self.alert = ALL;
+    }
+
     /// Takes out one that was told something, if that is one of those that are looked at now.
     pub fn take_told<N: WordsNaming>(
         &mut self,
         words: &Words<N>,
         viewer: &mut Viewer<N>,
+        around: &Around,
     ) -> Option<Process<J, S>>
         ensures { MatchOption result (self.new ≡ self.old) (λ process. IsTaken process self.old self.new) }
     {
-        let place = self.find_told(words, viewer)?;
+        let place = self.find_told(words, viewer, around)?;
         Some(self.list.swap_remove(place))
     }
 
@@ -98,25 +110,34 @@ impl<J: Drop, S: Drop> Waiting<J, S> {
         &mut self,
         words: &Words<N>,
         viewer: &mut Viewer<N>,
+        around: &Around,
     ) -> Option<usize>
         ensures same { self.new ≡ self.old }
         ensures place { IfSome result (λ place. place < length self.old) }
     {
         let len = self.list.len();
-        let (newest, many) = if self.alert == 0 {
-            (len, FEW)
-        } else {
-            (len.saturating_sub(NEWEST), OTHERS)
+        let (newest, many) = match self.alert {
+            0 => (len, FEW),
+            ALL => (0, 0),
+            _ => (len.saturating_sub(NEWEST), OTHERS),
         };
-        self.alert = self.alert.saturating_sub(1);
+        self.alert = fewer(self.alert);
         let from = self.next.min(newest);
         let to = from.saturating_add(many).min(newest);
         self.next = if to < newest { to } else { 0 };
         let waiting = self.list.as_slice();
-        match find_told_last(words, viewer, waiting, newest, len) {
+        match find_told_last(words, viewer, around, waiting, newest, len) {
             Some(place) => Some(place),
-            None => find_told(words, viewer, waiting, from, to),
+            None => find_told(words, viewer, around, waiting, from, to),
         }
+    }
+}
+
+/// How many looks are left after one.
+fn fewer(alert: usize) -> usize {
+    match alert {
+        ALL => 0,
+        looks => looks.saturating_sub(1),
     }
 }
 
@@ -124,6 +145,7 @@ impl<J: Drop, S: Drop> Waiting<J, S> {
 fn find_told_last<N: WordsNaming, J: Drop, S: Drop>(
     words: &Words<N>,
     viewer: &mut Viewer<N>,
+    around: &Around,
     waiting: &[Process<J, S>],
     from: usize,
     to: usize,
@@ -133,7 +155,7 @@ fn find_told_last<N: WordsNaming, J: Drop, S: Drop>(
 {
     for back in from..to {
         let place = to - 1 - (back - from);
-        if is_told(words, viewer, &waiting[place]) {
+        if is_told(words, viewer, around, &waiting[place]) {
             return Some(place);
         }
     }
@@ -144,6 +166,7 @@ fn find_told_last<N: WordsNaming, J: Drop, S: Drop>(
 fn find_told<N: WordsNaming, J: Drop, S: Drop>(
     words: &Words<N>,
     viewer: &mut Viewer<N>,
+    around: &Around,
     waiting: &[Process<J, S>],
     from: usize,
     to: usize,
@@ -152,19 +175,23 @@ fn find_told<N: WordsNaming, J: Drop, S: Drop>(
     ensures { IfSome result (λ place. place < length waiting.now) }
 {
     for place in from..to {
-        if is_told(words, viewer, &waiting[place]) {
+        if is_told(words, viewer, around, &waiting[place]) {
             return Some(place);
         }
     }
     None
 }
 
-/// Whether a process that waits was told something.
+/// Whether a process that waits was told something, or its job was woken.
 fn is_told<N: WordsNaming, J: Drop, S: Drop>(
     words: &Words<N>,
     viewer: &mut Viewer<N>,
+    around: &Around,
     process: &Process<J, S>,
 ) -> bool {
     let (slot, number) = (process.slot(), process.number());
+    if around.is_woken(slot) {
+        return true;
+    }
     slot < words.slots() && process.has_news(words.look(viewer, slot, number))
 }

@@ -1,11 +1,12 @@
 //! The whole life of a tree on threads, in one call.
-ghost use Rattle.std.specs.Prelude.{◌≡◌, ◌<◌, ◌≤◌, length, IfErr, IfOk};
+ghost use Rattle.std.specs.Prelude.{◌≡◌, ◌<◌, ◌≤◌, [], length, vec_capacity, IfErr, IfOk};
 ghost use Rattle.otp_spec.specs.declared.limits.TheConstants.{MAX_TABLES};
 ghost use Rattle.otp_run.specs.Lists.{AllAt};
 ghost use Rattle.otp_run.specs.Rule.{all_parts};
 ghost use Rattle.otp_tree.specs.Closes.{IsReportOf, IsRunMismatchOnly};
 ghost use Rattle.otp_tree.specs.Opens.{slots_of};
 
+use crate::client::Client;
 use crate::clock::Gate;
 use crate::closing::CloseFault;
 use crate::hand::Hand;
@@ -18,7 +19,7 @@ use crate::system::System;
 use otp_bridge::Subsystem;
 use otp_counts::CountsPass;
 use otp_inbox::InboxNaming;
-use otp_job::Job;
+use otp_job::{Body, Job};
 use otp_rules::CountsNow;
 use otp_run::RunNaming;
 use otp_signals::WordsNaming;
@@ -132,6 +133,36 @@ where
     }
 }
 
+/// Both halves of a run: each hand makes so many turns, the counts of each supervisor are read, the root is asked to stop, and each
+/// hand makes as many turns again.
+fn run_both<N, R, J, S, G>(
+    rt: &R,
+    alloc: Global,
+    system: &System<N, J, S>,
+    hands: &mut [Hand<N, J, S>],
+    client: &mut Client<N, Body<J, S>>,
+    gate: &G,
+    turns: u64,
+    passes: &mut [CountsPass],
+    counts: &mut Vec<CountsNow>,
+)
+where
+    N: WordsNaming + InboxNaming + RunNaming + Send + Sync,
+    R: Threads + Wait + Sync,
+    J: Job + Send,
+    S: Subsystem + Send,
+    G: Gate + Sync,
+    requires unasked { client.old.owner.posts ≡ [] }
+    requires none { counts.old.items ≡ [] }
+    requires room { length passes.old ≤ vec_capacity counts.old }
+    ensures { length counts.new.items ≡ length passes.old }
+{
+    run_half(rt, alloc, system, hands, gate, turns, 0, passes);
+    client.read_before_stop(passes, counts);
+    system.stop(client);
+    run_half(rt, alloc, system, hands, gate, turns, turns, passes);
+}
+
 /// The whole life of a tree of 1 to 64 supervisors, the root first, in one call: each of 1 to 8 hands makes so many turns
 /// in a thread of its own, then the root is asked to stop, each hand makes as many turns again, and the tree is closed.
 /// Out comes the report of what it was, with the counts of each supervisor before the stop.
@@ -204,27 +235,16 @@ where
         mut client,
         mut passes,
     } = opened;
-    run_half(
+    run_both(
         rt,
         alloc,
         &system,
         hands.as_mut_slice(),
+        &mut client,
         gate,
         turns,
-        0,
         passes.as_mut_slice(),
-    );
-    client.read_before_stop(passes.as_mut_slice(), &mut counts);
-    system.stop(&mut client);
-    run_half(
-        rt,
-        alloc,
-        &system,
-        hands.as_mut_slice(),
-        gate,
-        turns,
-        turns,
-        passes.as_mut_slice(),
+        &mut counts,
     );
     drop(passes);
     match system.finish(rt, alloc, hands, client) {

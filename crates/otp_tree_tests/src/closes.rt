@@ -84,7 +84,7 @@ fn add_plans(alloc: Global, plans: &mut Vec<Plan>) -> Result<(), Fail> {
     Ok(())
 }
 
-// So few turns leave most children unstarted, and most of those that were started unended.
+// So few turns of all hands together leave most children unstarted, and most of those that were started unended.
 fn close_full<R: Threads + Wait + Abort + Sync>(
     rt: &R,
     alloc: Global,
@@ -97,7 +97,8 @@ fn close_full<R: Threads + Wait + Abort + Sync>(
     if plans.len() > 64 {
         return Err("more supervisors than a tree may have".into());
     }
-    let report = ran(run_tree(rt, alloc, plans, hands, &Still, 20_000))?;
+    let turns = 20_000 / hands as u64;
+    let report = ran(run_tree(rt, alloc, plans, hands, &Still, turns))?;
     check_open(rt, &report);
     let checked = check_numbers(rt, alloc, &report);
     drop(report);

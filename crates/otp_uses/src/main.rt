@@ -1,5 +1,5 @@
-//! Seven worked uses, short enough to copy: a tree of two supervisors and three jobs, drawn up and run in one call; the same of
-//! two workers, over what lies below; a supervisor that is driven by hand, an
+//! Eight worked uses, short enough to copy: a tree that runs until another thread stops it; one of two supervisors and three jobs,
+//! drawn up and run by turns in one call; the same of two workers, over what lies below; a supervisor that is driven by hand, an
 //! inbox between two threads, a signal from one thread to another, a tree that is served turn by turn, and a job whose process
 //! is taken turn by turn.
 //!
@@ -14,6 +14,7 @@ mod supervising;
 mod tree;
 mod two_supervisors;
 mod two_workers;
+mod until_stopped;
 
 use countdown::{Countdown, run_all, step};
 use mailbox::{Number, exchange};
@@ -28,11 +29,16 @@ use std::marker::Brand;
 use tree::{Run, up_and_down};
 use two_supervisors::run_shop;
 use two_workers::run_two_workers;
+use until_stopped::run_until_stopped;
 
 /// How many numbers are sent.
 const COUNT: usize = 1000;
 
 fn main(rt: HostRuntime) -> io::Result<()> {
+    match run_until_stopped(&rt, rt.alloc()) {
+        Ok(live) => println!(rt; "until stopped: {live} processes are left")?,
+        Err(fault) => println!(rt; "the tree was not run: {fault}")?,
+    }
     match run_shop(&rt, rt.alloc()) {
         Ok(live) => println!(rt; "two supervisors: {live} processes are left")?,
         Err(fault) => println!(rt; "the tree was not run: {fault}")?,

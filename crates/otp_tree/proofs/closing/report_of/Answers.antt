@@ -1,8 +1,9 @@
-use Rattle.std.proofs.Common.{◌≡◌, ◌-◌, ◌^◌, ◌∷◌, ◌++◌, length, map, min, sym, ap, ◌∙◌, subst, arith}
+use Rattle.std.proofs.Common.{◌≡◌, ◌<◌, ℕ, ◌-◌, ◌^◌, ◌∷◌, ◌++◌, length, map, min, sym, ap, ◌∙◌, subst, arith}
 use Rattle.std.specs.Prelude.{IfSome, MatchOption, sum_by}
 use Rattle.otp_inbox.specs.Lists.{AsOften}
 use Rattle.otp_inbox.specs.declared.rule.Shares.{Shares}
-use Rattle.otp_inbox.specs.Tokens.{TakerState, no_shares}
+use Rattle.otp_inbox.specs.Tokens.{TakerState, all_parts, no_shares}
+use Rattle.otp_tree.specs.Sendings.{parts_to}
 use Rattle.otp_rules.specs.declared.event.Item.{Item}
 use Rattle.std.proofs.lemmas.List.Sums.{sum_by-append, sum_by_push}
 use Rattle.otp_tree.specs.Begun.{starts_credited}
@@ -78,6 +79,11 @@ returns-clause-last g c =
     let waits = sym (ap (λ v. v.waiter) c.client.view_is) ∙ c.in-Some.is in
     subst (λ o. MatchOption o ⊥ (λ w. AsOften (sent_to tables all) (w.taken ++ c.settle-last.result.items))) (sym waits)
     (λ weight. ap (sum_by weight) (sym sent) ∙ c.settle-last.ensures.left weight)
+
+pub join_all-senders-requires-clause-whole : goal.join_all-senders-requires-clause-whole
+join_all-senders-requires-clause-whole g c =
+    let rests = c.args.gathered.rests.items in
+    subst (λ v. (place : ℕ) → place < length v.senders → parts_to place (v.senders ∷ map senders_in rests) ≡ all_parts) (sym c.client.view_is) c.requires.reached.whole
 
 pub join_all-senders-requires-clause-as_far : goal.join_all-senders-requires-clause-as_far
 join_all-senders-requires-clause-as_far g c =

@@ -2,6 +2,7 @@ use Rattle.std.proofs.Common.{ap, arith, length, sym, subst, ◌∙◌}
 use Rattle.std.specs.Prelude.{Contains}
 use Rattle.otp_signals.specs.declared.view.Holding.{Holding}
 use Rattle.otp_tree.proofs.Fresh.{all_idle}
+use Rattle.otp_tree.specs.Hands.{ClientView}
 use Rattle.otp_tree.proofs.opening.Parts.named.Goals as goal
 
 pub open_all-requires-clause-slots : goal.open_all-requires-clause-slots
@@ -19,4 +20,4 @@ pub returns-clause-own : goal.returns-clause-own
 returns-clause-own g c = ap length (c.in_ok-hands.ensures {u = tt}).same ∙ (c.in_ok-sups.ensures {u = tt}).passes
 
 pub returns-clause-unasked : goal.returns-clause-unasked
-returns-clause-unasked g c = ap (λ (h : Holding). h.posts) (c.in-Ok.ensures {u = tt}).drawn ∙ (c.in_ok-sups.ensures {u = tt}).posts
+returns-clause-unasked g c = ap (λ (v : ClientView). v.owner.posts) c.first-client.ensures ∙ ap (λ (h : Holding). h.posts) (c.in-Ok.ensures {u = tt}).drawn ∙ (c.in_ok-sups.ensures {u = tt}).posts

@@ -2,7 +2,7 @@ use Rattle.std.proofs.Common.{◌≡◌, ◌+◌, ◌≤◌, ◌++◌, length, m
 use Rattle.std.specs.Prelude.{vec_capacity, vec_len}
 use Rattle.otp_draft.specs.Plans.{seen}
 use Rattle.otp.specs.Runs.{seen_in_tree}
-use Rattle.otp.proofs.run.handed_on.Given as goal
+use Rattle.otp.proofs.running.handed_on.Given as goal
 
 abbrev pub invariant-loop-plan : goal.invariant-loop-plan
 invariant-loop-plan g l =

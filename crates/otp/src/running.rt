@@ -12,10 +12,12 @@ use crate::fault::Unrun;
 use otp_bridge::Subsystem;
 use otp_draft::{DraftFault, Refused, TablePlan, TreeDraft};
 use otp_job::Job;
+use otp_live::{Caller, Stop, Watch, close_callers};
 use otp_tree::{CountedRun, Gate, Leader, Led, MAX_HANDS, Report, RunFault, run_tree_counted};
 use std::alloc::Global;
 use std::sync::Wait;
 use std::thread::Threads;
+use std::time::Clock;
 
 /// The same plans, as `otp_tree` has them. Takes no memory.
 fn handed_on<J: Drop, S: Drop>(
@@ -88,6 +90,79 @@ fn plans_for<J: Drop, S: Drop>(
     match plans(alloc, root) {
         Ok(all) => Ok(all),
         Err(back) => Err(Unrun::Unfinished(back)),
+    }
+}
+
+/// Runs a tree until its root has ended: by itself, as when it gives up, or because the stop was raised, from any thread and at any
+/// time. Then its children are stopped in reverse start order, each within its time (as at the end of an application in OTP), and
+/// the tree is closed. Out comes the report of what it was.
+///
+/// It is served by 1 to 8 hands, each in a thread of its own, which sleep while there is nothing to do. The clock is the system's, in
+/// milliseconds since the call. The watch is told of starts and ends ([`Unwatched`](crate::Unwatched) says nothing,
+/// [`LogLines`](crate::LogLines) writes them).
+///
+/// # Errors
+///
+/// [`Unrun::Hands`] and [`Unrun::Unfinished`] with the tree; [`Unrun::Run`] where it was not opened or not closed.
+pub fn run<R, J, S, W>(
+    rt: &R,
+    alloc: Global,
+    root: TreeDraft<J, S>,
+    hands: usize,
+    stop: &Stop,
+    watch: &W,
+) -> Result<Report<J, S>, Unrun<J, S>>
+where
+    R: Threads + Wait + Clock + Sync,
+    J: Job + Send,
+    S: Subsystem + Send,
+    W: Watch + Sync,
+    ensures report { IfOk result (IsReportOf (size root)) }
+    ensures lawful { OnOk result (finish_fault root ≡ None) }
+    ensures back { IfErr result (IsBack hands root) }
+{
+    let plans = plans_for(alloc, root, hands)?;
+    match otp_live::run(rt, alloc, plans, hands, stop, watch) {
+        Ok(report) => Ok(report),
+        Err(why) => Err(Unrun::Run(why)),
+    }
+}
+
+/// The same, with these callers: by each of them a thread calls the tree's supervisors while it runs, as
+/// `supervisor:which_children` and the others do ([`Caller`]). Supervisors are numbered in the order of the walk, the root being 0:
+/// each before those below its own children.
+///
+/// # Errors
+///
+/// As [`run`]. The callers are told that the run is over in each case, also where it didn't begin.
+pub fn run_with_callers<R, J, S, W>(
+    rt: &R,
+    alloc: Global,
+    root: TreeDraft<J, S>,
+    hands: usize,
+    stop: &Stop,
+    watch: &W,
+    callers: &[Caller<J, S>],
+) -> Result<Report<J, S>, Unrun<J, S>>
+where
+    R: Threads + Wait + Clock + Sync,
+    J: Job + Send,
+    S: Subsystem + Send,
+    W: Watch + Sync,
+    ensures report { IfOk result (IsReportOf (size root)) }
+    ensures lawful { OnOk result (finish_fault root ≡ None) }
+    ensures back { IfErr result (IsBack hands root) }
+{
+    let plans = match plans_for(alloc, root, hands) {
+        Ok(plans) => plans,
+        Err(why) => {
+            close_callers(rt, callers);
+            return Err(why);
+        }
+    };
+    match otp_live::run_with_callers(rt, alloc, plans, hands, stop, watch, callers) {
+        Ok(report) => Ok(report),
+        Err(why) => Err(Unrun::Run(why)),
     }
 }
 

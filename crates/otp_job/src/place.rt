@@ -1,0 +1,60 @@
+//! Where a job runs.
+use otp_wake::{Post, Waker};
+use std::sync::Arc;
+
+/// What a job is handed at its start: which process it is, what time it is, and how it can be woken.
+#[derive(Drop)]
+pub struct Place<'a> {
+    /// The number of the process, which no other has.
+    pub number: u64,
+    /// The slot of its signal word.
+    pub slot: usize,
+    /// The number of its supervisor.
+    pub table: usize,
+    /// The reading of the clock for this turn, in milliseconds.
+    pub reading: u64,
+    /// Where it is woken, if it runs where jobs can be woken.
+    pub post: Option<&'a Arc<Post>>,
+}
+
+/// Why there is no waker.
+#[derive(Clone, Copy, Debug, PartialEq, Eq)]
+pub enum NoWaker {
+    /// The process is served by turns, or stepped by hand: nobody would hear the wake.
+    NoPost,
+    /// There are as many wakers of the tree as a machine word counts.
+    TooMany,
+}
+
+impl Place<'_> {
+    /// By which another thread wakes this job: it ends a wait ([`Turn::Wait`](crate::Turn::Wait)) in the place of its supervisor's
+    /// signals.
+    pub fn waker(&self) -> Result<Waker, NoWaker> {
+        let Some(post) = self.post else {
+            return Err(NoWaker::NoPost);
+        };
+        match Waker::new(post, self.slot) {
+            Ok(waker) => Ok(waker),
+            Err(_) => Err(NoWaker::TooMany),
+        }
+    }
+}
+
+/// Where the turns of processes are made: what time it is, and how their jobs are woken.
+#[derive(Drop)]
+pub struct Site<'a> {
+    /// The reading of the clock, in milliseconds.
+    pub reading: u64,
+    /// Where jobs are woken, if they can be.
+    pub post: Option<&'a Arc<Post>>,
+}
+
+impl Site<'_> {
+    /// At no time, and where no job can be woken: for whoever steps processes by hand.
+    pub fn nowhere() -> Site<'static> {
+        Site {
+            reading: 0,
+            post: None,
+        }
+    }
+}

@@ -1,0 +1,47 @@
+//! A tree of supervisors that runs until it has ended or is told to stop, on threads that sleep while there is nothing to do.
+//!
+//! ```text
+//! let stop = Stop::new(rt.alloc())?;
+//! let report = run(&rt, rt.alloc(), plans, 4, &stop, &Unwatched)?;
+//! ```
+//!
+//! [`run`] returns once the root has ended: by itself (it gave up, or its last significant child ended), or because another thread
+//! raised the [`Stop`]. Then the tree was shut down in order, as OTP's `supervisor` does at the end of an application, and closed;
+//! the report is that of [`System::close`](otp_tree::System::close).
+//!
+//! A [`Watch`] is told what happens: which processes started and ended, and why, and when. It is told by the thread in which it
+//! happened, with no lock held.
+//!
+//! Any thread calls the supervisors of a tree that runs by a [`Caller`], as OTP's `supervisor:restart_child` and the others do: a
+//! tree is run with some ([`run_with_callers`]).
+//!
+//! # Sleep
+//!
+//! A hand that finds nothing to do sleeps ([`otp_wake::Bells`] says why no wake is lost): until a letter comes for a supervisor that
+//! waits in it, a signal for a process that waits in it, a wake for such a job, the next deadline of such a supervisor, or the stop;
+//! or until another hand has more to do than it gets done. A tree in which nothing happens takes no time of the processor, and a
+//! deadline fires without anybody polling. A bridge wants a turn again and again, so where one runs one hand is awake.
+#![tactic(auto)]
+
+pub mod caller;
+pub mod calls;
+pub mod clock;
+mod crew;
+mod live;
+pub mod log;
+pub mod mailbox;
+mod seat;
+mod served;
+pub mod watch;
+
+pub use caller::{Answer, Caller};
+pub use calls::{
+    CallError, DeleteRefusal, GetRefusal, NoRefusal, RestartRefusal, StartEnd, StartRefusal,
+    TerminateRefusal,
+};
+pub use clock::Stopwatch;
+pub use live::{close_callers, run, run_with_callers};
+pub use log::{LogLines, write_line};
+pub use mailbox::Mailbox;
+pub use otp_wake::{Stop, Waker};
+pub use watch::{Happening, Seen, Unwatched, Watch};

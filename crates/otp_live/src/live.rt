@@ -1,0 +1,309 @@
+//! A tree runs until it has ended.
+ghost use Rattle.std.specs.Prelude.{◌≡◌, ◌<◌, ◌≤◌, length, IfErr, IfOk};
+ghost use Rattle.otp_spec.specs.declared.limits.TheConstants.{MAX_READING, MAX_TABLES};
+ghost use Rattle.otp_run.specs.Rule.{all_parts};
+ghost use Rattle.otp_tree.specs.Closes.{IsReportOf, IsRunMismatchOnly};
+
+use crate::caller::Caller;
+use crate::clock::Stopwatch;
+use crate::crew::Crew;
+use crate::seat::Seat;
+use crate::served::serve_tree;
+use crate::watch::Watch;
+use otp_bridge::Subsystem;
+use otp_inbox::InboxNaming;
+use otp_job::{Body, Job};
+use otp_run::RunNaming;
+use otp_signals::WordsNaming;
+use otp_tree::{Client, Hand, Report, RunFault, System, SystemFault, TablePlan};
+use otp_wake::{Post, Stop};
+use std::alloc::{AllocError, Global};
+use std::sync::{Arc, Mutex, Wait};
+use std::thread::Threads;
+use std::time::{Clock, Duration};
+
+/// So many turns a hand makes before it looks at the clock and the stop again.
+const BATCH: u32 = 16;
+
+/// So many batches in a row a hand had more than one process in its run queue before it wakes another hand.
+const PATIENCE: u32 = 2;
+
+/// So many milliseconds a hand sleeps that was refused memory before it tries again.
+const PAUSE: u64 = 1;
+
+/// Opens a tree of 1 to 64 supervisors, the root first, and runs it with 1 to 8 hands, each in a thread of its own, until its root
+/// has ended. That is when it gave up, or was shut down by itself, or when the stop was raised, from any thread and at any time, also
+/// before: then it is asked to shut down, and stops its children in reverse start order, each within its time. At last the tree is
+/// closed, and its report comes out.
+///
+/// The clock is the system's, in milliseconds since the call. The threads sleep while there is nothing to do.
+///
+/// # Errors
+///
+/// [`RunFault::Open`] where memory is refused, or a plan lacks a body: nothing ran. [`RunFault::Close`] where memory for the report
+/// is refused, and in two cases that don't happen ([`CloseFault`](otp_tree::CloseFault)).
+pub fn run<R, J, S, W>(
+    rt: &R,
+    alloc: Global,
+    plans: Vec<TablePlan<J, S>>,
+    hands: usize,
+    stop: &Stop,
+    watch: &W,
+) -> Result<Report<J, S>, RunFault<J, S>>
+where
+    R: Threads + Wait + Clock + Sync,
+    J: Job + Send,
+    S: Subsystem + Send,
+    W: Watch + Sync,
+    requires tables { length plans.items ≤ MAX_TABLES }
+    requires some { 0 < hands }
+    requires few { hands ≤ all_parts }
+    // The report has each supervisor of the plans, and is one that `System::close` can give.
+    ensures report { IfOk result (IsReportOf (length plans.items)) }
+    ensures mismatch { IfErr result IsRunMismatchOnly }
+{
+    let callers = Vec::new(alloc);
+    run_with_callers(rt, alloc, plans, hands, stop, watch, callers.as_slice())
+}
+
+/// The same, with these callers: by each of them a thread may call the tree's supervisors while it runs ([`Caller`]).
+pub fn run_with_callers<R, J, S, W>(
+    rt: &R,
+    alloc: Global,
+    plans: Vec<TablePlan<J, S>>,
+    hands: usize,
+    stop: &Stop,
+    watch: &W,
+    callers: &[Caller<J, S>],
+) -> Result<Report<J, S>, RunFault<J, S>>
+where
+    R: Threads + Wait + Clock + Sync,
+    J: Job + Send,
+    S: Subsystem + Send,
+    W: Watch + Sync,
+    requires tables { length plans.items ≤ MAX_TABLES }
+    requires some { 0 < hands }
+    requires few { hands ≤ all_parts }
+    ensures report { IfOk result (IsReportOf (length plans.items)) }
+    ensures mismatch { IfErr result IsRunMismatchOnly }
+{
+    let clock = Stopwatch::start(rt);
+    let Ok(crew) = gather(alloc, &clock, stop, watch, callers, plans.len(), hands) else {
+        drop(plans);
+        close_callers(rt, callers);
+        return Err(RunFault::Open(SystemFault::OutOfMemory));
+    };
+    let report = serve_tree(rt, alloc, plans, hands, &crew);
+    close_callers(rt, callers);
+    report
+}
+
+/// Tells callers that the run has ended, or that there will be none: each call is answered [`Answer::Over`](crate::Answer::Over). A run
+/// does so at its end.
+pub fn close_callers<R: Wait, J: Drop, S: Drop>(rt: &R, callers: &[Caller<J, S>]) {
+    for caller in callers {
+        caller.close(rt);
+    }
+}
+
+/// The slots of signal words that a tree of so many supervisors has.
+fn slots_of(tables: usize) -> usize {
+    tables.saturating_mul(256).saturating_add(1)
+}
+
+/// The crew of a tree that is to be run.
+fn gather<'a, C: Clock, W: Watch, J: Drop, S: Drop>(
+    alloc: Global,
+    clock: &'a Stopwatch<'a, C>,
+    stop: &'a Stop,
+    watch: &'a W,
+    callers: &'a [Caller<J, S>],
+    tables: usize,
+    hands: usize,
+) -> Result<Crew<'a, C, W, J, S>, AllocError> {
+    let post = Post::open(alloc, slots_of(tables), stop.bells())?;
+    let post = Arc::new(alloc, post)?;
+    Crew::of(alloc, clock, stop, watch, callers, post, tables, hands)
+}
+
+/// Serves by a hand until the root has ended.
+pub(crate) fn serve<N, R, J, S, W>(
+    rt: &R,
+    seat: &Seat<'_, R, W, J, S>,
+    system: &System<N, J, S>,
+    hand: &mut Hand<N, J, S>,
+    client: &Mutex<Client<N, Body<J, S>>>,
+)
+where
+    N: WordsNaming + InboxNaming + RunNaming,
+    R: Wait + Clock,
+    J: Job,
+    S: Subsystem,
+    W: Watch,
+{
+    let crew = seat.crew;
+    // Where this is refused, which it isn't, jobs that ask for a waker at their start get none.
+    let _opened = hand.open_post(&crew.post);
+    let mut crowded: u32 = 0;
+    for _ in rt.forever() {
+        if crew.has_ended() {
+            return;
+        }
+        if crew.is_to_ask() {
+            ask(rt, seat, system, client);
+        }
+        if crew.is_called() {
+            send_calls(rt, seat, system, client);
+        }
+        let is_busy = serve_some(rt, seat, system, hand);
+        collect_answers(rt, seat, system);
+        if is_busy {
+            crowded = share(seat, hand.stock(), crowded);
+        } else {
+            sleep(rt, seat, system, hand);
+        }
+    }
+}
+
+/// Some turns of a hand, at one reading of the clock. False where it found nothing to do in the last.
+fn serve_some<N, R, J, S, W>(
+    rt: &R,
+    seat: &Seat<'_, R, W, J, S>,
+    system: &System<N, J, S>,
+    hand: &mut Hand<N, J, S>,
+) -> bool
+where
+    N: WordsNaming + InboxNaming + RunNaming,
+    R: Wait + Clock,
+    J: Job,
+    S: Subsystem,
+    W: Watch,
+{
+    let reading = seat.crew.clock.reading();
+    for _ in 0..BATCH {
+        if !system.turn_heard(rt, hand, reading, seat) {
+            return false;
+        }
+    }
+    true
+}
+
+/// Asks the root to shut down, and wakes the hand in which it waits.
+fn ask<N, R, J, S, W>(
+    rt: &R,
+    seat: &Seat<'_, R, W, J, S>,
+    system: &System<N, J, S>,
+    client: &Mutex<Client<N, Body<J, S>>>,
+)
+where
+    N: WordsNaming + InboxNaming,
+    R: Wait + Clock,
+    J: Drop,
+    S: Drop,
+    W: Watch,
+{
+    let mut guard = client.lock(rt);
+    system.stop(&mut guard);
+    drop(guard);
+    seat.crew.wake_home(seat.hand, 0);
+}
+
+/// Sends the calls that are to be sent, and wakes the hands in which those wait that are called.
+fn send_calls<N, R, J, S, W>(
+    rt: &R,
+    seat: &Seat<'_, R, W, J, S>,
+    system: &System<N, J, S>,
+    client: &Mutex<Client<N, Body<J, S>>>,
+)
+where
+    N: WordsNaming + InboxNaming,
+    R: Wait + Clock,
+    J: Drop,
+    S: Drop,
+    W: Watch,
+{
+    let crew = seat.crew;
+    for caller in crew.callers {
+        if let Some(table) = caller.send(rt, crew.alloc, system, client) {
+            crew.wake_home(seat.hand, table);
+        }
+    }
+}
+
+/// Looks whether calls were answered, and tells those who made them.
+fn collect_answers<N, R, J, S, W>(rt: &R, seat: &Seat<'_, R, W, J, S>, system: &System<N, J, S>)
+where
+    N: WordsNaming + InboxNaming,
+    R: Wait + Clock,
+    J: Drop,
+    S: Drop,
+    W: Watch,
+{
+    if !seat.has_served() {
+        return;
+    }
+    for caller in seat.crew.callers {
+        if caller.is_sent() {
+            caller.collect(rt, system);
+        }
+    }
+}
+
+/// Wakes another hand where this one has had more to do than one process for so long. How long it has so far.
+fn share<C: Clock, W: Watch, J: Drop, S: Drop>(
+    seat: &Seat<'_, C, W, J, S>,
+    stock: u32,
+    crowded: u32,
+) -> u32 {
+    if stock < 2 {
+        return 0;
+    }
+    if crowded < PATIENCE {
+        return crowded + 1;
+    }
+    seat.crew.wake_another(seat.hand);
+    0
+}
+
+/// Sleeps until there may be something to do for a hand. It returns at once where there is.
+///
+/// The sleep is announced before the last look at all that may have come, so none that comes after the look is missed
+/// ([`Bells`](otp_wake::Bells)).
+fn sleep<N, R, J, S, W>(
+    rt: &R,
+    seat: &Seat<'_, R, W, J, S>,
+    system: &System<N, J, S>,
+    hand: &mut Hand<N, J, S>,
+)
+where
+    N: WordsNaming + InboxNaming + RunNaming,
+    R: Wait + Clock,
+    J: Job,
+    S: Subsystem,
+    W: Watch,
+{
+    let crew = seat.crew;
+    let announced = crew.bells().announce(seat.hand);
+    if crew.has_ended() || crew.is_to_stop() || crew.is_called() {
+        drop(announced);
+        return;
+    }
+    hand.try_others();
+    let reading = crew.clock.reading();
+    if system.look_at_all(hand, reading) {
+        drop(announced);
+        if !system.turn_heard(rt, hand, reading, seat) {
+            // Memory for a letter is refused.
+            crew.bells()
+                .announce(seat.hand)
+                .sleep(rt, Some(Duration::from_millis(PAUSE)));
+        }
+        return;
+    }
+    announced.sleep(rt, time_left(hand.next_due(), reading));
+}
+
+/// How long it is until a deadline, by this reading of the clock.
+fn time_left(due: Option<u64>, reading: u64) -> Option<Duration> {
+    Some(Duration::from_millis(due?.saturating_sub(reading)))
+}

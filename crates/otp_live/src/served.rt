@@ -1,0 +1,132 @@
+//! A tree is opened, served by each hand in a thread of its own, and closed.
+ghost use Rattle.std.specs.Prelude.{◌≡◌, ◌<◌, ◌≤◌, length, IfErr, IfOk};
+ghost use Rattle.otp_spec.specs.declared.limits.TheConstants.{MAX_TABLES};
+ghost use Rattle.otp_run.specs.Lists.{AllAt};
+ghost use Rattle.otp_run.specs.Rule.{all_parts};
+ghost use Rattle.otp_tree.specs.Closes.{IsReportOf, IsRunMismatchOnly};
+ghost use Rattle.otp_tree.specs.Opens.{slots_of};
+
+use crate::crew::Crew;
+use crate::live::serve;
+use crate::seat::Seat;
+use crate::watch::Watch;
+use otp_bridge::Subsystem;
+use otp_inbox::InboxNaming;
+use otp_job::{Body, Job};
+use otp_run::RunNaming;
+use otp_signals::WordsNaming;
+use otp_tree::{Client, Hand, MAX_HANDS, Opened, Parts, Report, RunFault, System, TablePlan};
+use std::alloc::Global;
+use std::marker::Brand;
+use std::sync::{Mutex, Wait};
+use std::thread;
+use std::thread::Threads;
+use std::time::Clock;
+
+/// Opens a tree for so many hands, serves it by each of them until its root has ended, and closes it.
+pub(crate) fn serve_tree<R, J, S, W>(
+    rt: &R,
+    alloc: Global,
+    plans: Vec<TablePlan<J, S>>,
+    hands: usize,
+    crew: &Crew<'_, R, W, J, S>,
+) -> Result<Report<J, S>, RunFault<J, S>>
+where
+    R: Threads + Wait + Clock + Sync,
+    J: Job + Send,
+    S: Subsystem + Send,
+    W: Watch + Sync,
+    requires tables { length plans.items ≤ MAX_TABLES }
+    requires some { 0 < hands }
+    requires few { hands ≤ all_parts }
+    ensures report { IfOk result (IsReportOf (length plans.items)) }
+    ensures mismatch { IfErr result IsRunMismatchOnly }
+{
+    let parts = Parts::open(alloc, plans, hands)?;
+    serve_named::<Brand, R, J, S, W>(rt, alloc, parts, crew)
+}
+
+fn serve_named<N, R, J, S, W>(
+    rt: &R,
+    alloc: Global,
+    parts: Parts<J, S>,
+    crew: &Crew<'_, R, W, J, S>,
+) -> Result<Report<J, S>, RunFault<J, S>>
+where
+    N: WordsNaming + InboxNaming + RunNaming + Send + Sync,
+    R: Threads + Wait + Clock + Sync,
+    J: Job + Send,
+    S: Subsystem + Send,
+    W: Watch + Sync,
+    requires words { parts.words.words ≡ N.words }
+    requires inboxes { AllAt (λ k id. id ≡ N.inbox k) parts.inboxes.items }
+    requires outer { parts.outer ≡ N.inbox (length parts.inboxes.items) }
+    requires deques { AllAt (λ k id. id ≡ N.deque k) parts.queue }
+    requires slots { parts.words.slots ≡ slots_of (length parts.inboxes.items) }
+    requires few { length parts.inboxes.items ≤ MAX_TABLES }
+    ensures report { IfOk result (IsReportOf (length parts.inboxes.items)) }
+    ensures mismatch { IfErr result IsRunMismatchOnly }
+{
+    let opened = match parts.named::<N>(alloc) {
+        Ok(opened) => opened,
+        Err(fault) => return Err(RunFault::Open(fault)),
+    };
+    let Opened {
+        system,
+        mut hands,
+        client,
+        passes,
+    } = opened;
+    drop(passes);
+    let client = serve_all(rt, crew, &system, hands.as_mut_slice(), client);
+    match system.finish(rt, alloc, hands, client) {
+        Ok(report) => Ok(report),
+        Err(fault) => Err(RunFault::Close(fault)),
+    }
+}
+
+/// Serves by each hand, in a thread of its own. Where no thread can be made the hands serve one after the other, the first until the
+/// root has ended.
+fn serve_all<N, R, J, S, W>(
+    rt: &R,
+    crew: &Crew<'_, R, W, J, S>,
+    system: &System<N, J, S>,
+    hands: &mut [Hand<N, J, S>],
+    client: Client<N, Body<J, S>>,
+) -> Client<N, Body<J, S>>
+where
+    N: WordsNaming + InboxNaming + RunNaming + Send + Sync,
+    R: Threads + Wait + Clock + Sync,
+    J: Job + Send,
+    S: Subsystem + Send,
+    W: Watch + Sync,
+{
+    let client = Mutex::new(client);
+    thread::for_each_mut(
+        rt,
+        hands,
+        MAX_HANDS,
+        &|index, hand| serve_at(rt, crew, index, system, hand, &client),
+    );
+    client.into_inner()
+}
+
+/// Serves by the hand with this index.
+fn serve_at<N, R, J, S, W>(
+    rt: &R,
+    crew: &Crew<'_, R, W, J, S>,
+    index: usize,
+    system: &System<N, J, S>,
+    hand: &mut Hand<N, J, S>,
+    client: &Mutex<Client<N, Body<J, S>>>,
+)
+where
+    N: WordsNaming + InboxNaming + RunNaming,
+    R: Wait + Clock,
+    J: Job,
+    S: Subsystem,
+    W: Watch,
+{
+    let seat = Seat::of(crew, index);
+    serve(rt, &seat, system, hand, client);
+}

@@ -1,0 +1,161 @@
+// Trees that run until they have ended by themselves, or were stopped.
+use crate::guests::{Kind, Outcome, Shared, flags, run_watched, same, tree, unwatched};
+use otp_live::{Happening, Seen, Watch};
+use std::alloc::Global;
+use std::process::Abort;
+use std::sync::Wait;
+use std::sync::atomic::{AtomicU64, Ordering};
+use std::test::*;
+use std::thread;
+use std::thread::Threads;
+use std::time::Clock;
+
+// A tree of steady workers that is stopped before it runs: it is opened, and shut down.
+fn stop_before<R: Threads + Wait + Clock + Abort + Sync>(
+    rt: &R,
+    alloc: Global,
+    hands: usize,
+) -> Result<(), Fail> {
+    let shared = Shared::new(alloc)?;
+    let kinds = [Kind::Steady, Kind::Busy];
+    let plans = tree(alloc, &kinds, &kinds, &shared, flags(1))?;
+    shared.stop.raise();
+    let seen = unwatched(rt, alloc, plans, hands, &shared.stop)?;
+    same(rt, "the processes that are left", seen.live, 0);
+    same(rt, "the supervisors that have ended", seen.ended, 2);
+    Ok(())
+}
+
+#[test]
+fn a_stop_raised_before_is_seen(rt: HostRuntime) -> Result<(), Fail> {
+    stop_before(&rt, rt.alloc(), 1)?;
+    stop_before(&rt, rt.alloc(), 4)
+}
+
+// Waits until so many jobs were started, and raises the stop.
+fn stop_after(shared: &Shared, starts: u64) {
+    for _ in 0..u64::MAX {
+        if shared.starts() >= starts {
+            break;
+        }
+        thread::yield_now();
+    }
+    shared.stop.raise();
+}
+
+// A tree that another thread stops while all its threads may sleep.
+fn stop_beside<R: Threads + Wait + Clock + Abort + Sync>(
+    rt: &R,
+    alloc: Global,
+    hands: usize,
+) -> Result<(), Fail> {
+    let shared = Shared::new(alloc)?;
+    let kinds = [Kind::Steady, Kind::Steady];
+    let plans = tree(alloc, &kinds, &kinds, &shared, flags(1))?;
+    let (seen, ()) = thread::join(
+        rt,
+        || unwatched(rt, alloc, plans, hands, &shared.stop),
+        || stop_after(&shared, 4),
+    );
+    let seen = seen?;
+    same(rt, "the processes that are left", seen.live, 0);
+    same(rt, "the supervisors that have ended", seen.ended, 2);
+    same(rt, "the processes that began", seen.begun, 6);
+    Ok(())
+}
+
+#[test]
+fn another_thread_stops_a_tree(rt: HostRuntime) -> Result<(), Fail> {
+    for _ in 0..20 {
+        stop_beside(&rt, rt.alloc(), 1)?;
+        stop_beside(&rt, rt.alloc(), 3)?;
+    }
+    Ok(())
+}
+
+// A child that doesn't heed the shutdown is killed at its deadline, though every thread sleeps until then.
+#[test]
+fn a_deadline_wakes_a_tree(rt: HostRuntime) -> Result<(), Fail> {
+    for hands in [1, 4] {
+        let shared = Shared::new(rt.alloc())?;
+        let kinds = [Kind::Deaf, Kind::Stops(2)];
+        let plans = tree(rt.alloc(), &kinds, &[], &shared, flags(1))?;
+        let seen = unwatched(&rt, rt.alloc(), plans, hands, &shared.stop)?;
+        same(&rt, "the processes that are left", seen.live, 0);
+        same(&rt, "the supervisors that have ended", seen.ended, 2);
+    }
+    Ok(())
+}
+
+// A tree that gives up ends by itself.
+#[test]
+fn a_tree_ends_by_itself(rt: HostRuntime) -> Result<(), Fail> {
+    for hands in [1, 4] {
+        let shared = Shared::new(rt.alloc())?;
+        let kinds = [Kind::Steady, Kind::Crashes(u64::MAX)];
+        let plans = tree(rt.alloc(), &[Kind::Steady], &kinds, &shared, flags(3))?;
+        let seen = unwatched(&rt, rt.alloc(), plans, hands, &shared.stop)?;
+        same(&rt, "the processes that are left", seen.live, 0);
+        same(&rt, "the supervisors that have ended", seen.ended, 2);
+        assert!(rt; !shared.stop.is_raised());
+    }
+    Ok(())
+}
+
+// Crashes and restarts in one supervisor until its jobs were started 50 times; then a job of the other stops the tree.
+#[test]
+fn a_tree_restarts_until_it_is_stopped(rt: HostRuntime) -> Result<(), Fail> {
+    for hands in [1, 2, 4, 8] {
+        let shared = Shared::new(rt.alloc())?;
+        let kinds = [Kind::Crashes(50), Kind::Stops(50)];
+        let plans = tree(rt.alloc(), &[Kind::Busy], &kinds, &shared, flags(1000))?;
+        let seen = unwatched(&rt, rt.alloc(), plans, hands, &shared.stop)?;
+        same(&rt, "the processes that are left", seen.live, 0);
+        same(&rt, "the supervisors that have ended", seen.ended, 2);
+    }
+    Ok(())
+}
+
+// Counts what it is told.
+#[derive(Drop)]
+struct Counting {
+    started: AtomicU64,
+    exited: AtomicU64,
+    of_root: AtomicU64,
+}
+
+impl Watch for Counting {
+    fn saw(&self, seen: Seen) {
+        match seen.what {
+            Happening::Started(_) => self.started.fetch_add(1, Ordering::SeqCst),
+            Happening::Exited(..) => self.exited.fetch_add(1, Ordering::SeqCst),
+            Happening::Ignored(_) | Happening::Failed(..) => 0,
+        };
+        if seen.table == 2 {
+            self.of_root.fetch_add(1, Ordering::SeqCst);
+        }
+    }
+}
+
+// A watch is told of each start and each end: of four jobs, the supervisor below, and the root.
+#[test]
+fn a_watch_is_told(rt: HostRuntime) -> Result<(), Fail> {
+    let shared = Shared::new(rt.alloc())?;
+    let kinds = [Kind::Steady, Kind::Stops(4)];
+    let plans = tree(rt.alloc(), &kinds, &kinds, &shared, flags(1))?;
+    let counting = Counting {
+        started: AtomicU64::new(0),
+        exited: AtomicU64::new(0),
+        of_root: AtomicU64::new(0),
+    };
+    let ran: Outcome = run_watched(&rt, rt.alloc(), plans, 2, &shared.stop, &counting)?;
+    same(&rt, "the processes that are left", ran.live, 0);
+    for (what, told, wanted) in [
+        ("the starts", &counting.started, 6),
+        ("the ends", &counting.exited, 6),
+        ("what was told of the root", &counting.of_root, 2),
+    ] {
+        same(&rt, what, told.load(Ordering::SeqCst), wanted);
+    }
+    Ok(())
+}

@@ -1,0 +1,31 @@
+//! Who is told what a hand does.
+
+use otp_reason::Note;
+
+/// What is told of the turns of a hand while it makes them, in the hand's own thread and with no lock held. No method needs to be
+/// written: each does nothing by default.
+///
+/// Whoever lets hands sleep wakes one by it: a supervisor that waits in a hand has its next turn in that hand alone, and so has a
+/// job that waits.
+pub trait Listener {
+    /// A letter with this note has gone to the supervisor of this number; or to whoever opened the tree, who has the number behind
+    /// the last.
+    fn sent(&self, _table: usize, _note: Note) {}
+
+    /// The supervisor of this number had a turn in which it did something: it may have started processes, and have told its
+    /// children something.
+    fn served(&self, _table: usize) {}
+
+    /// The supervisor of this number, a child of the other, waits in this hand from now on. Whether something has come for it
+    /// since its turn wasn't looked at yet.
+    fn rests(&self, _table: usize, _parent: usize) {}
+
+    /// A job that is a child of this supervisor waits in this hand from now on. Whether it was told something since its turn wasn't
+    /// looked at yet.
+    fn waits(&self, _parent: usize) {}
+}
+
+/// A listener that isn't told anything.
+pub(crate) struct Nobody;
+
+impl Listener for Nobody {}
