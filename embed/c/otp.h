@@ -221,7 +221,7 @@ uint32_t otp_call(otp_tree *tree, uint32_t supervisor, uint32_t kind, const otp_
 /* The next order for the outside, which counts as carried out from now on. Each comes once, those of a supervisor in the
    order in which it gave them; orders for supervisors of the tree itself are done by the library.
    OTP_ORDER_START, OTP_ORDER_ASK and OTP_ORDER_KILL are of processes outside; OTP_ORDER_READY and OTP_ORDER_END are the
-   root's; OTP_ORDER_REPLY says that a call was answered, which otp_answer tells.
+   root's; OTP_ORDER_REPLY says that a call was answered, which otp_answer_of tells.
    Answers OTP_OK, OTP_NONE, OTP_CLOSED, OTP_MEMORY, OTP_FULL, OTP_SPENT. */
 uint32_t otp_next(otp_tree *tree, otp_order *order);
 

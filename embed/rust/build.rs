@@ -1,4 +1,4 @@
-//! Says where the proved library is: the folder that OTP_LIBRARY names, or `embed/out`, where `embed/check` puts it.
+//! Says where the proved library is: the folder that `OTP_LIBRARY` names, or `embed/out`, where `embed/check` puts it.
 use std::path::Path;
 
 fn main() {

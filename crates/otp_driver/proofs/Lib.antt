@@ -1,3 +1,5 @@
+pub mod Each
+pub mod Within
 pub mod Answered
 pub mod Kept
 pub mod Plantings

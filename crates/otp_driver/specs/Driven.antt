@@ -1,5 +1,5 @@
 -- A tree of supervisors that is driven, and how it goes on (own).
-use Rattle.std.specs.Prelude.{◌≡◌, ℕ, ◌+◌, ◌<◌, ◌≤◌, ◌⊎◌, Bool, true, false, List, [], ◌∷◌, Option, Some, None, is_some, ◌||◌, length, map, slice_get, slice_index_or, slice_set, if◌then◌else◌, position}
+use Rattle.std.specs.Prelude.{◌≡◌, ℕ, ◌+◌, ◌-◌, ◌^◌, ◌<◌, ◌≤◌, ◌⊎◌, Bool, true, false, List, [], ◌∷◌, Option, Some, None, is_some, ◌||◌, length, map, slice_get, slice_index_or, slice_set, if◌then◌else◌, position}
 use Rattle.otp_reason.specs.declared.note.Note.{Note}
 use Rattle.otp_reason.specs.declared.note.Note.TheVariants as note
 use Rattle.otp_rules.specs.declared.call.Call.{Call}
@@ -136,6 +136,41 @@ Through old (t ∷ ts) new = Step old t × Through t ts new
 
 abbrev pub GoesOn : Driven → Driven → Type 0
 GoesOn old new = (ts : List Driven) × Through old ts new
+
+-- in so many steps
+abbrev pub GoesIn : ℕ → Driven → Driven → Type 0
+GoesIn count old new = (ts : List Driven) × Through old ts new × (length ts ≡ count)
+
+-- why an order that stays in the tree isn't done: the supervisor that it is an event of takes none now
+abbrev pub RefusesRoute : Route → DriveFault → Driven → Type 0
+RefusesRoute Outside why t = ⊥
+RefusesRoute (Start below number) why t = Refuses below why t
+RefusesRoute (Stop below) why t = ⊥
+RefusesRoute (Tell parent x ended) why t = Refuses parent why t
+
+-- the next order of a supervisor stays in the tree, and isn't done, for this
+pub record IsHeldUp (why : DriveFault) (t : Driven) : Type 0 where
+  pub place : ℕ
+  pub order : Effect
+  pub route : Route
+  pub next : IsNext t place order route
+  pub refuses : RefusesRoute route why t
+
+-- what comes next by itself doesn't happen, for this
+pub record IsPutOff (why : DriveFault) (t : Driven) : Type 0 where
+  pub taken : AllTaken t
+  pub place : ℕ
+  pub kind : Kind
+  pub comes : comes_at t place ≡ Some kind
+  pub refuses : Refuses place why t
+
+-- why the next step isn't made
+abbrev pub RefusesStep : DriveFault → Driven → Type 0
+RefusesStep why t = IsHeldUp why t ⊎ IsPutOff why t
+
+-- why a tree that went on doesn't go on from there: its next step isn't made, or it has made as many as one call makes
+abbrev pub RefusesMore : DriveFault → Driven → Driven → Type 0
+RefusesMore why old new = RefusesStep why new ⊎ ((why ≡ Spent) × GoesIn (2 ^ 64 - 1) old new)
 
 -- at this place an order for the outside is next
 pub record IsOutside (t : Driven) (place : ℕ) : Type 0 where

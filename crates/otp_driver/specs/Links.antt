@@ -1,5 +1,5 @@
 -- Whose child a supervisor of the tree is, and how it stands.
-use Rattle.std.specs.Prelude.{ℕ, ◌+◌, ◌-◌, ◌^◌, ◌==◌, ◌&&◌, ◌||◌, Bool, true, false, Option, Some, None, is_some, min}
+use Rattle.std.specs.Prelude.{ℕ, ◌+◌, ◌-◌, ◌^◌, ◌<◌, ◌==◌, All, List, ◌&&◌, ◌||◌, Bool, true, false, Option, Some, None, is_some, min}
 use Rattle.std.specs.Ordering.{on}
 use Rattle.std.specs.Str.{bytes_eq}
 use Rattle.otp_reason.specs.Names.{name_bytes}
@@ -55,3 +55,7 @@ holds_process parent number link = link.parent == parent && is_process number li
 abbrev pub note_of_end : Bool → ℕ → Reason → Note
 note_of_end true number reason = note.Exit number reason
 note_of_end false number reason = note.Failed number reason
+
+-- the parents of these are below this number
+abbrev pub HaveParents : ℕ → List Link → Type 0
+HaveParents count links = All (λ l. l.parent < count) links

@@ -1,6 +1,6 @@
 -- What an order of one supervisor of a tree is to another (own): a supervisor below the root is a child of another, so that
 -- what its parent orders of it, and what it tells of itself, stays in the tree. All other orders are for the outside.
-use Rattle.std.specs.Prelude.{ℕ, List, Option, Some, None, position, slice_get}
+use Rattle.std.specs.Prelude.{ℕ, ◌<◌, ⊤, List, Option, Some, None, position, slice_get}
 use Rattle.otp_reason.specs.declared.note.Note.TheVariants as note
 use Rattle.otp_reason.specs.declared.reason.Reason.{Reason}
 use Rattle.otp_rules.specs.declared.ending.Cause.{Cause}
@@ -28,6 +28,13 @@ row_at rows number = row_in rows (position (row_has (has_process number)) rows)
 unfoldable pub nested_of : List Link → ℕ → Option Row → Option ℕ
 nested_of links place None = None
 nested_of links place (Some row) = position (is_link_of place row) links
+
+-- whom an order reaches is one of so many supervisors
+abbrev pub IsWithin : ℕ → Route → Type 0
+IsWithin count Outside = ⊤
+IsWithin count (Start below _) = below < count
+IsWithin count (Stop below) = below < count
+IsWithin count (Tell parent _ _) = parent < count
 
 abbrev pub start_route : Option ℕ → ℕ → Route
 start_route None number = Outside

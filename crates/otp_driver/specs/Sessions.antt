@@ -1,15 +1,16 @@
 -- Orders that are taken one by one (own).
-use Rattle.std.specs.Prelude.{◌≡◌, ℕ, Option, Some, None, Result, Ok, Err, slice_get}
+use Rattle.std.specs.Prelude.{◌≡◌, ◌⊎◌, ℕ, Option, Some, None, Result, Ok, Err, slice_get}
 use Rattle.otp_rules.specs.declared.call.Answered.{Answered}
 use Rattle.otp_rules.specs.declared.event.Effect.{Effect}
 use Rattle.otp_rules.specs.declared.event.Effect.TheVariants as effect
 use Rattle.otp_driver.specs.declared.fault.DriveFault.{DriveFault}
+use Rattle.otp_driver.specs.declared.fault.DriveFault.TheVariants.{OutOfMemory}
 use Rattle.otp_driver.specs.declared.order.Order.{Order}
 use Rattle.otp_driver.specs.declared.order.What.{What}
 use Rattle.otp_driver.specs.declared.order.What.TheVariants as what
 use Rattle.otp_driver.specs.declared.route.Route.TheVariants.{Outside}
 use Rattle.otp_driver.specs.declared.session.Session.{Session}
-use Rattle.otp_driver.specs.Driven.{Driven, GoesOn, IsAt, IsIdle, IsNext, Takes}
+use Rattle.otp_driver.specs.Driven.{Driven, GoesOn, IsAt, IsIdle, IsNext, RefusesMore, Takes}
 use Rattle.otp_driver.specs.Members.{Member, state_in}
 use Rattle.otp_driver.specs.Orders.{what_of}
 use Rattle.otp_driver.specs.Replies.{IsAnswerTo}
@@ -46,8 +47,18 @@ pub record Told (order : Order) (old new : Session) : Type 0 where
   pub takes : Takes place mid new.driver
   pub keeps : KeepsOf order.what order.supervisor mid old.answer new.answer
 
+-- the order that a call was answered is next
+pub record IsReplyNext (t : Driven) : Type 0 where
+  pub place : ℕ
+  pub call : ℕ
+  pub next : IsNext t place (effect.Reply call) Outside
+
+-- why no order is told: the tree doesn't go on; or there was no memory for the copy of an answer, whose order is next then
+abbrev pub RefusesNext : DriveFault → Driven → Driven → Type 0
+RefusesNext why old new = RefusesMore why old new ⊎ ((why ≡ OutOfMemory) × IsReplyNext new)
+
 -- an order, or none, since nothing is left to do; a refusal tells none, and takes none
 abbrev pub NextTold : Result (Option Order) DriveFault → Session → Session → Type 0
 NextTold (Ok (Some order)) old new = Told order old new
 NextTold (Ok None) old new = GoesOn old.driver new.driver × IsIdle new.driver × (new.answer ≡ old.answer)
-NextTold (Err _) old new = GoesOn old.driver new.driver × (new.answer ≡ old.answer)
+NextTold (Err why) old new = GoesOn old.driver new.driver × (new.answer ≡ old.answer) × RefusesNext why old.driver new.driver

@@ -4,12 +4,13 @@ ghost use Rattle.std.specs.Prelude.{Err, true, false, ◌≡◌, ◌<◌, ◌≤
 ghost use Rattle.otp_rules.specs.declared.event.Item.TheVariants as item;
 ghost use Rattle.otp_rules.specs.declared.event.Kind.TheVariants as kind;
 ghost use Rattle.otp_spec.specs.declared.limits.TheConstants.{MAX_READING};
-ghost use Rattle.otp_driver.specs.Driven.{AllTaken, Called, Carried, Does, GoesOn, IsAsked, is_nested, IsNextBy, IsOutside, least_deadline, process_of, Occurs, Refuses, RefusesCall, RefusesNote, Relinks, Routed, Stands, Takes, comes_at, with_link};
+ghost use Rattle.otp_driver.specs.Driven.{AllTaken, Called, Carried, Does, GoesOn, IsAsked, IsAt, is_nested, IsNextBy, IsOutside, least_deadline, process_of, Occurs, Refuses, RefusesCall, RefusesMore, RefusesNote, RefusesRoute, RefusesStep, Relinks, Routed, Stands, Takes, comes_at, with_link};
 ghost use Rattle.otp_rules.specs.Next.{earlier};
 ghost use Rattle.otp_driver.specs.declared.fault.DriveFault.TheVariants as fault;
 ghost use Rattle.otp_driver.specs.declared.route.Route.TheVariants as route;
 ghost use Rattle.otp_driver.specs.Links.{asked, begun, is_link_of, told};
-ghost use Rattle.otp_driver.specs.Members.{has_order};
+ghost use Rattle.otp_driver.specs.Members.{Member, has_order};
+ghost use Rattle.otp_driver.specs.Routes.{IsWithin};
 ghost use Rattle.otp_driver.specs.Turns.{Turns};
 
 use crate::fault::DriveFault;
@@ -133,7 +134,8 @@ impl Driver {
     }
 
     fn set_link(&mut self, place: usize, link: Link)
-        requires { place < length self.old.links }
+        requires place { place < length self.old.links }
+        requires parent { link.parent < length self.old.links }
         ensures { self.new ≡ with_link place link self.old }
     {
         self.links[place] = link;
@@ -168,26 +170,23 @@ impl Driver {
 
     /// A supervisor starts, as this process.
     fn start_below(&mut self, place: usize, below: usize, number: u64) -> Result<(), DriveFault>
+        requires { below < length self.old.members }
         ensures ok { OnOk result (Does (route.Start below number) place self.old self.new) }
         ensures err { OnErr result (self.new ≡ self.old) }
+        ensures why { IfErr result (λ why. Refuses below why self.old) }
     {
-        if below >= self.supervisors.len() {
-            return Err(DriveFault::NoSupervisor);
-        }
+        let _ = &self.links;
         self.happen(below, Kind::Opened(number))?;
         self.begin(below, number);
         Ok(())
     }
 
-    fn stop_below(&mut self, place: usize, below: usize) -> Result<(), DriveFault>
-        ensures ok { OnOk result (Does (route.Stop below) place self.old self.new) }
-        ensures err { OnErr result (self.new ≡ self.old) }
+    fn stop_below(&mut self, place: usize, below: usize)
+        requires { below < length self.old.members }
+        ensures { Does (route.Stop below) place self.old self.new }
     {
-        if below >= self.supervisors.len() {
-            return Err(DriveFault::NoSupervisor);
-        }
+        let _ = &self.links;
         self.ask(below);
-        Ok(())
     }
 
     /// The parent of the supervisor at this place is told so.
@@ -198,13 +197,13 @@ impl Driver {
         note: Note,
         ended: Option<Ending>,
     ) -> Result<(), DriveFault>
-        requires { place < length self.old.members }
+        requires place { place < length self.old.members }
+        requires parent { parent < length self.old.members }
         ensures ok { OnOk result (Does (route.Tell parent note ended) place self.old self.new) }
         ensures err { OnErr result (self.new ≡ self.old) }
+        ensures why { IfErr result (λ why. Refuses parent why self.old) }
     {
-        if parent >= self.supervisors.len() {
-            return Err(DriveFault::NoSupervisor);
-        }
+        let _ = &self.links;
         self.happen(parent, Kind::Took(Item::Note(note)))?;
         self.tell(place, note, ended);
         Ok(())
@@ -212,14 +211,16 @@ impl Driver {
 
     /// An order that stays in the tree is done; an order for the outside is not.
     fn carry_out(&mut self, place: usize, route: Route) -> Result<bool, DriveFault>
-        requires { place < length self.old.members }
+        requires place { place < length self.old.members }
+        requires within { IsWithin (length self.old.members) route }
         ensures ok { IfOk result (λ done. Carried done route place self.old self.new) }
         ensures err { OnErr result (self.new ≡ self.old) }
+        ensures why { IfErr result (λ why. RefusesRoute route why self.old) }
     {
         match route {
             Route::Outside => return Ok(false),
             Route::Start(below, number) => self.start_below(place, below, number)?,
-            Route::Stop(below) => self.stop_below(place, below)?,
+            Route::Stop(below) => self.stop_below(place, below),
             Route::Tell(parent, note, ended) => self.tell_parent(place, parent, note, ended)?,
         }
         Ok(true)
@@ -228,7 +229,9 @@ impl Driver {
     /// Where the next order of the supervisor at this place goes.
     fn next_route(&self, place: usize) -> Option<Route>
         requires { place < length self.now.members }
-        ensures { IfSome result (λ route. IsNextBy self.now place route) }
+        ensures some { IfSome result (λ route. IsNextBy self.now place route) }
+        ensures within { IfSome result (IsWithin (length self.now.members)) }
+        ensures none { IfNone result ((m : Member) → IsAt self.now.members place m → slice_get m.effects m.taken ≡ None) }
     {
         let supervisor = &self.supervisors[place];
         match supervisor.order() {
@@ -239,9 +242,11 @@ impl Driver {
 
     /// The next order of the supervisor at this place is done, if it stays in the tree.
     fn go_on_at(&mut self, place: usize) -> Result<Turn, DriveFault>
-        requires { place < length self.old.members }
+        requires place { place < length self.old.members }
+        requires order { (m : Member) → IsAt self.old.members place m → has_order m ≡ true }
         ensures ok { IfOk result (λ turn. Turns turn self.old self.new) }
         ensures err { OnErr result (self.new ≡ self.old) }
+        ensures why { IfErr result (λ why. RefusesStep why self.old) }
     {
         let Some(route) = self.next_route(place) else {
             return Err(DriveFault::NoSupervisor);
@@ -287,6 +292,7 @@ impl Driver {
         requires { AllTaken self.old }
         ensures ok { IfOk result (λ turn. Turns turn self.old self.new) }
         ensures err { OnErr result (self.new ≡ self.old) }
+        ensures why { IfErr result (λ why. RefusesStep why self.old) }
     {
         match self.next_by_itself() {
             None => Ok(Turn::Idle),
@@ -301,6 +307,7 @@ impl Driver {
     fn go_on(&mut self) -> Result<Turn, DriveFault>
         ensures ok { IfOk result (λ turn. Turns turn self.old self.new) }
         ensures err { OnErr result (self.new ≡ self.old) }
+        ensures why { IfErr result (λ why. RefusesStep why self.old) }
     {
         match find_order(self.supervisors.as_slice()) {
             Some(place) => self.go_on_at(place),
@@ -314,13 +321,14 @@ impl Driver {
     ///
     /// # Errors
     ///
-    /// [`DriveFault::OutOfMemory`], [`DriveFault::OrdersWait`], [`DriveFault::Spent`]; the steps before were whole, and the next
-    /// call goes on from there.
+    /// [`DriveFault::OutOfMemory`], [`DriveFault::OrdersWait`], [`DriveFault::Spent`]: the supervisor at which the next step
+    /// would happen takes nothing now. The steps before were whole, and the next call goes on from there.
     pub fn advance(&mut self) -> Result<Option<usize>, DriveFault>
         ensures goes_on { GoesOn self.old self.new }
         ensures stands { IfOk result (λ found. Stands found self.new) }
+        ensures why { IfErr result (λ why. RefusesMore why self.old self.new) }
     {
-        for _ in 0..u64::MAX {
+        for _steps in 0..u64::MAX {
             match self.go_on()? {
                 Turn::Outside(place) => return Ok(Some(place)),
                 Turn::Idle => return Ok(None),

@@ -1,6 +1,6 @@
 //! A tree is opened: its supervisors, each with its link.
 
-ghost use Rattle.std.specs.Prelude.{◌≡◌, ℕ, ◌++◌, [], ◌∷◌, IfOk, IfSome, None, OnOk, Some, length, slice_get};
+ghost use Rattle.std.specs.Prelude.{◌≡◌, ◌≤◌, ℕ, ◌++◌, [], ◌∷◌, IfOk, IfSome, None, OnOk, Some, length, slice_get};
 ghost use Rattle.otp_rules.specs.declared.event.Kind.TheVariants as kind;
 ghost use Rattle.otp_driver.specs.Driven.{Driven, Occurs};
 ghost use Rattle.otp_driver.specs.Members.{unopened};
@@ -35,6 +35,7 @@ fn supervisor_of(alloc: Global, supervisor: &SupSpec) -> Result<Supervisor, Allo
 impl Driver {
     /// Adds a supervisor.
     fn add(&mut self, supervisor: Supervisor, link: Link) -> Result<(), AllocError>
+        requires parent { link.parent ≤ length self.old.members }
         ensures ok { OnOk result (self.new ≡ record self.old { members = self.old.members ++ supervisor ∷ []; links = self.old.links ++ link ∷ [] }) }
     {
         self.supervisors.reserve(1)?;
@@ -52,6 +53,7 @@ impl Driver {
         link: Link,
         levels: usize,
     ) -> Result<(), AllocError>
+        requires parent { link.parent ≤ length self.old.members }
         ensures tree { OnOk result (AddsTree tree.now self.old self.new) }
         ensures links { OnOk result (AddsLinks tree.now link self.old self.new) }
     {

@@ -1,11 +1,13 @@
 //! A tree with the last answer: for whoever takes orders one by one and reads them as plain values.
 
-ghost use Rattle.std.specs.Prelude.{◌≡◌, ◌<◌, IfErr, IfOk, IfSome, None, OnErr, OnOk, Some, length, slice_get};
+ghost use Rattle.std.specs.Prelude.{◌≡◌, ◌<◌, ℕ, IfErr, IfNone, IfOk, IfSome, None, OnErr, OnOk, Some, length, slice_get};
 ghost use Rattle.otp_driver.specs.Opened.{Opens};
-ghost use Rattle.otp_driver.specs.Members.{state_in};
+ghost use Rattle.otp_driver.specs.Driven.{IsAt};
+ghost use Rattle.otp_driver.specs.Members.{Member, state_in};
 ghost use Rattle.otp_driver.specs.Replies.{IsAnswerTo};
 ghost use Rattle.otp_driver.specs.Sessions.{IsToldAt, KeepsOf, NextTold, TellsReply};
 ghost use Rattle.otp_driver.specs.declared.fault.DriveFault.TheVariants.{OutOfMemory};
+ghost use Rattle.otp_driver.specs.declared.order.What.TheVariants as what;
 ghost use Rattle.otp_rules.specs.declared.event.Effect.TheVariants as effect;
 
 use crate::driver::Driver;
@@ -62,6 +64,7 @@ impl Session {
         requires { place < length self.now.driver.members }
         ensures told { IfSome result (λ order. IsToldAt place order self.now.driver) }
         ensures reply { IfSome result (λ order. TellsReply order self.now.driver) }
+        ensures none { IfNone result ((m : Member) → IsAt self.now.driver.members place m → slice_get m.effects m.taken ≡ None) }
     {
         let supervisor = &self.driver.supervisors()[place];
         match supervisor.order() {
@@ -80,6 +83,7 @@ impl Session {
         ensures kept { OnOk result (KeepsOf order.what order.supervisor self.old.driver self.old.answer self.new.answer) }
         ensures driven { self.new.driver ≡ self.old.driver }
         ensures err { OnErr result (self.new ≡ self.old) }
+        ensures why { IfErr result (λ why. (why ≡ OutOfMemory) × ((call : ℕ) × (order.what ≡ what.Reply call))) }
     {
         if let What::Reply(call) = order.what {
             self.answer = copy_answer(&self.driver.supervisors()[order.supervisor], call)?;

@@ -19,6 +19,8 @@ pub enum Fault {
     NoSupervisor,
     /// The process is a supervisor of the tree itself, of which nobody tells from outside.
     Nested,
+    /// The specification names more than four modules.
+    TooManyModules,
     /// The library answers a status that its header doesn't list for this call: library and crate don't belong together.
     Unknown(u32),
 }
@@ -48,6 +50,7 @@ impl fmt::Display for Fault {
             Fault::BadReading => f.write_str("the clock's reading is above 2^62"),
             Fault::NoSupervisor => f.write_str("no supervisor has this number"),
             Fault::Nested => f.write_str("the process is a supervisor of the tree itself"),
+            Fault::TooManyModules => f.write_str("a specification names at most four modules"),
             Fault::Unknown(status) => write!(f, "the library answers status {status}"),
         }
     }

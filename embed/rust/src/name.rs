@@ -49,6 +49,9 @@ fn text_of(bytes: &[u8], length: u8) -> &str {
 
 impl Name {
     /// A name, if the text is one.
+    ///
+    /// # Errors
+    /// [`BadWord::Name`].
     pub fn new(text: &str) -> Result<Self, BadWord> {
         let is_of_name = |b: &u8| b.is_ascii_alphanumeric() || b"_-.".contains(b);
         if text.is_empty() || text.len() > 32 || !text.as_bytes().iter().all(is_of_name) {
@@ -96,6 +99,9 @@ impl fmt::Debug for Name {
 
 impl Text {
     /// A text, if it is one of a reason.
+    ///
+    /// # Errors
+    /// [`BadWord::Text`].
     pub fn new(text: &str) -> Result<Self, BadWord> {
         if text.is_empty() || text.len() > 64 || !text.bytes().all(|b| b.is_ascii_graphic()) {
             return Err(BadWord::Text);

@@ -190,8 +190,8 @@ impl ChildSpec {
         }
     }
 
-    /// A list of more than four modules is handed over as one of six, which the library refuses.
-    pub(crate) fn to_raw(&self) -> RawSpec {
+    /// As the library reads it; nothing where it names more than four modules.
+    pub(crate) fn to_raw(&self) -> Option<RawSpec> {
         let mut raw = RawSpec::zeroed();
         raw.restart = self.restart.number();
         raw.significant = u32::from(self.significant);
@@ -205,7 +205,7 @@ impl ChildSpec {
         raw.start = self.start.to_raw();
         match &self.modules {
             Modules::Dynamic => raw.modules = 5,
-            Modules::Named(names) if names.len() > 4 => raw.modules = 6,
+            Modules::Named(names) if names.len() > raw.module.len() => return None,
             Modules::Named(names) => {
                 raw.modules = names.len() as u32;
                 for (to, name) in raw.module.iter_mut().zip(names) {
@@ -213,7 +213,7 @@ impl ChildSpec {
                 }
             }
         }
-        raw
+        Some(raw)
     }
 
     pub(crate) fn from_raw(raw: &RawSpec) -> Option<Self> {
@@ -242,17 +242,17 @@ mod tests {
     fn a_specification_comes_back_from_its_struct() {
         let name = |text| Name::new(text).unwrap();
         let mut spec = ChildSpec::worker(name("a"), name("b"));
-        assert_eq!(ChildSpec::from_raw(&spec.to_raw()), Some(spec.clone()));
+        assert_eq!(spec.to_raw().as_ref().and_then(ChildSpec::from_raw), Some(spec.clone()));
         spec.shutdown = Shutdown::Infinity;
         spec.modules = Modules::Dynamic;
         spec.significant = true;
         spec.restart = Restart::Temporary;
         spec.kind = Kind::Supervisor;
-        assert_eq!(ChildSpec::from_raw(&spec.to_raw()), Some(spec.clone()));
+        assert_eq!(spec.to_raw().as_ref().and_then(ChildSpec::from_raw), Some(spec.clone()));
         spec.modules = Modules::Named(vec![name("m"); 4]);
         spec.shutdown = Shutdown::BrutalKill;
-        assert_eq!(ChildSpec::from_raw(&spec.to_raw()), Some(spec.clone()));
+        assert_eq!(spec.to_raw().as_ref().and_then(ChildSpec::from_raw), Some(spec.clone()));
         spec.modules = Modules::Named(vec![name("m"); 5]);
-        assert_eq!(ChildSpec::from_raw(&spec.to_raw()), None);
+        assert!(spec.to_raw().is_none());
     }
 }

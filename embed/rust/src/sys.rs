@@ -212,79 +212,79 @@ impl Handle {
 
     pub fn open(&mut self, text: &[u8], fault: &mut RawFault) -> u32 {
         // SAFETY: see `Handle`.
-        unsafe { otp_open(&mut self.0, text.as_ptr(), text.len(), fault) }
+        unsafe { otp_open(&raw mut self.0, text.as_ptr(), text.len(), fault) }
     }
 
     pub fn tick(&mut self, reading: u64) -> u32 {
         // SAFETY: see `Handle`.
-        unsafe { otp_tick(&mut self.0, reading) }
+        unsafe { otp_tick(&raw mut self.0, reading) }
     }
 
     pub fn note(&mut self, supervisor: u32, kind: u32, number: u64, reason: u32, text: &[u8]) -> u32 {
         // SAFETY: see `Handle`.
-        unsafe { otp_note(&mut self.0, supervisor, kind, number, reason, text.as_ptr(), text.len()) }
+        unsafe { otp_note(&raw mut self.0, supervisor, kind, number, reason, text.as_ptr(), text.len()) }
     }
 
     pub fn stop(&mut self) -> u32 {
         // SAFETY: see `Handle`.
-        unsafe { otp_stop(&mut self.0) }
+        unsafe { otp_stop(&raw mut self.0) }
     }
 
     pub fn start_child(&mut self, supervisor: u32, spec: &RawSpec, call: &mut u64) -> u32 {
         // SAFETY: see `Handle`.
-        unsafe { otp_start_child(&mut self.0, supervisor, spec, call) }
+        unsafe { otp_start_child(&raw mut self.0, supervisor, spec, call) }
     }
 
     pub fn call(&mut self, supervisor: u32, kind: u32, id: &RawName, number: u64, call: &mut u64) -> u32 {
         // SAFETY: see `Handle`.
-        unsafe { otp_call(&mut self.0, supervisor, kind, id, number, call) }
+        unsafe { otp_call(&raw mut self.0, supervisor, kind, id, number, call) }
     }
 
     pub fn next(&mut self, order: &mut RawOrder) -> u32 {
         // SAFETY: see `Handle`.
-        unsafe { otp_next(&mut self.0, order) }
+        unsafe { otp_next(&raw mut self.0, order) }
     }
 
     pub fn answer(&mut self, answer: &mut RawAnswer) -> u32 {
         // SAFETY: see `Handle`.
-        unsafe { otp_answer_of(&mut self.0, answer) }
+        unsafe { otp_answer_of(&raw mut self.0, answer) }
     }
 
     pub fn answer_line(&mut self, index: u32, line: &mut RawLine) -> u32 {
         // SAFETY: see `Handle`.
-        unsafe { otp_answer_line(&mut self.0, index, line) }
+        unsafe { otp_answer_line(&raw mut self.0, index, line) }
     }
 
     pub fn answer_spec(&mut self, spec: &mut RawSpec) -> u32 {
         // SAFETY: see `Handle`.
-        unsafe { otp_answer_spec(&mut self.0, spec) }
+        unsafe { otp_answer_spec(&raw mut self.0, spec) }
     }
 
     pub fn deadline(&mut self, reading: &mut u64) -> u32 {
         // SAFETY: see `Handle`.
-        unsafe { otp_deadline(&mut self.0, reading) }
+        unsafe { otp_deadline(&raw mut self.0, reading) }
     }
 
     pub fn supervisors(&mut self, count: &mut u32) -> u32 {
         // SAFETY: see `Handle`.
-        unsafe { otp_supervisors(&mut self.0, count) }
+        unsafe { otp_supervisors(&raw mut self.0, count) }
     }
 
     pub fn look(&mut self, supervisor: u32, out: &mut RawSupervisor) -> u32 {
         // SAFETY: see `Handle`.
-        unsafe { otp_look(&mut self.0, supervisor, out) }
+        unsafe { otp_look(&raw mut self.0, supervisor, out) }
     }
 
     pub fn look_child(&mut self, supervisor: u32, index: u32, out: &mut RawChild) -> u32 {
         // SAFETY: see `Handle`.
-        unsafe { otp_look_child(&mut self.0, supervisor, index, out) }
+        unsafe { otp_look_child(&raw mut self.0, supervisor, index, out) }
     }
 }
 
 impl Drop for Handle {
     fn drop(&mut self) {
         // SAFETY: see `Handle`; closing an empty handle does nothing.
-        unsafe { otp_close(&mut self.0) }
+        unsafe { otp_close(&raw mut self.0) }
     }
 }
 

@@ -58,27 +58,28 @@ impl Tree {
     }
 
     /// The root is wanted to shut down, and with it the tree.
-    ///
-    /// # Errors
-    /// None that the header lists.
-    pub fn stop(&mut self) -> Result<(), Fault> {
-        Fault::check(self.handle.stop())
+    pub fn stop(&mut self) {
+        // An open handle answers nothing else.
+        let status = self.handle.stop();
+        debug_assert_eq!(status, sys::OK);
     }
 
     /// `start_child/2` with a specification. The answer is the number of the process, or nothing where its start was ignored.
     ///
     /// # Errors
-    /// As those of [`note`](Tree::note), but for `Nested`. A specification that the rules refuse is answered so.
+    /// As those of [`note`](Tree::note), but for `Nested`; and [`Fault::TooManyModules`]. A specification that the rules refuse
+    /// is answered so.
     pub fn start_child(&mut self, supervisor: u32, spec: &ChildSpec) -> Result<Call<Option<u64>>, Fault> {
+        let raw = spec.to_raw().ok_or(Fault::TooManyModules)?;
         let mut number = 0;
-        Fault::check(self.handle.start_child(supervisor, &spec.to_raw(), &mut number))?;
+        Fault::check(self.handle.start_child(supervisor, &raw, &mut number))?;
         Ok(Call::new(number))
     }
 
     /// `start_child/2` under `simple_one_for_one`: one more child.
     ///
     /// # Errors
-    /// As those of [`start_child`](Tree::start_child).
+    /// As those of [`note`](Tree::note), but for `Nested`.
     pub fn start_dynamic(&mut self, supervisor: u32) -> Result<Call<Option<u64>>, Fault> {
         self.call(supervisor, 1, None, 0)
     }
@@ -86,7 +87,7 @@ impl Tree {
     /// `restart_child/2`: a child without a process is started again.
     ///
     /// # Errors
-    /// As those of [`start_child`](Tree::start_child).
+    /// As those of [`note`](Tree::note), but for `Nested`.
     pub fn restart_child(&mut self, supervisor: u32, id: Name) -> Result<Call<Option<u64>>, Fault> {
         self.call(supervisor, 2, Some(id), 0)
     }
@@ -94,7 +95,7 @@ impl Tree {
     /// `delete_child/2`: a child without a process is forgotten.
     ///
     /// # Errors
-    /// As those of [`start_child`](Tree::start_child).
+    /// As those of [`note`](Tree::note), but for `Nested`.
     pub fn delete_child(&mut self, supervisor: u32, id: Name) -> Result<Call<()>, Fault> {
         self.call(supervisor, 3, Some(id), 0)
     }
@@ -102,7 +103,7 @@ impl Tree {
     /// `terminate_child/2` by id: the child is shut down, and stays without a process until it is started by a call.
     ///
     /// # Errors
-    /// As those of [`start_child`](Tree::start_child).
+    /// As those of [`note`](Tree::note), but for `Nested`.
     pub fn terminate_child(&mut self, supervisor: u32, id: Name) -> Result<Call<()>, Fault> {
         self.call(supervisor, 4, Some(id), 0)
     }
@@ -110,7 +111,7 @@ impl Tree {
     /// `terminate_child/2` by process, under `simple_one_for_one`.
     ///
     /// # Errors
-    /// As those of [`start_child`](Tree::start_child).
+    /// As those of [`note`](Tree::note), but for `Nested`.
     pub fn terminate_process(&mut self, supervisor: u32, number: u64) -> Result<Call<()>, Fault> {
         self.call(supervisor, 5, None, number)
     }
@@ -118,7 +119,7 @@ impl Tree {
     /// `which_children/1`.
     ///
     /// # Errors
-    /// As those of [`start_child`](Tree::start_child).
+    /// As those of [`note`](Tree::note), but for `Nested`.
     pub fn which_children(&mut self, supervisor: u32) -> Result<Call<Vec<ChildLine>>, Fault> {
         self.call(supervisor, 6, None, 0)
     }
@@ -126,7 +127,7 @@ impl Tree {
     /// `count_children/1`.
     ///
     /// # Errors
-    /// As those of [`start_child`](Tree::start_child).
+    /// As those of [`note`](Tree::note), but for `Nested`.
     pub fn count_children(&mut self, supervisor: u32) -> Result<Call<Counts>, Fault> {
         self.call(supervisor, 7, None, 0)
     }
@@ -134,7 +135,7 @@ impl Tree {
     /// `get_childspec/2`.
     ///
     /// # Errors
-    /// As those of [`start_child`](Tree::start_child).
+    /// As those of [`note`](Tree::note), but for `Nested`.
     pub fn get_childspec(&mut self, supervisor: u32, id: Name) -> Result<Call<ChildSpec>, Fault> {
         self.call(supervisor, 8, Some(id), 0)
     }

@@ -1,7 +1,7 @@
 //! Trees and scripts by chance: this crate gives what the program `otp sim` prints, to the byte.
 //!
-//! The program is the one that OTP_PROGRAM names, or `crates/otp_program/out/otp_program`, where the gate builds it. Without
-//! it nothing is compared and the tests say so; with OTP_EMBED_WHOLE they fail then.
+//! The program is the one that `OTP_PROGRAM` names, or `crates/otp_program/out/otp_program`, where the gate builds it. Without
+//! it nothing is compared and the tests say so; with `OTP_EMBED_WHOLE` they fail then.
 
 mod common;
 

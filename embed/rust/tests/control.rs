@@ -2,7 +2,7 @@
 
 mod common;
 
-use common::daemon::{Daemon, KILL, PROGRAM, exists, new_folder, wait_until};
+use common::daemon::{CONT, Daemon, KILL, PROGRAM, STOP, exists, new_folder, wait_until};
 use std::fs;
 use std::io::{Read, Write};
 use std::os::unix::fs::PermissionsExt;
@@ -68,7 +68,8 @@ fn rubbish_and_silence_keep_nobody_waiting() {
     let mut follower = connect(&daemon);
     follower.write_all(b"tail -f\n").unwrap();
     // Rubbish is refused.
-    for rubbish in [&b"\xff\xfe\x00\n"[..], &[b'x'; 100_000], b"\n", b"stop\n", b"GET / HTTP/1.1\r\n\r\n"] {
+    let long = vec![b'x'; 100_000];
+    for rubbish in [&b"\xff\xfe\x00\n"[..], &long, b"\n", b"stop\n", b"GET / HTTP/1.1\r\n\r\n"] {
         let mut stream = connect(&daemon);
         let _ = stream.write_all(rubbish);
         let mut answer = Vec::new();
@@ -98,6 +99,27 @@ fn too_many_clients_are_turned_away() {
     drop(many);
     let (is_done, text) = daemon.ctl(&["status"]);
     assert!(is_done, "{text}");
+    assert_eq!(daemon.stop(), 0);
+}
+
+#[test]
+fn clients_that_are_gone_take_nobodys_place() {
+    let mut daemon = Daemon::start(TREE, COMMANDS);
+    daemon.wait_ready();
+    let silent: Vec<UnixStream> = (0..20).map(|_| connect(&daemon)).collect();
+    assert!(daemon.ctl(&["count"]).0);
+    // While it stands still, more come and go than it serves at once; the last one stays.
+    daemon.signal(STOP);
+    for _ in 0..84 {
+        connect(&daemon).write_all(b"status\n").unwrap();
+    }
+    let mut last = connect(&daemon);
+    last.write_all(b"count\n").unwrap();
+    daemon.signal(CONT);
+    let mut answer = String::new();
+    last.read_to_string(&mut answer).unwrap();
+    assert!(answer.starts_with("ok\nspecs 2"), "{answer}");
+    drop(silent);
     assert_eq!(daemon.stop(), 0);
 }
 
@@ -156,7 +178,7 @@ fn another_user_is_turned_away_also_where_the_modes_would_let_him_in() {
     let mut daemon = Daemon::start(TREE, COMMANDS);
     daemon.wait_ready();
     let control = daemon.folder.join("control");
-    let is_root = fs::metadata("/proc/self").map(|own| std::os::unix::fs::MetadataExt::uid(&own) == 0).unwrap_or(false);
+    let is_root = fs::metadata("/proc/self").is_ok_and(|own| std::os::unix::fs::MetadataExt::uid(&own) == 0);
     if !is_root {
         assert!(std::env::var_os("OTP_EMBED_WHOLE").is_none(), "only root can act as another user");
         println!("skipped: only root can act as another user");
@@ -164,9 +186,9 @@ fn another_user_is_turned_away_also_where_the_modes_would_let_him_in() {
     }
     fs::set_permissions(&control, fs::Permissions::from_mode(0o755)).unwrap();
     fs::set_permissions(control.join("socket"), fs::Permissions::from_mode(0o666)).unwrap();
-    // The program is copied to where that user may read it.
+    // The program is copied to where that user may read it, by a process of its own, as `write_program` has it.
     let program = daemon.folder.join("program");
-    fs::copy(PROGRAM, &program).unwrap();
+    assert!(Command::new("cp").arg(PROGRAM).arg(&program).status().unwrap().success());
     let mut other = Command::new("setpriv");
     other
         .args(["--reuid=65534", "--regid=65534", "--clear-groups"])

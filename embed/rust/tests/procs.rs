@@ -2,7 +2,7 @@
 
 mod common;
 
-use common::daemon::{Daemon, HUP, KILL, TERM, send, ticks_of, wait_until};
+use common::daemon::{Daemon, HUP, INT, KILL, TERM, send, ticks_of, wait_until, write_program};
 use std::fs;
 use std::thread;
 use std::time::Duration;
@@ -37,8 +37,7 @@ fn a_command_that_goes_missing_is_tried_again_as_the_rules_say() {
     // Its input is empty, so that it ends at once; but it is gone before it is started a second time.
     let script = folder.join("program");
     fs::remove_file(&script).unwrap();
-    fs::write(&script, "#!/bin/sh\nrm \"$0\"\nexit 1\n").unwrap();
-    fs::set_permissions(&script, std::os::unix::fs::PermissionsExt::from_mode(0o755)).unwrap();
+    write_program(&script, "#!/bin/sh\nrm \"$0\"\nexit 1\n");
     let mut daemon = Daemon::start_in(folder, &["--json", "--log", "log", "--no-control"]);
     assert_eq!(daemon.wait(), 3);
     let story = daemon.story();
@@ -113,8 +112,8 @@ fn a_process_gets_no_descriptor_and_no_blocked_signal() {
         let line = signals.lines().find_map(|line| line.strip_prefix(word)).unwrap();
         u64::from_str_radix(line.trim(), 16).unwrap()
     };
-    const PIPE: u64 = 1 << 12;
-    assert_eq!((mask("SigBlk:"), mask("SigIgn:") & PIPE), (0, 0), "{signals}");
+    let pipe = 1 << 12;
+    assert_eq!((mask("SigBlk:"), mask("SigIgn:") & pipe), (0, 0), "{signals}");
     assert_eq!(daemon.read("env").trim_end(), "a 1 b c");
     assert_eq!(daemon.read("pwd"), "/\n");
     assert_eq!(daemon.stop(), 0);
@@ -154,6 +153,60 @@ fn signals_that_the_daemon_ignores_are_not_ignored_by_its_processes() {
 }
 
 #[test]
+fn what_the_daemon_was_started_with_is_not_passed_on() {
+    let folder = common::daemon::new_folder();
+    fs::write(folder.join("tree.toml"), tree_of(&child("a", ""))).unwrap();
+    let commands = format!(
+        "[a]\ncommand = ['sh', '-c', 'ls -l /proc/self/fd > {0}/fds; grep SigBlk /proc/self/status > {0}/signals; touch {0}/done; exec sleep 1000']\n",
+        folder.display()
+    );
+    fs::write(folder.join("commands.toml"), commands).unwrap();
+    // Two open descriptors, and two blocked signals.
+    let mut starter = std::process::Command::new("env");
+    starter.args(["--block-signal=USR1,HUP", "sh", "-c", "exec 5</dev/null 8</dev/null; exec \"$0\" \"$@\""]);
+    starter.arg(common::daemon::PROGRAM);
+    let mut daemon = Daemon::start_by(folder, starter, &["--json", "--log", "log", "--control", "control"]);
+    wait_until("done", || daemon.folder.join("done").exists());
+    let open = fs::read_dir(format!("/proc/{}/fd", daemon.pid())).unwrap();
+    let open: Vec<String> = open.map(|entry| entry.unwrap().file_name().into_string().unwrap()).collect();
+    assert!(open.contains(&"5".to_string()) && open.contains(&"8".to_string()), "{open:?}");
+    let fds = daemon.read("fds");
+    assert_eq!(fds.lines().filter(|line| line.contains("->")).count(), 4, "{fds}");
+    assert_eq!(daemon.read("signals").split_whitespace().nth(1), Some("0000000000000000"));
+    assert_eq!(daemon.stop(), 0);
+}
+
+#[test]
+fn a_command_is_handed_to_no_shell() {
+    let words = ["$(touch x)", "*", "a b; touch x", "|", "`touch x`", "", "~", "$HOME", "> x"];
+    let folder = common::daemon::new_folder();
+    let program = folder.join("program");
+    write_program(&program, "#!/bin/sh\nprintf '%s\\n' \"$@\" > words\ntouch done\nexec sleep 1000\n");
+    fs::write(folder.join("tree.toml"), tree_of(&child("a", ""))).unwrap();
+    let quoted: Vec<String> = words.iter().map(|word| format!("'{word}'")).collect();
+    fs::write(folder.join("commands.toml"), format!("[a]\ncommand = ['./program', {}]\n", quoted.join(", "))).unwrap();
+    let mut daemon = Daemon::start_in(folder, &["--json", "--log", "log", "--no-control"]);
+    wait_until("done", || daemon.folder.join("done").exists());
+    assert_eq!(daemon.read("words").lines().collect::<Vec<_>>(), words);
+    assert!(!daemon.folder.join("x").exists());
+    assert_eq!(daemon.stop(), 0);
+}
+
+#[test]
+fn an_interrupt_stops_in_reverse_order() {
+    let tree = tree_of(&[child("a", ""), child("b", "")].concat());
+    let mut daemon = Daemon::start(&tree, &(STEADY.to_string() + "[b]\ncommand = ['sleep', '1000']\n"));
+    daemon.wait_ready();
+    daemon.signal(INT);
+    assert_eq!(daemon.wait(), 0);
+    let story = daemon.story();
+    let told = ["-> stop", "ask b #2", "-> exit b #2 shutdown", "ask a #1", "-> exit a #1 shutdown", "end shutdown"];
+    assert_eq!(story[story.len() - told.len()..], told);
+    assert_eq!(daemon.left(), []);
+    daemon.replay();
+}
+
+#[test]
 fn check_tells_what_is_missing_on_this_machine() {
     let folder = common::daemon::new_folder();
     fs::write(folder.join("tree.toml"), tree_of(&child("a", ""))).unwrap();
@@ -180,8 +233,7 @@ fn check_tells_what_is_missing_on_this_machine() {
 fn a_script_without_its_interpreter_is_told_of() {
     let folder = common::daemon::new_folder();
     let script = folder.join("script");
-    fs::write(&script, "#!/nowhere/at/all\n").unwrap();
-    fs::set_permissions(&script, std::os::unix::fs::PermissionsExt::from_mode(0o755)).unwrap();
+    write_program(&script, "#!/nowhere/at/all\n");
     fs::write(folder.join("tree.toml"), tree_of(&child("a", ""))).unwrap();
     fs::write(folder.join("commands.toml"), format!("[a]\ncommand = ['{}']\n", script.display())).unwrap();
     let mut daemon = Daemon::start_in(folder, &["--json", "--log", "log", "--no-control"]);
@@ -268,7 +320,7 @@ fn a_second_signal_kills() {
     daemon.signal(TERM);
     thread::sleep(Duration::from_millis(700));
     assert_eq!(daemon.left().len(), 2);
-    daemon.signal(2);
+    daemon.signal(INT);
     assert_eq!(daemon.wait(), 6);
     assert_eq!(daemon.left(), []);
     daemon.replay();

@@ -1,7 +1,7 @@
 //! A storm: 200 processes under three levels of supervisors crash by chance, and are killed from outside. Afterwards no
 //! process is left, and the log, played again on the proved library, has the orders that the rules give.
 //!
-//! It lasts OTP_STORM_SECONDS, or else 5.
+//! It lasts `OTP_STORM_SECONDS`, or else 5.
 
 mod common;
 

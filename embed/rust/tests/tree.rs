@@ -30,7 +30,7 @@ fn serve(tree: &mut Tree) -> Vec<String> {
         match order {
             Order::Start(process) => tree.note(process.supervisor, Note::Up(process.number)).unwrap(),
             Order::Ask { process, .. } => {
-                tree.note(process.supervisor, Note::Exit(process.number, Reason::Shutdown)).unwrap()
+                tree.note(process.supervisor, Note::Exit(process.number, Reason::Shutdown)).unwrap();
             }
             Order::Kill(process) => tree.note(process.supervisor, Note::Exit(process.number, Reason::Killed)).unwrap(),
             _ => {}
@@ -46,7 +46,7 @@ fn answer<T: otp_embed::FromAnswer>(tree: &mut Tree, call: Call<T>) -> Result<T,
             Order::Reply(reply) => answer = reply.answer_to(call).or(answer),
             Order::Start(process) => tree.note(process.supervisor, Note::Up(process.number)).unwrap(),
             Order::Ask { process, .. } => {
-                tree.note(process.supervisor, Note::Exit(process.number, Reason::Shutdown)).unwrap()
+                tree.note(process.supervisor, Note::Exit(process.number, Reason::Shutdown)).unwrap();
             }
             order => panic!("{order}"),
         }
@@ -77,7 +77,7 @@ fn a_deadline_is_told_and_kept() {
     serve(&mut tree);
     assert_eq!(tree.next_deadline(), None);
     tree.tick(1_000).unwrap();
-    tree.stop().unwrap();
+    tree.stop();
     let Some(Order::Ask { process, deadline }) = tree.next_order().unwrap() else { panic!("no ask") };
     assert_eq!((process.number, deadline), (1, Some(1_300)));
     assert_eq!((tree.next_order().unwrap(), tree.next_deadline()), (None, Some(1_300)));
@@ -108,7 +108,7 @@ fn a_nested_supervisor_gives_up_and_is_started_again() {
     );
     let root = tree.supervisor(0).unwrap();
     assert_eq!((root.restarts, root.in_period, root.children, root.strategy), (1, 1, 2, Strategy::OneForOne));
-    tree.stop().unwrap();
+    tree.stop();
     assert_eq!(serve(&mut tree), ["ask b #7", "ask a #6", "ask db #1", "end shutdown"]);
 }
 

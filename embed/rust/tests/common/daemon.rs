@@ -2,6 +2,7 @@
 #![allow(unsafe_code)]
 
 use std::fs;
+use std::io::Write;
 use std::os::unix::fs::DirBuilderExt;
 use std::path::{Path, PathBuf};
 use std::process::{Child, Command, Stdio};
@@ -12,6 +13,9 @@ use std::time::{Duration, Instant};
 pub const TERM: i32 = 15;
 pub const KILL: i32 = 9;
 pub const HUP: i32 = 1;
+pub const INT: i32 = 2;
+pub const CONT: i32 = 18;
+pub const STOP: i32 = 19;
 
 unsafe extern "C" {
     fn kill(pid: i32, signal: i32) -> i32;
@@ -45,6 +49,16 @@ pub fn new_folder() -> PathBuf {
     let _ = fs::remove_dir_all(&folder);
     fs::DirBuilder::new().mode(0o755).create(&folder).unwrap();
     folder
+}
+
+/// Writes a program that a daemon is to run. A process of its own does it: what this one has open to write, a test beside it that
+/// forks just then keeps open for a moment, and the system runs no program that somebody may write to.
+pub fn write_program(path: &Path, text: &str) {
+    let mut writer = Command::new("sh");
+    writer.args(["-c", "cat > \"$0\" && chmod 755 \"$0\""]).arg(path).stdin(Stdio::piped());
+    let mut writer = writer.spawn().unwrap();
+    writer.stdin.take().unwrap().write_all(text.as_bytes()).unwrap();
+    assert!(writer.wait().unwrap().success());
 }
 
 impl Daemon {
@@ -95,9 +109,7 @@ impl Daemon {
             if let Some(line) = self.log().into_iter().find(|line| is_it(line)) {
                 return line;
             }
-            if begun.elapsed() > PATIENCE {
-                panic!("no {what}\n{}\n{}", self.read("log"), self.read("stderr"));
-            }
+            assert!(begun.elapsed() <= PATIENCE, "no {what}\n{}\n{}", self.read("log"), self.read("stderr"));
             thread::sleep(Duration::from_millis(10));
         }
     }
@@ -113,9 +125,7 @@ impl Daemon {
             if let Some(status) = self.child.try_wait().unwrap() {
                 return status.code().unwrap_or(-1);
             }
-            if begun.elapsed() > PATIENCE {
-                panic!("it doesn't end\n{}\n{}", self.read("log"), self.read("stderr"));
-            }
+            assert!(begun.elapsed() <= PATIENCE, "it doesn't end\n{}\n{}", self.read("log"), self.read("stderr"));
             thread::sleep(Duration::from_millis(10));
         }
     }

@@ -35,7 +35,7 @@ fn tell(tree: &mut Tree, words: &[&str]) -> Option<()> {
         ["ignore", it] => tree.note(0, Note::Ignored(number(it)?)).unwrap(),
         ["fail", it, why] => tree.note(0, Note::Failed(number(it)?, reason(why)?)).unwrap(),
         ["exit", it, why] => tree.note(0, Note::Exit(number(it)?, reason(why)?)).unwrap(),
-        ["stop"] => tree.stop().unwrap(),
+        ["stop"] => tree.stop(),
         ["start"] => drop(tree.start_dynamic(0).unwrap()),
         ["start", rest @ ..] => drop(tree.start_child(0, &spec_of(rest)?).unwrap()),
         ["restart", it] => drop(tree.restart_child(0, id(it)?).unwrap()),

@@ -183,8 +183,11 @@ impl Control {
         spoken
     }
 
+    /// As many are accepted as there is room for. The others wait for the next turn, since of those that came now many may be
+    /// gone by then; where nobody is, they are turned away.
     fn accept(&mut self, now: u64, spoken: &mut Vec<Spoken>) {
-        for _ in 0..MOST {
+        let room = MOST - self.clients.len().min(MOST);
+        for _ in 0..if room > 0 { room } else { MOST } {
             let stream = match self.listener.accept() {
                 Ok((stream, _)) => stream,
                 Err(error) if error.kind() == io::ErrorKind::WouldBlock => return,
@@ -200,7 +203,7 @@ impl Control {
                     continue;
                 }
             }
-            if self.clients.len() >= MOST || stream.set_nonblocking(true).is_err() {
+            if room == 0 || stream.set_nonblocking(true).is_err() {
                 continue;
             }
             self.tokens += 1;

@@ -190,7 +190,7 @@ impl Daemon {
 
     /// Calls a child's supervisor, by the child's path: with its id, or with `#` and the number of a dynamic child.
     fn call_child(&mut self, token: u64, path: &str, kind: fn(Name) -> CallKind, then: Option<fn(Name) -> CallKind>) {
-        let (above, id) = path.rsplit_once('/').map_or(("", path), |(above, id)| (&path[..above.len() + 1], id));
+        let (above, id) = path.rsplit_once('/').map_or(("", path), |(above, id)| (&path[..=above.len()], id));
         let Some(supervisor) = self.paths.iter().position(|known| known == above) else {
             return self.answer(token, Err(&format!("{path}: there is no supervisor {above}")));
         };
@@ -229,7 +229,7 @@ impl Daemon {
             if let Some(process) = now.process {
                 line = line.number("number", process);
             }
-            let line = line.number("starts", seen.starts).maybe("cause", now.cause.map(|cause| cause.as_str()));
+            let line = line.number("starts", seen.starts).maybe("cause", now.cause.map(otp_embed::EndCause::as_str));
             self.remark(line);
         }
     }

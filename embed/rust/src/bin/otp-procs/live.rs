@@ -121,7 +121,7 @@ impl Live {
     /// The descriptors on which it tells something.
     pub fn descriptors(&self) -> impl Iterator<Item = RawFd> {
         let output = self.outlet.as_ref().map(|outlet| outlet.pipe.as_raw_fd());
-        let notify = self.notify.as_ref().map(|pipe| pipe.as_raw_fd());
+        let notify = self.notify.as_ref().map(std::os::fd::AsRawFd::as_raw_fd);
         output.into_iter().chain(notify)
     }
 

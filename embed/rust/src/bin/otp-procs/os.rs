@@ -15,7 +15,7 @@ use std::time::Duration;
 #[cfg(not(target_os = "linux"))]
 compile_error!("otp-procs uses signalfd, SO_PEERCRED and the subreaper of Linux");
 
-/// Signals by the numbers of Linux on x86-64 and AArch64.
+/// Signals by the numbers of Linux on x86-64 and `AArch64`.
 pub const SIGHUP: i32 = 1;
 /// As Ctrl-C sends it.
 pub const SIGINT: i32 = 2;
@@ -134,9 +134,9 @@ fn set_of(signals: &[c_int]) -> SignalSet {
     let mut set = SignalSet([0; 16]);
     // SAFETY: `set` has the size of glibc's `sigset_t` (128 bytes), and is this function's own.
     unsafe {
-        sigemptyset(&mut set);
+        sigemptyset(&raw mut set);
         for &signal in signals {
-            sigaddset(&mut set, signal);
+            sigaddset(&raw mut set, signal);
         }
     }
     set
@@ -160,8 +160,8 @@ pub fn signals_as_descriptor(signals: &[c_int]) -> io::Result<OwnedFd> {
         // ignored comes by no descriptor. INT and HUP stay as they are: a shell ignores INT for what it runs in the background.
         signal(SIGCHLD, SIG_DFL);
         signal(SIGTERM, SIG_DFL);
-        checked(sigprocmask(SIG_BLOCK, &set, std::ptr::null_mut()))?;
-        Ok(OwnedFd::from_raw_fd(checked(signalfd(-1, &set, SFD_FLAGS))?))
+        checked(sigprocmask(SIG_BLOCK, &raw const set, std::ptr::null_mut()))?;
+        Ok(OwnedFd::from_raw_fd(checked(signalfd(-1, &raw const set, SFD_FLAGS))?))
     }
 }
 
@@ -246,7 +246,7 @@ pub fn adopt_orphans() -> io::Result<()> {
 pub fn ended_child() -> Option<i32> {
     let mut info = SignalInfo([0; 128]);
     // SAFETY: `info` has the size and the alignment of `siginfo_t`.
-    let answer = unsafe { waitid(P_ALL, 0, &mut info, WEXITED | WNOHANG | WNOWAIT) };
+    let answer = unsafe { waitid(P_ALL, 0, &raw mut info, WEXITED | WNOHANG | WNOWAIT) };
     let at = |at: usize| i32::from_ne_bytes([info.0[at], info.0[at + 1], info.0[at + 2], info.0[at + 3]]);
     // `si_pid` stands behind three numbers and four bytes of padding.
     (answer == 0 && at(16) > 0).then(|| at(16))
@@ -256,7 +256,7 @@ pub fn ended_child() -> Option<i32> {
 pub fn reap(pid: i32) -> Option<ExitStatus> {
     let mut status = 0;
     // SAFETY: the status is this function's own.
-    let answer = unsafe { waitpid(pid, &mut status, WNOHANG) };
+    let answer = unsafe { waitpid(pid, &raw mut status, WNOHANG) };
     (answer == pid).then(|| ExitStatus::from_raw(status))
 }
 
@@ -271,7 +271,9 @@ pub fn peer_user(stream: &UnixStream) -> io::Result<u32> {
     let mut peer = PeerUser { pid: 0, uid: u32::MAX, gid: u32::MAX };
     let mut length = size_of::<PeerUser>() as u32;
     // SAFETY: the length is that of `peer`, which has the form of `struct ucred`.
-    checked(unsafe { getsockopt(stream.as_raw_fd(), SOL_SOCKET, SO_PEERCRED, (&raw mut peer).cast(), &mut length) })?;
+    checked(unsafe {
+        getsockopt(stream.as_raw_fd(), SOL_SOCKET, SO_PEERCRED, (&raw mut peer).cast(), &raw mut length)
+    })?;
     Ok(peer.uid)
 }
 
@@ -346,7 +348,7 @@ pub fn prepare_child(command: &mut Command, notify: Option<(RawFd, RawFd)>) {
             for number in 1..=LAST_SIGNAL {
                 signal(number, SIG_DFL);
             }
-            checked(sigprocmask(SIG_SETMASK, &none, std::ptr::null_mut()))?;
+            checked(sigprocmask(SIG_SETMASK, &raw const none, std::ptr::null_mut()))?;
             checked(prctl(PR_SET_PDEATHSIG, SIGKILL as u64))?;
             // The parent may have ended before it asked for that.
             if getppid() as u32 != parent {

@@ -290,12 +290,11 @@ fn signal_of(keys: &Keys<'_>) -> Result<(&'static str, i32), BadLine> {
         return Ok(("TERM", os::SIGTERM));
     };
     let name = text.strip_prefix("SIG").unwrap_or(text);
-    match SIGNALS.iter().find(|(known, _)| *known == name) {
-        Some(found) => Ok(*found),
-        None => {
-            let known: Vec<&str> = SIGNALS.iter().map(|(known, _)| *known).collect();
-            bad(line, format!("signal is one of {}", known.join(", ")))
-        }
+    if let Some(found) = SIGNALS.iter().find(|(known, _)| *known == name) {
+        Ok(*found)
+    } else {
+        let known: Vec<&str> = SIGNALS.iter().map(|(known, _)| *known).collect();
+        bad(line, format!("signal is one of {}", known.join(", ")))
     }
 }
 

@@ -45,16 +45,13 @@ pub fn spawn(plan: &Plan, path: &str, number: u64) -> Result<Spawned, NotStarted
     }
     let mut command = command_of(plan, path, number);
     let output = give_output(plan, &mut command)?;
-    let (notify, told) = match plan.ready {
-        Ready::Notify(to) => {
-            let (mine, theirs) = pipe()?;
-            os::prepare_child(&mut command, Some((theirs.as_raw_fd(), to)));
-            (Some(mine), Some(theirs))
-        }
-        _ => {
-            os::prepare_child(&mut command, None);
-            (None, None)
-        }
+    let (notify, told) = if let Ready::Notify(to) = plan.ready {
+        let (mine, theirs) = pipe()?;
+        os::prepare_child(&mut command, Some((theirs.as_raw_fd(), to)));
+        (Some(mine), Some(theirs))
+    } else {
+        os::prepare_child(&mut command, None);
+        (None, None)
     };
     let child = command.spawn().map_err(|error| refused(plan, &error))?;
     // The daemon's ends of what the child writes to are closed, so that the end of the child's is seen.

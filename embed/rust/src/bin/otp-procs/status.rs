@@ -78,19 +78,16 @@ fn add_children(daemon: &mut Daemon, supervisor: u32, level: usize, text: &mut S
         let name = name_of(&child);
         let indent = "  ".repeat(level);
         let nested = child.nested.and_then(|nested| daemon.tree.supervisor(nested).ok().map(|found| (nested, found)));
-        match nested {
-            Some((nested, found)) => {
-                let _ = writeln!(text, "{:<COLUMN$} {}", format!("{indent}{name}/"), words_of(&found));
-                // The children of one that doesn't run are those that it had.
-                if found.process.is_some() {
-                    add_children(daemon, nested, level + 1, text);
-                }
+        if let Some((nested, found)) = nested {
+            let _ = writeln!(text, "{:<COLUMN$} {}", format!("{indent}{name}/"), words_of(&found));
+            // The children of one that doesn't run are those that it had.
+            if found.process.is_some() {
+                add_children(daemon, nested, level + 1, text);
             }
-            None => {
-                let live = child.number.and_then(|number| daemon.live.get(&number));
-                let words = words_of_child(&child, live, daemon.reading);
-                let _ = writeln!(text, "{:<COLUMN$} {words}", format!("{indent}{name}"));
-            }
+        } else {
+            let live = child.number.and_then(|number| daemon.live.get(&number));
+            let words = words_of_child(&child, live, daemon.reading);
+            let _ = writeln!(text, "{:<COLUMN$} {words}", format!("{indent}{name}"));
         }
     }
 }

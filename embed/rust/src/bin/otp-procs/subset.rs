@@ -50,6 +50,12 @@ pub struct BadLine {
     pub text: String,
 }
 
+impl BadLine {
+    fn new(line: usize, text: impl Into<String>) -> Self {
+        BadLine { line, text: text.into() }
+    }
+}
+
 impl fmt::Display for BadLine {
     fn fmt(&self, f: &mut fmt::Formatter<'_>) -> fmt::Result {
         write!(f, "line {}: {}", self.line, self.text)
@@ -70,19 +76,20 @@ pub fn read(text: &str) -> Result<Vec<Table>, BadLine> {
             Some('[') => {
                 let name = reader.head()?;
                 if tables.iter().any(|table| table.name == name) {
-                    return Err(reader.bad_at(line, format!("the table [{name}] is there already; join the two")));
+                    return Err(BadLine::new(line, format!("the table [{name}] is there already; join the two")));
                 }
                 tables.push(Table { name, line, entries: Vec::new() });
             }
             Some(_) => {
                 let entry = reader.entry()?;
                 let Some(table) = tables.last_mut() else {
-                    return Err(
-                        reader.bad_at(line, "a key stands before the first table; write a head such as [web] above it")
-                    );
+                    return Err(BadLine::new(
+                        line,
+                        "a key stands before the first table; write a head such as [web] above it",
+                    ));
                 };
                 if table.entries.iter().any(|other| other.key == entry.key) {
-                    return Err(reader.bad_at(line, format!("the key {} is there already; drop one", entry.key)));
+                    return Err(BadLine::new(line, format!("the key {} is there already; drop one", entry.key)));
                 }
                 table.entries.push(entry);
             }
@@ -119,11 +126,7 @@ impl Reader<'_> {
     }
 
     fn bad(&self, text: impl Into<String>) -> BadLine {
-        self.bad_at(self.line, text)
-    }
-
-    fn bad_at(&self, line: usize, text: impl Into<String>) -> BadLine {
-        BadLine { line, text: text.into() }
+        BadLine::new(self.line, text)
     }
 
     /// Passes over spaces and tabs.
@@ -243,7 +246,7 @@ impl Reader<'_> {
                 Some(']') => break,
                 Some('"' | '\'') => texts.push(self.string()?),
                 None => {
-                    return Err(self.bad_at(begun, "the array has no end; write ] behind its last string"));
+                    return Err(BadLine::new(begun, "the array has no end; write ] behind its last string"));
                 }
                 Some(_) => {
                     return Err(self.bad("an array has strings in quotes alone, with commas between them"));
@@ -295,36 +298,36 @@ impl Reader<'_> {
     }
 
     fn escape(&mut self) -> Result<char, BadLine> {
-        let digits =
-            match self.peek() {
-                Some('"') => return self.pass('"'),
-                Some('\\') => return self.pass('\\'),
-                Some('n') => return self.pass('\n'),
-                Some('t') => return self.pass('\t'),
-                Some('r') => return self.pass('\r'),
-                Some('b') => return self.pass('\u{8}'),
-                Some('f') => return self.pass('\u{c}'),
-                Some('u') => 4,
-                Some('U') => 8,
-                _ => return Err(self.bad(
+        let meant = match self.peek() {
+            Some('"') => '"',
+            Some('\\') => '\\',
+            Some('n') => '\n',
+            Some('t') => '\t',
+            Some('r') => '\r',
+            Some('b') => '\u{8}',
+            Some('f') => '\u{c}',
+            Some('u') => return self.code_point(4),
+            Some('U') => return self.code_point(8),
+            _ => {
+                return Err(self.bad(
                     "escapes are \\\" \\\\ \\n \\t \\r \\b \\f \\uXXXX \\UXXXXXXXX; in single quotes none is needed",
-                )),
-            };
+                ));
+            }
+        };
+        self.take();
+        Ok(meant)
+    }
+
+    /// The character of so many hexadecimal digits behind a letter.
+    fn code_point(&mut self, digits: usize) -> Result<char, BadLine> {
         self.take();
         let code = self.rest.get(..digits).filter(|code| code.bytes().all(|b| b.is_ascii_hexdigit()));
         let found = code.and_then(|code| u32::from_str_radix(code, 16).ok()).and_then(char::from_u32);
-        match found {
-            Some(found) => {
-                self.rest = &self.rest[digits..];
-                Ok(found)
-            }
-            None => Err(self.bad(format!("behind this escape stand {digits} hexadecimal digits of a character"))),
-        }
-    }
-
-    fn pass(&mut self, meant: char) -> Result<char, BadLine> {
-        self.take();
-        Ok(meant)
+        let Some(found) = found else {
+            return Err(self.bad(format!("behind this escape stand {digits} hexadecimal digits of a character")));
+        };
+        self.rest = &self.rest[digits..];
+        Ok(found)
     }
 }
 

@@ -75,7 +75,10 @@ impl Told {
     pub fn tell(&self, tree: &mut Tree) -> Result<Option<u64>, Fault> {
         match *self {
             Told::Note(supervisor, note) => tree.note(supervisor, note).map(|()| None),
-            Told::Stop => tree.stop().map(|()| None),
+            Told::Stop => {
+                tree.stop();
+                Ok(None)
+            }
             Told::Call(supervisor, kind) => kind.make(tree, supervisor).map(Some),
         }
     }

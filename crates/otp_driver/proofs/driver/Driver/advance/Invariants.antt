@@ -1,5 +1,5 @@
-use Rattle.otp_driver.specs.Driven.{GoesOn}
+use Rattle.otp_driver.specs.Driven.{GoesIn}
 use Rattle.otp_driver.proofs.driver.Driver.advance.Given as goal
 
-abbrev pub invariant-loop : goal.invariant-loop
-invariant-loop l = GoesOn l.fn.self l.self
+abbrev pub invariant-loop-steps : goal.invariant-loop-steps
+invariant-loop-steps l = GoesIn l._steps l.fn.self l.self

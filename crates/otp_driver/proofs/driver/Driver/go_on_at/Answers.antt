@@ -1,5 +1,6 @@
-use Rattle.std.proofs.Common.{Bool, true, inl, subst}
+use Rattle.std.proofs.Common.{Bool, true, inl, rules, subst}
 use Rattle.otp_driver.specs.Driven.{Carried, Does}
+use Rattle.otp_driver.proofs.Within.{has_next}
 use Rattle.otp_driver.proofs.driver.Driver.go_on_at.Goals as goal
 
 pub returns-then-done-clause-ok : goal.returns-then-done-clause-ok
@@ -8,10 +9,14 @@ returns-then-done-clause-ok c =
     subst (λ (b : Bool). Carried b c.in-Some.route c.args.place c.args.self.now c.carry_out.new.self) c.if-done.true c.in_ok-done.ensures.ok in
     inl (record {
       place = c.args.place;
-      order = c.in-Some.ensures.0;
+      order = c.in-Some.ensures.some.0;
       route = c.in-Some.route;
-      next = c.in-Some.ensures.1;
+      next = c.in-Some.ensures.some.1;
       mid = c.carry_out.new.self;
       does = done;
       takes = c.pass.ensures;
     })
+
+pub returns-in_default-clause-why : goal.returns-in_default-clause-why
+returns-in_default-clause-why c =
+    absurd (has_next c.args.self.now.members c.args.place c.requires.place c.requires.order (search rules))

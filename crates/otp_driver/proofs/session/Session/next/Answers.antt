@@ -1,7 +1,12 @@
-use Rattle.std.proofs.Common.{ℕ, Option, subst, sym}
+use Rattle.std.specs.Prelude.{Result, Err, refl}
+use Rattle.std.proofs.Common.{◌≡◌, ℕ, Option, inr, rules, subst, sym}
 use Rattle.otp_driver.specs.Driven.{Driven, IsOutside, Stands, Takes}
-use Rattle.otp_driver.specs.Sessions.{IsToldAt}
-use Rattle.otp_driver.proofs.Tellings.{told_next}
+use Rattle.otp_driver.specs.Sessions.{IsReplyNext, IsToldAt, NextTold}
+use Rattle.otp_driver.specs.declared.fault.DriveFault.{DriveFault}
+use Rattle.otp_driver.specs.declared.fault.DriveFault.TheVariants.{OutOfMemory}
+use Rattle.otp_driver.specs.declared.order.Order.{Order}
+use Rattle.otp_driver.specs.declared.session.Session.{Session}
+use Rattle.otp_driver.proofs.Tellings.{tells_next, told_next}
 use Rattle.otp_driver.proofs.session.Session.next.Goals as goal
 
 pub returns : goal.returns
@@ -22,3 +27,18 @@ returns c =
       takes = taken;
       keeps = c.in_ok-keep_answer.ensures.kept;
     }
+
+pub returns-in_err-keep_answer : goal.returns-in_err-keep_answer
+returns-in_err-keep_answer c =
+    let mid : Driven = c.advance.new.self in
+    let place : ℕ = c.in-Some.place in
+    let order : Order = c.in-Some-order_at.order in
+    let outside : IsOutside mid place = subst (λ (f : Option ℕ). Stands f mid) c.in-Some.is c.in_ok-place.ensures.stands in
+    let left : Session = record { driver = mid; answer = c.args.self.now.answer } in
+    let same : c.keep_answer.new.self ≡ left = c.in_err-keep_answer.ensures.err in
+    let next : IsReplyNext mid =
+    tells_next mid place order c.in_err-keep_answer.ensures.why.1.0 outside c.in-Some-order_at.ensures.told c.in-Some-order_at.ensures.reply c.in_err-keep_answer.ensures.why.1.1 in
+    let told : c.from_residual-in_err-keep_answer.result ≡ Err OutOfMemory = search rules in
+    let refused : NextTold (Err OutOfMemory) c.args.self.now left = (c.in_ok-place.ensures.goes_on, refl, inr (refl, next)) in
+    subst (λ (r : Result (Option Order) DriveFault). NextTold r c.args.self.now c.keep_answer.new.self) (sym told)
+    (subst (λ (s : Session). NextTold (Err OutOfMemory) c.args.self.now s) (sym same) refused)
