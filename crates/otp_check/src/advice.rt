@@ -1,6 +1,6 @@
 //! What to do about a fault.
 
-use otp_file::{ChildKey, FaultPlace, TreeFault};
+use otp_file::{ChildKey, FaultPlace, FlagKey, TreeFault};
 use otp_spec::SpecFault;
 
 /// What a child lacks.
@@ -26,15 +26,17 @@ pub(crate) fn what_unlawful(fault: &TreeFault) -> &'static str {
         TreeFault::Unlawful(SpecFault::SignificantNever { .. }) =>
             "significant under auto_shutdown = \"never\"; set auto_shutdown, or leave out significant",
         TreeFault::Unlawful(SpecFault::TooManyChildren) =>
-            "more than 256 children; a supervisor has at most so many",
+            "more than 256 children; a supervisor has at most so many: put some into the tree of a child",
         TreeFault::Unlawful(SpecFault::SimpleNeedsOne) =>
             "not one child; simple_one_for_one has exactly one [[child]], which all are made from",
         TreeFault::NestedNotInfinity { .. } =>
             "a child that has a tree is waited for; write shutdown = \"infinity\", or leave it out",
         TreeFault::WrongKind(FaultPlace::ChildKey(_, ChildKey::Kind)) =>
             "a child that has a tree is a supervisor; write type = \"supervisor\", or leave it out",
-        TreeFault::TooDeep => "supervisors are nested more than 16 deep",
-        TreeFault::TooManyTables => "more than 64 supervisors",
+        TreeFault::TooDeep =>
+            "supervisors are nested more than 16 deep; put this one's children into a tree above it",
+        TreeFault::TooManyTables =>
+            "more than 64 supervisors; put children of some into the tree of another",
         _ => "refused",
     }
 }
@@ -48,37 +50,16 @@ pub(crate) fn what_simple(count: usize) -> &'static str {
     }
 }
 
-/// What to do about a text that is no document, where that can be told from why and where it is none.
-pub(crate) fn what_no_toml(message: &str, rest: &[u8]) -> &'static str {
-    if message == "invalid string" {
-        what_no_text(rest)
-    } else if is_no_value(message) && is_word(rest) {
-        "; a word stands between quotes, but for true and false"
-    } else {
-        ""
-    }
-}
-
-/// Whether no value could be read. A word with `_` is told as a number is that has one in a wrong place.
-fn is_no_value(message: &str) -> bool {
-    message.starts_with("invalid value") || message == "`_` may only go between digits"
-}
-
-/// What to do about a text that can't go on here.
-fn what_no_text(rest: &[u8]) -> &'static str {
-    if rest.is_empty() {
-        "; a text ends with the quote that it begins with"
-    } else if rest.starts_with(b"\n") || rest.starts_with(b"\r\n") {
-        "; a text stands between two quotes, on one line"
-    } else {
-        ""
-    }
-}
-
-/// Whether a letter comes next.
-fn is_word(rest: &[u8]) -> bool {
-    match rest.first() {
-        Some(byte) => byte.is_ascii_alphabetic(),
-        None => false,
+/// The key of its table on whose line a fault of a whole table is told.
+pub(crate) fn key_to_blame(fault: &TreeFault) -> &'static str {
+    match fault {
+        TreeFault::Unlawful(
+            SpecFault::SignificantPermanent { .. } | SpecFault::SignificantNever { .. },
+        ) => ChildKey::Significant.name(),
+        TreeFault::Unlawful(SpecFault::DuplicateId { .. }) => ChildKey::Id.name(),
+        TreeFault::Unlawful(SpecFault::SimpleNeedsOne) => FlagKey::Strategy.name(),
+        TreeFault::NestedNotInfinity { .. } => ChildKey::Shutdown.name(),
+        TreeFault::WrongKind(FaultPlace::ChildKey(_, ChildKey::Kind)) => ChildKey::Kind.name(),
+        _ => "",
     }
 }

@@ -3,12 +3,15 @@
 ghost use Rattle.std.specs.Prelude.{◌≡◌, IfOk};
 ghost use Rattle.otp_check.specs.Checks.{BeginsWith, Finds};
 
-use crate::advice::{what_no_toml, what_unlawful};
-use crate::finding::{Finding, of_table};
+use crate::advice::what_unlawful;
+use crate::finding::{Finding, of_table, said_at};
 use crate::owner::Owner;
 use crate::parts::{Found, scan};
 use otp_file::{TableFault, TreeFault, read_located};
+use otp_hints::{what_no_toml, what_nothing};
+use otp_source::{Source, line_behind};
 use std::alloc::{AllocError, Global};
+use toml::Table;
 
 /// All faults that are found in a tree file, that for which its tree is refused before the others.
 ///
@@ -30,11 +33,11 @@ pub fn check(alloc: Global, file: &[u8]) -> Result<Vec<Finding>, AllocError>
     }
 }
 
-/// Whether the file is a document in which nothing stands.
-pub fn says_nothing(alloc: Global, file: &[u8]) -> bool {
+/// What to say of a lawful file that its writer may not have meant: nothing stands in it.
+pub fn warning(alloc: Global, file: &[u8]) -> Option<&'static str> {
     match toml::table_from_slice(alloc, file) {
-        Ok(table) => table.is_empty(),
-        Err(_) => false,
+        Ok(table) if table.is_empty() => Some(what_nothing(file)),
+        _ => None,
     }
 }
 
@@ -42,11 +45,26 @@ pub fn says_nothing(alloc: Global, file: &[u8]) -> bool {
 fn findings_from(alloc: Global, why: TableFault, file: &[u8]) -> Result<Vec<Finding>, AllocError>
     ensures { IfOk result (λ findings. BeginsWith why.fault findings.items) }
 {
-    let Found { first, others } = match toml::table_from_slice(alloc, file) {
-        Ok(table) => scan(alloc, why, &table)?,
-        Err(error) if error.is_memory() => return Err(AllocError),
-        Err(error) => return only_text(alloc, why.fault, file, &error),
-    };
+    match toml::table_from_slice(alloc, file) {
+        Ok(table) => findings_in(alloc, why, file, &table),
+        Err(error) if error.is_memory() => Err(AllocError),
+        Err(error) => only_text(alloc, why.fault, file, &error),
+    }
+}
+
+/// What is found in the document of a file whose tree is refused for this fault.
+fn findings_in(
+    alloc: Global,
+    why: TableFault,
+    file: &[u8],
+    table: &Table,
+) -> Result<Vec<Finding>, AllocError>
+    ensures { IfOk result (λ findings. BeginsWith why.fault findings.items) }
+{
+    let source = Source::read(alloc, file)?;
+    let found = scan(alloc, why, &source, table);
+    drop(source);
+    let Found { first, others } = found?;
     let first = first_of(alloc, why.fault, first)?;
     put_first(first, others)
 }
@@ -60,15 +78,26 @@ fn only_text(
 ) -> Result<Vec<Finding>, AllocError>
     ensures { IfOk result (λ findings. BeginsWith fault findings.items) }
 {
-    let text = text_of(alloc, file, error)?;
-    put_first(Finding { fault, text }, Vec::new(alloc))
+    let place = text_of(alloc, error)?;
+    let what = what_no_toml(error.message(), file, rest_of(file, error));
+    let finding = said_at(alloc, fault, place.as_slice(), what.as_bytes())?;
+    put_first(finding.on_line(Some(line_of(file, error))), Vec::new(alloc))
 }
 
-/// Why a text is no document, and where, and what to do where that is known, in one line.
-fn text_of(alloc: Global, file: &[u8], error: &toml::de::Error) -> Result<Vec<u8>, AllocError> {
+/// The line on which a text is no document any more.
+fn line_of(file: &[u8], error: &toml::de::Error) -> u64 {
+    let read = match error.span() {
+        Some(span) => file.get(..span.start).unwrap_or(b""),
+        None => b"",
+    };
+    line_behind(read)
+}
+
+/// Why a text is no document, and where, in one line.
+fn text_of(alloc: Global, error: &toml::de::Error) -> Result<Vec<u8>, AllocError> {
     let told = error.to_string(alloc)?;
     let told = told.trim_end().as_bytes();
-    let mut text = Vec::from_slice(alloc, b"E10: ")?;
+    let mut text = Vec::new(alloc);
     for byte in told {
         if *byte == b'\n' {
             text.extend_from_slice(b": ")?;
@@ -76,8 +105,6 @@ fn text_of(alloc: Global, file: &[u8], error: &toml::de::Error) -> Result<Vec<u8
             text.push(*byte).map_err(|_| AllocError)?;
         }
     }
-    let what = what_no_toml(error.message(), rest_of(file, error));
-    text.extend_from_slice(what.as_bytes())?;
     Ok(text)
 }
 
@@ -93,12 +120,18 @@ fn rest_of<'a>(file: &'a [u8], error: &toml::de::Error) -> &'a [u8] {
 fn first_of(alloc: Global, fault: TreeFault, found: Option<Finding>) -> Result<Finding, AllocError>
     ensures { IfOk result (λ first. first.fault ≡ fault) }
 {
-    match found {
-        Some(found) => Ok(Finding {
-            fault,
-            text: found.text,
-        }),
-        None => of_table(alloc, fault, &Owner::Supervisor(b""), what_unlawful(&fault)),
+    let Some(found) = found else {
+        return of_table(alloc, fault, &Owner::Supervisor(b""), what_unlawful(&fault));
+    };
+    let first = said_at(alloc, fault, behind_number(found.text.as_slice()), b"")?;
+    Ok(first.on_line(found.line))
+}
+
+/// What stands in the text of a finding behind the number of its fault.
+fn behind_number(text: &[u8]) -> &[u8] {
+    match text.iter().position(|byte| *byte == b':') {
+        Some(place) => text.get(place.saturating_add(2)..).unwrap_or(b""),
+        None => b"",
     }
 }
 

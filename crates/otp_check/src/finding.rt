@@ -1,31 +1,118 @@
 //! A fault that was found, and the words for it.
 
-ghost use Rattle.std.specs.Prelude.{◌≡◌, IfOk};
+ghost use Rattle.std.specs.Prelude.{◌≡◌, ◌++◌, IfOk, OnOk};
+ghost use Rattle.otp_check.specs.Texts.{IsSaid, head_text};
 
-use crate::allowed::{Key, words_at, write_allowed};
-use crate::near::nearest;
 use crate::owner::{Owner, write_owner};
 use crate::shown::{write_shown, write_value};
-use otp_file::{FlagKey, TreeFault};
+use otp_file::{ChildKey, FlagKey, TreeFault};
+use otp_hints::{
+    Key, is_root_header, meant_child_key, meant_flag, meant_word, nearest, small_letters,
+    what_value, words_at, write_allowed,
+};
+use otp_reason::NAME_SIZE;
 use otp_text::write_number;
 use std::alloc::{AllocError, Global};
 use toml::Value;
+
+/// The most modules of a child.
+const MAX_MODULES: usize = 4;
 
 /// A fault of a tree file.
 #[derive(Debug, Drop)]
 pub struct Finding {
     /// The fault by its name.
     pub fault: TreeFault,
+    /// The line of the file that has it, from 1, where that is known.
+    pub line: Option<u64>,
     /// Where it is, what was read there, and what is allowed: one line, without its end.
     pub text: Vec<u8>,
+    ghost said: { IsSaid fault text.items },
 }
 
-/// Appends the number of a fault and its table: `E11: child 3 (db)`.
-fn write_head(fault: &TreeFault, owner: &Owner<'_>, out: &mut Vec<u8>) -> Result<(), AllocError> {
+impl Finding {
+    /// The same, on this line.
+    pub(crate) fn on_line(self, line: Option<u64>) -> Finding
+        ensures { result.fault ≡ self.fault }
+    {
+        let Finding { fault, text, .. } = self;
+        Finding { fault, line, text }
+    }
+}
+
+/// What is said of a file: on which line of it, and in which words.
+pub trait Remark {
+    /// The line, from 1, where it is known.
+    fn line(&self) -> Option<u64>;
+
+    /// One line of text, without its end.
+    fn text(&self) -> &[u8];
+}
+
+impl Remark for Finding {
+    fn line(&self) -> Option<u64> {
+        self.line
+    }
+
+    fn text(&self) -> &[u8] {
+        self.text.as_slice()
+    }
+}
+
+/// Appends the number of a fault: `E11: `.
+fn write_head(fault: &TreeFault, out: &mut Vec<u8>) -> Result<(), AllocError>
+    ensures { OnOk result (out.new.items ≡ out.old.items ++ head_text fault.now) }
+{
     out.extend_from_slice(b"E")?;
     write_number(u64::from(fault.code()), out)?;
-    out.extend_from_slice(b": ")?;
-    write_owner(owner, out)
+    out.extend_from_slice(b": ")
+}
+
+/// The number of a fault, and then two texts.
+fn headed(
+    alloc: Global,
+    fault: &TreeFault,
+    place: &[u8],
+    rest: &[u8],
+) -> Result<Vec<u8>, AllocError>
+    ensures { IfOk result (λ text. text.items ≡ head_text fault.now ++ (place.now ++ rest.now)) }
+{
+    let mut text = Vec::new(alloc);
+    write_head(fault, &mut text)?;
+    text.extend_from_slice(place)?;
+    text.extend_from_slice(rest)?;
+    Ok(text)
+}
+
+/// What is said of a fault at a place.
+pub(crate) fn said_at(
+    alloc: Global,
+    fault: TreeFault,
+    place: &[u8],
+    rest: &[u8],
+) -> Result<Finding, AllocError>
+    ensures { IfOk result (λ finding. finding.fault ≡ fault) }
+{
+    let text = headed(alloc, &fault, place, rest)?;
+    Ok(Finding {
+        fault,
+        line: None,
+        text,
+    })
+}
+
+/// What is said of a fault of a table.
+fn said_of(
+    alloc: Global,
+    fault: TreeFault,
+    owner: &Owner<'_>,
+    rest: &[u8],
+) -> Result<Finding, AllocError>
+    ensures { IfOk result (λ finding. finding.fault ≡ fault) }
+{
+    let mut place = Vec::new(alloc);
+    write_owner(owner, &mut place)?;
+    said_at(alloc, fault, place.as_slice(), rest)
 }
 
 /// Appends a text between two others.
@@ -49,14 +136,13 @@ pub(crate) fn of_table(
 ) -> Result<Finding, AllocError>
     ensures { IfOk result (λ finding. finding.fault ≡ fault) }
 {
-    let mut text = Vec::new(alloc);
-    write_head(&fault, owner, &mut text)?;
-    write_between(b": ", what.as_bytes(), b"", &mut text)?;
-    Ok(Finding { fault, text })
+    let mut rest = Vec::new(alloc);
+    write_between(b": ", what.as_bytes(), b"", &mut rest)?;
+    said_of(alloc, fault, owner, rest.as_slice())
 }
 
-/// A fault at a key that may not stand in its table. Behind those that may stands the nearest of them; or of a key that a
-/// supervisor may have, and a child not, where it belongs.
+/// A fault at a key that may not stand in its table. Behind those that may stands the one that was meant; or of a key that a
+/// supervisor may have, and a child not, or the other way round, where it belongs.
 pub(crate) fn of_unknown(
     alloc: Global,
     fault: TreeFault,
@@ -66,16 +152,12 @@ pub(crate) fn of_unknown(
 ) -> Result<Finding, AllocError>
     ensures { IfOk result (λ finding. finding.fault ≡ fault) }
 {
-    let mut text = Vec::new(alloc);
-    write_head(&fault, owner, &mut text)?;
-    text.extend_from_slice(b": unknown key ")?;
-    write_shown(key, &mut text)?;
-    write_keys(keys, &mut text)?;
-    match Key::of_flag(key) {
-        Some(meant) => write_home(meant, &mut text)?,
-        None => write_nearest(alloc, key, keys, &mut text)?,
-    }
-    Ok(Finding { fault, text })
+    let mut rest = Vec::new(alloc);
+    rest.extend_from_slice(b": unknown key ")?;
+    write_shown(key, &mut rest)?;
+    write_keys(keys, &mut rest)?;
+    write_meant_key(alloc, owner, key, keys, &mut rest)?;
+    said_of(alloc, fault, owner, rest.as_slice())
 }
 
 /// A fault of the value at a key.
@@ -88,17 +170,18 @@ pub(crate) fn of_value(
 ) -> Result<Finding, AllocError>
     ensures { IfOk result (λ finding. finding.fault ≡ fault) }
 {
-    let mut text = Vec::new(alloc);
-    write_head(&fault, owner, &mut text)?;
-    write_between(b", ", key.name().as_bytes(), b": read ", &mut text)?;
-    write_value(alloc, value, &mut text)?;
-    text.extend_from_slice(b"; allowed: ")?;
+    let mut rest = Vec::new(alloc);
+    write_between(b", ", key.name().as_bytes(), b": read ", &mut rest)?;
+    write_value(alloc, value, &mut rest)?;
+    rest.extend_from_slice(b"; allowed: ")?;
     let words = words_at(alloc, key)?;
-    write_allowed(key, words.as_slice(), &mut text)?;
+    write_allowed(key, words.as_slice(), &mut rest)?;
     if let Value::String(word) = value {
-        write_nearest(alloc, word.as_str(), words.as_slice(), &mut text)?;
+        write_meant_word(alloc, key, word.as_str(), words.as_slice(), &mut rest)?;
     }
-    Ok(Finding { fault, text })
+    rest.extend_from_slice(what_value(key, value).as_bytes())?;
+    write_count(key, value, &mut rest)?;
+    said_of(alloc, fault, owner, rest.as_slice())
 }
 
 /// Appends which keys are allowed.
@@ -111,20 +194,57 @@ fn write_keys(keys: &[&'static str], out: &mut Vec<u8>) -> Result<(), AllocError
     Ok(())
 }
 
-/// Appends where a key of a supervisor belongs that stands in a child's table: in a file whatever is written below a
-/// `[[child]]` is that child's.
+/// Appends where a key of a supervisor belongs that stands in a child's table, or one of a child in a supervisor's: in a file
+/// whatever is written below a `[[child]]` is that child's.
 fn write_home(key: Key, out: &mut Vec<u8>) -> Result<(), AllocError> {
-    if key == Key::Flag(FlagKey::Child) {
-        return out.extend_from_slice(
-            b"; children of a child stand in its tree: write [[child.tree.child]]",
-        );
+    let home: &[u8] = match key {
+        Key::Flag(FlagKey::Child) => {
+            return out.extend_from_slice(
+                b"; children of a child stand in its tree: write [[child.tree.child]]",
+            );
+        }
+        Key::Flag(_) => b" belongs to the supervisor: write it before the first [[child]]",
+        Key::Child(_) => b" belongs to a child: write it below a [[child]]",
+    };
+    write_between(b"; ", key.name().as_bytes(), home, out)
+}
+
+/// Appends the key that was meant, or where this one belongs.
+fn write_meant_key(
+    alloc: Global,
+    owner: &Owner<'_>,
+    key: &str,
+    keys: &[&'static str],
+    out: &mut Vec<u8>,
+) -> Result<(), AllocError> {
+    let small = small_letters(alloc, key)?;
+    if matches!(owner, Owner::Supervisor(_)) && is_root_header(small.as_str()) {
+        return out.extend_from_slice(b"; a supervisor's keys stand under no header of their own");
     }
-    write_between(
-        b"; ",
-        key.name().as_bytes(),
-        b" belongs to the supervisor: write it before the first [[child]]",
-        out,
-    )
+    let (home, meant) = match owner {
+        Owner::Child(..) => (Key::of_flag(key), meant_child_key(small.as_str())),
+        Owner::Supervisor(_) => (Key::of_child(key), meant_flag(small.as_str())),
+    };
+    match (home, meant) {
+        (Some(key), _) => write_home(key, out),
+        (None, Some(meant)) => write_meant(meant, out),
+        (None, None) => write_nearest(alloc, key, keys, out),
+    }
+}
+
+/// Appends the word that was meant at a key.
+fn write_meant_word(
+    alloc: Global,
+    key: Key,
+    word: &str,
+    words: &[&'static str],
+    out: &mut Vec<u8>,
+) -> Result<(), AllocError> {
+    let small = small_letters(alloc, word)?;
+    match meant_word(key, small.as_str()) {
+        Some(meant) => write_meant(meant, out),
+        None => write_nearest(alloc, word, words, out),
+    }
 }
 
 /// Appends the word that was meant, where one is near.
@@ -135,7 +255,33 @@ fn write_nearest(
     out: &mut Vec<u8>,
 ) -> Result<(), AllocError> {
     match nearest(alloc, word, words)? {
-        Some(near) => write_between(b"; did you mean ", near.as_bytes(), b"?", out),
+        Some(near) => write_meant(near, out),
         None => Ok(()),
     }
+}
+
+/// Appends the word that was meant.
+fn write_meant(word: &str, out: &mut Vec<u8>) -> Result<(), AllocError> {
+    write_between(b"; did you mean ", word.as_bytes(), b"?", out)
+}
+
+/// Appends how many bytes a name has, or how many names there are, where it is more than may be.
+fn write_count(key: Key, value: &Value, out: &mut Vec<u8>) -> Result<(), AllocError> {
+    match (key, value) {
+        (Key::Child(ChildKey::Id | ChildKey::Start), Value::String(name))
+            if name.as_str().len() > NAME_SIZE => {
+            write_so_many(name.as_str().len(), b" bytes", out)
+        }
+        (Key::Child(ChildKey::Modules), Value::Array(names)) if names.len() > MAX_MODULES => {
+            write_so_many(names.len(), b" names", out)
+        }
+        _ => Ok(()),
+    }
+}
+
+/// Appends how many there are.
+fn write_so_many(count: usize, what: &[u8], out: &mut Vec<u8>) -> Result<(), AllocError> {
+    out.extend_from_slice(b"; it has ")?;
+    write_number(count as u64, out)?;
+    out.extend_from_slice(what)
 }

@@ -26,8 +26,8 @@ pub(crate) fn write_owner(owner: &Owner<'_>, out: &mut Vec<u8>) -> Result<(), Al
     }
 }
 
-/// Appends the path of the child at this place, from 0, of the supervisor that has this path.
-pub(crate) fn write_child(
+/// Appends the path of the child at this place, from 0, of the supervisor that has this path: `child 2 (pool), child 1 (a)`.
+pub fn write_child(
     path: &[u8],
     index: usize,
     id: Option<&str>,

@@ -1,12 +1,13 @@
 //! All parts of a document, one by one.
 
-use crate::advice::{what_lacks, what_simple, what_unlawful};
-use crate::allowed::{Key, child_keys, flag_keys};
+use crate::advice::{key_to_blame, what_lacks, what_simple, what_unlawful};
 use crate::finding::{Finding, of_table, of_unknown, of_value};
 use crate::judging::{judge_child, judge_count, judge_flag, judge_key, judge_names, tree_of};
 use crate::owner::{Owner, write_child};
 use crate::places::{moved_to, place_of};
 use otp_file::{ChildKey, FaultPlace, FlagKey, MAX_DEPTH, TableFault, TreeFault};
+use otp_hints::{Key, child_keys, flag_keys};
+use otp_source::{Part, Source};
 use otp_spec::{MAX_CHILDREN, MAX_TABLES, SpecFault};
 use std::alloc::{AllocError, Global};
 use toml::{Table, Value};
@@ -20,10 +21,36 @@ pub(crate) struct Found {
     pub(crate) others: Vec<Finding>,
 }
 
+/// A table of the document: its path, and where it stands in the file, if that is known.
+#[derive(Clone, Copy)]
+struct Place<'a> {
+    owner: Owner<'a>,
+    part: Option<Part>,
+}
+
+/// A supervisor's table: the path of the child whose tree it is, empty for the root, and where it stands in the file.
+#[derive(Clone, Copy)]
+struct Within<'a> {
+    path: &'a [u8],
+    part: Option<Part>,
+}
+
+impl<'a> Within<'a> {
+    /// The table itself.
+    fn place(&self) -> Place<'a> {
+        Place {
+            owner: Owner::Supervisor(self.path),
+            part: self.part,
+        }
+    }
+}
+
 /// What is found so far.
 #[derive(Drop)]
-struct Scanning {
+struct Scanning<'s> {
     alloc: Global,
+    /// Where the parts of the document stand in the file.
+    source: &'s Source,
     /// The fault for which the tree is refused, and the number of its table.
     why: TableFault,
     /// So many tables are looked at; the last of them is the one that is looked at now.
@@ -31,14 +58,23 @@ struct Scanning {
     found: Found,
 }
 
-impl Scanning {
+impl Scanning<'_> {
     /// Whether the table that is looked at now has the fault for which the tree is refused.
     fn is_refused_here(&self) -> bool {
         self.tables == self.why.table.saturating_add(1)
     }
 
-    /// One thing more is found in the table that is looked at now.
-    fn add(&mut self, finding: Finding) -> Result<(), AllocError> {
+    /// The line of a key of a table; without the key that of the table itself. The whole file has none.
+    fn line_at(&self, part: Option<Part>, key: &str) -> Option<u64> {
+        match self.source.line(self.source.at_key(part, key)) {
+            None if part != Some(Part::WHOLE) => self.source.line(part),
+            line => line,
+        }
+    }
+
+    /// One thing more is found on this line, in the table that is looked at now.
+    fn add(&mut self, line: Option<u64>, finding: Finding) -> Result<(), AllocError> {
+        let finding = finding.on_line(line);
         if self.is_refused_here() && self.found.first.is_none() && finding.fault == self.why.fault {
             self.found.first = Some(finding);
             return Ok(());
@@ -50,35 +86,35 @@ impl Scanning {
     fn add_of_table(
         &mut self,
         fault: TreeFault,
-        owner: &Owner<'_>,
+        place: &Place<'_>,
         what: &str,
     ) -> Result<(), AllocError> {
-        let finding = of_table(self.alloc, fault, owner, what)?;
-        self.add(finding)
+        let finding = of_table(self.alloc, fault, &place.owner, what)?;
+        self.add(self.line_at(place.part, key_to_blame(&fault)), finding)
     }
 
     /// The value at a key of a supervisor.
-    fn scan_flag(&mut self, owner: &Owner<'_>, key: &str, value: &Value) -> Result<(), AllocError> {
+    fn scan_flag(&mut self, place: &Place<'_>, key: &str, value: &Value) -> Result<(), AllocError> {
         let Some(fault) = judge_flag(self.alloc, key, value)? else {
             return Ok(());
         };
         let finding = match (fault, Key::of_flag(key)) {
             (TreeFault::UnknownKey(_), _) => {
-                of_unknown(self.alloc, fault, owner, key, &flag_keys())?
+                of_unknown(self.alloc, fault, &place.owner, key, &flag_keys())?
             }
             (TreeFault::WrongKind(_) | TreeFault::BadFlag(_), Some(key)) => {
-                of_value(self.alloc, fault, owner, key, value)?
+                of_value(self.alloc, fault, &place.owner, key, value)?
             }
             _ => return Ok(()),
         };
-        self.add(finding)
+        self.add(self.line_at(place.part, key), finding)
     }
 
     /// The keys of a supervisor, but for its children.
-    fn scan_flags(&mut self, owner: &Owner<'_>, table: &Table) -> Result<(), AllocError> {
+    fn scan_flags(&mut self, place: &Place<'_>, table: &Table) -> Result<(), AllocError> {
         for (key, value) in table.iter() {
             if key.as_str() != FlagKey::Child.name() || value.as_array().is_none() {
-                self.scan_flag(owner, key.as_str(), value)?;
+                self.scan_flag(place, key.as_str(), value)?;
             }
         }
         Ok(())
@@ -88,7 +124,7 @@ impl Scanning {
     fn scan_key(
         &mut self,
         index: usize,
-        owner: &Owner<'_>,
+        place: &Place<'_>,
         key: &str,
         value: &Value,
     ) -> Result<(), AllocError> {
@@ -101,34 +137,34 @@ impl Scanning {
         let fault = moved_to(fault, index);
         let finding = match (fault, Key::of_child(key)) {
             (TreeFault::UnknownKey(_), _) => {
-                of_unknown(self.alloc, fault, owner, key, &child_keys())?
+                of_unknown(self.alloc, fault, &place.owner, key, &child_keys())?
             }
             (TreeFault::WrongKind(_) | TreeFault::BadSpec { .. }, Some(key)) => {
-                of_value(self.alloc, fault, owner, key, value)?
+                of_value(self.alloc, fault, &place.owner, key, value)?
             }
             _ => return Ok(()),
         };
-        self.add(finding)
+        self.add(self.line_at(place.part, key), finding)
     }
 
     /// What a child's table lacks, and whether its values go together.
     fn scan_whole(
         &mut self,
         index: usize,
-        owner: &Owner<'_>,
+        place: &Place<'_>,
         auto_shutdown: Option<&Value>,
         child: &Table,
     ) -> Result<(), AllocError> {
         if let Some(fault) = judge_names(self.alloc, child)? {
             let what = what_lacks(&fault);
-            self.add_of_table(moved_to(fault, index), owner, what)?;
+            self.add_of_table(moved_to(fault, index), place, what)?;
         }
         let Some(fault) = judge_child(self.alloc, auto_shutdown, child)? else {
             return Ok(());
         };
         if self.is_of_whole(&fault, child)? {
             let what = what_unlawful(&fault);
-            self.add_of_table(moved_to(fault, index), owner, what)?;
+            self.add_of_table(moved_to(fault, index), place, what)?;
         }
         Ok(())
     }
@@ -148,23 +184,37 @@ impl Scanning {
         }
     }
 
-    /// A child of the supervisor that has this path.
+    /// Where the child at this place of a supervisor stands in the file.
+    fn part_of_child(&self, supervisor: Option<Part>, index: usize) -> Option<Part> {
+        let children = self.source.at_key(supervisor, FlagKey::Child.name());
+        self.source.at_index(children, index)
+    }
+
+    /// The child at this place of a supervisor.
+    fn place_of_child<'a>(&self, within: &Within<'a>, index: usize, value: &'a Value) -> Place<'a> {
+        Place {
+            owner: Owner::Child(within.path, index, id_of(value)),
+            part: self.part_of_child(within.part, index),
+        }
+    }
+
+    /// A child of a supervisor.
     fn scan_child(
         &mut self,
-        path: &[u8],
+        within: &Within<'_>,
         index: usize,
         auto_shutdown: Option<&Value>,
         value: &Value,
     ) -> Result<(), AllocError> {
-        let owner = Owner::Child(path, index, id_of(value));
+        let place = self.place_of_child(within, index, value);
         let Some(child) = value.as_table() else {
             let fault = TreeFault::WrongKind(FaultPlace::Child(index));
-            return self.add_of_table(fault, &owner, "no table; each child is one, [[child]]");
+            return self.add_of_table(fault, &place, "no table; each child is one, [[child]]");
         };
         for (key, value) in child.iter() {
-            self.scan_key(index, &owner, key.as_str(), value)?;
+            self.scan_key(index, &place, key.as_str(), value)?;
         }
-        self.scan_whole(index, &owner, auto_shutdown, child)
+        self.scan_whole(index, &place, auto_shutdown, child)
     }
 
     /// Whether the child at this place is looked at: one of those that may be, or that for which the tree is refused.
@@ -175,14 +225,14 @@ impl Scanning {
     /// The children, one by one, and ids that stand twice.
     fn scan_children(
         &mut self,
-        path: &[u8],
+        within: &Within<'_>,
         auto_shutdown: Option<&Value>,
         children: &[Value],
     ) -> Result<(), AllocError> {
         for (index, value) in children.iter().enumerate() {
             if self.is_looked_at(index) {
-                self.scan_child(path, index, auto_shutdown, value)?;
-                self.scan_id(path, index, value, children.get(..index).unwrap_or(&[]))?;
+                self.scan_child(within, index, auto_shutdown, value)?;
+                self.scan_id(within, index, value, children.get(..index).unwrap_or(&[]))?;
             }
         }
         Ok(())
@@ -191,7 +241,7 @@ impl Scanning {
     /// Whether an earlier child has the id of this one.
     fn scan_id(
         &mut self,
-        path: &[u8],
+        within: &Within<'_>,
         index: usize,
         value: &Value,
         earlier: &[Value],
@@ -202,38 +252,50 @@ impl Scanning {
         }
         let fault = TreeFault::Unlawful(SpecFault::DuplicateId { index });
         let what = "an earlier child has this id; each id stands once";
-        self.add_of_table(fault, &Owner::Child(path, index, id), what)
+        self.add_of_table(fault, &self.place_of_child(within, index, value), what)
     }
 
     /// How many children there are.
     fn scan_count(
         &mut self,
-        owner: &Owner<'_>,
+        place: &Place<'_>,
         strategy: Option<&Value>,
         children: &[Value],
     ) -> Result<(), AllocError> {
         match judge_count(self.alloc, strategy, children)? {
             Some(fault @ TreeFault::Unlawful(SpecFault::SimpleNeedsOne)) => {
-                self.add_of_table(fault, owner, what_simple(children.len()))
+                self.add_of_table(fault, place, what_simple(children.len()))
             }
             Some(fault @ TreeFault::Unlawful(SpecFault::TooManyChildren)) => {
-                self.add_of_table(fault, owner, what_unlawful(&fault))
+                let first_too_many = Place {
+                    owner: place.owner,
+                    part: self.part_of_child(place.part, MAX_CHILDREN),
+                };
+                self.add_of_table(fault, &first_too_many, what_unlawful(&fault))
             }
             _ => Ok(()),
         }
     }
 
-    /// The table of the supervisor that has this path, but for the trees of its children.
-    fn scan_table(&mut self, path: &[u8], table: &Table) -> Result<(), AllocError> {
-        let owner = Owner::Supervisor(path);
-        self.scan_flags(&owner, table)?;
+    /// The table of a supervisor, but for the trees of its children.
+    fn scan_table(&mut self, within: &Within<'_>, table: &Table) -> Result<(), AllocError> {
+        let place = within.place();
+        self.scan_flags(&place, table)?;
         let children = match table.get(FlagKey::Child.name()) {
             None => &[],
             Some(Value::Array(children)) => children.as_slice(),
             Some(_) => return Ok(()),
         };
-        self.scan_children(path, table.get(FlagKey::AutoShutdown.name()), children)?;
-        self.scan_count(&owner, table.get(FlagKey::Strategy.name()), children)
+        self.scan_children(within, table.get(FlagKey::AutoShutdown.name()), children)?;
+        self.scan_count(&place, table.get(FlagKey::Strategy.name()), children)
+    }
+
+    /// A table that isn't looked at, since there may be none: the tree is refused for it, or for one before it.
+    fn refuse_table(&mut self, within: &Within<'_>, fault: TreeFault) -> Result<(), AllocError> {
+        if self.is_refused_here() && self.why.fault == fault {
+            return self.add_of_table(fault, &within.place(), what_unlawful(&fault));
+        }
+        Ok(())
     }
 }
 
@@ -250,39 +312,49 @@ fn is_among(id: Option<&str>, children: &[Value]) -> bool {
     children.iter().any(|child| id_of(child) == id)
 }
 
-/// The table of the supervisor that has this path, and all below it, to so many levels: in the order in which tables are
-/// numbered.
+/// The table of this supervisor, and all below it, to so many levels: in the order in which tables are numbered.
 fn scan_below(
-    scanning: &mut Scanning,
-    path: &[u8],
+    scanning: &mut Scanning<'_>,
+    within: &Within<'_>,
     table: &Table,
     levels: usize,
 ) -> Result<(), AllocError> {
-    let Some(left) = levels.checked_sub(1) else {
-        return Ok(());
-    };
-    if scanning.tables >= MAX_TABLES {
-        return Ok(());
-    }
     scanning.tables = scanning.tables.saturating_add(1);
-    scanning.scan_table(path, table)?;
+    let Some(left) = levels.checked_sub(1) else {
+        return scanning.refuse_table(within, TreeFault::TooDeep);
+    };
+    if scanning.tables > MAX_TABLES {
+        return scanning.refuse_table(within, TreeFault::TooManyTables);
+    }
+    scanning.scan_table(within, table)?;
     let Some(Value::Array(children)) = table.get(FlagKey::Child.name()) else {
         return Ok(());
     };
     for (index, child) in children.iter().enumerate().take(MAX_CHILDREN) {
         if let Some(tree) = tree_of(child) {
-            let mut deeper = Vec::new(scanning.alloc);
-            write_child(path, index, id_of(child), &mut deeper)?;
-            scan_below(scanning, deeper.as_slice(), tree, left)?;
+            let mut path = Vec::new(scanning.alloc);
+            write_child(within.path, index, id_of(child), &mut path)?;
+            let part = scanning.part_of_child(within.part, index);
+            let deeper = Within {
+                path: path.as_slice(),
+                part: scanning.source.at_key(part, ChildKey::Tree.name()),
+            };
+            scan_below(scanning, &deeper, tree, left)?;
         }
     }
     Ok(())
 }
 
 /// What is wrong in the parts of a document, whose tree is refused for this fault.
-pub(crate) fn scan(alloc: Global, why: TableFault, table: &Table) -> Result<Found, AllocError> {
+pub(crate) fn scan(
+    alloc: Global,
+    why: TableFault,
+    source: &Source,
+    table: &Table,
+) -> Result<Found, AllocError> {
     let mut scanning = Scanning {
         alloc,
+        source,
         why,
         tables: 0,
         found: Found {
@@ -290,7 +362,11 @@ pub(crate) fn scan(alloc: Global, why: TableFault, table: &Table) -> Result<Foun
             others: Vec::new(alloc),
         },
     };
-    scan_below(&mut scanning, b"", table, MAX_DEPTH)?;
+    let root = Within {
+        path: b"",
+        part: Some(Part::WHOLE),
+    };
+    scan_below(&mut scanning, &root, table, MAX_DEPTH)?;
     let Scanning { found, .. } = scanning;
     Ok(found)
 }

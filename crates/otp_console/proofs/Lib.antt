@@ -1,4 +1,4 @@
 pub mod Checked
 pub mod Told
-pub mod Getters
-pub mod WorkedWords
+pub mod Ran
+pub mod Tried

@@ -2,7 +2,8 @@
 use Rattle.std.proofs.Common.{◌≡◌, ℕ, ◌<◌, ◌≤◌, ◌⊎◌, Bool, inl, inr, List, ◌++◌, Option, None, Some, ap, ◌∙◌, append_assoc, arith}
 use Rattle.std.specs.Io.KnownBytes.{Appends}
 use Rattle.otp_console.specs.declared.ending.ProgramEnd.{ProgramEnd}
-use Rattle.otp_console.specs.Statuses.{sentence_of}
+use Rattle.otp_console.specs.Statuses.{sentence_since}
+use Rattle.otp_console.specs.declared.ending.Unwritten.{Unwritten}
 use Rattle.otp_console.specs.Runs.{IsTold, TellsFirst, Tells}
 
 pub appends_more : (a b c : Option (List ℕ)) (x y : List ℕ) → Appends a b x → Appends b c y → Appends a c (x ++ y)
@@ -16,7 +17,7 @@ told_more x y a b c f g h first_kept second_kept (inl failed) second = inl (omeg
 told_more x y a b c f g h first_kept second_kept (inr first) (inl failed) = inl (omega arith)
 told_more x y a b c f g h first_kept second_kept (inr first) (inr second) = inr (appends_more a b c x y first second)
 
-pub told_last : (drawn : Bool) (ending : ProgramEnd) (a b c : Option (List ℕ)) (f g h : ℕ) → f ≤ g → g ≤ h → TellsFirst drawn ending a b f g
-    → IsTold (sentence_of ending) b c g h → Tells drawn ending a c f h
-told_last drawn ending a b c f g h first_kept second_kept first last =
-    (first.0, (first.1.0, told_more first.0 (sentence_of ending) a b c f g h first_kept second_kept first.1.1 last))
+pub told_last : (drawn : Bool) (why : Unwritten) (ending : ProgramEnd) (a b c : Option (List ℕ)) (f g h : ℕ) → f ≤ g → g ≤ h → TellsFirst drawn ending a b f g
+    → IsTold (sentence_since why ending) b c g h → Tells drawn why ending a c f h
+told_last drawn why ending a b c f g h first_kept second_kept first last =
+    (first.0, (first.1.0, told_more first.0 (sentence_since why ending) a b c f g h first_kept second_kept first.1.1 last))

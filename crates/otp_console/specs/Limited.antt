@@ -7,8 +7,8 @@ use Rattle.otp_folds.specs.Told.{Tells}
 use Rattle.otp_folds.specs.declared.alike.Grain.{Grain}
 use Rattle.otp_folds.specs.declared.pick.Pick.{Pick}
 use Rattle.otp_folds.specs.declared.pick.Pick.TheVariants as pick
-use Rattle.otp_try.specs.declared.trial.Halt.{Halt}
-use Rattle.otp_try.specs.declared.trial.Halt.TheVariants as halt
+use Rattle.otp_trial.specs.declared.trial.Halt.{Halt}
+use Rattle.otp_trial.specs.declared.trial.Halt.TheVariants as halt
 use Rattle.otp_console.specs.declared.ending.ProgramEnd.{ProgramEnd}
 use Rattle.otp_console.specs.declared.ending.ProgramEnd.TheVariants.{HistoryFull, OutOfMemory}
 

@@ -1,5 +1,5 @@
 -- What the program did to its input, its output and the standard error, by how it ended (own).
-use Rattle.std.specs.Prelude.{◌≡◌, ◌⊎◌, ℕ, ◌<◌, ◌≤◌, length, Bool, true, false, List, [], ◌∷◌, ◌++◌, Option, Some, None, option_map, Ok, Err}
+use Rattle.std.specs.Prelude.{◌≡◌, ◌⊎◌, ◌||◌, ℕ, ◌<◌, ◌≤◌, length, Bool, true, false, List, [], ◌∷◌, ◌++◌, Option, Some, None, option_map, Ok, Err}
 use Rattle.std.specs.Io.KnownBytes.{Appends}
 use Rattle.otp_file.specs.declared.fault.TreeFault.{TreeFault}
 use Rattle.otp_file.specs.declared.fault.TreeFault.TheVariants.{NotToml}
@@ -10,19 +10,25 @@ use Rattle.otp_sim.specs.declared.engine.SimEnd.TheVariants as sim
 use Rattle.otp_sim.specs.Runs.{Devices, Writes}
 use Rattle.otp_sim.specs.Sim.{opened}
 use Rattle.otp_check.specs.Checks.{IsFirstFault}
+use Rattle.otp_try.specs.Pages.{Tries}
+use Rattle.otp_try.specs.declared.play.TryEnd.{TryEnd}
+use Rattle.otp_try.specs.declared.play.TryEnd.TheVariants as trial
+use Rattle.otp_jobs.specs.declared.plan.PlanFault.{PlanFault}
+use Rattle.otp_starts.specs.Unfit.{HasStarts, IsRunnable}
 use Rattle.otp_console.specs.Devices.{HasTree, IsUnread, Written, writer_of}
 use Rattle.otp_folds.specs.declared.alike.Grain.{Grain}
 use Rattle.otp_folds.specs.declared.pick.Pick.{Pick}
 use Rattle.otp_console.specs.Limited.{HasLimits, HasNone, IsNameOf}
 use Rattle.otp_console.specs.Running.{IsTreeRun}
-use Rattle.otp_console.specs.Statuses.{status_of, sentence_of}
+use Rattle.otp_console.specs.Statuses.{status_of, sentence_since}
+use Rattle.otp_console.specs.declared.ending.Unwritten.{Unwritten}
 use Rattle.otp_console.specs.declared.ending.ProgramEnd.{ProgramEnd}
-use Rattle.otp_console.specs.declared.ending.ProgramEnd.TheVariants.{Done, WordsRefused, NoCommand, WordNotText, FileAsCommand, TreeNotRead, FileNotRead, TreeRefused, NoTree, UnknownStart, NotFound, WrongBody, CloseMismatch, CloseMissing, FaultsFound, LineRefused, ScriptRefused, ScriptMissed, HistoryFull, InputFailed, OutputFailed, OutOfMemory}
+use Rattle.otp_console.specs.declared.ending.ProgramEnd.TheVariants.{Done, WordsRefused, NoCommand, WordNotText, FileAsCommand, TreeNotRead, FileNotRead, TreeRefused, NoTree, UnknownStart, NotFound, WrongBody, CloseMismatch, CloseMissing, FaultsFound, LineRefused, ScriptRefused, ScriptMissed, HistoryFull, InputFailed, OutputFailed, OutOfMemory, ExpectationFailed, UnknownClock, NotFinished}
 use Rattle.otp_console.specs.declared.files.TheConstants.{LARGEST_TREE}
-use Rattle.otp_console.specs.declared.words.Command.{Command}
-use Rattle.otp_console.specs.declared.words.Command.TheVariants as command
-use Rattle.otp_console.specs.declared.words.Usage.{Usage}
-use Rattle.otp_console.specs.declared.words.Usage.TheVariants as usage
+use Rattle.otp_words.specs.declared.words.Command.{Command}
+use Rattle.otp_words.specs.declared.words.Command.TheVariants as command
+use Rattle.otp_words.specs.declared.words.Usage.{Usage}
+use Rattle.otp_words.specs.declared.words.Usage.TheVariants as usage
 
 -- the file says a tree, and its supervisor was played to this end
 abbrev pub Played : SimEnd → List ℕ → Devices → Devices → Type 0
@@ -34,6 +40,7 @@ IsRun Done file old new = Played sim.Done file old new
 IsRun WordsRefused file old new = ⊥
 IsRun NoCommand file old new = ⊥
 IsRun WordNotText file old new = ⊥
+IsRun UnknownClock file old new = ⊥
 IsRun FileAsCommand file old new = ⊥
 IsRun TreeNotRead file old new = ⊥
 IsRun FileNotRead file old new = ⊥
@@ -44,10 +51,12 @@ IsRun (NotFound name) file old new = ⊥
 IsRun WrongBody file old new = ⊥
 IsRun CloseMismatch file old new = ⊥
 IsRun CloseMissing file old new = ⊥
+IsRun NotFinished file old new = ⊥
 IsRun FaultsFound file old new = ⊥
 IsRun (LineRefused line) file old new = Played (sim.LineRefused line) file old new
 IsRun (ScriptRefused line why) file old new = ⊥
 IsRun (ScriptMissed line why) file old new = ⊥
+IsRun (ExpectationFailed line) file old new = ⊥
 IsRun HistoryFull file old new = Played sim.HistoryFull file old new
 IsRun InputFailed file old new = Played sim.InputFailed file old new
 IsRun OutputFailed file old new = Played sim.OutputFailed file old new
@@ -65,6 +74,7 @@ Answers Done old new = IsUnread old new × (text : List ℕ) × Appends old.writ
 Answers WordsRefused old new = new ≡ old
 Answers NoCommand old new = new ≡ old
 Answers WordNotText old new = new ≡ old
+Answers UnknownClock old new = new ≡ old
 Answers FileAsCommand old new = new ≡ old
 Answers OutputFailed old new = IsUnread old new × (old.write_failures < new.write_failures)
 Answers OutOfMemory old new = new ≡ old
@@ -74,17 +84,23 @@ Answers _ old new = ⊥
 abbrev pub IsSmall : List ℕ → Type 0
 IsSmall file = length file ≤ LARGEST_TREE
 
+-- the file says a tree, and what was written is a run of its supervisors that ended so: all their orders, or their ends alone
+abbrev pub WasTried : TryEnd → List ℕ → Devices → Devices → Type 0
+WasTried end file old new =
+    (tree : Tree) × (Says file (Ok tree) × ((tells : Bool) × Tries end tree tells old.written new.written))
+
 -- the tree of the file of this name was tried by the lines of a script; want of memory may end it before, and says nothing of
 -- the file
 abbrev pub IsTrial : List ℕ → ProgramEnd → List ℕ → Devices → Devices → Type 0
-IsTrial name Done file old new = HasTree file
+IsTrial name Done file old new = WasTried trial.Done file old new
 IsTrial name (NoTree why named) file old new = (new ≡ old) × ((named.now ≡ name) × IsFirstFault why file)
-IsTrial name (ScriptRefused line why) file old new = HasTree file
-IsTrial name (ScriptMissed line why) file old new = HasTree file
-IsTrial name HistoryFull file old new = HasTree file
-IsTrial name InputFailed file old new = HasTree file
-IsTrial name OutputFailed file old new = HasTree file
-IsTrial name OutOfMemory file old new = (new ≡ old) ⊎ HasTree file
+IsTrial name (ScriptRefused line why) file old new = WasTried (trial.LineRefused line why) file old new
+IsTrial name (ScriptMissed line why) file old new = WasTried (trial.LineMissed line why) file old new
+IsTrial name (ExpectationFailed line) file old new = WasTried (trial.ExpectationFailed line) file old new
+IsTrial name HistoryFull file old new = WasTried trial.HistoryFull file old new
+IsTrial name InputFailed file old new = WasTried trial.InputFailed file old new
+IsTrial name OutputFailed file old new = WasTried trial.OutputFailed file old new
+IsTrial name OutOfMemory file old new = (new ≡ old) ⊎ WasTried trial.OutOfMemory file old new
 IsTrial name _ file old new = ⊥
 
 -- a text was written, and so it ends well; or the writer failed
@@ -119,7 +135,7 @@ IsTrialOf name (Some script) ending file old new =
 
 -- the tree file of this name was used so
 abbrev pub IsUsed : List ℕ → Usage → ProgramEnd → List ℕ → Devices → Devices → Type 0
-IsUsed name (usage.Try script writer is_drawn) ending file old new = IsTrialOf name (option_map (λ script. script.now) script) ending file old new
+IsUsed name (usage.Try script writer is_drawn is_quiet clock width) ending file old new = IsTrialOf name (option_map (λ script. script.now) script) ending file old new
 IsUsed name usage.Draw ending file old new = IsUnread old new × IsDrawn name ending file (writer_of old) (writer_of new)
 IsUsed name (usage.Limit pick grain) ending file old new = IsUnread old new × IsLimited grain pick name ending file (writer_of old) (writer_of new)
 
@@ -129,24 +145,35 @@ Uses Holds name usage ending old new =
     ((ending ≡ FileNotRead) × (new ≡ old)) ⊎ ((ending ≡ OutOfMemory) × (new ≡ old))
     ⊎ ((file : List ℕ) × ((Holds name file × IsSmall file) × IsUsed name usage ending file old new))
 
--- a file was checked: nothing is written to be wrong in it exactly where it says a tree
-abbrev pub IsChecked : ProgramEnd → List ℕ → Written → Written → Type 0
-IsChecked Done file old new = HasTree file
-IsChecked FaultsFound file old new = (why : TreeFault) × IsFirstFault why file
-IsChecked OutputFailed file old new = old.failures < new.failures
-IsChecked OutOfMemory file old new = new ≡ old
-IsChecked _ file old new = ⊥
+-- the file says a tree; and where its starts are checked too, it can be run
+abbrev pub IsLawfulFor : Bool → List ℕ → Type 0
+IsLawfulFor false file = HasTree file
+IsLawfulFor true file = IsRunnable file
 
--- the check of a file whose bytes are known to be so: it can't be read, or it was checked
-abbrev pub Checks : (List ℕ → Type 0) → ProgramEnd → Written → Written → Type 0
-Checks Holds ending old new =
-    ((ending ≡ FileNotRead) × (new ≡ old)) ⊎ ((ending ≡ OutOfMemory) × (new ≡ old))
-    ⊎ ((file : List ℕ) × ((Holds file × IsSmall file) × IsChecked ending file old new))
+-- the file says no tree, or one that can't be run for its starts
+abbrev pub HasFaults : List ℕ → Type 0
+HasFaults file = ((why : TreeFault) × IsFirstFault why file) ⊎ ((why : PlanFault) × HasStarts file why)
+
+-- a file was checked, with its starts or without: nothing is written to be wrong in it exactly where it says a tree (which
+-- can be run)
+abbrev pub IsChecked : Bool → ProgramEnd → List ℕ → Written → Written → Type 0
+IsChecked starts Done file old new = IsLawfulFor starts file
+IsChecked starts FaultsFound file old new = HasFaults file
+IsChecked starts OutputFailed file old new = old.failures < new.failures
+IsChecked starts OutOfMemory file old new = new ≡ old
+IsChecked starts _ file old new = ⊥
+
+-- the check of a file whose bytes are known to be so: it can't be read, which is written, or it was checked
+abbrev pub Checks : Bool → (List ℕ → Type 0) → ProgramEnd → Written → Written → Type 0
+Checks starts Holds ending old new =
+    IsWritten ending FileNotRead old.failures new.failures ⊎ ((ending ≡ OutOfMemory) × (new ≡ old))
+    ⊎ ((file : List ℕ) × ((Holds file × IsSmall file) × IsChecked starts ending file old new))
 
 -- whether the next file is checked after a check that ended so
 abbrev pub goes_on : ProgramEnd → Bool
 goes_on Done = true
 goes_on FaultsFound = true
+goes_on FileNotRead = true
 goes_on _ = false
 
 -- how two checks end, one after the other: faults in one are faults of both
@@ -155,21 +182,21 @@ worse first Done = first
 worse first rest = rest
 
 -- these files were checked, one after the other, and after each the next could be; before them it was to end so
-abbrev pub ChecksEach : {T : Type 0} → (T → List ℕ → Type 0) → List T → ProgramEnd → ProgramEnd → Written → Written → Type 0
-ChecksEach Holds [] so_far ending old new = (ending ≡ so_far) × (new ≡ old)
-ChecksEach Holds (name ∷ names) so_far ending old new =
-    (next : ProgramEnd) × (mid : Written) × (goes_on next ≡ true) × Checks (Holds name) next old mid
-    × ChecksEach Holds names (worse so_far next) ending mid new
+abbrev pub ChecksEach : {T : Type 0} → Bool → (T → List ℕ → Type 0) → List T → ProgramEnd → ProgramEnd → Written → Written → Type 0
+ChecksEach starts Holds [] so_far ending old new = (ending ≡ so_far) × (new ≡ old)
+ChecksEach starts Holds (name ∷ names) so_far ending old new =
+    (next : ProgramEnd) × (mid : Written) × (goes_on next ≡ true) × Checks starts (Holds name) next old mid
+    × ChecksEach starts Holds names (worse so_far next) ending mid new
 
 -- the first of these files were checked so, and the check of the next one ended it
-abbrev pub ChecksFirst : {T : Type 0} → (T → List ℕ → Type 0) → List T → ProgramEnd → Written → Written → Type 0
-ChecksFirst {T} Holds names ending old new =
+abbrev pub ChecksFirst : {T : Type 0} → Bool → (T → List ℕ → Type 0) → List T → ProgramEnd → Written → Written → Type 0
+ChecksFirst {T} starts Holds names ending old new =
     (first : List T) × (name : T) × (others : List T) × (so_far : ProgramEnd) × (mid : Written)
-    × (names ≡ first ++ name ∷ others) × ChecksEach Holds first Done so_far old mid × (goes_on ending ≡ false) × Checks (Holds name) ending mid new
+    × (names ≡ first ++ name ∷ others) × ChecksEach starts Holds first Done so_far old mid × (goes_on ending ≡ false) × Checks starts (Holds name) ending mid new
 
 -- these files were checked, or the first of them up to one whose check ended it
-abbrev pub ChecksAll : {T : Type 0} → (T → List ℕ → Type 0) → List T → ProgramEnd → Written → Written → Type 0
-ChecksAll Holds names ending old new = ChecksEach Holds names Done ending old new ⊎ ChecksFirst Holds names ending old new
+abbrev pub ChecksAll : {T : Type 0} → Bool → (T → List ℕ → Type 0) → List T → ProgramEnd → Written → Written → Type 0
+ChecksAll starts Holds names ending old new = ChecksEach starts Holds names Done ending old new ⊎ ChecksFirst starts Holds names ending old new
 
 -- a tree that is to be run can't be read: of a file that isn't told why, of standard input it is
 abbrev pub IsUnreadEnd : ProgramEnd → Type 0
@@ -184,15 +211,15 @@ RunsTree Holds counted ending old new =
 -- what a command asks for was done
 abbrev pub Does : (List ℕ → List ℕ → Type 0) → Command → ProgramEnd → Devices → Devices → Type 0
 Does Holds (command.Sim file) ending old new = Simulates (Holds file.now) ending old new
-Does Holds (command.Check files) ending old new =
-    IsUnread old new × ChecksAll (λ name. Holds name.now) files.items ending (writer_of old) (writer_of new)
-Does Holds (command.Run file settings is_drawn) ending old new =
+Does Holds (command.Check files checking) ending old new =
+    IsUnread old new × ChecksAll checking.has_starts (λ name. Holds name.now) files.items ending (writer_of old) (writer_of new)
+Does Holds (command.Run file settings shows) ending old new =
     IsUnread old new × RunsTree (Holds file.now) settings.counted ending (writer_of old) (writer_of new)
 Does Holds (command.Use file usage) ending old new = Uses Holds file.now usage ending old new
 
--- a picture of the tree that is run is told besides, where the command asks for it
+-- a picture of the tree that is run is told besides, or why its supervisors ended, where the command asks for it
 abbrev pub draws : Command → Bool
-draws (command.Run file settings is_drawn) = is_drawn
+draws (command.Run file settings shows) = shows.is_drawn || shows.is_why
 draws _ = false
 
 -- what the words ask for was done, for some command, with a picture or without; or the words alone were answered
@@ -204,11 +231,16 @@ Obeys Holds drawn ending old new =
 abbrev pub IsTold : List ℕ → Option (List ℕ) → Option (List ℕ) → ℕ → ℕ → Type 0
 IsTold text before now failures_before failures_now = (failures_before < failures_now) ⊎ Appends before now text
 
--- what is told before the program ends: why `clap` refuses the words, why a file can't be read, and a picture of a tree that
--- was run, where one is wanted
+-- what is told before the program ends: why `clap` refuses the words, why a file can't be read, which command explains why a
+-- tree is refused, which starts are unfit, what a run awaits that isn't finished, and where it is wanted a picture of a tree
+-- that was run, or why its supervisors ended
 abbrev pub is_told_first : Bool → ProgramEnd → Bool
 is_told_first drawn WordsRefused = true
 is_told_first drawn FileNotRead = true
+is_told_first drawn (TreeRefused _) = true
+is_told_first drawn (UnknownStart _) = true
+is_told_first drawn WrongBody = true
+is_told_first drawn NotFinished = true
 is_told_first drawn Done = drawn
 is_told_first drawn _ = false
 
@@ -224,16 +256,17 @@ pub record IsObeyed (Holds : List ℕ → List ℕ → Type 0) (ending : Program
   pub done : Obeys Holds drawn ending old new
   pub first : TellsFirst drawn ending before now failures_before failures_now
 
--- and with it the sentence of the ending
-abbrev pub Tells : Bool → ProgramEnd → Option (List ℕ) → Option (List ℕ) → ℕ → ℕ → Type 0
-Tells drawn ending before now failures_before failures_now =
-    (text : List ℕ) × ((is_told_first drawn ending ≡ false → text ≡ []) × IsTold (text ++ sentence_of ending) before now failures_before failures_now)
+-- and with it the sentence of the ending, by why the output last failed
+abbrev pub Tells : Bool → Unwritten → ProgramEnd → Option (List ℕ) → Option (List ℕ) → ℕ → ℕ → Type 0
+Tells drawn why ending before now failures_before failures_now =
+    (text : List ℕ) × ((is_told_first drawn ending ≡ false → text ≡ []) × IsTold (text ++ sentence_since why ending) before now failures_before failures_now)
 
 -- a run of the program: how it ended, its status, what it did to its input and output, and what it told
 pub record IsProgramRun (Holds : List ℕ → List ℕ → Type 0) (status : ℕ) (old new : Devices)
     (before now : Option (List ℕ)) (failures_before failures_now : ℕ) : Type 0 where
   pub ending : ProgramEnd
   pub drawn : Bool
+  pub why : Unwritten
   pub status_is : status ≡ status_of ending
   pub done : Obeys Holds drawn ending old new
-  pub told : Tells drawn ending before now failures_before failures_now
+  pub told : Tells drawn why ending before now failures_before failures_now

@@ -1,5 +1,5 @@
 -- The exit statuses, and what is told of them (own).
-use Rattle.std.specs.Prelude.{◌≡◌, ℕ, List, [], ◌++◌, codes, decimal}
+use Rattle.std.specs.Prelude.{◌≡◌, ◌⊎◌, ℕ, List, [], ◌++◌, codes, decimal}
 use Rattle.std.specs.Borrow.{Bor}
 use Rattle.std.specs.declared.io.ErrorKind.{ErrorKind}
 use Rattle.std.specs.declared.io.ErrorKind.TheVariants as system
@@ -11,18 +11,23 @@ use Rattle.otp_jobs.specs.declared.run.FileRunFault.TheVariants as run
 use Rattle.otp_reason.specs.Names.{name_bytes}
 use Rattle.otp_sim.specs.declared.engine.SimEnd.{SimEnd}
 use Rattle.otp_sim.specs.declared.engine.SimEnd.TheVariants as sim
-use Rattle.otp_try.specs.Texts.{fault_text, taken_text}
+use Rattle.otp_script.specs.Faults.{fault_text}
+use Rattle.otp_trial.specs.Taken.{taken_text}
 use Rattle.otp_try.specs.declared.play.TryEnd.{TryEnd}
 use Rattle.otp_try.specs.declared.play.TryEnd.TheVariants as trial
+use Rattle.otp_console.specs.declared.ending.Unwritten.{Unwritten}
+use Rattle.otp_console.specs.declared.ending.Unwritten.TheVariants.{Closed, Since}
 use Rattle.otp_console.specs.declared.ending.ProgramEnd.{ProgramEnd}
-use Rattle.otp_console.specs.declared.ending.ProgramEnd.TheVariants.{Done, WordsRefused, NoCommand, WordNotText, FileAsCommand, TreeNotRead, FileNotRead, TreeRefused, NoTree, UnknownStart, NotFound, WrongBody, CloseMismatch, CloseMissing, FaultsFound, LineRefused, ScriptRefused, ScriptMissed, HistoryFull, InputFailed, OutputFailed, OutOfMemory}
+use Rattle.otp_console.specs.declared.ending.ProgramEnd.TheVariants.{Done, WordsRefused, NoCommand, WordNotText, FileAsCommand, TreeNotRead, FileNotRead, TreeRefused, NoTree, UnknownStart, NotFound, WrongBody, CloseMismatch, CloseMissing, FaultsFound, LineRefused, ScriptRefused, ScriptMissed, HistoryFull, InputFailed, OutputFailed, OutOfMemory, UnknownClock, ExpectationFailed, NotFinished}
 
--- 0: done. 1: the tree, or a file. 2: the words. 3: the lines of the input. 4: the machine. 5: a line of a script
+-- 0: done. 1: the tree, or a file. 2: the words. 3: the lines of the input. 4: the machine. 5: a line of a script. 6: what one
+-- expects. 7: a run whose turns ran out
 abbrev pub status_of : ProgramEnd → ℕ
 status_of Done = 0
 status_of WordsRefused = 2
 status_of NoCommand = 2
 status_of WordNotText = 2
+status_of UnknownClock = 2
 status_of FileAsCommand = 2
 status_of TreeNotRead = 1
 status_of FileNotRead = 1
@@ -33,10 +38,12 @@ status_of WrongBody = 1
 status_of (NotFound _) = 2
 status_of CloseMismatch = 4
 status_of CloseMissing = 4
+status_of NotFinished = 7
 status_of FaultsFound = 1
 status_of (LineRefused _) = 3
 status_of (ScriptRefused _ _) = 5
 status_of (ScriptMissed _ _) = 5
+status_of (ExpectationFailed _) = 6
 status_of HistoryFull = 3
 status_of InputFailed = 3
 status_of OutputFailed = 4
@@ -59,12 +66,13 @@ abbrev pub not_found_text : List ℕ → List ℕ
 not_found_text name = codes "error: no child is found by the name " ++ name ++ codes "\n"
 
 -- the line on standard error, its end included: none where all went well, where it was told before why the words
--- are refused or a file can't be read, or where faults were written to the output
+-- are refused, a file can't be read or a run isn't finished, or where faults were written to the output
 abbrev pub sentence_of : ProgramEnd → List ℕ
 sentence_of Done = []
 sentence_of WordsRefused = []
 sentence_of NoCommand = codes "usage: otp COMMAND FILE; otp --help says which commands there are\n"
 sentence_of WordNotText = codes "error: a word is not UTF-8\n"
+sentence_of UnknownClock = codes "error: --clock is milliseconds or seconds\n"
 sentence_of FileAsCommand = codes "error: a file in the place of a command: say otp try FILE, or otp --help\n"
 sentence_of TreeNotRead = codes "tree not read\n"
 sentence_of FileNotRead = []
@@ -75,14 +83,22 @@ sentence_of (NotFound name) = not_found_text name.now
 sentence_of WrongBody = codes "tree refused: E19\n"
 sentence_of CloseMismatch = codes "close refused: E17\n"
 sentence_of CloseMissing = codes "close refused: E20\n"
+sentence_of NotFinished = []
 sentence_of FaultsFound = []
 sentence_of (LineRefused line) = codes "line " ++ decimal line ++ codes " refused\n"
 sentence_of (ScriptRefused line why) = line_text line (fault_text why)
 sentence_of (ScriptMissed line why) = line_text line (taken_text why)
+sentence_of (ExpectationFailed line) = line_text line (codes "it is not so as the script expects")
 sentence_of HistoryFull = codes "history full\n"
 sentence_of InputFailed = codes "input not read\n"
 sentence_of OutputFailed = codes "output not written\n"
 sentence_of OutOfMemory = codes "out of memory\n"
+
+-- the same where it is known why the output last failed: that is told, and nothing where nobody reads it any more
+abbrev pub sentence_since : Unwritten → ProgramEnd → List ℕ
+sentence_since Closed OutputFailed = []
+sentence_since (Since why) OutputFailed = codes "output not written: " ++ why.now ++ codes "\n"
+sentence_since why ending = sentence_of ending
 
 -- how the program ends whose file can't be read: want of memory says nothing of the file
 abbrev pub IsOfFile : ErrorKind → ProgramEnd → Type 0
@@ -102,6 +118,7 @@ abbrev pub ending_of_try : TryEnd → ProgramEnd
 ending_of_try trial.Done = Done
 ending_of_try (trial.LineRefused line why) = ScriptRefused line why
 ending_of_try (trial.LineMissed line why) = ScriptMissed line why
+ending_of_try (trial.ExpectationFailed line) = ExpectationFailed line
 ending_of_try trial.HistoryFull = HistoryFull
 ending_of_try trial.InputFailed = InputFailed
 ending_of_try trial.OutputFailed = OutputFailed
@@ -116,6 +133,10 @@ ending_of_tree why = TreeRefused why
 abbrev pub ending_of_no_tree : TreeFault → Bor (List ℕ) → ProgramEnd
 ending_of_no_tree fault.OutOfMemory name = OutOfMemory
 ending_of_no_tree why name = NoTree why name
+
+-- how a run ends that has left so many processes
+abbrev pub IsEndOfRun : ℕ → ProgramEnd → Type 0
+IsEndOfRun live ending = ((ending ≡ Done) × (live ≡ 0)) ⊎ ((ending ≡ NotFinished) × (¬ (live ≡ 0)))
 
 -- how the program ends that didn't run a tree
 abbrev pub ending_of_run : FileRunFault → ProgramEnd

@@ -1,23 +1,32 @@
 //! `check` and `tree`: what a tree file says, and what is wrong in it.
 
-ghost use Rattle.std.specs.Prelude.{◌≤◌, ◌<◌, OnErr};
+ghost use Rattle.std.specs.Prelude.{◌≡◌, ◌≤◌, ◌<◌, true, OnErr};
 ghost use Rattle.otp_console.specs.Runs.{IsChecked, IsDrawn, IsWritten};
-ghost use Rattle.otp_console.specs.declared.ending.ProgramEnd.TheVariants.{Done, FaultsFound};
+ghost use Rattle.otp_console.specs.declared.ending.ProgramEnd.TheVariants.{Done, FaultsFound, FileNotRead};
 
-use crate::ending::ProgramEnd;
-use otp_check::{Finding, check, draw, says_nothing};
+use crate::ending::{ProgramEnd, write_numbered};
+use crate::files::write_three;
+use crate::objects::{write_fault_object, write_lawful_object, write_unread_object};
+use otp_check::{Remark, check, warning};
 use otp_file::read_tree;
+use otp_picture::draw;
 use otp_sim::{Failed, Output, write_all};
+use otp_starts::find_unfit;
+use otp_words::Checking;
 use std::alloc::Global;
+
+/// How many findings of a file are written where not all are wanted.
+const MOST_WRITTEN: usize = 20;
 
 /// Writes all that is wrong in a file, a line for each fault, that for which its tree is refused first.
 pub fn check_file<'a, W: Output>(
     alloc: Global,
     name: &'a str,
     file: &[u8],
+    checking: Checking,
     output: &mut W,
 ) -> ProgramEnd<'a>
-    ensures { IsChecked result file.now
+    ensures { IsChecked checking.has_starts result file.now
         (record { bytes = W.contents output.old; failures = W.failures output.old })
         (record { bytes = W.contents output.new; failures = W.failures output.new }) }
 {
@@ -25,8 +34,31 @@ pub fn check_file<'a, W: Output>(
         return ProgramEnd::OutOfMemory;
     };
     match findings.as_slice() {
-        [] => write_lawful(alloc, name, file, output),
-        faults => write_faults(name, faults, output),
+        [] if checking.has_starts => check_starts(alloc, name, file, checking, output),
+        [] => write_lawful(alloc, name, file, checking, output),
+        faults => write_faults(name, faults, checking, output),
+    }
+}
+
+/// Writes which starts of a lawful file `run` would refuse.
+fn check_starts<'a, W: Output>(
+    alloc: Global,
+    name: &'a str,
+    file: &[u8],
+    checking: Checking,
+    output: &mut W,
+) -> ProgramEnd<'a>
+    requires starts { checking.has_starts ≡ true }
+    ensures { IsChecked checking.has_starts result file.now
+        (record { bytes = W.contents output.old; failures = W.failures output.old })
+        (record { bytes = W.contents output.new; failures = W.failures output.new }) }
+{
+    let Ok(findings) = find_unfit(alloc, file) else {
+        return ProgramEnd::OutOfMemory;
+    };
+    match findings.as_slice() {
+        [] => write_lawful(alloc, name, file, checking, output),
+        unfit => write_faults(name, unfit, checking, output),
     }
 }
 
@@ -35,53 +67,135 @@ fn write_lawful<'a, W: Output>(
     alloc: Global,
     name: &'a str,
     file: &[u8],
+    checking: Checking,
     output: &mut W,
 ) -> ProgramEnd<'a>
     ensures { IsWritten result Done (W.failures output.old) (W.failures output.new) }
 {
-    let what = if says_nothing(alloc, file) {
-        "warning: nothing stands in it, which is a supervisor with no children"
+    let warning = warning(alloc, file);
+    let written = if checking.is_json {
+        write_lawful_object(name, warning, output)
     } else {
-        "a lawful tree"
+        write_line(
+            name,
+            None,
+            warning.unwrap_or("a lawful tree").as_bytes(),
+            output,
+        )
     };
-    match write_line(name, what.as_bytes(), output) {
+    match written {
         Ok(()) => ProgramEnd::Done,
         Err(Failed) => ProgramEnd::OutputFailed,
     }
 }
 
 /// Writes what is wrong in a file.
-fn write_faults<'a, W: Output>(name: &'a str, faults: &[Finding], output: &mut W) -> ProgramEnd<'a>
+fn write_faults<'a, W: Output, F: Remark>(
+    name: &'a str,
+    faults: &[F],
+    checking: Checking,
+    output: &mut W,
+) -> ProgramEnd<'a>
     ensures { IsWritten result FaultsFound (W.failures output.old) (W.failures output.new) }
 {
-    match write_lines(name, faults, output) {
+    let written = if checking.is_json {
+        write_fault_object(name, faults, output)
+    } else {
+        write_some(name, faults, checking.has_all, output)
+    };
+    match written {
         Ok(()) => ProgramEnd::FaultsFound,
         Err(Failed) => ProgramEnd::OutputFailed,
     }
 }
 
+/// Writes a line for each fault, or for each of the first, and how many are not written.
+fn write_some<W: Output, F: Remark>(
+    name: &str,
+    faults: &[F],
+    has_all: bool,
+    output: &mut W,
+) -> Result<(), Failed>
+    ensures failed { OnErr result (W.failures output.old < W.failures output.new) }
+    ensures kept { W.failures output.old ≤ W.failures output.new }
+{
+    let shown = if has_all {
+        faults
+    } else {
+        faults.get(..MOST_WRITTEN).unwrap_or(faults)
+    };
+    write_lines(name, shown, output)?;
+    let hidden = faults.len().saturating_sub(shown.len());
+    if hidden == 0 {
+        return Ok(());
+    }
+    write_all(output, name.as_bytes())?;
+    write_numbered(
+        output,
+        b": and ",
+        hidden as u64,
+        b" more; --all shows them\n",
+    )
+}
+
 /// Writes a line for each fault.
-fn write_lines<W: Output>(name: &str, faults: &[Finding], output: &mut W) -> Result<(), Failed>
+fn write_lines<W: Output, F: Remark>(name: &str, faults: &[F], output: &mut W) -> Result<(), Failed>
     ensures failed { OnErr result (W.failures output.old < W.failures output.new) }
     ensures kept { W.failures output.old ≤ W.failures output.new }
 {
     for fault in faults {
-        write_line(name, fault.text.as_slice(), output)?;
+        write_line(name, fault.line(), fault.text(), output)?;
     }
     Ok(())
 }
 
-/// Writes a line that begins with a file's name.
-fn write_line<W: Output>(name: &str, text: &[u8], output: &mut W) -> Result<(), Failed>
+/// Writes that a file can't be read, and why.
+pub(crate) fn write_unread<'a, W: Output>(
+    name: &'a str,
+    why: &str,
+    checking: Checking,
+    output: &mut W,
+) -> ProgramEnd<'a>
+    ensures { IsWritten result FileNotRead (W.failures output.old) (W.failures output.new) }
+{
+    let written = if checking.is_json {
+        write_unread_object(name, why, output)
+    } else {
+        write_unread_line(name, why, output)
+    };
+    match written {
+        Ok(()) => ProgramEnd::FileNotRead,
+        Err(Failed) => ProgramEnd::OutputFailed,
+    }
+}
+
+/// Writes the line of a file that can't be read.
+fn write_unread_line<W: Output>(name: &str, why: &str, output: &mut W) -> Result<(), Failed>
     ensures failed { OnErr result (W.failures output.old < W.failures output.new) }
     ensures kept { W.failures output.old ≤ W.failures output.new }
 {
     write_all(output, name.as_bytes())?;
-    write_all(output, b": ")?;
+    write_three(output, b": can't be read: ", why.as_bytes(), b"\n")
+}
+
+/// Writes a line that begins with a file's name, and the number of its line, if that is known.
+fn write_line<W: Output>(
+    name: &str,
+    line: Option<u64>,
+    text: &[u8],
+    output: &mut W,
+) -> Result<(), Failed>
+    ensures failed { OnErr result (W.failures output.old < W.failures output.new) }
+    ensures kept { W.failures output.old ≤ W.failures output.new }
+{
+    write_all(output, name.as_bytes())?;
+    match line {
+        Some(line) => write_numbered(output, b":", line, b": ")?,
+        None => write_all(output, b": ")?,
+    }
     write_all(output, text)?;
     write_all(output, b"\n")
 }
-
 /// Draws the tree that a file says.
 pub fn draw_file<'a, W: Output>(
     alloc: Global,

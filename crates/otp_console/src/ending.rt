@@ -4,7 +4,7 @@ ghost use Rattle.std.specs.Prelude.{◌≡◌, ◌⊎◌, ◌≤◌, ◌<◌, �
 ghost use Rattle.std.specs.IoError.{error_kind};
 ghost use Rattle.std.specs.Io.KnownBytes.{Appends};
 ghost use Rattle.otp_console.specs.Runs.{IsTold, goes_on, worse};
-ghost use Rattle.otp_console.specs.Statuses.{IsOfFile, line_text, no_tree_text, not_found_text, sentence_of, status_of};
+ghost use Rattle.otp_console.specs.Statuses.{IsOfFile, line_text, no_tree_text, not_found_text, sentence_of, status_of, sentence_since};
 ghost use Rattle.otp_console.specs.declared.ending.ProgramEnd.TheVariants.{OutOfMemory, TreeNotRead};
 
 use crate::files::write_three;
@@ -27,6 +27,8 @@ pub enum ProgramEnd<'a> {
     NoCommand,
     /// A word is no UTF-8 text.
     WordNotText,
+    /// The clock is none that a trial is played by.
+    UnknownClock,
     /// The words are a file's name, where a command is wanted.
     FileAsCommand,
     /// The tree file of `sim` can't be read.
@@ -47,6 +49,8 @@ pub enum ProgramEnd<'a> {
     CloseMismatch,
     /// E20: a part of a tree that ran is missing at its close.
     CloseMissing,
+    /// The turns of a run ran out before its tree had ended; its report was written, and it was told what is awaited.
+    NotFinished,
     /// `check` found faults, and has written them.
     FaultsFound,
     /// The line with this number, from 1, has no form that is read.
@@ -55,6 +59,8 @@ pub enum ProgramEnd<'a> {
     ScriptRefused(u64, ScriptFault),
     /// The line of a script with this number could do nothing.
     ScriptMissed(u64, ActionEnd),
+    /// A script was played, and what the line with this number expected was not so, the first of such lines.
+    ExpectationFailed(u64),
     /// There were 2^62 events, as many as a supervisor has in its life.
     HistoryFull,
     InputFailed,
@@ -74,11 +80,13 @@ impl<'a> ProgramEnd<'a> {
             ProgramEnd::UnknownStart(_) | ProgramEnd::WrongBody => 1,
             ProgramEnd::FileNotRead | ProgramEnd::FaultsFound => 1,
             ProgramEnd::WordsRefused | ProgramEnd::NoCommand | ProgramEnd::WordNotText => 2,
-            ProgramEnd::FileAsCommand | ProgramEnd::NotFound(_) => 2,
+            ProgramEnd::FileAsCommand | ProgramEnd::NotFound(_) | ProgramEnd::UnknownClock => 2,
             ProgramEnd::LineRefused(_) | ProgramEnd::HistoryFull | ProgramEnd::InputFailed => 3,
             ProgramEnd::OutputFailed | ProgramEnd::OutOfMemory => 4,
             ProgramEnd::CloseMismatch | ProgramEnd::CloseMissing => 4,
             ProgramEnd::ScriptRefused(..) | ProgramEnd::ScriptMissed(..) => 5,
+            ProgramEnd::ExpectationFailed(_) => 6,
+            ProgramEnd::NotFinished => 7,
         }
     }
 
@@ -86,7 +94,10 @@ impl<'a> ProgramEnd<'a> {
     pub(crate) fn goes_on(&self) -> bool
         ensures { result ≡ goes_on self.now }
     {
-        matches!(self, ProgramEnd::Done | ProgramEnd::FaultsFound)
+        matches!(
+            self,
+            ProgramEnd::Done | ProgramEnd::FaultsFound | ProgramEnd::FileNotRead
+        )
     }
 
     /// How two checks end, one after the other.
@@ -111,15 +122,45 @@ impl<'a> ProgramEnd<'a> {
     }
 }
 
+/// Why the output last failed, where the system tells.
+#[derive(Clone, Copy, Debug, PartialEq, Eq)]
+pub enum Unwritten {
+    /// Nobody reads it any more.
+    Closed,
+    /// This, in words.
+    Since(&'static str),
+    Unknown,
+}
+
 /// Tells on standard error how the program ends, if not well, and gives the exit status.
-pub fn tell<E: Output>(errors: &mut E, ending: ProgramEnd<'_>) -> u8
+pub fn tell<E: Output>(errors: &mut E, ending: ProgramEnd<'_>, why: Unwritten) -> u8
     ensures status { result ≡ status_of ending.entry }
-    ensures told { IsTold (sentence_of ending.entry) (E.contents errors.old) (E.contents errors.new) (E.failures errors.old) (E.failures errors.new) }
+    ensures told { IsTold (sentence_since why ending.entry) (E.contents errors.old) (E.contents errors.new) (E.failures errors.old) (E.failures errors.new) }
     ensures kept { E.failures errors.old ≤ E.failures errors.new }
 {
     // Where nothing can be told, the status alone says it.
-    let _told = write_sentence(errors, ending);
+    let _told = write_ending(errors, ending, why);
     ending.status()
+}
+
+/// Writes the line that tells of the ending, if there is one: where the output failed, with the reason, and none where nobody
+/// reads it any more.
+fn write_ending<E: Output>(
+    errors: &mut E,
+    ending: ProgramEnd<'_>,
+    why: Unwritten,
+) -> Result<(), Failed>
+    ensures ok { OnOk result (Appends (E.contents errors.old) (E.contents errors.new) (sentence_since why ending.entry)) }
+    ensures kept { E.failures errors.old ≤ E.failures errors.new }
+    ensures failed { OnErr result (E.failures errors.old < E.failures errors.new) }
+{
+    match (ending, why) {
+        (ProgramEnd::OutputFailed, Unwritten::Closed) => Ok(()),
+        (ProgramEnd::OutputFailed, Unwritten::Since(why)) => {
+            write_three(errors, b"output not written: ", why.as_bytes(), b"\n")
+        }
+        _ => write_sentence(errors, ending),
+    }
 }
 
 /// Writes the line that tells of the ending, if there is one.
@@ -130,12 +171,16 @@ fn write_sentence<E: Output>(errors: &mut E, ending: ProgramEnd<'_>) -> Result<(
 {
     match ending {
         ProgramEnd::Done | ProgramEnd::WordsRefused => Ok(()),
-        ProgramEnd::FileNotRead | ProgramEnd::FaultsFound => Ok(()),
+        ProgramEnd::FileNotRead | ProgramEnd::FaultsFound | ProgramEnd::NotFinished => Ok(()),
         ProgramEnd::NoCommand => write_all(
             errors,
             b"usage: otp COMMAND FILE; otp --help says which commands there are\n",
         ),
         ProgramEnd::WordNotText => write_all(errors, b"error: a word is not UTF-8\n"),
+        ProgramEnd::UnknownClock => write_all(
+            errors,
+            b"error: --clock is milliseconds or seconds\n",
+        ),
         ProgramEnd::FileAsCommand => write_all(
             errors,
             b"error: a file in the place of a command: say otp try FILE, or otp --help\n",
@@ -155,6 +200,9 @@ fn write_sentence<E: Output>(errors: &mut E, ending: ProgramEnd<'_>) -> Result<(
         ProgramEnd::LineRefused(line) => write_numbered(errors, b"line ", line, b" refused\n"),
         ProgramEnd::ScriptRefused(line, fault) => write_line_fault(errors, line, fault.text()),
         ProgramEnd::ScriptMissed(line, taken) => write_line_fault(errors, line, taken.text()),
+        ProgramEnd::ExpectationFailed(line) => {
+            write_line_fault(errors, line, "it is not so as the script expects")
+        }
         ProgramEnd::HistoryFull => write_all(errors, b"history full\n"),
         ProgramEnd::InputFailed => write_all(errors, b"input not read\n"),
         ProgramEnd::OutputFailed => write_all(errors, b"output not written\n"),
@@ -222,7 +270,7 @@ fn write_named<E: Output>(
 }
 
 /// Writes a number between two texts. It takes no memory, which may be what is wanting.
-fn write_numbered<E: Output>(
+pub(crate) fn write_numbered<E: Output>(
     errors: &mut E,
     front: &[u8],
     number: u64,

@@ -7,7 +7,7 @@ ghost use Rattle.otp_console.specs.Statuses.{not_read_text};
 ghost use Rattle.otp_console.specs.declared.files.TheConstants.{LARGEST_TREE};
 ghost use Rattle.otp_console.specs.declared.ending.ProgramEnd.TheVariants.{FileNotRead, OutOfMemory};
 
-use crate::ending::ProgramEnd;
+use crate::ending::{ProgramEnd, Unwritten};
 use otp_sim::{Failed, Output, write_all};
 use std::io;
 use std::io::ErrorKind;
@@ -41,6 +41,9 @@ pub trait TreeFiles {
 
     /// Whether what is written to standard output may have colours.
     fn has_colours(&self) -> bool;
+
+    /// Why a write to standard output last failed, where that is known.
+    fn unwritten(&self) -> Unwritten;
 }
 
 /// The bytes of the file of this name; `-` is standard input.
@@ -102,14 +105,45 @@ pub(crate) fn read_tree_file<'a, F: TreeFiles, E: Output>(
     ensures first { IfErr result (λ ending. (drawn : Bool) → TellsFirst drawn ending (E.contents errors.old) (E.contents errors.new) (E.failures errors.old) (E.failures errors.new)) }
     ensures kept { E.failures errors.old ≤ E.failures errors.new }
 {
+    match read_small(files, name) {
+        Ok(file) => Ok(file),
+        Err(Unread::OutOfMemory) => Err(ProgramEnd::OutOfMemory),
+        Err(Unread::Since(why)) => Err(tell_not_read(errors, name, why)),
+    }
+}
+
+/// Why a file can't be read.
+#[derive(Clone, Copy)]
+pub(crate) enum Unread {
+    OutOfMemory,
+    Since(&'static str),
+}
+
+/// The bytes of a tree file, of which there are at most [`LARGEST_TREE`].
+///
+/// # Errors
+///
+/// Why it can't be read, or that it is larger.
+pub(crate) fn read_small<F: TreeFiles>(files: &F, name: &str) -> Result<Vec<u8>, Unread>
+    ensures holds { IfOk result (λ file. F.holds files.now name.now file.items) }
+    ensures small { IfOk result (λ file. vec_len file ≤ LARGEST_TREE) }
+{
     let file = match read_tree_named(files, name) {
         Ok(file) => file,
-        Err(error) => return Err(tell_error(errors, name, &error)),
+        Err(error) => return Err(why_unread(error.kind())),
     };
     if file.len() > LARGEST_TREE {
-        return Err(tell_not_read(errors, name, TOO_LARGE));
+        return Err(Unread::Since(TOO_LARGE));
     }
     Ok(file)
+}
+
+/// Why a file can't be read, by the kind of the error.
+fn why_unread(kind: ErrorKind) -> Unread {
+    match kind {
+        ErrorKind::OutOfMemory => Unread::OutOfMemory,
+        kind => Unread::Since(why(kind)),
+    }
 }
 
 /// The bytes of a tree file that is run. Standard input, which is the file `-`, is read as by [`read_tree_file`], since no

@@ -4,18 +4,12 @@
 #![tactic(auto)]
 
 pub mod checking;
-mod commands;
 pub mod console;
 pub mod ending;
 pub mod files;
-mod host;
 pub mod limiting;
+mod objects;
 pub mod program;
 pub mod running;
-mod screen;
 mod standing;
-mod stopwatch;
 pub mod trying;
-pub mod words;
-
-pub use host::otp;

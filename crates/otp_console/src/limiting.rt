@@ -11,7 +11,7 @@ use crate::ending::ProgramEnd;
 use otp_file::read_tree;
 use otp_folds::{Grain, Pick, write_limits};
 use otp_sim::{Failed, Output, write_all};
-use otp_try::Halt;
+use otp_trial::Halt;
 use std::alloc::Global;
 
 /// Reads the tree of a file, plays crashes of those children that are asked for, and writes what they cost.

@@ -1,24 +1,24 @@
 //! The program but for the system under it: what it does for which words, and what it tells on which stream.
 
-ghost use Rattle.std.specs.Prelude.{ℕ, List, Option, ◌≡◌, ◌≤◌, ◌⊎◌, IfErr, IfOk, OnOk, option_map, true, false};
-ghost use Rattle.otp_console.specs.Runs.{Answers, Checks, ChecksAll, Does, IsObeyed, IsProgramRun, IsTrial, IsTrialOf, IsUsed, RunsTree, Simulates, TellsFirst, Uses, goes_on, draws};
+ghost use Rattle.std.specs.Prelude.{ℕ, List, Option, ◌≡◌, ◌≤◌, ◌⊎◌, ◌||◌, IfErr, IfOk, OnOk, option_map, true, false};
+ghost use Rattle.otp_console.specs.Runs.{Answers, Checks, ChecksAll, Does, IsObeyed, IsProgramRun, IsTrial, IsTrialOf, IsUsed, RunsTree, Simulates, TellsFirst, Uses, draws};
 ghost use Rattle.otp_console.specs.declared.ending.ProgramEnd.TheVariants as end;
 ghost use Rattle.otp_console.specs.Words.{EndsFor};
-ghost use Rattle.otp_console.specs.declared.words.WordsFault.TheVariants.{Clap};
+ghost use Rattle.otp_words.specs.declared.words.WordsFault.TheVariants.{Clap};
 
-use crate::checking::{check_file, draw_file};
+use crate::checking::{check_file, draw_file, write_unread};
 use crate::console::console;
 use crate::ending::{ProgramEnd, tell};
-use crate::files::{TreeFiles, read_file, read_run_file, read_tree_file};
+use crate::files::{TreeFiles, Unread, read_file, read_run_file, read_small, read_tree_file};
 use crate::limiting::limit_file;
-use crate::running::{Pool, run_file};
+use crate::running::{Pool, explain, run_file};
 use crate::trying::try_file;
-use crate::words::{Command, Usage, WordsFault, read_words};
 use clap::Error;
 use otp_jobs::Settings;
 use otp_sim::{Counted, Failed, Input, Output, write_all};
 use otp_tree::Gate;
-use otp_try::{Shows, Writer};
+use otp_try::{Clock, Shows, Writer};
+use otp_words::{Checking, Command, RunShows, Usage, WordsFault, read_words};
 use std::alloc::Global;
 use std::sync::Wait;
 use std::thread::Threads;
@@ -48,7 +48,7 @@ where
         (E.contents errors.old) (E.contents errors.new) (E.failures errors.old) (E.failures errors.new) }
 {
     let ending = obey(pool, alloc, &words, files, input, output, errors);
-    tell(errors, ending)
+    tell(errors, ending, files.unwritten())
 }
 
 /// Does what the words ask for, the program's own name first, or answers them.
@@ -108,37 +108,41 @@ where
     ensures kept { E.failures errors.old ≤ E.failures errors.new }
 {
     match command {
-        Command::Sim { file } => simulate(alloc, files, file, input, output),
-        Command::Check { files: names } => check_all(
-            alloc,
-            files,
-            names.as_slice(),
-            output,
-            errors,
-        ),
+        Command::Sim { file } => simulate(alloc, files, file, input, output, errors),
+        Command::Check {
+            files: names,
+            checking,
+        } => check_all(alloc, files, names.as_slice(), checking, output),
         Command::Run {
             file,
             settings,
-            is_drawn,
-        } => run_named(pool, alloc, files, file, settings, is_drawn, output, errors),
+            shows,
+        } => run_named(pool, alloc, files, file, settings, shows, output, errors),
         Command::Use { file, usage } => use_named(alloc, files, file, usage, input, output, errors),
     }
 }
 
 /// Plays the lines of the input on the supervisor of a file.
-fn simulate<'a, F: TreeFiles, R: Input, W: Output>(
+fn simulate<'a, F: TreeFiles, R: Input, W: Output, E: Output>(
     alloc: Global,
     files: &F,
     name: &'a str,
     input: &mut R,
     output: &mut W,
+    errors: &mut E,
 ) -> ProgramEnd<'a>
-    ensures { Simulates (F.holds files.now name.now) result
+    ensures done { Simulates (F.holds files.now name.now) result
         (record { left = R.remaining input.old; written = W.contents output.old; read_failures = R.failures input.old; write_failures = W.failures output.old })
         (record { left = R.remaining input.new; written = W.contents output.new; read_failures = R.failures input.new; write_failures = W.failures output.new }) }
+    ensures first { TellsFirst false result (E.contents errors.old) (E.contents errors.new) (E.failures errors.old) (E.failures errors.new) }
+    ensures kept { E.failures errors.old ≤ E.failures errors.new }
 {
     match files.read(name) {
-        Ok(file) => console(alloc, &file, input, output),
+        Ok(file) => {
+            let ending = console(alloc, &file, input, output);
+            explain(errors, name, ending);
+            ending
+        }
         Err(error) => ProgramEnd::of_file(&error),
     }
 }
@@ -150,7 +154,7 @@ fn run_named<'a, H, G, F, W, E>(
     files: &F,
     name: &'a str,
     settings: Settings,
-    is_drawn: bool,
+    shows: RunShows,
     output: &mut W,
     errors: &mut E,
 ) -> ProgramEnd<'a>
@@ -163,11 +167,11 @@ where
     ensures done { RunsTree (F.holds files.now name.now) settings.counted result
         (record { bytes = W.contents output.old; failures = W.failures output.old })
         (record { bytes = W.contents output.new; failures = W.failures output.new }) }
-    ensures first { TellsFirst is_drawn result (E.contents errors.old) (E.contents errors.new) (E.failures errors.old) (E.failures errors.new) }
+    ensures first { TellsFirst (shows.is_drawn || shows.is_why) result (E.contents errors.old) (E.contents errors.new) (E.failures errors.old) (E.failures errors.new) }
     ensures kept { E.failures errors.old ≤ E.failures errors.new }
 {
     match read_run_file(files, name, errors) {
-        Ok(file) => run_file(pool, alloc, &file, settings, is_drawn, output, errors),
+        Ok(file) => run_file(pool, alloc, name, &file, settings, shows, output, errors),
         Err(ending) => ending,
     }
 }
@@ -216,6 +220,9 @@ fn use_file<'a, F: TreeFiles, R: Input, W: Output, E: Output>(
             script,
             writer,
             is_drawn,
+            is_quiet,
+            clock,
+            width,
         } => try_by(
             alloc,
             files,
@@ -223,7 +230,8 @@ fn use_file<'a, F: TreeFiles, R: Input, W: Output, E: Output>(
             file,
             script,
             writer,
-            shows_of(files, is_drawn),
+            shows_of(files, is_drawn, is_quiet, width),
+            clock,
             input,
             output,
             errors,
@@ -242,6 +250,7 @@ fn try_by<'a, F: TreeFiles, R: Input, W: Output, E: Output>(
     script: Option<&'a str>,
     writer: Writer,
     shows: Shows,
+    clock: Clock,
     input: &mut R,
     output: &mut W,
     errors: &mut E,
@@ -259,12 +268,13 @@ fn try_by<'a, F: TreeFiles, R: Input, W: Output, E: Output>(
             file,
             writer_at(files, writer),
             shows,
+            clock,
             input,
             output,
         );
     };
     match read_file(files, script, errors) {
-        Ok(lines) => try_lines(alloc, name, file, writer, shows, &lines, output),
+        Ok(lines) => try_lines(alloc, name, file, writer, shows, clock, &lines, output),
         Err(ending) => ending,
     }
 }
@@ -279,11 +289,14 @@ fn writer_at<F: TreeFiles>(files: &F, writer: Writer) -> Writer {
 }
 
 /// What of a trial is written: a picture has colours where they may be.
-fn shows_of<F: TreeFiles>(files: &F, is_drawn: bool) -> Shows {
+fn shows_of<F: TreeFiles>(files: &F, is_drawn: bool, is_quiet: bool, width: u32) -> Shows {
     if is_drawn {
         Shows::Timeline {
             is_coloured: files.has_colours(),
+            width,
         }
+    } else if is_quiet {
+        Shows::Ends
     } else {
         Shows::Orders
     }
@@ -296,6 +309,7 @@ fn try_lines<'a, W: Output>(
     file: &[u8],
     writer: Writer,
     shows: Shows,
+    clock: Clock,
     lines: &[u8],
     output: &mut W,
 ) -> ProgramEnd<'a>
@@ -304,26 +318,24 @@ fn try_lines<'a, W: Output>(
         (record { left = left; written = W.contents output.new; read_failures = failures; write_failures = W.failures output.new }) }
 {
     let mut script = Counted::new(lines);
-    try_file(alloc, name, file, writer, shows, &mut script, output)
+    try_file(alloc, name, file, writer, shows, clock, &mut script, output)
 }
 
-/// Checks files, one after the other, as long as they can be read and it can be written what is wrong in them.
-fn check_all<'a, F: TreeFiles, W: Output, E: Output>(
+/// Checks files, one after the other, as long as it can be written what is wrong in them.
+fn check_all<'a, F: TreeFiles, W: Output>(
     alloc: Global,
     files: &F,
     names: &[&'a str],
+    checking: Checking,
     output: &mut W,
-    errors: &mut E,
 ) -> ProgramEnd<'a>
-    ensures done { ChecksAll (λ name. F.holds files.now name.now) names.now result
+    ensures { ChecksAll checking.has_starts (λ name. F.holds files.now name.now) names.now result
         (record { bytes = W.contents output.old; failures = W.failures output.old })
         (record { bytes = W.contents output.new; failures = W.failures output.new }) }
-    ensures first { TellsFirst false result (E.contents errors.old) (E.contents errors.new) (E.failures errors.old) (E.failures errors.new) }
-    ensures kept { E.failures errors.old ≤ E.failures errors.new }
 {
     let mut ending = ProgramEnd::Done;
     for name in names {
-        let next = check_named(alloc, files, name, output, errors);
+        let next = check_named(alloc, files, name, checking, output);
         if !next.goes_on() {
             return next;
         }
@@ -333,23 +345,21 @@ fn check_all<'a, F: TreeFiles, W: Output, E: Output>(
 }
 
 /// Checks a file.
-fn check_named<'a, F: TreeFiles, W: Output, E: Output>(
+fn check_named<'a, F: TreeFiles, W: Output>(
     alloc: Global,
     files: &F,
     name: &'a str,
+    checking: Checking,
     output: &mut W,
-    errors: &mut E,
 ) -> ProgramEnd<'a>
-    ensures done { Checks (F.holds files.now name.now) result
+    ensures { Checks checking.has_starts (F.holds files.now name.now) result
         (record { bytes = W.contents output.old; failures = W.failures output.old })
         (record { bytes = W.contents output.new; failures = W.failures output.new }) }
-    ensures silent { goes_on result ≡ true → errors.new ≡ errors.old }
-    ensures first { TellsFirst false result (E.contents errors.old) (E.contents errors.new) (E.failures errors.old) (E.failures errors.new) }
-    ensures kept { E.failures errors.old ≤ E.failures errors.new }
 {
-    match read_tree_file(files, name, errors) {
-        Ok(file) => check_file(alloc, name, &file, output),
-        Err(ending) => ending,
+    match read_small(files, name) {
+        Ok(file) => check_file(alloc, name, &file, checking, output),
+        Err(Unread::OutOfMemory) => ProgramEnd::OutOfMemory,
+        Err(Unread::Since(why)) => write_unread(name, why, checking, output),
     }
 }
 
@@ -371,8 +381,23 @@ fn answer<'a, W: Output, E: Output>(
         WordsFault::Clap(error) => show(alloc, error, output, errors),
         WordsFault::NoCommand => ProgramEnd::NoCommand,
         WordsFault::FileAsCommand => ProgramEnd::FileAsCommand,
+        WordsFault::UnknownClock => ProgramEnd::UnknownClock,
+        WordsFault::Topic(text) => show_text(text, output),
         WordsFault::NotText => ProgramEnd::WordNotText,
         WordsFault::OutOfMemory => ProgramEnd::OutOfMemory,
+    }
+}
+
+/// Writes a text that the words ask for.
+fn show_text<'a, W: Output>(text: &str, output: &mut W) -> ProgramEnd<'a>
+    ensures ending { (result ≡ end.Done) ⊎ (result ≡ end.OutputFailed) }
+    ensures done { (left : Option (List ℕ)) (failures : ℕ) → Answers result
+        (record { left = left; written = W.contents output.old; read_failures = failures; write_failures = W.failures output.old })
+        (record { left = left; written = W.contents output.new; read_failures = failures; write_failures = W.failures output.new }) }
+{
+    match write_all(output, text.as_bytes()) {
+        Ok(()) => ProgramEnd::Done,
+        Err(Failed) => ProgramEnd::OutputFailed,
     }
 }
 

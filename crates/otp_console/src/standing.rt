@@ -1,9 +1,7 @@
 //! How a tree stood when it was closed, as a picture for people.
 
-ghost use Rattle.std.specs.Prelude.{◌≡◌, [], false, IfOk};
-
-use otp_check::{Caption, draw_with};
-use otp_file::read_tree;
+use otp_file::TreeSpec;
+use otp_picture::{Caption, draw_with};
 use otp_reason::Name;
 use otp_spec::{ChildSpec, SupFlags};
 use otp_table::{Row, RowState};
@@ -99,28 +97,16 @@ fn write_process(does: &[u8], number: u64, out: &mut Vec<u8>) -> Result<(), Allo
     write_number(number, out)
 }
 
-/// The picture of the tree of a file that was run, with what its supervisors came to; nothing where none is wanted.
+/// Appends the picture of a tree that was run, with what its supervisors came to.
 ///
 /// # Errors
 ///
-/// Where memory is refused. What else may be wrong in a file is not wrong in one whose tree was run.
-pub(crate) fn picture_of(
+/// Where memory is refused.
+pub(crate) fn draw_standing(
     alloc: Global,
-    is_wanted: bool,
-    file: &[u8],
+    tree: &TreeSpec,
     tables: &[TableReport],
-) -> Result<Vec<u8>, AllocError>
-    ensures { IfOk result (λ picture. is_wanted ≡ false → picture.items ≡ []) }
-{
-    let mut picture = Vec::new(alloc);
-    if !is_wanted {
-        return Ok(picture);
-    }
-    let Ok(tree) = read_tree(alloc, file) else {
-        return Err(AllocError);
-    };
-    let drawn = draw_with(alloc, &tree, &Standing { tables }, &mut picture);
-    drop(tree);
-    drawn?;
-    Ok(picture)
+    out: &mut Vec<u8>,
+) -> Result<(), AllocError> {
+    draw_with(alloc, tree, &Standing { tables }, out)
 }

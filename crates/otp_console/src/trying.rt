@@ -7,7 +7,7 @@ ghost use Rattle.otp_console.specs.Statuses.{ending_of_try};
 use crate::ending::ProgramEnd;
 use otp_file::read_tree;
 use otp_sim::{Input, Output};
-use otp_try::{Shows, TryEnd, Writer, try_tree};
+use otp_try::{Clock, Shows, TryEnd, Writer, try_tree};
 use std::alloc::Global;
 
 /// Reads the tree of a file, and plays the lines of a script on its supervisor.
@@ -17,6 +17,7 @@ pub fn try_file<'a, R: Input, W: Output>(
     file: &[u8],
     writer: Writer,
     shows: Shows,
+    clock: Clock,
     script: &mut R,
     output: &mut W,
 ) -> ProgramEnd<'a>
@@ -28,7 +29,7 @@ pub fn try_file<'a, R: Input, W: Output>(
         Ok(tree) => tree,
         Err(fault) => return ProgramEnd::of_no_tree(fault, name),
     };
-    ProgramEnd::of_try(try_tree(alloc, tree, writer, shows, script, output))
+    ProgramEnd::of_try(try_tree(alloc, tree, writer, shows, clock, script, output))
 }
 
 impl<'a> ProgramEnd<'a> {
@@ -40,6 +41,7 @@ impl<'a> ProgramEnd<'a> {
             TryEnd::Done => ProgramEnd::Done,
             TryEnd::LineRefused(line, fault) => ProgramEnd::ScriptRefused(line, fault),
             TryEnd::LineMissed(line, taken) => ProgramEnd::ScriptMissed(line, taken),
+            TryEnd::ExpectationFailed(line) => ProgramEnd::ExpectationFailed(line),
             TryEnd::HistoryFull => ProgramEnd::HistoryFull,
             TryEnd::InputFailed => ProgramEnd::InputFailed,
             TryEnd::OutputFailed => ProgramEnd::OutputFailed,

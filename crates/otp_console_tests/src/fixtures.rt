@@ -1,7 +1,7 @@
 //! Input played, and what was written and told of it.
 
 use otp_console::console::console;
-use otp_console::ending::{ProgramEnd, tell};
+use otp_console::ending::{ProgramEnd, Unwritten, tell};
 use otp_sim::Counted;
 use std::alloc::{AllocError, Global};
 use std::fmt::Debug;
@@ -23,7 +23,7 @@ pub(crate) fn holds(rt: &impl Abort, what: &str, holds: bool) {
 /// What is told of an ending, without its end of line, and then its status.
 pub(crate) fn said(alloc: Global, ending: ProgramEnd<'_>) -> Result<String, AllocError> {
     let mut errors = Counted::new(Vec::new(alloc));
-    let status = tell(&mut errors, ending);
+    let status = tell(&mut errors, ending, Unwritten::Unknown);
     let line = errors.into_device();
     let text = line.strip_suffix(b"\n").unwrap_or(&line);
     format!(in alloc; "{} {status}", text.escape_ascii())

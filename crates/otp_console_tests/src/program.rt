@@ -1,13 +1,14 @@
 //! Runs of the whole program, with words and files that are made up: its status, and what it tells on which stream.
 
 use crate::fixtures::{holds, same, with_status};
-use crate::transcripts::{FILES, PLAYED, TRANSCRIPTS};
+use crate::transcripts::{FILES, PLAYED, SHOWN, TRIED};
+use otp_console::ending::Unwritten;
 use otp_console::files::TreeFiles;
 use otp_console::program::run;
 use otp_console::running::Pool;
-use otp_console::words::WordsFault;
 use otp_sim::Counted;
 use otp_tree::Gate;
+use otp_words::WordsFault;
 use std::alloc::{AllocError, Global};
 use std::io;
 use std::io::{Error, ErrorKind, Read, Write};
@@ -54,6 +55,10 @@ impl<'a> TreeFiles for Shelf<'a> {
 
     fn has_colours(&self) -> bool {
         self.has_colours
+    }
+
+    fn unwritten(&self) -> Unwritten {
+        Unwritten::Unknown
     }
 }
 
@@ -108,6 +113,10 @@ impl TreeFiles for Folder {
 
     fn has_colours(&self) -> bool {
         false
+    }
+
+    fn unwritten(&self) -> Unwritten {
+        Unwritten::Unknown
     }
 }
 
@@ -294,7 +303,8 @@ as does docs/FORMATS.md\n\
 0.000 s  1 up, 1/1 restarts in 5 s> ignored: there is no such child; which lists the root's, PATH/ which those below\n\
 0.000 s  1 up, 1/1 restarts in 5 s> 0.000 s  end shutdown: more than 1 restart within 5 s: at 0.000 s, 0.000 s\n\
 0.000 s  the supervisor has ended> ignored: the supervisor has ended; the line of its end says why\n\
-0.000 s  the supervisor has ended> \n0.000 s  the supervisor has ended\nstatus 0\n";
+0.000 s  the supervisor has ended> \n0.000 s  the supervisor has ended\n\
+verdict: the root gave up at 0.000 s, at most 2/1 restarts in 5 s\nstatus 0\n";
     // At a terminal it is so whatever the words say, with the flag also elsewhere; colours are for a picture alone.
     shows_at(
         &rt,
@@ -332,7 +342,8 @@ line 1: ignored: there is no such child; which lists the root's, PATH/ which tho
         "# a tree and a script\n",
         (true, true),
         "stop\n",
-        "0.000 s  ready\n0.000 s  no children, 0/1 restarts in 5 s\nstatus 0\n",
+        "0.000 s  ready\n0.000 s  no children, 0/1 restarts in 5 s\n\
+verdict: the root survived, at most 0/1 restarts in 5 s\nstatus 0\n",
     )
 }
 
@@ -347,8 +358,8 @@ fn last_line_at_a_terminal(rt: HostRuntime) -> Result<(), Fail> {
         (true, false),
         "crash a",
         "0.000 s  start a #1\n0.000 s  ready\nhelp lists what may be written here\n\
-0.000 s  1 up, 0/1 restarts in 5 s> 0.000 s  1 up, 0/1 restarts in 5 s> \n0.000 s  start a #2\n\
-0.000 s  1 up, 1/1 restarts in 5 s\nstatus 0\n",
+0.000 s  1 up, 0/1 restarts in 5 s> \n0.000 s  start a #2\n\
+0.000 s  1 up, 1/1 restarts in 5 s\nverdict: the root survived, at most 1/1 restarts in 5 s\nstatus 0\n",
     )
 }
 
@@ -366,12 +377,13 @@ fn pictures_in_colours(rt: HostRuntime) -> Result<(), Fail> {
         TREE,
         (false, true),
         lines,
-        "#N runs as process N, +#N starts, -#N is to end; retry: its start failed\n\
+        "#N runs as process N, *#N anew; +#N starts, -#N is to end; retry: start failed\n\
+a column is a line of the script, when it was played; N/M: N restarts of M\n\
 line                       start       1       2       3       4\n\
 seconds                    0.000   0.000   0.000   0.000   6.000\n\
-a                             \u{1b}[32m#1\u{1b}[0m      \u{1b}[32m#2\u{1b}[0m      \u{1b}[32m#2\u{1b}[0m     \u{1b}[33m-#2\u{1b}[0m    \u{1b}[31mdown\u{1b}[0m\n\
+a                             \u{1b}[32m#1\u{1b}[0m     \u{1b}[32m*#2\u{1b}[0m      \u{1b}[32m#2\u{1b}[0m     \u{1b}[33m-#2\u{1b}[0m    \u{1b}[31mdown\u{1b}[0m\n\
 restarts in 5 s              0/1     \u{1b}[33m1/1\u{1b}[0m     \u{1b}[33m1/1\u{1b}[0m     \u{1b}[33m1/1\u{1b}[0m     0/1\n\
-6.000 s  1 down, 0/1 restarts in 5 s\nstatus 0\n",
+6.000 s  1 down, 0/1 restarts in 5 s\nverdict: the root survived, at most 1/1 restarts in 5 s\nstatus 0\n",
     )?;
     // Without them the text is the same but for the escapes.
     shows_at(
@@ -381,12 +393,13 @@ restarts in 5 s              0/1     \u{1b}[33m1/1\u{1b}[0m     \u{1b}[33m1/1\u{
         TREE,
         (false, false),
         lines,
-        "#N runs as process N, +#N starts, -#N is to end; retry: its start failed\n\
+        "#N runs as process N, *#N anew; +#N starts, -#N is to end; retry: start failed\n\
+a column is a line of the script, when it was played; N/M: N restarts of M\n\
 line                       start       1       2       3       4\n\
 seconds                    0.000   0.000   0.000   0.000   6.000\n\
-a                             #1      #2      #2     -#2    down\n\
+a                             #1     *#2      #2     -#2    down\n\
 restarts in 5 s              0/1     1/1     1/1     1/1     0/1\n\
-6.000 s  1 down, 0/1 restarts in 5 s\nstatus 0\n",
+6.000 s  1 down, 0/1 restarts in 5 s\nverdict: the root survived, at most 1/1 restarts in 5 s\nstatus 0\n",
     )
 }
 
@@ -401,13 +414,14 @@ fn pictures_at_a_terminal(rt: HostRuntime) -> Result<(), Fail> {
         (true, true),
         "crash a\n",
         "0.000 s  start a #1\n0.000 s  ready\nhelp lists what may be written here\n\
-#N runs as process N, +#N starts, -#N is to end; retry: its start failed\n\
+#N runs as process N, *#N anew; +#N starts, -#N is to end; retry: start failed\n\
+a column is a line of the script, when it was played; N/M: N restarts of M\n\
 0.000 s  1 up, 0/1 restarts in 5 s> 0.000 s  start a #2\n0.000 s  1 up, 1/1 restarts in 5 s> \n\
 line                       start       1\n\
 seconds                    0.000   0.000\n\
-a                             \u{1b}[32m#1\u{1b}[0m      \u{1b}[32m#2\u{1b}[0m\n\
+a                             \u{1b}[32m#1\u{1b}[0m     \u{1b}[32m*#2\u{1b}[0m\n\
 restarts in 5 s              0/1     \u{1b}[33m1/1\u{1b}[0m\n\
-0.000 s  1 up, 1/1 restarts in 5 s\nstatus 0\n",
+0.000 s  1 up, 1/1 restarts in 5 s\nverdict: the root survived, at most 1/1 restarts in 5 s\nstatus 0\n",
     )
 }
 
@@ -424,8 +438,15 @@ fn orders_and_sentences(rt: HostRuntime) -> Result<(), Fail> {
             "line 2 refused\n",
             3,
         ),
-        ("period = 0\n", None, "up 1\n", "", "tree refused: E1\n", 1),
-        ("perod = 1\n", None, "up 1\n", "", "tree refused: E11\n", 1),
+        (
+            "period = 0\n",
+            None,
+            "up 1\n",
+            "",
+            "tip: otp check tree tells why\ntree refused: E1\n",
+            1,
+        ),
+        ("perod = 1\n", None, "up 1\n", "", RUN_REFUSED, 1),
         (
             TREE,
             Some(ErrorKind::NotFound),
@@ -483,7 +504,8 @@ fn checks_and_pictures(rt: HostRuntime) -> Result<(), Fail> {
         (["check", "tree"], TREE, "tree: a lawful tree\n", "", 0u8),
         (["check", "tree"], "perod = 1\n", UNKNOWN_KEY, "", 1),
         (["check", "tree"], "", NOTHING_STANDS, "", 0),
-        (["check", "three"], TREE, "", NO_FILE, 1),
+        (["check", "tree"], ERLANG_MAP, ERLANG_MAP_STANDS, "", 0),
+        (["check", "three"], TREE, UNREAD, "", 1),
         (["check", "-"], TREE, "-: a lawful tree\n", "", 0),
         (["limits", "-"], TREE, LIMITS, "", 0),
         (["tree", "-"], TREE, PICTURE, "", 0),
@@ -499,7 +521,8 @@ fn checks_and_pictures(rt: HostRuntime) -> Result<(), Fail> {
         (["limits", "three"], TREE, "", NO_FILE, 1),
         (["limits", "tree"], "period = 0\n", "", BAD_FLAG, 1),
         (["limits", "-"], "period = 0\n", "", BAD_INPUT, 1),
-        (["run", "tree"], "perod = 1\n", "", "tree refused: E11\n", 1),
+        (["run", "tree"], "perod = 1\n", "", RUN_REFUSED, 1),
+        (["sim", "tree"], "perod = 1\n", "", RUN_REFUSED, 1),
     ];
     for (words, tree, printed, told, status) in rows {
         let [command, name] = words;
@@ -525,10 +548,19 @@ fn events_are_played(rt: HostRuntime) -> Result<(), Fail> {
     Ok(())
 }
 
+/// Those of `try`.
+#[test]
+fn trees_are_tried(rt: HostRuntime) -> Result<(), Fail> {
+    for (line, lines, shown) in TRIED {
+        plays_transcript(&rt, rt.alloc(), line, lines, shown)?;
+    }
+    Ok(())
+}
+
 /// Those of the other commands.
 #[test]
 fn transcripts_are_played(rt: HostRuntime) -> Result<(), Fail> {
-    for (line, lines, shown) in TRANSCRIPTS {
+    for (line, lines, shown) in SHOWN {
         plays_transcript(&rt, rt.alloc(), line, lines, shown)?;
     }
     Ok(())
@@ -561,7 +593,7 @@ fn plays_transcript<H: Abort + Threads + Wait + Sync>(
 }
 
 const UNKNOWN_KEY: &str =
-    "tree: E11: supervisor: unknown key perod; allowed: strategy intensity period auto_shutdown child; did you mean period?\n";
+    "tree:1: E11: supervisor: unknown key perod; allowed: strategy intensity period auto_shutdown child; did you mean period?\n";
 
 const NOTHING_STANDS: &str =
     "tree: warning: nothing stands in it, which is a supervisor with no children\n";
@@ -572,11 +604,21 @@ const BAD_INPUT: &str = "tree refused: E1; otp check - tells why\n";
 
 const BAD_KEY: &str = "tree refused: E11; otp check tree tells why\n";
 
+const ERLANG_MAP: &str = "#{strategy => one_for_all, intensity => 3}.\n";
+
+const ERLANG_MAP_STANDS: &str =
+    "tree: warning: nothing stands in it: # begins a comment, so a map of Erlang is one; write KEY = VALUE, and [[child]] before each child\n";
+
+const RUN_REFUSED: &str = "tip: otp check tree tells why\ntree refused: E11\n";
+
+const UNREAD: &str = "three: can't be read: there is no such file\n";
+
 const NO_FILE: &str = "error: three can't be read: there is no such file\n";
 
 const PICTURE: &str = "one_for_one, 1 restart in 5 s\n`-- a  permanent  worker      5000 ms\n";
 
-const UP: &str = "0.000 s  start a #1\n0.000 s  ready\n0.000 s  1 up, 0/1 restarts in 5 s\n";
+const UP: &str = "0.000 s  start a #1\n0.000 s  ready\n0.000 s  1 up, 0/1 restarts in 5 s\n\
+verdict: the root survived, at most 0/1 restarts in 5 s\n";
 
 const STEADY: &str = "[[child]]\nid = \"a\"\nstart = \"steady\"\n";
 
@@ -645,7 +687,11 @@ fn ends_with<H: Abort + Threads + Wait + Sync>(
         let words = words_in(alloc, &["otp", command, "tree"])?;
         let seen = seen(rt, alloc, Ok(words), text, None, "");
         same(rt, command, seen.status, status);
-        holds(rt, command, has(&seen.errors, part));
+        holds(
+            rt,
+            command,
+            has(&seen.errors, part) || has(&seen.output, part),
+        );
     }
     Ok(())
 }
@@ -684,6 +730,12 @@ fn refused_words(rt: HostRuntime) -> Result<(), Fail> {
         "usage: otp COMMAND FILE; otp --help says which commands there are\n",
     )?;
     is_told(&rt, alloc, &["otp", "simulate"], "simulate")?;
+    is_told(
+        &rt,
+        alloc,
+        &["otp", "try", "a", "--clock", "hours"],
+        "error: --clock is milliseconds or seconds\n",
+    )?;
     is_told(&rt, alloc, &["otp", "tree.toml"], "otp try FILE")?;
     is_told(&rt, alloc, &["otp", "sim"], "<FILE>")?;
     is_told(&rt, alloc, &["otp", "sim", "a", "b"], "'b'")?;
@@ -718,8 +770,33 @@ fn help(rt: HostRuntime) -> Result<(), Fail> {
     for words in [["otp", "--help"], ["otp", "help"]] {
         is_shown(&rt, alloc, &words, "Usage: otp")?;
     }
+    let script = ["otp", "help", "script"];
+    is_shown(&rt, alloc, &script, "hang CHILD ")?;
+    is_told(&rt, alloc, &["otp", "help", "scripts"], "scripts")?;
     for words in [["otp", "--help", ""], ["otp", "sim", "tree"]] {
         finds_no_room(&rt, alloc, &words)?;
+    }
+    Ok(())
+}
+
+/// No line of a help has more than 80 columns.
+#[test]
+fn help_in_80_columns(rt: HostRuntime) -> Result<(), Fail> {
+    let alloc = rt.alloc();
+    for command in [
+        "--help", "run", "try", "check", "tree", "limits", "sim", "script",
+    ] {
+        let words = if command == "--help" {
+            words_in(alloc, &["otp", command])?
+        } else {
+            words_in(alloc, &["otp", "help", command])?
+        };
+        let seen = seen(&rt, alloc, Ok(words), TREE, None, "");
+        for line in seen.output.as_slice().split(|byte| *byte == b'\n') {
+            holds(&rt, command, line.len() <= 80);
+        }
+        same(&rt, command, seen.status, 0);
+        drop(seen);
     }
     Ok(())
 }
@@ -864,14 +941,19 @@ const RUNS: [(&str, &str, &str, u8); 9] = [
     (
         "[[child]]\nid = \"a\"\nstart = \"nap\"\n",
         "",
-        "unknown start nap\n",
+        "tree:3: unknown start: child 1 (a), start: read \"nap\"; run knows: steady once crash crash_once ignore refuse stubborn bridge\nunknown start nap\n",
         1,
     ),
     (
         "[[child]]\nid = \"a\"\nstart = \"steady\"\ntype = \"supervisor\"\n",
         "",
-        "tree refused: E19\n",
+        "tree:3: E19: child 1 (a), start: read \"steady\", a worker's job, of a child of type supervisor; write type = \"worker\", or start = \"bridge\"\ntree refused: E19\n",
         1,
     ),
-    ("period = 0\n", "", "tree refused: E1\n", 1),
+    (
+        "period = 0\n",
+        "",
+        "tip: otp check tree tells why\ntree refused: E1\n",
+        1,
+    ),
 ];

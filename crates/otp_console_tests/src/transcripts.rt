@@ -1,7 +1,7 @@
 //! The transcripts of the repository. `examples/check --table` writes this file from theirs.
 
 /// The name of each file that they name, and its text.
-pub(crate) const FILES: [(&str, &str); 46] = [
+pub(crate) const FILES: [(&str, &str); 50] = [
     (
         "all_significant.events",
         r##"up 1
@@ -197,7 +197,7 @@ period = 5
 
 [[child]]
 id = "db"
-start = "db"
+start = "steady"
 "##,
     ),
     (
@@ -418,20 +418,20 @@ period = 10
 
 [[child]]
 id = "log"
-start = "log"
+start = "steady"
 restart = "temporary"
 
 [[child]]
 id = "db"
-start = "db"
+start = "steady"
 
 [[child]]
 id = "cache"
-start = "cache"
+start = "steady"
 
 [[child]]
 id = "web"
-start = "web"
+start = "steady"
 restart = "transient"
 "##,
     ),
@@ -636,15 +636,31 @@ period = 10
 
 [[child]]
 id = "db"
-start = "db"
+start = "steady"
 
 [[child]]
 id = "cache"
-start = "cache"
+start = "steady"
 
 [[child]]
 id = "web"
-start = "web"
+start = "steady"
+"##,
+    ),
+    (
+        "storm_apart.script",
+        r##"# Four crashes within 10.02 seconds: OTP up to today counts them as ten whole seconds, and gives up.
+every 3340ms 4 times crash db
+expect up
+"##,
+    ),
+    (
+        "storm_expected.script",
+        r##"# A restart policy as a test: a crash every four seconds is survived, and each starts all three again.
+every 4s 5 times crash db
+expect up
+expect up web
+expect restarts web 5
 "##,
     ),
     (
@@ -682,6 +698,16 @@ at 6s restart db
 "##,
     ),
     (
+        "storm_slow.script",
+        r##"# The web server takes its time to end: three seconds the first time, and then more than it has.
+slow web 3s
+at 1s crash db
+slow web 1h
+at 10s crash db
++10s
+"##,
+    ),
+    (
         "storm_survived.script",
         r##"# Does it survive five crashes of the database, four seconds apart?
 at 4s crash db
@@ -689,6 +715,14 @@ at 4s crash db
 +4s crash db
 +4s crash db
 +4s crash db
+"##,
+    ),
+    (
+        "storm_unmet.script",
+        r##"# What isn't as expected is told with its line, all lines are played, and the status says so.
+every 1 s 4 times crash db
+expect up
+expect end db
 "##,
     ),
     (
@@ -936,8 +970,8 @@ status 0
     ),
 ];
 
-/// The same of all commands but `sim`. The prover looks at all rows of a table at once, so there are two.
-pub(crate) const TRANSCRIPTS: [(&str, &str, &str); 33] = [
+/// The same of `try`. The prover looks at all rows of a table at once, so there are three, of at most 30 rows each.
+pub(crate) const TRIED: [(&str, &str, &str); 19] = [
     (
         "try first.toml first.script",
         "-",
@@ -948,6 +982,7 @@ line 1: at 1s crash db
 line 2: at 2s crash db
 2.000 s  end shutdown: more than 1 restart within 5 s: at 1.000 s, 2.000 s
 2.000 s  the supervisor has ended
+verdict: the root gave up at 2.000 s, at most 2/1 restarts in 5 s
 status 0
 "##,
     ),
@@ -986,6 +1021,8 @@ line 7: +1s crash pool/a
 6.000 s  ask db #1
 6.000 s  end shutdown: more than 2 restarts within 60 s: at 2.000 s, 4.000 s, 6.000 s
 6.000 s  the supervisor has ended
+verdict: the root gave up at 6.000 s, at most 3/2 restarts in 60 s
+verdict: pool/ gave up 3 times, last at 6.000 s, at most 2/1 restarts in 10 s
 status 0
 "##,
     ),
@@ -1015,6 +1052,84 @@ line 6: count
 3.000 s  reply 2 count specs 2 active 2 supervisors 1 workers 1
 3.000 s  2 up, 1/2 restarts in 60 s
 3.000 s  pool/ 2 up, 1/1 restarts in 10 s
+verdict: the root survived, at most 1/2 restarts in 60 s
+verdict: pool/ gave up at 2.000 s, at most 2/1 restarts in 10 s
+status 0
+"##,
+    ),
+    (
+        "try storm.toml storm_apart.script",
+        "-",
+        r##"0.000 s  start db #1
+0.000 s  start cache #2
+0.000 s  start web #3
+0.000 s  ready
+line 2: every 3340ms 4 times crash db
+3.340 s  ask web #3
+3.340 s  ask cache #2
+3.340 s  start db #4
+3.340 s  start cache #5
+3.340 s  start web #6
+6.680 s  ask web #6
+6.680 s  ask cache #5
+6.680 s  start db #7
+6.680 s  start cache #8
+6.680 s  start web #9
+10.020 s  ask web #9
+10.020 s  ask cache #8
+10.020 s  start db #10
+10.020 s  start cache #11
+10.020 s  start web #12
+13.360 s  ask web #12
+13.360 s  ask cache #11
+13.360 s  start db #13
+13.360 s  start cache #14
+13.360 s  start web #15
+line 3: expect up
+13.360 s  3 up, 3/3 restarts in 10 s
+verdict: the root survived, at most 3/3 restarts in 10 s
+verdict: counted in whole seconds as by OTP, the root gives up at 13.360 s
+status 0
+"##,
+    ),
+    (
+        "try storm.toml storm_expected.script",
+        "-",
+        r##"0.000 s  start db #1
+0.000 s  start cache #2
+0.000 s  start web #3
+0.000 s  ready
+line 2: every 4s 5 times crash db
+4.000 s  ask web #3
+4.000 s  ask cache #2
+4.000 s  start db #4
+4.000 s  start cache #5
+4.000 s  start web #6
+8.000 s  ask web #6
+8.000 s  ask cache #5
+8.000 s  start db #7
+8.000 s  start cache #8
+8.000 s  start web #9
+12.000 s  ask web #9
+12.000 s  ask cache #8
+12.000 s  start db #10
+12.000 s  start cache #11
+12.000 s  start web #12
+16.000 s  ask web #12
+16.000 s  ask cache #11
+16.000 s  start db #13
+16.000 s  start cache #14
+16.000 s  start web #15
+20.000 s  ask web #15
+20.000 s  ask cache #14
+20.000 s  start db #16
+20.000 s  start cache #17
+20.000 s  start web #18
+line 3: expect up
+line 4: expect up web
+line 5: expect restarts web 5
+20.000 s  3 up, 3/3 restarts in 10 s
+verdict: the root survived, at most 3/3 restarts in 10 s
 status 0
 "##,
     ),
@@ -1065,7 +1180,7 @@ line 2: crash db
 0.000 s  start db #4
 0.000 s  start cache #5
 0.000 s  start web #6
-line 3: unknown word; help at the prompt lists the words, as does docs/FORMATS.md
+line 3: unknown word: did you mean crash?
 status 5
 "##,
     ),
@@ -1103,6 +1218,35 @@ line 5: at 6s restart db
 6.000 s  start db #4
 6.000 s  reply 3 ok #4
 6.000 s  3 up, 0/3 restarts in 10 s
+verdict: the root survived, at most 0/3 restarts in 10 s
+status 0
+"##,
+    ),
+    (
+        "try storm.toml storm_slow.script",
+        "-",
+        r##"0.000 s  start db #1
+0.000 s  start cache #2
+0.000 s  start web #3
+0.000 s  ready
+line 2: slow web 3s
+line 3: at 1s crash db
+1.000 s  ask web #3
+line 4: slow web 1h
+line 5: at 10s crash db
+4.000 s  ask cache #2
+4.000 s  start db #4
+4.000 s  start cache #5
+4.000 s  start web #6
+10.000 s  ask web #6
+line 6: +10s
+15.000 s  kill web #6
+15.000 s  ask cache #5
+15.000 s  start db #7
+15.000 s  start cache #8
+15.000 s  start web #9
+20.000 s  3 up, 1/3 restarts in 10 s
+verdict: the root survived, at most 2/3 restarts in 10 s
 status 0
 "##,
     ),
@@ -1144,7 +1288,43 @@ line 6: +4s crash db
 20.000 s  start cache #17
 20.000 s  start web #18
 20.000 s  3 up, 3/3 restarts in 10 s
+verdict: the root survived, at most 3/3 restarts in 10 s
 status 0
+"##,
+    ),
+    (
+        "try storm.toml storm_unmet.script",
+        "-",
+        r##"0.000 s  start db #1
+0.000 s  start cache #2
+0.000 s  start web #3
+0.000 s  ready
+line 2: every 1 s 4 times crash db
+1.000 s  ask web #3
+1.000 s  ask cache #2
+1.000 s  start db #4
+1.000 s  start cache #5
+1.000 s  start web #6
+2.000 s  ask web #6
+2.000 s  ask cache #5
+2.000 s  start db #7
+2.000 s  start cache #8
+2.000 s  start web #9
+3.000 s  ask web #9
+3.000 s  ask cache #8
+3.000 s  start db #10
+3.000 s  start cache #11
+3.000 s  start web #12
+4.000 s  ask web #12
+4.000 s  ask cache #11
+4.000 s  end shutdown: more than 3 restarts within 10 s: at 1.000 s, 2.000 s, 3.000 s, 4.000 s
+line 3: expect up
+line 3: it is not so: expect up
+line 4: expect end db
+4.000 s  the supervisor has ended
+verdict: the root gave up at 4.000 s, at most 4/3 restarts in 10 s
+line 3: it is not so as the script expects
+status 6
 "##,
     ),
     (
@@ -1166,6 +1346,7 @@ line 4: ignore web
 0.000 s  3 up, 1/3 restarts in 10 s
 unused: fail bd (line 2)
 unused: ignore web (line 4)
+verdict: the root survived, at most 1/3 restarts in 10 s
 line 2: ignored: there is no such child; which lists the root's, PATH/ which those below
 status 5
 "##,
@@ -1173,7 +1354,8 @@ status 5
     (
         "try --timeline nested.toml nested_given_up.script",
         "-",
-        r##"#N runs as process N, +#N starts, -#N is to end; retry: its start failed
+        r##"#N runs as process N, *#N anew; +#N starts, -#N is to end; retry: start failed
+a column is a line of the script, when it was played; N/M: N restarts of M
 2.000 s  pool/ end shutdown: more than 1 restart within 10 s: at 1.000 s, 2.000 s
 4.000 s  pool/ end shutdown: more than 1 restart within 10 s: at 3.000 s, 4.000 s
 6.000 s  pool/ end shutdown: more than 1 restart within 10 s: at 5.000 s, 6.000 s
@@ -1181,40 +1363,45 @@ status 5
 line                       start       2       3       4       5       6       7
 seconds                    0.000   1.000   2.000   3.000   4.000   5.000   6.000
 db                            #1      #1      #1      #1      #1      #1       -
-pool                          #2      #2      #6      #6     #10     #10       -
+pool                          #2      #2     *#6      #6    *#10     #10       -
 restarts in 60 s             0/2     0/2     1/2     1/2     2/2     2/2       -
-pool/a                        #3      #5      #7      #9     #11     #13       -
-pool/b                        #4      #4      #8      #8     #12     #12       -
+pool/a                        #3     *#5     *#7     *#9    *#11    *#13       -
+pool/b                        #4      #4     *#8      #8    *#12     #12       -
 pool/restarts in 10 s        0/1     1/1     0/1     1/1     0/1     1/1       -
 6.000 s  the supervisor has ended
+verdict: the root gave up at 6.000 s, at most 3/2 restarts in 60 s
+verdict: pool/ gave up 3 times, last at 6.000 s, at most 2/1 restarts in 10 s
 status 0
 "##,
     ),
     (
         "try --timeline shop.toml shop_hang.script",
         "-",
-        r##"#N runs as process N, +#N starts, -#N is to end; retry: its start failed
+        r##"#N runs as process N, *#N anew; +#N starts, -#N is to end; retry: start failed
+a column is a line of the script, when it was played; N/M: N restarts of M
 line                       start       2       3       4       5
 seconds                    0.000   0.000   1.000   3.000   6.000
 log                           #1      #1      #1      #1      #1
 db                            #2      #2      #2      #2      #2
-cache                         #3      #3    down    down      #5
-web                           #4      #4     -#4     -#4      #6
+cache                         #3      #3    down    down     *#5
+web                           #4      #4     -#4     -#4     *#6
 restarts in 10 s             0/3     0/3     1/3     1/3     1/3
 6.000 s  4 up, 1/3 restarts in 10 s
+verdict: the root survived, at most 1/3 restarts in 10 s
 status 0
 "##,
     ),
     (
         "try --timeline storm.toml storm_given_up.script",
         "-",
-        r##"#N runs as process N, +#N starts, -#N is to end; retry: its start failed
+        r##"#N runs as process N, *#N anew; +#N starts, -#N is to end; retry: start failed
+a column is a line of the script, when it was played; N/M: N restarts of M
 4.000 s  end shutdown: more than 3 restarts within 10 s: at 1.000 s, 2.000 s, 3.000 s, 4.000 s
 line                       start       2       3       4       5
 seconds                    0.000   1.000   2.000   3.000   4.000
-db                            #1      #4      #7     #10       -
-cache                         #2      #5      #8     #11       -
-web                           #3      #6      #9     #12       -
+db                            #1     *#4     *#7    *#10       -
+cache                         #2     *#5     *#8    *#11       -
+web                           #3     *#6     *#9    *#12       -
 restarts in 10 s             0/3     1/3     2/3     3/3       -
 line 6: ignored: the supervisor has ended; the line of its end says why
 status 5
@@ -1223,17 +1410,45 @@ status 5
     (
         "try --timeline storm.toml storm_survived.script",
         "-",
-        r##"#N runs as process N, +#N starts, -#N is to end; retry: its start failed
+        r##"#N runs as process N, *#N anew; +#N starts, -#N is to end; retry: start failed
+a column is a line of the script, when it was played; N/M: N restarts of M
 line                       start       2       3       4       5       6
 seconds                    0.000   4.000   8.000  12.000  16.000  20.000
-db                            #1      #4      #7     #10     #13     #16
-cache                         #2      #5      #8     #11     #14     #17
-web                           #3      #6      #9     #12     #15     #18
+db                            #1     *#4     *#7    *#10    *#13    *#16
+cache                         #2     *#5     *#8    *#11    *#14    *#17
+web                           #3     *#6     *#9    *#12    *#15    *#18
 restarts in 10 s             0/3     1/3     2/3     3/3     3/3     3/3
 20.000 s  3 up, 3/3 restarts in 10 s
+verdict: the root survived, at most 3/3 restarts in 10 s
 status 0
 "##,
     ),
+    (
+        "try --quiet nested.toml nested_given_up.script",
+        "-",
+        r##"2.000 s  pool/ end shutdown: more than 1 restart within 10 s: at 1.000 s, 2.000 s
+4.000 s  pool/ end shutdown: more than 1 restart within 10 s: at 3.000 s, 4.000 s
+6.000 s  pool/ end shutdown: more than 1 restart within 10 s: at 5.000 s, 6.000 s
+6.000 s  end shutdown: more than 2 restarts within 60 s: at 2.000 s, 4.000 s, 6.000 s
+verdict: the root gave up at 6.000 s, at most 3/2 restarts in 60 s
+verdict: pool/ gave up 3 times, last at 6.000 s, at most 2/1 restarts in 10 s
+status 0
+"##,
+    ),
+    (
+        "try --quiet --clock seconds storm.toml storm_apart.script",
+        "-",
+        r##"13.000 s  end shutdown: more than 3 restarts within 10 s: at 3.000 s, 6.000 s, 10.000 s, 13.000 s
+line 3: it is not so: expect up
+verdict: the root gave up at 13.000 s, at most 4/3 restarts in 10 s
+line 3: it is not so as the script expects
+status 6
+"##,
+    ),
+];
+
+/// The same of all other commands.
+pub(crate) const SHOWN: [(&str, &str, &str); 23] = [
     (
         "limits first.toml",
         "-",
@@ -1339,6 +1554,15 @@ status 2
 "##,
     ),
     (
+        "check --json slip_word.toml storm.toml strom.toml",
+        "-",
+        r##"{"file": "slip_word.toml", "faults": [{"line": 3, "text": "E13: supervisor, strategy: read \"one_for_al\"; allowed: \"one_for_one\", \"one_for_all\", \"rest_for_one\", \"simple_one_for_one\"; did you mean one_for_all?"}]}
+{"file": "storm.toml", "faults": []}
+{"file": "strom.toml", "unread": "there is no such file"}
+status 1
+"##,
+    ),
+    (
         "limits nested.toml --child pool/b",
         "-",
         r##"child                     burst      interval  stops  starts    root  gives up
@@ -1425,7 +1649,8 @@ one_for_one, 2 restarts in 60 s, table 0: 2 starts, 0 restarts, runs
   one_for_one, 1 restart in 10 s, table 1: 2 starts, 0 restarts, runs
   |-- a  up #4
   `-- b  starting #5
-status 0
+not finished, since the turns ran out: 3 processes live, and the tree awaits the start of pool/b #5; --turns takes a greater number
+status 7
 "##,
     ),
     (
@@ -1441,10 +1666,22 @@ status 0
 "##,
     ),
     (
-        "check storm.toml strom.toml",
+        "run nested.toml --schedulers 1 --why",
+        "-",
+        r##"table 0 starts 3 restarts 1 end shutdown
+table 1 starts 5 restarts 0 end shutdown
+live 0
+root: 3 starts, 1 restart, was asked to stop
+pool: 5 starts, 0 restarts, was asked to stop
+status 0
+"##,
+    ),
+    (
+        "check storm.toml strom.toml slip_word.toml",
         "-",
         r##"storm.toml: a lawful tree
-error: strom.toml can't be read: there is no such file
+strom.toml: can't be read: there is no such file
+slip_word.toml:3: E13: supervisor, strategy: read "one_for_al"; allowed: "one_for_one", "one_for_all", "rest_for_one", "simple_one_for_one"; did you mean one_for_all?
 status 1
 "##,
     ),
@@ -1522,13 +1759,21 @@ status 0
     (
         "check slip_key.toml slip_word.toml slip_number.toml slip_twice.toml slip_nested.toml slip_quote.toml storm.toml",
         "-",
-        r##"slip_key.toml: E11: child 3 (web): unknown key restrt; allowed: id start restart significant shutdown type modules tree; did you mean restart?
-slip_word.toml: E13: supervisor, strategy: read "one_for_al"; allowed: "one_for_one", "one_for_all", "rest_for_one", "simple_one_for_one"; did you mean one_for_all?
-slip_number.toml: E1: supervisor, intensity: read 1001; allowed: a whole number, 0 to 1000
-slip_twice.toml: E3: child 2 (db): an earlier child has this id; each id stands once
-slip_nested.toml: E11: child 2 (pool), child 2 (b): unknown key restat; allowed: id start restart significant shutdown type modules tree; did you mean restart?
-slip_quote.toml: E10: TOML parse error at line 4, column 9: invalid string; a text stands between two quotes, on one line
+        r##"slip_key.toml:14: E11: child 3 (web): unknown key restrt; allowed: id start restart significant shutdown type modules tree; did you mean restart?
+slip_word.toml:3: E13: supervisor, strategy: read "one_for_al"; allowed: "one_for_one", "one_for_all", "rest_for_one", "simple_one_for_one"; did you mean one_for_all?
+slip_number.toml:3: E1: supervisor, intensity: read 1001; allowed: a whole number, 0 to 1000
+slip_twice.toml:8: E3: child 2 (db): an earlier child has this id; each id stands once
+slip_nested.toml:18: E11: child 2 (pool), child 2 (b): unknown key restat; allowed: id start restart significant shutdown type modules tree; did you mean restart?
+slip_quote.toml:4: E10: TOML parse error at line 4, column 9: invalid string; a text stands between two quotes, on one line
 storm.toml: a lawful tree
+status 1
+"##,
+    ),
+    (
+        "check --run nested.toml unknown_start.toml",
+        "-",
+        r##"nested.toml: a lawful tree
+unknown_start.toml:5: unknown start: child 1 (a), start: read "nap"; run knows: steady once crash crash_once ignore refuse stubborn bridge
 status 1
 "##,
     ),
@@ -1543,7 +1788,8 @@ status 0
     (
         "run unknown_start.toml",
         "-",
-        r##"unknown start nap
+        r##"unknown_start.toml:5: unknown start: child 1 (a), start: read "nap"; run knows: steady once crash crash_once ignore refuse stubborn bridge
+unknown start nap
 status 1
 "##,
     ),

@@ -13,7 +13,7 @@ use crate::rank::put_in;
 use otp_file::TreeSpec;
 use otp_limits::{Cost, Fate, Listed, Path, find_cost, find_fall};
 use otp_reason::Name;
-use otp_try::{Halt, Seat, plant_seats};
+use otp_trial::{Halt, Seat, plant_seats};
 use std::alloc::{AllocError, Global};
 
 /// What the failure of each of some children of a supervisor costs.

@@ -8,7 +8,7 @@ use crate::pick::Pick;
 use crate::rows::{Row, find_rows};
 use crate::table::write_table;
 use otp_file::TreeSpec;
-use otp_try::Halt;
+use otp_trial::Halt;
 use std::alloc::{AllocError, Global};
 
 /// Whether a tree has one supervisor alone, whose children with a tree are these.

@@ -4,7 +4,7 @@ use Rattle.std.proofs.Common.{arith}
 use Rattle.otp_reason.specs.declared.name.Name.{Name}
 use Rattle.otp_spec.specs.declared.child.ChildSpec.{ChildSpec}
 use Rattle.otp_spec.specs.declared.flags.SupFlags.{SupFlags}
-use Rattle.otp_limits.specs.declared.clock.Clock.{Clock}
+use Rattle.otp_trial.specs.declared.clock.Clock.{Clock}
 use Rattle.otp_limits.specs.Costs.{IsJudged, IsSteady}
 use Rattle.otp_limits.specs.declared.steady.Steady.TheVariants.{Apart}
 use Rattle.otp_limits.specs.declared.steady.Verdict.TheVariants.{Falls, Lasts}

@@ -1,12 +1,7 @@
--- The clock by which a supervisor counts its restarts (own).
-use Rattle.std.specs.Prelude.{ℕ, ◌+◌, ◌*◌, ◌/◌, ◌≤◌}
-use Rattle.otp_limits.specs.declared.clock.Clock.{Clock}
-use Rattle.otp_limits.specs.declared.clock.Clock.TheVariants.{Milliseconds, Seconds}
-
--- what a clock shows at a time in milliseconds: that, or the second that has begun
-abbrev pub shown : Clock → ℕ → ℕ
-shown Milliseconds time = time
-shown Seconds time = time / 1000 * 1000
+-- Whole seconds, and where in a second crashes begin (own).
+use Rattle.std.specs.Prelude.{ℕ, ◌+◌, ◌≤◌}
+use Rattle.otp_trial.specs.Clocks.{shown}
+use Rattle.otp_trial.specs.declared.clock.Clock.TheVariants.{Seconds}
 
 -- two moments so far apart are nowhere shown closer together than where the first of them begins a second
 abbrev pub FirstPhaseIsWorst : Type 0

@@ -7,8 +7,8 @@ use Rattle.otp_rules.specs.declared.event.Effect.TheVariants as effect
 use Rattle.otp_spec.specs.declared.child.ChildSpec.{ChildSpec}
 use Rattle.otp_spec.specs.declared.flags.SupFlags.{SupFlags}
 use Rattle.otp_spec.specs.declared.limits.TheConstants.{MAX_INTENSITY, MAX_PERIOD}
-use Rattle.otp_limits.specs.declared.clock.Clock.{Clock}
-use Rattle.otp_limits.specs.declared.clock.Clock.TheVariants as clock
+use Rattle.otp_trial.specs.declared.clock.Clock.{Clock}
+use Rattle.otp_trial.specs.declared.clock.Clock.TheVariants as clock
 use Rattle.otp_limits.specs.declared.cost.Cost.{Cost}
 use Rattle.otp_limits.specs.declared.cost.TheConstants.{MOST_CRASHES}
 use Rattle.otp_limits.specs.declared.fate.Fate.{Fate}

@@ -14,7 +14,7 @@ use Rattle.otp_rules.specs.declared.work.Phase.{Phase}
 use Rattle.otp_rules.specs.declared.work.Phase.TheVariants.{Ended}
 use Rattle.otp_rules.specs.State.{is_over}
 use Rattle.otp_spec.specs.Flags.{is_simple}
-use Rattle.otp_try.specs.Played.{Begins, IsPlanted, Seated, is_root_over, state_in}
+use Rattle.otp_trial.specs.Played.{Begins, IsPlanted, Seated, is_root_over, state_in}
 use Rattle.otp_limits.specs.declared.fall.TheConstants.{MOST_FALLS}
 use Rattle.otp_limits.specs.declared.fate.Fate.{Fate}
 use Rattle.otp_limits.specs.declared.fate.Fate.TheVariants as fate

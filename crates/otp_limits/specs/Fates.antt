@@ -14,10 +14,10 @@ use Rattle.otp_spec.specs.declared.child.ChildSpec.{ChildSpec}
 use Rattle.otp_spec.specs.declared.flags.SupFlags.{SupFlags}
 use Rattle.otp_table.specs.declared.row.Row.{Row}
 use Rattle.otp_table.specs.Rows.{up_number}
-use Rattle.otp_limits.specs.declared.clock.Clock.{Clock}
+use Rattle.otp_trial.specs.declared.clock.Clock.{Clock}
 use Rattle.otp_limits.specs.declared.fate.Fate.{Fate}
 use Rattle.otp_limits.specs.declared.fate.Fate.TheVariants as fate
-use Rattle.otp_limits.specs.Clocks.{shown}
+use Rattle.otp_trial.specs.Clocks.{shown}
 use Rattle.otp_limits.specs.Scene.{FillsUp, IsFull, OpeningFills, Opens, Scene, Settles, happened}
 
 unfoldable pub running : Option Row → Option ℕ

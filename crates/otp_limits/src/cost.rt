@@ -4,10 +4,9 @@ ghost use Rattle.std.specs.Prelude.{◌≡◌, ◌++◌, None, IfErr, IfOk, OnOk
 ghost use Rattle.std.specs.List.{filter_map};
 ghost use Rattle.otp_limits.specs.Costs.{Affects, Crashed, IsCost, IsUnknown, started_by, stopped_by};
 ghost use Rattle.otp_limits.specs.Fates.{Fills, IsUnplayed};
-ghost use Rattle.otp_limits.specs.declared.clock.Clock.TheVariants.{Milliseconds};
-ghost use Rattle.otp_try.specs.declared.trial.Halt.TheVariants.{HistoryFull};
+ghost use Rattle.otp_trial.specs.declared.clock.Clock.TheVariants.{Milliseconds};
+ghost use Rattle.otp_trial.specs.declared.trial.Halt.TheVariants.{HistoryFull};
 
-use crate::clock::Clock;
 use crate::fate::{Fate, play};
 use crate::list::Listed;
 use crate::stage::Stage;
@@ -15,7 +14,7 @@ use crate::steady::{Steady, find_steady};
 use otp_reason::Name;
 use otp_rules::Effect;
 use otp_spec::SupSpec;
-use otp_try::Halt;
+use otp_trial::{Clock, Halt};
 use std::alloc::{AllocError, Global};
 
 /// The most crashes of a burst that are played: more than the greatest intensity.
@@ -99,6 +98,7 @@ fn find_affected(
 }
 
 /// What one crash of a child of this supervisor stops, and what is started again.
+#[tactic(auto, unfolding(otp_trial::specs::Clocks::shown))]
 fn find_crashed(
     alloc: Global,
     stage: &mut Stage,

@@ -2,7 +2,7 @@
 
 ghost use Rattle.std.specs.Prelude.{◌≡◌, ◌<◌, ◌++◌, false, IfOk, IfSome, OnOk, length, slice_get};
 ghost use Rattle.otp_limits.specs.Falls.{FallsFrom, FallsOnce, FallsSo, IsFall, Joins, OpensTree, gave_up, gave_up_by, given_up, is_joined, path_if, process_at, supervisor_path};
-ghost use Rattle.otp_try.specs.Played.{Seated, is_root_over};
+ghost use Rattle.otp_trial.specs.Played.{Seated, is_root_over};
 
 use crate::fate::Fate;
 use crate::list::Listed;
@@ -11,7 +11,8 @@ use crate::stage::process_of;
 use otp_file::TreeSpec;
 use otp_reason::{Name, Reason};
 use otp_rules::{Call, Ending, Phase};
-use otp_try::{Action, Halt, Seat, Trial};
+use otp_script::Action;
+use otp_trial::{Clock, Halt, Seat, Trial};
 use std::alloc::Global;
 
 /// The most crashes of a child that are played in a whole tree. Each level of supervisors multiplies those that the root
@@ -51,7 +52,7 @@ fn is_joined(seats: &[Seat], place: usize) -> bool
 }
 
 /// Somebody starts a child of the supervisor at this place, where it is one of simple_one_for_one that runs.
-#[tactic(auto, unfolding(crate::specs::Falls::Joins, otp_try::specs::Played::Acts))]
+#[tactic(auto, unfolding(crate::specs::Falls::Joins, otp_trial::specs::Played::Acts))]
 fn join(trial: &mut Trial, place: usize, page: &mut Vec<u8>) -> Result<(), Halt>
     requires { place < length trial.old }
     ensures { OnOk result (Joins (is_joined (slice_get trial.old place)) place trial.old trial.new) }
@@ -76,7 +77,7 @@ fn join_at(trial: &mut Trial, place: usize, page: &mut Vec<u8>) -> Result<(), Ha
 fn open(alloc: Global, tree: &TreeSpec, place: usize, page: &mut Vec<u8>) -> Result<Trial, Halt>
     ensures { IfOk result (λ trial. OpensTree tree.now place trial) }
 {
-    let mut trial = Trial::open(alloc, tree, false, page)?;
+    let mut trial = Trial::open(alloc, tree, false, Clock::Milliseconds, page)?;
     match join_at(&mut trial, place, page) {
         Ok(()) => Ok(trial),
         Err(halt) => {

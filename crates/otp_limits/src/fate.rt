@@ -4,13 +4,12 @@ ghost use Rattle.std.specs.Prelude.{◌≡◌, ◌≤◌, ◌*◌, None, IfErr, 
 ghost use Rattle.otp_spec.specs.declared.limits.TheConstants.{MAX_READING};
 ghost use Rattle.otp_limits.specs.Fates.{Fares, Fills, IsUnplayed, Plays};
 ghost use Rattle.otp_rules.specs.State.{is_over};
-ghost use Rattle.otp_try.specs.declared.trial.Halt.TheVariants.{HistoryFull};
+ghost use Rattle.otp_trial.specs.declared.trial.Halt.TheVariants.{HistoryFull};
 
-use crate::clock::Clock;
 use crate::stage::Stage;
 use otp_reason::Name;
 use otp_spec::SupSpec;
-use otp_try::Halt;
+use otp_trial::{Clock, Halt};
 use std::alloc::Global;
 
 /// How a supervisor fares where a child crashes so many times.

@@ -14,7 +14,7 @@ mod path;
 mod stage;
 mod steady;
 
-pub use clock::{Clock, first_phase_is_worst};
+pub use clock::first_phase_is_worst;
 pub use cost::{Cost, MOST_CRASHES, find_cost};
 pub use fall::{Fall, MOST_FALLS, find_fall, supervisor_path};
 pub use fate::{Fate, play};

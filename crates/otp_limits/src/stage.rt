@@ -6,7 +6,7 @@ ghost use Rattle.otp_limits.specs.Fates.{HasNoRoom, crashed, is_of, process_of, 
 ghost use Rattle.otp_limits.specs.Scene.{BeginFills, Begins, FillsUp, IsFull, OpeningFills, Opens, Settles, happened, heard, joined, next_in, note_of};
 ghost use Rattle.otp_rules.specs.Effects.{is_reply};
 ghost use Rattle.otp_rules.specs.State.{is_over};
-ghost use Rattle.otp_try.specs.declared.trial.Halt.TheVariants.{HistoryFull};
+ghost use Rattle.otp_trial.specs.declared.trial.Halt.TheVariants.{HistoryFull};
 ghost use Rattle.otp_spec.specs.Flags.{is_simple};
 ghost use Rattle.otp_spec.specs.declared.limits.TheConstants.{MAX_READING};
 
@@ -16,7 +16,7 @@ use otp_rules::{Call, Effect, Item, Kind};
 use otp_sim::make_room;
 use otp_spec::{Strategy, SupSpec};
 use otp_table::Row;
-use otp_try::Halt;
+use otp_trial::Halt;
 use std::alloc::{AllocError, Global};
 use std::collections::VecDeque;
 use std::marker::Model;

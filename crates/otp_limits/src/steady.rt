@@ -3,13 +3,12 @@
 ghost use Rattle.std.specs.Prelude.{◌≡◌, ◌≤◌, ◌<◌, ◌^◌, ◌+◌, ◌-◌, ◌*◌, None, IfErr, IfOk, IfSome};
 ghost use Rattle.otp_limits.specs.Costs.{AreBounds, IsJudged, IsSteady, IsUnknown, longest_gap, steady_crashes, verdict_of};
 ghost use Rattle.otp_limits.specs.declared.steady.Verdict.TheVariants.{Falls, Lasts};
-ghost use Rattle.otp_try.specs.declared.trial.Halt.TheVariants.{HistoryFull};
+ghost use Rattle.otp_trial.specs.declared.trial.Halt.TheVariants.{HistoryFull};
 
-use crate::clock::Clock;
 use crate::fate::{Fate, play};
 use otp_reason::Name;
 use otp_spec::{MAX_INTENSITY, MAX_PERIOD, SupFlags, SupSpec};
-use otp_try::Halt;
+use otp_trial::{Clock, Halt};
 use std::alloc::Global;
 
 /// How far apart crashes of a child must be.

@@ -62,7 +62,9 @@ const FLAGS: [Row; 8] = [
     ),
     (
         "intensity = \"3\"\n",
-        &["E13: supervisor, intensity: read \"3\"; allowed: a whole number, 0 to 1000"],
+        &[
+            "E13: supervisor, intensity: read \"3\"; allowed: a whole number, 0 to 1000; a number stands without quotes",
+        ],
     ),
     (
         "period = 0\n",
@@ -72,7 +74,7 @@ const FLAGS: [Row; 8] = [
         "auto_shutdown = \"any\"\nperiod = 0\n",
         &[
             "E1: supervisor, period: read 0; allowed: a whole number, 1 to 1000000 (seconds)",
-            "E13: supervisor, auto_shutdown: read \"any\"; allowed: \"never\", \"any_significant\", \"all_significant\"",
+            "E13: supervisor, auto_shutdown: read \"any\"; allowed: \"never\", \"any_significant\", \"all_significant\"; did you mean any_significant?",
         ],
     ),
 ];
@@ -109,7 +111,7 @@ const KEYS: [Row; 10] = [
     (
         "[[child]]\nid = \"a\"\nstart = \"m\"\nshutdown = \"brutal\"\n",
         &[
-            "E13: child 1 (a), shutdown: read \"brutal\"; allowed: a whole number, 0 to 4294967295 (milliseconds), \"brutal_kill\", \"infinity\"",
+            "E13: child 1 (a), shutdown: read \"brutal\"; allowed: a whole number, 0 to 4294967295 (milliseconds), \"brutal_kill\", \"infinity\"; did you mean brutal_kill?",
         ],
     ),
     (
@@ -330,8 +332,9 @@ fn deepest_table(rt: HostRuntime) -> Result<(), Fail> {
     holds_of(&rt, text.as_slice(), text.ends_with(end));
     let file = chain(rt.alloc(), 17)?;
     let text = found_in(rt.alloc(), file.as_slice())?;
-    let wanted = b"E14: supervisor: supervisors are nested more than 16 deep".as_slice();
-    same(&rt, "17 levels", text.as_slice(), wanted);
+    let wanted =
+        b"(a), tree: supervisors are nested more than 16 deep; put this one's children into a tree above it".as_slice();
+    holds_of(&rt, text.as_slice(), text.ends_with(wanted));
     Ok(())
 }
 
@@ -358,7 +361,8 @@ fn last_table(rt: HostRuntime) -> Result<(), Fail> {
     same(&rt, "64 tables", text.as_slice(), wanted);
     let file = wide(rt.alloc(), 64)?;
     let text = found_in(rt.alloc(), file.as_slice())?;
-    let wanted = b"E15: supervisor: more than 64 supervisors".as_slice();
+    let wanted =
+        b"E15: child 64 (c64), tree: more than 64 supervisors; put children of some into the tree of another".as_slice();
     same(&rt, "65 tables", text.as_slice(), wanted);
     Ok(())
 }
@@ -381,7 +385,7 @@ fn child_behind_the_last(rt: HostRuntime) -> Result<(), Fail> {
     let findings = check(rt.alloc(), file.as_slice())?;
     let lines = [
         "E13: child 260: no table; each child is one, [[child]]",
-        "E7: supervisor: more than 256 children; a supervisor has at most so many",
+        "E7: supervisor: more than 256 children; a supervisor has at most so many: put some into the tree of a child",
     ];
     are_lines(&rt, "260 children", findings.as_slice(), &lines);
     Ok(())
@@ -465,12 +469,14 @@ const NO_TOML: [Row; 8] = [
     ),
     (
         "period = 5_\n",
-        &["E10: TOML parse error at line 1, column 10: `_` may only go between digits"],
+        &[
+            "E10: TOML parse error at line 1, column 10: `_` may only go between digits; leave out the _",
+        ],
     ),
     (
         "strategy =\n",
         &[
-            "E10: TOML parse error at line 1, column 11: invalid value, expected a string, number, boolean, date-time, array or inline table",
+            "E10: TOML parse error at line 1, column 11: invalid value, expected a string, number, boolean, date-time, array or inline table; a value is missing behind the =",
         ],
     ),
 ];

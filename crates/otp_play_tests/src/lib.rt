@@ -11,4 +11,8 @@ mod fixtures;
 #[cfg(test)]
 mod limits;
 #[cfg(test)]
+mod slips;
+#[cfg(test)]
+mod sources;
+#[cfg(test)]
 mod trying;

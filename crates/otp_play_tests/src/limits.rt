@@ -4,9 +4,10 @@
 use crate::fixtures::{holds_of, same};
 use otp_file::{TreeSpec, read_tree};
 use otp_folds::{Grain, Pick, Row, find_rows, write_limits};
-use otp_limits::{Clock, Steady, find_steady};
+use otp_limits::{Steady, find_steady};
 use otp_reason::Name;
 use otp_spec::{ChildSpec, SupFlags, SupSpec};
+use otp_trial::Clock;
 use std::alloc::Global;
 use std::process::Abort;
 use std::test::Fail;

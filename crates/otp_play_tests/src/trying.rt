@@ -3,11 +3,10 @@
 use crate::fixtures::same;
 use otp_file::read_tree;
 use otp_reason::{Name, Reason, Text};
+use otp_script::{Action, Child, Expected, NextStart, ScriptFault, When, Word, read_step};
 use otp_sim::Counted;
-use otp_try::{
-    Action, ActionEnd, Child, NextStart, ScriptFault, Shows, TryEnd, When, Writer, read_step,
-    try_tree,
-};
+use otp_trial::{ActionEnd, Clock};
+use otp_try::{Shows, TryEnd, Writer, try_tree};
 use std::alloc::Global;
 use std::process::Abort;
 use std::test::Fail;
@@ -26,7 +25,17 @@ fn plays(
     plays_on(rt, alloc, TREE, writer, script, told, end)
 }
 
-/// Plays a script on a tree; compares what is told, and how it ends.
+/// What is told before the verdict.
+fn before_verdict(text: &[u8]) -> &[u8] {
+    for place in 0..text.len() {
+        if text[place..].strip_prefix(b"verdict: ").is_some() {
+            return &text[..place];
+        }
+    }
+    text
+}
+
+/// Plays a script on a tree; compares what is told before the verdict, and how it ends.
 fn plays_on(
     rt: &impl Abort,
     alloc: Global,
@@ -54,11 +63,363 @@ fn shows_on(
     let tree = read_tree(alloc, tree.as_bytes()).map_err(|_| "a tree")?;
     let mut input = Counted::new(script.as_bytes());
     let mut output = Counted::new(Vec::new(alloc));
-    let ended = try_tree(alloc, tree, writer, shows, &mut input, &mut output);
+    let clock = Clock::Milliseconds;
+    let ended = try_tree(alloc, tree, writer, shows, clock, &mut input, &mut output);
+    let text = output.into_device();
+    let before = before_verdict(text.as_slice());
+    same(rt, "what is told", before, told.as_bytes());
+    same(rt, "the end", ended, end);
+    Ok(())
+}
+
+/// Plays a script on a tree by a clock, of which little is told; compares all that is, and how it ends.
+fn judges(
+    rt: &impl Abort,
+    alloc: Global,
+    tree: &str,
+    clock: Clock,
+    script: &str,
+    told: &str,
+    end: TryEnd,
+) -> Result<(), Fail> {
+    let tree = read_tree(alloc, tree.as_bytes()).map_err(|_| "a tree")?;
+    let mut input = Counted::new(script.as_bytes());
+    let mut output = Counted::new(Vec::new(alloc));
+    let (writer, shows) = (Writer::Script, Shows::Ends);
+    let ended = try_tree(alloc, tree, writer, shows, clock, &mut input, &mut output);
     let text = output.into_device();
     same(rt, "what is told", text.as_slice(), told.as_bytes());
     same(rt, "the end", ended, end);
     Ok(())
+}
+
+/// A script ends with a verdict: who gave up and when, whether the root survived, and how much of each period was used. Where
+/// the root has ended, what happens more than once happens no more.
+#[test]
+fn verdicts(rt: HostRuntime) -> Result<(), Fail> {
+    let alloc = rt.alloc();
+    let clock = Clock::Milliseconds;
+    judges(
+        &rt,
+        alloc,
+        TREE,
+        clock,
+        "every 1s 20 times crash db\nexpect end\nexpect end db\n",
+        "4.000 s  end shutdown: more than 3 restarts within 10 s: at 1.000 s, 2.000 s, 3.000 s, 4.000 s\n\
+verdict: the root gave up at 4.000 s, at most 4/3 restarts in 10 s\n",
+        TryEnd::Done,
+    )?;
+    judges(
+        &rt,
+        alloc,
+        TREE,
+        clock,
+        "every 4s 5 times crash db\nexpect up\nexpect up db\nexpect restarts db 5\n",
+        "verdict: the root survived, at most 3/3 restarts in 10 s\n",
+        TryEnd::Done,
+    )?;
+    judges(
+        &rt,
+        alloc,
+        TREE,
+        clock,
+        "stop\n",
+        "0.000 s  end shutdown: asked to stop\nverdict: the root ended, at most 0/3 restarts in 10 s\n",
+        TryEnd::Done,
+    )?;
+    judges(
+        &rt,
+        alloc,
+        NESTED,
+        clock,
+        "+1s crash sub/x\ncrash sub/x\nexpect restarts sub 1\nexpect restarts sub/x 0\nsub/ expect up\n+60s crash sub/x\n\
+crash sub/x\n",
+        "1.000 s  sub/ end shutdown: more than 1 restart within 5 s: at 1.000 s, 1.000 s\n\
+61.000 s  sub/ end shutdown: more than 1 restart within 5 s: at 61.000 s, 61.000 s\n\
+verdict: the root survived, at most 1/1 restarts in 10 s\n\
+verdict: sub/ gave up 2 times, last at 61.000 s, at most 2/1 restarts in 5 s\n",
+        TryEnd::Done,
+    )
+}
+
+/// What is expected and isn't so is told with its line, all of the script is played, and the first such line is the end.
+#[test]
+fn expectations(rt: HostRuntime) -> Result<(), Fail> {
+    let alloc = rt.alloc();
+    let clock = Clock::Milliseconds;
+    judges(
+        &rt,
+        alloc,
+        TREE,
+        clock,
+        "expect up db\nexpect end db\ncrash db\nexpect restarts db 2\nhang db\nterminate db\nexpect up db # it hangs\n\
++5s\nexpect end db\nexpect end\n",
+        "line 2: it is not so: expect end db\nline 4: it is not so: expect restarts db 2\n\
+line 7: it is not so: expect up db # it hangs\nline 10: it is not so: expect end\n\
+verdict: the root survived, at most 1/3 restarts in 10 s\n",
+        TryEnd::ExpectationFailed(2),
+    )?;
+    for line in [
+        "expect up bd",
+        "expect end bd",
+        "expect restarts bd 0",
+        "expect end #9",
+    ] {
+        judges(
+            &rt,
+            alloc,
+            TREE,
+            clock,
+            line,
+            "",
+            TryEnd::LineMissed(1, ActionEnd::NoChild),
+        )?;
+    }
+    judges(
+        &rt,
+        alloc,
+        NESTED,
+        clock,
+        "terminate sub\nexpect end sub\nexpect end sub/x\nsub/ expect end\nexpect up sub/x\n",
+        "0.000 s  sub/ end shutdown: asked to stop\nline 5: it is not so: expect up sub/x\n\
+verdict: the root survived, at most 0/1 restarts in 10 s\n",
+        TryEnd::ExpectationFailed(5),
+    )?;
+    plays(
+        &rt,
+        alloc,
+        Writer::Person,
+        "expect end db\nquit\ncrash db\n",
+        "0.000 s  start db #1\n0.000 s  ready\nhelp lists what may be written here\n0.000 s  1 up, 0/3 restarts in 10 s> \
+line 1: it is not so: expect end db\n0.000 s  1 up, 0/3 restarts in 10 s\n",
+        TryEnd::ExpectationFailed(1),
+    )
+}
+
+const ONE_IN_FIVE: &str = "period = 5\n[[child]]\nid = \"db\"\nstart = \"db\"\n";
+
+/// Two crashes 5.5 s apart lie within five seconds by a clock of whole seconds, and not by one of milliseconds.
+#[test]
+fn clocks(rt: HostRuntime) -> Result<(), Fail> {
+    let alloc = rt.alloc();
+    let script = "at 1s crash db\n+5.5s crash db\n";
+    judges(
+        &rt,
+        alloc,
+        ONE_IN_FIVE,
+        Clock::Milliseconds,
+        script,
+        "verdict: the root survived, at most 1/1 restarts in 5 s\n\
+verdict: counted in whole seconds as by OTP, the root gives up at 6.500 s\n",
+        TryEnd::Done,
+    )?;
+    judges(
+        &rt,
+        alloc,
+        ONE_IN_FIVE,
+        Clock::Seconds,
+        script,
+        "6.000 s  end shutdown: more than 1 restart within 5 s: at 1.000 s, 6.000 s\n\
+verdict: the root gave up at 6.000 s, at most 2/1 restarts in 5 s\n",
+        TryEnd::Done,
+    )?;
+    judges(
+        &rt,
+        alloc,
+        ONE_IN_FIVE,
+        Clock::Seconds,
+        "hang db\nat 1.5s terminate db\nat 6s expect up db\n+1s expect end db\n",
+        "line 3: it is not so: at 6s expect up db\nverdict: the root survived, at most 0/1 restarts in 5 s\n",
+        TryEnd::ExpectationFailed(3),
+    )
+}
+
+/// A slow child ends so long after it was asked to; at its deadline it is killed.
+#[test]
+fn slow_children(rt: HostRuntime) -> Result<(), Fail> {
+    let alloc = rt.alloc();
+    plays(
+        &rt,
+        alloc,
+        Writer::Script,
+        "slow db 3s\nterminate db\n+1m restart db\nslow db 9s\nterminate db\n+1m\nslow db 1h\n",
+        "0.000 s  start db #1\n0.000 s  ready\nline 1: slow db 3s\nline 2: terminate db\n0.000 s  ask db #1\n\
+line 3: +1m restart db\n3.000 s  reply 1 ok\n60.000 s  start db #2\n60.000 s  reply 2 ok #2\n\
+line 4: slow db 9s\nline 5: terminate db\n60.000 s  ask db #2\nline 6: +1m\n65.000 s  kill db #2\n65.000 s  reply 3 ok\n\
+line 7: slow db 1h\n120.000 s  1 down, 0/3 restarts in 10 s\nunused: slow db (line 7)\n",
+        TryEnd::Done,
+    )?;
+    plays_on(
+        &rt,
+        alloc,
+        NESTED,
+        Writer::Script,
+        "slow sub 2s\nslow sub/x 1s\nstop\n+10s\n",
+        "0.000 s  start sub #1\n0.000 s  start sub/x #2\n0.000 s  sub/ ready\n0.000 s  ready\nline 1: slow sub 2s\n\
+line 2: slow sub/x 1s\nline 3: stop\n0.000 s  ask sub #1\nline 4: +10s\n2.000 s  ask sub/x #2\n\
+3.000 s  sub/ end shutdown: asked to stop\n3.000 s  end shutdown: asked to stop\n10.000 s  the supervisor has ended\n",
+        TryEnd::Done,
+    )
+}
+
+/// What a time or `every` in front of a line says.
+fn says_time(
+    rt: &impl Abort,
+    line: &str,
+    said: Result<(When, u64), ScriptFault>,
+) -> Result<(), Fail> {
+    let step = read_step(line.as_bytes());
+    same(rt, line, step.map(|step| (step.when, step.times)), said);
+    Ok(())
+}
+
+/// Times have each form in which the program prints one.
+#[test]
+fn times(rt: HostRuntime) -> Result<(), Fail> {
+    for (line, time) in [
+        ("at 1.500s crash db", 1500),
+        ("at 1.5 s crash db", 1500),
+        ("at 3334 ms", 3334),
+        ("at 0.05s", 50),
+        ("at 1h", 3_600_000),
+        ("at 1.5m stop", 90_000),
+        ("at 2 m stop", 120_000),
+        ("at 12", 12),
+    ] {
+        says_time(&rt, line, Ok((When::At(time), 1)))?;
+    }
+    says_time(&rt, "+250 ms stop", Ok((When::After(250), 1)))?;
+    says_time(
+        &rt,
+        "every 2s 20 times crash db",
+        Ok((When::After(2000), 20)),
+    )?;
+    says_time(&rt, "every 1.5 s 2 times stop", Ok((When::After(1500), 2)))?;
+    for line in [
+        "at 1.5ms",
+        "at 1.s",
+        "at .5s",
+        "at 1.2345s",
+        "at 1,5s",
+        "at 1d",
+        "at",
+        "slow db",
+    ] {
+        says_time(&rt, line, Err(ScriptFault::BadTime))?;
+    }
+    for line in [
+        "every 2s crash db",
+        "every 2s 0 times stop",
+        "every 2s 10001 times stop",
+        "every 2s 3 time stop",
+    ] {
+        says_time(&rt, line, Err(ScriptFault::BadTimes))?;
+    }
+    says_time(&rt, "at 1000000000001h", Err(ScriptFault::LargeTime))
+}
+
+/// A word that is nearly one of a line is told, at a prompt also one of the prompt's own.
+#[test]
+fn near_words(rt: HostRuntime) -> Result<(), Fail> {
+    let alloc = rt.alloc();
+    let opened = "0.000 s  start db #1\n0.000 s  ready\n";
+    for (line, fault) in [
+        ("crsh db", ScriptFault::Misspelt(Word::Crash)),
+        ("at 1s pool/ stpo", ScriptFault::Misspelt(Word::Stop)),
+        ("evry 2s 2 times stop", ScriptFault::Misspelt(Word::Every)),
+        ("quitt", ScriptFault::UnknownWord),
+        ("zzz", ScriptFault::UnknownWord),
+    ] {
+        plays(
+            &rt,
+            alloc,
+            Writer::Script,
+            line,
+            opened,
+            TryEnd::LineRefused(1, fault),
+        )?;
+    }
+    plays(
+        &rt,
+        alloc,
+        Writer::Person,
+        "quitt\nstatus\nquit\n",
+        "0.000 s  start db #1\n0.000 s  ready\nhelp lists what may be written here\n0.000 s  1 up, 0/3 restarts in 10 s> \
+unknown word: did you mean quit?\n0.000 s  1 up, 0/3 restarts in 10 s\n0.000 s  1 up, 0/3 restarts in 10 s\n",
+        TryEnd::Done,
+    )
+}
+
+/// A prompt says when next something happens by itself, and that something waits; a mark before the first line says nothing.
+#[test]
+fn prompts(rt: HostRuntime) -> Result<(), Fail> {
+    plays(
+        &rt,
+        rt.alloc(),
+        Writer::Script,
+        "\u{feff}stop\n",
+        "0.000 s  start db #1\n0.000 s  ready\nline 1: stop\n0.000 s  ask db #1\n0.000 s  end shutdown: asked to stop\n\
+0.000 s  the supervisor has ended\n",
+        TryEnd::Done,
+    )?;
+    plays(
+        &rt,
+        rt.alloc(),
+        Writer::Person,
+        "hang db\nterminate db\ncount\n",
+        "0.000 s  start db #1\n0.000 s  ready\nhelp lists what may be written here\n0.000 s  1 up, 0/3 restarts in 10 s> \
+0.000 s  ask db #1\n0.000 s  1 stopping, 0/3 restarts in 10 s, next at 5.000 s, what came since waits> \n\
+0.000 s  1 stopping, 0/3 restarts in 10 s\nawaits the end of db #1 until 5.000 s\nwhat came since waits until that is done\n",
+        TryEnd::Done,
+    )?;
+    // Behind a line that isn't finished stands no prompt.
+    plays(
+        &rt,
+        rt.alloc(),
+        Writer::Person,
+        "hang db\nterminate db",
+        "0.000 s  start db #1\n0.000 s  ready\nhelp lists what may be written here\n0.000 s  1 up, 0/3 restarts in 10 s> \n\
+0.000 s  ask db #1\n0.000 s  1 stopping, 0/3 restarts in 10 s\nawaits the end of db #1 until 5.000 s\n",
+        TryEnd::Done,
+    )
+}
+
+/// A person may have the last line undone, or begin anew: the tree stands as before, and nothing is told again.
+#[test]
+fn lines_undone(rt: HostRuntime) -> Result<(), Fail> {
+    plays(
+        &rt,
+        rt.alloc(),
+        Writer::Person,
+        "+1s crash db\n+1s crash db\ncrash bd\nundo\nstatus\ncrash #2\nreset\nstatus\nundo\nquit\n",
+        "0.000 s  start db #1\n0.000 s  ready\nhelp lists what may be written here\n0.000 s  1 up, 0/3 restarts in 10 s> \
+1.000 s  start db #2\n2.000 s  start db #3\n\
+ignored: there is no such child; which lists the root's, PATH/ which those below\n\
+1.000 s  1 up, 1/3 restarts in 10 s\n1.000 s  start db #3\n0.000 s  1 up, 0/3 restarts in 10 s\n\
+0.000 s  1 up, 0/3 restarts in 10 s\n",
+        TryEnd::Done,
+    )
+}
+
+/// Calls with a path, and what they name: a child that has no process is known all the same.
+#[test]
+fn calls_with_paths(rt: HostRuntime) -> Result<(), Fail> {
+    plays_on(
+        &rt,
+        rt.alloc(),
+        NESTED,
+        Writer::Script,
+        "terminate sub/x\nfail sub/x\nget sub/x\ndelete sub/x\nterminate sub/x\nrestart sub/x\n",
+        "0.000 s  start sub #1\n0.000 s  start sub/x #2\n0.000 s  sub/ ready\n0.000 s  ready\n\
+line 1: terminate sub/x\n0.000 s  ask sub/x #2\n0.000 s  sub/ reply 1 ok\nline 2: fail sub/x\nline 3: get sub/x\n\
+0.000 s  sub/ reply 2 spec x start x restart permanent significant false shutdown 5000 type worker modules x\n\
+line 4: delete sub/x\n0.000 s  sub/ reply 3 ok\nline 5: terminate sub/x\n0.000 s  sub/ reply 4 error not_found\n\
+line 5: there is no such child; which lists the root's, PATH/ which those below\nline 6: restart sub/x\n\
+0.000 s  sub/ reply 5 error not_found\n\
+line 6: there is no such child; which lists the root's, PATH/ which those below\n\
+0.000 s  1 up, 0/1 restarts in 10 s\n0.000 s  sub/ no children, 0/1 restarts in 5 s\nunused: fail sub/x (line 2)\n",
+        TryEnd::Done,
+    )
 }
 
 /// Does it survive four crashes in three seconds? It doesn't, and says why.
@@ -213,7 +574,7 @@ fn missed_lines(rt: HostRuntime) -> Result<(), Fail> {
         Writer::Script,
         "\ncarsh db\n",
         "0.000 s  start db #1\n0.000 s  ready\n",
-        TryEnd::LineRefused(2, ScriptFault::UnknownWord),
+        TryEnd::LineRefused(2, ScriptFault::Misspelt(Word::Crash)),
     )?;
     plays(
         &rt,
@@ -255,8 +616,7 @@ line 1: there is no such child; which lists the root's, PATH/ which those below\
         rt.alloc(),
         Writer::Person,
         "ignore bd",
-        "0.000 s  start db #1\n0.000 s  ready\nhelp lists what may be written here\n0.000 s  1 up, 0/3 restarts in 10 s> \
-0.000 s  1 up, 0/3 restarts in 10 s> \nline 1: there is no such child; which lists the root's, PATH/ which those below\n\
+        "0.000 s  start db #1\n0.000 s  ready\nhelp lists what may be written here\n0.000 s  1 up, 0/3 restarts in 10 s> \nline 1: there is no such child; which lists the root's, PATH/ which those below\n\
 0.000 s  1 up, 0/3 restarts in 10 s\nunused: ignore bd (line 1)\n",
         TryEnd::Done,
     )
@@ -484,15 +844,19 @@ fn drawn_ends(rt: HostRuntime) -> Result<(), Fail> {
         rt.alloc(),
         NESTED,
         Writer::Script,
-        Shows::Timeline { is_coloured: false },
+        Shows::Timeline {
+            is_coloured: false,
+            width: 80,
+        },
         "at 1s crash sub/x\ncrash sub/x\nfail y\nrestart z\n",
-        "#N runs as process N, +#N starts, -#N is to end; retry: its start failed\n\
+        "#N runs as process N, *#N anew; +#N starts, -#N is to end; retry: start failed\n\
+a column is a line of the script, when it was played; N/M: N restarts of M\n\
 1.000 s  sub/ end shutdown: more than 1 restart within 5 s: at 1.000 s, 1.000 s\n\
 line                       start       1       2       3       4\n\
 seconds                    0.000   1.000   1.000   1.000   1.000\n\
-sub                           #1      #1      #4      #4      #4\n\
+sub                           #1      #1     *#4      #4      #4\n\
 restarts in 10 s             0/1     0/1     1/1     1/1     1/1\n\
-sub/x                         #2      #3      #5      #5      #5\n\
+sub/x                         #2     *#3     *#5      #5      #5\n\
 sub/restarts in 5 s          0/1     1/1     0/1     0/1     0/1\n\
 1.000 s  1 up, 1/1 restarts in 10 s\n1.000 s  sub/ 1 up, 0/1 restarts in 5 s\nunused: fail y (line 3)\n",
         TryEnd::LineMissed(3, ActionEnd::NoChild),
@@ -506,7 +870,7 @@ start = \"m\", tree = {child = [{id = \"eighteen_letters_x\", start = \"m\"}]}}]
 
 /// What is drawn of them, and how they stand at the end.
 const LONG_DRAWN: &str =
-    "#N runs as process N, +#N starts, -#N is to end; retry: its start failed\nline                       start       1       2       3\nseconds                    0.000   0.000   0.000   0.000\nsecond_supervisor_below_root\n                              #1      #1      #1      #1\nrestarts in 5 s              0/1     0/1     0/1     0/1\nsecond_supervisor_below_root/third_supervisor_below_the_root\n                              #2      #2      #2      #2\nsecond_supervisor_below_root/restarts in 5 s\n                             0/1     0/1     0/1     0/1\nsecond_supervisor_below_root/third_supervisor_below_the_root/eighteen_letters_x\n                              #3      #3      #3     -#3\nsecond_supervisor_below_root/third_supervisor_below_the_root/restarts in 5 s\n                             0/1     0/1     0/1     0/1\n0.000 s  1 up, 0/1 restarts in 5 s\n0.000 s  second_supervisor_below_root/ 1 up, 0/1 restarts in 5 s\n0.000 s  second_supervisor_below_root/...e_root/ 1 stopping, 0/1 restarts in 5 s\nawaits the end of second_supervisor_be...oot/eighteen_letters_x #3 until 5.000 s\nunused: fail second_supervisor_below_r...ow_the_root/eighteen_letters_x (line 2)\n";
+    "#N runs as process N, *#N anew; +#N starts, -#N is to end; retry: start failed\na column is a line of the script, when it was played; N/M: N restarts of M\nline                       start       1       2       3\nseconds                    0.000   0.000   0.000   0.000\nsecond_supervisor_below_root\n                              #1      #1      #1      #1\nrestarts in 5 s              0/1     0/1     0/1     0/1\nsecond_supervisor_below_root/third_supervisor_below_the_root\n                              #2      #2      #2      #2\nsecond_supervisor_below_root/restarts in 5 s\n                             0/1     0/1     0/1     0/1\nsecond_supervisor_below_root/third_supervisor_below_the_root/eighteen_letters_x\n                              #3      #3      #3     -#3\nsecond_supervisor_below_root/third_supervisor_below_the_root/restarts in 5 s\n                             0/1     0/1     0/1     0/1\n0.000 s  1 up, 0/1 restarts in 5 s\n0.000 s  second_supervisor_below_root/ 1 up, 0/1 restarts in 5 s\n0.000 s  second_supervisor_below_root/...e_root/ 1 stopping, 0/1 restarts in 5 s\nawaits the end of second_supervisor_be...oot/eighteen_letters_x #3 until 5.000 s\nunused: fail second_supervisor_below_r...ow_the_root/eighteen_letters_x (line 2)\n";
 
 /// No line below a picture has more than 80 columns: of a longer one the middle is left out.
 #[test]
@@ -516,7 +880,10 @@ fn long_paths(rt: HostRuntime) -> Result<(), Fail> {
         rt.alloc(),
         LONG,
         Writer::Script,
-        Shows::Timeline { is_coloured: false },
+        Shows::Timeline {
+            is_coloured: false,
+            width: 80,
+        },
         "hang second_supervisor_below_root/third_supervisor_below_the_root/eighteen_letters_x\nfail second_supervisor_below_root/third_supervisor_below_the_root/eighteen_letters_x\nterminate second_supervisor_below_root/third_supervisor_below_the_root/eighteen_letters_x\n",
         LONG_DRAWN,
         TryEnd::Done,

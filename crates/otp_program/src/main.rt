@@ -1,7 +1,7 @@
 //! The program `otp`.
 #![tactic(auto)]
 
-use otp_console::otp;
+use otp_host::otp;
 use std::process::ExitCode;
 
 fn main(rt: HostRuntime) -> ExitCode {

@@ -63,8 +63,10 @@ pub fn sim<R: Input, W: Output>(
 }
 
 /// Serves the lines of the input, to its end or to the line that ends the run, and writes what is printed
-/// before each read that might wait, and before it ends.
-pub(crate) fn serve<S: Driven, R: Input, W: Output>(
+/// before each read that might wait, and before it ends. What is ready, as of the opening, is written first.
+///
+/// It ends as [`sim`] does. Whoever takes the lines has taken none before.
+pub fn serve<S: Driven, R: Input, W: Output>(
     alloc: Global,
     driven: &mut S,
     ready: &mut Vec<u8>,

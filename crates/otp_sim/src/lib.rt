@@ -15,10 +15,8 @@ mod whole;
 mod writing;
 
 pub use device::{Failed, Input, Output, PIECE};
-pub use engine::{SimEnd, sim};
+pub use engine::{SimEnd, serve, sim};
+pub use player::Player;
 pub use room::make_room;
 pub use streams::Counted;
 pub use writing::write_all;
-
-#[cfg(test)]
-mod tests;

@@ -1,5 +1,3 @@
-pub mod Tellings
-pub mod Plantings
+pub mod Moves
 pub mod Pieces
 pub mod Pages
-pub mod Kept

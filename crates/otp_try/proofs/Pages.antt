@@ -1,5 +1,5 @@
 -- What is on the page and what is written, one after another.
-use Rattle.std.specs.Prelude.{◌≡◌, ℕ, Bool, true, List, [], ◌∷◌, ◌++◌, Option, Result, Ok, Err, OnOk, OnErr, refl}
+use Rattle.std.specs.Prelude.{◌≡◌, ℕ, Bool, true, false, List, [], ◌∷◌, ◌++◌, Option, Result, Ok, Err, OnOk, OnErr, refl}
 use Rattle.std.proofs.Common.{◌∙◌, ap, sym, subst, append_assoc, append-nil}
 use Rattle.std.proofs.KnownBytes.{Appends-nil, Appends-trans}
 use Rattle.std.specs.Io.KnownBytes.{Appends}
@@ -8,18 +8,19 @@ use Rattle.otp_rules.specs.declared.event.Kind.TheVariants as kind
 use Rattle.otp_sim.specs.Devices.{AppendsPart}
 use Rattle.otp_timeline.specs.declared.moment.Moment.{Moment}
 use Rattle.otp_try.specs.Fit.{fit}
-use Rattle.otp_try.specs.Page.{Adds, IsSummary, IsWhole, Piece, Remark, drawing, pieces_text, remark_text, summary_text, whole_text}
-use Rattle.otp_try.specs.Page.Remark.{Picture, Summary}
+use Rattle.otp_try.specs.Page.{Adds, IsStand, IsSummary, IsWhole, Piece, Remark, drawing, pieces_text, remark_text, stand_text, summary_text, whole_text}
+use Rattle.otp_try.specs.Page.Remark.{Picture, Status, Summary}
 use Rattle.otp_try.specs.Pages.{AddsTo, Closing, Concluded, Ended, IsHalt, Played, Ran, StopsSo, SumsUp, Unopened, WritesOut, Wrote, WrotePart, end_of}
-use Rattle.otp_try.specs.Played.{IsPlanted, Seated, TellsFirst}
+use Rattle.otp_trial.specs.Played.{IsPlanted, Seated, TellsFirst}
 use Rattle.otp_try.specs.Prompt.{standings_text}
 use Rattle.otp_try.specs.Unused.{unused_text}
+use Rattle.otp_try.specs.Verdict.{run_verdict}
 use Rattle.otp_try.specs.declared.early.EarlyEnd.{EarlyEnd}
 use Rattle.otp_try.specs.declared.early.EarlyEnd.TheVariants.{LineRefused, LineMissed, HistoryFull, InputFailed, OutputFailed, OutOfMemory}
 use Rattle.otp_try.specs.declared.play.TryEnd.{TryEnd}
 use Rattle.otp_try.specs.declared.play.TryEnd.TheVariants as try
-use Rattle.otp_try.specs.declared.world.Hang.{Hang}
-use Rattle.otp_try.specs.declared.world.Plan.{Plan}
+use Rattle.otp_trial.specs.declared.world.Hang.{Hang}
+use Rattle.otp_trial.specs.declared.world.Plan.{Plan}
 use Rattle.otp_try.proofs.Pieces.{adds-then, adds_nothing, adds_remark, adds_sheet, leads-append, text-append}
 
 -- ---- the page
@@ -36,21 +37,47 @@ pub some_remark : {T E : Type 0} (r : Result T E) (seats : List Seated) (x y tex
 some_remark (Ok _) seats x y text said is put = (said, put ∙ ap (λ (t : List ℕ). x ++ t) is)
 some_remark (Err _) seats x y text said is put = tt
 
--- what is to be said at the end was written down
-pub some_whole : {T E : Type 0} (r : Result T E) (seats : List Seated) (now : ℕ) (others : List Bool) (plans : List Plan) (hanging : List Hang) (x y z : List ℕ)
+-- how the supervisors stand is a remark
+pub status_remark : {T E : Type 0} (r : Result T E) (seats : List Seated) (x y : List ℕ)
+    → OnOk r ((now : ℕ) × (others : List Bool) × (y ≡ x ++ standings_text now seats (true ∷ others))) → OnOk r ((remark : Remark) × (y ≡ x ++ remark_text remark seats))
+unfolding remark_text
+status_remark (Ok _) seats x y (now, others, put) = (Status now (true ∷ others), put)
+status_remark (Err _) seats x y put = tt
+
+-- how the supervisors stand was written down
+pub some_stand : {T E : Type 0} (r : Result T E) (seats : List Seated) (now : ℕ) (others : List Bool) (plans : List Plan) (hanging : List Hang) (x y z : List ℕ)
     → y ≡ x ++ standings_text now seats (true ∷ others) → OnOk r (z ≡ y ++ unused_text seats plans hanging)
-    → OnOk r ((whole : List ℕ) × IsWhole seats whole × (z ≡ x ++ whole))
-unfolding whole_text
-some_whole (Ok _) seats now others plans hanging x y z first second =
+    → OnOk r ((stand : List ℕ) × IsStand seats stand × (z ≡ x ++ stand))
+unfolding stand_text
+some_stand (Ok _) seats now others plans hanging x y z first second =
     let standings : List ℕ = standings_text now seats (true ∷ others) in
     let unused : List ℕ = unused_text seats plans hanging in
     (standings ++ unused, (now, others, plans, hanging, refl), second ∙ ap (λ (t : List ℕ). t ++ unused) first ∙ append_assoc x standings unused)
-some_whole (Err _) seats now others plans hanging x y z first second = tt
+some_stand (Err _) seats now others plans hanging x y z first second = tt
+
+-- and then the verdict
+pub some_whole : {T E : Type 0} (r : Result T E) (seats : List Seated) (x y z : List ℕ) → ((stand : List ℕ) × IsStand seats stand × (y ≡ x ++ stand))
+    → OnOk r (z ≡ y ++ run_verdict seats) → OnOk r ((whole : List ℕ) × IsWhole seats whole × (z ≡ x ++ whole))
+unfolding whole_text
+some_whole (Ok _) seats x y z (stand, (now, others, plans, hanging, is), first) second =
+    let verdict : List ℕ = run_verdict seats in (
+      stand ++ verdict,
+      (false, now, others, plans, hanging, ap (λ (t : List ℕ). t ++ verdict) is),
+      second ∙ ap (λ (t : List ℕ). t ++ verdict) first ∙ append_assoc x stand verdict,
+    )
+some_whole (Err _) seats x y z first second = tt
+
+-- or that alone
+pub some_quiet : {T E : Type 0} (r : Result T E) (seats : List Seated) (x z : List ℕ) → OnOk r (z ≡ x ++ run_verdict seats)
+    → OnOk r ((whole : List ℕ) × IsWhole seats whole × (z ≡ x ++ whole))
+unfolding whole_text
+some_quiet (Ok _) seats x z put = (run_verdict seats, (true, 0, [], [], [], refl), put)
+some_quiet (Err _) seats x z put = tt
 
 -- and it is the summary in lines of at most 80 columns
 pub whole_fitted : (seats : List Seated) (whole lines : List ℕ) → IsWhole seats whole → lines ≡ fit [] whole → IsSummary seats lines
 unfolding summary_text
-whole_fitted seats whole lines (now, others, plans, hanging, is) fitted = (now, others, plans, hanging, fitted ∙ ap (λ (t : List ℕ). fit [] t) is)
+whole_fitted seats whole lines (is_quiet, now, others, plans, hanging, is) fitted = (is_quiet, now, others, plans, hanging, fitted ∙ ap (λ (t : List ℕ). fit [] t) is)
 
 -- a text was put on the page, or nothing
 pub puts_remark : {T E : Type 0} (r : Result T E) (a b : List Seated) (x y text : List ℕ) (said : Remark) → b ≡ a → text ≡ remark_text said a
@@ -275,6 +302,7 @@ concluded-then a b p q x y z first second =
 pub ended-then : (end : TryEnd) (a b : List Seated) (p q : List ℕ) (x y z : Option (List ℕ)) → Wrote a b p q x y → Ended end b q y z
     → Ended end a p x z
 ended-then try.Done a b p q x y z first second = concluded-then a b p q x y z first second
+ended-then (try.ExpectationFailed _) a b p q x y z first second = concluded-then a b p q x y z first second
 ended-then (try.LineRefused _ _) a b p q x y z first second = some_then a b p q [] x y z first second
 ended-then (try.LineMissed _ _) a b p q x y z first second = some_then a b p q [] x y z first second
 ended-then try.HistoryFull a b p q x y z first second = some_then a b p q [] x y z first second
@@ -310,8 +338,8 @@ closing a x y summary sums put = record { middle = x; adds = adds_nothing a a x 
 -- a summary is a remark
 summary_adds : (a : List Seated) (x y summary : List ℕ) → IsSummary a summary → y ≡ x ++ summary → Adds a a x y
 unfolding remark_text
-summary_adds a x y summary (now, others, plans, hanging, is) put =
-    adds_remark a a x y (Summary now (true ∷ others) plans hanging) refl (put ∙ ap (λ (t : List ℕ). x ++ t) is)
+summary_adds a x y summary (is_quiet, now, others, plans, hanging, is) put =
+    adds_remark a a x y (Summary is_quiet now (true ∷ others) plans hanging) refl (put ∙ ap (λ (t : List ℕ). x ++ t) is)
 
 pub closing_adds : (a : List Seated) (x y : List ℕ) → Closing a x y → Adds a a x y
 closing_adds a x y closed =
@@ -330,10 +358,9 @@ sums-then (Ok _) a b x y z first stands closed =
 sums-then (Err _) a b x y z first stands (stood, rest) =
     (stood, adds-then a a stood x y z first (subst (λ (s : List Seated). Adds s stood y z) stands rest))
 
--- all lines were played, and the rest is written
-pub concludes : (end : TryEnd) (a b : List Seated) (p q r : List ℕ) (x y z : Option (List ℕ)) → Wrote a b p q x y → Closing b q r
-    → WritesOut end r y z → Ended end a p x z
-concludes try.Done a b p q r x y z wrote closed appended =
+-- all that is left of a run was written
+concludes_all : (a b : List Seated) (p q r : List ℕ) (x y z : Option (List ℕ)) → Wrote a b p q x y → Closing b q r → Appends y z r → Concluded a p x z
+concludes_all a b p q r x y z wrote closed appended =
     let all : Wrote a b p closed.middle x y = wrote-then a b b p q closed.middle x y y wrote (wrote_adds b b q closed.middle y closed.adds) in
     record {
       pieces = all.pieces;
@@ -347,6 +374,12 @@ concludes try.Done a b p q r x y z wrote closed appended =
           ∙ sym (append_assoc all.written closed.middle closed.summary)
           ∙ ap (λ (t : List ℕ). t ++ closed.summary) all.text;
     }
+
+-- all lines were played, and the rest is written
+pub concludes : (end : TryEnd) (a b : List Seated) (p q r : List ℕ) (x y z : Option (List ℕ)) → Wrote a b p q x y → Closing b q r
+    → WritesOut end r y z → Ended end a p x z
+concludes try.Done a b p q r x y z wrote closed appended = concludes_all a b p q r x y z wrote closed appended
+concludes (try.ExpectationFailed _) a b p q r x y z wrote closed appended = concludes_all a b p q r x y z wrote closed appended
 concludes try.OutputFailed a b p q r x y z wrote closed part =
     let all : Wrote a b p r x y = wrote-then a b b p q r x y y wrote (wrote_adds b b q r y (closing_adds b q r closed)) in
     part-then a b p r x y z all (part_page b r r y z refl part)

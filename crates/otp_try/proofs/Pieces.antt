@@ -1,11 +1,11 @@
 -- Pieces of a run that come one after another.
-use Rattle.std.specs.Prelude.{◌≡◌, ℕ, Bool, List, [], ◌∷◌, ◌++◌, refl, slice_set}
+use Rattle.std.specs.Prelude.{◌≡◌, ℕ, Bool, List, [], ◌∷◌, ◌++◌, map, refl, slice_set}
 use Rattle.std.proofs.Common.{◌∙◌, ap, sym, subst, append_assoc, append-nil}
-use Rattle.otp_try.specs.Page.{Adds, Leads, Moved, Piece, Remark, Said, heading_line, pieces_text, remark_text, shown, verdict_text}
+use Rattle.otp_try.specs.Page.{Adds, Leads, Moved, Piece, Remark, Said, Undone, heading_line, pieces_text, remark_text, shown, verdict_text}
 use Rattle.otp_try.specs.Page.Remark.{Heading, Verdict}
-use Rattle.otp_try.specs.Played.{Lead, Move, Seated, Tells, move_text, seat_after, story}
+use Rattle.otp_trial.specs.Played.{Lead, Move, Seated, Tells, fresh, move_text, seat_after, story}
 use Rattle.otp_try.specs.declared.play.Writer.{Writer}
-use Rattle.otp_try.specs.declared.trial.ActionEnd.{ActionEnd}
+use Rattle.otp_trial.specs.declared.trial.ActionEnd.{ActionEnd}
 
 -- the supervisors after a move
 abbrev pub after : List Seated → Move → List Seated
@@ -15,6 +15,7 @@ pub leads-append : (a b c : List Seated) (ps qs : List Piece) → Leads a ps b �
 leads-append a b c [] qs first second = subst (λ (s : List Seated). Leads s qs c) first second
 leads-append a b c (Moved m ∷ ps) qs (here, rest) second = (here, leads-append (after a m) b c ps qs rest second)
 leads-append a b c (Said r ∷ ps) qs first second = leads-append a b c ps qs first second
+leads-append a b c (Undone ms other ∷ ps) qs (here, rest) second = (here, leads-append other b c ps qs rest second)
 
 pub text-append : (a b : List Seated) (ps qs : List Piece) → Leads a ps b → pieces_text a (ps ++ qs) ≡ pieces_text a ps ++ pieces_text b qs
 text-append a b [] qs first = ap (λ (s : List Seated). pieces_text s qs) (sym first)
@@ -24,6 +25,7 @@ text-append a b (Moved m ∷ ps) qs (here, rest) =
 text-append a b (Said r ∷ ps) qs first =
     ap (λ (text : List ℕ). remark_text r a ++ text) (text-append a b ps qs first)
     ∙ sym (append_assoc (remark_text r a) (pieces_text a ps) (pieces_text b qs))
+text-append a b (Undone ms other ∷ ps) qs (here, rest) = text-append other b ps qs rest
 
 -- what was put on the page first, and then what was put behind it
 pub adds-then : (a b c : List Seated) (x y z : List ℕ) → Adds a b x y → Adds b c y z → Adds a c x z
@@ -47,6 +49,14 @@ adds_remark a b x y r stands said = record {
   lead = stands;
   text = said ∙ ap (λ (text : List ℕ). x ++ text) (sym (append-nil (remark_text r a)));
 }
+
+-- the tree stands as at the beginning, and then moves are made of which nothing is told
+pub adds_undone : (a b : List Seated) (x y p q : List ℕ) → Tells (map fresh a) b x y → q ≡ p → Adds a b p q
+adds_undone a b x y p q (ms, led, told) same = record { pieces = Undone ms b ∷ []; lead = (led, refl); text = same ∙ sym (append-nil p) }
+
+-- the same after moves that were told elsewhere
+pub undone_by : (a b : List Seated) (p : List ℕ) → ((x : List ℕ) × (y : List ℕ) × Tells (map fresh a) b x y) → Adds a b p p
+undone_by a b p (x, y, told) = adds_undone a b x y p p told refl
 
 -- moves alone
 moved : List Move → List Piece
@@ -80,11 +90,11 @@ adds_sheet a b sheet written page new empty told put = record {
 }
 
 -- the heading of a line, then what its supervisors order, then what became of it
-pub adds_line : (number k : ℕ) (line : List ℕ) (by : Writer) (is_unknown is_told : Bool) (end : ActionEnd) (a b : List Seated) (w x y z : List ℕ)
-    → ((has_heading : Bool) × (x ≡ w ++ heading_line has_heading number line)) → Tells a b x y → z ≡ y ++ shown is_told (verdict_text by k is_unknown end)
+pub adds_line : (number k : ℕ) (line : List ℕ) (by : Writer) (is_unknown : Bool) (end : ActionEnd) (a b : List Seated) (w x y z : List ℕ)
+    → ((has_heading : Bool) × (x ≡ w ++ heading_line has_heading number line)) → Tells a b x y → ((is_told : Bool) × (z ≡ y ++ shown is_told (verdict_text by k line is_unknown end)))
     → Adds a b w z
 unfolding remark_text
-adds_line number k line by is_unknown is_told end a b w x y z (has_heading, above) told below =
+adds_line number k line by is_unknown end a b w x y z (has_heading, above) told (is_told, below) =
     adds-then a b b w y z
     (adds-then a a b w x y (adds_remark a a w x (Heading has_heading number line) refl above) (adds_moves a b x y told))
-    (adds_remark b b y z (Verdict is_told by k is_unknown end) refl below)
+    (adds_remark b b y z (Verdict is_told by k line is_unknown end) refl below)

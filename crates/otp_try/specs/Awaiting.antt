@@ -6,7 +6,7 @@ use Rattle.otp_table.specs.declared.row.Row.{Row}
 use Rattle.otp_table.specs.declared.row.RowState.{RowState}
 use Rattle.otp_table.specs.declared.row.RowState.TheVariants.{Undefined, Starting, Up, Asked, Killed, Restarting}
 use Rattle.otp_text.specs.Values.{child_name_text, process_text}
-use Rattle.otp_try.specs.Story.{heading, time_text}
+use Rattle.otp_trial.specs.Story.{heading, time_text}
 
 -- until when, if there is a deadline
 unfoldable pub until_text : Option ℕ → List ℕ

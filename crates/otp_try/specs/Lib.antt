@@ -1,15 +1,10 @@
-pub mod Starts
-pub mod Story
 pub mod Fit
-pub mod World
-pub mod Played
-pub mod Inside
-pub mod TrialInside
 pub mod Texts
 pub mod Sketched
 pub mod Standing
 pub mod Awaiting
 pub mod Prompt
 pub mod Unused
+pub mod Verdict
 pub mod Page
 pub mod Pages

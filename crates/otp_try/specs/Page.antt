@@ -1,21 +1,24 @@
 -- What is put on the page of a trial: the orders of its supervisors, in order, all of them or the ends alone, and remarks between
 -- them (own).
-use Rattle.std.specs.Prelude.{◌≡◌, ℕ, Bool, true, false, List, [], ◌∷◌, ◌++◌, codes, slice_set}
+use Rattle.std.specs.Prelude.{◌≡◌, ℕ, Bool, true, false, Option, List, [], ◌∷◌, ◌++◌, codes, map, slice_set}
 use Rattle.otp_timeline.specs.declared.moment.Moment.{Moment}
 use Rattle.otp_try.specs.Fit.{fit}
-use Rattle.otp_try.specs.Played.{IsAt, Move, Seated, move_text, seat_after}
+use Rattle.otp_trial.specs.Played.{IsAt, Lead, Move, Seated, fresh, move_text, seat_after}
 use Rattle.otp_try.specs.Prompt.{prompt_text, standings_text}
 use Rattle.otp_try.specs.Sketched.{picture}
-use Rattle.otp_try.specs.Story.{number_after}
-use Rattle.otp_try.specs.Texts.{farewell_text, fault_text, help_text, legend_text, taken_text, welcome_text}
+use Rattle.otp_trial.specs.Story.{number_after}
+use Rattle.otp_script.specs.Faults.{fault_text}
+use Rattle.otp_trial.specs.Taken.{taken_text}
+use Rattle.otp_try.specs.Texts.{farewell_text, help_text, legend_text, welcome_text}
 use Rattle.otp_try.specs.Unused.{unused_text}
+use Rattle.otp_try.specs.Verdict.{run_verdict}
 use Rattle.otp_try.specs.declared.play.Writer.{Writer}
 use Rattle.otp_try.specs.declared.play.Writer.TheVariants as writer
-use Rattle.otp_try.specs.declared.script.ScriptFault.{ScriptFault}
-use Rattle.otp_try.specs.declared.trial.ActionEnd.{ActionEnd}
-use Rattle.otp_try.specs.declared.trial.ActionEnd.TheVariants as taken
-use Rattle.otp_try.specs.declared.world.Hang.{Hang}
-use Rattle.otp_try.specs.declared.world.Plan.{Plan}
+use Rattle.otp_script.specs.declared.fault.ScriptFault.{ScriptFault}
+use Rattle.otp_trial.specs.declared.trial.ActionEnd.{ActionEnd}
+use Rattle.otp_trial.specs.declared.trial.ActionEnd.TheVariants as taken
+use Rattle.otp_trial.specs.declared.world.Hang.{Hang}
+use Rattle.otp_trial.specs.declared.world.Plan.{Plan}
 
 -- what is told beside the orders
 pub data Remark : Type 0 where
@@ -27,13 +30,17 @@ pub data Remark : Type 0 where
   Heading : Bool → ℕ → List ℕ → Remark
   -- why a line can't be read
   Fault : ScriptFault → Remark
-  -- behind what a line did, if that is told: whether it names nobody, and what became of it
-  Verdict : Bool → Writer → ℕ → Bool → ActionEnd → Remark
-  Prompt : Writer → ℕ → Remark
+  -- behind what a line did, if that is told: its number and text, whether it names nobody, and what became of it
+  Verdict : Bool → Writer → ℕ → List ℕ → Bool → ActionEnd → Remark
+  -- the prompt at this time; what happens next by itself, and whether events wait
+  Prompt : Writer → ℕ → Option ℕ → Bool → Remark
+  -- how the supervisors stand at this time, of which these have a process
+  Status : ℕ → List Bool → Remark
   -- where the input ends: the end of the line of the prompt
   Farewell : Remark
-  -- at the end: how the supervisors stand at this time, of which these have a process, and the plans of which nothing came
-  Summary : ℕ → List Bool → List Plan → List Hang → Remark
+  -- at the end: how the supervisors stand at this time, of which these have a process, and the plans of which nothing came,
+  -- and then the verdict; or that alone
+  Summary : Bool → ℕ → List Bool → List Plan → List Hang → Remark
   -- how these supervisors stood at these moments
   Picture : Bool → List Seated → List Moment → Remark
 
@@ -55,15 +62,20 @@ unfoldable pub known_text : ℕ → Bool → List ℕ
 known_text number true = unknown_text number
 known_text number false = []
 
+-- that it isn't as a line expects
+unfoldable pub unmet_text : ℕ → List ℕ → List ℕ
+unmet_text number line = line_number number ++ codes ": it is not so: " ++ line ++ codes "\n"
+
 -- a sentence for a person; a script ends with it
 unfoldable pub reply_text : Writer → List ℕ → List ℕ
 reply_text writer.Script text = []
 reply_text writer.Person text = text ++ codes "\n"
 
 -- what is told behind what a line did
-unfoldable pub verdict_text : Writer → ℕ → Bool → ActionEnd → List ℕ
-verdict_text writer number is_unknown taken.Done = known_text number is_unknown
-verdict_text writer number is_unknown why = reply_text writer (taken_text why)
+unfoldable pub verdict_text : Writer → ℕ → List ℕ → Bool → ActionEnd → List ℕ
+verdict_text writer number line is_unknown taken.Done = known_text number is_unknown
+verdict_text writer number line is_unknown taken.Unmet = unmet_text number line
+verdict_text writer number line is_unknown why = reply_text writer (taken_text why)
 
 -- a text, if it is shown
 unfoldable pub shown : Bool → List ℕ → List ℕ
@@ -79,23 +91,33 @@ drawing is_coloured seats (moment ∷ moments) = picture is_coloured seats (mome
 unfoldable pub fault_line : ScriptFault → List ℕ
 fault_line why = fault_text why ++ codes "\n"
 
--- what is to be said at the end of a run: how its supervisors stand, what they await, and what was planned and never came
-unfoldable pub whole_text : ℕ → List Seated → List Bool → List Plan → List Hang → List ℕ
-whole_text now seats running plans hanging = standings_text now seats running ++ unused_text seats plans hanging
+-- how the supervisors stand, what they await, and what was planned and never came
+unfoldable pub stand_text : ℕ → List Seated → List Bool → List Plan → List Hang → List ℕ
+stand_text now seats running plans hanging = standings_text now seats running ++ unused_text seats plans hanging
+
+-- a text says so of these supervisors, of which the root has a process
+abbrev pub IsStand : List Seated → List ℕ → Type 0
+IsStand seats text =
+    (now : ℕ) × (others : List Bool) × (plans : List Plan) × (hanging : List Hang) × (text ≡ stand_text now seats (true ∷ others) plans hanging)
+
+-- what is to be said at the end of a run: that, unless little is to be told, and the verdict
+unfoldable pub whole_text : Bool → ℕ → List Seated → List Bool → List Plan → List Hang → List ℕ
+whole_text true now seats running plans hanging = run_verdict seats
+whole_text false now seats running plans hanging = stand_text now seats running plans hanging ++ run_verdict seats
 
 -- a text says so of these supervisors, of which the root has a process
 abbrev pub IsWhole : List Seated → List ℕ → Type 0
 IsWhole seats text =
-    (now : ℕ) × (others : List Bool) × (plans : List Plan) × (hanging : List Hang) × (text ≡ whole_text now seats (true ∷ others) plans hanging)
+    (is_quiet : Bool) × (now : ℕ) × (others : List Bool) × (plans : List Plan) × (hanging : List Hang) × (text ≡ whole_text is_quiet now seats (true ∷ others) plans hanging)
 
 -- what stands at the end of a run: the same in lines of at most 80 columns
-unfoldable pub summary_text : ℕ → List Seated → List Bool → List Plan → List Hang → List ℕ
-summary_text now seats running plans hanging = fit [] (whole_text now seats running plans hanging)
+unfoldable pub summary_text : Bool → ℕ → List Seated → List Bool → List Plan → List Hang → List ℕ
+summary_text is_quiet now seats running plans hanging = fit [] (whole_text is_quiet now seats running plans hanging)
 
 -- the same of a text
 abbrev pub IsSummary : List Seated → List ℕ → Type 0
 IsSummary seats text =
-    (now : ℕ) × (others : List Bool) × (plans : List Plan) × (hanging : List Hang) × (text ≡ summary_text now seats (true ∷ others) plans hanging)
+    (is_quiet : Bool) × (now : ℕ) × (others : List Bool) × (plans : List Plan) × (hanging : List Hang) × (text ≡ summary_text is_quiet now seats (true ∷ others) plans hanging)
 
 -- what a remark says where the supervisors stand so
 unfoldable pub remark_text : Remark → List Seated → List ℕ
@@ -104,28 +126,33 @@ remark_text Help seats = help_text
 remark_text Legend seats = legend_text
 remark_text (Heading has_heading number line) seats = heading_line has_heading number line
 remark_text (Fault why) seats = fault_line why
-remark_text (Verdict is_told writer number is_unknown taken) seats = shown is_told (verdict_text writer number is_unknown taken)
-remark_text (Prompt writer now) seats = prompt_text writer seats now
+remark_text (Verdict is_told writer number line is_unknown taken) seats = shown is_told (verdict_text writer number line is_unknown taken)
+remark_text (Prompt writer now next waits) seats = prompt_text writer seats now next waits
+remark_text (Status now running) seats = standings_text now seats running
 remark_text Farewell seats = farewell_text
-remark_text (Summary now running plans hanging) seats = summary_text now seats running plans hanging
+remark_text (Summary is_quiet now running plans hanging) seats = summary_text is_quiet now seats running plans hanging
 remark_text (Picture is_coloured drawn moments) seats = drawing is_coloured drawn moments
 
--- what comes next of a run: a move, or something is said
+-- what comes next of a run: a move, or something is said; or a person wants lines undone: the tree stands as at the beginning of
+-- the run, and then these moves are made, of which nothing is told, and lead to these supervisors
 pub data Piece : Type 0 where
   Moved : Move → Piece
   Said : Remark → Piece
+  Undone : List Move → List Seated → Piece
 
 -- the moves among the pieces lead from these supervisors to those
 abbrev pub Leads : List Seated → List Piece → List Seated → Type 0
 Leads seats [] after = after ≡ seats
 Leads seats (Moved m ∷ ps) after = IsAt seats m.place m.seat × Leads (slice_set seats m.place (seat_after m)) ps after
 Leads seats (Said r ∷ ps) after = Leads seats ps after
+Leads seats (Undone ms other ∷ ps) after = Lead (map fresh seats) ms other × Leads other ps after
 
 -- the text of pieces, from these supervisors on: of each move the lines of those of its orders that are told
 abbrev pub pieces_text : List Seated → List Piece → List ℕ
 pieces_text seats [] = []
 pieces_text seats (Moved m ∷ ps) = move_text m ++ pieces_text (slice_set seats m.place (seat_after m)) ps
 pieces_text seats (Said r ∷ ps) = remark_text r seats ++ pieces_text seats ps
+pieces_text seats (Undone ms other ∷ ps) = pieces_text other ps
 
 -- the run went on so, and its pieces were put behind the text, in order: no move of the supervisors is left out
 pub record Adds (old new : List Seated) (before after : List ℕ) : Type 0 where

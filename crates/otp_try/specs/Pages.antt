@@ -5,11 +5,11 @@ use Rattle.otp_file.specs.Trees.{Tree}
 use Rattle.otp_rules.specs.declared.event.Kind.TheVariants as kind
 use Rattle.otp_sim.specs.Devices.{AppendsPart}
 use Rattle.otp_try.specs.Page.{Adds, IsSummary, Leads, Piece, pieces_text}
-use Rattle.otp_try.specs.Played.{IsPlanted, Seated, TellsFirst}
+use Rattle.otp_trial.specs.Played.{IsPlanted, Seated, TellsFirst}
 use Rattle.otp_try.specs.declared.early.EarlyEnd.{EarlyEnd}
 use Rattle.otp_try.specs.declared.early.EarlyEnd.TheVariants as early
 use Rattle.otp_try.specs.declared.play.TryEnd.{TryEnd}
-use Rattle.otp_try.specs.declared.play.TryEnd.TheVariants.{Done, LineRefused, LineMissed, HistoryFull, InputFailed, OutputFailed, OutOfMemory}
+use Rattle.otp_try.specs.declared.play.TryEnd.TheVariants.{Done, LineRefused, LineMissed, ExpectationFailed, HistoryFull, InputFailed, OutputFailed, OutOfMemory}
 use Rattle.otp_try.specs.declared.play.Writer.{Writer}
 use Rattle.otp_try.specs.declared.play.Writer.TheVariants as writer
 use Rattle.otp_try.specs.declared.sketch.Shows.{Shows}
@@ -66,9 +66,10 @@ abbrev pub SumsUp : {T E : Type 0} → Result T E → List Seated → List ℕ �
 SumsUp (Ok _) seats before after = Closing seats before after
 SumsUp (Err _) seats before after = (stood : List Seated) × Adds seats stood before after
 
--- the last of a run that ended well was written, or a beginning of it
+-- the last of a run that was played to its end was written, or a beginning of it
 abbrev pub WritesOut : TryEnd → List ℕ → Option (List ℕ) → Option (List ℕ) → Type 0
 WritesOut Done text before now = Appends before now text
+WritesOut (ExpectationFailed _) text before now = Appends before now text
 WritesOut OutputFailed text before now = AppendsPart before now text
 WritesOut _ text before now = ⊥
 
@@ -86,14 +87,16 @@ pub record Concluded (old : List Seated) (page : List ℕ) (before now : Option 
 -- a run from these supervisors on ended so, and nothing is left on the page: all its pieces were written, or the writer failed
 abbrev pub Ended : TryEnd → List Seated → List ℕ → Option (List ℕ) → Option (List ℕ) → Type 0
 Ended Done old page before now = Concluded old page before now
+Ended (ExpectationFailed _) old page before now = Concluded old page before now
 Ended OutputFailed old page before now = WrotePart old page before now
 Ended _ old page before now = (stood : List Seated) × Wrote old stood page [] before now
 
--- whether all orders are told: where a script is drawn, the ends of supervisors alone are
+-- whether all orders are told: where a script is drawn, or little is to be told, the ends of supervisors alone are
 abbrev pub tells_orders : Writer → Shows → Bool
 tells_orders writer.Person _ = true
 tells_orders writer.Script shows.Orders = true
-tells_orders writer.Script (shows.Timeline _) = false
+tells_orders writer.Script shows.Ends = false
+tells_orders writer.Script (shows.Timeline _ _) = false
 
 -- a run ends so where a trial can't go on
 abbrev pub IsHalt : EarlyEnd → Type 0

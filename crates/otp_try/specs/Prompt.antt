@@ -1,11 +1,11 @@
 -- What is shown of the supervisors of a trial: the prompt, and what stands at the end of a run (own).
-use Rattle.std.specs.Prelude.{ℕ, Bool, true, false, List, [], ◌∷◌, ◌++◌, codes, drop, if◌then◌else◌, length, nat_lt}
+use Rattle.std.specs.Prelude.{ℕ, Bool, true, false, Option, Some, None, List, [], ◌∷◌, ◌++◌, codes, drop, if◌then◌else◌, length, nat_lt}
 use Rattle.otp_rules.specs.Ends.{last_stamps}
 use Rattle.otp_rules.specs.State.{is_over}
 use Rattle.otp_try.specs.Awaiting.{awaited_text}
-use Rattle.otp_try.specs.Played.{Seated, state_in}
+use Rattle.otp_trial.specs.Played.{Seated, state_in}
 use Rattle.otp_try.specs.Standing.{state_text}
-use Rattle.otp_try.specs.Story.{heading, time_text}
+use Rattle.otp_trial.specs.Story.{heading, time_text}
 use Rattle.otp_try.specs.declared.play.Writer.{Writer}
 use Rattle.otp_try.specs.declared.play.Writer.TheVariants as writer
 
@@ -24,10 +24,20 @@ unfoldable pub root_text : List Seated → ℕ → List ℕ
 root_text [] now = []
 root_text (root ∷ seats) now = standing_text root now
 
+-- when next something happens by itself
+unfoldable pub next_text : Option ℕ → List ℕ
+next_text None = []
+next_text (Some time) = codes ", next at " ++ time_text time
+
+-- that events wait until what is awaited is done
+unfoldable pub waits_text : Bool → List ℕ
+waits_text false = []
+waits_text true = codes ", what came since waits"
+
 -- what a person sees before a line is read
-unfoldable pub prompt_text : Writer → List Seated → ℕ → List ℕ
-prompt_text writer.Script seats now = []
-prompt_text writer.Person seats now = root_text seats now ++ codes "> "
+unfoldable pub prompt_text : Writer → List Seated → ℕ → Option ℕ → Bool → List ℕ
+prompt_text writer.Script seats now next waits = []
+prompt_text writer.Person seats now next waits = root_text seats now ++ next_text next ++ waits_text waits ++ codes "> "
 
 -- a line for a supervisor, if it has a process
 unfoldable pub standing_line : ℕ → Seated → Bool → List ℕ

@@ -6,7 +6,7 @@ use Rattle.otp_timeline.specs.declared.moment.Moment.{Moment}
 use Rattle.otp_timeline.specs.declared.moment.Standing.{Standing}
 use Rattle.otp_timeline.specs.Moments.{standing_of}
 use Rattle.otp_timeline.specs.Picture.{heads_text, supervisor_text}
-use Rattle.otp_try.specs.Played.{Seated, state_in}
+use Rattle.otp_trial.specs.Played.{Seated, state_in}
 
 -- how a supervisor stands at this time, by its state then, and by its last restarts: no period has more of them than those,
 -- one more than the intensity; without a process it has no children

@@ -4,7 +4,7 @@ use Rattle.otp_spec.specs.declared.flags.SupFlags.{SupFlags}
 use Rattle.otp_table.specs.declared.row.Row.{Row}
 use Rattle.otp_table.specs.declared.row.RowState.{RowState}
 use Rattle.otp_table.specs.declared.row.RowState.TheVariants.{Undefined, Starting, Up, Asked, Killed, Restarting}
-use Rattle.otp_try.specs.Story.{number_after}
+use Rattle.otp_trial.specs.Story.{number_after}
 use Rattle.otp_try.specs.declared.state.Doing.{Doing}
 use Rattle.otp_try.specs.declared.state.Doing.TheVariants as doing
 use Rattle.otp_window.specs.Period.{in_period}

@@ -3,11 +3,11 @@
 ghost use Rattle.std.specs.Prelude.{◌≡◌, ◌++◌, OnOk};
 ghost use Rattle.otp_try.specs.Awaiting.{awaited_in, awaited_line, awaited_of, awaited_text, children_awaited, process_of_child, until_text, waiting_text};
 
-use crate::telling::write_heading;
-use crate::time::write_time;
 use otp_reason::Name;
 use otp_table::{Row, RowState};
 use otp_text::{write_child_name, write_process};
+use otp_trial::telling::write_heading;
+use otp_trial::time::write_time;
 use std::alloc::AllocError;
 
 /// Appends until when, if there is a deadline.

@@ -4,8 +4,8 @@ ghost use Rattle.std.specs.Prelude.{◌≡◌};
 ghost use Rattle.otp_try.specs.Pages.{end_of};
 
 use crate::play::TryEnd;
-use crate::script::ScriptFault;
-use crate::trial::{ActionEnd, Halt};
+use otp_script::ScriptFault;
+use otp_trial::{ActionEnd, Halt};
 
 /// How a run ends early: each end of a run but the good one.
 #[derive(Clone, Copy, Debug, PartialEq, Eq)]

@@ -2,18 +2,17 @@
 
 ghost use Rattle.std.specs.Prelude.{Bool, List, ◌≡◌, ◌≤◌, ◌<◌, ◌++◌, OnOk, IfSome, length};
 ghost use Rattle.otp_spec.specs.declared.limits.TheConstants.{MAX_READING};
-ghost use Rattle.otp_try.specs.Page.{Adds, heading_line, known_text, line_number, reply_text, shown, unknown_text, verdict_text};
-ghost use Rattle.otp_try.specs.Played.{Tells};
+ghost use Rattle.otp_try.specs.Page.{Adds, heading_line, known_text, line_number, reply_text, shown, unknown_text, unmet_text, verdict_text};
+ghost use Rattle.otp_trial.specs.Played.{Tells};
 
 use crate::early::EarlyEnd;
-use crate::finding::{is_known, named_in};
 use crate::play::Writer;
-use crate::script::{Action, Child, Step, When};
-use crate::seat::Seat;
-use crate::telling::write_after;
-use crate::trial::{ActionEnd, Halt, Trial};
 use otp_reason::Name;
+use otp_script::{Action, Child, Expected, Step, When};
 use otp_spec::MAX_READING;
+use otp_trial::finding::{is_known, named_in};
+use otp_trial::telling::write_after;
+use otp_trial::{ActionEnd, Halt, Seat, Trial};
 use std::alloc::AllocError;
 
 /// A line of the input: who wrote it, whether what it does is told in full, and its number, counted from 1.
@@ -25,9 +24,22 @@ pub(crate) struct Line {
     pub number: u64,
 }
 
+/// How a line ended.
+#[derive(Clone, Copy, Debug, PartialEq, Eq)]
+pub(crate) enum LineEnd {
+    /// It was taken.
+    Taken,
+    /// It did nothing, which a person was told.
+    Forgotten,
+    /// It expected what is not so.
+    Unmet,
+    /// The run ends so behind it.
+    Ends(EarlyEnd),
+}
+
 /// What a line came to.
 #[derive(Clone, Copy, Debug, PartialEq, Eq)]
-struct Outcome {
+pub(crate) struct Outcome {
     /// It names a child that isn't there, and was taken all the same.
     is_unknown: bool,
     taken: ActionEnd,
@@ -81,6 +93,17 @@ fn write_known(number: u64, is_unknown: bool, out: &mut Vec<u8>) -> Result<(), A
     } else {
         Ok(())
     }
+}
+
+/// Appends that it isn't as the line with this number expects.
+#[tactic(auto, unfolding(crate::specs::Page::unmet_text))]
+fn write_unmet(number: u64, line: &[u8], out: &mut Vec<u8>) -> Result<(), AllocError>
+    ensures { OnOk result (out.new.items ≡ out.old.items ++ unmet_text number line.now) }
+{
+    write_line_number(number, out)?;
+    out.extend_from_slice(b": it is not so: ")?;
+    out.extend_from_slice(line)?;
+    out.extend_from_slice(b"\n")
 }
 
 /// Appends a sentence for a person; a script ends with it.
@@ -158,6 +181,15 @@ fn unless_ended(trial: &Trial, taken: ActionEnd) -> ActionEnd {
     }
 }
 
+/// What becomes of an action at a supervisor that has no process, as none of its children has.
+fn without_process(trial: &Trial, action: Action) -> ActionEnd {
+    match action {
+        Action::Expect(Expected::Ended(_) | Expected::Over) => ActionEnd::Done,
+        Action::Expect(_) => ActionEnd::Unmet,
+        _ => unless_ended(trial, ActionEnd::NotRunning),
+    }
+}
+
 /// What a line says is done at the supervisor that it means.
 fn act(trial: &mut Trial, step: Step<'_>, out: &mut Vec<u8>) -> Result<ActionEnd, Halt>
     ensures { OnOk result (Tells trial.old trial.new out.old.items out.new.items) }
@@ -166,7 +198,7 @@ fn act(trial: &mut Trial, step: Step<'_>, out: &mut Vec<u8>) -> Result<ActionEnd
         return Ok(unless_ended(trial, ActionEnd::NoSupervisor));
     };
     if !trial.has_process(place) {
-        return Ok(unless_ended(trial, ActionEnd::NotRunning));
+        return Ok(without_process(trial, step.action));
     }
     let taken = trial.act(place, step.action, out)?;
     match taken {
@@ -199,6 +231,38 @@ fn do_step(trial: &mut Trial, step: Step<'_>, out: &mut Vec<u8>) -> Result<Outco
     }
 }
 
+/// What a line says, as often as it says. Where the root has ended meanwhile, the rest is left out.
+pub(crate) fn do_times(
+    trial: &mut Trial,
+    step: Step<'_>,
+    out: &mut Vec<u8>,
+) -> Result<Outcome, Halt>
+    ensures { OnOk result (Tells trial.old trial.new out.old.items out.new.items) }
+{
+    let first = do_step(trial, step, out)?;
+    let last = do_others(trial, step, first, out)?;
+    Ok(last)
+}
+
+/// What a line says once more, as often as it says, after it came to this.
+fn do_others(
+    trial: &mut Trial,
+    step: Step<'_>,
+    first: Outcome,
+    out: &mut Vec<u8>,
+) -> Result<Outcome, Halt>
+    ensures { OnOk result (Tells trial.old trial.new out.old.items out.new.items) }
+{
+    let mut outcome = first;
+    for _ in 1..step.times {
+        if outcome.taken != ActionEnd::Done || trial.has_ended() {
+            return Ok(outcome);
+        }
+        outcome = do_step(trial, step, out)?;
+    }
+    Ok(outcome)
+}
+
 impl Line {
     /// Appends what stands above what the line of a script does; a line that says nothing has no heading.
     fn write_heading(self, line: &[u8], step: Step<'_>, out: &mut Vec<u8>) -> Result<(), AllocError>
@@ -208,44 +272,70 @@ impl Line {
         write_heading_line(has_heading, self.number, line, out)
     }
 
+    /// Appends what became of the line, if that is told: always that it isn't as the line expects.
+    #[tactic(auto, unfolding(crate::specs::Page::shown))]
+    fn write_verdict(
+        self,
+        line: &[u8],
+        outcome: Outcome,
+        out: &mut Vec<u8>,
+    ) -> Result<(), AllocError>
+        ensures { OnOk result ((is_told : Bool) × (out.new.items ≡ out.old.items ++ shown is_told (verdict_text self.writer self.number line.now outcome.is_unknown outcome.taken))) }
+    {
+        let is_told = self.tells || outcome.taken == ActionEnd::Unmet;
+        self.write_verdict_if(is_told, line, outcome, out)
+    }
+
     /// Appends what became of the line, if that is told.
     #[tactic(auto, unfolding(crate::specs::Page::shown))]
-    fn write_verdict(self, outcome: Outcome, out: &mut Vec<u8>) -> Result<(), AllocError>
-        ensures { OnOk result (out.new.items ≡ out.old.items ++ shown self.tells (verdict_text self.writer self.number outcome.is_unknown outcome.taken)) }
+    fn write_verdict_if(
+        self,
+        is_told: bool,
+        line: &[u8],
+        outcome: Outcome,
+        out: &mut Vec<u8>,
+    ) -> Result<(), AllocError>
+        ensures { OnOk result (out.new.items ≡ out.old.items ++ shown is_told (verdict_text self.writer self.number line.now outcome.is_unknown outcome.taken)) }
     {
-        if self.tells {
-            self.write_whole_verdict(outcome, out)
+        if is_told {
+            self.write_whole_verdict(line, outcome, out)
         } else {
             Ok(())
         }
     }
 
-    /// Appends what became of the line: that it names nobody, or why it did nothing.
+    /// Appends what became of the line: that it names nobody, that it isn't as it expects, or why it did nothing.
     #[tactic(auto, unfolding(crate::specs::Page::verdict_text))]
-    fn write_whole_verdict(self, outcome: Outcome, out: &mut Vec<u8>) -> Result<(), AllocError>
-        ensures { OnOk result (out.new.items ≡ out.old.items ++ verdict_text self.writer self.number outcome.is_unknown outcome.taken) }
+    fn write_whole_verdict(
+        self,
+        line: &[u8],
+        outcome: Outcome,
+        out: &mut Vec<u8>,
+    ) -> Result<(), AllocError>
+        ensures { OnOk result (out.new.items ≡ out.old.items ++ verdict_text self.writer self.number line.now outcome.is_unknown outcome.taken) }
     {
         match outcome.taken {
             ActionEnd::Done => write_known(self.number, outcome.is_unknown, out),
+            ActionEnd::Unmet => write_unmet(self.number, line, out),
             taken => write_reply(self.writer, taken.text().as_bytes(), out),
         }
     }
 
-    /// How the run ends behind the line, if it does: a script ends where a line did nothing.
-    fn stop_of(self, outcome: Outcome) -> Option<EarlyEnd> {
+    /// How the line ended: a script ends where one did nothing.
+    fn end_of(self, outcome: Outcome) -> LineEnd {
         match outcome.taken {
-            ActionEnd::Done => None,
-            taken if self.writer == Writer::Script => Some(EarlyEnd::LineMissed(
-                self.number,
-                taken,
-            )),
-            _ => None,
+            ActionEnd::Done => LineEnd::Taken,
+            ActionEnd::Unmet => LineEnd::Unmet,
+            taken if self.writer == Writer::Script => {
+                LineEnd::Ends(EarlyEnd::LineMissed(self.number, taken))
+            }
+            _ => LineEnd::Forgotten,
         }
     }
 
     /// Plays a line that was read: appended are its heading, the orders of what it does, in order, and what became of it; or the
     /// ends of supervisors alone.
-    /// The answer is how the run ends behind it, if it does.
+    /// The answer is how it ended.
     ///
     /// # Errors
     ///
@@ -256,12 +346,12 @@ impl Line {
         line: &[u8],
         step: Step<'_>,
         out: &mut Vec<u8>,
-    ) -> Result<Option<EarlyEnd>, Halt>
+    ) -> Result<LineEnd, Halt>
         ensures { OnOk result (Adds trial.old trial.new out.old.items out.new.items) }
     {
         self.write_heading(line, step, out)?;
-        let outcome = do_step(trial, step, out)?;
-        self.write_verdict(outcome, out)?;
-        Ok(self.stop_of(outcome))
+        let outcome = do_times(trial, step, out)?;
+        self.write_verdict(line, outcome, out)?;
+        Ok(self.end_of(outcome))
     }
 }

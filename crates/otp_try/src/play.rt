@@ -1,24 +1,22 @@
 //! A script that is played to its end, line by line.
 
-ghost use Rattle.std.specs.Prelude.{ℕ, List, [], ◌++◌, Bool, Option, ◌≡◌, ◌≤◌, IfOk, OnOk, OnErr, length, vec_len};
+ghost use Rattle.std.specs.Prelude.{ℕ, List, [], ◌++◌, Bool, Option, ◌≡◌, ◌≤◌, IfOk, OnOk, OnErr, length, map, vec_len};
 ghost use Rattle.otp_timeline.specs.declared.moment.Moment.{Moment};
 ghost use Rattle.otp_try.specs.Page.{Adds, drawing};
 ghost use Rattle.otp_try.specs.Pages.{AddsTo, Ended, Ran, StopsSo, SumsUp, Tries, WritesOut, Wrote, tells_orders};
-ghost use Rattle.otp_try.specs.Played.{Seated};
+ghost use Rattle.otp_trial.specs.Played.{Seated, Tells, fresh};
 
 use crate::early::EarlyEnd;
-use crate::help::is_help;
-use crate::line::{Line, is_silent};
+use crate::help::{Asked, read_asked};
+use crate::line::{Line, LineEnd, do_times, is_silent};
 use crate::remark::{Topic, summary_of};
-use crate::script::{ScriptFault, Step, read_step};
-use crate::seat::Seat;
-use crate::sketch::{Shows, Sketch};
-use crate::trial::{ActionEnd, Halt, Trial};
+use crate::sketch::{Shows, Sketch, moment_at};
 use crate::unused::line_of_unknown;
-use crate::words::strip_return;
 use otp_file::TreeSpec;
+use otp_script::{ScriptFault, Step, meant, read_step, strip_return};
 use otp_sim::{Input, Output, PIECE, write_all};
 use otp_text::LONGEST_LINE;
+use otp_trial::{ActionEnd, Clock, Halt, Seat, Trial};
 use std::alloc::{AllocError, Global};
 
 /// How a script ended.
@@ -31,6 +29,8 @@ pub enum TryEnd {
     /// The line with this number could do nothing: the child or the supervisor that it means is not there or has no process,
     /// its time has gone by, or the root has ended.
     LineMissed(u64, ActionEnd),
+    /// All of it was played, and what the line with this number expected was not so, the first of such lines.
+    ExpectationFailed(u64),
     /// There were 2^62 events, as many as a supervisor has in its life.
     HistoryFull,
     InputFailed,
@@ -53,6 +53,15 @@ struct Settings {
     writer: Writer,
     /// All orders are told, and not the ends of supervisors alone.
     tells: bool,
+    /// At the end the verdict alone is told.
+    is_quiet: bool,
+}
+
+/// A line that did something.
+#[derive(Drop)]
+struct Kept {
+    number: u64,
+    line: Vec<u8>,
 }
 
 /// A trial, and what is told of it.
@@ -62,6 +71,14 @@ struct Play {
     trial: Trial,
     /// How many lines were read.
     lines: u64,
+    /// The first line whose expectation was not so.
+    failed: Option<u64>,
+    /// A person has left the prompt: nothing more is read.
+    is_left: bool,
+    /// The lines of a person that did something, for one who wants the last of them undone.
+    kept: Vec<Kept>,
+    /// The line that was played last did something.
+    is_done: bool,
     /// What is told and not yet written. What goes there goes there whole, or not at all.
     page: Vec<u8>,
     /// The picture of the run, if one is wanted.
@@ -81,8 +98,8 @@ impl Play {
         }
     }
 
-    /// Puts what a line did on the page. The run ends so behind it, if it does.
-    fn tell(&mut self, told: &[u8], end: Option<EarlyEnd>) -> Result<Option<EarlyEnd>, EarlyEnd>
+    /// Puts what a line did on the page. It ended so.
+    fn tell(&mut self, told: &[u8], end: LineEnd) -> Result<LineEnd, EarlyEnd>
         ensures ok { OnOk result (self.new.page.items ≡ self.old.page.items ++ told.now) }
         ensures err { OnErr result (self.new.page.items ≡ self.old.page.items) }
         ensures same { self.new.trial ≡ self.old.trial }
@@ -158,7 +175,7 @@ impl Play {
         let Some(sketch) = &mut self.sketch else {
             return Ok(false);
         };
-        sketch.add(self.trial.moment(line, self.trial.time())?)?;
+        sketch.add(moment_at(self.alloc, &self.trial, line)?)?;
         Ok(sketch.is_full())
     }
 
@@ -190,29 +207,174 @@ impl Play {
         self.trial.begin_line(self.lines);
     }
 
-    /// A line of the input: what it does is put on the page.
+    /// A line of the input: what it does is put on the page. Nothing is, where a person has left.
     fn take_line(&mut self, settings: Settings, line: &[u8]) -> Result<(), EarlyEnd>
         ensures { AddsTo result self.old.trial self.new.trial self.old.page.items self.new.page.items }
     {
+        if self.is_left {
+            return Ok(());
+        }
         self.begin_line();
-        self.serve_line(settings, strip_return(line))
+        let line = self.words_of(line);
+        self.serve_line(settings, line)
     }
 
-    /// The line that has begun: a person may ask for help; else it is played.
+    /// The line without what stands before or behind its words: the CR before its LF, and the mark at the beginning of a text.
+    fn words_of<'a>(&self, line: &'a [u8]) -> &'a [u8] {
+        let line = strip_return(line);
+        if self.lines == 1 {
+            strip_mark(line)
+        } else {
+            line
+        }
+    }
+
+    /// The line that has begun: a person may ask something of the prompt; else it is played.
     fn serve_line(&mut self, settings: Settings, line: &[u8]) -> Result<(), EarlyEnd>
         ensures { AddsTo result self.old.trial self.new.trial self.old.page.items self.new.page.items }
     {
-        if settings.writer == Writer::Person && is_help(line) {
-            return self.remark(Topic::Help);
-        }
-        match read_step(line) {
-            Ok(step) => self.take_step(settings, line, step),
-            Err(fault) => self.refuse(settings, fault),
+        match settings.writer {
+            Writer::Script => self.play_line(settings, line),
+            Writer::Person => self.serve_person(settings, line),
         }
     }
 
-    /// A line that can't be read.
-    fn refuse(&mut self, settings: Settings, fault: ScriptFault) -> Result<(), EarlyEnd>
+    /// The line of a person.
+    fn serve_person(&mut self, settings: Settings, line: &[u8]) -> Result<(), EarlyEnd>
+        ensures { AddsTo result self.old.trial self.new.trial self.old.page.items self.new.page.items }
+    {
+        match read_asked(line) {
+            None => self.play_kept(settings, line),
+            Some(Asked::Help) => self.remark(Topic::Help),
+            Some(Asked::Status) => self.remark(Topic::Status),
+            Some(Asked::Undo) => self.undo(),
+            Some(Asked::Reset) => self.reset(),
+            Some(Asked::Quit) => self.leave(),
+        }
+    }
+
+    /// A line of a person that says what happens; it is kept, if it did something.
+    fn play_kept(&mut self, settings: Settings, line: &[u8]) -> Result<(), EarlyEnd>
+        ensures { AddsTo result self.old.trial self.new.trial self.old.page.items self.new.page.items }
+    {
+        self.is_done = false;
+        match self.play_line(settings, line) {
+            Ok(()) => self.keep_line(line),
+            Err(end) => Err(end),
+        }
+    }
+
+    /// The line that was played last is kept, if it did something.
+    fn keep_line(&mut self, line: &[u8]) -> Result<(), EarlyEnd>
+        ensures drawn { (seats : List Seated) → AddsTo result seats seats self.old.page.items self.new.page.items }
+        ensures same { self.new.trial ≡ self.old.trial }
+    {
+        match self.keep_done(line) {
+            Ok(()) => Ok(()),
+            Err(_) => Err(EarlyEnd::OutOfMemory),
+        }
+    }
+
+    /// The same, while there is memory.
+    fn keep_done(&mut self, line: &[u8]) -> Result<(), AllocError>
+        ensures page { self.new.page.items ≡ self.old.page.items }
+        ensures same { self.new.trial ≡ self.old.trial }
+    {
+        if !self.is_done {
+            return Ok(());
+        }
+        let mut text = Vec::new(self.alloc);
+        text.extend_from_slice(line)?;
+        let kept = Kept {
+            number: self.lines,
+            line: text,
+        };
+        self.kept.push(kept).map_err(|_| AllocError)
+    }
+
+    /// The tree stands as before the last line that did something.
+    fn undo(&mut self) -> Result<(), EarlyEnd>
+        ensures { AddsTo result self.old.trial self.new.trial self.old.page.items self.new.page.items }
+    {
+        drop(self.kept.pop());
+        self.play_again()
+    }
+
+    /// The tree stands as at the beginning.
+    fn reset(&mut self) -> Result<(), EarlyEnd>
+        ensures { AddsTo result self.old.trial self.new.trial self.old.page.items self.new.page.items }
+    {
+        self.kept.clear();
+        self.play_again()
+    }
+
+    /// The lines that are kept are played from the beginning on, and nothing is told of them again.
+    fn play_again(&mut self) -> Result<(), EarlyEnd>
+        ensures { AddsTo result self.old.trial self.new.trial self.old.page.items self.new.page.items }
+    {
+        match self.played_again() {
+            Ok(trial) => {
+                self.failed = None;
+                self.trial = trial;
+                Ok(())
+            }
+            Err(halt) => Err(EarlyEnd::from(halt)),
+        }
+    }
+
+    /// The same tree, on which the lines that are kept were played from the beginning on.
+    fn played_again(&self) -> Result<Trial, Halt>
+        ensures { IfOk result (λ trial. (before : List ℕ) × (after : List ℕ) × Tells (map fresh self.now.trial) trial before after) }
+    {
+        let mut sheet = Vec::new(self.alloc);
+        let mut trial = self.trial.again(&mut sheet)?;
+        for kept in self.kept.as_slice() {
+            match play_kept_line(&mut trial, kept, &mut sheet) {
+                Ok(()) => {}
+                Err(halt) => {
+                    drop(trial);
+                    return Err(halt);
+                }
+            }
+        }
+        Ok(trial)
+    }
+
+    /// Nothing more is read.
+    fn leave(&mut self) -> Result<(), EarlyEnd>
+        ensures { AddsTo result self.old.trial self.new.trial self.old.page.items self.new.page.items }
+    {
+        self.is_left = true;
+        Ok(())
+    }
+
+    /// A line that says what happens.
+    fn play_line(&mut self, settings: Settings, line: &[u8]) -> Result<(), EarlyEnd>
+        ensures { AddsTo result self.old.trial self.new.trial self.old.page.items self.new.page.items }
+    {
+        match read_step(line) {
+            Ok(step) => self.take_step(settings, line, step),
+            Err(fault) => self.refuse(settings, line, fault),
+        }
+    }
+
+    /// A line that can't be read: the word that was meant is told, where one is near.
+    fn refuse(
+        &mut self,
+        settings: Settings,
+        line: &[u8],
+        fault: ScriptFault,
+    ) -> Result<(), EarlyEnd>
+        ensures { AddsTo result self.old.trial self.new.trial self.old.page.items self.new.page.items }
+    {
+        match meant(self.alloc, line, fault, settings.writer == Writer::Person) {
+            Ok(fault) => self.refuse_for(settings, fault),
+            Err(_) => Err(EarlyEnd::OutOfMemory),
+        }
+    }
+
+    /// A line that can't be read for this.
+    fn refuse_for(&mut self, settings: Settings, fault: ScriptFault) -> Result<(), EarlyEnd>
         ensures { AddsTo result self.old.trial self.new.trial self.old.page.items self.new.page.items }
     {
         if settings.writer == Writer::Script {
@@ -231,25 +393,58 @@ impl Play {
         }
     }
 
-    /// The end of a line, or of the run: how the supervisors stand is a column of the picture, unless the line says nothing.
-    fn end_step(&mut self, step: Step<'_>, end: Option<EarlyEnd>) -> Result<(), EarlyEnd>
+    /// The end of a line, or of the run.
+    fn end_step(&mut self, step: Step<'_>, end: LineEnd) -> Result<(), EarlyEnd>
         ensures drawn { (seats : List Seated) → AddsTo result seats seats self.old.page.items self.new.page.items }
         ensures same { self.new.trial ≡ self.old.trial }
     {
         match end {
-            Some(end) => Err(end),
-            None if is_silent(step) => Ok(()),
-            None => self.add_moment(self.lines),
+            LineEnd::Ends(end) => Err(end),
+            LineEnd::Unmet => self.end_unmet(step),
+            LineEnd::Taken => self.end_done(step),
+            LineEnd::Forgotten => self.end_taken(step),
         }
     }
 
-    /// A line that was read is played, and told. The answer is how the run ends behind it, if it does.
+    /// The end of a line that expected what is not so: the first of them is kept.
+    fn end_unmet(&mut self, step: Step<'_>) -> Result<(), EarlyEnd>
+        ensures drawn { (seats : List Seated) → AddsTo result seats seats self.old.page.items self.new.page.items }
+        ensures same { self.new.trial ≡ self.old.trial }
+    {
+        if self.failed.is_none() {
+            self.failed = Some(self.lines);
+        }
+        self.end_taken(step)
+    }
+
+    /// The end of a line that did something, unless it says nothing.
+    fn end_done(&mut self, step: Step<'_>) -> Result<(), EarlyEnd>
+        ensures drawn { (seats : List Seated) → AddsTo result seats seats self.old.page.items self.new.page.items }
+        ensures same { self.new.trial ≡ self.old.trial }
+    {
+        self.is_done = !is_silent(step);
+        self.end_taken(step)
+    }
+
+    /// How the supervisors stand after a line is a column of the picture, unless the line says nothing.
+    fn end_taken(&mut self, step: Step<'_>) -> Result<(), EarlyEnd>
+        ensures drawn { (seats : List Seated) → AddsTo result seats seats self.old.page.items self.new.page.items }
+        ensures same { self.new.trial ≡ self.old.trial }
+    {
+        if is_silent(step) {
+            Ok(())
+        } else {
+            self.add_moment(self.lines)
+        }
+    }
+
+    /// A line that was read is played, and told. The answer is how it ended.
     fn play_step(
         &mut self,
         settings: Settings,
         line: &[u8],
         step: Step<'_>,
-    ) -> Result<Option<EarlyEnd>, EarlyEnd>
+    ) -> Result<LineEnd, EarlyEnd>
         ensures { AddsTo result self.old.trial self.new.trial self.old.page.items self.new.page.items }
     {
         let mut told = Vec::new(self.alloc);
@@ -266,7 +461,7 @@ impl Play {
         line: &[u8],
         step: Step<'_>,
         told: &mut Vec<u8>,
-    ) -> Result<Option<EarlyEnd>, Halt>
+    ) -> Result<LineEnd, Halt>
         ensures told { OnOk result (Adds self.old.trial self.new.trial told.old.items told.new.items) }
         ensures page { self.new.page.items ≡ self.old.page.items }
     {
@@ -319,13 +514,13 @@ impl Play {
         }
     }
 
-    /// Puts the prompt on the page, for a person.
-    fn prompt(&mut self, settings: Settings) -> Result<(), EarlyEnd>
+    /// Puts the prompt on the page, for a person who has not begun a line.
+    fn prompt(&mut self, settings: Settings, is_fresh: bool) -> Result<(), EarlyEnd>
         ensures { AddsTo result self.old.trial self.new.trial self.old.page.items self.new.page.items }
     {
         match settings.writer {
-            Writer::Script => Ok(()),
-            Writer::Person => self.remark(Topic::Prompt),
+            Writer::Person if is_fresh => self.remark(Topic::Prompt),
+            _ => Ok(()),
         }
     }
 
@@ -344,8 +539,8 @@ impl Play {
         ensures { AddsTo result self.old.trial self.new.trial self.old.page.items self.new.page.items }
     {
         match settings.writer {
-            Writer::Script => Ok(()),
-            Writer::Person => self.remark(Topic::Farewell),
+            Writer::Person if !self.is_left => self.remark(Topic::Farewell),
+            _ => Ok(()),
         }
     }
 
@@ -440,7 +635,8 @@ impl Play {
         ensures ran { Ran result self.old.trial self.new.trial self.old.page.items self.new.page.items (W.contents output.old) (W.contents output.new) }
         ensures size { length buffer.new ≡ length buffer.old }
     {
-        match self.ask(settings, output) {
+        let is_fresh = kept.is_empty();
+        match self.ask(settings, is_fresh, output) {
             Ok(()) => self.serve_next(settings, kept, buffer, input, output),
             Err(end) => Err(end),
         }
@@ -466,16 +662,21 @@ impl Play {
             return Ok(false);
         }
         match self.take_piece(settings, kept, &buffer[..count], output) {
-            Ok(()) => Ok(true),
+            Ok(()) => Ok(!self.is_left),
             Err(end) => Err(end),
         }
     }
 
-    /// What is told is written, a prompt behind it for a person.
-    fn ask<W: Output>(&mut self, settings: Settings, output: &mut W) -> Result<(), EarlyEnd>
+    /// What is told is written, a prompt behind it for a person who has not begun a line.
+    fn ask<W: Output>(
+        &mut self,
+        settings: Settings,
+        is_fresh: bool,
+        output: &mut W,
+    ) -> Result<(), EarlyEnd>
         ensures { Ran result self.old.trial self.new.trial self.old.page.items self.new.page.items (W.contents output.old) (W.contents output.new) }
     {
-        match self.prompt(settings) {
+        match self.prompt(settings, is_fresh) {
             Ok(()) => self.hand_out(output),
             Err(end) => Err(end),
         }
@@ -556,7 +757,7 @@ impl Play {
 
     /// Whether a line of the script could do nothing: it planned the start of a child that wasn't there, and none came.
     fn judge(&self, settings: Settings) -> Result<(), EarlyEnd> {
-        match line_of_unknown(self.trial.world().starts()) {
+        match line_of_unknown(self.trial.planned()) {
             Some(line) if settings.writer == Writer::Script => Err(EarlyEnd::LineMissed(
                 line,
                 ActionEnd::NoChild,
@@ -569,7 +770,7 @@ impl Play {
     fn put_summary(&mut self, settings: Settings) -> Result<(), EarlyEnd>
         ensures { SumsUp result self.old.trial self.old.page.items self.new.page.items }
     {
-        let Ok(text) = summary_of(self.alloc, &self.trial) else {
+        let Ok(text) = summary_of(self.alloc, &self.trial, settings.is_quiet) else {
             return Err(EarlyEnd::OutOfMemory);
         };
         match self.put(text.as_slice()) {
@@ -593,7 +794,10 @@ impl Play {
         ensures { WritesOut result self.now.page.items (W.contents output.old) (W.contents output.new) }
     {
         match write_all(output, self.page.as_slice()) {
-            Ok(()) => TryEnd::Done,
+            Ok(()) => match self.failed {
+                None => TryEnd::Done,
+                Some(line) => TryEnd::ExpectationFailed(line),
+            },
             Err(_) => TryEnd::OutputFailed,
         }
     }
@@ -633,6 +837,18 @@ fn picture_of(alloc: Global, sketch: &Sketch, seats: &[Seat]) -> Result<Vec<u8>,
     Ok(text)
 }
 
+/// Plays a line that was kept.
+fn play_kept_line(trial: &mut Trial, kept: &Kept, out: &mut Vec<u8>) -> Result<(), Halt>
+    ensures { OnOk result (Tells trial.old trial.new out.old.items out.new.items) }
+{
+    let Ok(step) = read_step(kept.line.as_slice()) else {
+        return Ok(());
+    };
+    trial.begin_line(kept.number);
+    do_times(trial, step, out)?;
+    Ok(())
+}
+
 /// Keeps a byte of a line that goes on: of a line that is too long no more than shows that, whether its last byte is a CR
 /// or not.
 fn keep(kept: &mut Vec<u8>, byte: u8) -> Result<(), EarlyEnd> {
@@ -655,12 +871,22 @@ fn zeros(alloc: Global, size: usize) -> Result<Vec<u8>, AllocError>
 /// The picture that is wanted, if one is.
 fn sketch_of(alloc: Global, shows: Shows) -> Option<Sketch> {
     match shows {
-        Shows::Orders => None,
-        Shows::Timeline { is_coloured } => Some(Sketch::new(alloc, is_coloured)),
+        Shows::Orders | Shows::Ends => None,
+        Shows::Timeline { is_coloured, width } => Some(Sketch::new(alloc, is_coloured, width)),
     }
 }
 
-/// Whether all orders are told: where a script is drawn, the ends of supervisors alone are.
+/// Whether at the end of a run the verdict alone is told.
+fn is_quiet(writer: Writer, shows: Shows) -> bool {
+    writer == Writer::Script && shows == Shows::Ends
+}
+
+/// The text without the mark of its encoding at the beginning.
+fn strip_mark(line: &[u8]) -> &[u8] {
+    line.strip_prefix(b"\xef\xbb\xbf").unwrap_or(line)
+}
+
+/// Whether all orders are told: where a script is drawn, or little is to be told, the ends of supervisors alone are.
 fn tells_orders(writer: Writer, shows: Shows) -> bool
     ensures { result ≡ tells_orders writer shows }
 {
@@ -680,6 +906,7 @@ pub fn try_tree<R: Input, W: Output>(
     tree: TreeSpec,
     writer: Writer,
     shows: Shows,
+    clock: Clock,
     input: &mut R,
     output: &mut W,
 ) -> TryEnd
@@ -688,9 +915,10 @@ pub fn try_tree<R: Input, W: Output>(
     let settings = Settings {
         writer,
         tells: tells_orders(writer, shows),
+        is_quiet: is_quiet(writer, shows),
     };
     let mut told = Vec::new(alloc);
-    let trial = match Trial::open(alloc, &tree, settings.tells, &mut told) {
+    let trial = match Trial::open(alloc, &tree, settings.tells, clock, &mut told) {
         Ok(trial) => trial,
         Err(halt) => {
             drop(tree);
@@ -702,6 +930,10 @@ pub fn try_tree<R: Input, W: Output>(
         alloc,
         trial,
         lines: 0,
+        failed: None,
+        is_left: false,
+        kept: Vec::new(alloc),
+        is_done: false,
         page: told,
         sketch: sketch_of(alloc, shows),
     };

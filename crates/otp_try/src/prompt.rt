@@ -1,14 +1,14 @@
 //! What is shown of the supervisors of a trial: the prompt, and what stands at the end of a run.
 
 ghost use Rattle.std.specs.Prelude.{◌≡◌, ◌++◌, OnOk, drop, length};
-ghost use Rattle.otp_try.specs.Prompt.{awaited_by, awaited_by_all, prompt_text, root_text, seat_text, standing_line, standing_lines, standing_text, standings_text};
+ghost use Rattle.otp_try.specs.Prompt.{awaited_by, awaited_by_all, next_text, prompt_text, root_text, seat_text, standing_line, standing_lines, standing_text, standings_text, waits_text};
 
 use crate::awaited::write_awaited;
 use crate::play::Writer;
-use crate::seat::Seat;
 use crate::state::write_state;
-use crate::telling::write_heading;
-use crate::time::write_time;
+use otp_trial::Seat;
+use otp_trial::telling::write_heading;
+use otp_trial::time::write_time;
 use std::alloc::AllocError;
 
 /// Appends that a supervisor has ended, or how it stands.
@@ -44,20 +44,50 @@ fn write_root(seats: &[Seat], now: u64, out: &mut Vec<u8>) -> Result<(), AllocEr
     }
 }
 
+/// Appends when next something happens by itself.
+#[tactic(auto, unfolding(crate::specs::Prompt::next_text))]
+fn write_next(next: Option<u64>, out: &mut Vec<u8>) -> Result<(), AllocError>
+    ensures { OnOk result (out.new.items ≡ out.old.items ++ next_text next) }
+{
+    match next {
+        None => Ok(()),
+        Some(time) => {
+            out.extend_from_slice(b", next at ")?;
+            write_time(time, out)
+        }
+    }
+}
+
+/// Appends that events wait until what is awaited is done.
+#[tactic(auto, unfolding(crate::specs::Prompt::waits_text))]
+fn write_waits(waits: bool, out: &mut Vec<u8>) -> Result<(), AllocError>
+    ensures { OnOk result (out.new.items ≡ out.old.items ++ waits_text waits) }
+{
+    if waits {
+        out.extend_from_slice(b", what came since waits")
+    } else {
+        Ok(())
+    }
+}
+
 /// Appends the prompt, for a person.
 #[tactic(auto, unfolding(crate::specs::Prompt::prompt_text))]
 pub(crate) fn write_prompt(
     writer: Writer,
     seats: &[Seat],
     now: u64,
+    next: Option<u64>,
+    waits: bool,
     out: &mut Vec<u8>,
 ) -> Result<(), AllocError>
-    ensures { OnOk result (out.new.items ≡ out.old.items ++ prompt_text writer seats.now now) }
+    ensures { OnOk result (out.new.items ≡ out.old.items ++ prompt_text writer seats.now now next waits) }
 {
     match writer {
         Writer::Script => Ok(()),
         Writer::Person => {
             write_root(seats, now, out)?;
+            write_next(next, out)?;
+            write_waits(waits, out)?;
             out.extend_from_slice(b"> ")
         }
     }

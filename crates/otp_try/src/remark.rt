@@ -1,7 +1,7 @@
 //! What is told of a trial beside the orders.
 
 ghost use Rattle.std.specs.Prelude.{ℕ, Bool, true, List, ◌∷◌, ◌≡◌, ◌++◌, IfOk, OnOk};
-ghost use Rattle.otp_try.specs.Page.{IsSummary, IsWhole, Remark, fault_line, remark_text};
+ghost use Rattle.otp_try.specs.Page.{IsStand, IsSummary, IsWhole, Remark, fault_line, remark_text};
 ghost use Rattle.otp_try.specs.Prompt.{standings_text};
 ghost use Rattle.otp_try.specs.Texts.{farewell_text, help_failures, help_names, help_requests, help_text, legend_text, welcome_text};
 
@@ -9,10 +9,11 @@ use crate::fit::fit;
 use crate::help::{HELP_FAILURES, HELP_NAMES, HELP_REQUESTS, WELCOME};
 use crate::play::Writer;
 use crate::prompt::{write_prompt, write_standings};
-use crate::script::ScriptFault;
-use crate::trial::Trial;
 use crate::unused::write_unused;
+use crate::verdict::write_run_verdict;
+use otp_script::ScriptFault;
 use otp_timeline::LEGEND;
+use otp_trial::Trial;
 use std::alloc::{AllocError, Global};
 
 /// What a remark is about.
@@ -26,6 +27,8 @@ pub(crate) enum Topic {
     Legend,
     /// Why a line can't be read.
     Fault(ScriptFault),
+    /// How the supervisors stand.
+    Status,
     /// The prompt, for a person.
     Prompt,
     /// The end of the line of the prompt, where the input ends.
@@ -109,7 +112,15 @@ impl Topic {
             Topic::Help => write_help(out),
             Topic::Legend => write_legend(out),
             Topic::Fault(fault) => write_fault(fault, out),
-            Topic::Prompt => write_prompt(Writer::Person, trial.seats(), trial.time(), out),
+            Topic::Status => write_all_standings(trial, out),
+            Topic::Prompt => write_prompt(
+                Writer::Person,
+                trial.seats(),
+                trial.now(),
+                trial.next_time(),
+                trial.waits(),
+                out,
+            ),
             Topic::Farewell => write_farewell(out),
         }
     }
@@ -128,26 +139,41 @@ impl Topic {
 fn write_all_standings(trial: &Trial, out: &mut Vec<u8>) -> Result<(), AllocError>
     ensures { OnOk result ((now : ℕ) × (others : List Bool) × (out.new.items ≡ out.old.items ++ standings_text now trial.now (true ∷ others))) }
 {
-    let now = trial.time();
+    let now = trial.now();
     let running = trial.running()?;
     write_standings(now, trial.seats(), running.as_slice(), out)
 }
 
-/// Appends what stands at the end of a run: how the supervisors stand, what they await, and what the script planned and the run
-/// never came to, in lines of any length.
-fn write_summary(trial: &Trial, out: &mut Vec<u8>) -> Result<(), AllocError>
-    ensures { OnOk result ((whole : List ℕ) × IsWhole trial.now whole × (out.new.items ≡ out.old.items ++ whole)) }
+/// Appends how the supervisors stand, what they await, and what the script planned and the run never came to, in lines of any
+/// length.
+fn write_stand(trial: &Trial, out: &mut Vec<u8>) -> Result<(), AllocError>
+    ensures { OnOk result ((stand : List ℕ) × IsStand trial.now stand × (out.new.items ≡ out.old.items ++ stand)) }
 {
     write_all_standings(trial, out)?;
-    write_unused(trial.world(), trial.seats(), out)
+    write_unused(trial.planned(), trial.hanging(), trial.seats(), out)
+}
+
+/// Appends the same and the verdict; or that alone.
+fn write_summary(trial: &Trial, is_quiet: bool, out: &mut Vec<u8>) -> Result<(), AllocError>
+    ensures { OnOk result ((whole : List ℕ) × IsWhole trial.now whole × (out.new.items ≡ out.old.items ++ whole)) }
+{
+    if is_quiet {
+        return write_run_verdict(trial.seats(), out);
+    }
+    write_stand(trial, out)?;
+    write_run_verdict(trial.seats(), out)
 }
 
 /// What stands at the end of a run, in lines of at most 80 columns.
-pub(crate) fn summary_of(alloc: Global, trial: &Trial) -> Result<Vec<u8>, AllocError>
+pub(crate) fn summary_of(
+    alloc: Global,
+    trial: &Trial,
+    is_quiet: bool,
+) -> Result<Vec<u8>, AllocError>
     ensures { IfOk result (λ lines. IsSummary trial.now lines.items) }
 {
     let mut whole = Vec::new(alloc);
-    write_summary(trial, &mut whole)?;
+    write_summary(trial, is_quiet, &mut whole)?;
     let lines = fit(alloc, whole.as_slice())?;
     Ok(lines)
 }

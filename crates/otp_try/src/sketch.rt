@@ -1,14 +1,14 @@
 //! A run as a picture.
 
-ghost use Rattle.std.specs.Prelude.{◌≡◌, ◌++◌, ◌∷◌, [], IfOk, OnOk, length};
+ghost use Rattle.std.specs.Prelude.{ℕ, Bool, true, List, ◌≡◌, ◌++◌, ◌∷◌, [], IfOk, OnOk, length};
 ghost use Rattle.otp_try.specs.Page.{drawing};
 ghost use Rattle.otp_try.specs.Sketched.{moment_of, picture, standing_in, standings_in, supervisors_text};
 
-use crate::seat::Seat;
 use otp_timeline::{
-    Look, MOMENTS, Moment, Standing, Standings, no_standing, standing_of, write_heads,
+    Look, Moment, Standing, Standings, moments_in, no_standing, standing_of, write_heads,
     write_supervisor,
 };
+use otp_trial::{Seat, Trial};
 use std::alloc::{AllocError, Global};
 
 /// What of a run is written.
@@ -16,10 +16,14 @@ use std::alloc::{AllocError, Global};
 pub enum Shows {
     /// A line for each order.
     Orders,
+    /// The ends of supervisors, what is not as expected, and the verdict.
+    Ends,
     /// A picture, with a column for each line of the script.
     Timeline {
         /// With the escape sequences of a terminal.
         is_coloured: bool,
+        /// So many columns a line may have; a column of the picture stands there at the least.
+        width: u32,
     },
 }
 
@@ -84,22 +88,33 @@ pub(crate) fn moment_of(
     })
 }
 
+/// How the supervisors of a trial stand, once this line of the script was played.
+pub(crate) fn moment_at(alloc: Global, trial: &Trial, line: u64) -> Result<Moment, AllocError>
+    ensures { IfOk result (λ moment. (time : ℕ) × ((others : List Bool) × (moment ≡ moment_of line time trial.now (true ∷ others)))) }
+{
+    let running = trial.running()?;
+    moment_of(alloc, line, trial.now(), trial.seats(), running.as_slice())
+}
+
 /// The moments of a run that are not drawn yet.
 #[derive(Drop)]
 pub(crate) struct Sketch {
     alloc: Global,
     is_coloured: bool,
+    /// How many moments stand side by side.
+    most: usize,
     moments: Vec<Moment>,
 }
 
 impl Sketch {
     /// Nothing has happened yet.
-    pub fn new(alloc: Global, is_coloured: bool) -> Self
+    pub fn new(alloc: Global, is_coloured: bool, width: u32) -> Self
         ensures { result.moments.items ≡ [] }
     {
         Sketch {
             alloc,
             is_coloured,
+            most: moments_in(width),
             moments: Vec::new(alloc),
         }
     }
@@ -113,7 +128,7 @@ impl Sketch {
 
     /// Whether there are as many moments as stand side by side.
     pub fn is_full(&self) -> bool {
-        self.moments.len() >= MOMENTS
+        self.moments.len() >= self.most
     }
 
     /// Appends the lines of these supervisors.

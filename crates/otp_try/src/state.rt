@@ -3,11 +3,11 @@
 ghost use Rattle.std.specs.Prelude.{◌≡◌, ◌++◌, OnOk, count_by};
 ghost use Rattle.otp_try.specs.Standing.{children_text, count_text, does, doing_of, doing_text, doing_word, period_text, share_text, state_text, used_text};
 
-use crate::telling::write_after;
 use otp_spec::SupFlags;
 use otp_table::{Row, RowState};
 use otp_text::write_number;
 use otp_timeline::restarts_in;
+use otp_trial::telling::write_after;
 use std::alloc::AllocError;
 use std::collections::VecDeque;
 
@@ -135,7 +135,11 @@ fn write_period(period: u64, out: &mut Vec<u8>) -> Result<(), AllocError>
 
 /// Appends how many restarts of the period are used up.
 #[tactic(auto, unfolding(crate::specs::Standing::used_text))]
-fn write_used(flags: &SupFlags, restarts: u64, out: &mut Vec<u8>) -> Result<(), AllocError>
+pub(crate) fn write_used(
+    flags: &SupFlags,
+    restarts: u64,
+    out: &mut Vec<u8>,
+) -> Result<(), AllocError>
     ensures { OnOk result (out.new.items ≡ out.old.items ++ used_text flags.now restarts) }
 {
     write_share(restarts, flags.intensity, out)?;

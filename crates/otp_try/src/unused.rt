@@ -2,17 +2,15 @@
 
 ghost use Rattle.std.specs.Prelude.{◌≡◌, ◌++◌, OnOk};
 ghost use Rattle.std.specs.List.{flat_map};
-ghost use Rattle.otp_try.specs.Story.{child_text, unused_line};
-ghost use Rattle.otp_try.specs.Unused.{hang_line, path_at, plan_line, start_word, unused_text};
+ghost use Rattle.otp_try.specs.Unused.{child_text, hang_line, hang_word, path_at, plan_line, start_word, unused_line, unused_text};
 
-use crate::script::{Child, NextStart};
-use crate::seat::Seat;
-use crate::world::{Hang, Plan, World};
+use otp_script::{Child, NextStart};
 use otp_text::{write_name, write_number, write_process};
+use otp_trial::{Hang, Plan, Seat};
 use std::alloc::AllocError;
 
 /// Appends a child as a script names it, without its path.
-#[tactic(auto, unfolding(crate::specs::Story::child_text))]
+#[tactic(auto, unfolding(crate::specs::Unused::child_text))]
 fn write_child(child: &Child, out: &mut Vec<u8>) -> Result<(), AllocError>
     ensures { OnOk result (out.new.items ≡ out.old.items ++ child_text child.now) }
 {
@@ -23,7 +21,7 @@ fn write_child(child: &Child, out: &mut Vec<u8>) -> Result<(), AllocError>
 }
 
 /// Appends what a line of the script planned of a child.
-#[tactic(auto, unfolding(crate::specs::Story::unused_line))]
+#[tactic(auto, unfolding(crate::specs::Unused::unused_line))]
 fn write_line(
     word: &[u8],
     path: &[u8],
@@ -85,13 +83,24 @@ fn write_plans(seats: &[Seat], plans: &[Plan], out: &mut Vec<u8>) -> Result<(), 
     Ok(())
 }
 
-/// Appends that a child was to hang and was never asked to shut down.
+/// What a script says so that a child ends so long after it was asked to, or never.
+#[tactic(auto, unfolding(crate::specs::Unused::hang_word))]
+fn word_of_hang(delay: Option<u64>) -> &'static str
+    ensures { result.now ≡ hang_word delay }
+{
+    match delay {
+        None => "hang ",
+        Some(_) => "slow ",
+    }
+}
+
+/// Appends that a child was to hang or be slow and was never asked to shut down.
 #[tactic(auto, unfolding(crate::specs::Unused::hang_line))]
 fn write_hang(seats: &[Seat], hang: &Hang, out: &mut Vec<u8>) -> Result<(), AllocError>
     ensures { OnOk result (out.new.items ≡ out.old.items ++ hang_line seats.now hang.now) }
 {
     write_line(
-        b"hang ",
+        word_of_hang(hang.delay).as_bytes(),
         path_at(seats, hang.place),
         &hang.child,
         hang.line,
@@ -113,14 +122,15 @@ fn write_hanging(seats: &[Seat], hanging: &[Hang], out: &mut Vec<u8>) -> Result<
 /// to shut down.
 #[tactic(auto, unfolding(crate::specs::Unused::unused_text))]
 pub(crate) fn write_unused(
-    world: &World,
+    plans: &[Plan],
+    hanging: &[Hang],
     seats: &[Seat],
     out: &mut Vec<u8>,
 ) -> Result<(), AllocError>
-    ensures { OnOk result (out.new.items ≡ out.old.items ++ unused_text seats.now world.now.starts.items world.now.hanging.items) }
+    ensures { OnOk result (out.new.items ≡ out.old.items ++ unused_text seats.now plans.now hanging.now) }
 {
-    write_plans(seats, world.starts(), out)?;
-    write_hanging(seats, world.hanging(), out)
+    write_plans(seats, plans, out)?;
+    write_hanging(seats, hanging, out)
 }
 
 /// The first line that planned the start of a child which wasn't there.

@@ -1,4 +1,4 @@
-use Rattle.std.proofs.Common.{◌≡◌, ◌∙◌, ◌+◌, ℕ, List, Bor, rules, subst, sym, take, arith}
+use Rattle.std.proofs.Common.{◌+◌, ℕ, List, Bor, rules, subst, sym, take, arith}
 use Rattle.otp_console.proofs.Checked.{checked_all, checked_first, checked_next}
 use Rattle.otp_console.specs.Runs.{ChecksEach}
 use Rattle.otp_console.specs.declared.ending.ProgramEnd.{ProgramEnd}
@@ -6,22 +6,20 @@ use Rattle.otp_console.specs.declared.ending.ProgramEnd.TheVariants.{Done}
 use Rattle.otp_console.proofs.program.check_all.Goals as goal
 
 pub loop-name-preserved : goal.loop-name-preserved
-loop-name-preserved g c = (
-  c.check_named-next.ensures.silent (search rules) ∙ c.loop-name.invariant.0,
-  subst (λ (ending : ProgramEnd). ChecksEach (λ (name : Bor (List ℕ)). g.F.TreeFiles.holds c.args.files.now name.now) (take (c.loop-name.name-index + 1) c.args.names.now) Done ending
-      (record { bytes = g.W.Output.contents c.args.output.now; failures = g.W.Output.failures c.args.output.now })
-      (record { bytes = g.W.Output.contents c.check_named-next.new.output; failures = g.W.Output.failures c.check_named-next.new.output }))
-      (sym c.worse-ending.ensures)
-      (checked_next (λ (name : Bor (List ℕ)). g.F.TreeFiles.holds c.args.files.now name.now) c.args.names.now c.loop-name.name-index _ c.loop-name.ending
-      c.check_named-next.result _ _ _ c.loop-name-test.true c.loop-name.invariant.1 (search rules) c.check_named-next.ensures.done),
-)
+loop-name-preserved g c =
+    subst (λ (ending : ProgramEnd). ChecksEach c.args.checking.has_starts (λ (name : Bor (List ℕ)). g.F.TreeFiles.holds c.args.files.now name.now) (take (c.loop-name.name-index + 1) c.args.names.now) Done ending
+    (record { bytes = g.W.Output.contents c.args.output.now; failures = g.W.Output.failures c.args.output.now })
+    (record { bytes = g.W.Output.contents c.check_named-next.new.output; failures = g.W.Output.failures c.check_named-next.new.output }))
+    (sym c.worse-ending.ensures)
+    (checked_next c.args.checking.has_starts (λ (name : Bor (List ℕ)). g.F.TreeFiles.holds c.args.files.now name.now) c.args.names.now c.loop-name.name-index _ c.loop-name.ending
+    c.check_named-next.result _ _ _ c.loop-name-test.true c.loop-name.invariant (search rules) c.check_named-next.ensures)
 
-pub returns-then-not-goes_on-clause-done : goal.returns-then-not-goes_on-clause-done
-returns-then-not-goes_on-clause-done g c =
-    checked_first (λ (name : Bor (List ℕ)). g.F.TreeFiles.holds c.args.files.now name.now) c.args.names.now c.loop-name.name-index _ c.loop-name.ending
-    c.check_named-next.result _ _ _ c.loop-name-test.true c.loop-name.invariant.1 (search rules) c.check_named-next.ensures.done
+pub returns-then-not-goes_on : goal.returns-then-not-goes_on
+returns-then-not-goes_on g c =
+    checked_first c.args.checking.has_starts (λ (name : Bor (List ℕ)). g.F.TreeFiles.holds c.args.files.now name.now) c.args.names.now c.loop-name.name-index _ c.loop-name.ending
+    c.check_named-next.result _ _ _ c.loop-name-test.true c.loop-name.invariant (search rules) c.check_named-next.ensures
 
-pub returns-clause-done : goal.returns-clause-done
-returns-clause-done g c =
-    checked_all (λ (name : Bor (List ℕ)). g.F.TreeFiles.holds c.args.files.now name.now) c.args.names.now c.loop-name.name-index c.loop-name.ending
-    _ _ (omega arith) c.loop-name.invariant.1
+pub returns : goal.returns
+returns g c =
+    checked_all c.args.checking.has_starts (λ (name : Bor (List ℕ)). g.F.TreeFiles.holds c.args.files.now name.now) c.args.names.now c.loop-name.name-index c.loop-name.ending
+    _ _ (omega arith) c.loop-name.invariant

@@ -1,10 +1,10 @@
-use Rattle.std.proofs.Common.{◌≡◌, take}
+use Rattle.std.proofs.Common.{take}
 use Rattle.otp_console.specs.Runs.{ChecksEach}
 use Rattle.otp_console.specs.declared.ending.ProgramEnd.TheVariants.{Done}
 use Rattle.otp_console.proofs.program.check_all.Given as goal
 
 abbrev pub invariant-loop-name : goal.invariant-loop-name
 invariant-loop-name g l =
-    (l.errors ≡ l.fn.errors) × ChecksEach (λ name. g.F.TreeFiles.holds l.files name.now) (take l.name-index l.names) Done l.ending
+    ChecksEach l.checking.has_starts (λ name. g.F.TreeFiles.holds l.files name.now) (take l.name-index l.names) Done l.ending
     (record { bytes = g.W.Output.contents l.fn.output; failures = g.W.Output.failures l.fn.output })
     (record { bytes = g.W.Output.contents l.output; failures = g.W.Output.failures l.output })

@@ -1,7 +1,7 @@
 use Rattle.std.proofs.Common.{ℕ, List, Bor, refl, subst, sym}
 use Rattle.otp_sim.specs.Runs.{Devices}
 use Rattle.otp_console.specs.Runs.{ChecksAll, Does}
-use Rattle.otp_console.specs.declared.words.Command.{Command}
+use Rattle.otp_words.specs.declared.words.Command.{Command}
 use Rattle.otp_console.proofs.program.do_command.Goals as goal
 
 pub returns-in-Check-clause-done : goal.returns-in-Check-clause-done
@@ -20,7 +20,7 @@ returns-in-Check-clause-done g c =
     } in
     subst (λ (command : Command). Does (g.F.TreeFiles.holds c.args.files.now) command c.check_all.result old new) (sym c.in-Check.is) (
       record { left = refl; failures = refl },
-      subst (λ (names : List (Bor (List ℕ))). ChecksAll (λ (name : Bor (List ℕ)). g.F.TreeFiles.holds c.args.files.now name.now) names c.check_all.result
+      subst (λ (names : List (Bor (List ℕ))). ChecksAll c.in-Check.checking.has_starts (λ (name : Bor (List ℕ)). g.F.TreeFiles.holds c.args.files.now name.now) names c.check_all.result
           (record { bytes = old.written; failures = old.write_failures }) (record { bytes = new.written; failures = new.write_failures }))
-          c.as_slice.ensures.value c.check_all.ensures.done,
+          c.as_slice.ensures.value c.check_all.ensures,
     )

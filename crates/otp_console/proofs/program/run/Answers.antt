@@ -6,7 +6,8 @@ returns g c =
     let obeyed = c.obey-ending.ensures.obeyed in record {
       ending = c.obey-ending.result;
       drawn = obeyed.drawn;
+      why = c.unwritten.result;
       status_is = c.tell.ensures.status;
       done = obeyed.done;
-      told = told_last obeyed.drawn c.obey-ending.result _ _ _ _ _ _ c.obey-ending.ensures.kept c.tell.ensures.kept obeyed.first c.tell.ensures.told;
+      told = told_last obeyed.drawn c.unwritten.result c.obey-ending.result _ _ _ _ _ _ c.obey-ending.ensures.kept c.tell.ensures.kept obeyed.first c.tell.ensures.told;
     }

@@ -1,7 +1,7 @@
 use Prim.Native.Nat.{suc}
 use Rattle.std.proofs.Common.{◌≡◌, ◌+◌, ◌++◌, ◌<◌, ◌∷◌, ◌∙◌, List, [], ℕ, ap, arith, get_or, length, subst, sym, take}
 use Rattle.std.proofs.Math.Seq.{take-suc}
-use Rattle.otp_try.specs.Played.{Seated}
+use Rattle.otp_trial.specs.Played.{Seated}
 use Rattle.otp_folds.specs.Ranks.{ranked}
 use Rattle.otp_folds.specs.Rows.{AreRowsFrom, HaveRows, groups_in, is_worse}
 use Rattle.otp_folds.specs.declared.rows.Row.{Row}

@@ -2,10 +2,10 @@ use Rattle.std.proofs.Common.{◌≡◌, inr}
 use Rattle.std.proofs.lemmas.Result.{IfErr-weaker, IfOk-at_ok, IfOk-weaker}
 use Rattle.otp_limits.specs.Costs.{Affects, Crashed}
 use Rattle.otp_limits.specs.Fates.{Fills, IsUnplayed}
-use Rattle.otp_limits.specs.declared.clock.Clock.TheVariants.{Milliseconds}
+use Rattle.otp_trial.specs.declared.clock.Clock.TheVariants.{Milliseconds}
 use Rattle.otp_limits.specs.Scene.{Opens, Scene}
-use Rattle.otp_try.specs.declared.trial.Halt.{Halt}
-use Rattle.otp_try.specs.declared.trial.Halt.TheVariants.{HistoryFull}
+use Rattle.otp_trial.specs.declared.trial.Halt.{Halt}
+use Rattle.otp_trial.specs.declared.trial.Halt.TheVariants.{HistoryFull}
 use Rattle.otp_limits.proofs.cost.find_affected.Goals as goal
 
 pub returns-clause-ok : goal.returns-clause-ok

@@ -1,6 +1,6 @@
 use Prim.Native.Nat.{suc}
 use Rattle.std.proofs.Common.{◌≡◌, ◌+◌, ◌∙◌, List, Some, ℕ, ap, arith, refl, slice_get, subst, sym}
-use Rattle.otp_try.specs.Played.{Seated}
+use Rattle.otp_trial.specs.Played.{Seated}
 use Rattle.otp_limits.specs.Falls.{FallsOften, FallsOnce, process_at}
 use Rattle.otp_limits.proofs.fall.crash_often.Goals as goal
 

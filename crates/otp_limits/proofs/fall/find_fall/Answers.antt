@@ -1,6 +1,6 @@
 use Rattle.std.proofs.Common.{List}
 use Rattle.std.proofs.lemmas.Result.{IfOk-at_ok, IfOk-weaker}
-use Rattle.otp_try.specs.Played.{Seated}
+use Rattle.otp_trial.specs.Played.{Seated}
 use Rattle.otp_limits.specs.Falls.{FallsFrom, IsFall, OpensTree}
 use Rattle.otp_limits.proofs.fall.find_fall.Goals as goal
 

@@ -3,8 +3,8 @@ use Rattle.std.proofs.lemmas.Result.{IfErr-weaker, IfOk-at_ok, IfOk-weaker}
 use Rattle.otp_limits.specs.declared.fate.Fate.{Fate}
 use Rattle.otp_limits.specs.Fates.{Fares, Fills, IsUnplayed, Plays}
 use Rattle.otp_limits.specs.Scene.{Opens, Scene}
-use Rattle.otp_try.specs.declared.trial.Halt.{Halt}
-use Rattle.otp_try.specs.declared.trial.Halt.TheVariants.{HistoryFull}
+use Rattle.otp_trial.specs.declared.trial.Halt.{Halt}
+use Rattle.otp_trial.specs.declared.trial.Halt.TheVariants.{HistoryFull}
 use Rattle.otp_limits.proofs.fate.play.Goals as goal
 
 pub returns-clause-ok : goal.returns-clause-ok

@@ -1,4 +1,4 @@
-use Rattle.otp_try.proofs.Tellings.{tells-then}
+use Rattle.otp_try.proofs.Moves.{tells-then}
 use Rattle.otp_try.proofs.line.do_at.Goals as goal
 
 pub returns : goal.returns

@@ -1,12 +1,15 @@
 use Rattle.std.proofs.Common.{◌≡◌, ◌++◌, List, OnOk, subst}
-use Rattle.otp_try.specs.Played.{Seated}
-use Rattle.otp_try.specs.Unused.{unused_text}
-use Rattle.otp_try.proofs.Pages.{some_whole}
+use Rattle.otp_trial.specs.Played.{Seated}
+use Rattle.otp_try.specs.Verdict.{run_verdict}
+use Rattle.otp_try.proofs.Pages.{some_quiet, some_whole}
 use Rattle.otp_try.proofs.remark.write_summary.Goals as goal
+
+pub returns-then-is_quiet : goal.returns-then-is_quiet
+returns-then-is_quiet c =
+    some_quiet c.write_run_verdict.result c.args.trial.now c.args.out.now.items c.write_run_verdict.new.out.items
+    (subst (λ (s : List Seated). OnOk c.write_run_verdict.result (c.write_run_verdict.new.out.items ≡ c.args.out.now.items ++ run_verdict s)) c.seats.ensures c.write_run_verdict.ensures)
 
 pub returns : goal.returns
 returns c =
-    some_whole c.write_unused.result c.args.trial.now c.in_ok-write_all_standings.ensures.0 c.in_ok-write_all_standings.ensures.1 c.world.result.now.starts.items c.world.result.now.hanging.items
-    c.args.out.now.items c.write_all_standings.new.out.items c.write_unused.new.out.items c.in_ok-write_all_standings.ensures.2
-    (subst (λ (s : List Seated). OnOk c.write_unused.result (c.write_unused.new.out.items ≡ c.write_all_standings.new.out.items ++ unused_text s c.world.result.now.starts.items c.world.result.now.hanging.items))
-    c.seats.ensures c.write_unused.ensures)
+    some_whole c.write_run_verdict-2.result c.args.trial.now c.args.out.now.items c.write_stand.new.out.items c.write_run_verdict-2.new.out.items c.in_ok-write_stand.ensures
+    (subst (λ (s : List Seated). OnOk c.write_run_verdict-2.result (c.write_run_verdict-2.new.out.items ≡ c.write_stand.new.out.items ++ run_verdict s)) c.seats-2.ensures c.write_run_verdict-2.ensures)

@@ -1,4 +1,4 @@
-use Rattle.otp_try.specs.Played.{Seated}
+use Rattle.otp_trial.specs.Played.{Seated}
 use Rattle.std.proofs.Common.{List}
 use Rattle.otp_try.proofs.Pages.{still_ran, stops_adds, wrote_adds}
 use Rattle.otp_try.proofs.play.Play.ask.Goals as goal

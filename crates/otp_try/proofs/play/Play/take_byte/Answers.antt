@@ -1,5 +1,5 @@
 use Rattle.std.proofs.Common.{List, refl}
-use Rattle.otp_try.specs.Played.{Seated}
+use Rattle.otp_trial.specs.Played.{Seated}
 use Rattle.otp_try.proofs.Pages.{adds_any, ran_adds, still_ran, stops_adds, wrote_adds}
 use Rattle.otp_try.proofs.Pieces.{adds_nothing}
 use Rattle.otp_try.proofs.play.Play.take_byte.Goals as goal

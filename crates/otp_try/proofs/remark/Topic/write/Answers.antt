@@ -1,10 +1,10 @@
 use Rattle.std.proofs.Common.{List, ap, refl}
 use Rattle.otp_try.specs.Page.{remark_text}
 use Rattle.otp_try.specs.Page.Remark.{Farewell, Fault, Help, Legend, Prompt, Welcome}
-use Rattle.otp_try.specs.Played.{Seated}
+use Rattle.otp_trial.specs.Played.{Seated}
 use Rattle.otp_try.specs.Prompt.{prompt_text}
 use Rattle.otp_try.specs.declared.play.Writer.TheVariants as writer
-use Rattle.otp_try.proofs.Pages.{some_remark}
+use Rattle.otp_try.proofs.Pages.{some_remark, status_remark}
 use Rattle.otp_try.proofs.remark.Topic.write.Goals as goal
 
 pub returns-in-Welcome : goal.returns-in-Welcome
@@ -26,9 +26,12 @@ returns-in-Fault c = some_remark c.write_fault.result c.args.trial.now c.args.ou
 pub returns-in-Prompt : goal.returns-in-Prompt
 unfolding remark_text
 returns-in-Prompt c =
-    some_remark c.write_prompt.result c.args.trial.now c.args.out.now.items c.write_prompt.new.out.items (prompt_text writer.Person c.seats.result.now c.time.result)
-    (Prompt writer.Person c.time.result) (ap (λ (s : List Seated). prompt_text writer.Person s c.time.result) c.seats.ensures) c.write_prompt.ensures
+    some_remark c.write_prompt.result c.args.trial.now c.args.out.now.items c.write_prompt.new.out.items (prompt_text writer.Person c.seats.result.now c.now.result c.next_time.result c.waits.result)
+    (Prompt writer.Person c.now.result c.next_time.result c.waits.result) (ap (λ (s : List Seated). prompt_text writer.Person s c.now.result c.next_time.result c.waits.result) c.seats.ensures) c.write_prompt.ensures
 
 pub returns-in-Farewell : goal.returns-in-Farewell
 unfolding remark_text
 returns-in-Farewell c = some_remark c.write_farewell.result c.args.trial.now c.args.out.now.items c.write_farewell.new.out.items _ Farewell refl c.write_farewell.ensures
+
+pub returns-in-Status : goal.returns-in-Status
+returns-in-Status c = status_remark c.write_all_standings.result c.args.trial.now c.args.out.now.items c.write_all_standings.new.out.items c.write_all_standings.ensures

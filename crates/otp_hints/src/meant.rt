@@ -1,0 +1,184 @@
+//! What was meant by words and values that other languages and programs have.
+
+use crate::allowed::Key;
+use otp_file::{ChildKey, FlagKey};
+use toml::Value;
+
+/// A word, and what it stands for here.
+type Meaning = (&'static str, &'static str);
+
+const RESTARTS: [Meaning; 9] = [
+    ("always", "permanent"),
+    ("yes", "permanent"),
+    ("on_failure", "transient"),
+    ("on_abnormal", "transient"),
+    ("unless_stopped", "transient"),
+    ("abnormal", "transient"),
+    ("never", "temporary"),
+    ("no", "temporary"),
+    ("none", "temporary"),
+];
+
+const STRATEGIES: [Meaning; 4] = [
+    ("one", "one_for_one"),
+    ("all", "one_for_all"),
+    ("rest", "rest_for_one"),
+    ("simple", "simple_one_for_one"),
+];
+
+const SHUTDOWNS: [Meaning; 7] = [
+    ("kill", "brutal_kill"),
+    ("brutal", "brutal_kill"),
+    ("sigkill", "brutal_kill"),
+    ("never", "infinity"),
+    ("infinite", "infinity"),
+    ("inf", "infinity"),
+    ("forever", "infinity"),
+];
+
+const AUTO_SHUTDOWNS: [Meaning; 4] = [
+    ("any", "any_significant"),
+    ("all", "all_significant"),
+    ("none", "never"),
+    ("no", "never"),
+];
+
+const KINDS: [Meaning; 3] = [
+    ("sup", "supervisor"),
+    ("process", "worker"),
+    ("gen_server", "worker"),
+];
+
+const FLAG_KEYS: [Meaning; 13] = [
+    ("max_restarts", "intensity"),
+    ("maxr", "intensity"),
+    ("max_r", "intensity"),
+    ("restarts", "intensity"),
+    ("max_seconds", "period"),
+    ("maxt", "period"),
+    ("max_t", "period"),
+    ("seconds", "period"),
+    ("within", "period"),
+    ("restart_strategy", "strategy"),
+    ("children", "child"),
+    ("childs", "child"),
+    ("worker", "child"),
+];
+
+const CHILD_KEYS: [Meaning; 13] = [
+    ("name", "id"),
+    ("mfa", "start"),
+    ("module", "start"),
+    ("command", "start"),
+    ("function", "start"),
+    ("restart_type", "restart"),
+    ("policy", "restart"),
+    ("timeout", "shutdown"),
+    ("stop_timeout", "shutdown"),
+    ("shutdown_timeout", "shutdown"),
+    ("kind", "type"),
+    ("child_type", "type"),
+    ("children", "tree"),
+];
+
+/// Headers that a supervisor of another language may have, and the root here has not.
+const ROOT_HEADERS: [&str; 5] = ["supervisor", "sup", "root", "flags", "sup_flags"];
+
+/// Whether a key, in small letters, is a header for the root.
+pub fn is_root_header(key: &str) -> bool {
+    ROOT_HEADERS.iter().any(|header| *header == key)
+}
+
+/// What a word stands for by these meanings.
+fn look_up(word: &str, meanings: &[Meaning]) -> Option<&'static str> {
+    for (other, meant) in meanings {
+        if word == *other {
+            return Some(*meant);
+        }
+    }
+    None
+}
+
+/// What this word, in small letters, stands for at a key.
+pub fn meant_word(key: Key, word: &str) -> Option<&'static str> {
+    match key {
+        Key::Flag(FlagKey::Strategy) => look_up(word, &STRATEGIES),
+        Key::Flag(FlagKey::AutoShutdown) => look_up(word, &AUTO_SHUTDOWNS),
+        Key::Child(ChildKey::Restart) => look_up(word, &RESTARTS),
+        Key::Child(ChildKey::Shutdown) => look_up(word, &SHUTDOWNS),
+        Key::Child(ChildKey::Kind) => look_up(word, &KINDS),
+        _ => None,
+    }
+}
+
+/// The key of a supervisor that this one, in small letters, stands for.
+pub fn meant_flag(key: &str) -> Option<&'static str> {
+    look_up(key, &FLAG_KEYS)
+}
+
+/// The key of a child that this one, in small letters, stands for.
+pub fn meant_child_key(key: &str) -> Option<&'static str> {
+    look_up(key, &CHILD_KEYS)
+}
+
+/// What to do about a value, where more can be told than what is allowed.
+pub fn what_value(key: Key, value: &Value) -> &'static str {
+    match value {
+        Value::String(text) => what_text(key, text.as_str()),
+        Value::Float(_) => what_float(key),
+        Value::Datetime(_) => what_date(key),
+        Value::Table(_) if key == Key::Flag(FlagKey::Child) => {
+            "; each child has a header in two brackets"
+        }
+        _ => "",
+    }
+}
+
+/// The same of a number with a fraction.
+fn what_float(key: Key) -> &'static str {
+    match key {
+        Key::Flag(FlagKey::Intensity | FlagKey::Period) => "; write it without a point",
+        Key::Child(ChildKey::Shutdown) => "; write it without a point",
+        _ => "",
+    }
+}
+
+/// The same of a date, or a time of day.
+fn what_date(key: Key) -> &'static str {
+    match key {
+        Key::Flag(FlagKey::Period) => "; write the number of seconds",
+        Key::Child(ChildKey::Shutdown) => "; write the number of milliseconds",
+        _ => "",
+    }
+}
+
+/// The same of a text.
+fn what_text(key: Key, text: &str) -> &'static str {
+    match key {
+        Key::Flag(FlagKey::Intensity) if is_count(text) => "; a number stands without quotes",
+        Key::Flag(FlagKey::Period) if is_count(text) => {
+            "; write the number of seconds, without quotes and without a unit"
+        }
+        Key::Child(ChildKey::Shutdown) if is_count(text) => {
+            "; write the number of milliseconds, without quotes and without a unit"
+        }
+        Key::Child(ChildKey::Significant) if is_truth(text) => "; true and false have no quotes",
+        Key::Child(ChildKey::Modules) if text != "dynamic" => {
+            "; names stand in brackets: [\"a\", \"b\"]"
+        }
+        _ => "",
+    }
+}
+
+/// Whether a text begins as a number does.
+fn is_count(text: &str) -> bool {
+    match text.as_bytes().first() {
+        Some(byte) => byte.is_ascii_digit(),
+        None => false,
+    }
+}
+
+/// Whether a text is a truth value.
+fn is_truth(text: &str) -> bool {
+    text == "true" || text == "false"
+}

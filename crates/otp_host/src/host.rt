@@ -1,0 +1,161 @@
+//! The program on the system that it is run on.
+
+use crate::screen::Screen;
+use otp_console::ending::Unwritten;
+use otp_console::files::{LARGEST_TREE, TreeFiles};
+use otp_console::program::run;
+use otp_console::running::Pool;
+use otp_sim::Counted;
+use otp_words::words_of;
+use std::alloc::Global;
+use std::env::VarError;
+use std::fs::File;
+use std::io::{ErrorKind, IsTerminal, Read, Write};
+use std::process::ExitCode;
+use std::sync::Wait;
+use std::sync::atomic::{AtomicU64, Ordering};
+use std::thread::Threads;
+use std::{env, fs, io};
+
+/// Does what the words of the command line ask for. Trees are run with these threads, which `main` alone has.
+pub fn otp<H: Threads + Wait + Sync>(rt: &HostRuntime, threads: &H) -> ExitCode {
+    let mut input = Counted::new(rt.stdin());
+    let system = System {
+        rt,
+        why: AtomicU64::new(WRITTEN),
+    };
+    let mut output = Counted::new(Noting {
+        device: rt.stdout(),
+        why: &system.why,
+    });
+    let mut errors = Counted::new(rt.stderr());
+    let pool = Pool {
+        rt: threads,
+        gate: &Screen::start(rt),
+    };
+    let status = run(
+        &pool,
+        rt.alloc(),
+        words_of(rt),
+        &system,
+        &mut input,
+        &mut output,
+        &mut errors,
+    );
+    ExitCode::from(status)
+}
+
+/// Whether a variable of the environment says nothing. One that can't be read may say something.
+fn is_unset(variable: Result<String, VarError>) -> bool {
+    match variable {
+        Ok(text) => text.is_empty(),
+        Err(VarError::NotPresent) => true,
+        Err(_) => false,
+    }
+}
+
+/// Whether a variable says that the terminal knows no colours.
+fn is_dumb(variable: Result<String, VarError>) -> bool {
+    match variable {
+        Ok(text) => text.as_str() == "dumb",
+        Err(_) => false,
+    }
+}
+
+/// Reads as many bytes as a tree file may have, and one.
+fn read_most<R: Read + Drop>(alloc: Global, from: R) -> io::Result<Vec<u8>> {
+    let most = LARGEST_TREE as u64;
+    let mut bytes = Vec::new(alloc);
+    let mut input = from.take(most.saturating_add(1));
+    input.read_to_end(&mut bytes)?;
+    Ok(bytes)
+}
+
+/// No write has failed.
+const WRITTEN: u64 = 0;
+
+/// A write has failed, since nobody reads what is written.
+const CLOSED: u64 = 1;
+
+/// A write has failed, since there is no room.
+const NO_ROOM: u64 = 2;
+
+/// A write has failed otherwise.
+const OTHER: u64 = 3;
+
+/// A writer that notes why it last failed.
+#[derive(Drop)]
+struct Noting<'a, W> {
+    device: W,
+    why: &'a AtomicU64,
+}
+
+impl<W> Noting<'_, W> {
+    /// Notes why a write failed.
+    fn note(&self, kind: ErrorKind) {
+        let why = match kind {
+            ErrorKind::Interrupted => return,
+            ErrorKind::BrokenPipe => CLOSED,
+            ErrorKind::StorageFull | ErrorKind::QuotaExceeded | ErrorKind::FileTooLarge => NO_ROOM,
+            _ => OTHER,
+        };
+        self.why.store(why, Ordering::Relaxed);
+    }
+}
+
+impl<W: Write> Write for Noting<'_, W> {
+    fn write(&mut self, bytes: &[u8]) -> io::Result<usize> {
+        let written = self.device.write(bytes);
+        if let Err(error) = &written {
+            self.note(error.kind());
+        }
+        written
+    }
+
+    fn flush(&mut self) -> io::Result<()> {
+        self.device.flush()
+    }
+}
+
+/// The system that the program runs on, and why a write to standard output last failed.
+#[derive(Drop)]
+struct System<'a> {
+    rt: &'a HostRuntime,
+    why: AtomicU64,
+}
+
+/// The files of the system, of which nothing is known beforehand.
+impl TreeFiles for System<'_> {
+    ghost holds = { λ _ _ _. Unit {0} };
+
+    fn read(&self, name: &str) -> io::Result<Vec<u8>> {
+        fs::read(self.rt, name)
+    }
+
+    fn read_tree(&self, name: &str) -> io::Result<Vec<u8>> {
+        read_most(self.rt.alloc(), File::open(self.rt, name)?)
+    }
+
+    fn read_input(&self) -> io::Result<Vec<u8>> {
+        read_most(self.rt.alloc(), self.rt.stdin())
+    }
+
+    fn is_terminal(&self) -> bool {
+        self.rt.stdin().is_terminal()
+    }
+
+    /// So it is at a terminal, unless the variable `NO_COLOR` is set and not empty, or `TERM` says that it has none.
+    fn has_colours(&self) -> bool {
+        self.rt.stdout().is_terminal()
+            && is_unset(env::var(self.rt, "NO_COLOR"))
+            && !is_dumb(env::var(self.rt, "TERM"))
+    }
+
+    fn unwritten(&self) -> Unwritten {
+        match self.why.load(Ordering::Relaxed) {
+            CLOSED => Unwritten::Closed,
+            NO_ROOM => Unwritten::Since("there is no room left"),
+            _ => Unwritten::Unknown,
+        }
+    }
+}

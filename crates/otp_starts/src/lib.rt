@@ -1,0 +1,11 @@
+//! Which children of a tree file can't be run by the words of their starts, and what to write: what `run` would refuse, found
+//! without a run.
+//!
+//! Whether there is such a child is decided by `plan_tree`, as for a run.
+#![tactic(auto)]
+
+mod finding;
+mod search;
+
+pub use finding::StartFinding;
+pub use search::find_unfit;

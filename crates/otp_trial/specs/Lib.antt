@@ -1,0 +1,9 @@
+pub mod Clocks
+pub mod Strains
+pub mod Starts
+pub mod Story
+pub mod World
+pub mod Played
+pub mod Inside
+pub mod TrialInside
+pub mod Taken

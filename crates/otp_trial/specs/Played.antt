@@ -1,0 +1,323 @@
+-- A tree that is tried: its supervisors, each with its events so far, and how calls of a trial add to them (own).
+use Rattle.std.specs.Prelude.{◌≡◌, ℕ, ◌<◌, ◌+◌, ◌==◌, Bool, true, false, not, List, [], ◌∷◌, ◌++◌, Option, Some, None, count_by, if◌then◌else◌, is_some, length, option_map, position, slice_get, slice_index_or, slice_set}
+use Rattle.std.specs.List.{flat_map, list_any}
+use Rattle.std.specs.Option.{option_eq}
+use Rattle.std.specs.Ordering.{on}
+use Rattle.std.specs.Str.{bytes_eq}
+use Rattle.otp_file.specs.Trees.{Table, Tree}
+use Rattle.otp_reason.specs.Names.{name_bytes}
+use Rattle.otp_reason.specs.declared.name.Name.{Name}
+use Rattle.otp_reason.specs.declared.note.Note.TheVariants as note
+use Rattle.otp_reason.specs.declared.reason.Reason.{Reason}
+use Rattle.otp_rules.specs.declared.call.Call.TheVariants as call
+use Rattle.otp_rules.specs.declared.event.Event.{Event}
+use Rattle.otp_rules.specs.declared.event.Item.TheVariants as item
+use Rattle.otp_rules.specs.declared.event.Kind.{Kind}
+use Rattle.otp_rules.specs.declared.event.Kind.TheVariants as kind
+use Rattle.otp_rules.specs.Next.{idle_kind}
+use Rattle.otp_rules.specs.Run.{empty_state, state_after}
+use Rattle.otp_rules.specs.State.{State, is_over}
+use Rattle.otp_rules.specs.Step.{step}
+use Rattle.otp_rules.specs.Stops.{is_exit}
+use Rattle.otp_spec.specs.declared.child.ChildSpec.{ChildSpec}
+use Rattle.otp_spec.specs.declared.flags.SupFlags.{SupFlags}
+use Rattle.otp_spec.specs.Flags.{is_simple}
+use Rattle.otp_table.specs.declared.row.Row.{Row}
+use Rattle.otp_table.specs.declared.row.RowState.{RowState}
+use Rattle.otp_table.specs.declared.row.RowState.TheVariants.{Undefined, Starting, Up, Asked, Killed, Restarting}
+use Rattle.otp_table.specs.Rows.{has_id, has_process, row_has}
+use Rattle.otp_script.specs.declared.step.Action.{Action}
+use Rattle.otp_script.specs.declared.step.Action.TheVariants as action
+use Rattle.otp_script.specs.declared.step.Child.{Child}
+use Rattle.otp_script.specs.declared.step.Child.TheVariants as child
+use Rattle.otp_script.specs.declared.step.Expected.{Expected}
+use Rattle.otp_script.specs.declared.step.Expected.TheVariants as expected
+use Rattle.otp_trial.specs.declared.strain.Strain.{Strain}
+use Rattle.otp_trial.specs.Strains.{strained_by, unstrained}
+use Rattle.otp_trial.specs.declared.finding.Found.{Found}
+use Rattle.otp_trial.specs.declared.finding.Found.TheVariants as found
+use Rattle.otp_trial.specs.declared.trial.ActionEnd.{ActionEnd}
+use Rattle.otp_trial.specs.declared.trial.ActionEnd.TheVariants as taken
+use Rattle.otp_trial.specs.Starts.{started_by}
+use Rattle.otp_trial.specs.Story.{event_text}
+use Rattle.otp_trial.specs.declared.starts.Started.{Started}
+
+-- a supervisor of the tree: what stands in front of the names of its children, as `sub/`, whether all its orders are told or
+-- its ends alone, its events since it was last started, and how it bore up over the whole run
+pub record Seated : Type 0 where
+  pub path : List ℕ
+  pub tells : Bool
+  pub base : State
+  pub history : List Event
+  pub strain : Strain
+
+-- the supervisor after them: nothing else is known of it
+abbrev pub state_in : Seated → State
+state_in p = state_after p.base p.history
+
+-- the starts that it ordered
+abbrev pub starts_of : Seated → List Started
+starts_of p = started_by p.base p.history
+
+-- a supervisor that was never opened
+abbrev pub unplayed : Bool → List ℕ → SupFlags → List ChildSpec → Seated
+unplayed tells path flags specs = record { path = path; tells = tells; base = empty_state flags specs; history = []; strain = unstrained }
+
+-- the same supervisor as at the beginning of a run: it was never opened
+abbrev pub fresh : Seated → Seated
+fresh p = record p { history = []; strain = unstrained }
+
+-- how it bears up after an event
+abbrev pub strain_with : Event → Seated → Strain
+strain_with e p = strained_by p.base.flags p.strain e.reading (step (state_in p) e)
+
+-- the supervisor after an event
+abbrev pub seat_with : Event → Seated → Seated
+seat_with e p = record p { history = p.history ++ e ∷ []; strain = strain_with e p }
+
+-- an event of this kind happened to a supervisor, and the text tells those of its orders that are told
+abbrev pub Happens : Kind → Seated → Seated → List ℕ → List ℕ → Type 0
+Happens k old new before after =
+    (e : Event) × (e.kind ≡ k) × (new ≡ seat_with e old) × (after ≡ before ++ event_text old.tells old.path (starts_of old) (state_in old) e)
+
+-- what happens to the supervisor at a place, which stood so: an event, or it is there anew and was never opened
+pub record Move : Type 0 where
+  pub place : ℕ
+  pub seat : Seated
+  pub event : Option Event
+
+-- the supervisor after an event, or anew; how it bore up before stays known
+abbrev pub seat_by : Option Event → Seated → Seated
+seat_by None seat = record seat { history = [] }
+seat_by (Some e) seat = seat_with e seat
+
+abbrev pub seat_after : Move → Seated
+seat_after m = seat_by m.event m.seat
+
+abbrev pub text_of_event : Option Event → Seated → List ℕ
+text_of_event None seat = []
+text_of_event (Some e) seat = event_text seat.tells seat.path (starts_of seat) (state_in seat) e
+
+-- the lines of those orders of a move that are told
+unfoldable pub move_text : Move → List ℕ
+move_text m = text_of_event m.event m.seat
+
+-- at this place stands this supervisor
+pub record IsAt (seats : List Seated) (place : ℕ) (seat : Seated) : Type 0 where
+  pub inside : place < length seats
+  pub is : seat ≡ slice_index_or seats place seat
+
+-- the moves lead from these supervisors to those
+abbrev pub Lead : List Seated → List Move → List Seated → Type 0
+Lead seats [] after = after ≡ seats
+Lead seats (m ∷ ms) after = IsAt seats m.place m.seat × Lead (slice_set seats m.place (seat_after m)) ms after
+
+-- the same of these moves, in order
+abbrev pub story : List Move → List ℕ
+story ms = flat_map move_text ms
+
+-- moves were made, and of them the text tells all orders of the supervisors that are told, and the ends of the others, in
+-- order, and nothing else
+abbrev pub Tells : List Seated → List Seated → List ℕ → List ℕ → Type 0
+Tells old new before after = (ms : List Move) × Lead old ms new × (after ≡ before ++ story ms)
+
+-- the process that a child with this state has
+unfoldable pub found_in_state : RowState → Found
+found_in_state Undefined = found.NoProcess
+found_in_state (Starting p _) = found.Process p
+found_in_state (Up p) = found.Process p
+found_in_state (Asked p _) = found.Process p
+found_in_state (Killed p) = found.Process p
+found_in_state (Restarting _) = found.NoProcess
+
+unfoldable pub found_in_row : Option Row → Found
+found_in_row None = found.NoChild
+found_in_row (Some row) = found_in_state row.state
+
+unfoldable pub found_at : List Row → Option ℕ → Found
+found_at rows None = found.NoChild
+found_at rows (Some place) = found_in_row (slice_get rows place)
+
+-- the process of the child that a script means: the first with that id, or the one with that process number
+unfoldable pub found_for : Child → List Row → Found
+found_for (child.Named id) rows = found_at rows (position (has_id id) rows)
+found_for (child.Numbered p) rows = found_at rows (position (row_has (has_process p)) rows)
+
+-- the child that a line names and that has to be there for it, by its id: that of a call, or one whose next start is planned
+unfoldable pub child_named : Action → Option Name
+child_named (action.Call (call.RestartChild id)) = Some id
+child_named (action.Call (call.DeleteChild id)) = Some id
+child_named (action.Call (call.GetChildspec id)) = Some id
+child_named (action.Call (call.TerminateChild id)) = Some id
+child_named (action.Start id _) = Some id
+child_named _ = None
+
+-- the first move is an event of this kind at this place
+abbrev pub Begins : ℕ → Kind → List Seated → List Seated → Type 0
+Begins place k old new = (seat : Seated) × (e : Event) × (ms : List Move)
+    × Lead old (record { place = place; seat = seat; event = Some e } ∷ ms) new × (e.kind ≡ k)
+
+-- and the text tells the orders of that event, and then of the moves after it
+abbrev pub TellsFirst : ℕ → Kind → List Seated → List Seated → List ℕ → List ℕ → Type 0
+TellsFirst place k old new before after = (seat : Seated) × (e : Event) × (ms : List Move)
+    × Lead old (record { place = place; seat = seat; event = Some e } ∷ ms) new × (e.kind ≡ k)
+    × (after ≡ before ++ story (record { place = place; seat = seat; event = Some e } ∷ ms))
+
+-- the end of this process was told, and waits until no work is open
+abbrev pub has_end_waiting : Seated → ℕ → Bool
+has_end_waiting seat p = is_some (position (is_exit p) (state_in seat).waiting)
+
+-- the end of this process is what happens first, unless it waits already; then nothing happens
+unfoldable pub EndsUnless : Bool → ℕ → ℕ → Reason → List Seated → ActionEnd → List Seated → Type 0
+EndsUnless true place p r old answer new = (answer ≡ taken.EndWaits) × (new ≡ old)
+EndsUnless false place p r old answer new = (answer ≡ taken.Done) × Begins place (kind.Took (item.Note (note.Exit p r))) old new
+
+-- the end of that process is what happens first; or nothing happens, and the answer says why
+unfoldable pub Ends : ℕ → Reason → Seated → Found → List Seated → ActionEnd → List Seated → Type 0
+Ends place r seat (found.Process p) old answer new = EndsUnless (has_end_waiting seat p) place p r old answer new
+Ends place r seat found.NoProcess old answer new = (answer ≡ taken.NoProcess) × (new ≡ old)
+Ends place r seat found.NoChild old answer new = (answer ≡ taken.NoChild) × (new ≡ old)
+
+-- the root has ended, or was never opened
+unfoldable pub is_root_over : List Seated → Bool
+is_root_over [] = true
+is_root_over (root ∷ seats) = is_over (state_in root).phase
+
+-- what becomes of a start that is planned: none comes once the root has ended, and under simple_one_for_one no child has an id
+unfoldable pub end_of_plan : List Seated → Seated → ActionEnd
+end_of_plan seats seat = if is_root_over seats then taken.Ended else if is_simple seat.base.flags.strategy then taken.NoIds else taken.Done
+
+-- what a supervisor does first that is asked to shut down: what it does by itself where its parent wants that, which is to
+-- begin with it; or nothing where it has ended, or work is open, which comes first
+unfoldable pub StopsBy : Option Kind → ℕ → List Seated → List Seated → Type 0
+StopsBy None place old new = new ≡ old
+StopsBy (Some k) place old new = Begins place k old new
+
+-- the same of the supervisor at this place
+abbrev pub StopsFirst : ℕ → List Seated → List Seated → Type 0
+StopsFirst place old new = (seat : Seated) → IsAt old place seat → StopsBy (idle_kind (state_in seat) true) place old new
+
+-- what becomes of a request to shut down, where the root has ended or not
+unfoldable pub Stops : Bool → ℕ → List Seated → ActionEnd → List Seated → Type 0
+Stops true place old answer new = (answer ≡ taken.Ended) × (new ≡ old)
+Stops false place old answer new = (answer ≡ taken.Done) × StopsFirst place old new
+
+-- the state of the child that a script means
+unfoldable pub state_at : List Row → Option ℕ → Option RowState
+state_at rows None = None
+state_at rows (Some place) = option_map (λ row. row.state) (slice_get rows place)
+
+unfoldable pub state_for : Child → List Row → Option RowState
+state_for (child.Named id) rows = state_at rows (position (has_id id) rows)
+state_for (child.Numbered p) rows = state_at rows (position (row_has (has_process p)) rows)
+
+-- a start of the child with this id
+unfoldable pub is_of_id : Name → Started → Bool
+is_of_id id started = option_eq (on name_bytes bytes_eq) started.id (Some id)
+
+-- how many starts of it its supervisor ordered since it was started itself
+abbrev pub starts_for : Name → Seated → ℕ
+starts_for id seat = count_by (is_of_id id) (starts_of seat)
+
+-- a start of the child that a script means
+unfoldable pub is_start_of : Child → Started → Bool
+is_start_of (child.Named id) started = is_of_id id started
+is_start_of (child.Numbered p) started = started.process == p
+
+-- the child is there no more, but its supervisor has started it: what becomes of what is expected then, or of what nobody
+-- could mean
+unfoldable pub end_if_started : Bool → ActionEnd → ActionEnd
+end_if_started true known = known
+end_if_started false known = taken.NoChild
+
+unfoldable pub was_started : Child → Seated → Bool
+was_started c seat = list_any (is_start_of c) (starts_of seat)
+
+-- it is expected that a child in this state runs
+unfoldable pub end_of_up : Bool → Option RowState → ActionEnd
+end_of_up started None = end_if_started started taken.Unmet
+end_of_up started (Some Undefined) = taken.Unmet
+end_of_up started (Some (Starting _ _)) = taken.Unmet
+end_of_up started (Some (Up _)) = taken.Done
+end_of_up started (Some (Asked _ _)) = taken.Unmet
+end_of_up started (Some (Killed _)) = taken.Unmet
+end_of_up started (Some (Restarting _)) = taken.Unmet
+
+-- it is expected that a child in this state has no process
+unfoldable pub end_of_ended : Bool → Option RowState → ActionEnd
+end_of_ended started None = end_if_started started taken.Done
+end_of_ended started (Some Undefined) = taken.Done
+end_of_ended started (Some (Starting _ _)) = taken.Unmet
+end_of_ended started (Some (Up _)) = taken.Unmet
+end_of_ended started (Some (Asked _ _)) = taken.Unmet
+end_of_ended started (Some (Killed _)) = taken.Unmet
+end_of_ended started (Some (Restarting _)) = taken.Done
+
+-- it is expected that a child was started again so often, which has started so often
+unfoldable pub end_of_restarts : ℕ → ℕ → ActionEnd
+end_of_restarts starts restarts = if starts == 0 then taken.NoChild else if starts == restarts + 1 then taken.Done else taken.Unmet
+
+-- what is expected is so, or not
+unfoldable pub end_of_test : Bool → ActionEnd
+end_of_test true = taken.Done
+end_of_test false = taken.Unmet
+
+-- whether what is expected of a supervisor that has a process, or of a child of it, is so
+unfoldable pub end_of_expected : Expected → Seated → ActionEnd
+end_of_expected (expected.Up c) seat = end_of_up (was_started c seat) (state_for c (state_in seat).rows)
+end_of_expected (expected.Ended c) seat = end_of_ended (was_started c seat) (state_for c (state_in seat).rows)
+end_of_expected (expected.Restarts id n) seat = end_of_restarts (starts_for id seat) n
+end_of_expected expected.Alive seat = end_of_test (not (is_over (state_in seat).phase))
+end_of_expected expected.Over seat = end_of_test (is_over (state_in seat).phase)
+
+-- what an action of a script, which is said to the supervisor at this place, does first
+unfoldable pub Acts : Action → ℕ → Seated → List Seated → ActionEnd → List Seated → Type 0
+Acts action.Nothing place seat old answer new = (answer ≡ taken.Done) × (new ≡ old)
+Acts (action.Exit c r) place seat old answer new = Ends place r seat (found_for c (state_in seat).rows) old answer new
+Acts (action.Start _ _) place seat old answer new = (answer ≡ end_of_plan old seat) × (new ≡ old)
+Acts (action.Hang c) place seat old answer new = new ≡ old
+Acts (action.Slow c time) place seat old answer new = new ≡ old
+Acts (action.Expect x) place seat old answer new = (answer ≡ end_of_expected x seat) × (new ≡ old)
+Acts action.Stop place seat old answer new = Stops (is_root_over old) place old answer new
+Acts (action.Call c) place seat old answer new = (answer ≡ taken.Done) × ((n : ℕ) × Begins place (kind.Took (item.Call n c)) old new)
+
+-- the supervisor that a script means stands at this place, and its own children are meant
+abbrev pub ActsAt : Action → ℕ → List Seated → ActionEnd → List Seated → Type 0
+ActsAt a place old answer new = (seat : Seated) → IsAt old place seat → Acts a place seat old answer new
+
+-- the start of a child of the supervisor at this place is planned, or the answer says why it isn't
+abbrev pub PlansAt : ℕ → List Seated → ActionEnd → Type 0
+PlansAt place old answer = (seat : Seated) → IsAt old place seat → answer ≡ end_of_plan old seat
+
+-- whether what is expected of the supervisor at this place, or of a child of it, is so
+abbrev pub ExpectsAt : ℕ → Expected → List Seated → ActionEnd → Type 0
+ExpectsAt place x seats answer = (seat : Seated) → IsAt seats place seat → answer ≡ end_of_expected x seat
+
+-- the process that is meant is that of this child of the supervisor at this place
+abbrev pub EndsAt : ℕ → Reason → Child → List Seated → ActionEnd → List Seated → Type 0
+EndsAt place r c old answer new = (seat : Seated) → IsAt old place seat → Ends place r seat (found_for c (state_in seat).rows) old answer new
+
+-- it is this process
+abbrev pub EndsProcessAt : ℕ → ℕ → Reason → List Seated → ActionEnd → List Seated → Type 0
+EndsProcessAt place p r old answer new = (seat : Seated) → IsAt old place seat → EndsUnless (has_end_waiting seat p) place p r old answer new
+
+-- a supervisor for each of these tables, in their order, that was never opened, and is told or not
+abbrev pub ArePlanted : Bool → List Table → List Seated → Type 0
+ArePlanted tells [] [] = Unit {0}
+ArePlanted tells [] (seat ∷ seats) = ⊥
+ArePlanted tells (table ∷ tables) [] = ⊥
+ArePlanted tells (table ∷ tables) (seat ∷ seats) = (seat ≡ unplayed tells seat.path table.flags table.specs) × ArePlanted tells tables seats
+
+-- those were put behind the supervisors that were there
+abbrev pub AddsTables : Bool → List Table → List Seated → List Seated → Type 0
+AddsTables tells tables old new = (more : List Seated) × (new ≡ old ++ more) × ArePlanted tells tables more
+
+-- the same of a tree, of which the root's children have this in front of their names
+abbrev pub AddsTree : Bool → List ℕ → Tree → List Seated → List Seated → Type 0
+AddsTree tells path tree old new =
+    (more : List Seated) × (new ≡ old ++ unplayed tells path tree.flags tree.specs ∷ more) × ArePlanted tells tree.below more
+
+-- the supervisors of a tree, of which none was ever opened: one for each table, by their numbers; all are told, or of each its
+-- ends alone
+abbrev pub IsPlanted : Bool → Tree → List Seated → Type 0
+IsPlanted tells tree seats = AddsTree tells [] tree [] seats

@@ -1,0 +1,13 @@
+-- What a trial stands for, and what it keeps.
+use Rattle.std.specs.Prelude.{◌<◌, ◌≤◌, List, length}
+use Rattle.otp_spec.specs.declared.limits.TheConstants.{MAX_READING}
+use Rattle.otp_trial.specs.declared.trial.Trial.TheInside.{Inside}
+use Rattle.otp_trial.specs.Played.{Seated}
+
+abbrev pub seats_of : Inside → List Seated
+seats_of t = t.seats.items
+
+pub record IsTrial (t : Inside) : Type 0 where
+  -- the root is the first
+  pub root : 0 < length t.seats.items
+  pub time : t.time ≤ MAX_READING

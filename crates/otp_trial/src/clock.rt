@@ -1,0 +1,43 @@
+//! By which clock restarts are counted.
+
+ghost use Rattle.std.specs.Prelude.{◌≡◌, ◌≤◌, ◌/◌, ◌*◌};
+ghost use Rattle.otp_trial.specs.Clocks.{second, shown};
+
+/// By which clock a trial is played.
+#[derive(Clone, Copy, Debug, PartialEq, Eq)]
+pub enum Clock {
+    /// Each time is known to the millisecond.
+    Milliseconds,
+    /// The clock shows whole seconds, as that does by which OTP up to today counts restarts.
+    Seconds,
+}
+
+/// The second that has begun at this time, in milliseconds.
+pub(crate) fn second(time: u64) -> u64
+    ensures value { result ≡ second time }
+    ensures before { result ≤ time }
+{
+    time - time % 1000
+}
+
+impl Clock {
+    /// What the clock shows at a time in milliseconds.
+    #[tactic(auto, unfolding(crate::specs::Clocks::shown))]
+    pub fn shown(self, time: u64) -> u64
+        ensures value { result ≡ shown self time }
+        ensures before { result ≤ time }
+    {
+        match self {
+            Clock::Milliseconds => time,
+            Clock::Seconds => second(time),
+        }
+    }
+
+    /// The first time at which the clock shows this one, or a later one.
+    pub fn reached(self, time: u64) -> u64 {
+        match self {
+            Clock::Milliseconds => time,
+            Clock::Seconds => second(time.saturating_add(999)),
+        }
+    }
+}

@@ -1,0 +1,138 @@
+//! The supervisors of a tree, each with its path.
+
+ghost use Rattle.std.specs.Prelude.{◌≡◌, ◌++◌, [], ◌∷◌, true, IfOk, IfSome, OnOk, map};
+ghost use Rattle.otp_trial.specs.Played.{AddsTree, IsPlanted, fresh, unplayed};
+
+use crate::seat::Seat;
+use crate::trial::Halt;
+use crate::world::Home;
+use otp_file::{MAX_DEPTH, TreeSpec};
+use otp_reason::Name;
+use otp_spec::{ChildSpec, SupSpec};
+use std::alloc::{AllocError, Global};
+
+/// The supervisors of a tree, a parent before its children, and whose child each of them is.
+#[derive(Drop)]
+pub(crate) struct Plants {
+    pub seats: Vec<Seat>,
+    pub homes: Vec<Home>,
+}
+
+/// The path of the children of a child with this id, whose own is this.
+fn path_below(alloc: Global, path: &[u8], id: &Name) -> Result<Vec<u8>, AllocError> {
+    let mut below = Vec::new(alloc);
+    below.extend_from_slice(path)?;
+    below.extend_from_slice(id.as_bytes())?;
+    below.extend_from_slice(b"/")?;
+    Ok(below)
+}
+
+/// The specification of the child that has the tree of this number.
+fn spec_of(supervisor: &SupSpec, nested: &[usize], number: usize) -> Option<ChildSpec> {
+    let place = nested.get(number)?;
+    let spec = supervisor.specs().get(*place)?;
+    Some(*spec)
+}
+
+/// A supervisor that was never opened, with this path, of which a tree says what it is opened with.
+pub(crate) fn seat_of(
+    alloc: Global,
+    path: &[u8],
+    tells: bool,
+    supervisor: &SupSpec,
+) -> Result<Seat, Halt>
+    ensures { IfOk result (λ seat. seat ≡ unplayed tells path.now supervisor.now.flags supervisor.now.specs) }
+{
+    let mut name = Vec::new(alloc);
+    name.extend_from_slice(path)?;
+    Seat::new(alloc, name, tells, supervisor.try_clone(alloc)?)
+}
+
+impl Plants {
+    /// Adds a supervisor, and says at which place.
+    fn add(&mut self, seat: Seat, home: Home) -> Result<usize, AllocError>
+        ensures { OnOk result (self.new.seats.items ≡ self.old.seats.items ++ seat ∷ []) }
+    {
+        let place = self.seats.len();
+        self.seats.push(seat).map_err(|_| AllocError)?;
+        self.homes.push(home).map_err(|_| AllocError)?;
+        Ok(place)
+    }
+
+    /// Adds the supervisors of a tree, of so many levels at the most.
+    fn add_tree(
+        &mut self,
+        alloc: Global,
+        tree: &TreeSpec,
+        path: &[u8],
+        tells: bool,
+        home: Home,
+        levels: usize,
+    ) -> Result<(), Halt>
+        ensures { OnOk result (AddsTree tells path.now tree.now self.old.seats.items self.new.seats.items) }
+    {
+        // No tree that a file says has more levels.
+        let Some(left) = levels.checked_sub(1) else {
+            return Err(Halt::OutOfMemory);
+        };
+        let seat = seat_of(alloc, path, tells, tree.supervisor())?;
+        let place = self.add(seat, home)?;
+        let trees = tree.trees();
+        for number in 0..trees.len() {
+            // Nor one that is no child's.
+            let Some(spec) = spec_of(tree.supervisor(), tree.nested(), number) else {
+                return Err(Halt::OutOfMemory);
+            };
+            let below = path_below(alloc, path, &spec.id)?;
+            self.add_tree(
+                alloc,
+                &trees[number],
+                below.as_slice(),
+                tells,
+                Home::new(place, Some(spec)),
+                left,
+            )?;
+        }
+        Ok(())
+    }
+}
+
+/// The supervisors of a tree, which has as many levels as a file may have at the most. All orders are told, or ends alone.
+pub(crate) fn plant(alloc: Global, tree: &TreeSpec, tells: bool) -> Result<Plants, Halt>
+    ensures { IfOk result (λ plants. IsPlanted tells tree.now plants.seats.items) }
+{
+    let mut plants = Plants {
+        seats: Vec::new(alloc),
+        homes: Vec::new(alloc),
+    };
+    match plants.add_tree(alloc, tree, &[], tells, Home::new(0, None), MAX_DEPTH) {
+        Ok(()) => Ok(plants),
+        Err(halt) => {
+            drop(plants);
+            Err(halt)
+        }
+    }
+}
+
+/// The supervisors of a tree, of which none was ever opened: one for each table of the file, by their numbers.
+///
+/// # Errors
+///
+/// Where memory is refused.
+pub fn plant_seats(alloc: Global, tree: &TreeSpec) -> Result<Vec<Seat>, Halt>
+    ensures { IfOk result (λ seats. IsPlanted true tree.now seats.items) }
+{
+    let Plants { seats, homes: _ } = plant(alloc, tree, true)?;
+    Ok(seats)
+}
+
+/// The same supervisors as at the beginning of a run.
+pub(crate) fn fresh_seats(alloc: Global, seats: &[Seat]) -> Result<Vec<Seat>, Halt>
+    ensures { IfOk result (λ anew. anew.items ≡ map fresh seats.now) }
+{
+    let mut anew = Vec::new(alloc);
+    for seat in seats {
+        anew.push(seat.fresh(alloc)?).map_err(|_| AllocError)?;
+    }
+    Ok(anew)
+}

@@ -1,0 +1,6 @@
+use Rattle.std.proofs.Common.{ℕ, List, map}
+use Rattle.otp_trial.specs.Played.{Tells, fresh}
+use Rattle.otp_try.proofs.play.Play.played_again.Given as goal
+
+abbrev pub invariant-loop-kept : goal.invariant-loop-kept
+invariant-loop-kept l = (before : List ℕ) × Tells (map fresh l.self.trial) l.trial before l.sheet.items

@@ -1,5 +1,0 @@
-use Rattle.otp_try.specs.Played.{Tells}
-use Rattle.otp_try.proofs.trial.Trial.go_to.Given as goal
-
-abbrev pub invariant-loop : goal.invariant-loop
-invariant-loop l = Tells l.fn.self l.self l.fn.out.items l.out.items

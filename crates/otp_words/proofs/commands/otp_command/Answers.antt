@@ -1,0 +1,16 @@
+use Rattle.std.proofs.Common.{◌∙◌, ap, ap₂}
+use Rattle.std.proofs.lemmas.Result.{IfOk-weaker}
+use Rattle.clap.specs.Words.{App, Shape, with_subcommand}
+use Rattle.otp_words.proofs.commands.otp_command.Goals as goal
+
+abbrev top_of : App → Shape
+top_of app = app.top
+
+pub returns : goal.returns
+returns c =
+    let one = c.in_ok-command.ensures ∙ ap₂ with_subcommand c.bare_command.ensures (ap top_of c.in_ok-run_command.ensures) in
+    let two = c.in_ok-command-2.ensures ∙ ap₂ with_subcommand one (ap top_of c.in_ok-try_command.ensures) in
+    let three = c.in_ok-command-3.ensures ∙ ap₂ with_subcommand two (ap top_of c.in_ok-check_command.ensures) in
+    let four = c.in_ok-command-4.ensures ∙ ap₂ with_subcommand three (ap top_of c.in_ok-tree.ensures) in
+    let five = c.in_ok-command-5.ensures ∙ ap₂ with_subcommand four (ap top_of c.in_ok-limits.ensures) in
+    IfOk-weaker c.with_command-6.result _ _ (λ command added. added ∙ ap₂ with_subcommand five (ap top_of c.in_ok-sim.ensures)) c.with_command-6.ensures

@@ -1,0 +1,98 @@
+-- What the words of the command line ask for, by what `clap`'s definition of a simple command finds in them (own).
+use Rattle.std.specs.Prelude.{◌≡◌, ℕ, Bool, true, false, List, Option, Some, None, map, option_map, codes, if◌then◌else◌}
+use Rattle.std.specs.Str.{bytes_eq}
+use Rattle.std.specs.Str.Parse.{IsNumeral, digits_value, without_leading_plus}
+use Rattle.clap.specs.Words.{Row, Text, all_of, first_of, one_of}
+use Rattle.otp_folds.specs.declared.alike.Grain.{Grain}
+use Rattle.otp_folds.specs.declared.alike.Grain.TheVariants.{Alike, Each}
+use Rattle.otp_folds.specs.declared.pick.Pick.{Pick}
+use Rattle.otp_folds.specs.declared.pick.Pick.TheVariants as pick
+use Rattle.otp_trial.specs.declared.clock.Clock.{Clock}
+use Rattle.otp_trial.specs.declared.clock.Clock.TheVariants.{Milliseconds, Seconds}
+use Rattle.otp_try.specs.declared.play.Writer.{Writer}
+use Rattle.otp_try.specs.declared.play.Writer.TheVariants.{Script, Person}
+use Rattle.otp_words.specs.declared.words.Command.{Command}
+use Rattle.otp_words.specs.declared.words.Command.TheVariants as command
+use Rattle.otp_words.specs.declared.words.Usage.{Usage}
+use Rattle.otp_words.specs.declared.words.Usage.TheVariants as usage
+
+-- the value of this id is this number in decimal digits, before which a plus may stand
+pub record IsNumberOf (rows : List Row) (id : Text) (number : ℕ) : Type 0 where
+  pub text : Text
+  pub given : one_of id rows ≡ Some text
+  pub digits : IsNumeral 10 (without_leading_plus text)
+  pub number_is : number ≡ digits_value 10 (without_leading_plus text)
+
+-- the flag of this id is set, or it is not
+pub record IsFlagOf (rows : List Row) (id : Text) (is_set : Bool) : Type 0 where
+  pub set : one_of id rows ≡ Some (codes "true") → is_set ≡ true
+  pub unset : one_of id rows ≡ Some (codes "false") → is_set ≡ false
+  pub missing : one_of id rows ≡ None → is_set ≡ false
+
+-- the file that is named
+abbrev pub IsFileOf : List Row → Text → Type 0
+IsFileOf rows file = first_of (codes "FILE") rows ≡ Some file
+
+-- the script that is named; `-` is standard input, as where none is named
+abbrev pub script_in : Option Text → Option Text
+script_in None = None
+script_in (Some name) = if bytes_eq name (codes "-") then None else Some name
+
+abbrev pub is_person : Writer → Bool
+is_person Script = false
+is_person Person = true
+
+-- the children that are asked for by the name of a child, of a supervisor, or by none
+abbrev pub IsPickOf : Option Text → Option Text → Pick → Type 0
+IsPickOf child table pick.All = (child ≡ None) × (table ≡ None)
+IsPickOf child table (pick.Child name) = child ≡ Some name.now
+IsPickOf child table (pick.Table name) = (child ≡ None) × (table ≡ Some name.now)
+
+-- whether each child is played by itself
+abbrev pub plays_each : Grain → Bool
+plays_each Each = true
+plays_each Alike = false
+
+-- the clock of this name
+abbrev pub clock_in : Text → Option Clock
+clock_in name =
+    if bytes_eq name (codes "milliseconds") then Some Milliseconds
+    else if bytes_eq name (codes "seconds") then Some Seconds
+    else None
+
+-- the clock that is named
+abbrev pub clock_named : Option Text → Option Clock
+clock_named None = None
+clock_named (Some name) = clock_in name
+
+abbrev pub IsClockOf : List Row → Clock → Type 0
+IsClockOf rows clock = clock_named (first_of (codes "clock") rows) ≡ Some clock
+
+-- what a tree file is used for by the command of this name
+abbrev pub AsksUse : Text → List Row → Usage → Type 0
+AsksUse name rows (usage.Try script writer is_drawn is_quiet clock width) =
+    (name ≡ codes "try") × ((option_map (λ name. name.now) script ≡ script_in (first_of (codes "SCRIPT") rows))
+    × (IsFlagOf rows (codes "prompt") (is_person writer) × (IsFlagOf rows (codes "timeline") is_drawn
+    × (IsFlagOf rows (codes "quiet") is_quiet × (IsClockOf rows clock × IsNumberOf rows (codes "width") width)))))
+AsksUse name rows usage.Draw = name ≡ codes "tree"
+AsksUse name rows (usage.Limit pick grain) =
+    (name ≡ codes "limits") × (IsPickOf (first_of (codes "child") rows) (first_of (codes "table") rows) pick
+    × IsFlagOf rows (codes "each") (plays_each grain))
+
+-- the subcommand of this name asks for this, with what was found for it
+abbrev pub Asks : Text → List Row → Command → Type 0
+Asks name rows (command.Sim file) = (name ≡ codes "sim") × IsFileOf rows file.now
+Asks name rows (command.Check files checking) =
+    (name ≡ codes "check") × ((all_of (codes "FILE") rows ≡ Some (map (λ file. file.now) files.items))
+    × (IsFlagOf rows (codes "run") checking.has_starts
+    × (IsFlagOf rows (codes "all") checking.has_all × IsFlagOf rows (codes "json") checking.is_json)))
+Asks name rows (command.Run file settings shows) =
+    (name ≡ codes "run") × (IsFileOf rows file.now
+    × (IsNumberOf rows (codes "schedulers") settings.schedulers × (IsNumberOf rows (codes "turns") settings.turns
+    × (IsFlagOf rows (codes "counts") settings.counted × (IsFlagOf rows (codes "tree") shows.is_drawn × IsFlagOf rows (codes "why") shows.is_why)))))
+Asks name rows (command.Use file what) = IsFileOf rows file.now × AsksUse name rows what
+
+-- the same of the subcommand that was found in the words, if one was
+abbrev pub AsksFor : Option (Text × List Row) → Command → Type 0
+AsksFor None command = ⊥
+AsksFor (Some found) command = Asks found.0 found.1 command

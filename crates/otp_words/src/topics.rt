@@ -1,0 +1,46 @@
+//! What is explained beside commands: `otp help script` says which lines a script may have.
+
+/// The lines of a script of `try`, as docs/FORMATS.md has them.
+pub(crate) const SCRIPT: &str = "\
+Lines of a script, for otp try FILE SCRIPT:
+
+crash CHILD [REASON]   its process ends; with error:crash if no reason is given
+exit CHILD REASON      its process ends with this reason
+fail ID [REASON]       its next start fails; with error:fail if none is given
+ignore ID              its next start answers ignore
+hang CHILD             it doesn't end when it is next asked to
+slow CHILD TIME        it ends so long after it is next asked to
+stop                   the parent asks the supervisor to shut down
+which, count, get ID, restart ID, terminate ID, terminate #P, delete ID,
+start ID START RESTART SIGNIFICANT SHUTDOWN TYPE
+                       calls of the supervisor
+expect up CHILD        the child runs
+expect end CHILD       it has no process
+expect restarts ID N   it was started again N times
+expect up, expect end  the supervisor itself has not ended; it has
+at TIME, +TIME         the clock goes there, alone or before other words
+every TIME N times ..  as N lines +TIME ..
+# TEXT                 says nothing
+
+TIME is a number with ms, s, m or h behind it, as 500ms, 1.5s or 2m. CHILD is an
+id, or a process number as #3. Below the root it has its path, as sub/x; a line
+that begins with sub/ is said to that supervisor. A REASON is normal, shutdown,
+kill, killed, noproc, shutdown:TEXT or error:TEXT.
+
+Last comes a verdict: whether the root survived, and who gave up. What is
+expected and isn't so gives status 6, so a script is a test of a restart policy.
+
+Example:
+
+  at 1s crash db
+  +500ms fail db error:down
+  hang web
+  expect up db
+  every 2s 20 times crash db
+  stop
+";
+
+/// The text of the topic that these words ask for.
+pub(crate) fn topic(word: &str) -> Option<&'static str> {
+    if word == "script" { Some(SCRIPT) } else { None }
+}
