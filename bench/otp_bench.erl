@@ -112,7 +112,9 @@ last_started(N, _) -> receive {started, Pid} -> last_started(N - 1, Pid) end.
 stop(Sup) ->
     Monitor = monitor(process, Sup),
     exit(Sup, shutdown),
-    receive {'DOWN', Monitor, process, Sup, shutdown} -> ok end.
+    receive {'DOWN', Monitor, process, Sup, shutdown} -> ok end,
+    %% It is linked: what is left in the mailbox would be gone through at each later receive.
+    receive {'EXIT', Sup, shutdown} -> ok end.
 
 die(Pid) ->
     Pid ! die,
