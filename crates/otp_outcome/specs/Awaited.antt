@@ -7,7 +7,7 @@ use Rattle.otp_reason.specs.Names.{name_bytes}
 use Rattle.otp_table.specs.declared.row.Row.{Row}
 use Rattle.otp_table.specs.declared.row.RowState.{RowState}
 use Rattle.otp_table.specs.declared.row.RowState.TheVariants as row
-use Rattle.otp_tree.specs.declared.report.TableReport.{TableReport}
+use Rattle.otp_report.specs.declared.report.TableReport.{TableReport}
 use Rattle.otp_trial.specs.Played.{IsPlanted, Seated}
 use Rattle.otp_outcome.specs.Lives.{count_text}
 

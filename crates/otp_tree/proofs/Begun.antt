@@ -13,7 +13,7 @@ use Rattle.otp_tree.specs.Begun.{root_at, start_share, starts_credited, starts_o
 use Rattle.otp_tree.specs.Closes.{all_senders}
 use Rattle.otp_tree.specs.Hands.{ClientView, HandView, senders_of}
 use Rattle.otp_tree.specs.declared.parting.Rest.{Rest}
-use Rattle.otp_tree.specs.declared.report.TableReport.{TableReport}
+use Rattle.otp_report.specs.declared.report.TableReport.{TableReport}
 use Rattle.otp_tree.specs.Partings.{ArePaired}
 use Rattle.otp_tree.specs.Settlings.{senders_in}
 

@@ -15,7 +15,7 @@ use Rattle.otp_tree.specs.Leavings.{line_of, sent_at}
 use Rattle.otp_tree.specs.Partings.{ArePaired, hand_of, joined}
 use Rattle.otp_tree.specs.Settlings.{held_in, senders_in, with_sender}
 use Rattle.otp_tree.specs.declared.parting.Rest.{Rest}
-use Rattle.otp_tree.specs.declared.report.TableReport.{TableReport}
+use Rattle.otp_report.specs.declared.report.TableReport.{TableReport}
 
 -- the first senders sent nothing
 pub none_sent : (xs : List (SenderState Item)) → AllAt (λ k s. s ≡ first_sender k) xs → ends_sent xs ≡ 0

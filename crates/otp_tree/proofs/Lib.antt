@@ -3,10 +3,8 @@ pub mod Partings
 pub mod Sums
 pub mod Apart
 pub mod Starts
-pub mod Below
 pub mod Refusals
 pub mod EachRead
-pub mod There
 pub mod Leavings
 pub mod Settlings
 pub mod Begun

@@ -9,7 +9,7 @@ use Rattle.otp_tree.specs.declared.closing.CloseFault.TheVariants as fault
 use Rattle.otp_tree.specs.declared.closing.Refusal.{Refusal}
 use Rattle.otp_tree.specs.declared.closing.Refusal.TheVariants as refusal
 use Rattle.otp_tree.specs.declared.closing.Unclosed.{Unclosed}
-use Rattle.otp_tree.specs.declared.report.Report.{Report}
+use Rattle.otp_report.specs.declared.report.Report.{Report}
 use Rattle.otp_tree.specs.Closes.{IsAsItWas, IsMismatchOnly, IsMissingOnly, IsReached, IsRefusalOf, all_senders, kept_in, report_in}
 use Rattle.otp_tree.specs.Gathers.{IsHandsRefused}
 use Rattle.otp_tree.specs.Hands.{HandView, ClientView, SystemView}

@@ -4,8 +4,8 @@ use Rattle.otp_inbox.specs.Tokens.{SenderState}
 use Rattle.otp_rules.specs.declared.event.Item.{Item}
 use Rattle.otp_rules.specs.Needs.{numbers_of}
 use Rattle.otp_run.specs.Schedulers.{SchedulerState, out}
-use Rattle.otp_tree.specs.declared.report.Report.{Report}
-use Rattle.otp_tree.specs.declared.report.TableReport.{TableReport}
+use Rattle.otp_report.specs.declared.report.Report.{Report}
+use Rattle.otp_report.specs.declared.report.TableReport.{TableReport}
 
 -- the root's process begins at the first scheduler
 abbrev pub root_at : ℕ → ℕ

@@ -14,17 +14,17 @@ use Rattle.otp_tree.specs.declared.closing.CloseFault.TheVariants as fault
 use Rattle.otp_tree.specs.declared.closing.Refusal.{Refusal}
 use Rattle.otp_tree.specs.declared.closing.Refusal.TheVariants as refusal
 use Rattle.otp_tree.specs.declared.closing.Unclosed.{Unclosed}
-use Rattle.otp_tree.specs.declared.report.Report.{Report}
+use Rattle.otp_report.specs.declared.report.Report.{Report}
 use Rattle.otp_tree.specs.declared.whole.RunFault.{RunFault}
 use Rattle.otp_tree.specs.declared.whole.RunFault.TheVariants as run
-use Rattle.otp_tree.specs.declared.report.TableReport.{TableReport}
+use Rattle.otp_report.specs.declared.report.TableReport.{TableReport}
 use Rattle.otp_tree.specs.Begun.{HasAllStarts}
 use Rattle.otp_tree.specs.Ended.{HasAllEnds}
 use Rattle.otp_tree.specs.Hands.{HandView, ClientView, SystemView, senders_of}
 use Rattle.otp_tree.specs.Leavings.{HasUnsent}
 use Rattle.otp_tree.specs.Partings.{schedulers_of}
 use Rattle.otp_tree.specs.Sendings.{parts_to}
-use Rattle.otp_tree.specs.Tellings.{AreSo, IsMismatch}
+use Rattle.otp_report.specs.Tellings.{AreSo, IsMismatch}
 
 -- the senders of the client and of each hand
 abbrev pub all_senders : {J S : Type 0} → ClientView → List (HandView J S) → List (List (SenderState Item))

@@ -8,8 +8,8 @@ use Rattle.otp_sup.specs.Letters.{is_end_note}
 use Rattle.otp_tree.specs.Hands.{HandView, RunnerView, one_if}
 use Rattle.otp_tree.specs.Leavings.{line_of}
 use Rattle.otp_tree.specs.declared.hand.Unsent.{Unsent}
-use Rattle.otp_tree.specs.declared.report.Report.{Report}
-use Rattle.otp_tree.specs.declared.report.TableReport.{TableReport}
+use Rattle.otp_report.specs.declared.report.Report.{Report}
+use Rattle.otp_report.specs.declared.report.TableReport.{TableReport}
 
 -- the note of a process's end: Ignored, Failed or Exit
 abbrev pub is_end : Item → Bool

@@ -2,10 +2,8 @@ pub mod Seats
 pub mod Drafts
 pub mod Hands
 pub mod Opens
-pub mod Reports
 pub mod Partings
 pub mod Sendings
-pub mod Tellings
 pub mod Waitings
 pub mod Begun
 pub mod Ended

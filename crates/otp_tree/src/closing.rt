@@ -13,22 +13,21 @@ ghost use Rattle.otp_tree.specs.Closes.{AreApart, HasBegun, HasTold, IsAsItWas, 
 ghost use Rattle.otp_tree.specs.Leavings.{AreAccounted, HasUnsent, IsLast, line_of, sent_at};
 ghost use Rattle.otp_tree.specs.Partings.{schedulers_of};
 ghost use Rattle.otp_tree.specs.Settlings.{AreReady, IsLoose, IsReady, held_in, senders_in};
-ghost use Rattle.otp_tree.specs.Tellings.{AreSo};
+ghost use Rattle.otp_report.specs.Tellings.{AreSo};
 
 use crate::client::Client;
 use crate::complete::is_reached;
-use crate::evidence::Mismatch;
 use crate::hand::Hand;
 use crate::joining::{Joined, join_all};
 use crate::parting::{Gathered, HandsFault, gather_hands};
 use crate::places::next_of;
-use crate::report::{Report, TableReport};
 use crate::rooms::LeftRoom;
 use crate::settling::settle;
 use crate::system::System;
 use crate::unlocking::{Loose, Unready, loosen};
 use otp_inbox::{InboxNaming, Sender};
 use otp_job::Body;
+use otp_report::{Mismatch, Report, TableReport};
 use otp_rules::Item;
 use otp_run::{LiveTotal, RunNaming};
 use otp_signals::{Owner, Words, WordsNaming};

@@ -2,7 +2,7 @@ use Rattle.std.proofs.Common.{◌≡◌, true, ◌<◌, Some, length, ap, sym, �
 use Rattle.std.proofs.lemmas.Option.{slice_get-get_or}
 use Rattle.std.specs.Prelude.{IsTrue}
 use Rattle.otp_tree.specs.Hands.{senders_of}
-use Rattle.otp_tree.proofs.Below.{below-more, below-all}
+use Rattle.otp_report.proofs.Below.{below-more, below-all}
 use Rattle.otp_tree.proofs.complete.reach_as_far.Goals as goal
 
 pub loop-place-preserved : goal.loop-place-preserved
