@@ -1,8 +1,8 @@
 -- What is left of a fault where nothing is wanted back. (own)
 use Rattle.otp_draft.specs.declared.fault.DraftFault.{DraftFault}
 use Rattle.otp_draft.specs.declared.fault.DraftFault.TheVariants as draft
-use Rattle.otp_tree.specs.declared.closing.CloseFault.TheVariants as close
-use Rattle.otp_tree.specs.declared.opening.SystemFault.TheVariants as open_fault
+use Rattle.otp_close.specs.declared.closing.CloseFault.TheVariants as close
+use Rattle.otp_open.specs.declared.opening.SystemFault.TheVariants as open_fault
 use Rattle.otp_tree.specs.declared.whole.RunFault.{RunFault}
 use Rattle.otp_tree.specs.declared.whole.RunFault.TheVariants as run
 use Rattle.otp.specs.declared.fault.Fault.{Fault}

@@ -6,7 +6,7 @@ use Rattle.otp_draft.specs.Trees.{Tree}
 use Rattle.otp_draft.specs.declared.fault.Refused.{Refused}
 use Rattle.otp_run.specs.Rule.{all_parts}
 use Rattle.otp_tree.specs.Closes.{IsRunMismatchOnly}
-use Rattle.otp_tree.specs.declared.plan.TablePlan.{TablePlan}
+use Rattle.otp_open.specs.declared.plan.TablePlan.{TablePlan}
 use Rattle.otp.specs.declared.fault.Unrun.{Unrun}
 use Rattle.otp.specs.declared.fault.Unrun.TheVariants as unrun
 

@@ -5,7 +5,7 @@ ghost use Rattle.otp_draft.specs.Plans.{numbered, seen};
 ghost use Rattle.otp_draft.specs.Trees.{plans_of, size};
 ghost use Rattle.otp_run.specs.Rule.{all_parts};
 ghost use Rattle.otp_spec.specs.declared.limits.TheConstants.{MAX_TABLES};
-ghost use Rattle.otp_tree.specs.Closes.{IsMismatchOnly, IsReportOf};
+ghost use Rattle.otp_close.specs.Closes.{IsMismatchOnly, IsReportOf};
 ghost use Rattle.otp.specs.Runs.{IsBack, IsUnfinished, seen_in_tree};
 
 use crate::fault::Unrun;

@@ -12,7 +12,7 @@ use Rattle.otp_spec.specs.declared.child.ChildSpec.{ChildSpec}
 use Rattle.otp_spec.specs.declared.child.ChildType.{ChildType}
 use Rattle.otp_spec.specs.declared.child.ChildType.TheVariants as kind
 use Rattle.otp_spec.specs.declared.flags.SupFlags.{SupFlags}
-use Rattle.otp_tree.specs.declared.plan.TablePlan.{TablePlan}
+use Rattle.otp_open.specs.declared.plan.TablePlan.{TablePlan}
 use Rattle.otp_jobs.specs.Jobs.{body_of, role_of}
 use Rattle.otp_jobs.specs.declared.flat.FlatTable.{FlatTable}
 use Rattle.otp_jobs.specs.declared.plan.PlanFault.{PlanFault}

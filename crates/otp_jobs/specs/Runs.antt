@@ -3,7 +3,7 @@ use Rattle.std.specs.Prelude.{◌≡◌, ℕ, Bool, ◌-◌, ◌^◌, ◌≤◌,
 use Rattle.otp_core.specs.View.{state_of}
 use Rattle.otp_rules.specs.Needs.{numbers_of}
 use Rattle.otp_report.specs.Reports.{last_reason}
-use Rattle.otp_tree.specs.Closes.{IsReportOf}
+use Rattle.otp_close.specs.Closes.{IsReportOf}
 use Rattle.otp_report.specs.declared.report.TableReport.{TableReport}
 use Rattle.otp_tree.specs.declared.whole.CountedRun.{CountedRun}
 use Rattle.otp_jobs.specs.declared.plan.PlanFault.{PlanFault}

@@ -2,7 +2,8 @@
 ghost use Rattle.std.specs.Prelude.{◌≡◌, ◌<◌, ◌≤◌, length, IfErr, IfOk};
 ghost use Rattle.otp_spec.specs.declared.limits.TheConstants.{MAX_READING, MAX_TABLES};
 ghost use Rattle.otp_run.specs.Rule.{all_parts};
-ghost use Rattle.otp_tree.specs.Closes.{IsReportOf, IsRunMismatchOnly};
+ghost use Rattle.otp_close.specs.Closes.{IsReportOf};
+ghost use Rattle.otp_tree.specs.Closes.{IsRunMismatchOnly};
 
 use crate::caller::Caller;
 use crate::clock::Stopwatch;

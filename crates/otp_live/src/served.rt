@@ -3,8 +3,9 @@ ghost use Rattle.std.specs.Prelude.{◌≡◌, ◌<◌, ◌≤◌, length, IfErr
 ghost use Rattle.otp_spec.specs.declared.limits.TheConstants.{MAX_TABLES};
 ghost use Rattle.otp_run.specs.Lists.{AllAt};
 ghost use Rattle.otp_run.specs.Rule.{all_parts};
-ghost use Rattle.otp_tree.specs.Closes.{IsReportOf, IsRunMismatchOnly};
-ghost use Rattle.otp_tree.specs.Opens.{slots_of};
+ghost use Rattle.otp_close.specs.Closes.{IsReportOf};
+ghost use Rattle.otp_tree.specs.Closes.{IsRunMismatchOnly};
+ghost use Rattle.otp_open.specs.Opens.{slots_of};
 
 use crate::crew::Crew;
 use crate::live::serve;

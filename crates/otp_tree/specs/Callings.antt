@@ -12,7 +12,7 @@ use Rattle.otp_spec.specs.declared.child.ChildType.{ChildType}
 use Rattle.otp_spec.specs.declared.child.ChildType.TheVariants as kind
 use Rattle.otp_tree.specs.declared.calling.CallRefusal.{CallRefusal}
 use Rattle.otp_tree.specs.declared.calling.CallRefusal.TheVariants as refusal
-use Rattle.otp_tree.specs.Hands.{ClientView}
+use Rattle.otp_hand.specs.Hands.{ClientView}
 
 module _ {J S : Type 0} where
   -- a body that a child of this type may run: a supervisor's number is no body that a call brings

@@ -1,118 +1,10 @@
--- When all parts of a tree are there, and what it leaves. (own)
-use Rattle.otp_core.specs.View.{stored_of}
-use Rattle.std.specs.Prelude.{◌≡◌, ℕ, ◌+◌, ◌<◌, ◌≤◌, ⊤, List, ◌∷◌, Option, Some, None, Result, Ok, Err, MatchOption, All, AllPairs, length, map}
-use Rattle.otp_inbox.specs.Tokens.{SenderState, all_parts}
-use Rattle.otp_rules.specs.declared.event.Item.{Item}
-use Rattle.otp_rules.specs.Needs.{numbers_of}
-use Rattle.otp_run.specs.Gathers.{IsAll}
-use Rattle.otp_run.specs.Lists.{AllAt}
-use Rattle.otp_signals.specs.Lists.{NoneInBoth}
-use Rattle.otp_sup.specs.Ends.{AreTold}
-use Rattle.otp_sup.specs.Facts.{Begins}
-use Rattle.otp_tree.specs.declared.closing.CloseFault.{CloseFault}
-use Rattle.otp_tree.specs.declared.closing.CloseFault.TheVariants as fault
-use Rattle.otp_tree.specs.declared.closing.Refusal.{Refusal}
-use Rattle.otp_tree.specs.declared.closing.Refusal.TheVariants as refusal
+-- What comes back of a tree that was not closed, and when a run tells of a mismatch. (own)
+use Rattle.std.specs.Prelude.{◌≡◌, ⊤, List}
+use Rattle.otp_close.specs.Closes.{IsMismatchOnly}
+use Rattle.otp_hand.specs.Hands.{ClientView, HandView, SystemView}
 use Rattle.otp_tree.specs.declared.closing.Unclosed.{Unclosed}
-use Rattle.otp_report.specs.declared.report.Report.{Report}
 use Rattle.otp_tree.specs.declared.whole.RunFault.{RunFault}
 use Rattle.otp_tree.specs.declared.whole.RunFault.TheVariants as run
-use Rattle.otp_report.specs.declared.report.TableReport.{TableReport}
-use Rattle.otp_tree.specs.Begun.{HasAllStarts}
-use Rattle.otp_tree.specs.Ended.{HasAllEnds}
-use Rattle.otp_tree.specs.Hands.{HandView, ClientView, SystemView, senders_of}
-use Rattle.otp_tree.specs.Leavings.{HasUnsent}
-use Rattle.otp_tree.specs.Partings.{schedulers_of}
-use Rattle.otp_tree.specs.Sendings.{parts_to}
-use Rattle.otp_report.specs.Tellings.{AreSo, IsMismatch}
-
--- the senders of the client and of each hand
-abbrev pub all_senders : {J S : Type 0} → ClientView → List (HandView J S) → List (List (SenderState Item))
-all_senders client hands = client.senders ∷ map senders_of hands
-
--- the client is the one that a tree of so many supervisors was opened with, and all senders together have the whole right
--- to send to each of them, and to whoever opened the tree
-pub record IsReached (tables : ℕ) (client : ClientView) (all : List (List (SenderState Item))) : Type 0 where
-  pub waits : MatchOption client.waiter ⊥ (λ w. w.inbox ≡ tables)
-  pub reach : length client.senders ≡ tables + 1
-  pub whole : (place : ℕ) → place < length client.senders → parts_to place all ≡ all_parts
-  -- and none of them reaches further
-  pub as_far : AllAt (λ _ senders. length senders ≡ tables + 1) all
-
--- all parts of a tree are there
-abbrev pub IsComplete : {J S : Type 0} → SystemView → List (HandView J S) → ClientView → Type 0
-IsComplete system hands client = IsAll (schedulers_of hands) × IsReached system.tables client (all_senders client hands)
-
--- each core began as a supervisor that was never opened
-abbrev pub HasBegun : TableReport → Type 0
-HasBegun t = Begins t.core.base
-
--- each end of another supervisor that the history was told is for the note's reason, and shown
-abbrev pub HasTold : TableReport → Type 0
-HasTold t = AreTold (stored_of t.core) t.ends_told.items
-
--- no process number is in the histories of two of these supervisors
-abbrev pub AreApart : List TableReport → Type 0
-AreApart tables = AllPairs (λ one other. NoneInBoth (numbers_of one.core.history) (numbers_of other.core.history)) tables
-
-module _ {J S K : Type 0} where
-  -- the report, which is there too where a mismatch was found
-  abbrev pub report_in : Result (Report J S) (CloseFault J S K) → Option (Report J S)
-  report_in (Ok report) = Some report
-  report_in (Err (fault.OutOfMemory k)) = None
-  report_in (Err (fault.Missing k)) = None
-  report_in (Err (fault.Misplaced k)) = None
-  report_in (Err (fault.Mismatch m report)) = Some report
-
-  -- what comes back where nothing was taken apart
-  abbrev pub kept_in : CloseFault J S K → Option K
-  kept_in (fault.OutOfMemory k) = Some k
-  kept_in (fault.Missing k) = Some k
-  kept_in (fault.Misplaced k) = Some k
-  kept_in (fault.Mismatch m report) = None
-
-  -- a part is said to be missing only where one is
-  abbrev pub IsMissingOnly : Type 0 → CloseFault J S K → Type 0
-  IsMissingOnly complete (fault.OutOfMemory k) = ⊤
-  IsMissingOnly complete (fault.Missing k) = ¬ complete
-  IsMissingOnly complete (fault.Misplaced k) = ⊤
-  IsMissingOnly complete (fault.Mismatch m report) = ⊤
-
-  -- a mismatch is that of an event of the report
-  abbrev pub IsMismatchOnly : CloseFault J S K → Type 0
-  IsMismatchOnly (fault.OutOfMemory k) = ⊤
-  IsMismatchOnly (fault.Missing k) = ⊤
-  IsMismatchOnly (fault.Misplaced k) = ⊤
-  IsMismatchOnly (fault.Mismatch m report) = IsMismatch report.tables.items m
-
-module _ {J S : Type 0} where
-  -- the processes of a report: what began has ended or is live, and what is left is live
-  pub record IsBalanced (report : Report J S) : Type 0 where
-    pub balance : report.begun ≡ report.ended + report.live
-    pub left : length report.processes.items ≤ report.live
-
-  -- a report of so many supervisors
-  pub record IsReportOf (tables : ℕ) (report : Report J S) : Type 0 where
-    pub count : length report.tables.items ≡ tables
-    pub begins : All HasBegun report.tables.items
-    pub shown : All HasTold report.tables.items
-    -- no process number is in the histories of two of them
-    pub apart : AreApart report.tables.items
-    -- of the orders of each history all were sent, but those that were still to be sent
-    pub unsent : All HasUnsent report.tables.items
-    -- each end that one was told of another is one that the other's history gives
-    pub told : AreSo report.tables.items
-    pub processes : IsBalanced report
-    -- what began is the root's process, and those whose starts were sent
-    pub starts : HasAllStarts report
-    -- as many ended as end notes are among what the supervisors took and left, were told whoever opened the tree, or were still
-    -- to be sent
-    pub ends : HasAllEnds report
-
-  -- a mismatch of a tree that was run whole is that of an event of its report
-  abbrev pub IsRunMismatchOnly : RunFault J S → Type 0
-  IsRunMismatchOnly (run.Open why) = ⊤
-  IsRunMismatchOnly (run.Close why) = IsMismatchOnly why
 
 -- the tree, as it was
 pub record IsAsItWas {N J S : Type 0} (system : SystemView) (hands : List (HandView J S)) (client : ClientView) (k : Unclosed N J S) : Type 0 where
@@ -120,9 +12,8 @@ pub record IsAsItWas {N J S : Type 0} (system : SystemView) (hands : List (HandV
   pub hands_are : k.hands.items ≡ hands
   pub client_is : k.client ≡ client
 
--- nothing was taken apart for this cause, and all comes back
-abbrev pub IsRefusalOf : {N J S : Type 0} → Refusal → SystemView → List (HandView J S) → ClientView → CloseFault J S (Unclosed N J S) → Type 0
-IsRefusalOf refusal.OutOfMemory system hands client (fault.OutOfMemory k) = IsAsItWas system hands client k
-IsRefusalOf refusal.Missing system hands client (fault.Missing k) = IsAsItWas system hands client k
-IsRefusalOf refusal.Misplaced system hands client (fault.Misplaced k) = IsAsItWas system hands client k
-IsRefusalOf _ system hands client _ = ⊥
+module _ {J S : Type 0} where
+  -- a mismatch of a tree that was run whole is that of an event of its report
+  abbrev pub IsRunMismatchOnly : RunFault J S → Type 0
+  IsRunMismatchOnly (run.Open why) = ⊤
+  IsRunMismatchOnly (run.Close why) = IsMismatchOnly why

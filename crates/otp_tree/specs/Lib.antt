@@ -1,15 +1,2 @@
-pub mod Seats
-pub mod Drafts
-pub mod Hands
-pub mod Opens
-pub mod Partings
-pub mod Sendings
-pub mod Waitings
-pub mod Begun
-pub mod Ended
 pub mod Closes
-pub mod Gathers
-pub mod Readings
 pub mod Callings
-pub mod Leavings
-pub mod Settlings

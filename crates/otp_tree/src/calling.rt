@@ -7,9 +7,9 @@ ghost use Rattle.otp_sup.specs.Bodies.{is_left_of};
 ghost use Rattle.otp_sup.specs.Turns.{HadBody, HasReply};
 ghost use Rattle.otp_tree.specs.Callings.{Called, IsNotSent, IsUnsendable, fits_call, is_no_table, is_of_type};
 
-use crate::client::Client;
 use crate::system::System;
 use otp_core::ReplyAnswer;
+use otp_hand::Client;
 use otp_inbox::{Inbox, InboxNaming};
 use otp_job::Body;
 use otp_rules::{Call, Item, Reply};
@@ -62,13 +62,21 @@ impl<N: WordsNaming + InboxNaming, J: Drop, S: Drop> System<N, J, S> {
         ensures refused { IfErr result (λ fault. IsNotSent fault.cause self.now.tables table (fits_call call body) client.old client.new) }
         ensures back { IfErr result (λ fault. fault.body ≡ body) }
     {
-        if table >= self.sups.len() || table >= client.senders.len() {
+        if table >= self.shared.sups.len() || table >= client.senders.len() {
             return Err(not_called(CallRefusal::NoSupervisor, body));
         }
         if !fits_call(&call, &body) {
             return Err(not_called(CallRefusal::WrongBody, body));
         }
-        client.send_call(rt, alloc, &self.words, self.inbox_of(table), call, body)
+        send_call(
+            rt,
+            alloc,
+            client,
+            &self.shared.words,
+            self.shared.inbox_of(table),
+            call,
+            body,
+        )
     }
 
     /// What that supervisor knows of the answer to the call with this number: [`ReplyAnswer::Kept`] with a copy, where it was given
@@ -86,7 +94,7 @@ impl<N: WordsNaming + InboxNaming, J: Drop, S: Drop> System<N, J, S> {
         ensures kept { table < self.now.tables → IfOk result (HasReply call) }
         ensures none { self.now.tables ≤ table → result ≡ Ok answer.NotYet }
     {
-        match self.sups.get(table) {
+        match self.shared.sups.get(table) {
             Some(sup) => sup.reply(rt, call),
             None => Ok(ReplyAnswer::NotYet),
         }
@@ -98,37 +106,35 @@ impl<N: WordsNaming + InboxNaming, J: Drop, S: Drop> System<N, J, S> {
         ensures kept { table < self.now.tables → HadBody (is_left_of call) (is_some result) }
         ensures none { self.now.tables ≤ table → result ≡ None }
     {
-        match self.sups.get(table) {
+        match self.shared.sups.get(table) {
             Some(sup) => sup.take_box(rt, call),
             None => None,
         }
     }
 }
 
-impl<N: WordsNaming + InboxNaming, B: Drop> Client<N, B> {
-    /// Sends a call to the supervisor with this inbox, under a number that is drawn for it.
-    fn send_call<R: Wait>(
-        &mut self,
-        rt: &R,
-        alloc: Global,
-        words: &Words<N>,
-        inbox: &Inbox<N, Item, Letter<B>>,
-        call: Call,
-        body: Option<B>,
-    ) -> Result<u64, Uncalled<B>>
-        requires reaches { inbox.now < length self.old.senders }
-        requires body { is_some body ≡ is_start_call call }
-        ensures sent { IfOk result (λ number. Called inbox.now number call self.old self.new) }
-        ensures refused { IfErr result (λ fault. IsUnsendable fault.cause self.old self.new) }
-        ensures back { IfErr result (λ fault. fault.body ≡ body) }
-    {
-        let Ok(number) = words.draw(&mut self.owner) else {
-            return Err(not_called(CallRefusal::Exhausted, body));
-        };
-        match self.senders.call(rt, alloc, inbox, number, call, body) {
-            Ok(()) => Ok(number),
-            Err(body) => Err(not_called(CallRefusal::OutOfMemory, body)),
-        }
+/// Sends a call to the supervisor with this inbox, under a number that is drawn for it.
+fn send_call<N: WordsNaming + InboxNaming, B: Drop, R: Wait>(
+    rt: &R,
+    alloc: Global,
+    client: &mut Client<N, B>,
+    words: &Words<N>,
+    inbox: &Inbox<N, Item, Letter<B>>,
+    call: Call,
+    body: Option<B>,
+) -> Result<u64, Uncalled<B>>
+    requires reaches { inbox.now < length client.old.senders }
+    requires body { is_some body ≡ is_start_call call }
+    ensures sent { IfOk result (λ number. Called inbox.now number call client.old client.new) }
+    ensures refused { IfErr result (λ fault. IsUnsendable fault.cause client.old client.new) }
+    ensures back { IfErr result (λ fault. fault.body ≡ body) }
+{
+    let Ok(number) = words.draw(&mut client.owner) else {
+        return Err(not_called(CallRefusal::Exhausted, body));
+    };
+    match client.senders.call(rt, alloc, inbox, number, call, body) {
+        Ok(()) => Ok(number),
+        Err(body) => Err(not_called(CallRefusal::OutOfMemory, body)),
     }
 }
 

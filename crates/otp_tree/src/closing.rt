@@ -1,79 +1,25 @@
-//! A tree is taken apart, once all its hands and its client are back.
-ghost use Rattle.std.specs.Prelude.{◌≡◌, ◌+◌, ◌<◌, ◌≤◌, ◌∷◌, [], All, Err, IfErr, IfOk, IfSome, OnSome, Some, length, map, sum_by, vec_capacity};
-ghost use Rattle.otp_inbox.specs.Lists.{AsOften};
-ghost use Rattle.otp_inbox.specs.Tokens.{all_sent};
-ghost use Rattle.otp_rules.specs.Needs.{numbers_of};
+//! A tree is closed, once all its hands and its client are back.
+ghost use Rattle.std.specs.Prelude.{◌≡◌, ◌+◌, All, IfErr, IfOk, IfSome, OnSome, length, map, sum_by};
+ghost use Rattle.otp_close.specs.Closes.{AreApart, HasBegun, HasTold, IsComplete, IsMismatchOnly, IsMissingOnly, IsReportOf, all_senders, kept_in, report_in};
+ghost use Rattle.otp_close.specs.Leavings.{AreAccounted, HasUnsent, IsLast};
+ghost use Rattle.otp_close.specs.Partings.{schedulers_of};
+ghost use Rattle.otp_close.specs.Totals.{HasAllEnds, HasAllStarts, HasHeard};
+ghost use Rattle.otp_hand.specs.Ended.{held_by};
+ghost use Rattle.otp_report.specs.Tellings.{AreSo};
 ghost use Rattle.otp_run.specs.Gathers.{IsLiveTotal, begun_of, ended_of};
 ghost use Rattle.otp_run.specs.Rule.{ticket_of};
-ghost use Rattle.otp_run.specs.Lists.{AllAt};
-ghost use Rattle.otp_signals.specs.Lists.{AllIn, NoneInBoth};
-ghost use Rattle.otp_tree.specs.Begun.{HasAllStarts, starts_credited, starts_of, unsent_of};
-ghost use Rattle.otp_tree.specs.Ended.{HasAllEnds, HasHeard, ends_of, ends_sent, held_by};
-ghost use Rattle.otp_tree.specs.Closes.{AreApart, HasBegun, HasTold, IsAsItWas, IsComplete, IsMismatchOnly, IsMissingOnly, IsReached, IsRefusalOf, IsReportOf, all_senders, kept_in, report_in};
-ghost use Rattle.otp_tree.specs.Leavings.{AreAccounted, HasUnsent, IsLast, line_of, sent_at};
-ghost use Rattle.otp_tree.specs.Partings.{schedulers_of};
-ghost use Rattle.otp_tree.specs.Settlings.{AreReady, IsLoose, IsReady, held_in, senders_in};
-ghost use Rattle.otp_report.specs.Tellings.{AreSo};
+ghost use Rattle.otp_tree.specs.Closes.{IsAsItWas};
 
-use crate::client::Client;
-use crate::complete::is_reached;
-use crate::hand::Hand;
-use crate::joining::{Joined, join_all};
-use crate::parting::{Gathered, HandsFault, gather_hands};
-use crate::places::next_of;
-use crate::rooms::LeftRoom;
-use crate::settling::settle;
 use crate::system::System;
-use crate::unlocking::{Loose, Unready, loosen};
-use otp_inbox::{InboxNaming, Sender};
+use otp_close::{CloseFault, Intact, close, finish};
+use otp_hand::{Client, Hand};
+use otp_inbox::InboxNaming;
 use otp_job::Body;
-use otp_report::{Mismatch, Report, TableReport};
-use otp_rules::Item;
-use otp_run::{LiveTotal, RunNaming};
-use otp_signals::{Owner, Words, WordsNaming};
-use otp_sup::{Letter, SupParts, Unlocked};
+use otp_report::Report;
+use otp_run::RunNaming;
+use otp_signals::WordsNaming;
 use std::alloc::Global;
 use std::sync::Wait;
-
-/// Why a tree has no report, or one that tells of a mismatch. `K` is what comes back where nothing was taken apart: the
-/// whole tree ([`Unclosed`]), or nothing where it can't leave the call.
-#[derive(Drop)]
-pub enum CloseFault<J: Drop, S: Drop, K: Drop> {
-    /// E0: memory was refused.
-    OutOfMemory(K),
-    /// E20: a hand is missing or another tree's, or the hands aren't in the order in which the tree was opened with them,
-    /// or the client isn't the one that it was opened with.
-    Missing(K),
-    /// A supervisor's lock holds another one's. It doesn't happen, since each is opened with its own and nothing moves
-    /// them; but what lies under a lock is known by its type alone, which doesn't say whose it is.
-    Misplaced(K),
-    /// E17: a supervisor was told an end of another that isn't the one that the other's own history gives, as far as that is
-    /// stored ([`Report::find_mismatch`]).
-    Mismatch(Mismatch, Report<J, S>),
-}
-
-impl<J: Drop, S: Drop, K: Drop> CloseFault<J, S, K> {
-    /// The fault without what comes back, which is dropped.
-    pub fn without_tree(self) -> CloseFault<J, S, ()>
-        ensures report { report_in (Err result) ≡ report_in (Err self) }
-        ensures mismatch { IsMismatchOnly self → IsMismatchOnly result }
-    {
-        match self {
-            CloseFault::OutOfMemory(_) => CloseFault::OutOfMemory(()),
-            CloseFault::Missing(_) => CloseFault::Missing(()),
-            CloseFault::Misplaced(_) => CloseFault::Misplaced(()),
-            CloseFault::Mismatch(mismatch, report) => CloseFault::Mismatch(mismatch, report),
-        }
-    }
-}
-
-/// Why nothing was taken apart.
-#[derive(Clone, Copy, Debug, PartialEq, Eq)]
-pub(crate) enum Refusal {
-    OutOfMemory,
-    Missing,
-    Misplaced,
-}
 
 /// A tree that was not taken apart, as it was.
 #[derive(Drop)]
@@ -140,21 +86,17 @@ impl<N: WordsNaming + InboxNaming, J: Drop, S: Drop> System<N, J, S> {
         ensures missing { IfErr result (IsMissingOnly (IsComplete self hands.items client)) }
         ensures back { IfErr result (λ fault. IfSome (kept_in fault) (IsAsItWas self hands.items client)) }
     {
-        if !is_reached(self.tables(), hands.as_slice(), &client) {
-            return Err(refuse(Refusal::Missing, self, hands, client));
-        }
-        let loose = match loosen(alloc, self, hands.as_slice(), &client) {
-            Ok(loose) => loose,
-            Err(Unready { cause, system }) => return Err(refuse(cause, system, hands, client)),
-        };
-        match gather_hands(alloc, hands) {
-            Ok(gathered) => judge(report_of(rt, loose, gathered, client)),
-            Err(HandsFault { cause, hands }) => Err(refuse(cause, loose.lock(), hands, client)),
+        match close(rt, alloc, self.shared, hands, client) {
+            Ok(report) => Ok(report),
+            Err(CloseFault::Mismatch(mismatch, report)) => Err(CloseFault::Mismatch(
+                mismatch, report,
+            )),
+            Err(CloseFault::OutOfMemory(tree)) => Err(CloseFault::OutOfMemory(given_back(tree))),
+            Err(CloseFault::Missing(tree)) => Err(CloseFault::Missing(given_back(tree))),
+            Err(CloseFault::Misplaced(tree)) => Err(CloseFault::Misplaced(given_back(tree))),
         }
     }
-}
 
-impl<N: WordsNaming + InboxNaming, J: Drop, S: Drop> System<N, J, S> {
     /// Closes the tree ([`System::close`]), once the processes that wait were given back to the run queue. Where it can't be
     /// closed it is dropped.
     pub fn finish<R: Wait>(
@@ -169,197 +111,24 @@ impl<N: WordsNaming + InboxNaming, J: Drop, S: Drop> System<N, J, S> {
         ensures report { IfOk result (IsReportOf self.tables) }
         ensures mismatch { IfErr result IsMismatchOnly }
     {
-        let mut hands = hands;
-        rouse_all(hands.as_mut_slice());
-        match self.close(rt, alloc, hands, client) {
-            Ok(report) => Ok(report),
-            Err(fault) => Err(fault.without_tree()),
-        }
+        finish(rt, alloc, self.shared, hands, client)
     }
 }
 
-/// Gives the processes that wait back to the run queue.
-fn rouse_all<N: WordsNaming + InboxNaming + RunNaming, J: Drop, S: Drop>(
-    hands: &mut [Hand<N, J, S>],
-) {
-    for place in 0..hands.len() {
-        hands[place].rouse();
-    }
-}
-
-/// Takes all supervisors apart, and empties all inboxes.
-fn report_of<N: WordsNaming + InboxNaming, J: Drop, S: Drop, R: Wait>(
-    rt: &R,
-    loose: Loose<N, J, S>,
-    gathered: Gathered<N, J, S>,
-    client: Client<N, Body<J, S>>,
-) -> Report<J, S>
-    requires loose { IsLoose client (client.senders ∷ map senders_in gathered.rests.items) loose }
-    requires begun { gathered.total.begun ≡ 1 + sum_by starts_credited (map senders_in gathered.rests.items) }
-    requires ended { gathered.total.ended ≡ sum_by ends_sent (map senders_in gathered.rests.items) + sum_by held_in gathered.rests.items }
-    requires reached { IsReached (length loose.sups.items) client (client.senders ∷ map senders_in gathered.rests.items) }
-    ensures count { length result.tables.items ≡ length loose.sups.items }
-    ensures begins { All HasBegun result.tables.items }
-    ensures shown { All HasTold result.tables.items }
-    ensures apart { AreApart result.tables.items }
-    ensures left { AreAccounted (client.senders ∷ map senders_in gathered.rests.items) result.tables.items }
-    ensures last { IsLast (length loose.sups.items) (client.senders ∷ map senders_in gathered.rests.items) client.waiter result.last.items }
-    ensures unsent { All HasUnsent result.tables.items }
-    ensures starts { HasAllStarts result }
-    ensures ends { HasAllEnds result }
-    ensures heard { HasHeard client.waiter result.heard }
-    ensures held { result.held ≡ sum_by held_in gathered.rests.items }
-    ensures live { result.live ≡ gathered.total.live }
-    ensures begun { result.begun ≡ gathered.total.begun }
-    ensures ended { result.ended ≡ gathered.total.ended }
-    ensures processes { result.processes ≡ gathered.total.left }
+/// The tree as whoever opened it has it.
+fn given_back<N: WordsNaming + InboxNaming + RunNaming, J: Drop, S: Drop>(
+    tree: Intact<N, J, S>,
+) -> Unclosed<N, J, S>
+    ensures { IsAsItWas tree.shared tree.hands.items tree.client result }
 {
-    let Loose {
-        words,
-        sups,
-        outer,
-        rooms,
-        last: room,
-        tables: list,
-        back,
-    } = loose;
-    drop(back);
-    let Gathered { total, rests } = gathered;
-    let LiveTotal {
-        live,
-        begun,
-        ended,
-        left,
-    } = total;
-    let Client {
-        owner,
-        senders,
-        root: _,
-        waiter,
-        heard,
-    } = client;
-    let Joined { senders, held } = join_all(sups.as_slice(), &outer, senders, rests);
-    let (senders, sender) = senders.into_last();
-    let Some(waiter) = waiter else { unreachable!() };
-    let tables = take_all_apart(rt, &words, sups, senders, rooms, owner, list);
-    let last = settle(rt, &outer, waiter, sender, room);
-    drop(words);
-    drop(outer);
-    Report {
-        tables,
-        live,
-        begun,
-        ended,
-        processes: left,
-        last,
-        heard,
-        held,
-    }
-}
-
-/// Takes all supervisors apart, and empties the inbox of each.
-fn take_all_apart<N: WordsNaming + InboxNaming, B: Drop, R: Wait>(
-    rt: &R,
-    words: &Words<N>,
-    sups: Vec<Unlocked<N, B>>,
-    senders: Vec<Sender<N, Item, Letter<B>>>,
-    rooms: Vec<LeftRoom<B>>,
-    mut owner: Owner<N>,
-    mut tables: Vec<TableReport>,
-) -> Vec<TableReport>
-    requires none { tables.items ≡ [] }
-    requires room { length sups.items ≤ vec_capacity tables }
-    requires ready { AreReady sups.items senders.items rooms.items }
-    requires as_many { length senders.items ≡ length sups.items }
-    ensures begins { All HasBegun result.items }
-    ensures shown { All HasTold result.items }
-    ensures apart { AreApart result.items }
-    ensures left { AllAt (λ k t. AsOften (sent_at k senders.items) (line_of t)) result.items }
-    ensures unsent { All HasUnsent result.items }
-    ensures starts { starts_credited senders.items + sum_by unsent_of result.items ≡ sum_by starts_of result.items }
-    ensures ends { ends_sent senders.items ≡ sum_by ends_of result.items }
-    ensures count { length result.items ≡ length sups.items }
-{
-    let mut senders = senders.into_iter();
-    let mut rooms = rooms.into_iter();
-    for sup in sups {
-        let sender = next_of(&mut senders);
-        let room = next_of(&mut rooms);
-        tables.push_reserved(take_apart(rt, words, sup, sender, room, &mut owner));
-    }
-    tables
-}
-
-/// Takes a supervisor apart, and empties its inbox. Its seat is joined to the owner, which shows that no number was drawn by
-/// both.
-fn take_apart<N: WordsNaming + InboxNaming, B: Drop, R: Wait>(
-    rt: &R,
-    words: &Words<N>,
-    sup: Unlocked<N, B>,
-    sender: Sender<N, Item, Letter<B>>,
-    room: LeftRoom<B>,
-    owner: &mut Owner<N>,
-) -> TableReport
-    requires { IsReady sup sender room }
-    ensures begins { HasBegun result }
-    ensures shown { HasTold result }
-    ensures left { AsOften (all_sent sender) (line_of result) }
-    ensures unsent { HasUnsent result }
-    ensures starts { sender.shares.starts + result.unsent ≡ starts_of result }
-    ensures apart { NoneInBoth owner.old.drawn (numbers_of result.core.history) }
-    ensures kept { AllIn owner.old.drawn owner.new.drawn }
-    ensures gained { AllIn (numbers_of result.core.history) owner.new.drawn }
-{
-    sup.keeps_rules();
-    let unsent = sup.unsent_starts();
-    let SupParts {
-        inbox,
-        core,
-        owner: seat,
-        taker,
-        ends_told,
-    } = sup.into_parts();
-    words.join(owner, seat);
-    let left = settle(rt, &inbox, taker, sender, room);
-    TableReport {
-        core,
-        ends_told,
-        left,
-        unsent,
-    }
-}
-
-/// All comes back.
-fn refuse<N: WordsNaming + InboxNaming + RunNaming, J: Drop, S: Drop>(
-    cause: Refusal,
-    system: System<N, J, S>,
-    hands: Vec<Hand<N, J, S>>,
-    client: Client<N, Body<J, S>>,
-) -> CloseFault<J, S, Unclosed<N, J, S>>
-    ensures { IsRefusalOf cause system hands.items client result }
-{
-    let tree = Unclosed {
-        system,
+    let Intact {
+        shared,
         hands,
         client,
-    };
-    match cause {
-        Refusal::OutOfMemory => CloseFault::OutOfMemory(tree),
-        Refusal::Missing => CloseFault::Missing(tree),
-        Refusal::Misplaced => CloseFault::Misplaced(tree),
-    }
-}
-
-/// The report, or the first mismatch that it has.
-fn judge<J: Drop, S: Drop, K: Drop>(
-    report: Report<J, S>,
-) -> Result<Report<J, S>, CloseFault<J, S, K>>
-    ensures report { report_in result ≡ Some report }
-    ensures told { IfOk result (λ report. AreSo report.tables.items) }
-    ensures mismatch { IfErr result IsMismatchOnly }
-{
-    match report.find_mismatch() {
-        Some(mismatch) => Err(CloseFault::Mismatch(mismatch, report)),
-        None => Ok(report),
+    } = tree;
+    Unclosed {
+        system: System { shared },
+        hands,
+        client,
     }
 }

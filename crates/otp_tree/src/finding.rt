@@ -1,10 +1,8 @@
 //! Which process has a hand's next turn.
 ghost use Rattle.std.specs.Prelude.{◌≡◌, ◌<◌, ◌≤◌, length, is_some, true, IfSome, IsTrue};
 
-use crate::hand::Hand;
-use crate::resting::Rested;
-use crate::senders::Senders;
 use crate::system::System;
+use otp_hand::{Hand, Rested, Senders, Shared, is_due};
 use otp_inbox::InboxNaming;
 use otp_job::Body;
 use otp_run::{RunNaming, SHARE_LIMIT};
@@ -62,7 +60,7 @@ impl<N: WordsNaming + InboxNaming, J: Drop, S: Drop> System<N, J, S> {
         if hand.runner.turning.is_some() {
             return;
         }
-        hand.runner.wake_told(&self.words);
+        hand.runner.wake_told(&self.shared.words);
     }
 
     /// One that waits and for which something has come, where the hand has nothing else to do.
@@ -82,7 +80,7 @@ impl<N: WordsNaming + InboxNaming, J: Drop, S: Drop> System<N, J, S> {
             return;
         }
         hand.runner.waiting.notice();
-        hand.runner.wake_told(&self.words);
+        hand.runner.wake_told(&self.shared.words);
     }
 
     /// The first of the supervisors that wait at these places of the hand, for which something has come.
@@ -103,7 +101,7 @@ impl<N: WordsNaming + InboxNaming, J: Drop, S: Drop> System<N, J, S> {
         ensures passes { hand.new.passes ≡ hand.old.passes }
     {
         find_due(
-            self,
+            &self.shared,
             &mut hand.runner.viewer,
             &mut hand.senders,
             hand.runner.resting.as_slice(),
@@ -116,7 +114,7 @@ impl<N: WordsNaming + InboxNaming, J: Drop, S: Drop> System<N, J, S> {
 
 /// The first of the supervisors at these places for which something has come.
 fn find_due<N: WordsNaming + InboxNaming, J: Drop, S: Drop>(
-    system: &System<N, J, S>,
+    shared: &Shared<N, J, S>,
     viewer: &mut Viewer<N>,
     senders: &mut Senders<N, Body<J, S>>,
     resting: &[Rested<J, S>],
@@ -129,24 +127,16 @@ fn find_due<N: WordsNaming + InboxNaming, J: Drop, S: Drop>(
     ensures senders { senders.new ≡ senders.old }
 {
     for place in from..to {
-        if has_come(system, viewer, senders, &resting[place], reading) {
+        if has_come(shared, viewer, senders, &resting[place], reading) {
             return Some(place);
         }
     }
     None
 }
 
-/// Whether the reading of the clock has come to a deadline.
-pub(crate) fn is_due(due: Option<u64>, reading: u64) -> bool {
-    match due {
-        Some(due) => due <= reading,
-        None => false,
-    }
-}
-
 /// Whether something has come for a supervisor that waits: its deadline, a letter, or a signal that it didn't know of.
 fn has_come<N: WordsNaming + InboxNaming, J: Drop, S: Drop>(
-    system: &System<N, J, S>,
+    shared: &Shared<N, J, S>,
     viewer: &mut Viewer<N>,
     senders: &mut Senders<N, Body<J, S>>,
     rested: &Rested<J, S>,
@@ -158,9 +148,9 @@ fn has_come<N: WordsNaming + InboxNaming, J: Drop, S: Drop>(
         return true;
     }
     let (slot, number) = (rested.process.slot(), rested.process.number());
-    if slot < system.words.slots() && system.words.look(viewer, slot, number) != rested.told {
+    if slot < shared.words.slots() && shared.words.look(viewer, slot, number) != rested.told {
         return true;
     }
-    let inbox = system.inbox_of(rested.table);
+    let inbox = shared.inbox_of(rested.table);
     inbox.number() < senders.len() && senders.has_letter(inbox)
 }

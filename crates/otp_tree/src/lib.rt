@@ -65,50 +65,31 @@
 //! its parent's `shutdown`, and the root's note is what its parent hears (OTP Design Principles, Supervisor Behaviour).
 #![tactic(auto)]
 
-mod around;
 pub mod calling;
-pub mod client;
 pub mod clock;
 pub mod closing;
-mod complete;
-pub mod draft;
-mod ending;
 mod finding;
-pub mod hand;
-mod joining;
 pub mod listener;
 mod meeting;
 pub mod opening;
-mod parting;
-mod places;
-pub mod plan;
 pub mod pool;
-mod reading;
-mod resting;
-mod rooms;
 pub mod rounds;
-pub mod senders;
 pub mod serving;
 pub mod session;
-mod settling;
 pub mod system;
-mod unlocking;
-mod waiting;
 pub mod whole;
 
 pub use calling::{CallRefusal, Uncalled};
-pub use client::Client;
 pub use clock::{Gate, Millis};
-pub use closing::{CloseFault, Unclosed};
-pub use draft::{TableDraft, Unplanned};
-pub use hand::Hand;
+pub use closing::Unclosed;
 pub use listener::Listener;
-pub use opening::{Opened, Parts, SystemFault};
+pub use opening::{Opened, Parts};
+pub use otp_close::CloseFault;
+pub use otp_hand::{Client, Hand, Senders};
+pub use otp_open::{SystemFault, TableDraft, TablePlan, Unplanned};
 pub use otp_report::{Mismatch, Report, TableReport};
-pub use plan::TablePlan;
 pub use pool::{MAX_HANDS, pool_run};
 pub use rounds::{CallEnd, CallId, CallRequest, Leader, Led, Round, lead};
-pub use senders::Senders;
 pub use session::{Session, with_system};
 pub use system::System;
 pub use whole::{CountedRun, RunFault, run_tree, run_tree_counted};

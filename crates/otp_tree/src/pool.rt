@@ -1,12 +1,12 @@
 //! Hands serve a tree side by side, each in a thread of its own.
-ghost use Rattle.std.specs.Prelude.{◌≡◌, ◌≤◌};
+ghost use Rattle.std.specs.Prelude.{◌≤◌};
 ghost use Rattle.otp_spec.specs.declared.limits.TheConstants.{MAX_READING};
 
 use crate::clock::Gate;
-use crate::hand::Hand;
 use crate::meeting::Meeting;
 use crate::system::System;
 use otp_bridge::Subsystem;
+use otp_hand::Hand;
 use otp_inbox::InboxNaming;
 use otp_job::Job;
 use otp_run::RunNaming;

@@ -3,22 +3,21 @@ ghost use Rattle.std.specs.Prelude.{◌≡◌, ◌<◌, ◌≤◌, length, IfErr
 ghost use Rattle.otp_spec.specs.declared.limits.TheConstants.{MAX_TABLES};
 ghost use Rattle.otp_run.specs.Lists.{AllAt};
 ghost use Rattle.otp_run.specs.Rule.{all_parts};
-ghost use Rattle.otp_tree.specs.Closes.{IsMismatchOnly, IsReportOf};
-ghost use Rattle.otp_tree.specs.Opens.{slots_of};
+ghost use Rattle.otp_close.specs.Closes.{IsMismatchOnly, IsReportOf};
+ghost use Rattle.otp_open.specs.Opens.{slots_of};
 
 use crate::calling::Uncalled;
-use crate::client::Client;
 use crate::clock::Gate;
-use crate::closing::CloseFault;
-use crate::hand::Hand;
-use crate::opening::{Opened, Parts, SystemFault};
-use crate::plan::TablePlan;
+use crate::opening::{Opened, Parts};
 use crate::pool::pool_run;
 use crate::system::System;
 use otp_bridge::Subsystem;
+use otp_close::CloseFault;
 use otp_core::ReplyAnswer;
+use otp_hand::{Client, Hand};
 use otp_inbox::InboxNaming;
 use otp_job::{Body, Job};
+use otp_open::{SystemFault, TablePlan};
 use otp_reason::Note;
 use otp_report::Report;
 use otp_rules::{Call, Reply};

@@ -3,11 +3,11 @@ ghost use Rattle.std.specs.Prelude.{◌≤◌, ◌≡◌, IsTrue, None, Some};
 ghost use Rattle.otp_spec.specs.declared.limits.TheConstants.{MAX_READING};
 
 use crate::clock::Millis;
-use crate::hand::{Hand, Unsent};
 use crate::listener::{Listener, Nobody};
-use crate::places::put_into;
 use crate::system::System;
 use otp_bridge::Subsystem;
+use otp_hand::places::put_into;
+use otp_hand::{Hand, Unsent};
 use otp_inbox::InboxNaming;
 use otp_job::{Body, Job};
 use otp_reason::Note;
@@ -67,7 +67,7 @@ impl<N: WordsNaming + InboxNaming, J: Job, S: Subsystem> System<N, J, S> {
             return false;
         }
         hand.runner.note_reading(reading);
-        let told = hand.runner.look(&self.words);
+        let told = hand.runner.look(&self.shared.words);
         let parent = hand.runner.parent();
         match hand.runner.nested() {
             Some((table, number)) => {
@@ -118,11 +118,11 @@ impl<N: WordsNaming + InboxNaming, J: Job, S: Subsystem> System<N, J, S> {
         requires { reading ≤ MAX_READING }
         ensures { hand.new.passes ≡ hand.old.passes }
     {
-        let Some(sup) = self.sups.get(table) else {
+        let Some(sup) = self.shared.sups.get(table) else {
             return;
         };
         let begun = hand.runner.scheduler.share().begun;
-        let answer = hand.turn_nested(rt, &self.words, sup, number, reading, told);
+        let answer = hand.turn_nested(rt, &self.shared.words, sup, number, reading, told);
         if answer == Ok(TurnAnswer::Quiet) {
             let due = sup.next_deadline(rt);
             hand.runner.rest(table, told, due);
@@ -157,7 +157,7 @@ impl<N: WordsNaming + InboxNaming, J: Job, S: Subsystem> System<N, J, S> {
         else {
             return true;
         };
-        let inbox = self.inbox_of(table);
+        let inbox = self.shared.inbox_of(table);
         if inbox.number() >= hand.senders.len() {
             keep_unsent(&mut hand.runner.unsent, table, letter, note);
             return false;

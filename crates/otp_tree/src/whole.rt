@@ -3,22 +3,22 @@ ghost use Rattle.std.specs.Prelude.{◌≡◌, ◌<◌, ◌≤◌, [], length, v
 ghost use Rattle.otp_spec.specs.declared.limits.TheConstants.{MAX_TABLES};
 ghost use Rattle.otp_run.specs.Lists.{AllAt};
 ghost use Rattle.otp_run.specs.Rule.{all_parts};
-ghost use Rattle.otp_tree.specs.Closes.{IsReportOf, IsRunMismatchOnly};
-ghost use Rattle.otp_tree.specs.Opens.{slots_of};
+ghost use Rattle.otp_close.specs.Closes.{IsReportOf};
+ghost use Rattle.otp_tree.specs.Closes.{IsRunMismatchOnly};
+ghost use Rattle.otp_open.specs.Opens.{slots_of};
 
-use crate::client::Client;
 use crate::clock::Gate;
-use crate::closing::CloseFault;
-use crate::hand::Hand;
-use crate::opening::{Opened, Parts, SystemFault};
-use crate::plan::TablePlan;
+use crate::opening::{Opened, Parts};
 use crate::pool::pool_run;
-use crate::reading::read_each;
 use crate::system::System;
 use otp_bridge::Subsystem;
+use otp_close::CloseFault;
 use otp_counts::CountsPass;
+use otp_hand::reading::read_each;
+use otp_hand::{Client, Hand};
 use otp_inbox::InboxNaming;
 use otp_job::{Body, Job};
+use otp_open::{SystemFault, TablePlan};
 use otp_report::Report;
 use otp_rules::CountsNow;
 use otp_run::RunNaming;
@@ -39,7 +39,7 @@ pub enum RunFault<J: Drop, S: Drop> {
 
 impl<J: Drop, S: Drop> From<AllocError> for RunFault<J, S> {
     ghost use Rattle.std.specs.Prelude.{◌≡◌};
-    ghost use Rattle.otp_tree.specs.declared.opening.SystemFault.TheVariants.{OutOfMemory};
+    ghost use Rattle.otp_open.specs.declared.opening.SystemFault.TheVariants.{OutOfMemory};
     ghost use Rattle.otp_tree.specs.declared.whole.RunFault.TheVariants.{Open};
 
     ghost from_gives = { λ _ fault. fault ≡ Open OutOfMemory };

@@ -1,7 +1,7 @@
 use Rattle.std.proofs.Common.{◌≡◌, ◌∙◌, length, subst, rules}
 use Rattle.otp_jobs.specs.declared.role.Calm.{Calm}
 use Rattle.otp_jobs.specs.declared.worker.WorkedJob.{WorkedJob}
-use Rattle.otp_tree.specs.Closes.{IsReportOf}
+use Rattle.otp_close.specs.Closes.{IsReportOf}
 use Rattle.otp_tree.specs.declared.whole.CountedRun.{CountedRun}
 use Rattle.otp_jobs.proofs.run.run_worked.Goals as goal
 

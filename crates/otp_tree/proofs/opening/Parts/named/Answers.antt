@@ -1,8 +1,8 @@
 use Rattle.std.proofs.Common.{ap, arith, length, sym, subst, ◌∙◌}
 use Rattle.std.specs.Prelude.{Contains}
 use Rattle.otp_signals.specs.declared.view.Holding.{Holding}
-use Rattle.otp_tree.proofs.Fresh.{all_idle}
-use Rattle.otp_tree.specs.Hands.{ClientView}
+use Rattle.otp_open.proofs.Fresh.{all_idle}
+use Rattle.otp_hand.specs.Hands.{ClientView}
 use Rattle.otp_tree.proofs.opening.Parts.named.Goals as goal
 
 pub open_all-requires-clause-slots : goal.open_all-requires-clause-slots

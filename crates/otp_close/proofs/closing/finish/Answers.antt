@@ -1,0 +1,24 @@
+use Rattle.std.proofs.Common.{◌+◌, ◌∙◌, ap, sym, arith}
+use Rattle.std.proofs.lemmas.List.{length-map}
+use Rattle.otp_run.specs.Rule.{ticket_of}
+use Rattle.otp_close.proofs.closing.finish.Goals as goal
+
+pub returns-in-Ok-clause-report : goal.returns-in-Ok-clause-report
+returns-in-Ok-clause-report g c =
+    let e = c.in-Ok.ensures {u = tt} in
+    let report = c.in-Ok.report in
+    let total = e.live in
+    record {
+      count = e.count;
+      begins = e.begins;
+      shown = e.shown;
+      apart = e.apart;
+      unsent = e.unsent;
+      told = e.told;
+      processes = record {
+        balance = e.begun ∙ total.balance ∙ ap (λ n. n + report.live) (sym e.ended);
+        left = omega (arith, total.live_is, length-map report.processes.items ticket_of);
+      };
+      starts = e.starts;
+      ends = e.ends;
+    }

@@ -1,0 +1,6 @@
+pub mod Partings
+pub mod Leavings
+pub mod Totals
+pub mod Gathers
+pub mod Settlings
+pub mod Closes

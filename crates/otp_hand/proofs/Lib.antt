@@ -1,0 +1,4 @@
+pub mod EachRead
+pub mod Sendings
+pub mod Begun
+pub mod Ended

@@ -1,0 +1,113 @@
+//! Who calls the supervisors of a tree from outside.
+ghost use Rattle.std.specs.Prelude.{◌≡◌, ◌↔◌, ◌≤◌, [], Contains, Some, is_some, length, vec_capacity, IfNone, IfSome, IsTrue, MatchOption};
+ghost use Rattle.otp_inbox.specs.Tokens.{no_shares};
+ghost use Rattle.otp_signals.specs.Holdings.{after_post};
+ghost use Rattle.otp_signals.specs.Signals.{word_of};
+ghost use Rattle.otp_signals.specs.declared.signal.Signal.TheVariants.{Shutdown};
+ghost use Rattle.otp_hand.specs.Begun.{starts_credited};
+ghost use Rattle.otp_hand.specs.Ended.{ends_sent};
+ghost use Rattle.otp_hand.specs.Readings.{AreRead};
+
+use crate::reading::read_each;
+use crate::senders::Senders;
+use otp_counts::CountsPass;
+use otp_inbox::{InboxNaming, Taker};
+use otp_rules::{CountsNow, Item};
+use otp_signals::{Owner, Signal, Words, WordsNaming};
+use otp_sup::Letter;
+use std::marker::Model;
+
+/// What a user of the tree needs: numbers for calls, a sender to each supervisor, and the first client's right to stop
+/// the root. It sends no note of an end.
+#[derive(Drop)]
+pub struct Client<N: WordsNaming + InboxNaming, B: Drop> {
+    pub owner: Owner<N>,
+    pub senders: Senders<N, B>,
+    /// The root's process number, which the first client drew.
+    pub root: Option<u64>,
+    /// What the first client takes the root's notes by.
+    pub waiter: Option<Taker<N, Item, Letter<B>>>,
+    /// How many ends of the root it took by that.
+    pub heard: u64,
+}
+
+impl<N: WordsNaming + InboxNaming, B: Drop> Model for Client<N, B> {
+    ghost use Rattle.std.specs.Prelude.{◌≡◌, Contains, IfSome};
+    ghost use Rattle.otp_inbox.specs.Tokens.{no_shares};
+    ghost use Rattle.otp_hand.specs.Begun.{starts_credited};
+    ghost use Rattle.otp_hand.specs.Ended.{CountsHeard, ends_sent};
+    ghost use Rattle.otp_hand.specs.Hands.{ClientView};
+
+    ghost Value = { ClientView };
+
+    ghost view = { λ c. record { owner = c.owner; senders = c.senders; root = c.root; waiter = c.waiter } };
+
+    ghost invariant = { λ c. IfSome c.root (λ number. Contains c.owner.slots 0 × Contains c.owner.drawn number) × (starts_credited c.senders ≡ 0) × IfSome c.waiter (λ w. w.given ≡ no_shares) × (ends_sent c.senders ≡ 0) × IfSome c.waiter (CountsHeard c.heard) };
+}
+
+impl<N: WordsNaming + InboxNaming, B: Drop> Client<N, B> {
+    /// The first client, which drew the root's number, and takes the root's notes by this.
+    pub fn first(
+        owner: Owner<N>,
+        senders: Senders<N, B>,
+        root: u64,
+        waiter: Taker<N, Item, Letter<B>>,
+    ) -> Self
+        requires slot { Contains owner.slots 0 }
+        requires drawn { Contains owner.drawn root }
+        requires starts { starts_credited senders ≡ 0 }
+        requires ends { ends_sent senders ≡ 0 }
+        requires given { waiter.given ≡ no_shares }
+        requires taken { waiter.taken ≡ [] }
+        ensures { result ≡ record { owner = owner; senders = senders; root = Some root; waiter = Some waiter } }
+    {
+        Client {
+            owner,
+            senders,
+            root: Some(root),
+            waiter: Some(waiter),
+            heard: 0,
+        }
+    }
+
+    /// Whether it is the client that the tree was opened with, which alone can stop it.
+    pub fn is_first(&self) -> bool
+        ensures { result ≡ is_some self.now.root }
+    {
+        self.root.is_some()
+    }
+
+    /// Whether it is the first client, and takes the root's notes from the inbox with this number.
+    pub fn waits_at(&self, table: usize) -> bool
+        ensures { IsTrue result ↔ MatchOption self.now.waiter ⊥ (λ w. w.inbox ≡ table) }
+    {
+        match &self.waiter {
+            Some(waiter) => waiter.number() == table,
+            None => false,
+        }
+    }
+
+    /// Reads the counts of each supervisor by these passes, in their order, before it has asked the root to shut down.
+    pub fn read_before_stop(&self, passes: &mut [CountsPass], counts: &mut Vec<CountsNow>)
+        requires unasked { self.now.owner.posts ≡ [] }
+        requires none { counts.old.items ≡ [] }
+        requires room { length passes.old ≤ vec_capacity counts.old }
+        ensures many { length counts.new.items ≡ length passes.old }
+        ensures read { AreRead counts.new.items passes.old passes.new }
+    {
+        read_each(passes, counts);
+    }
+
+    /// Asks the root to shut down. False, and nothing changes, where it isn't the first client.
+    pub fn stop(&mut self, words: &Words<N>) -> bool
+        ensures told { result ≡ is_some self.old.root }
+        ensures posted { IfSome self.old.root (λ number. self.new ≡ record self.old { owner = after_post 0 (word_of number Shutdown) self.old.owner }) }
+        ensures same { IfNone self.old.root (self.new ≡ self.old) }
+    {
+        let Some(number) = self.root else {
+            return false;
+        };
+        words.post(&mut self.owner, 0, number, Signal::Shutdown);
+        true
+    }
+}

@@ -1,0 +1,132 @@
+//! What one thread needs to serve a tree.
+ghost use Rattle.std.specs.Prelude.{◌≡◌, ◌↔◌, ◌+◌, ◌<◌, ◌≤◌, None, Some, is_some, true, IfNone, IfSome, length};
+ghost use Rattle.otp_spec.specs.declared.limits.TheConstants.{MAX_READING};
+ghost use Rattle.otp_hand.specs.Readings.{HasRead};
+
+use crate::reading::read_at;
+use crate::runner::Runner;
+use crate::senders::Senders;
+use otp_counts::CountsPass;
+use otp_inbox::InboxNaming;
+use otp_job::Body;
+use otp_rules::CountsNow;
+use otp_run::RunNaming;
+use otp_signals::{Signal, Words, WordsNaming};
+use otp_sup::{Sup, TurnAnswer, TurnFault};
+use otp_wake::Post;
+use std::alloc::AllocError;
+use std::marker::Model;
+use std::sync::{Arc, Wait};
+
+/// What one thread needs to serve: what it runs processes with, a sender to each supervisor, and a pass to read the counts
+/// of each.
+///
+/// As many processes began at its scheduler as starts were credited to its senders, and one more, the root's, in the first
+/// hand. As many ended there as its senders sent end notes, and one more where it still has one to send.
+#[derive(Drop)]
+pub struct Hand<N: WordsNaming + InboxNaming + RunNaming, J: Drop, S: Drop> {
+    pub runner: Runner<N, J, S>,
+    pub senders: Senders<N, Body<J, S>>,
+    pub passes: Vec<CountsPass>,
+}
+
+impl<N: WordsNaming + InboxNaming + RunNaming, J: Drop, S: Drop> Model for Hand<N, J, S> {
+    ghost use Rattle.std.specs.Prelude.{◌≡◌};
+    ghost use Rattle.otp_hand.specs.Hands.{HandView};
+    ghost use Rattle.otp_hand.specs.Begun.{HasCredited};
+    ghost use Rattle.otp_hand.specs.Ended.{HasEnded};
+
+    ghost Value = { HandView J S };
+
+    ghost view = { λ h. record { scheduler = h.runner.scheduler; senders = h.senders; turning = h.runner.turning; waiting = h.runner.waiting; resting = h.runner.resting; unsent = h.runner.unsent; refusals = h.runner.refusals; passes = h.passes.items } };
+
+    ghost invariant = { λ h. HasCredited h.runner.scheduler h.senders × HasEnded h.runner.scheduler h.senders h.runner.unsent };
+}
+
+impl<N: WordsNaming + InboxNaming + RunNaming, J: Drop, S: Drop> Hand<N, J, S> {
+    /// Gives the processes that wait back to the run queue, as far as there is memory: each has its turn again when it comes
+    /// there, in any hand. Whoever closes a tree does this first, so that they are
+    /// among the processes of the report.
+    pub fn rouse(&mut self)
+        ensures unsent { self.new.unsent ≡ self.old.unsent }
+        ensures passes { self.new.passes ≡ self.old.passes }
+    {
+        self.runner.rouse();
+    }
+
+    /// The least deadline for which one of its supervisors waits, as a reading of the clock. None where none has one.
+    pub fn next_due(&self) -> Option<u64> {
+        self.runner.resting.next_due()
+    }
+
+    /// The next search tries the deques of all other hands, though it may have tried them not long ago.
+    pub fn try_others(&mut self)
+        ensures unsent { self.new.unsent ≡ self.old.unsent }
+        ensures passes { self.new.passes ≡ self.old.passes }
+    {
+        self.runner.around.is_to_try_others();
+    }
+
+    /// Whether a search may find something at this reading of the clock, though nothing has changed since one that gave nothing: a
+    /// deadline has come, something was refused for want of memory, or it is time to try the deques of other hands again.
+    pub fn may_find(&mut self, reading: u64) -> bool
+        ensures unsent { self.new.unsent ≡ self.old.unsent }
+        ensures passes { self.new.passes ≡ self.old.passes }
+    {
+        if self.runner.unsent.is_some() || self.runner.turning.is_some() {
+            return true;
+        }
+        let due = self.runner.resting.next_due();
+        self.runner.around.is_worth_a_search(due, reading)
+    }
+
+    /// How many processes its own deque has at most, which other hands might take.
+    pub fn stock(&self) -> u32 {
+        self.runner.around.stock()
+    }
+
+    /// From now on jobs that wait in this hand may be woken by this post.
+    ///
+    /// # Errors
+    ///
+    /// Where there are as many ways to the post as a machine word counts.
+    pub fn open_post(&mut self, post: &Arc<Post>) -> Result<(), AllocError>
+        ensures unsent { self.new.unsent ≡ self.old.unsent }
+        ensures passes { self.new.passes ≡ self.old.passes }
+    {
+        self.runner.around.open_post(post)
+    }
+
+    /// A turn of the supervisor that runs in the process that it has out. Its sender to that supervisor is credited with what
+    /// was done.
+    pub fn turn_nested<R: Wait>(
+        &mut self,
+        rt: &R,
+        words: &Words<N>,
+        sup: &Sup<N, Body<J, S>>,
+        number: u64,
+        reading: u64,
+        told: Signal,
+    ) -> Result<TurnAnswer, TurnFault>
+        requires { reading ≤ MAX_READING }
+        ensures { self.new.passes ≡ self.old.passes }
+    {
+        if sup.inbox().number() >= self.senders.len() {
+            return Ok(TurnAnswer::Pending);
+        }
+        self.senders
+            .turn(rt, words, sup, &mut self.runner, number, reading, told)
+    }
+
+    /// The counts of the supervisor with this number, as it published them last. None where it has no pass for one.
+    pub fn read_counts(&mut self, table: usize) -> Option<CountsNow>
+        ensures read { IfSome result (λ now. HasRead table now self.old self.new) }
+        ensures none { IfNone result (self.new ≡ self.old) }
+        ensures there { is_some result ≡ true ↔ table < length self.old.passes }
+    {
+        if table >= self.passes.len() {
+            return None;
+        }
+        Some(read_at(self.passes.as_mut_slice(), table))
+    }
+}

@@ -1,0 +1,158 @@
+//! Supervisors' processes that wait until something comes for them.
+ghost use Rattle.std.specs.Prelude.{◌≡◌, ◌<◌, ◌≤◌, ◌++◌, ◌∷◌, [], length, IfSome, MatchOption};
+ghost use Rattle.otp_hand.specs.Waitings.{IsTaken};
+
+use otp_job::Process;
+use otp_signals::Signal;
+use std::alloc::Global;
+use std::marker::Model;
+
+/// How many of them are looked at in each turn, one after the other.
+const FEW: usize = 2;
+
+/// A supervisor's process that waits, the signal that it knew of when it began to, and the least deadline of its children.
+#[derive(Drop)]
+pub struct Rested<J: Drop, S: Drop> {
+    pub process: Process<J, S>,
+    /// The number of its supervisor.
+    pub table: usize,
+    pub told: Signal,
+    pub due: Option<u64>,
+}
+
+/// The processes of a hand whose supervisors found nothing to do: no letter, no deadline that had come, no signal that is news.
+/// They take no turns until a letter or another signal has come, or the reading of the clock has come to a deadline.
+#[derive(Drop)]
+pub struct Resting<J: Drop, S: Drop> {
+    list: Vec<Rested<J, S>>,
+    // The place of the first that is looked at in the next turn.
+    next: usize,
+    // The supervisor to which the hand has just sent a letter.
+    called: Option<usize>,
+}
+
+impl<J: Drop, S: Drop> Model for Resting<J, S> {
+    ghost use Rattle.std.specs.Prelude.{List};
+    ghost use Rattle.otp_hand.specs.declared.resting.Rested.{Rested};
+
+    ghost Value = { List (Rested J S) };
+
+    ghost view = { λ r. r.list.items };
+}
+
+impl<J: Drop, S: Drop> Resting<J, S> {
+    /// None waits.
+    pub fn new(alloc: Global) -> Self
+        ensures { result ≡ [] }
+    {
+        Resting {
+            list: Vec::new(alloc),
+            next: 0,
+            called: None,
+        }
+    }
+
+    /// How many wait.
+    pub fn len(&self) -> usize
+        ensures { result ≡ length self.now }
+    {
+        self.list.len()
+    }
+
+    /// Those that wait.
+    pub fn as_slice(&self) -> &[Rested<J, S>]
+        ensures { result.now ≡ self.now }
+    {
+        self.list.as_slice()
+    }
+
+    /// Lets one wait. It comes back where memory is refused.
+    pub fn keep(&mut self, rested: Rested<J, S>) -> Option<Rested<J, S>>
+        ensures { MatchOption result (self.new ≡ self.old ++ rested ∷ []) (λ back. (back ≡ rested) × (self.new ≡ self.old)) }
+    {
+        if self.list.reserve(1).is_err() {
+            return Some(rested);
+        }
+        self.list.push_reserved(rested);
+        None
+    }
+
+    /// Takes out the one that began to wait last.
+    pub fn pop(&mut self) -> Option<Rested<J, S>>
+        ensures { MatchOption result (self.new ≡ self.old) (λ rested. self.old ≡ self.new ++ rested ∷ []) }
+    {
+        self.list.pop()
+    }
+
+    /// Takes out the one at this place.
+    pub fn take_at(&mut self, place: usize) -> Rested<J, S>
+        requires { place < length self.old }
+        ensures { IsTaken result self.old self.new }
+    {
+        self.list.swap_remove(place)
+    }
+
+    /// Notes that a letter has just gone to the supervisor with this number: its process has the hand's next turn, if it
+    /// waits here.
+    pub fn call(&mut self, table: usize)
+        ensures { self.new ≡ self.old }
+    {
+        self.called = Some(table);
+    }
+
+    /// The place of the one to which a letter has just gone, if it waits here. It is told once.
+    pub fn called_place(&mut self) -> Option<usize>
+        ensures same { self.new ≡ self.old }
+        ensures place { IfSome result (λ place. place < length self.old) }
+    {
+        let table = self.called.take()?;
+        find_table(self.list.as_slice(), table)
+    }
+
+    /// The least of the deadlines for which they wait.
+    pub fn next_due(&self) -> Option<u64> {
+        least_due(self.list.as_slice())
+    }
+
+    /// The places that are looked at in this turn, from the first up to the second: a few, one after the other.
+    pub fn next_places(&mut self) -> (usize, usize)
+        ensures same { self.new ≡ self.old }
+        ensures places { result.1 ≤ length self.old }
+    {
+        let len = self.list.len();
+        let from = self.next.min(len);
+        let to = from.saturating_add(FEW).min(len);
+        self.next = if to < len { to } else { 0 };
+        (from, to)
+    }
+}
+
+/// The least of their deadlines.
+fn least_due<J: Drop, S: Drop>(resting: &[Rested<J, S>]) -> Option<u64> {
+    let mut least = None;
+    for rested in resting {
+        least = earlier(least, rested.due);
+    }
+    least
+}
+
+/// The earlier of two deadlines.
+fn earlier(one: Option<u64>, other: Option<u64>) -> Option<u64> {
+    match (one, other) {
+        (Some(one), Some(other)) => Some(one.min(other)),
+        (Some(due), None) | (None, Some(due)) => Some(due),
+        (None, None) => None,
+    }
+}
+
+/// The place of the process of the supervisor with this number.
+fn find_table<J: Drop, S: Drop>(resting: &[Rested<J, S>], table: usize) -> Option<usize>
+    ensures { IfSome result (λ place. place < length resting.now) }
+{
+    for place in 0..resting.len() {
+        if resting[place].table == table {
+            return Some(place);
+        }
+    }
+    None
+}

@@ -1,0 +1,489 @@
+//! What a hand runs processes with.
+ghost use Rattle.std.specs.Prelude.{◌≡◌, ◌+◌, ◌<◌, ◌++◌, ◌∷◌, [], None, Some, is_some, true, false, option_copied, OnErr, OnOk, IfErr, IfSome, MatchOption, length};
+ghost use Rattle.otp_sup.specs.Ports.{launched, told};
+ghost use Rattle.otp_sup.specs.Letters.{Comes, carries_body};
+ghost use Rattle.otp_rules.specs.declared.event.Item.TheVariants as item;
+ghost use Rattle.otp_hand.specs.Begun.{NoneBegan};
+ghost use Rattle.otp_hand.specs.Ended.{NoneEnded, end_of, ends_held};
+
+use crate::around::Around;
+use crate::places::put_into;
+use crate::resting::{Rested, Resting};
+use crate::waiting::Waiting;
+use otp_bridge::Subsystem;
+use otp_job::{After, Body, EndNote, Job, Process, Spent, TableNo, one_turn_at};
+use otp_reason::Note;
+use otp_rules::SupEnd;
+use otp_run::{RunNaming, SHARE_LIMIT, Scheduler};
+use otp_signals::{Signal, Viewer, Words, WordsNaming};
+use otp_sup::{Letter, NewProcess, Port, Sup, evidence_of};
+use otp_tally::Tally;
+use std::alloc::Global;
+use std::marker::Model;
+
+/// A letter that was not sent yet, the number of the supervisor to which it goes, and the note that it brings.
+#[derive(Drop)]
+pub struct Unsent<J: Drop, S: Drop> {
+    pub table: usize,
+    pub letter: Letter<Body<J, S>>,
+    pub note: Note,
+}
+
+/// What a hand runs processes with: a scheduler, and a viewer of the signals. Supervisors give their orders to it.
+///
+/// It has out the process whose turn it is; where that can't be given back for want of memory it stays here and comes
+/// first. So does a note that was refused. Out are also those of its processes that wait: jobs until they are told something
+/// or woken ([`Turn::Wait`](otp_job::Turn::Wait)), and supervisors that found nothing to do until something comes for them. They
+/// take no turns, and no other hand gets them.
+#[derive(Drop)]
+pub struct Runner<N: WordsNaming + RunNaming, J: Drop, S: Drop> {
+    pub scheduler: Scheduler<N, J, S>,
+    pub viewer: Viewer<N>,
+    pub turning: Option<Process<J, S>>,
+    pub waiting: Waiting<J, S>,
+    pub resting: Resting<J, S>,
+    pub unsent: Option<Unsent<J, S>>,
+    pub refusals: Tally,
+    pub around: Around,
+    pub alloc: Global,
+}
+
+impl<N: WordsNaming + RunNaming, J: Drop, S: Drop> Model for Runner<N, J, S> {
+    ghost use Rattle.std.specs.Prelude.{◌≡◌, ◌+◌, is_some, length};
+    ghost use Rattle.otp_run.specs.Schedulers.{out};
+    ghost use Rattle.otp_hand.specs.Hands.{RunnerView, one_if};
+
+    ghost Value = { RunnerView J S };
+
+    ghost view = { λ r. record { scheduler = r.scheduler; turning = r.turning; waiting = r.waiting; resting = r.resting; unsent = r.unsent; refusals = r.refusals.count } };
+
+    ghost invariant = { λ r. out r.scheduler ≡ one_if (is_some r.turning) + length r.waiting + length r.resting };
+}
+
+impl<N: WordsNaming + RunNaming, J: Drop, S: Drop> Port<Body<J, S>> for Runner<N, J, S> {
+    ghost use Rattle.std.specs.Prelude.{map};
+    ghost use Rattle.otp_hand.specs.Ended.{beside_of};
+    ghost use Rattle.otp_hand.specs.Hands.{launched_of, notes_by};
+
+    ghost processes = { λ r. map launched_of r.scheduler.own.puts };
+
+    ghost notes = { λ r. notes_by r };
+
+    ghost refusals = { λ r. r.refusals };
+
+    ghost beside = { λ r. beside_of r };
+
+    fn put(&mut self, process: NewProcess<Body<J, S>>) -> Result<(), NewProcess<Body<J, S>>>
+        ensures took { OnOk result (map launched_of self.new.scheduler.own.puts ≡ map launched_of self.old.scheduler.own.puts ++ launched process.number process.slot (is_some process.body) ∷ []) }
+        ensures kept { OnErr result (map launched_of self.new.scheduler.own.puts ≡ map launched_of self.old.scheduler.own.puts) }
+        ensures refused { OnErr result (self.old.refusals < self.new.refusals) }
+        ensures counted { OnOk result (self.new.refusals ≡ self.old.refusals) }
+        ensures back { IfErr result (λ back. back ≡ process) }
+        ensures notes { notes_by self.new ≡ notes_by self.old }
+        ensures beside { beside_of self.new ≡ beside_of self.old }
+    {
+        let NewProcess { number, slot, body } = process;
+        let Some(body) = body else {
+            self.refusals.raise();
+            return Err(NewProcess {
+                number,
+                slot,
+                body: None,
+            });
+        };
+        let table = nested_in(&self.turning);
+        let body = match Process::new(self.alloc, number, slot, table, body) {
+            Ok(process) => match self.scheduler.put(process) {
+                Ok(()) => {
+                    self.around.gained();
+                    return Ok(());
+                }
+                Err(process) => process.into_body(),
+            },
+            Err(body) => Some(body),
+        };
+        self.refusals.raise();
+        Err(NewProcess { number, slot, body })
+    }
+
+    fn send(&mut self, note: Note, end: Option<&SupEnd>) -> Result<(), Note>
+        requires { Comes (item.Note note) (option_copied end) }
+        ensures took { OnOk result (notes_by self.new ≡ notes_by self.old ++ told note (option_copied end.entry) ∷ []) }
+        ensures kept { OnErr result (notes_by self.new ≡ notes_by self.old) }
+        ensures refused { OnErr result (self.old.refusals < self.new.refusals) }
+        ensures counted { OnOk result (self.new.refusals ≡ self.old.refusals) }
+        ensures processes { map launched_of self.new.scheduler.own.puts ≡ map launched_of self.old.scheduler.own.puts }
+        ensures beside { beside_of self.new ≡ beside_of self.old }
+    {
+        if self.unsent.is_none() {
+            if let Some(unsent) = self.letter_of(note, end) {
+                put_into(&mut self.unsent, Some(unsent));
+                return Ok(());
+            }
+        }
+        self.refusals.raise();
+        Err(note)
+    }
+}
+
+/// The number of the supervisor that runs in the process that is out: its children's notes go to it.
+fn nested_in<J: Drop, S: Drop>(turning: &Option<Process<J, S>>) -> usize {
+    match turning {
+        Some(process) => process.nested_table().unwrap_or(usize::MAX),
+        None => usize::MAX,
+    }
+}
+
+/// The number of the supervisor that ran in a process, and what is left of the process: it has ended. A process in which no
+/// supervisor runs comes back.
+fn end_nested<J: Drop, S: Drop>(
+    mut process: Process<J, S>,
+) -> Result<(TableNo, Spent), Process<J, S>>
+    ensures { IfErr result (λ back. back ≡ process) }
+{
+    let Some(table) = process.take_table() else {
+        return Err(process);
+    };
+    match process.retire() {
+        Ok(spent) => Ok((table, spent)),
+        Err(_) => unreachable!(),
+    }
+}
+
+impl<N: WordsNaming + RunNaming, J: Drop, S: Drop> Runner<N, J, S> {
+    /// The letter that tells the parent of the supervisor whose turn it is of its start, or its end with what shows it. With
+    /// its end its number goes home, and its process ends. None, and nothing changes, where it has gone already, or where
+    /// memory is refused.
+    fn letter_of(&mut self, note: Note, end: Option<&SupEnd>) -> Option<Unsent<J, S>>
+        requires { Comes (item.Note note) (option_copied end) }
+        ensures item { IfSome result (λ u. u.letter.item ≡ item.Note note) }
+        ensures end { IfSome result (λ u. u.letter.end ≡ option_copied end.entry) }
+        ensures unsent { self.new.unsent ≡ self.old.unsent }
+        ensures refusals { self.new.refusals ≡ self.old.refusals }
+        ensures puts { self.new.scheduler.own ≡ self.old.scheduler.own }
+        ensures begun { self.new.scheduler.begun ≡ self.old.scheduler.begun }
+        ensures ended { self.new.scheduler.ended ≡ self.old.scheduler.ended + ends_held result }
+    {
+        let process = self.turning.take()?;
+        let table = process.table();
+        let Ok(end) = evidence_of(self.alloc, note, end) else {
+            put_into(&mut self.turning, Some(process));
+            return None;
+        };
+        if let Note::Up(_) = note {
+            put_into(&mut self.turning, Some(process));
+            let letter = Letter::with_end(note, None, end);
+            return Some(Unsent {
+                table,
+                letter,
+                note,
+            });
+        }
+        if self.scheduler.share().ended >= SHARE_LIMIT {
+            put_into(&mut self.turning, Some(process));
+            return None;
+        }
+        match end_nested(process) {
+            Ok((number, remains)) => {
+                self.scheduler.finish(remains);
+                let letter = Letter::with_end(note, Some(Body::Sup(number)), end);
+                let unsent = Unsent {
+                    table,
+                    letter,
+                    note,
+                };
+                Some(unsent)
+            }
+            Err(process) => {
+                put_into(&mut self.turning, Some(process));
+                None
+            }
+        }
+    }
+}
+
+impl<N: WordsNaming + RunNaming, J: Drop, S: Drop> Runner<N, J, S> {
+    /// Gives its turn to the supervisor's process that waits at this place, if there is one.
+    pub fn wake(&mut self, place: Option<usize>)
+        requires free { self.old.turning ≡ None }
+        requires there { IfSome place (λ place. place < length self.old.resting) }
+        ensures unsent { self.new.unsent ≡ self.old.unsent }
+        ensures begun { NoneBegan self.old.scheduler self.new.scheduler }
+        ensures ended { NoneEnded self.old.scheduler self.new.scheduler }
+    {
+        let Some(place) = place else {
+            return;
+        };
+        let rested = self.resting.take_at(place);
+        put_into(&mut self.turning, Some(rested.process));
+    }
+
+    /// Gives its turn to a job that waits and was told something, if it is one of those that are looked at now.
+    pub fn wake_told(&mut self, words: &Words<N>)
+        requires { self.old.turning ≡ None }
+        ensures unsent { self.new.unsent ≡ self.old.unsent }
+        ensures begun { NoneBegan self.old.scheduler self.new.scheduler }
+        ensures ended { NoneEnded self.old.scheduler self.new.scheduler }
+    {
+        let told = self
+            .waiting
+            .take_told(words, &mut self.viewer, &self.around);
+        put_into(&mut self.turning, told);
+    }
+
+    /// Gives its turn to the next process of the run queue, if there is one: of its own deque, or else of the others, but for a while after
+    /// those had none.
+    pub fn take_next(&mut self)
+        requires { self.old.turning ≡ None }
+        ensures unsent { self.new.unsent ≡ self.old.unsent }
+        ensures begun { NoneBegan self.old.scheduler self.new.scheduler }
+        ensures ended { NoneEnded self.old.scheduler self.new.scheduler }
+    {
+        if self.around.tries_others() {
+            let next = self.scheduler.next();
+            put_into(&mut self.turning, next);
+            let has_found = self.turning.is_some();
+            note_search(&mut self.around, has_found);
+            return;
+        }
+        let next = self.scheduler.next_own();
+        put_into(&mut self.turning, next);
+        let has_found = self.turning.is_some();
+        note_own_search(&mut self.around, has_found);
+    }
+
+    /// Lets the supervisor's process that it has out wait, until there is a letter or another signal than this one, or the reading
+    /// of the clock has come to this deadline. Where memory is refused it goes on.
+    pub fn rest(&mut self, table: usize, told: Signal, due: Option<u64>)
+        ensures unsent { self.new.unsent ≡ self.old.unsent }
+        ensures begun { NoneBegan self.old.scheduler self.new.scheduler }
+        ensures ended { NoneEnded self.old.scheduler self.new.scheduler }
+    {
+        let Some(process) = self.turning.take() else {
+            return;
+        };
+        let rested = Rested {
+            process,
+            table,
+            told,
+            due,
+        };
+        if let Some(back) = self.resting.keep(rested) {
+            put_into(&mut self.turning, Some(back.process));
+        }
+    }
+
+    /// Puts the process that it has out back into its deque. Where it can't be put, it stays.
+    pub fn hand_back(&mut self)
+        ensures unsent { self.new.unsent ≡ self.old.unsent }
+        ensures begun { NoneBegan self.old.scheduler self.new.scheduler }
+        ensures ended { NoneEnded self.old.scheduler self.new.scheduler }
+    {
+        let Some(process) = self.turning.take() else {
+            return;
+        };
+        match self.scheduler.give_back(process) {
+            Ok(()) => self.around.gained(),
+            Err(process) => put_into(&mut self.turning, Some(process)),
+        }
+    }
+
+    /// Gives the processes that wait back to the run queue, as far as there is memory.
+    pub fn rouse(&mut self)
+        ensures unsent { self.new.unsent ≡ self.old.unsent }
+        ensures begun { NoneBegan self.old.scheduler self.new.scheduler }
+        ensures ended { NoneEnded self.old.scheduler self.new.scheduler }
+    {
+        for _ in 0..self.waiting.len() {
+            self.rouse_one();
+        }
+        for _ in 0..self.resting.len() {
+            self.rouse_supervisor();
+        }
+    }
+
+    /// Gives back one of its supervisors, if one waits.
+    fn rouse_supervisor(&mut self)
+        ensures unsent { self.new.unsent ≡ self.old.unsent }
+        ensures begun { NoneBegan self.old.scheduler self.new.scheduler }
+        ensures ended { NoneEnded self.old.scheduler self.new.scheduler }
+    {
+        if self.turning.is_some() {
+            return;
+        }
+        let Some(rested) = self.resting.pop() else {
+            return;
+        };
+        if let Err(process) = self.scheduler.give_back(rested.process) {
+            put_into(&mut self.turning, Some(process));
+        }
+    }
+
+    /// Gives one back, if one waits. Where memory is refused it has the hand's next turn, and no other is given back before.
+    fn rouse_one(&mut self)
+        ensures unsent { self.new.unsent ≡ self.old.unsent }
+        ensures begun { NoneBegan self.old.scheduler self.new.scheduler }
+        ensures ended { NoneEnded self.old.scheduler self.new.scheduler }
+    {
+        if self.turning.is_some() {
+            return;
+        }
+        let Some(process) = self.waiting.pop() else {
+            return;
+        };
+        if let Err(process) = self.scheduler.give_back(process) {
+            put_into(&mut self.turning, Some(process));
+        }
+    }
+
+    /// Notes the reading of the clock for this turn.
+    pub fn note_reading(&mut self, reading: u64)
+        ensures turning { self.new.turning ≡ self.old.turning }
+        ensures unsent { self.new.unsent ≡ self.old.unsent }
+        ensures begun { NoneBegan self.old.scheduler self.new.scheduler }
+        ensures ended { NoneEnded self.old.scheduler self.new.scheduler }
+    {
+        self.around.reading = reading;
+    }
+
+    /// The next search looks at all that wait.
+    pub fn look_at_all(&mut self)
+        ensures turning { self.new.turning ≡ self.old.turning }
+        ensures unsent { self.new.unsent ≡ self.old.unsent }
+        ensures begun { NoneBegan self.old.scheduler self.new.scheduler }
+        ensures ended { NoneEnded self.old.scheduler self.new.scheduler }
+    {
+        self.waiting.look_at_all();
+    }
+
+    /// The number of the supervisor to which the process that it has out belongs.
+    pub fn parent(&self) -> usize {
+        match &self.turning {
+            Some(process) => process.table(),
+            None => usize::MAX,
+        }
+    }
+
+    /// The supervisor that runs in the process that it has out, and that process's number.
+    pub fn nested(&self) -> Option<(usize, u64)> {
+        let process = self.turning.as_ref()?;
+        let table = process.nested_table()?;
+        Some((table, process.number()))
+    }
+
+    /// What the process that it has out is told by its supervisor.
+    pub fn look(&mut self, words: &Words<N>) -> Signal
+        ensures turning { self.new.turning ≡ self.old.turning }
+        ensures unsent { self.new.unsent ≡ self.old.unsent }
+        ensures begun { NoneBegan self.old.scheduler self.new.scheduler }
+        ensures ended { NoneEnded self.old.scheduler self.new.scheduler }
+    {
+        let Some(process) = &self.turning else {
+            return Signal::None;
+        };
+        let (slot, number) = (process.slot(), process.number());
+        if slot >= words.slots() {
+            return Signal::None;
+        }
+        words.look(&mut self.viewer, slot, number)
+    }
+}
+
+impl<N: WordsNaming + RunNaming, J: Job, S: Subsystem> Runner<N, J, S> {
+    /// A turn of the worker or the bridge that it has out.
+    pub fn work(&mut self, told: Signal)
+        requires { self.old.unsent ≡ None }
+        ensures begun { NoneBegan self.old.scheduler self.new.scheduler }
+        // It ended exactly where its end note is to be sent.
+        ensures ended { self.new.scheduler.ended ≡ self.old.scheduler.ended + ends_held self.new.unsent }
+    {
+        let Some(process) = self.turning.take() else {
+            return;
+        };
+        if !process.is_runnable() || self.scheduler.share().ended >= SHARE_LIMIT {
+            put_into(&mut self.turning, Some(process));
+            return;
+        }
+        let table = process.table();
+        self.around.take(process.slot());
+        let after = one_turn_at(process, told, &self.around.site());
+        match after {
+            After::Again(process) => put_into(&mut self.turning, Some(process)),
+            After::Waits(process) => {
+                let hand = self.scheduler.index();
+                let back = keep_waiting(&mut self.waiting, &self.around, hand, process);
+                put_into(&mut self.turning, back);
+            }
+            After::Begun(process, note) => {
+                put_into(&mut self.turning, Some(process));
+                let letter = started(note);
+                let unsent = Unsent {
+                    table,
+                    letter,
+                    note,
+                };
+                put_into(&mut self.unsent, Some(unsent));
+            }
+            After::Done(end, spent) => {
+                self.scheduler.finish(spent);
+                let note = end.note;
+                let letter = ended(end);
+                let unsent = Unsent {
+                    table,
+                    letter,
+                    note,
+                };
+                put_into(&mut self.unsent, Some(unsent));
+            }
+        }
+    }
+}
+
+/// Notes whether a search of all deques found a process.
+fn note_search(around: &mut Around, has_found: bool) {
+    around.tried_own(has_found);
+    if !has_found {
+        around.tried_in_vain();
+    }
+}
+
+/// Notes whether a search of the hand's own deque found a process.
+fn note_own_search(around: &mut Around, has_found: bool) {
+    around.tried_own(has_found);
+    if !has_found {
+        around.spared_others();
+    }
+}
+
+/// Lets a job's process wait. It comes back where the job was woken meanwhile, or memory is refused.
+fn keep_waiting<J: Drop, S: Drop>(
+    waiting: &mut Waiting<J, S>,
+    around: &Around,
+    hand: usize,
+    process: Process<J, S>,
+) -> Option<Process<J, S>>
+    ensures { MatchOption result (waiting.new ≡ waiting.old ++ process ∷ []) (λ back. (back ≡ process) × (waiting.new ≡ waiting.old)) }
+{
+    if around.begins_to_wait(process.slot(), hand) {
+        waiting.keep(process)
+    } else {
+        Some(process)
+    }
+}
+
+/// The letter that a process has started.
+fn started<J: Drop, S: Drop>(note: Note) -> Letter<Body<J, S>>
+    requires { carries_body (item.Note note) ≡ false }
+    ensures { end_of result.item ≡ 0 }
+{
+    Letter::note(note, None)
+}
+
+/// The letter of a process's end, which brings the body home.
+fn ended<J: Drop, S: Drop>(end: EndNote<J, S>) -> Letter<Body<J, S>>
+    requires { carries_body (item.Note end.note) ≡ true }
+    ensures { end_of result.item ≡ 1 }
+{
+    let EndNote { note, body } = end;
+    Letter::note(note, Some(body))
+}

@@ -1,0 +1,23 @@
+use Rattle.std.proofs.Common.{ap, arith, ◌∙◌}
+use Rattle.std.proofs.lemmas.List.Sums.{sum_by_push}
+use Rattle.otp_hand.specs.Begun.{start_share, starts_credited}
+use Rattle.otp_hand.specs.Ended.{end_share, ends_sent}
+use Rattle.otp_open.proofs.Firsts.{none_credited, none_sent}
+use Rattle.otp_hand.proofs.Begun.{starts_push}
+use Rattle.otp_open.proofs.hands.seat.Goals as goal
+
+pub returns-clause-starts : goal.returns-clause-starts
+returns-clause-starts g c =
+    let items = c.in-Ok.ensures {u = tt} in
+    let all = ap starts_credited items ∙ starts_push c.args.senders.items c.args.outer in
+    let firsts = none_credited c.args.senders.items c.requires.seated in
+    let last = ap start_share c.requires.outer in
+    omega (arith, all, firsts, last)
+
+pub returns-clause-ends : goal.returns-clause-ends
+returns-clause-ends g c =
+    let items = c.in-Ok.ensures {u = tt} in
+    let all = ap ends_sent items ∙ sum_by_push end_share c.args.senders.items c.args.outer in
+    let firsts = none_sent c.args.senders.items c.requires.seated in
+    let last = ap end_share c.requires.outer in
+    omega (arith, all, firsts, last)

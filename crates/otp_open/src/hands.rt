@@ -1,0 +1,173 @@
+//! A hand is made for each scheduler, with a sender to each supervisor and a pass to the counts of each.
+ghost use Rattle.std.specs.Prelude.{◌≡◌, ◌+◌, ◌<◌, IfOk, OnOk, IfSome, length};
+ghost use Rattle.otp_inbox.specs.Tokens.{first_sender};
+ghost use Rattle.otp_run.specs.Lists.{AllAt};
+ghost use Rattle.otp_open.specs.Opens.{HasRootOnly, IsIdle};
+ghost use Rattle.otp_hand.specs.Begun.{starts_credited};
+ghost use Rattle.otp_hand.specs.Ended.{ends_sent};
+ghost use Rattle.otp_open.specs.Passes.{CanRead, IsFresh};
+
+use crate::opening::SystemFault;
+use crate::passes::split_all;
+use otp_counts::CountsPass;
+use otp_hand::places::keep;
+use otp_hand::{Around, Hand, Resting, Runner, Senders, Shared, Waiting};
+use otp_inbox::{InboxNaming, Sender};
+use otp_job::{Body, Process};
+use otp_rules::Item;
+use otp_run::{RunNaming, Scheduler};
+use otp_signals::{Viewer, WordsNaming};
+use otp_sup::Letter;
+use otp_tally::Tally;
+use std::alloc::{AllocError, Global};
+
+/// The first sender to each supervisor, and the one that sends to whoever opened the tree.
+pub fn seat<N: InboxNaming, B: Drop>(
+    mut senders: Vec<Sender<N, Item, Letter<B>>>,
+    outer: Sender<N, Item, Letter<B>>,
+) -> Result<Senders<N, B>, AllocError>
+    requires seated { AllAt (λ k s. s ≡ first_sender k) senders.items }
+    requires outer { outer ≡ first_sender (length senders.items) }
+    ensures starts { IfOk result (λ all. starts_credited all ≡ 0) }
+    ensures ends { IfOk result (λ all. ends_sent all ≡ 0) }
+{
+    let Ok(()) = keep(&mut senders, outer) else {
+        drop(senders);
+        return Err(AllocError);
+    };
+    Ok(Senders { list: senders })
+}
+
+/// Puts the root's process into the deque of the first scheduler.
+fn begin<N: RunNaming, J: Drop, S: Drop>(
+    schedulers: &mut [Scheduler<N, J, S>],
+    root: Process<J, S>,
+) -> Result<(), AllocError>
+    requires { AllAt IsIdle schedulers.old }
+    ensures { OnOk result (AllAt (λ _ s. HasRootOnly s) schedulers.new) }
+{
+    if schedulers.is_empty() {
+        return Ok(());
+    }
+    match schedulers[0].put(root) {
+        Ok(()) => Ok(()),
+        Err(_) => Err(AllocError),
+    }
+}
+
+/// The same of a whole list: of one that was lent as a slice in the midst of a function the prover knows nothing after.
+fn begin_first<N: RunNaming, J: Drop, S: Drop>(
+    schedulers: &mut Vec<Scheduler<N, J, S>>,
+    root: Process<J, S>,
+) -> Result<(), AllocError>
+    requires { AllAt IsIdle schedulers.old.items }
+    ensures { OnOk result (AllAt (λ _ s. HasRootOnly s) schedulers.new.items) }
+{
+    begin(schedulers, root)
+}
+
+/// A sender to each supervisor and to whoever opened the tree, with so many parts of the right to send. None where
+/// not more are there.
+fn split_senders<N: WordsNaming + InboxNaming, J: Drop, S: Drop>(
+    alloc: Global,
+    shared: &Shared<N, J, S>,
+    senders: &mut Senders<N, Body<J, S>>,
+    parts: u64,
+) -> Result<Option<Senders<N, Body<J, S>>>, AllocError>
+    requires { 0 < parts }
+    ensures len { length senders.new ≡ length senders.old }
+    // The new ones were credited with nothing and sent no end, and the others have what they had.
+    ensures none { IfOk result (λ split. IfSome split (λ s. starts_credited s ≡ 0)) }
+    ensures none_sent { IfOk result (λ split. IfSome split (λ s. ends_sent s ≡ 0)) }
+    ensures starts { starts_credited senders.new ≡ starts_credited senders.old }
+    ensures ends { ends_sent senders.new ≡ ends_sent senders.old }
+{
+    let mut list = Vec::new(alloc);
+    for place in 0..senders.len() {
+        let inbox = shared.inbox_of(place);
+        if inbox.number() != place {
+            drop(list);
+            return Ok(None);
+        }
+        let Some(sender) = senders.split_at(inbox, parts) else {
+            drop(list);
+            return Ok(None);
+        };
+        let Ok(()) = keep(&mut list, sender) else {
+            drop(list);
+            return Err(AllocError);
+        };
+    }
+    Ok(Some(Senders { list }))
+}
+
+/// A hand of a scheduler, with a viewer, a sender to each supervisor and a pass to the counts of each, which are split off.
+fn make_hand<N: WordsNaming + InboxNaming + RunNaming, J: Drop, S: Drop>(
+    alloc: Global,
+    shared: &Shared<N, J, S>,
+    scheduler: Scheduler<N, J, S>,
+    senders: &mut Senders<N, Body<J, S>>,
+    passes: &mut Vec<CountsPass>,
+    viewer: Viewer<N>,
+) -> Result<Hand<N, J, S>, SystemFault>
+    requires { HasRootOnly scheduler }
+    ensures fresh { IfOk result (λ hand. IsFresh passes.old.items hand) }
+    ensures same { OnOk result (passes.new.items ≡ passes.old.items) }
+    ensures starts { starts_credited senders.new ≡ starts_credited senders.old }
+    ensures ends { ends_sent senders.new ≡ ends_sent senders.old }
+{
+    let Ok(Some(senders)) = split_senders(alloc, shared, senders, 1) else {
+        drop(scheduler);
+        drop(viewer);
+        return Err(SystemFault::OutOfMemory);
+    };
+    let Ok(passes) = split_all(alloc, passes) else {
+        drop(scheduler);
+        drop(viewer);
+        drop(senders);
+        return Err(SystemFault::OutOfMemory);
+    };
+    let runner = Runner {
+        scheduler,
+        viewer,
+        turning: None,
+        waiting: Waiting::new(alloc),
+        resting: Resting::new(alloc),
+        unsent: None,
+        refusals: Tally::new(),
+        around: Around::new(),
+        alloc,
+    };
+    Ok(Hand {
+        runner,
+        senders,
+        passes,
+    })
+}
+
+/// A hand for each scheduler. The first has the root's process.
+pub fn make_hands<N: WordsNaming + InboxNaming + RunNaming, J: Drop, S: Drop>(
+    alloc: Global,
+    shared: &Shared<N, J, S>,
+    schedulers: Vec<Scheduler<N, J, S>>,
+    senders: &mut Senders<N, Body<J, S>>,
+    passes: &mut Vec<CountsPass>,
+    mut viewer: Viewer<N>,
+    root: Process<J, S>,
+) -> Result<Vec<Hand<N, J, S>>, SystemFault>
+    requires { AllAt IsIdle schedulers.items }
+    ensures hands { IfOk result (λ hands. CanRead (length passes.old.items) hands.items) }
+    ensures same { OnOk result (passes.new.items ≡ passes.old.items) }
+    ensures starts { starts_credited senders.new ≡ starts_credited senders.old }
+    ensures ends { ends_sent senders.new ≡ ends_sent senders.old }
+{
+    let mut schedulers = schedulers;
+    begin_first(&mut schedulers, root)?;
+    let mut hands = Vec::new(alloc);
+    for scheduler in schedulers {
+        let own = shared.words.split_viewer(&mut viewer);
+        let hand = make_hand(alloc, shared, scheduler, senders, passes, own)?;
+        keep(&mut hands, hand)?;
+    }
+    Ok(hands)
+}

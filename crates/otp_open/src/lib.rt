@@ -1,0 +1,19 @@
+//! How a tree is opened: what is drawn up becomes plans, plans become supervisors, and hands are made to serve them.
+//!
+//! - `draft.rt`: a supervisor is drawn up child by child ([`TableDraft`]); `plan.rt`: what comes of it ([`TablePlan`]).
+//! - `opening.rt`: each supervisor gets its number, its inbox and its seat ([`open_all`]).
+//! - `hands.rt`: a hand for each scheduler ([`make_hands`]); `passes.rt`: its passes to the counts of supervisors.
+//!
+//! `otp_tree` puts it together, under a name (`Parts`).
+#![tactic(auto)]
+
+pub mod draft;
+pub mod hands;
+pub mod opening;
+mod passes;
+pub mod plan;
+
+pub use draft::{TableDraft, Unplanned};
+pub use hands::{make_hands, seat};
+pub use opening::{Named, SLOTS, SystemFault, open_all, open_inboxes};
+pub use plan::TablePlan;

@@ -1,6 +1,0 @@
-use Rattle.std.proofs.Common.{◌≡◌, map, take}
-use Rattle.otp_tree.specs.Readings.{renewed}
-use Rattle.otp_tree.proofs.reading.split_each.Given as goal
-
-abbrev pub invariant-loop-pass : goal.invariant-loop-pass
-invariant-loop-pass l = (l.passes ≡ l.fn.passes) × (l.all.items ≡ map renewed (take l.pass-index l.fn.passes))
