@@ -5,7 +5,8 @@ use Rattle.otp_inbox.specs.Tokens.{SenderState, TakerState, all_sent}
 use Rattle.otp_rules.specs.declared.event.Effect.{Effect}
 use Rattle.otp_rules.specs.declared.event.Item.{Item}
 use Rattle.otp_run.specs.Lists.{AllAt}
-use Rattle.otp_sup.specs.Facts.{items_of, orders_along, starts_in}
+use Rattle.otp_office.specs.Events.{items_of}
+use Rattle.otp_office.specs.Orders.{orders_along, starts_in}
 use Rattle.otp_tree.specs.declared.report.TableReport.{TableReport}
 
 abbrev pub sent_in : Option (SenderState Item) → List Item

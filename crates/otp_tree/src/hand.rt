@@ -1,7 +1,7 @@
 //! What one thread needs to serve a tree.
 ghost use Rattle.std.specs.Prelude.{◌≡◌, ◌↔◌, ◌+◌, ◌<◌, ◌≤◌, ◌^◌, ◌++◌, ◌∷◌, [], None, Some, is_some, true, false, option_copied, IsTrue, OnErr, OnOk, IfErr, IfNone, IfSome, MatchOption, length};
-ghost use Rattle.otp_sup.specs.Ports.{launched, told};
-ghost use Rattle.otp_sup.specs.Letters.{Comes, carries_body};
+ghost use Rattle.otp_bodies.specs.Ports.{launched, told};
+ghost use Rattle.otp_bodies.specs.Letters.{Comes, carries_body};
 ghost use Rattle.otp_rules.specs.declared.event.Item.TheVariants as item;
 ghost use Rattle.otp_spec.specs.declared.limits.TheConstants.{MAX_READING};
 ghost use Rattle.otp_tree.specs.Begun.{NoneBegan};
