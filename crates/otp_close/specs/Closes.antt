@@ -7,8 +7,8 @@ use Rattle.otp_rules.specs.Needs.{numbers_of}
 use Rattle.otp_run.specs.Gathers.{IsAll}
 use Rattle.otp_run.specs.Lists.{AllAt}
 use Rattle.otp_signals.specs.Lists.{NoneInBoth}
-use Rattle.otp_sup.specs.Ends.{AreTold}
-use Rattle.otp_sup.specs.Facts.{Begins}
+use Rattle.otp_bodies.specs.Ends.{AreTold}
+use Rattle.otp_office.specs.Offices.{Begins}
 use Rattle.otp_close.specs.declared.closing.CloseFault.{CloseFault}
 use Rattle.otp_close.specs.declared.closing.CloseFault.TheVariants as fault
 use Rattle.otp_close.specs.declared.closing.Refusal.{Refusal}

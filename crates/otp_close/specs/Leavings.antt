@@ -5,7 +5,8 @@ use Rattle.otp_inbox.specs.Tokens.{SenderState, TakerState}
 use Rattle.otp_rules.specs.declared.event.Effect.{Effect}
 use Rattle.otp_rules.specs.declared.event.Item.{Item}
 use Rattle.otp_run.specs.Lists.{AllAt}
-use Rattle.otp_sup.specs.Facts.{items_of, orders_along, starts_in}
+use Rattle.otp_office.specs.Events.{items_of}
+use Rattle.otp_office.specs.Orders.{orders_along, starts_in}
 use Rattle.otp_hand.specs.Sendings.{sent_to}
 use Rattle.otp_report.specs.declared.report.TableReport.{TableReport}
 

@@ -4,7 +4,7 @@ use Rattle.otp_inbox.specs.Tokens.{SenderState, TakerState, all_sent}
 use Rattle.otp_rules.specs.declared.event.Item.{Item}
 use Rattle.otp_rules.specs.declared.event.Item.TheVariants as item
 use Rattle.otp_run.specs.Schedulers.{SchedulerState, given_back, puts}
-use Rattle.otp_sup.specs.Letters.{is_end_note}
+use Rattle.otp_bodies.specs.Letters.{is_end_note}
 use Rattle.otp_hand.specs.Hands.{HandView, RunnerView, one_if}
 use Rattle.otp_hand.specs.declared.runner.Unsent.{Unsent}
 

@@ -10,9 +10,9 @@ use Rattle.otp_rules.specs.declared.event.Item.{Item}
 use Rattle.otp_rules.specs.declared.event.Item.TheVariants as item
 use Rattle.otp_run.specs.Schedulers.{SchedulerState}
 use Rattle.otp_signals.specs.declared.view.Holding.{Holding}
-use Rattle.otp_sup.specs.Ports.{launched, told}
-use Rattle.otp_sup.specs.declared.port.Launched.{Launched}
-use Rattle.otp_sup.specs.declared.port.ToldNote.{ToldNote}
+use Rattle.otp_bodies.specs.Ports.{launched, told}
+use Rattle.otp_bodies.specs.declared.port.Launched.{Launched}
+use Rattle.otp_bodies.specs.declared.port.ToldNote.{ToldNote}
 use Rattle.otp_hand.specs.declared.runner.Unsent.{Unsent}
 use Rattle.otp_hand.specs.declared.resting.Rested.{Rested}
 

@@ -1,7 +1,7 @@
 //! What a hand runs processes with.
 ghost use Rattle.std.specs.Prelude.{◌≡◌, ◌+◌, ◌<◌, ◌++◌, ◌∷◌, [], None, Some, is_some, true, false, option_copied, OnErr, OnOk, IfErr, IfSome, MatchOption, length};
-ghost use Rattle.otp_sup.specs.Ports.{launched, told};
-ghost use Rattle.otp_sup.specs.Letters.{Comes, carries_body};
+ghost use Rattle.otp_bodies.specs.Ports.{launched, told};
+ghost use Rattle.otp_bodies.specs.Letters.{Comes, carries_body};
 ghost use Rattle.otp_rules.specs.declared.event.Item.TheVariants as item;
 ghost use Rattle.otp_hand.specs.Begun.{NoneBegan};
 ghost use Rattle.otp_hand.specs.Ended.{NoneEnded, end_of, ends_held};

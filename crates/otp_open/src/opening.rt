@@ -3,8 +3,7 @@ ghost use Rattle.std.specs.Prelude.{◌≡◌, ◌+◌, ◌*◌, ◌<◌, ◌≤
 ghost use Rattle.otp_spec.specs.declared.limits.TheConstants.{MAX_CHILDREN, MAX_TABLES};
 ghost use Rattle.otp_core.specs.View.{state_of};
 ghost use Rattle.otp_rules.specs.Counts.{counts_of};
-ghost use Rattle.otp_sup.specs.Bodies.{are_ready};
-ghost use Rattle.otp_sup.specs.Facts.{count_opened};
+ghost use Rattle.otp_bodies.specs.Bodies.{are_ready, count_opened};
 ghost use Rattle.otp_inbox.specs.Tokens.{first_sender, no_shares};
 ghost use Rattle.otp_run.specs.Lists.{AllAt};
 ghost use Rattle.otp_signals.specs.Lists.{EachBetween, StayBelow, StayFrom};

@@ -17,7 +17,7 @@ use Rattle.otp_rules.specs.declared.event.Kind.TheVariants as kind
 use Rattle.otp_rules.specs.declared.work.Phase.TheVariants.{Open}
 use Rattle.otp_rules.specs.State.{State}
 use Rattle.otp_run.specs.Lists.{AllAt}
-use Rattle.otp_sup.specs.declared.told.ToldEnd.{ToldEnd}
+use Rattle.otp_bodies.specs.declared.told.ToldEnd.{ToldEnd}
 use Rattle.otp_report.specs.declared.evidence.Mismatch.{Mismatch}
 use Rattle.otp_report.specs.declared.report.TableReport.{TableReport}
 

@@ -18,19 +18,20 @@ use Rattle.otp_rules.specs.Step.{step}
 use Rattle.otp_rules.specs.Run.{RunGoesOn, state_after}
 use Rattle.otp_rules.specs.Waits.{StartsWait, start_in, start_waiting, starts_left, starts_waiting}
 use Rattle.otp_core.specs.View.{state_of}
-use Rattle.otp_sup.specs.declared.port.Flushed.{Flushed}
-use Rattle.otp_sup.specs.declared.port.Flushed.TheVariants as flushed
-use Rattle.otp_sup.specs.Facts.{Begins, OfficeView}
-use Rattle.otp_sup.specs.Turns.{Happened, Readied}
+use Rattle.otp_bodies.specs.declared.port.Flushed.{Flushed}
+use Rattle.otp_bodies.specs.declared.port.Flushed.TheVariants as flushed
+use Rattle.otp_office.specs.Offices.{Begins, OfficeView}
+use Rattle.otp_office.specs.Events.{Happened, Readied, is_any_waiting}
 use Rattle.otp_table.specs.declared.row.Row.{Row}
 use Rattle.otp_table.specs.Rows.{has_slot}
-use Rattle.otp_sup.specs.declared.bodies.Kept.{Kept}
-use Rattle.otp_sup.specs.declared.bodies.Origin.{Origin}
-use Rattle.otp_sup.specs.declared.bodies.Origin.TheVariants as origin
-use Rattle.otp_sup.specs.declared.bodies.Place.{Place}
-use Rattle.otp_sup.specs.declared.bodies.Place.TheVariants as placed
-use Rattle.otp_sup.specs.Letters.{is_end_note}
-use Rattle.otp_sup.specs.Bodies.{bodies_after, bodies_sent, calls_waiting, came_for, home_of, home_or_free, is_any_waiting, is_at_home, is_away, is_away_from, is_free_place, is_home_of, is_start_item, is_start_waiting, is_waited_for, is_waiting, left_home, let_go, move_first, moved, opened, opened_place, place_among, place_of_call, place_without_line, received, settled, slot_given, stray, taken_up, waiting_as, waiting_call, without_first}
+use Rattle.otp_bodies.specs.declared.bodies.Kept.{Kept}
+use Rattle.otp_bodies.specs.declared.bodies.Origin.{Origin}
+use Rattle.otp_bodies.specs.declared.bodies.Origin.TheVariants as origin
+use Rattle.otp_bodies.specs.declared.bodies.Place.{Place}
+use Rattle.otp_bodies.specs.declared.bodies.Place.TheVariants as placed
+use Rattle.otp_bodies.specs.Letters.{is_end_note}
+use Rattle.otp_sup.specs.Moves.{bodies_after, home_of, is_start_item, is_start_waiting, is_waited_for, let_go, moved, received, slot_given}
+use Rattle.otp_bodies.specs.Bodies.{bodies_sent, calls_waiting, came_for, home_or_free, is_at_home, is_away, is_away_from, is_free_place, is_home_of, is_waiting, left_home, move_first, opened, opened_place, place_among, place_of_call, place_without_line, settled, stray, taken_up, waiting_as, waiting_call, without_first}
 
 -- a body more: it waits with no call
 put_calls : (kept : List Kept) (b : Kept) → waiting_call b ≡ None → calls_waiting (kept ++ b ∷ []) ≡ calls_waiting kept

@@ -2,7 +2,7 @@
 use Rattle.std.specs.Prelude.{◌≡◌, ℕ, ◌<◌, ◌≤◌, ◌==◌, ◌++◌, ◌||◌, not, Bool, true, false, List, [], ◌∷◌, Option, None, Some, Contains, IsSome, refl, is_some, length, position, unwrap_or, count_by}
 use Prim.Native.Nat.{zero, suc}
 use Rattle.std.specs.List.{cons_option, list_any}
-use Rattle.std.proofs.Common.{◌∙◌, ap, sym, subst, arith, cond, rules, ⊎_elim}
+use Rattle.std.proofs.Common.{◌∙◌, ap, sym, subst, arith, cond, rules, ⊎_elim, get_or}
 use Rattle.std.proofs.lemmas.Bool.{false≢true, cases_Bool, eqb-true, eq-eqb, and_parts}
 use Rattle.std.proofs.lemmas.List.Sums.{sum_by-cons}
 use Rattle.otp_table.specs.declared.row.Row.{Row}
@@ -16,28 +16,29 @@ use Rattle.otp_rules.specs.Run.{orders_of, state_after}
 use Rattle.otp_rules.specs.Slots.{AreSlotted}
 use Rattle.otp_rules.specs.State.{State}
 use Rattle.otp_core.specs.View.{View, state_of}
-use Rattle.otp_sup.specs.declared.bodies.Kept.{Kept}
-use Rattle.otp_sup.specs.declared.bodies.Origin.{Origin}
-use Rattle.otp_sup.specs.declared.bodies.Origin.TheVariants as origin
-use Rattle.otp_sup.specs.declared.bodies.Place.{Place}
-use Rattle.otp_sup.specs.declared.bodies.Place.TheVariants as placed
-use Rattle.otp_sup.specs.declared.port.Flushed.{Flushed}
-use Rattle.otp_sup.specs.declared.port.Flushed.TheVariants as flushed
-use Rattle.otp_sup.specs.Bodies.{are_given, are_ready, bodies_sent, count_away, count_given, count_home, has_body, is_at_home, is_away, is_away_from, is_call, is_free_place, is_home_of, is_left_of, is_nobody, is_out, is_spec, is_stray, left_home, move_first, settled, slot_started, started_by, starting_slot, without_first}
-use Rattle.otp_sup.specs.Facts.{AreApart, HasBodies, IsOut, IsRunning, KeepsBodies, KeepsOffice, OfficeView, count_opened, is_unsent, orders_in, sent_of, starts_in}
-use Rattle.otp_sup.specs.Flushes.{Flushes}
-use Rattle.otp_sup.specs.Ports.{Taken}
-use Rattle.otp_sup.specs.Slots.{slot_of}
-use Rattle.otp_sup.specs.Turns.{Readied}
+use Rattle.otp_bodies.specs.declared.bodies.Kept.{Kept}
+use Rattle.otp_bodies.specs.declared.bodies.Origin.{Origin}
+use Rattle.otp_bodies.specs.declared.bodies.Origin.TheVariants as origin
+use Rattle.otp_bodies.specs.declared.bodies.Place.{Place}
+use Rattle.otp_bodies.specs.declared.bodies.Place.TheVariants as placed
+use Rattle.otp_bodies.specs.declared.port.Flushed.{Flushed}
+use Rattle.otp_bodies.specs.declared.port.Flushed.TheVariants as flushed
+use Rattle.otp_bodies.specs.Bodies.{are_given, are_ready, bodies_sent, count_away, count_given, count_home, has_body, is_at_home, is_away, is_away_from, is_call, is_free_place, is_home_of, is_left_of, is_nobody, is_out, is_spec, is_stray, left_home, move_first, settled, without_first, count_opened}
+use Rattle.otp_office.specs.Orders.{slot_started, started_by, starting_slot, orders_in, starts_in}
+use Rattle.otp_office.specs.Offices.{AreApart, KeepsOffice, OfficeView, sent_of}
+use Rattle.otp_sup.specs.Facts.{HasBodies, IsOut, IsRunning, KeepsBodies, is_unsent}
+use Rattle.otp_office.specs.Flushes.{Flushes}
+use Rattle.otp_bodies.specs.Ports.{Taken}
+use Rattle.otp_office.specs.Rows.{slot_of}
+use Rattle.otp_office.specs.Events.{Readied}
 use Rattle.otp_sup.proofs.Calls.{readied_state}
 use Rattle.otp_sup.proofs.Homes.{or_none}
-use Rattle.otp_sup.proofs.Placed.{any_left, away_had, away_leaves, away_left, away_settled, away_when_home, away_without, given_moved, given_settled, given_without, none_away, stays_when_left}
-use Rattle.otp_sup.proofs.Once.{any_unleft, any_unmoved, both_when_left, both_without, count_moved, count_settled, count_without, home_has_row, none_home}
-use Rattle.otp_sup.proofs.Owned.{first_own, left_own, without_own}
+use Rattle.otp_bodies.proofs.Placed.{any_left, away_had, away_leaves, away_left, away_settled, away_when_home, away_without, given_moved, given_settled, given_without, none_away, stays_when_left}
+use Rattle.otp_bodies.proofs.Once.{any_unleft, any_unmoved, both_when_left, both_without, count_moved, count_settled, count_without, home_has_row, none_home}
+use Rattle.otp_bodies.proofs.Owned.{first_own, left_own, without_own}
 use Rattle.otp_rules.proofs.Counting.{found}
 use Rattle.std.proofs.lemmas.List.Quantifiers.{position-Some}
-use Rattle.otp_sup.proofs.Slots.{slot_read}
-use Rattle.std.proofs.Common.{get_or}
+use Rattle.otp_office.proofs.Slots.{slot_read}
 
 -- as many rows as there are of a slot: one at most, so two are one
 
@@ -191,7 +192,7 @@ none_out slot (b ∷ bs) h =
     let parts : (is_out b ≡ false) × (list_any is_out bs ≡ false) = or_none_of (is_out b) (list_any is_out bs) h in
     ap (λ (x : Bool). x || list_any (is_away slot) bs) (near b.place parts.0) ∙ none_out slot bs parts.1
   where
-    near : (at : Place) → not (Rattle.otp_sup.specs.Bodies.is_here at) ≡ false → is_away_from slot at ≡ false
+    near : (at : Place) → not (Rattle.otp_bodies.specs.Bodies.is_here at) ≡ false → is_away_from slot at ≡ false
     near (placed.Home k) e = refl
     near placed.Waiting e = refl
     near placed.Free e = refl

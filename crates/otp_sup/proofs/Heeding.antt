@@ -31,7 +31,7 @@ use Rattle.otp_rules.specs.Stops.{terminate}
 use Rattle.otp_rules.specs.Work.{advance}
 use Rattle.otp_rules.proofs.Decisions.{at_number-survives}
 use Rattle.otp_rules.proofs.Homes.{quiet_more}
-use Rattle.otp_sup.specs.Bodies.{home_of, is_heeded, is_start_waiting, is_taken_up, is_waited_for, slot_heeding}
+use Rattle.otp_sup.specs.Moves.{home_of, is_heeded, is_start_waiting, is_taken_up, is_waited_for, slot_heeding}
 
 -- none heeds the note: this row doesn't either
 none_heeds : (x : Note) (rows : List Row) (place : ℕ) (row : Row) → slot_heeding x rows ≡ None → slice_get rows place ≡ Some row → is_heeded x row ≡ false

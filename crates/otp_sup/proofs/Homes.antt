@@ -38,20 +38,24 @@ use Rattle.otp_rules.specs.Work.{advance, follow, start_first, stop_first}
 use Rattle.otp_rules.proofs.Homes.{none_has}
 use Rattle.otp_rules.proofs.States.{one_process}
 use Rattle.otp_core.specs.View.{state_of}
-use Rattle.otp_sup.specs.declared.bodies.Kept.{Kept}
-use Rattle.otp_sup.specs.declared.bodies.Origin.TheVariants as origin
-use Rattle.otp_sup.specs.declared.bodies.Place.{Place}
-use Rattle.otp_sup.specs.declared.bodies.Place.TheVariants as placed
-use Rattle.otp_sup.specs.Letters.{is_end_note}
-use Rattle.otp_sup.specs.Bodies.{are_given, bodies_after, calls_waiting, came_for, come_home, count_away, count_home, given_in, has_body, home_of, home_or_free, is_any_waiting, is_at_home, is_heeded, is_start_item, is_start_waiting, is_taken_up, is_waited_for, is_waiting, let_go, move_first, moved, opened, place_of_call, received, settled, slot_given, slot_heeding, started_by, stray, taken_up}
-use Rattle.otp_sup.specs.Facts.{AreApart, AreToStart, Begins, HasBodies, IsOpening, IsOut, KeepsBodies, KeepsOffice, OfficeView, count_opened, is_to_start, is_unsent, orders_in, starts_in}
-use Rattle.otp_sup.specs.Turns.{Happened}
+use Rattle.otp_bodies.specs.declared.bodies.Kept.{Kept}
+use Rattle.otp_bodies.specs.declared.bodies.Origin.TheVariants as origin
+use Rattle.otp_bodies.specs.declared.bodies.Place.{Place}
+use Rattle.otp_bodies.specs.declared.bodies.Place.TheVariants as placed
+use Rattle.otp_bodies.specs.Letters.{is_end_note}
+use Rattle.otp_bodies.specs.Bodies.{are_given, calls_waiting, came_for, come_home, count_away, count_home, has_body, home_or_free, is_at_home, is_waiting, move_first, place_of_call, settled, stray, taken_up, count_opened}
+use Rattle.otp_sup.specs.Moves.{bodies_after, given_in, home_of, is_heeded, is_start_waiting, is_taken_up, is_waited_for, received, slot_given, slot_heeding}
+use Rattle.otp_office.specs.Events.{is_any_waiting, IsOpening, Happened}
+use Rattle.otp_office.specs.Orders.{orders_in, starts_in}
+use Rattle.otp_office.specs.Offices.{AreApart, Begins, KeepsOffice, OfficeView}
+use Rattle.otp_sup.specs.Facts.{AreToStart, HasBodies, IsOut, KeepsBodies, is_to_start, is_unsent}
 use Rattle.otp_sup.proofs.Calls.{later_is}
 use Rattle.otp_sup.proofs.Heeding.{Adds, Alias, Heeded, Heeder, Tells, alias, heeder, heeds_own, tells}
-use Rattle.otp_sup.proofs.Placed.{any_before, any_last, any_to, away_less, away_moved, away_no_more, away_opened, away_put, away_settled, away_when_come, away_when_up, comes_home, given_at, given_come, given_has_body, given_moved, given_opened, given_put, given_settled, some_waits, stays_when_come, stays_when_settled, stays_when_up}
-use Rattle.otp_sup.proofs.Once.{AreOfRows, count_after, none_home, one_after, there_after}
-use Rattle.otp_sup.proofs.Owned.{own_after}
-use Rattle.otp_sup.proofs.StartOrders.{event_starts}
+use Rattle.otp_bodies.proofs.Placed.{any_before, any_last, any_to, away_less, away_moved, away_no_more, away_opened, away_put, away_settled, away_when_come, away_when_up, comes_home, given_at, given_come, given_has_body, given_moved, given_opened, given_put, given_settled, some_waits, stays_when_come, stays_when_settled, stays_when_up}
+use Rattle.otp_sup.proofs.OneAfter.{AreOfRows, count_after, one_after, there_after}
+use Rattle.otp_bodies.proofs.Once.{none_home}
+use Rattle.otp_sup.proofs.OwnAfter.{own_after}
+use Rattle.otp_office.proofs.StartOrders.{event_starts}
 use Rattle.otp_rules.specs.Alive.{EndsChild, LivesIn, ProcessesLived}
 
 -- the laws on which it rests
@@ -306,7 +310,7 @@ received_less slot s rows (item.Call c x) kept =
     let b : Kept = record { origin = origin.Call c; place = place_of_call (is_waited_for s) (slot_given s.rows rows) } in
     cond_both (is_start_call x) (kept ++ b ∷ []) kept (λ (l : List Kept). count_away slot l ≤ count_away slot kept) (λ _. let same = away_put slot kept b (near (is_waited_for s) (slot_given s.rows rows)) in omega (arith, same)) (λ _. omega arith)
   where
-    near : (waits : Bool) (given : Option ℕ) → Rattle.otp_sup.specs.Bodies.is_away_from slot (place_of_call waits given) ≡ false
+    near : (waits : Bool) (given : Option ℕ) → Rattle.otp_bodies.specs.Bodies.is_away_from slot (place_of_call waits given) ≡ false
     near true given = refl
     near false None = refl
     near false (Some k) = refl
@@ -407,7 +411,7 @@ less_by_note : (slot : ℕ) (home : Option ℕ) (kept : List Kept) → (home ≡
 less_by_note slot None kept other = let same = away_put slot kept stray refl in omega (arith, same)
 less_by_note slot (Some k) kept other = away_when_come slot k kept (λ is. other (ap (λ (n : ℕ). Some n) is))
 
-call_near : (slot : ℕ) (waits : Bool) (given : Option ℕ) → Rattle.otp_sup.specs.Bodies.is_away_from slot (place_of_call waits given) ≡ false
+call_near : (slot : ℕ) (waits : Bool) (given : Option ℕ) → Rattle.otp_bodies.specs.Bodies.is_away_from slot (place_of_call waits given) ≡ false
 call_near slot true given = refl
 call_near slot false None = refl
 call_near slot false (Some k) = refl
@@ -549,7 +553,7 @@ bodies_happened laws old new reading k kept keeps h empty opens calls has =
     let s : State = state_of old.core in
     let e : Event = record { reading = reading; number = h.number; kind = k } in
     let starts : starts_in (orders_in (step s e).orders) ≡ at_most_one h.number = event_starts laws.works s e h.needed in
-    let plain : starts_in (step s e).orders ≡ at_most_one h.number = sym (Rattle.otp_sup.proofs.StartOrders.starts_ordered (step s e).orders) ∙ starts in
+    let plain : starts_in (step s e).orders ≡ at_most_one h.number = sym (Rattle.otp_office.proofs.StartOrders.starts_ordered (step s e).orders) ∙ starts in
     let Before : List Effect → Type 0 = λ l. KeepsBodies s (starts_in l) kept in
     let After : State → Type 0 = λ later. KeepsBodies later (at_most_one h.number) (bodies_after s later k kept) in
     let Unsent : List ℕ → Type 0 = λ l. KeepsBodies (state_of new.core) l (bodies_after s (state_of new.core) k kept) in

@@ -1,23 +1,12 @@
 -- The body that leaves with a process, or comes back where the port refused.
 use Rattle.std.specs.Prelude.{◌≡◌, ℕ, List, Option, None, Some, IsSome, refl, position}
 use Rattle.std.proofs.Common.{◌∙◌, ap, sym, subst}
-use Rattle.otp_sup.specs.declared.bodies.Kept.{Kept}
-use Rattle.otp_sup.specs.declared.bodies.Place.TheVariants as placed
-use Rattle.otp_sup.specs.declared.port.Flushed.{Flushed}
-use Rattle.otp_sup.specs.declared.port.Flushed.TheVariants as flushed
-use Rattle.otp_rules.specs.declared.event.Effect.{Effect}
-use Rattle.otp_rules.specs.declared.event.Effect.TheVariants as effect
-use Rattle.otp_reason.specs.declared.note.Note.TheVariants as note
-use Rattle.otp_rules.specs.State.{own_number}
-use Rattle.otp_core.specs.View.{state_of}
-use Rattle.otp_sup.specs.declared.orders.Sending.{Sending}
-use Rattle.otp_sup.specs.declared.orders.Sending.TheVariants as sending
-use Rattle.otp_table.specs.declared.row.Row.{Row}
-use Rattle.otp_sup.specs.Bodies.{CanComeBack, bodies_sent, is_at_home, left_home, slot_started, started_by, starting_slot}
-use Rattle.otp_sup.specs.Facts.{OfficeView}
-use Rattle.otp_sup.specs.Flushes.{Flushes, IsFirst, end_note, sending_of}
-use Rattle.otp_sup.specs.Ports.{Taken}
-use Rattle.otp_sup.proofs.Keeping.{move_none, none_passes}
+use Rattle.otp_bodies.specs.declared.bodies.Kept.{Kept}
+use Rattle.otp_bodies.specs.declared.bodies.Place.TheVariants as placed
+use Rattle.otp_bodies.specs.declared.port.Flushed.{Flushed}
+use Rattle.otp_bodies.specs.declared.port.Flushed.TheVariants as flushed
+use Rattle.otp_bodies.specs.Bodies.{CanComeBack, bodies_sent, is_at_home, left_home}
+use Rattle.otp_bodies.proofs.Keeping.{move_none, none_passes}
 
 -- the child's body isn't at home: none leaves
 pub none_leaves : (slot : ℕ) (kept : List Kept) → position (is_at_home slot) kept ≡ None → kept ≡ left_home (Some slot) kept
@@ -51,28 +40,3 @@ left_or_not flushed.Sent (Some slot) at body back older between now l = l.stays 
 left_or_not flushed.Refused slot at None back older between now l = l.stays (l.refused refl) ∙ l.none refl
 left_or_not flushed.Refused slot at (Some b) back older between now l =
     came flushed.Refused slot at (Some b) back older between now l (subst (λ o. IsSome o) (sym (l.refused refl)) refl)
-
--- where the first order starts a process, a child is to be started
-start_slot : (x : Effect) (own n : ℕ) (rows : List Row) → sending_of own x ≡ Some (sending.Start n) → IsSome (slot_started rows (started_by x))
-start_slot (effect.Start id p) own n rows is = refl
-start_slot (effect.Ask id p) own n rows is = let e : Some (sending.Ask p) ≡ Some (sending.Start n) = is in cc
-start_slot (effect.Kill id p) own n rows is = let e : Some (sending.Kill p) ≡ Some (sending.Start n) = is in cc
-start_slot (effect.Reply c) own n rows is = let e : ◌≡◌ {A = Option Sending} None (Some (sending.Start n)) = is in cc
-start_slot effect.Ready own n rows is = let e : Some (sending.Tell (note.Up own)) ≡ Some (sending.Start n) = is in cc
-start_slot (effect.End x) own n rows is = let e : Some (sending.Tell (end_note own x)) ≡ Some (sending.Start n) = is in cc
-
-pub starts_slot : (o : OfficeView) (how : Sending) (n : ℕ) (rows : List Row) → IsFirst o how → how ≡ sending.Start n → IsSome (starting_slot o.outbox rows)
-starts_slot o how n rows f is =
-    subst (λ (l : List Effect). IsSome (starting_slot l rows)) (sym f.outbox) (start_slot f.order (own_number (state_of o.core).phase) n rows (f.sends ∙ ap (λ (h : Sending). Some h) is))
-
--- no order that is sent changes the core
-pub flushes_core : (how : Flushed) (old new : OfficeView) (before after : Taken) (refusals later : ℕ) → Flushes how old new before after refusals later → new.core ≡ old.core
-flushes_core flushed.Empty old new before after refusals later h = ap (λ (o : OfficeView). o.core) h.1
-flushes_core flushed.Sent old new before after refusals later h = h.0.core
-flushes_core flushed.Refused old new before after refusals later h = h.0.core
-
--- where none is to be sent no child is to be started
-pub flushes_none : (how : Flushed) (old new : OfficeView) (before after : Taken) (refusals later : ℕ) (rows : List Row) → Flushes how old new before after refusals later → how ≡ flushed.Empty → starting_slot old.outbox rows ≡ None
-flushes_none flushed.Empty old new before after refusals later rows h is = ap (λ (l : List Effect). starting_slot l rows) h.0
-flushes_none flushed.Sent old new before after refusals later rows h is = let no : flushed.Sent ≡ flushed.Empty = is in cc
-flushes_none flushed.Refused old new before after refusals later rows h is = let no : flushed.Refused ≡ flushed.Empty = is in cc

@@ -15,12 +15,12 @@ use Rattle.otp_rules.specs.declared.event.Waiting.TheVariants as waiting
 use Rattle.otp_rules.specs.Homes.{is_ended, is_home}
 use Rattle.otp_rules.specs.Stops.{is_exit}
 use Rattle.otp_rules.specs.State.{State}
-use Rattle.otp_sup.specs.declared.bodies.Kept.{Kept}
-use Rattle.otp_sup.specs.Bodies.{count_away, has_body}
+use Rattle.otp_bodies.specs.declared.bodies.Kept.{Kept}
+use Rattle.otp_bodies.specs.Bodies.{count_away, has_body}
 use Rattle.otp_sup.specs.Facts.{HasOneBody, KeepsBodies, is_to_start, is_unsent}
-use Rattle.otp_sup.proofs.Keeping.{or_false}
-use Rattle.otp_sup.proofs.Once.{some_home}
-use Rattle.otp_sup.proofs.Placed.{or_split}
+use Rattle.otp_bodies.proofs.Keeping.{or_false}
+use Rattle.otp_bodies.proofs.Once.{some_home}
+use Rattle.otp_bodies.proofs.Placed.{or_split}
 
 -- an Exit that waits is the end of its process
 exit_ends : (p : ℕ) (w : Waiting) → is_ended p w ≡ false → is_exit p w ≡ false

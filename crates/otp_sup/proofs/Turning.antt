@@ -9,14 +9,18 @@ use Rattle.otp_rules.specs.State.{State}
 use Rattle.otp_rules.specs.Step.{step}
 use Rattle.otp_signals.specs.declared.signal.Signal.{Signal}
 use Rattle.otp_signals.specs.declared.view.Holding.{Holding}
-use Rattle.otp_sup.specs.declared.turns.TurnAnswer.{TurnAnswer}
-use Rattle.otp_sup.specs.declared.turns.TurnAnswer.TheVariants as answer
-use Rattle.otp_sup.specs.declared.turns.TurnFault.{TurnFault}
-use Rattle.otp_sup.specs.Facts.{OfficeView, TableView, orders_in}
-use Rattle.otp_sup.specs.Turns.{Did, Happened, IsRefusal, Readied, Refused, Took, TookOrEmpty, Turned, drawn_by, due_kind, early_answer}
+use Rattle.otp_office.specs.declared.turns.TurnAnswer.{TurnAnswer}
+use Rattle.otp_office.specs.declared.turns.TurnAnswer.TheVariants as answer
+use Rattle.otp_office.specs.declared.turns.TurnFault.{TurnFault}
+use Rattle.otp_office.specs.Offices.{OfficeView}
+use Rattle.otp_sup.specs.Facts.{TableView}
+use Rattle.otp_office.specs.Orders.{orders_in}
+use Rattle.otp_sup.specs.Turns.{Did, Refused, Took, TookOrEmpty, Turned}
+use Rattle.otp_office.specs.Events.{Happened, IsRefusal, Readied, drawn_by, due_kind}
+use Rattle.otp_office.specs.Answers.{early_answer}
 use Rattle.otp_sup.proofs.Calls.{readied_state}
-use Rattle.otp_sup.proofs.Readying.{readied_base, readied_cut, readied_history, readied_stored}
-use Rattle.otp_sup.proofs.Shared.{sent_readied}
+use Rattle.otp_office.proofs.Readying.{readied_base, readied_cut, readied_history, readied_stored}
+use Rattle.otp_office.proofs.Shared.{sent_readied}
 
 -- what happened once memory was taken happened to what was there before
 pub readied_happened : (old mid new : OfficeView) (reading : ℕ) (k : Kind) → Readied old mid → Happened reading k mid new → Happened reading k old new

@@ -1,27 +1,19 @@
 -- Checkpoints of a supervisor: its events are stored no longer, and nothing that comes depends on them. (own)
-use Rattle.std.specs.Prelude.{◌≡◌, ◌⊎◌, ◌<◌, true, false, [], Result, Ok, Err, length}
+use Rattle.std.specs.Prelude.{◌≡◌, ◌⊎◌, true, false, [], Result, Ok, Err}
 use Rattle.otp_core.specs.declared.cut.CutFault.{CutFault}
-use Rattle.otp_core.specs.declared.cut.TheConstants.{MAX_EVENTS_IN_ALL}
-use Rattle.otp_core.specs.View.{View}
-use Rattle.otp_sup.specs.declared.turns.CutAnswer.{CutAnswer}
-use Rattle.otp_sup.specs.declared.turns.CutAnswer.TheVariants as cut
-use Rattle.otp_sup.specs.declared.turns.TurnAnswer.{TurnAnswer}
-use Rattle.otp_sup.specs.declared.turns.TurnAnswer.TheVariants as answer
-use Rattle.otp_sup.specs.declared.turns.TurnFault.{TurnFault}
-use Rattle.otp_sup.specs.Facts.{OfficeView, TableView, has_some}
+use Rattle.otp_sup.specs.declared.cut.CutAnswer.{CutAnswer}
+use Rattle.otp_sup.specs.declared.cut.CutAnswer.TheVariants as cut
+use Rattle.otp_office.specs.declared.turns.TurnAnswer.{TurnAnswer}
+use Rattle.otp_office.specs.declared.turns.TurnAnswer.TheVariants as answer
+use Rattle.otp_office.specs.declared.turns.TurnFault.{TurnFault}
+use Rattle.otp_sup.specs.Facts.{TableView}
+use Rattle.otp_office.specs.Orders.{has_some}
 use Rattle.otp_core.specs.Full.{is_full}
-
--- no event is stored any more: the state that all of them gave is where the next one begins
-abbrev pub cut_office : OfficeView → OfficeView
-cut_office o = record o { core = record o.core { cut = length o.core.history; effects = [] } }
+use Rattle.otp_office.specs.Cuts.{HasTooManyEvents, cut_office}
 
 -- nor is an end that they told
 abbrev pub cut_table : TableView → TableView
 cut_table t = record t { office = cut_office t.office; ends_told = [] }
-
--- there were more events in all than a checkpoint counts
-abbrev pub HasTooManyEvents : View → Type 0
-HasTooManyEvents v = MAX_EVENTS_IN_ALL < length v.history
 
 -- a checkpoint was made, and there is room again
 pub record IsCut (old new : TableView) : Type 0 where

@@ -1,12 +1,6 @@
-pub mod Letters
-pub mod LetterInside
-pub mod Slots
-pub mod Bodies
-pub mod Ports
-pub mod Ends
+pub mod Clients
 pub mod Facts
 pub mod Cuts
+pub mod Moves
 pub mod Shares
 pub mod Turns
-pub mod Flushes
-pub mod Clients

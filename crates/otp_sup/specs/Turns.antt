@@ -1,112 +1,39 @@
 -- What a turn of a table does.
 use Rattle.otp_rules.specs.declared.ending.SupEnd.{SupEnd}
-use Rattle.std.specs.Prelude.{◌≡◌, ◌⊎◌, ◌<◌, All, ℕ, ⊤, ◌+◌, Bool, true, false, not, ◌&&◌, nat_lt, is_some, List, [], ◌∷◌, ◌++◌, Option, Some, None, Result, Ok, Err, length, if◌then◌else◌, MatchOption, MatchResult, OnOk}
+use Rattle.std.specs.Prelude.{◌≡◌, ◌⊎◌, ◌<◌, ℕ, ◌+◌, Bool, true, false, is_some, List, [], ◌∷◌, ◌++◌, Option, None, Result, Ok, length, MatchOption, MatchResult, OnOk}
 use Rattle.std.specs.List.{list_any}
 use Rattle.otp_rules.specs.declared.event.Item.{Item}
 use Rattle.otp_rules.specs.declared.event.Kind.{Kind}
 use Rattle.otp_rules.specs.declared.event.Kind.TheVariants as kind
-use Rattle.otp_rules.specs.declared.work.Phase.{Phase}
-use Rattle.otp_rules.specs.declared.work.Phase.TheVariants.{Unopened, Open, Ended}
-use Rattle.otp_rules.specs.State.{State, is_over, own_number}
-use Rattle.otp_rules.specs.Needs.{needs_number, numbers_of}
+use Rattle.otp_rules.specs.declared.work.Phase.TheVariants.{Ended}
+use Rattle.otp_rules.specs.State.{is_over}
 use Rattle.otp_rules.specs.declared.call.Reply.{Reply}
 use Rattle.otp_core.specs.declared.reply.ReplyAnswer.{ReplyAnswer}
 use Rattle.otp_core.specs.Replies.{IsReplyAnswer}
 use Rattle.otp_rules.specs.Run.{reply_of}
-use Rattle.otp_rules.specs.Step.{step}
-use Rattle.otp_rules.specs.Next.{next_deadline, next_kind}
+use Rattle.otp_rules.specs.Next.{next_deadline}
 use Rattle.otp_core.specs.View.{state_of, stored_of, stored_state}
 use Rattle.otp_rules.specs.Counts.{counts_of}
 use Rattle.otp_counts.specs.Counts.{after_publish}
 use Rattle.otp_signals.specs.declared.signal.Signal.{Signal}
-use Rattle.otp_signals.specs.declared.view.Holding.{Holding}
-use Rattle.otp_signals.specs.Holdings.{after_draw}
-use Rattle.otp_signals.specs.declared.signal.Signal.TheVariants as signal
-use Rattle.otp_sup.specs.declared.port.Launched.{Launched}
-use Rattle.otp_sup.specs.declared.port.ToldNote.{ToldNote}
-use Rattle.otp_sup.specs.declared.turns.TurnAnswer.{TurnAnswer}
-use Rattle.otp_sup.specs.declared.turns.TurnAnswer.TheVariants as answer
-use Rattle.otp_sup.specs.declared.turns.TurnFault.{TurnFault}
-use Rattle.otp_sup.specs.declared.turns.TurnFault.TheVariants as fault
-use Rattle.otp_sup.specs.Ends.{told_with}
-use Rattle.otp_sup.specs.Letters.{Comes, carries_body, one_if}
-use Rattle.otp_sup.specs.declared.bodies.Kept.{Kept}
-use Rattle.otp_sup.specs.Bodies.{bodies_after, bodies_in}
-use Rattle.otp_sup.specs.Cuts.{CutWhereFull, HasTooManyEvents}
-use Rattle.otp_sup.specs.Facts.{KeepsRules, OfficeView, TableView, has_some, orders_in, sent_of}
-use Rattle.otp_sup.specs.Flushes.{SentOrders}
-use Rattle.otp_sup.specs.Ports.{Taken, carried, taken_by}
-use Rattle.otp_core.specs.Full.{is_full}
+use Rattle.otp_bodies.specs.declared.port.Launched.{Launched}
+use Rattle.otp_bodies.specs.declared.port.ToldNote.{ToldNote}
+use Rattle.otp_office.specs.declared.turns.TurnAnswer.{TurnAnswer}
+use Rattle.otp_office.specs.declared.turns.TurnAnswer.TheVariants as answer
+use Rattle.otp_office.specs.declared.turns.TurnFault.{TurnFault}
+use Rattle.otp_bodies.specs.Ends.{told_with}
+use Rattle.otp_bodies.specs.Letters.{Comes, carries_body, one_if}
+use Rattle.otp_bodies.specs.declared.bodies.Kept.{Kept}
+use Rattle.otp_sup.specs.Moves.{bodies_after}
+use Rattle.otp_bodies.specs.Bodies.{bodies_in}
+use Rattle.otp_sup.specs.Cuts.{CutWhereFull}
+use Rattle.otp_office.specs.Cuts.{HasTooManyEvents}
+use Rattle.otp_sup.specs.Facts.{KeepsRules, TableView}
+use Rattle.otp_office.specs.Flushes.{SentOrders}
+use Rattle.otp_bodies.specs.Ports.{Taken, carried, taken_by}
 use Rattle.otp_sup.specs.Shares.{HasStarted, gave, one_turn}
-
-abbrev pub is_told : Signal → Bool
-is_told signal.None = false
-is_told signal.Shutdown = true
-is_told signal.Kill = true
-
--- a supervisor in this phase may be opened under the number
-abbrev pub may_open : ℕ → Phase → Bool
-may_open number Unopened = true
-may_open number (Open own) = false
-may_open number (Ended own _) = nat_lt own number
-
--- the event that is due whether or not an item can be taken: an opening, or else what a supervisor does by itself
-unfoldable pub due_kind : State → ℕ → ℕ → Signal → Option Kind
-due_kind s number reading told = if may_open number s.phase then Some (kind.Opened number) else next_kind s reading (is_told told)
-
-abbrev pub answer_of : Kind → TurnAnswer
-answer_of (kind.Opened _) = answer.Opened
-answer_of (kind.Took _) = answer.Took
-answer_of kind.Resumed = answer.Resumed
-answer_of kind.Ticked = answer.Ticked
-answer_of kind.Stopped = answer.Stopped
-
--- the answer of a turn that changes nothing: where orders are still to be sent, and where the core is full, too
-unfoldable pub early_answer : OfficeView → ℕ → Option (Result TurnAnswer TurnFault)
-early_answer o number =
-    if nat_lt number (own_number (state_of o.core).phase) then Some (Ok answer.Ended)
-    else if nat_lt (own_number (state_of o.core).phase) number && not (is_over (state_of o.core).phase) then Some (Err fault.WrongNumber)
-    else if has_some o.outbox then Some (Ok answer.Pending)
-    else if is_full o.core then Some (Ok answer.Full)
-    else None
-
--- the number of an event was drawn, if it has one
-abbrev pub drawn_by : Option ℕ → Holding → Holding
-drawn_by None h = h
-drawn_by (Some n) h = after_draw n h
-
--- one event of this kind happened: it stands last in the history
-pub record Happened (reading : ℕ) (kind : Kind) (old new : OfficeView) : Type 0 where
-  pub number : Option ℕ
-  pub history : new.core.history ≡ old.core.history ++ record { reading = reading; number = number; kind = kind } ∷ []
-  -- and last among the stored ones, behind the same checkpoint
-  pub stored : stored_of new.core ≡ stored_of old.core ++ record { reading = reading; number = number; kind = kind } ∷ []
-  pub cut : new.core.cut ≡ old.core.cut
-  -- it has a number exactly where it starts a child, above all earlier ones
-  pub needed : is_some number ≡ needs_number (state_of old.core) reading kind
-  pub rises : (n : ℕ) → number ≡ Some n → All (λ m. m < n) (numbers_of old.core.history)
-  -- its orders are to be sent
-  pub outbox : new.outbox ≡ orders_in (step (state_of old.core) (record { reading = reading; number = number; kind = kind })).orders
-  pub base : new.core.base ≡ old.core.base
-  pub sent : new.sent ≡ old.sent
-  -- those that were sent are the same
-  pub same_sent : sent_of new ≡ sent_of old
-  pub owner : new.owner ≡ drawn_by number old.owner
-  pub first_slot : new.first_slot ≡ old.first_slot
-
--- nothing but that memory was taken
-pub record Readied (old new : OfficeView) : Type 0 where
-  pub core : new.core ≡ record old.core { prepared = new.core.prepared }
-  pub owner : new.owner ≡ old.owner
-  pub outbox : new.outbox ≡ old.outbox
-  pub sent : new.sent ≡ old.sent
-  pub first_slot : new.first_slot ≡ old.first_slot
-
--- why memory and a number for the next event aren't there: memory was refused, or no number is left
-abbrev pub IsRefusal : OfficeView → TurnFault → Type 0
-IsRefusal o fault.OutOfMemory = ⊤
-IsRefusal o fault.Exhausted = o.owner.quota ≡ 0
-IsRefusal o fault.WrongNumber = ⊥
+use Rattle.otp_office.specs.Events.{Happened, IsRefusal, Readied, due_kind}
+use Rattle.otp_office.specs.Answers.{answer_of, early_answer}
 
 -- what count_children would answer after the event was published, once
 abbrev pub Published : TableView → TableView → Type 0

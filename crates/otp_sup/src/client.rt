@@ -6,7 +6,7 @@ ghost use Rattle.otp_sup.specs.Clients.{DrewOne, Submitted};
 ghost use Rattle.otp_sup.specs.declared.client.SplitFault.TheVariants as refused;
 ghost use Rattle.otp_sup.specs.declared.client.SubmitCause.TheVariants as cause;
 
-use crate::letter::Letter;
+use otp_bodies::Letter;
 use otp_inbox::{Inbox, InboxNaming, Sender};
 use otp_rules::{Call, Item};
 use otp_signals::{Owner, Words, WordsNaming};

@@ -9,29 +9,20 @@
 //! generic in the body, what a child runs, and in the name of words and inboxes.
 #![tactic(auto)]
 
-pub mod bodies;
 pub mod client;
-mod draws;
-mod kept;
-pub mod letter;
+pub mod cut;
 mod moves;
-pub mod office;
-pub mod orders;
 mod plans;
-pub mod port;
 mod rows;
-mod sending;
 pub mod sup;
 pub mod table;
-pub mod told;
-pub mod turns;
 
-pub use bodies::{Bodies, Kept, Origin, Place, count_opened};
 pub use client::{Client, SplitFault, SubmitCause, SubmitFault};
-pub use letter::Letter;
-pub use office::Office;
-pub use port::{Flushed, Launched, MemoryPort, NewProcess, Port, ToldNote};
+pub use cut::CutAnswer;
+pub use otp_bodies::{
+    Bodies, Evidence, Flushed, Kept, Launched, Letter, MemoryPort, NewProcess, Origin, Place, Port,
+    ToldEnd, ToldNote, count_opened, evidence_of,
+};
+pub use otp_office::{Office, TurnAnswer, TurnFault};
 pub use sup::{Sup, SupParts, Unlocked};
 pub use table::Table;
-pub use told::{Evidence, ToldEnd, evidence_of};
-pub use turns::{CutAnswer, TurnAnswer, TurnFault};

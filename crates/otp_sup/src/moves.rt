@@ -5,17 +5,18 @@ ghost use Rattle.otp_core.specs.View.{state_of};
 ghost use Rattle.otp_rules.specs.State.{State, is_over};
 ghost use Rattle.otp_rules.specs.Waits.{starts_waiting};
 ghost use Rattle.otp_table.specs.declared.row.Row.{Row};
-ghost use Rattle.otp_sup.specs.Bodies.{CanComeBack, IsPlan, bodies_after, bodies_in, brings_body, calls_waiting, came_for, given_among, has_body, is_at_home, left_home, let_go, moved, place_of_call, taken_up};
-ghost use Rattle.otp_sup.specs.declared.bodies.Kept.{Kept};
-ghost use Rattle.otp_sup.specs.declared.bodies.Origin.TheVariants as origin;
-ghost use Rattle.otp_sup.specs.Letters.{one_if};
-ghost use Rattle.otp_sup.specs.Facts.{HasBodies, IsOpening};
+ghost use Rattle.otp_bodies.specs.Bodies.{CanComeBack, bodies_in, calls_waiting, came_for, has_body, is_at_home, left_home, place_of_call, taken_up};
+ghost use Rattle.otp_sup.specs.Moves.{IsPlan, bodies_after, brings_body, given_among, let_go, moved};
+ghost use Rattle.otp_bodies.specs.declared.bodies.Kept.{Kept};
+ghost use Rattle.otp_bodies.specs.declared.bodies.Origin.TheVariants as origin;
+ghost use Rattle.otp_bodies.specs.Letters.{one_if};
+ghost use Rattle.otp_sup.specs.Facts.{HasBodies};
+ghost use Rattle.otp_office.specs.Events.{IsOpening, Happened};
 ghost use Rattle.otp_core.specs.Full.{is_full};
-ghost use Rattle.otp_sup.specs.Turns.{Happened};
 
-use crate::bodies::Bodies;
-use crate::office::Office;
-use crate::plans::Plan;
+use crate::plans::{Plan, plan_of, slot_given};
+use otp_bodies::Bodies;
+use otp_office::Office;
 use otp_rules::{Item, Kind, laws, lives};
 use otp_signals::{Words, WordsNaming};
 
@@ -55,9 +56,9 @@ pub(crate) fn happen<N: WordsNaming, B: Drop>(
     lives::ended_has_no_rows();
     lives::processes_lived();
     office.keeps_rules();
-    let plan = office.plan(&kind);
+    let plan = plan_of(office, &kind);
     office.happen(words, reading, kind);
-    let slot = office.slot_given(plan.free);
+    let slot = slot_given(office, plan.free);
     move_bodies(bodies, &kind, &plan, slot, body);
     let_go(bodies, office, &kind);
 }

@@ -1,11 +1,12 @@
 //! What an event is about to do with bodies, as far as it can be known before it.
 ghost use Rattle.std.specs.Prelude.{◌≡◌};
 ghost use Rattle.otp_core.specs.View.{state_of};
-ghost use Rattle.otp_sup.specs.Bodies.{IsPlan, free_for, given_among, home_of, is_start_item, is_start_waiting, is_taken_up, is_waited_for, may_seat};
+ghost use Rattle.otp_sup.specs.Moves.{IsPlan, free_for, given_among, home_of, is_start_item, is_start_waiting, is_taken_up, is_waited_for, may_seat};
 
 use crate::client::is_start_call;
-use crate::office::Office;
 use crate::rows::{has_slot, slot_heeding};
+use otp_core::Core;
+use otp_office::Office;
 use otp_reason::Note;
 use otp_rules::{Item, Kind, Waiting};
 use otp_signals::WordsNaming;
@@ -24,81 +25,78 @@ pub(crate) struct Plan {
     pub is_taken_up: bool,
 }
 
-impl<N: WordsNaming> Office<N> {
-    /// Whether a call that is taken now waits.
-    fn is_waited_for(&self) -> bool
-        ensures { result ≡ is_waited_for (state_of self.now.core) }
-    {
-        self.core.has_open_work() && !self.core.has_ended()
-    }
+/// Whether a call that is taken now waits.
+fn is_waited_for(core: &Core) -> bool
+    ensures { result ≡ is_waited_for (state_of core.now) }
+{
+    core.has_open_work() && !core.has_ended()
+}
 
-    /// Whether a start call is the first that waits, and is taken up when the supervisor resumes.
-    fn is_taken_up(&self) -> bool
-        ensures { result ≡ is_taken_up (state_of self.now.core) }
-    {
-        !self.core.has_open_work()
-            && !self.core.has_ended()
-            && is_start_waiting(&self.core.first_waiting())
-    }
+/// Whether a start call is the first that waits, and is taken up when the supervisor resumes.
+fn is_taken_up(core: &Core) -> bool
+    ensures { result ≡ is_taken_up (state_of core.now) }
+{
+    !core.has_open_work() && !core.has_ended() && is_start_waiting(&core.first_waiting())
+}
 
-    /// The slot of the child whose body an end note brings home.
-    fn home_of(&self, note: &Note) -> Option<usize>
-        ensures { result ≡ home_of (state_of self.now.core) note.now }
-    {
-        if self.core.has_ended() {
-            return None;
-        }
-        slot_heeding(note, self.core.rows())
+/// The slot of the child whose body an end note brings home.
+fn home_of(core: &Core, note: &Note) -> Option<usize>
+    ensures { result ≡ home_of (state_of core.now) note.now }
+{
+    if core.has_ended() {
+        return None;
     }
+    slot_heeding(note, core.rows())
+}
 
-    /// Whether an event may make a child for a call that brought a body.
-    fn may_seat(&self, kind: &Kind) -> bool
-        ensures { result ≡ may_seat (state_of self.now.core) kind.now }
-    {
-        match kind {
-            Kind::Took(item) => is_start_item(item),
-            Kind::Resumed => self.is_taken_up(),
-            Kind::Opened(_) | Kind::Ticked | Kind::Stopped => false,
-        }
+/// Whether an event may make a child for a call that brought a body.
+fn may_seat(core: &Core, kind: &Kind) -> bool
+    ensures { result ≡ may_seat (state_of core.now) kind.now }
+{
+    match kind {
+        Kind::Took(item) => is_start_item(item),
+        Kind::Resumed => is_taken_up(core),
+        Kind::Opened(_) | Kind::Ticked | Kind::Stopped => false,
     }
+}
 
-    /// The slot that such a child gets. It is searched for only where there may be one, as that walks over all children.
-    fn free_for(&self, kind: &Kind) -> Option<usize>
-        ensures { result ≡ free_for (state_of self.now.core) kind.now }
-    {
-        if self.may_seat(kind) {
-            Some(free_slot(self.rows()))
-        } else {
-            None
-        }
+/// The slot that such a child gets. It is searched for only where there may be one, as that walks over all children.
+fn free_for(core: &Core, kind: &Kind) -> Option<usize>
+    ensures { result ≡ free_for (state_of core.now) kind.now }
+{
+    if may_seat(core, kind) {
+        Some(free_slot(core.rows()))
+    } else {
+        None
     }
+}
 
-    /// What an event is about to do with bodies, as far as it can be known before it.
-    pub(crate) fn plan(&self, kind: &Kind) -> Plan
-        ensures { IsPlan (state_of self.now.core) kind.now result }
-    {
-        let home = match kind {
-            Kind::Took(Item::Note(note)) => self.home_of(note),
-            _ => None,
-        };
-        Plan {
-            home,
-            free: self.free_for(kind),
-            waits: self.is_waited_for(),
-            is_taken_up: self.is_taken_up(),
-        }
+/// What an event is about to do with bodies, as far as it can be known before it.
+pub(crate) fn plan_of<N: WordsNaming>(office: &Office<N>, kind: &Kind) -> Plan
+    ensures { IsPlan (state_of office.now.core) kind.now result }
+{
+    let core = office.core();
+    let home = match kind {
+        Kind::Took(Item::Note(note)) => home_of(core, note),
+        _ => None,
+    };
+    Plan {
+        home,
+        free: free_for(core, kind),
+        waits: is_waited_for(core),
+        is_taken_up: is_taken_up(core),
     }
+}
 
-    /// The slot that a call's child was given, if a row has it now.
-    pub(crate) fn slot_given(&self, free: Option<usize>) -> Option<usize>
-        ensures { result ≡ given_among free (state_of self.now.core).rows }
-    {
-        let slot = free?;
-        if has_slot(self.core.rows(), slot) {
-            Some(slot)
-        } else {
-            None
-        }
+/// The slot that a call's child was given, if a row has it now.
+pub(crate) fn slot_given<N: WordsNaming>(office: &Office<N>, free: Option<usize>) -> Option<usize>
+    ensures { result ≡ given_among free (state_of office.now.core).rows }
+{
+    let slot = free?;
+    if has_slot(office.rows(), slot) {
+        Some(slot)
+    } else {
+        None
     }
 }
 

@@ -1,8 +1,8 @@
 // What lies under a supervisor's lock, without the lock: a turn at a time, and an order at a time, over a port in memory.
 ghost use Rattle.std.specs.Prelude.{◌≡◌, ◌<◌, ◌++◌, ◌∷◌, [], is_some, option_copied, IfErr, OnErr, OnOk};
 ghost use Rattle.otp_rules.specs.declared.event.Item.TheVariants as item;
-ghost use Rattle.otp_sup.specs.Letters.{Comes};
-ghost use Rattle.otp_sup.specs.Ports.{launched, launched_all, told};
+ghost use Rattle.otp_bodies.specs.Letters.{Comes};
+ghost use Rattle.otp_bodies.specs.Ports.{launched, launched_all, told};
 
 use crate::alone::{Alone, OWN, Post, make_table};
 use crate::fixtures::{of_one_child, open_parts};
@@ -92,7 +92,7 @@ struct Shut {
 }
 
 impl Port<u64> for Shut {
-    ghost use Rattle.otp_sup.specs.Ports.{launched_all};
+    ghost use Rattle.otp_bodies.specs.Ports.{launched_all};
 
     ghost processes = { λ p. launched_all p.processes.items };
 

@@ -3,7 +3,7 @@
 ghost use Rattle.std.specs.Prelude.{◌≡◌, ◌<◌, ◌≤◌, None, Ok, is_some, true, IfErr, IfOk, OnOk, length};
 ghost use Rattle.otp_rules.specs.Homes.{is_start_call};
 ghost use Rattle.otp_core.specs.declared.reply.ReplyAnswer.TheVariants as answer;
-ghost use Rattle.otp_sup.specs.Bodies.{is_left_of};
+ghost use Rattle.otp_bodies.specs.Bodies.{is_left_of};
 ghost use Rattle.otp_sup.specs.Turns.{HadBody, HasReply};
 ghost use Rattle.otp_tree.specs.Callings.{Called, IsNotSent, IsUnsendable, fits_call, is_no_table, is_of_type};
 

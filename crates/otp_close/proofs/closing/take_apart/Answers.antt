@@ -2,13 +2,15 @@ use Rattle.std.proofs.Common.{ℕ, ◌++◌, List, length, length-append, sym, a
 use Rattle.std.proofs.lemmas.List.Elements.{filter_map-append}
 use Rattle.otp_inbox.specs.declared.rule.Shares.{Shares}
 use Rattle.otp_rules.specs.declared.event.Effect.{Effect}
-use Rattle.otp_sup.specs.Bodies.{started_by}
+use Rattle.otp_office.specs.Orders.{started_by}
 use Rattle.std.specs.Prelude.{sum_by}
 use Rattle.otp_rules.specs.Needs.{numbers_of}
 use Rattle.otp_signals.specs.Lists.{AllIn, NoneInBoth}
 use Rattle.otp_core.specs.View.{stored_of}
-use Rattle.otp_sup.specs.Ends.{AreTold}
-use Rattle.otp_sup.specs.Facts.{items_of, sent_of, starts_in}
+use Rattle.otp_bodies.specs.Ends.{AreTold}
+use Rattle.otp_office.specs.Events.{items_of}
+use Rattle.otp_office.specs.Offices.{sent_of}
+use Rattle.otp_office.specs.Orders.{starts_in}
 use Rattle.otp_close.proofs.closing.take_apart.Goals as goal
 
 pub returns-clause-left : goal.returns-clause-left

@@ -1,6 +1,6 @@
 use Rattle.std.proofs.Common.{◌≡◌, List, inr, subst}
 use Rattle.std.specs.Prelude.{IfSome}
-use Rattle.otp_sup.specs.declared.told.ToldEnd.{ToldEnd}
+use Rattle.otp_bodies.specs.declared.told.ToldEnd.{ToldEnd}
 use Rattle.otp_report.specs.Tellings.{IsFalseEnd, IsBorneOut, IsMismatchOf, IsThere}
 use Rattle.otp_report.proofs.There.{if_some}
 use Rattle.otp_report.proofs.evidence.find_in.Goals as goal

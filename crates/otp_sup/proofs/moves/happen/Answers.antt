@@ -1,38 +1,39 @@
 use Rattle.std.proofs.Common.{List, ap, sym, subst, ◌∙◌}
 use Rattle.otp_core.specs.View.{state_of}
-use Rattle.otp_sup.specs.Bodies.{bodies_in, calls_waiting, let_go}
-use Rattle.otp_sup.specs.declared.bodies.Kept.{Kept}
+use Rattle.otp_bodies.specs.Bodies.{bodies_in, calls_waiting}
+use Rattle.otp_sup.specs.Moves.{let_go}
+use Rattle.otp_bodies.specs.declared.bodies.Kept.{Kept}
 use Rattle.otp_sup.specs.Facts.{HasBodies}
 use Rattle.otp_sup.proofs.Calls.{calls_happened}
 use Rattle.otp_sup.proofs.Homes.{Laws, bodies_happened}
-use Rattle.otp_sup.proofs.CountBodies.{count_after}
+use Rattle.otp_sup.proofs.CountAfter.{count_after}
 use Rattle.otp_sup.proofs.moves.happen.Goals as goal
 
 pub returns-clause-bodies : goal.returns-clause-bodies
 returns-clause-bodies g c =
     let s = state_of c.args.office.now.core in
     let later = state_of c.happen.new.self.core in
-    c.let_go.ensures ∙ ap (λ (l : List Kept). let_go later c.args.kind l) (c.move_bodies.ensures s later.rows c.plan-plan.ensures c.slot_given-slot.ensures)
+    c.let_go.ensures ∙ ap (λ (l : List Kept). let_go later c.args.kind l) (c.move_bodies.ensures s later.rows c.plan_of-plan.ensures c.slot_given-slot.ensures)
 
 pub returns-clause-count : goal.returns-clause-count
 returns-clause-count g c =
     let s = state_of c.args.office.now.core in
     let later = state_of c.happen.new.self.core in
-    ap (λ (l : List Kept). bodies_in l) (c.let_go.ensures ∙ ap (λ (l : List Kept). let_go later c.args.kind l) (c.move_bodies.ensures s later.rows c.plan-plan.ensures c.slot_given-slot.ensures))
+    ap (λ (l : List Kept). bodies_in l) (c.let_go.ensures ∙ ap (λ (l : List Kept). let_go later c.args.kind l) (c.move_bodies.ensures s later.rows c.plan_of-plan.ensures c.slot_given-slot.ensures))
     ∙ count_after s later c.args.kind c.args.bodies.now.kept
 
 pub returns-clause-calls : goal.returns-clause-calls
 returns-clause-calls g c = λ same.
     let s = state_of c.args.office.now.core in
     let later = state_of c.happen.new.self.core in
-    ap (λ (l : List Kept). calls_waiting l) (c.let_go.ensures ∙ ap (λ (l : List Kept). let_go later c.args.kind l) (c.move_bodies.ensures s later.rows c.plan-plan.ensures c.slot_given-slot.ensures))
+    ap (λ (l : List Kept). calls_waiting l) (c.let_go.ensures ∙ ap (λ (l : List Kept). let_go later c.args.kind l) (c.move_bodies.ensures s later.rows c.plan_of-plan.ensures c.slot_given-slot.ensures))
     ∙ calls_happened c.args.office.now c.happen.new.self c.args.reading c.args.kind c.args.bodies.now.kept c.runs_are_joined.ensures.one_more c.start_calls_wait.ensures c.happen.ensures same
 
 pub returns-clause-homes : goal.returns-clause-homes
 returns-clause-homes g c = λ same has.
     let s = state_of c.args.office.now.core in
     let later = state_of c.happen.new.self.core in
-    let is = c.let_go.ensures ∙ ap (λ (l : List Kept). let_go later c.args.kind l) (c.move_bodies.ensures s later.rows c.plan-plan.ensures c.slot_given-slot.ensures) in
+    let is = c.let_go.ensures ∙ ap (λ (l : List Kept). let_go later c.args.kind l) (c.move_bodies.ensures s later.rows c.plan_of-plan.ensures c.slot_given-slot.ensures) in
     let laws : Laws = record {
       goes_on = c.runs_are_joined.ensures.one_more;
       homes = c.homes_are_kept.ensures.from_any;

@@ -1,11 +1,11 @@
 use Rattle.std.proofs.Common.{◌≡◌, ℕ, Bool, List, Option, Some, None, ap, sym, ◌∙◌, subst, arith, MatchOption}
 use Rattle.std.specs.Prelude.{is_some, position}
-use Rattle.otp_sup.specs.Bodies.{bodies_in, is_at_home, left_home, move_first, stray}
-use Rattle.otp_sup.specs.declared.bodies.Place.TheVariants as placed
-use Rattle.otp_sup.specs.Letters.{one_if}
-use Rattle.otp_sup.specs.declared.bodies.Kept.{Kept}
-use Rattle.otp_sup.proofs.CountBodies.{left_count}
-use Rattle.otp_sup.proofs.Keeping.{any_at, first_at, none_passes}
+use Rattle.otp_bodies.specs.Bodies.{bodies_in, is_at_home, left_home, move_first, stray}
+use Rattle.otp_bodies.specs.declared.bodies.Place.TheVariants as placed
+use Rattle.otp_bodies.specs.Letters.{one_if}
+use Rattle.otp_bodies.specs.declared.bodies.Kept.{Kept}
+use Rattle.otp_bodies.proofs.CountBodies.{left_count}
+use Rattle.otp_bodies.proofs.Keeping.{any_at, first_at, none_passes}
 use Rattle.std.proofs.lemmas.Bool.{false≢true}
 use Rattle.otp_sup.proofs.Leaving.{none_leaves}
 use Rattle.otp_sup.proofs.moves.leave.Goals as goal

@@ -1,5 +1,5 @@
 use Rattle.std.proofs.Common.{◌≡◌, drop}
-use Rattle.otp_sup.specs.Bodies.{slot_heeding}
+use Rattle.otp_sup.specs.Moves.{slot_heeding}
 use Rattle.otp_sup.proofs.rows.slot_heeding.Given as goal
 
 abbrev pub invariant-loop-row : goal.invariant-loop-row

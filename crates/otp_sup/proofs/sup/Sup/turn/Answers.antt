@@ -1,6 +1,6 @@
 use Rattle.std.proofs.Common.{refl, arith, inl, rules}
 use Rattle.otp_sup.proofs.Cutting.{full_pends_nothing, next_goes_on}
-use Rattle.otp_sup.proofs.More.{took_none}
+use Rattle.otp_office.proofs.More.{took_none}
 use Rattle.otp_sup.proofs.sup.Sup.turn.Goals as goal
 
 pub returns-clause-one_table : goal.returns-clause-one_table

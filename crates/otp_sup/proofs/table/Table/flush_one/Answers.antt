@@ -3,17 +3,20 @@ use Rattle.otp_core.specs.View.{View, state_of, stored_of}
 use Rattle.otp_counts.specs.Counts.{EndsWith}
 use Rattle.otp_rules.specs.Counts.{counts_of}
 use Rattle.otp_rules.specs.Waits.{starts_waiting}
-use Rattle.otp_sup.specs.Bodies.{bodies_sent, calls_waiting}
-use Rattle.otp_sup.specs.Facts.{HasBodies, OfficeView, items_of}
+use Rattle.otp_bodies.specs.Bodies.{bodies_sent, calls_waiting}
+use Rattle.otp_sup.specs.Facts.{HasBodies}
+use Rattle.otp_office.specs.Offices.{OfficeView}
+use Rattle.otp_office.specs.Events.{items_of}
 use Rattle.otp_sup.proofs.Flushing.{bodies_flushed, start_leaves}
-use Rattle.otp_sup.specs.declared.bodies.Kept.{Kept}
+use Rattle.otp_bodies.specs.declared.bodies.Kept.{Kept}
 use Rattle.otp_sup.proofs.Calls.{sent_calls}
-use Rattle.otp_sup.proofs.Telling.{told_same}
+use Rattle.otp_office.proofs.Telling.{told_same}
 use Rattle.otp_inbox.specs.Tokens.{TakerState}
 use Rattle.otp_rules.specs.declared.event.Item.{Item}
-use Rattle.otp_sup.specs.Shares.{starts_flushed}
-use Rattle.otp_sup.proofs.Shared.{starts_sent_on}
-use Rattle.otp_sup.proofs.Leaving.{Left, flushes_core, flushes_none, left_or_not}
+use Rattle.otp_office.specs.Flushes.{starts_flushed}
+use Rattle.otp_office.proofs.Shared.{starts_sent_on}
+use Rattle.otp_sup.proofs.Leaving.{Left, left_or_not}
+use Rattle.otp_office.proofs.Putting.{flushes_core, flushes_none}
 use Rattle.otp_sup.proofs.table.Table.flush_one.Goals as goal
 
 pub invariant_of-self : goal.invariant_of-self

@@ -1,6 +1,7 @@
 use Rattle.std.proofs.Common.{subst}
 use Rattle.otp_core.specs.View.{state_of}
-use Rattle.otp_sup.specs.Facts.{KeepsRules, starts_in}
+use Rattle.otp_sup.specs.Facts.{KeepsRules}
+use Rattle.otp_office.specs.Orders.{starts_in}
 use Rattle.otp_sup.proofs.OneBody.{one_body_each}
 use Rattle.otp_sup.proofs.table.Table.keeps_rules.Goals as goal
 

@@ -1,0 +1,6 @@
+pub mod Keeping
+pub mod CountBodies
+pub mod Placed
+pub mod Once
+pub mod Owned
+pub mod Stored

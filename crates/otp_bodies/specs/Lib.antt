@@ -1,0 +1,6 @@
+pub mod Bodies
+pub mod Letters
+pub mod Ends
+pub mod LetterInside
+pub mod Ports
+pub mod Slots

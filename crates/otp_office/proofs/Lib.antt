@@ -1,0 +1,12 @@
+pub mod Readying
+pub mod Keeps
+pub mod Sends
+pub mod Evident
+pub mod More
+pub mod Putting
+pub mod Sent
+pub mod Shared
+pub mod Slots
+pub mod StartOrders
+pub mod Telling
+mod Worked

@@ -1,0 +1,7 @@
+pub mod Rows
+pub mod Orders
+pub mod Offices
+pub mod Answers
+pub mod Cuts
+pub mod Events
+pub mod Flushes

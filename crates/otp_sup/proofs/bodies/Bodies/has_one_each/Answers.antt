@@ -1,9 +1,0 @@
-use Rattle.std.proofs.Common.{ℕ, ◌≤◌, subst}
-use Rattle.otp_sup.specs.Bodies.{count_given}
-use Rattle.otp_sup.specs.Facts.{BodiesView}
-use Rattle.otp_sup.proofs.bodies.Bodies.has_one_each.Goals as goal
-
-pub returns : goal.returns
-returns g c =
-    let Once : BodiesView → Type 0 = λ v. (place : ℕ) → count_given place v.kept ≤ 1 in
-    subst Once c.self.view_is c.self.invariant.once

@@ -1,6 +1,0 @@
-use Rattle.std.proofs.Common.{◌≡◌, take}
-use Rattle.otp_sup.specs.Bodies.{settled}
-use Rattle.otp_sup.proofs.kept.are_seen_to_stay.Given as goal
-
-abbrev pub invariant-loop-one : goal.invariant-loop-one
-invariant-loop-one l = settled l.rows l.is_any_waiting (take l.one-index l.kept) ≡ take l.one-index l.kept
