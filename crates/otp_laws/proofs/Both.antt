@@ -2,7 +2,7 @@
 -- more, but for a start that it orders.
 use Rattle.std.specs.Prelude.{◌≡◌, ◌⊎◌, ℕ, ◌==◌, ◌+◌, ◌≤◌, ◌++◌, ◌&&◌, Bool, true, false, List, [], ◌∷◌, Option, None, Some, Contains, refl, position, is_some, nat_le, slice_set, slice_range, remove, unwrap_or, take, drop, count_by}
 use Rattle.std.proofs.Common.{◌∙◌, ap, sym, subst, inl, inr, arith, ⊎_elim, cond}
-use Rattle.std.proofs.lemmas.Bool.{cases_Bool, cond_both}
+use Rattle.std.proofs.lemmas.Bool.{and_parts, cases_Bool, cond_both}
 use Rattle.std.proofs.lemmas.List.Elements.{Contains-push}
 use Rattle.std.proofs.lemmas.List.Folds.{drop_split}
 use Rattle.std.proofs.lemmas.List.Sums.{sum_by-append, sum_by-cons, sum_by-take-drop}
@@ -182,32 +182,38 @@ decided-most u t still f s e =
     let start : Outcome = record { state = stamped e.reading s; orders = [] } in
     decide-survives e.kind (Most u t (count_by (both u t) s.rows)) start (most-survives u t still f (count_by (both u t) s.rows) e.kind (is_some s.follows)) (omega arith)
 
--- or a start was ordered of a child that passes the first test, as do all of its id
-abbrev pub Begins : (Option Name → Type 0) → Outcome → Type 0
-Begins Is o = (id : Option Name) × (n : ℕ) × Contains o.orders (effect.Start id n) × Is id
+-- or a start was ordered of a child that passes the first test, as do all of its id, under a number that brings it into the state
+abbrev pub Begins : (Option Name → ℕ → Type 0) → Outcome → Type 0
+Begins Is o = (id : Option Name) × (n : ℕ) × Contains o.orders (effect.Start id n) × Is id n
 
-abbrev Grown : (Row → Bool) → (RowState → Bool) → ℕ → (Option Name → Type 0) → Outcome → Type 0
+abbrev Grown : (Row → Bool) → (RowState → Bool) → ℕ → (Option Name → ℕ → Type 0) → Outcome → Type 0
 Grown u t c Is o = Most u t c o ⊎ Begins Is o
 
-start-grown : (u : Row → Bool) (t : RowState → Bool) → IsStill u → (c n : ℕ) (Is : Option Name → Type 0) → ((due : Due) (row : Row) → is_due due row ≡ true → u row ≡ true → Is due.id) → (due : Due) (o : Outcome) → Most u t c o → Grown u t c Is (start due n o)
+-- what is named so of a start under this number
+abbrev Names : (Row → Bool) → (RowState → Bool) → ℕ → (Option Name → ℕ → Type 0) → Type 0
+Names u t n Is = (due : Due) (row : Row) (kept : ℕ) → is_due due row ≡ true → u row ≡ true → t (Starting n kept) ≡ true → Is due.id n
+
+start-grown : (u : Row → Bool) (t : RowState → Bool) → IsStill u → (c n : ℕ) (Is : Option Name → ℕ → Type 0) → Names u t n Is → (due : Due) (o : Outcome) → Most u t c o → Grown u t c Is (start due n o)
 unfolding start start_row
 start-grown u t still c n Is named due o h =
-    ⊎_elim (λ (most : Most u t c x). inl most) (λ (is : Is due.id). inr (due.id, n, Contains-push x.orders (effect.Start due.id n), is))
-    (at_row-survives (λ (y : Outcome). Most u t c y ⊎ Is due.id) (is_due due) o (λ place row. set_row place row (Starting n (unwrap_or due.kept n))) o (inl h) (inl h)
+    ⊎_elim (λ (most : Most u t c x). inl most) (λ (is : Is due.id n). inr (due.id, n, Contains-push x.orders (effect.Start due.id n), is))
+    (at_row-survives (λ (y : Outcome). Most u t c y ⊎ Is due.id n) (is_due due) o (λ place row. set_row place row (Starting n (unwrap_or due.kept n))) o (inl h) (inl h)
     (λ i row at has.
-    ⊎_elim (λ (holds_so : u row ≡ true). inr (named due row has holds_so))
-    (λ (isnt : u row ≡ false).
-    let state : RowState = Starting n (unwrap_or due.kept n) in
+    let kept : ℕ = unwrap_or due.kept n in
+    let state : RowState = Starting n kept in
     let new : Row = with_state state row in
     let e : count_by (both u t) (slice_set o.state.rows i new) + cond (both u t row) 1 0 ≡ count_by (both u t) o.state.rows + cond (both u t new) 1 0 = set_count (both u t) o.state.rows i row new at in
-    let zero_new : ◌≡◌ {A = ℕ} (cond (both u t new) 1 0) 0 = ap (λ (b : Bool). cond {A = ℕ} (b && t state) 1 0) (still state row ∙ isnt) in
+    ⊎_elim
+    (λ (holds_so : (u row && t state) ≡ true). let parts = and_parts (u row) (t state) holds_so in inr (named due row kept has parts.0 parts.1))
+    (λ (isnt : (u row && t state) ≡ false).
+    let zero_new : ◌≡◌ {A = ℕ} (cond (both u t new) 1 0) 0 = ap (λ (b : Bool). cond {A = ℕ} (b && t state) 1 0) (still state row) ∙ ap (λ (b : Bool). cond {A = ℕ} b 1 0) isnt in
     inl (omega (arith, e, zero_new, h)))
-    (cases_Bool (u row))))
+    (cases_Bool (u row && t state))))
   where
     x : Outcome
     x = at_row (is_due due) o (start_row due n) o
 
-going-grown : (u : Row → Bool) (t : RowState → Bool) → IsStill u → Falling t → (c n : ℕ) (Is : Option Name → Type 0) → ((due : Due) (row : Row) → is_due due row ≡ true → u row ≡ true → Is due.id) → GoesOn n (λ _. Most u t c) (Grown u t c Is)
+going-grown : (u : Row → Bool) (t : RowState → Bool) → IsStill u → Falling t → (c n : ℕ) (Is : Option Name → ℕ → Type 0) → Names u t n Is → GoesOn n (λ _. Most u t c) (Grown u t c Is)
 unfolding answer end_all refuse_all
 going-grown u t still f c n Is named =
     record {
@@ -221,10 +227,10 @@ going-grown u t still f c n Is named =
     }
 
 -- what is more after an event was started by it
-pub step-most : (u : Row → Bool) (t : RowState → Bool) → IsStill u → Falling t → (Is : Option Name → Type 0) → ((due : Due) (row : Row) → is_due due row ≡ true → u row ≡ true → Is due.id) → (s : State) (e : Event)
+pub step-most : (u : Row → Bool) (t : RowState → Bool) → IsStill u → Falling t → (Is : Option Name → ℕ → Type 0) (s : State) (e : Event) → Names u t (unwrap_or e.number 0) Is
     → (count_by (both u t) (step s e).state.rows ≤ count_by (both u t) (decided s e).rows) ⊎ Begins Is (step s e)
 unfolding step step_on
-step-most u t still f Is named s e =
+step-most u t still f Is s e named =
     let d : Outcome = decide e.kind (record { state = stamped e.reading s; orders = [] }) in
     let c : ℕ = count_by (both u t) d.state.rows in
     let n : ℕ = unwrap_or e.number 0 in

@@ -24,7 +24,7 @@ use Rattle.otp_rules.specs.Ends.{end_all, refuse_all, refused}
 use Rattle.otp_rules.specs.Work.{advance, follow, start_first}
 use Rattle.otp_rules.specs.Step.{decide, stamped, step, step_on}
 use Rattle.otp_rules.specs.Run.{empty_state, state_after}
-use Rattle.otp_rules.specs.Progress.{Ordered, Progress, decided, ends_together, gave, id_bytes, is_end, is_opened, no_progress, opened_now, processes, progress, seen, start_list, taken, went_on, IsAbout, IsPart}
+use Rattle.otp_rules.specs.Progress.{Ordered, Progress, decided, ends_together, gave, heard, id_bytes, is_end, is_opened, no_progress, opened_now, processes, progress, seen, start_list, taken, went_on, IsAbout, IsPart}
 use Rattle.otp_rules.specs.Fit.{times, HasPart, HasStops, HasWaiting, IsFit, IsLawfulFrom, IsListed, IsSound, Keeps, KeepsStarts}
 use Rattle.otp_rules.proofs.GoesOn.{GoesOn, advance-on}
 use Rattle.otp_rules.proofs.Walks.{advance-by, stop_first-by, with_stops}
@@ -38,7 +38,7 @@ use Rattle.otp_rules.proofs.Taken.{decided-keeps}
 use Rattle.otp_rules.proofs.WhileOpen.{Stays, Tracks, While, while-survives}
 use Rattle.otp_laws.specs.Oks.{AnswersTrue, AnswersTrueFrom, HasComeUp, HasStopped, IsOfOpened, IsTrue, StartsAreOrdered, TellsTruth, is_call_start}
 use Rattle.otp_table.specs.declared.row.Row.{Row}
-use Rattle.otp_laws.proofs.Ordered.{ordered-child, step-ordered}
+use Rattle.otp_laws.proofs.Ordered.{contains_map, ordered-child, step-ordered}
 use Rattle.otp_laws.proofs.Basis.{empty_basis, lawful_from_0, stays_basis}
 use Rattle.otp_laws.proofs.Oks.{AtOnce, CameUp, Said, Told, answer-told, decided-answers, kept-told, start-quiet, tell-quiet, use_exit-quiet}
 
@@ -213,7 +213,7 @@ came-up-true s e g keeps starts opened ordered h =
         let child : (child : Row) × (part ≡ child ∷ []) = single part (subst (λ (x : Option Sequel). IsAbout g.took g.before x g.opened part) work listed.1) in
         let ids : map (λ (y : Due). id_bytes y.id) g.opened.to_start ≡ map (λ (y : Row). id_bytes y.id) part =
         listed.7 ∙ ap (λ (x : Option Sequel). map (λ (y : Row). id_bytes y.id) (start_list x part)) work ∙ ap (λ (l : List Row). map (λ (y : Row). id_bytes y.id) l) (all part) in
-        let order : (x : Ordered) × Contains g.ordered x × (id_bytes x.id ≡ id_bytes h.was.id) = ordered (ap is_call_start is ∙ calls) h.was h.p h.there h.started in
+        let order : (x : Ordered) × Contains g.ordered x × (id_bytes x.id ≡ id_bytes h.was.id) × (x.number ≡ h.p) = ordered (ap is_call_start is ∙ calls) h.was h.p h.there h.started in
         let named : id_bytes order.0.id ≡ id_bytes child.0.id = ordered-child s g order.0 child.0 part (starts busy) ids child.1 order.1 in
         let one : Answered = record { call = h.c; reply = reply.OkProcess h.p } in
         let true_one : HasComeUp s e (went_on e.kind g) h.c h.p =
@@ -222,6 +222,9 @@ came-up-true s e g keeps starts opened ordered h =
           child = child.0;
           is = subst (λ (l : List Row). IsPart g l) child.1 listed.1;
           takes = h.takes;
+          start = heard e.kind order.0;
+          since = contains_map (heard e.kind) g.ordered order.0 order.1;
+          number = order.3;
           row = h.row;
           among = h.among;
           up = h.up;

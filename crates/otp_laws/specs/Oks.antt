@@ -52,12 +52,15 @@ pub record HasStopped (g : Progress) (c : ℕ) : Type 0 where
   pub ended : (q : ℕ) → IsIn q (processes part) → IsIn q g.ended
 
 -- the open work is that of this call to start a child, or to start it again; the event takes the note that the process
--- came up, and after it a child with the id that the call asks for has it, and is up
+-- came up, whose start this work has ordered; and after it a child with the id that the call asks for has it, and is up
 pub record HasComeUp (s : State) (e : Event) (g : Progress) (c p : ℕ) : Type 0 where
   pub follows : (g.opened.follows ≡ Some (sequel.Added c)) ⊎ (g.opened.follows ≡ Some (sequel.Restarted c))
   pub child : Row
   pub is : IsPart g (child ∷ [])
   pub takes : Brings e.kind s.waiting (item.Note (note.Up p))
+  pub start : Ordered
+  pub since : Contains g.ordered start
+  pub number : start.number ≡ p
   pub row : Row
   pub among : Contains (step s e).state.rows row
   pub up : row.state ≡ Up p
@@ -83,9 +86,9 @@ is_call_start _ = false
 abbrev pub IsOfOpened : State → Progress → Type 0
 IsOfOpened s g = is_some s.follows ≡ true → g.opened.follows ≡ s.follows
 
--- a start that is awaited for a call is among those that the work has ordered, of the same id
+-- a start that is awaited for a call is among those that the work has ordered, of the same id and under its number
 abbrev pub StartsAreOrdered : State → Progress → Type 0
-StartsAreOrdered s g = is_call_start s.follows ≡ true → (row : Row) (q : ℕ) → Contains s.rows row → is_starting q row.state ≡ true → (x : Ordered) × Contains g.ordered x × (id_bytes x.id ≡ id_bytes row.id)
+StartsAreOrdered s g = is_call_start s.follows ≡ true → (row : Row) (q : ℕ) → Contains s.rows row → is_starting q row.state ≡ true → (x : Ordered) × Contains g.ordered x × (id_bytes x.id ≡ id_bytes row.id) × (x.number ≡ q)
 
 -- so it is after each lawful history from such a basis
 abbrev pub AnswersTrueFrom : Type 0
