@@ -11,8 +11,12 @@ mod Significant
 mod Deletes
 mod Both
 mod Oks
+mod Sinks
+mod Done
 mod Ordered
 mod Truths
+mod Stopped
+mod Down
 mod Starts
 mod Between
 mod EndOrders

@@ -128,7 +128,7 @@ ok-said s k c o down h = answer-told (λ (a : Answered). AtOnce s k a.call a.rep
 spec-said : (s : State) (k : Kind) (c : ℕ) (spec : ChildSpec) (o : Outcome) → Said s k o → Said s k (answer c (reply.Spec spec) o)
 spec-said s k c spec o h = answer-told (λ (a : Answered). AtOnce s k a.call a.reply) s.replies c (reply.Spec spec) o tt h
 
-first_found : (test : Row → Bool) (place : ℕ) (row : Row) (o : Outcome) → StandsAt place row o → position test o.state.rows ≡ Some place → IsFirstRow (λ other. test other ≡ true) o.state.rows place row
+pub first_found : (test : Row → Bool) (place : ℕ) (row : Row) (o : Outcome) → StandsAt place row o → position test o.state.rows ≡ Some place → IsFirstRow (λ other. test other ≡ true) o.state.rows place row
 first_found test place row o at found =
     record {
       at = at;
@@ -328,7 +328,7 @@ at_starting-is P p f o x each = at_number-survives P p (λ place row. if_startin
 pub at_starting-by : (P : Outcome → Type 0) (p : ℕ) (f : ℕ → ℕ → Row → Outcome → Outcome) (o : Outcome) → P o → ((kept place : ℕ) (row : Row) → StandsAt place row o → P (f kept place row o)) → P (at_starting p f o)
 at_starting-by P p f o x each = at_starting-is P p f o x (λ kept place row at starts. each kept place row at)
 
-among-at : (place : ℕ) (row : Row) (rows : List Row) → slice_get rows place ≡ Some row → Contains rows row
+pub among-at : (place : ℕ) (row : Row) (rows : List Row) → slice_get rows place ≡ Some row → Contains rows row
 among-at place row rows at = (place, slice_get_within rows place row at, get_or_from_slice_get rows place row row at)
 
 pub set-among : (place : ℕ) (row new : Row) (rows : List Row) → slice_get rows place ≡ Some row → Contains (slice_set rows place new) new

@@ -1,4 +1,5 @@
 pub mod Basis
+pub mod Down
 pub mod Notes
 pub mod Ids
 pub mod Life

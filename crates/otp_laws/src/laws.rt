@@ -1,4 +1,5 @@
 //! Laws over all states, events and histories. A law is a function that does nothing: what it ensures is the law.
+ghost use Rattle.otp_laws.specs.Down.{OkLeavesDown, OkLeavesDownFrom};
 ghost use Rattle.otp_laws.specs.Ids.{IdsApart, IdsStayApart, ProcessesNumbered, ProcessesNumberedFrom, ProcessesStayGone, ProcessesStayGoneFrom};
 ghost use Rattle.otp_laws.specs.Life.{EndsAfterAll, EndsAfterAllFrom, IdsStartAnew, IdsStartAnewFrom, OrdersEndAfterAll, OrdersStartAnew, RowsStartAnew, RowsStartAnewFrom};
 ghost use Rattle.otp_laws.specs.Musts.{DeletesUndefined, DeletesUndefinedFrom, SignificantEndsEnd};
@@ -51,10 +52,19 @@ pub fn processes_stay_gone()
 /// An answer says what has happened (supervisor, delete_child/2, terminate_child/2, start_child/2 and restart_child/2). `ok`
 /// comes where the child that the call names has no process when the call is taken. Else the open work is that of the call,
 /// and the note that the child's process ended was taken. `{ok, Child}` comes where the open work is that of the call, with
-/// the note that the process came up. After the event a child with the id that the call asks for has it, and is up.
+/// the note that the process came up whose start this work ordered. After the event a child with the id that the call asks for
+/// has it, and is up.
 pub fn answers_are_true()
     ensures from_empty { AnswersTrue }
     ensures from_any { AnswersTrueFrom }
+{}
+
+/// After an event that answers `ok` to delete_child or terminate_child, that is so which the call asked for: no child has the id,
+/// or each that has it is undefined, so that it has no process and waits for no restart. Under simple_one_for_one it is the child
+/// that the number named when the call was taken, found by its slot (supervisor, delete_child/2 and terminate_child/2).
+pub fn ok_leaves_down()
+    ensures from_empty { OkLeavesDown }
+    ensures from_any { OkLeavesDownFrom }
 {}
 
 /// The end of a significant child which isn't restarted ends the supervisor: under any_significant each such, under
