@@ -13,6 +13,8 @@ mod Both
 mod Oks
 mod Sinks
 mod Done
+mod Load
+mod Once
 mod Ordered
 mod Truths
 mod Stopped

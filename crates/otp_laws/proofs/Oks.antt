@@ -72,7 +72,7 @@ answer-told Q old c r o q h =
 abbrev pub Quiet : Outcome → Outcome → Type 0
 Quiet o new = new.state.replies ≡ o.state.replies
 
-end-quiet : (place : ℕ) (row : Row) (o : Outcome) → Quiet o (end_row place row o)
+pub end-quiet : (place : ℕ) (row : Row) (o : Outcome) → Quiet o (end_row place row o)
 unfolding end_row
 end-quiet place row o = by_test (Quiet o) (is_removed row) (with_rows (remove o.state.rows place) o) (set_row place row Undefined o) (λ _. refl) (λ _. refl)
 
@@ -86,13 +86,13 @@ use_exit-quiet p place o =
     let left : Outcome = with_waiting (without o.state.waiting place) o in
     at_number-survives (Quiet o) p end_row left refl (λ i row at has. end-quiet i row left)
 
-terminate-quiet : (e : Ending) (o : Outcome) → Quiet o (terminate e o)
+pub terminate-quiet : (e : Ending) (o : Outcome) → Quiet o (terminate e o)
 terminate-quiet e o =
     terminate-by (Quiet o) e o
     (λ _. stop_each-by (Quiet o) (λ p x _ h. use_exit-quiet p (position (is_exit p) x.state.waiting) x ∙ h) (λ p x _ h. tell-quiet p x ∙ h) (running o.state.rows) (calm_all (with_work [] [] (Some (sequel.End e)) o)) refl)
     (λ _. refl)
 
-restart-quiet : (k place : ℕ) (row : Row) (o : Outcome) → Quiet o (restart k place row o)
+pub restart-quiet : (k place : ℕ) (row : Row) (o : Outcome) → Quiet o (restart k place row o)
 unfolding restart_rows
 restart-quiet k place row o = restart-by (Quiet o) k place row o (λ _. terminate-quiet ending.Intensity (counted_restart place row o)) (λ _. refl)
 

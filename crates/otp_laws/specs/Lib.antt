@@ -5,5 +5,6 @@ pub mod Ids
 pub mod Life
 pub mod Musts
 pub mod Oks
+pub mod Once
 pub mod Simple
 pub mod Starts

@@ -1,10 +1,11 @@
 //! Laws over all states, events and histories. A law is a function that does nothing: what it ensures is the law.
 ghost use Rattle.otp_laws.specs.Down.{OkLeavesDown, OkLeavesDownFrom};
 ghost use Rattle.otp_laws.specs.Ids.{IdsApart, IdsStayApart, ProcessesNumbered, ProcessesNumberedFrom, ProcessesStayGone, ProcessesStayGoneFrom};
-ghost use Rattle.otp_laws.specs.Life.{EndsAfterAll, EndsAfterAllFrom, IdsStartAnew, IdsStartAnewFrom, OrdersEndAfterAll, OrdersStartAnew, RowsStartAnew, RowsStartAnewFrom};
+ghost use Rattle.otp_laws.specs.Life.{EndsAfterAll, EndsAfterAllFrom, IdsStartAnew, IdsStartAnewFrom, OrdersEndAfterAll, OrdersEndAfterStarts, OrdersStartAnew, RowsStartAnew, RowsStartAnewFrom};
 ghost use Rattle.otp_laws.specs.Musts.{DeletesUndefined, DeletesUndefinedFrom, SignificantEndsEnd};
 ghost use Rattle.otp_laws.specs.Notes.{NotesCountOnce, NotesCountOnceFrom, UnawaitedChangesNone, UnawaitedChangesNoneFrom};
 ghost use Rattle.otp_laws.specs.Oks.{AnswersTrue, AnswersTrueFrom};
+ghost use Rattle.otp_laws.specs.Once.{CallsAnsweredOnce, CallsAnsweredOnceFrom};
 ghost use Rattle.otp_laws.specs.Simple.{SimpleHasNoneUndefined};
 ghost use Rattle.otp_laws.specs.Starts.{EndOrdersEnd, StartsOfChildren, StartsOfChildrenFrom};
 
@@ -29,6 +30,7 @@ pub fn ends_come_between()
     ensures end { EndsAfterAll }
     ensures end_from_any { EndsAfterAllFrom }
     ensures end_order { OrdersEndAfterAll }
+    ensures end_of_orders { OrdersEndAfterStarts }
 {}
 
 /// No two children of a supervisor have one id, after every list of events (Supervisor Behaviour, Child Specification, id).
@@ -57,6 +59,14 @@ pub fn processes_stay_gone()
 pub fn answers_are_true()
     ensures from_empty { AnswersTrue }
     ensures from_any { AnswersTrueFrom }
+{}
+
+/// Each call is answered once: under each number as many calls were taken as were answered, wait, or have the open work. So
+/// none is lost, none is answered twice, and no answer is to a call that wasn't taken; a supervisor that has ended, for which
+/// nothing waits and no work is open, has answered all. It holds whatever happens, in lawful histories and others.
+pub fn calls_are_answered_once()
+    ensures from_empty { CallsAnsweredOnce }
+    ensures from_any { CallsAnsweredOnceFrom }
 {}
 
 /// After an event that answers `ok` to delete_child or terminate_child, that is so which the call asked for: no child has the id,
