@@ -42,11 +42,14 @@ starts-as flags specs events e id other p lawful same ordered =
     let h : StartsItsChild a e (effect.Start (Some other) p) = of_all (StartsItsChild a e) (step a e).orders (effect.Start (Some other) p) (starts_of_children_law flags specs events e lawful) ordered in
     (h.0, (h.1, h.2, passes id h.1.id h.1 refl (h.4 ∙ ap (λ (bytes : List ℕ). Some bytes) same), h.3))
 
+-- the history is lawful up to the first of the two events
+pub first_lawful : (base : State) (events between : List Event) (e f : Event) → IsLawfulHistory base (events ++ e ∷ between ++ f ∷ []) → IsLawfulHistory base (events ++ e ∷ [])
+first_lawful base events between e f lawful =
+    let whole : IsLawfulHistory base (events ++ e ∷ (between ++ f ∷ [])) = subst (λ (l : List Event). IsLawfulHistory base l) (in_two events between e f) lawful in
+    (split_lawful 0 base (events ++ e ∷ []) (between ++ f ∷ [])
+    (lawful_from_0 base ((events ++ e ∷ []) ++ (between ++ f ∷ [])) (subst (λ (l : List Event). IsLawfulHistory base l) (sym (append_assoc events (e ∷ []) (between ++ f ∷ []))) whole))).0.0
+
 pub orders_start_anew_law : OrdersStartAnew
 orders_start_anew_law flags specs events between e f id other p q opens lawful same first second =
-    let base : State = empty_state flags specs in
-    let whole : IsLawfulHistory base (events ++ e ∷ (between ++ f ∷ [])) = subst (λ (l : List Event). IsLawfulHistory base l) (in_two events between e f) lawful in
-    let start : IsLawfulHistory base (events ++ e ∷ []) =
-    (split_lawful 0 base (events ++ e ∷ []) (between ++ f ∷ [])
-    (lawful_from_0 base ((events ++ e ∷ []) ++ (between ++ f ∷ [])) (subst (λ (l : List Event). IsLawfulHistory base l) (sym (append_assoc events (e ∷ []) (between ++ f ∷ []))) whole))).0.0 in
+    let start : IsLawfulHistory (empty_state flags specs) (events ++ e ∷ []) = first_lawful (empty_state flags specs) events between e f lawful in
     ids_start_anew_law flags specs events between e f id p q opens lawful (starts-as flags specs events e id id p start refl first) (starts-as flags specs (events ++ e ∷ between) f id other q lawful same second)

@@ -23,10 +23,11 @@ use Rattle.otp_rules.specs.Needs.{IsLawfulHistory}
 use Rattle.otp_rules.proofs.Decisions.{by_test, decide-survives}
 use Rattle.otp_rules.proofs.Runs.{run_goes_on_law}
 use Rattle.otp_rules.proofs.Steady.{Goes, Steady, advance-goes, steady-survives}
-use Rattle.otp_laws.specs.Life.{OrdersEndAfterAll}
-use Rattle.otp_laws.specs.Starts.{EndsIf, EndOrdersEnd}
-use Rattle.otp_laws.proofs.Between.{of_all}
+use Rattle.otp_laws.specs.Life.{OrdersEndAfterAll, OrdersEndAfterStarts}
+use Rattle.otp_laws.specs.Starts.{EndsIf, EndOrdersEnd, StartsItsChild}
+use Rattle.otp_laws.proofs.Between.{first_lawful, of_all}
 use Rattle.otp_laws.proofs.Life.{ends_after_all_law, in_two}
+use Rattle.otp_laws.proofs.Starts.{starts_of_children_law}
 
 -- each End that was ordered is that of a supervisor that has ended
 abbrev Told : Outcome → Type 0
@@ -120,3 +121,11 @@ orders_end_after_all_law flags specs events between e f slot p end lawful first 
     let last : state_after base all ≡ (step b f).state = ap (λ (l : List Event). state_after base l) (sym (in_two events between e f)) ∙ (run_goes_on_law base (events ++ e ∷ between) f).0 in
     ends_after_all_law flags specs events (between ++ f ∷ []) e slot p (subst (λ (l : List Event). IsLawfulHistory base l) (in_two events between e f) lawful) first
     (ap (λ (x : State). is_over x.phase) last ∙ over)
+
+pub orders_end_after_starts_law : OrdersEndAfterStarts
+orders_end_after_starts_law flags specs events between e f id p end lawful ordered ends =
+    let base : State = empty_state flags specs in
+    let a : State = state_after base events in
+    let h : StartsItsChild a e (effect.Start id p) =
+    of_all (StartsItsChild a e) (step a e).orders (effect.Start id p) (starts_of_children_law flags specs events e (first_lawful base events between e f lawful)) ordered in
+    orders_end_after_all_law flags specs events between e f h.1.slot p end lawful (h.0, (h.1, h.2, refl, h.3)) ends

@@ -51,6 +51,15 @@ pub record Falling (t : RowState → Bool) : Type 0 where
   pub late : (p : ℕ) (d : Option ℕ) → t (Killed p) ≡ t (Asked p d)
   pub calm : (state : RowState) → t (calmed state) ≡ t state
 
+-- a child that is told to stop, is killed or has ended isn't brought into such a state
+pub record Sinking (t : RowState → Bool) : Type 0 where
+  pub down : t Undefined ≡ false
+  pub telling : (now p : ℕ) (s : Shutdown) (state : RowState) → has_process p state ≡ true → cond (t (told now p s)) 1 0 ≤ cond (t state) 1 0
+  pub late : (p : ℕ) (d : Option ℕ) → t (Killed p) ≡ t (Asked p d)
+
+pub sinking : (t : RowState → Bool) → Falling t → Sinking t
+sinking t f = record { down = f.down; telling = f.telling; late = f.late }
+
 -- so many are there at most
 abbrev pub AtMost : (RowState → Bool) → ℕ → Outcome → Type 0
 AtMost t c o = rows_in t o.state.rows ≤ c

@@ -312,7 +312,7 @@ set-none p place row o one at has =
     let c : ◌≡◌ {A = ℕ} (cond (has_process p row.state) 1 0) 1 = ap (λ (b : Bool). cond b 1 0) has in
     omega (arith, e, c, one)
 
-end-none : (p place : ℕ) (row : Row) (o : Outcome) → holders p o ≤ 1 → StandsAt place row o → has_process p row.state ≡ true → AtMost (has_process p) 0 (end_row place row o)
+pub end-none : (p place : ℕ) (row : Row) (o : Outcome) → holders p o ≤ 1 → StandsAt place row o → has_process p row.state ≡ true → AtMost (has_process p) 0 (end_row place row o)
 end-none p place row o one at has =
     let e : holders p (end_row place row o) + cond (has_process p row.state) 1 0 ≡ holders p o = rows_in-end (has_process p) refl place row o at in
     let c : ◌≡◌ {A = ℕ} (cond (has_process p row.state) 1 0) 1 = ap (λ (b : Bool). cond b 1 0) has in

@@ -11,8 +11,14 @@ mod Significant
 mod Deletes
 mod Both
 mod Oks
+mod Sinks
+mod Done
+mod Load
+mod Once
 mod Ordered
 mod Truths
+mod Stopped
+mod Down
 mod Starts
 mod Between
 mod EndOrders

@@ -31,7 +31,7 @@ use Rattle.otp_laws.specs.Life.{EndIsTaken, EndsAfterAll, EndsAfterAllFrom, IdsS
 use Rattle.otp_laws.proofs.Basis.{lawful_from_0, next_more, next_one, number_above, split_lawful}
 use Rattle.otp_laws.proofs.Ids.{ids_stay_apart_law, still_id}
 use Rattle.otp_laws.proofs.Specs.{few_specs, specs_apart}
-use Rattle.otp_laws.proofs.Still.{Few, IsStill, advance-few, few-survives}
+use Rattle.otp_laws.proofs.Still.{Few, IsStill, advance-few, apart, few-survives, split}
 
 -- a row in this slot that passes another test than this one
 abbrev pub is_other : ℕ → (Row → Bool) → Row → Bool
@@ -182,11 +182,6 @@ none_pass u none (row ∷ rows) =
     omega (arith, zero, none_pass u none rows, sum_by-cons (λ (r : Row). cond (u r) 1 0) row rows)
 
 -- rows that pass one of two tests pass the third
-apart : (t u v : Row → Bool) → ((row : Row) → cond (t row) 1 0 + cond (u row) 1 0 ≤ cond (v row) 1 0) → (rows : List Row) → count_by t rows + count_by u rows ≤ count_by v rows
-apart t u v less [] = omega arith
-apart t u v less (row ∷ rows) =
-    omega (arith, less row, apart t u v less rows, sum_by-cons (λ (r : Row). cond (t r) 1 0) row rows, sum_by-cons (λ (r : Row). cond (u r) 1 0) row rows, sum_by-cons (λ (r : Row). cond (v r) 1 0) row rows)
-
 never : (b : Bool) → (b && not true) ≡ false
 never true = refl
 never false = refl
@@ -212,11 +207,6 @@ one_slot slot t rows row one among is passes =
     let u : Row → Bool = λ r. has_slot slot r && t r in
     let here : 0 < count_by u rows = contains_counts u rows row among (and_from (has_slot slot row) (t row) (eq-eqb row.slot slot is) passes) in
     omega (arith, one, here, apart u (is_other slot t) (has_slot slot) (λ r. split (has_slot slot r) (t r)) rows)
-  where
-    split : (b c : Bool) → cond (b && c) 1 0 + cond (b && not c) 1 0 ≤ cond b 1 0
-    split true true = omega arith
-    split true false = omega arith
-    split false c = omega arith
 
 -- one id isn't that of two processes
 two_processes : (id : Name) (p q : ℕ) (rows : List Row) → (p ≡ q → ⊥) → count_by (has_id id) rows ≤ 1 → IsHeldAs rows id p → IsHeldAs rows id q → ⊥

@@ -72,7 +72,7 @@ answer-told Q old c r o q h =
 abbrev pub Quiet : Outcome → Outcome → Type 0
 Quiet o new = new.state.replies ≡ o.state.replies
 
-end-quiet : (place : ℕ) (row : Row) (o : Outcome) → Quiet o (end_row place row o)
+pub end-quiet : (place : ℕ) (row : Row) (o : Outcome) → Quiet o (end_row place row o)
 unfolding end_row
 end-quiet place row o = by_test (Quiet o) (is_removed row) (with_rows (remove o.state.rows place) o) (set_row place row Undefined o) (λ _. refl) (λ _. refl)
 
@@ -86,13 +86,13 @@ use_exit-quiet p place o =
     let left : Outcome = with_waiting (without o.state.waiting place) o in
     at_number-survives (Quiet o) p end_row left refl (λ i row at has. end-quiet i row left)
 
-terminate-quiet : (e : Ending) (o : Outcome) → Quiet o (terminate e o)
+pub terminate-quiet : (e : Ending) (o : Outcome) → Quiet o (terminate e o)
 terminate-quiet e o =
     terminate-by (Quiet o) e o
     (λ _. stop_each-by (Quiet o) (λ p x _ h. use_exit-quiet p (position (is_exit p) x.state.waiting) x ∙ h) (λ p x _ h. tell-quiet p x ∙ h) (running o.state.rows) (calm_all (with_work [] [] (Some (sequel.End e)) o)) refl)
     (λ _. refl)
 
-restart-quiet : (k place : ℕ) (row : Row) (o : Outcome) → Quiet o (restart k place row o)
+pub restart-quiet : (k place : ℕ) (row : Row) (o : Outcome) → Quiet o (restart k place row o)
 unfolding restart_rows
 restart-quiet k place row o = restart-by (Quiet o) k place row o (λ _. terminate-quiet ending.Intensity (counted_restart place row o)) (λ _. refl)
 
@@ -128,7 +128,7 @@ ok-said s k c o down h = answer-told (λ (a : Answered). AtOnce s k a.call a.rep
 spec-said : (s : State) (k : Kind) (c : ℕ) (spec : ChildSpec) (o : Outcome) → Said s k o → Said s k (answer c (reply.Spec spec) o)
 spec-said s k c spec o h = answer-told (λ (a : Answered). AtOnce s k a.call a.reply) s.replies c (reply.Spec spec) o tt h
 
-first_found : (test : Row → Bool) (place : ℕ) (row : Row) (o : Outcome) → StandsAt place row o → position test o.state.rows ≡ Some place → IsFirstRow (λ other. test other ≡ true) o.state.rows place row
+pub first_found : (test : Row → Bool) (place : ℕ) (row : Row) (o : Outcome) → StandsAt place row o → position test o.state.rows ≡ Some place → IsFirstRow (λ other. test other ≡ true) o.state.rows place row
 first_found test place row o at found =
     record {
       at = at;
@@ -328,7 +328,7 @@ at_starting-is P p f o x each = at_number-survives P p (λ place row. if_startin
 pub at_starting-by : (P : Outcome → Type 0) (p : ℕ) (f : ℕ → ℕ → Row → Outcome → Outcome) (o : Outcome) → P o → ((kept place : ℕ) (row : Row) → StandsAt place row o → P (f kept place row o)) → P (at_starting p f o)
 at_starting-by P p f o x each = at_starting-is P p f o x (λ kept place row at starts. each kept place row at)
 
-among-at : (place : ℕ) (row : Row) (rows : List Row) → slice_get rows place ≡ Some row → Contains rows row
+pub among-at : (place : ℕ) (row : Row) (rows : List Row) → slice_get rows place ≡ Some row → Contains rows row
 among-at place row rows at = (place, slice_get_within rows place row at, get_or_from_slice_get rows place row row at)
 
 pub set-among : (place : ℕ) (row new : Row) (rows : List Row) → slice_get rows place ≡ Some row → Contains (slice_set rows place new) new

@@ -1,11 +1,11 @@
--- While a call's start is awaited, the child that is starting is the one that the call asks for.
-use Rattle.std.specs.Prelude.{◌≡◌, ◌⊎◌, ℕ, ◌≤◌, ◌<◌, ◌++◌, Bool, true, false, List, [], ◌∷◌, Option, None, Some, Contains, refl, if◌then◌else◌, is_some, map, count_by}
+-- While a call's start is awaited, the child that is starting is the one that the call asks for, under a number that its work ordered.
+use Rattle.std.specs.Prelude.{◌≡◌, ◌⊎◌, ℕ, ◌≤◌, ◌<◌, ◌++◌, Bool, true, false, List, [], ◌∷◌, Option, None, Some, Contains, refl, if◌then◌else◌, is_some, map, count_by, unwrap_or}
 use Rattle.std.specs.List.{cons_option, filter_map}
 use Rattle.std.specs.Option.{option_eq}
 use Rattle.std.specs.Ordering.{on}
 use Rattle.std.specs.Str.{bytes_eq}
 use Rattle.std.proofs.Common.{◌∙◌, ap, sym, subst, arith, ⊎_elim}
-use Rattle.std.proofs.lemmas.Bool.{and_from, and_parts, false≢true}
+use Rattle.std.proofs.lemmas.Bool.{and_from, and_parts, eqb-true, false≢true}
 use Rattle.std.proofs.lemmas.List.Elements.{Contains-append_left, Contains-append_right}
 use Rattle.std.proofs.lemmas.List.{map-append}
 use Rattle.std.proofs.lemmas.Slice.Eq.{bytes_eq-Decides}
@@ -49,7 +49,7 @@ own_id (Some a) = (bytes_eq-Decides (name_bytes a) (name_bytes a)).1 refl
 
 -- what lists contain
 
-contains_map : {X Y : Type 0} (f : X → Y) (xs : List X) (x : X) → Contains xs x → Contains (map f xs) (f x)
+pub contains_map : {X Y : Type 0} (f : X → Y) (xs : List X) (x : X) → Contains xs x → Contains (map f xs) (f x)
 contains_map f [] x c = absurd (omega (arith, c.1))
 contains_map f (y ∷ ys) x (zero, within, is) = (zero, omega arith, ap f is)
 contains_map f (y ∷ ys) x (suc k, within, is) = let rest = contains_map f ys x (k, omega (arith, within), is) in (suc rest.0, omega (arith, rest.1), rest.2)
@@ -103,22 +103,22 @@ starting_awaits q (Asked _ _) h = absurd (false≢true h)
 starting_awaits q (Killed _) h = absurd (false≢true h)
 starting_awaits q (Restarting _) h = absurd (false≢true h)
 
--- an ordered start of this id
-abbrev HasOrder : List Ordered → Option Name → Type 0
-HasOrder ordered id = (x : Ordered) × Contains ordered x × (id_bytes x.id ≡ id_bytes id)
+-- an ordered start of this id, under this number
+abbrev HasOrder : List Ordered → Option Name → ℕ → Type 0
+HasOrder ordered id q = (x : Ordered) × Contains ordered x × (id_bytes x.id ≡ id_bytes id) × (x.number ≡ q)
 
-renamed : (ordered : List Ordered) (a b : Option Name) → id_bytes a ≡ id_bytes b → HasOrder ordered a → HasOrder ordered b
-renamed ordered a b same x = (x.0, x.1, x.2 ∙ same)
+renamed : (ordered : List Ordered) (a b : Option Name) (q : ℕ) → id_bytes a ≡ id_bytes b → HasOrder ordered a q → HasOrder ordered b q
+renamed ordered a b q same x = (x.0, x.1, x.2 ∙ same, x.3)
 
-heard_too : (k : Kind) (ordered : List Ordered) (id : Option Name) → HasOrder ordered id → HasOrder (map (heard k) ordered) id
-heard_too k ordered id x = (heard k x.0, contains_map (heard k) ordered x.0 x.1, x.2)
+heard_too : (k : Kind) (ordered : List Ordered) (id : Option Name) (q : ℕ) → HasOrder ordered id q → HasOrder (map (heard k) ordered) id q
+heard_too k ordered id q x = (heard k x.0, contains_map (heard k) ordered x.0 x.1, x.2, x.3)
 
-and_more : (ordered more : List Ordered) (id : Option Name) → HasOrder ordered id → HasOrder (ordered ++ more) id
-and_more ordered more id x = (x.0, Contains-append_left ordered more x.0 x.1, x.2)
+and_more : (ordered more : List Ordered) (id : Option Name) (q : ℕ) → HasOrder ordered id q → HasOrder (ordered ++ more) id q
+and_more ordered more id q x = (x.0, Contains-append_left ordered more x.0 x.1, x.2, x.3)
 
 -- the decision
 seen-ordered : (s : State) (e : Event) (g : Progress) → IsSound s → Tracks s.follows (decided s e) → StartsAreOrdered s g → is_call_start (decided s e).follows ≡ true
-    → (row : Row) (q : ℕ) → Contains (decided s e).rows row → is_starting q row.state ≡ true → HasOrder (seen s e g).ordered row.id
+    → (row : Row) (q : ℕ) → Contains (decided s e).rows row → is_starting q row.state ≡ true → HasOrder (seen s e g).ordered row.id q
 seen-ordered s e g sound tracked h call row q among starts =
     let u : Row → Bool = same_id row.id in
     let t : RowState → Bool = is_starting q in
@@ -129,10 +129,10 @@ seen-ordered s e g sound tracked h call row q among starts =
     ⊎_elim
     (λ (same : (decided s e).follows ≡ s.follows).
     let call_then : is_call_start s.follows ≡ true = ap is_call_start (sym same) ∙ call in
-    let x : HasOrder g.ordered old.0.id = h call_then old.0 q old.1 parts.1 in
+    let x : HasOrder g.ordered old.0.id q = h call_then old.0 q old.1 parts.1 in
     let unopened : is_opened s.follows (decided s e).follows ≡ false = opens_none_again s.follows (decided s e).follows call_then in
     let is_seen : seen s e g ≡ went_on e.kind g = ap (λ (b : Bool). if b then opened_now s (taken e.kind s.waiting) (decided s e) else went_on e.kind g) unopened in
-    subst (λ (y : Progress). HasOrder y.ordered row.id) (sym is_seen) (heard_too e.kind g.ordered row.id (renamed g.ordered old.0.id row.id (one_id old.0.id row.id parts.0) x)))
+    subst (λ (y : Progress). HasOrder y.ordered row.id q) (sym is_seen) (heard_too e.kind g.ordered row.id q (renamed g.ordered old.0.id row.id q (one_id old.0.id row.id parts.0) x)))
     (λ rest.
     ⊎_elim (λ (none : (decided s e).follows ≡ None). absurd (false≢true (sym (ap is_call_start none) ∙ call)))
     (λ (opened : is_opened s.follows (decided s e).follows ≡ true).
@@ -157,13 +157,14 @@ step-ordered s e g sound tracked left h call row q among starts =
     (λ (less : count_by (both u t) (step s e).state.rows ≤ count_by (both u t) (decided s e).rows).
     let old : (r : Row) × Contains (decided s e).rows r × (both u t r ≡ true) = counts_contain (both u t) (decided s e).rows (omega (arith, here, less)) in
     let parts = and_parts (u old.0) (t old.0.state) old.2 in
-    let x : HasOrder ordered old.0.id = seen-ordered s e g sound tracked h call_then old.0 q old.1 parts.1 in
-    and_more ordered more row.id (renamed ordered old.0.id row.id (one_id old.0.id row.id parts.0) x))
-    (λ (begun : Begins (λ id. id_bytes id ≡ id_bytes row.id) (step s e)).
+    let x : HasOrder ordered old.0.id q = seen-ordered s e g sound tracked h call_then old.0 q old.1 parts.1 in
+    and_more ordered more row.id q (renamed ordered old.0.id row.id q (one_id old.0.id row.id parts.0) x))
+    (λ (begun : Begins (λ id n. (id_bytes id ≡ id_bytes row.id) × (n ≡ q)) (step s e)).
     let x : Ordered = record { id = begun.0; number = begun.1; answered = false } in
-    (x, Contains-append_right ordered more x (contains_some started (step s e).orders (effect.Start begun.0 begun.1) x begun.2 refl), begun.3))
-    (step-most u t (λ state r. refl) (starting-falling q) (λ id. id_bytes id ≡ id_bytes row.id)
-    (λ due r has passes. sym (one_id r.id due.id (and_parts (option_eq (on name_bytes bytes_eq) r.id due.id) (is_undefined r.state) has).0) ∙ one_id r.id row.id passes) s e))
+    (x, Contains-append_right ordered more x (contains_some started (step s e).orders (effect.Start begun.0 begun.1) x begun.2 refl), begun.3.0, begun.3.1))
+    (step-most u t (λ state r. refl) (starting-falling q) (λ id n. (id_bytes id ≡ id_bytes row.id) × (n ≡ q)) s e
+    (λ due r kept has passes starting.
+    (sym (one_id r.id due.id (and_parts (option_eq (on name_bytes bytes_eq) r.id due.id) (is_undefined r.state) has).0) ∙ one_id r.id row.id passes, eqb-true (unwrap_or e.number 0) q starting))))
     (λ (none : is_some (step s e).state.follows ≡ false). absurd (false≢true (sym none ∙ busy (step s e).state.follows call)))
     left
   where

@@ -1,6 +1,6 @@
 -- How many rows have what no change of their state touches: their slot, their id, their specification. Only a child that is
 -- added, and an opening, makes them more.
-use Rattle.std.specs.Prelude.{◌≡◌, ℕ, ◌+◌, ◌≤◌, ◌++◌, not, Bool, true, List, [], ◌∷◌, Option, None, Some, refl, position, is_some, slice_set, slice_range, remove, unwrap_or, take, drop, map, count_by}
+use Rattle.std.specs.Prelude.{◌≡◌, ℕ, ◌+◌, ◌≤◌, ◌++◌, ◌&&◌, not, Bool, true, false, List, [], ◌∷◌, Option, None, Some, refl, position, is_some, slice_set, slice_range, remove, unwrap_or, take, drop, map, count_by}
 use Rattle.std.proofs.Common.{◌∙◌, ap, arith, cond}
 use Rattle.std.proofs.lemmas.List.Folds.{drop_split}
 use Rattle.std.proofs.lemmas.List.Sums.{sum_by-append, sum_by-cons, sum_by-take-drop}
@@ -158,3 +158,14 @@ going-few t still c n =
 -- and so does the work that goes on
 pub advance-few : (t : Row → Bool) → IsStill t → (c n : ℕ) (o : Outcome) → Few t c o → Few t c (advance n o)
 advance-few t still c n o h = advance-on n (λ _. Few t c) (Few t c) (going-few t still c n) o (λ _. h) (λ _ _. h)
+
+-- two tests that no row passes together
+pub apart : (t u v : Row → Bool) → ((row : Row) → cond (t row) 1 0 + cond (u row) 1 0 ≤ cond (v row) 1 0) → (rows : List Row) → count_by t rows + count_by u rows ≤ count_by v rows
+apart t u v less [] = omega arith
+apart t u v less (row ∷ rows) =
+    omega (arith, less row, apart t u v less rows, sum_by-cons (λ (r : Row). cond (t r) 1 0) row rows, sum_by-cons (λ (r : Row). cond (u r) 1 0) row rows, sum_by-cons (λ (r : Row). cond (v r) 1 0) row rows)
+
+pub split : (b c : Bool) → cond (b && c) 1 0 + cond (b && not c) 1 0 ≤ cond b 1 0
+split true true = omega arith
+split true false = omega arith
+split false c = omega arith

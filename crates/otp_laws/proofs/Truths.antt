@@ -24,7 +24,7 @@ use Rattle.otp_rules.specs.Ends.{end_all, refuse_all, refused}
 use Rattle.otp_rules.specs.Work.{advance, follow, start_first}
 use Rattle.otp_rules.specs.Step.{decide, stamped, step, step_on}
 use Rattle.otp_rules.specs.Run.{empty_state, state_after}
-use Rattle.otp_rules.specs.Progress.{Ordered, Progress, decided, ends_together, gave, id_bytes, is_end, is_opened, no_progress, opened_now, processes, progress, seen, start_list, taken, went_on, IsAbout, IsPart}
+use Rattle.otp_rules.specs.Progress.{Ordered, Progress, decided, ends_together, gave, heard, id_bytes, is_end, is_opened, no_progress, opened_now, processes, progress, seen, start_list, taken, went_on, IsAbout, IsPart}
 use Rattle.otp_rules.specs.Fit.{times, HasPart, HasStops, HasWaiting, IsFit, IsLawfulFrom, IsListed, IsSound, Keeps, KeepsStarts}
 use Rattle.otp_rules.proofs.GoesOn.{GoesOn, advance-on}
 use Rattle.otp_rules.proofs.Walks.{advance-by, stop_first-by, with_stops}
@@ -38,14 +38,14 @@ use Rattle.otp_rules.proofs.Taken.{decided-keeps}
 use Rattle.otp_rules.proofs.WhileOpen.{Stays, Tracks, While, while-survives}
 use Rattle.otp_laws.specs.Oks.{AnswersTrue, AnswersTrueFrom, HasComeUp, HasStopped, IsOfOpened, IsTrue, StartsAreOrdered, TellsTruth, is_call_start}
 use Rattle.otp_table.specs.declared.row.Row.{Row}
-use Rattle.otp_laws.proofs.Ordered.{ordered-child, step-ordered}
+use Rattle.otp_laws.proofs.Ordered.{contains_map, ordered-child, step-ordered}
 use Rattle.otp_laws.proofs.Basis.{empty_basis, lawful_from_0, stays_basis}
 use Rattle.otp_laws.proofs.Oks.{AtOnce, CameUp, Said, Told, answer-told, decided-answers, kept-told, start-quiet, tell-quiet, use_exit-quiet}
 
 -- open work is the one that was opened last
 
 -- a decision leaves what followed the open work, closes it, or opens work
-tracked : (s : State) (e : Event) → IsSound s → Tracks s.follows (decided s e)
+pub tracked : (s : State) (e : Event) → IsSound s → Tracks s.follows (decided s e)
 tracked s e sound =
     let start : Outcome = record { state = stamped e.reading s; orders = [] } in
     let Q : State → Type 0 = λ t. Unit {0} in
@@ -121,49 +121,50 @@ noproc-true s e g (waiting.Item (item.Call c x) ∷ ws) = All-cons (Truth s e g)
 noproc-true s e g (waiting.Retry k ∷ ws) = noproc-true s e g ws
 
 -- what was to be stopped has ended
-stopped-true : (g : Progress) (c : ℕ) (o : Outcome) → g.opened.follows ≡ o.state.follows → o.state.follows ≡ Some (sequel.Stopped c) → HasDone g [] o → HasStopped g c
-stopped-true g c o same is done =
+stopped-true : (s : State) (e : Event) (g : Progress) (c : ℕ) (o : Outcome) → (decided s e).follows ≡ o.state.follows → g.opened.follows ≡ o.state.follows → o.state.follows ≡ Some (sequel.Stopped c) → HasDone g [] o → HasStopped s e g c
+stopped-true s e g c o now same is done =
     let apart : ends_together o.state ≡ false = ap (λ (f : Option Sequel). is_end f && is_simple o.state.flags.strategy) is in
     let d : IsDone g [] = done apart in
     let listed : IsListed g = d.0 in
     let all : reverse (processes listed.0) ≡ d.1 = sym listed.6 ∙ d.2 ∙ append-nil d.1 in
     record {
       follows = same ∙ is;
+      now = now ∙ is;
       part = listed.0;
       is = listed.1;
       ended = λ q i. d.3 q (let e : times q (reverse (processes listed.0)) ≡ times q d.1 = ap (λ (ps : List ℕ). times q ps) all in omega (arith, i, e, times-reverse q (processes listed.0)));
     }
 
-follow-true : (s : State) (e : Event) (g : Progress) (f : Option Sequel) (o : Outcome) → o.state.follows ≡ f → g.opened.follows ≡ o.state.follows → HasDone g [] o → Told (Truth s e g) s.replies o → Told (Truth s e g) s.replies (follow f o)
+follow-true : (s : State) (e : Event) (g : Progress) (f : Option Sequel) (o : Outcome) → (decided s e).follows ≡ o.state.follows → o.state.follows ≡ f → g.opened.follows ≡ o.state.follows → HasDone g [] o → Told (Truth s e g) s.replies o → Told (Truth s e g) s.replies (follow f o)
 unfolding follow end_all refuse_all
-follow-true s e g None o is same done h = h
-follow-true s e g (Some sequel.Ready) o is same done h = h
-follow-true s e g (Some sequel.Nothing) o is same done h = h
-follow-true s e g (Some (sequel.Added c)) o is same done h = answer-told (Truth s e g) s.replies c reply.OkUndefined (closed o) tt h
-follow-true s e g (Some (sequel.Restarted c)) o is same done h = answer-told (Truth s e g) s.replies c reply.OkUndefined (closed o) tt h
-follow-true s e g (Some (sequel.Stopped c)) o is same done h = answer-told (Truth s e g) s.replies c reply.Ok (closed o) (inr (stopped-true g c o same is done)) h
-follow-true s e g (Some (sequel.End x)) o is same done h =
+follow-true s e g None o now is same done h = h
+follow-true s e g (Some sequel.Ready) o now is same done h = h
+follow-true s e g (Some sequel.Nothing) o now is same done h = h
+follow-true s e g (Some (sequel.Added c)) o now is same done h = answer-told (Truth s e g) s.replies c reply.OkUndefined (closed o) tt h
+follow-true s e g (Some (sequel.Restarted c)) o now is same done h = answer-told (Truth s e g) s.replies c reply.OkUndefined (closed o) tt h
+follow-true s e g (Some (sequel.Stopped c)) o now is same done h = answer-told (Truth s e g) s.replies c reply.Ok (closed o) (inr (stopped-true s e g c o now same is done)) h
+follow-true s e g (Some (sequel.End x)) o now is same done h =
     let more : List Answered = filter_map refused o.state.waiting in
     (h.0 ++ more, ap (λ (l : List Answered). l ++ more) h.1 ∙ append_assoc s.replies h.0 more, All-append (Truth s e g) h.0 more h.2 (noproc-true s e g o.state.waiting))
 
-start_first-true : (s : State) (e : Event) (g : Progress) (dues : List Due) (n : ℕ) (o : Outcome) → g.opened.follows ≡ o.state.follows → HasDone g [] o → Told (Truth s e g) s.replies o → Told (Truth s e g) s.replies (start_first dues n o)
+start_first-true : (s : State) (e : Event) (g : Progress) (dues : List Due) (n : ℕ) (o : Outcome) → (decided s e).follows ≡ o.state.follows → g.opened.follows ≡ o.state.follows → HasDone g [] o → Told (Truth s e g) s.replies o → Told (Truth s e g) s.replies (start_first dues n o)
 unfolding start_first
-start_first-true s e g [] n o same done h = follow-true s e g o.state.follows o refl same done h
-start_first-true s e g (due ∷ dues) n o same done h =
+start_first-true s e g [] n o now same done h = follow-true s e g o.state.follows o now refl same done h
+start_first-true s e g (due ∷ dues) n o now same done h =
     let left : Outcome = with_work o.state.to_stop dues o.state.follows o in
     kept-told (Truth s e g) s.replies left (start due n left) (start-quiet due n left) h
 
 -- so many are still to be stopped
 abbrev Going : State → Event → Progress → List ℕ → Outcome → Type 0
-Going s e g ps o = IsReady ps o × HasWaiting o.state g × HasDone g ps o × (g.opened.follows ≡ o.state.follows) × Told (Truth s e g) s.replies o
+Going s e g ps o = IsReady ps o × HasWaiting o.state g × HasDone g ps o × (g.opened.follows ≡ o.state.follows) × Told (Truth s e g) s.replies o × ((decided s e).follows ≡ o.state.follows)
 
-advance-true : (s : State) (e : Event) (g : Progress) (n : ℕ) (o : Outcome) → IsSound o.state → Keeps o.state g → IsOfOpened o.state g → Told (Truth s e g) s.replies o → Told (Truth s e g) s.replies (advance n o)
-advance-true s e g n o sound keeps opened told =
+advance-true : (s : State) (e : Event) (g : Progress) (n : ℕ) (o : Outcome) → (decided s e).follows ≡ o.state.follows → IsSound o.state → Keeps o.state g → IsOfOpened o.state g → Told (Truth s e g) s.replies o → Told (Truth s e g) s.replies (advance n o)
+advance-true s e g n o now sound keeps opened told =
     advance-by (Told (Truth s e g) s.replies) n o (λ _. told)
     (λ busy none.
     let zero = none_in is_awaited o.state.rows none in
     let had : HasWaiting o.state g × HasStops o.state g = keeps busy in
-    stop_first-by (Going s e g) (Told (Truth s e g) s.replies) n (λ x h. start_first-true s e g x.state.to_start n x h.3 h.2 h.4)
+    stop_first-by (Going s e g) (Told (Truth s e g) s.replies) n (λ x h. start_first-true s e g x.state.to_start n x h.5 h.3 h.2 h.4)
     (λ p rest x waits h.
     let place : Option ℕ = position (is_exit p) x.state.waiting in
     let left : Outcome = with_stops rest x in (
@@ -172,9 +173,10 @@ advance-true s e g n o sound keeps opened told =
       used-done g p rest place x (h.1 p (there (is_exit p) x.state.waiting (waiting.Retry 0) waits)) h.2,
       h.3 ∙ sym (use_exit-alike p place left).4,
       kept-told (Truth s e g) s.replies x (use_exit p place left) (use_exit-quiet p place left) h.4,
+      h.5 ∙ sym (use_exit-alike p place left).4,
     ))
     (λ p rest x _ h. let left : Outcome = with_stops rest x in kept-told (Truth s e g) s.replies left (tell p left) (tell-quiet p left) h.4) o.state.to_stop o
-    ((sound, zero, refl, busy), had.0, (λ apart. all-done o.state g zero (had.1 apart)), opened busy, told))
+    ((sound, zero, refl, busy), had.0, (λ apart. all-done o.state g zero (had.1 apart)), opened busy, told, now))
 
 at_once-true : (s : State) (e : Event) (g : Progress) (c : ℕ) (r : Reply) → AtOnce s e.kind c r → IsTrue s e g c r
 at_once-true s e g c reply.Ok h = inl h
@@ -213,15 +215,19 @@ came-up-true s e g keeps starts opened ordered h =
         let child : (child : Row) × (part ≡ child ∷ []) = single part (subst (λ (x : Option Sequel). IsAbout g.took g.before x g.opened part) work listed.1) in
         let ids : map (λ (y : Due). id_bytes y.id) g.opened.to_start ≡ map (λ (y : Row). id_bytes y.id) part =
         listed.7 ∙ ap (λ (x : Option Sequel). map (λ (y : Row). id_bytes y.id) (start_list x part)) work ∙ ap (λ (l : List Row). map (λ (y : Row). id_bytes y.id) l) (all part) in
-        let order : (x : Ordered) × Contains g.ordered x × (id_bytes x.id ≡ id_bytes h.was.id) = ordered (ap is_call_start is ∙ calls) h.was h.p h.there h.started in
+        let order : (x : Ordered) × Contains g.ordered x × (id_bytes x.id ≡ id_bytes h.was.id) × (x.number ≡ h.p) = ordered (ap is_call_start is ∙ calls) h.was h.p h.there h.started in
         let named : id_bytes order.0.id ≡ id_bytes child.0.id = ordered-child s g order.0 child.0 part (starts busy) ids child.1 order.1 in
         let one : Answered = record { call = h.c; reply = reply.OkProcess h.p } in
         let true_one : HasComeUp s e (went_on e.kind g) h.c h.p =
         record {
+          now = is ∙ sym work;
           follows = ⊎_elim (λ (x : f ≡ Some (sequel.Added h.c)). inl (work ∙ x)) (λ (x : f ≡ Some (sequel.Restarted h.c)). inr (work ∙ x)) which;
           child = child.0;
           is = subst (λ (l : List Row). IsPart g l) child.1 listed.1;
           takes = h.takes;
+          start = heard e.kind order.0;
+          since = contains_map (heard e.kind) g.ordered order.0 order.1;
+          number = order.3;
           row = h.row;
           among = h.among;
           up = h.up;
@@ -240,7 +246,7 @@ said-true : (s : State) (e : Event) (g : Progress) → IsSound (decided s e) →
 unfolding step step_on
 said-true s e g sound keeps opened h =
     let d : Outcome = decide e.kind (record { state = stamped e.reading s; orders = [] }) in
-    advance-true s e (seen s e g) (unwrap_or e.number 0) d sound keeps opened (h.0, h.1, λ i x within. at_once-true s e (seen s e g) (get_or h.0 i x).call (get_or h.0 i x).reply (h.2 i x within))
+    advance-true s e (seen s e g) (unwrap_or e.number 0) d refl sound keeps opened (h.0, h.1, λ i x within. at_once-true s e (seen s e g) (get_or h.0 i x).call (get_or h.0 i x).reply (h.2 i x within))
 
 step-true : (s : State) (e : Event) (g : Progress) → IsSound s → Keeps s g → KeepsStarts s g → IsOfOpened s g → StartsAreOrdered s g → TellsTruth s e (seen s e g)
 step-true s e g sound keeps starts opened ordered =

@@ -1,8 +1,10 @@
 pub mod Basis
+pub mod Down
 pub mod Notes
 pub mod Ids
 pub mod Life
 pub mod Musts
 pub mod Oks
+pub mod Once
 pub mod Simple
 pub mod Starts

@@ -1,7 +1,7 @@
 -- From a child's start to the note of its end, over whole histories (Supervisor Behaviour, Restart Strategy and Stopping:
 -- a child is started again only when it has ended).
 use Rattle.std.specs.List.{list_any}
-use Rattle.std.specs.Prelude.{◌≤◌, length, false, ◌≡◌, ◌++◌, ℕ, true, None, List, [], ◌∷◌, Some, Contains}
+use Rattle.std.specs.Prelude.{◌≤◌, length, false, ◌≡◌, ◌++◌, ℕ, true, None, List, [], ◌∷◌, Option, Some, Contains}
 use Rattle.otp_reason.specs.declared.name.Name.{Name}
 use Rattle.otp_reason.specs.Names.{name_bytes}
 use Rattle.otp_spec.specs.declared.child.ChildSpec.{ChildSpec}
@@ -100,4 +100,12 @@ abbrev pub OrdersEndAfterAll : Type 0
 OrdersEndAfterAll =
     (flags : SupFlags) (specs : List ChildSpec) (events between : List Event) (e f : Event) (slot p : ℕ) (end : SupEnd)
     → IsLawfulHistory (empty_state flags specs) (events ++ e ∷ between ++ f ∷ []) → StartsIn (state_after (empty_state flags specs) events) e slot p
+    → Contains (step (state_after (empty_state flags specs) (events ++ e ∷ between)) f).orders (effect.End end) → EndIsTaken (between ++ f ∷ []) p
+
+-- and from order to order: nor is it after an order to start a child
+abbrev pub OrdersEndAfterStarts : Type 0
+OrdersEndAfterStarts =
+    (flags : SupFlags) (specs : List ChildSpec) (events between : List Event) (e f : Event) (id : Option Name) (p : ℕ) (end : SupEnd)
+    → IsLawfulHistory (empty_state flags specs) (events ++ e ∷ between ++ f ∷ [])
+    → Contains (step (state_after (empty_state flags specs) events) e).orders (effect.Start id p)
     → Contains (step (state_after (empty_state flags specs) (events ++ e ∷ between)) f).orders (effect.End end) → EndIsTaken (between ++ f ∷ []) p

@@ -22,7 +22,7 @@ use Rattle.otp_rules.specs.Step.{step}
 use Rattle.otp_rules.specs.Run.{empty_state, state_after}
 use Rattle.otp_rules.specs.Needs.{IsLawfulHistory}
 use Rattle.otp_rules.specs.Homes.{Brings}
-use Rattle.otp_rules.specs.Progress.{Ordered, Progress, id_bytes, no_progress, process_number, processes, IsFirstRow, IsIn, IsPart}
+use Rattle.otp_rules.specs.Progress.{Ordered, Progress, decided, id_bytes, no_progress, process_number, processes, IsFirstRow, IsIn, IsPart}
 use Rattle.otp_rules.specs.Fit.{is_starting, IsLawfulFrom}
 use Rattle.otp_rules.specs.Order.{progress_at}
 use Rattle.otp_laws.specs.Basis.{IsBasis}
@@ -44,20 +44,26 @@ pub record IsDownAlready (s : State) (k : Kind) (c : ℕ) : Type 0 where
   pub named : Names asked s.rows place row
   pub down : process_number row.state ≡ None
 
--- the open work is that of this call to terminate a child, and the child's process has ended: the note Exit was taken
-pub record HasStopped (g : Progress) (c : ℕ) : Type 0 where
+-- the open work, before it goes on, is that of this call to terminate a child, and the child's process has ended: the note
+-- Exit was taken
+pub record HasStopped (s : State) (e : Event) (g : Progress) (c : ℕ) : Type 0 where
   pub follows : g.opened.follows ≡ Some (sequel.Stopped c)
+  pub now : (decided s e).follows ≡ Some (sequel.Stopped c)
   pub part : List Row
   pub is : IsPart g part
   pub ended : (q : ℕ) → IsIn q (processes part) → IsIn q g.ended
 
 -- the open work is that of this call to start a child, or to start it again; the event takes the note that the process
--- came up, and after it a child with the id that the call asks for has it, and is up
+-- came up, whose start this work has ordered; and after it a child with the id that the call asks for has it, and is up
 pub record HasComeUp (s : State) (e : Event) (g : Progress) (c p : ℕ) : Type 0 where
   pub follows : (g.opened.follows ≡ Some (sequel.Added c)) ⊎ (g.opened.follows ≡ Some (sequel.Restarted c))
+  pub now : s.follows ≡ g.opened.follows
   pub child : Row
   pub is : IsPart g (child ∷ [])
   pub takes : Brings e.kind s.waiting (item.Note (note.Up p))
+  pub start : Ordered
+  pub since : Contains g.ordered start
+  pub number : start.number ≡ p
   pub row : Row
   pub among : Contains (step s e).state.rows row
   pub up : row.state ≡ Up p
@@ -65,7 +71,7 @@ pub record HasComeUp (s : State) (e : Event) (g : Progress) (c p : ℕ) : Type 0
 
 -- what an answer says
 abbrev pub IsTrue : State → Event → Progress → ℕ → Reply → Type 0
-IsTrue s e g c reply.Ok = IsDownAlready s e.kind c ⊎ HasStopped g c
+IsTrue s e g c reply.Ok = IsDownAlready s e.kind c ⊎ HasStopped s e g c
 IsTrue s e g c (reply.OkProcess p) = HasComeUp s e g c p
 IsTrue s e g c _ = Unit {0}
 
@@ -83,9 +89,9 @@ is_call_start _ = false
 abbrev pub IsOfOpened : State → Progress → Type 0
 IsOfOpened s g = is_some s.follows ≡ true → g.opened.follows ≡ s.follows
 
--- a start that is awaited for a call is among those that the work has ordered, of the same id
+-- a start that is awaited for a call is among those that the work has ordered, of the same id and under its number
 abbrev pub StartsAreOrdered : State → Progress → Type 0
-StartsAreOrdered s g = is_call_start s.follows ≡ true → (row : Row) (q : ℕ) → Contains s.rows row → is_starting q row.state ≡ true → (x : Ordered) × Contains g.ordered x × (id_bytes x.id ≡ id_bytes row.id)
+StartsAreOrdered s g = is_call_start s.follows ≡ true → (row : Row) (q : ℕ) → Contains s.rows row → is_starting q row.state ≡ true → (x : Ordered) × Contains g.ordered x × (id_bytes x.id ≡ id_bytes row.id) × (x.number ≡ q)
 
 -- so it is after each lawful history from such a basis
 abbrev pub AnswersTrueFrom : Type 0

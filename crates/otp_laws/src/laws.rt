@@ -1,9 +1,11 @@
 //! Laws over all states, events and histories. A law is a function that does nothing: what it ensures is the law.
+ghost use Rattle.otp_laws.specs.Down.{OkLeavesDown, OkLeavesDownFrom};
 ghost use Rattle.otp_laws.specs.Ids.{IdsApart, IdsStayApart, ProcessesNumbered, ProcessesNumberedFrom, ProcessesStayGone, ProcessesStayGoneFrom};
-ghost use Rattle.otp_laws.specs.Life.{EndsAfterAll, EndsAfterAllFrom, IdsStartAnew, IdsStartAnewFrom, OrdersEndAfterAll, OrdersStartAnew, RowsStartAnew, RowsStartAnewFrom};
+ghost use Rattle.otp_laws.specs.Life.{EndsAfterAll, EndsAfterAllFrom, IdsStartAnew, IdsStartAnewFrom, OrdersEndAfterAll, OrdersEndAfterStarts, OrdersStartAnew, RowsStartAnew, RowsStartAnewFrom};
 ghost use Rattle.otp_laws.specs.Musts.{DeletesUndefined, DeletesUndefinedFrom, SignificantEndsEnd};
 ghost use Rattle.otp_laws.specs.Notes.{NotesCountOnce, NotesCountOnceFrom, UnawaitedChangesNone, UnawaitedChangesNoneFrom};
 ghost use Rattle.otp_laws.specs.Oks.{AnswersTrue, AnswersTrueFrom};
+ghost use Rattle.otp_laws.specs.Once.{CallsAnsweredOnce, CallsAnsweredOnceFrom};
 ghost use Rattle.otp_laws.specs.Simple.{SimpleHasNoneUndefined};
 ghost use Rattle.otp_laws.specs.Starts.{EndOrdersEnd, StartsOfChildren, StartsOfChildrenFrom};
 
@@ -28,6 +30,7 @@ pub fn ends_come_between()
     ensures end { EndsAfterAll }
     ensures end_from_any { EndsAfterAllFrom }
     ensures end_order { OrdersEndAfterAll }
+    ensures end_of_orders { OrdersEndAfterStarts }
 {}
 
 /// No two children of a supervisor have one id, after every list of events (Supervisor Behaviour, Child Specification, id).
@@ -51,10 +54,27 @@ pub fn processes_stay_gone()
 /// An answer says what has happened (supervisor, delete_child/2, terminate_child/2, start_child/2 and restart_child/2). `ok`
 /// comes where the child that the call names has no process when the call is taken. Else the open work is that of the call,
 /// and the note that the child's process ended was taken. `{ok, Child}` comes where the open work is that of the call, with
-/// the note that the process came up. After the event a child with the id that the call asks for has it, and is up.
+/// the note that the process came up whose start this work ordered. After the event a child with the id that the call asks for
+/// has it, and is up.
 pub fn answers_are_true()
     ensures from_empty { AnswersTrue }
     ensures from_any { AnswersTrueFrom }
+{}
+
+/// Each call is answered once: under each number as many calls were taken as were answered, wait, or have the open work. So
+/// none is lost, none is answered twice, and no answer is to a call that wasn't taken; a supervisor that has ended, for which
+/// nothing waits and no work is open, has answered all. It holds whatever happens, in lawful histories and others.
+pub fn calls_are_answered_once()
+    ensures from_empty { CallsAnsweredOnce }
+    ensures from_any { CallsAnsweredOnceFrom }
+{}
+
+/// After an event that answers `ok` to delete_child or terminate_child, that is so which the call asked for: no child has the id,
+/// or each that has it is undefined, so that it has no process and waits for no restart. Under simple_one_for_one it is the child
+/// that the number named when the call was taken, found by its slot (supervisor, delete_child/2 and terminate_child/2).
+pub fn ok_leaves_down()
+    ensures from_empty { OkLeavesDown }
+    ensures from_any { OkLeavesDownFrom }
 {}
 
 /// The end of a significant child which isn't restarted ends the supervisor: under any_significant each such, under
