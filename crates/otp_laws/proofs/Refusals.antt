@@ -1,5 +1,5 @@
 -- A call that is refused leaves the children as they are.
-use Rattle.std.specs.Prelude.{◌≡◌, ◌⊎◌, ℕ, ◌++◌, Bool, true, false, List, [], ◌∷◌, Option, None, Some, All, refl, if◌then◌else◌, length, nat_le, position, is_some, remove, slice_get, unwrap_or}
+use Rattle.std.specs.Prelude.{◌≡◌, ◌⊎◌, ℕ, ◌++◌, false, List, [], ◌∷◌, Option, None, Some, All, refl, if◌then◌else◌, length, nat_le, position, remove, slice_get, unwrap_or}
 use Rattle.std.specs.List.{filter_map}
 use Rattle.std.proofs.Common.{◌∙◌, ap, sym, inl, inr, ⊎_elim}
 use Rattle.std.proofs.lemmas.Bool.{false≢true}
@@ -48,7 +48,7 @@ use Rattle.otp_rules.specs.Counts.{counts_of, which_of}
 use Rattle.otp_rules.specs.Step.{ask, decide, open_rows, resume, stamped, step, step_on, take_item, take_note, take_waiting, tick}
 use Rattle.otp_rules.proofs.Decisions.{at_row-survives, by_test}
 use Rattle.otp_rules.proofs.Walks.{advance-by, stop_first-by, with_stops}
-use Rattle.otp_laws.specs.Refusals.{ChangesNoneIfRefused, IsRefusal, RefusalsChangeNone}
+use Rattle.otp_laws.specs.Refusals.{IsRefusal, RefusalsChangeNone}
 use Rattle.otp_laws.proofs.Oks.{Told, answer-told, at_starting-by, end-quiet, exit-quiet, kept-told, open-quiet, retry-quiet, start-quiet, tell-quiet, terminate-quiet, tick-quiet, use_exit-quiet}
 
 -- none of the answers since is a refusal
