@@ -1,8 +1,8 @@
 -- After an ok to delete_child or terminate_child the child is down, over whole histories.
-use Rattle.std.specs.Prelude.{◌≡◌, ◌⊎◌, ℕ, ◌+◌, ◌≤◌, ◌<◌, ◌++◌, Bool, true, false, List, [], ◌∷◌, Option, None, Some, All, Contains, refl, get_or, length, position, is_some, slice_get, unwrap_or, count_by}
+use Rattle.std.specs.Prelude.{◌≡◌, ℕ, ◌≤◌, ◌<◌, ◌++◌, true, false, List, [], ◌∷◌, Option, None, Some, All, refl, get_or, length, position, is_some, unwrap_or}
 use Rattle.std.specs.List.{filter_map}
 use Rattle.std.proofs.Common.{◌∙◌, ap, sym, subst, inl, inr, arith, ⊎_elim}
-use Rattle.std.proofs.lemmas.Bool.{cases_Bool, false≢true}
+use Rattle.std.proofs.lemmas.Bool.{false≢true}
 use Rattle.std.proofs.lemmas.List.{append_assoc}
 use Rattle.std.proofs.lemmas.List.Elements.{All-append, All-cons, All-nil}
 use Rattle.otp_spec.specs.declared.child.ChildSpec.{ChildSpec}
@@ -13,7 +13,6 @@ use Rattle.otp_rules.specs.declared.call.Answered.{Answered}
 use Rattle.otp_rules.specs.declared.call.Call.{Call}
 use Rattle.otp_rules.specs.declared.call.Call.TheVariants as call
 use Rattle.otp_rules.specs.declared.call.Reply.TheVariants as reply
-use Rattle.otp_rules.specs.declared.event.Effect.{Effect}
 use Rattle.otp_rules.specs.declared.event.Event.{Event}
 use Rattle.otp_rules.specs.declared.event.Item.TheVariants as item
 use Rattle.otp_rules.specs.declared.event.Kind.{Kind}
@@ -33,7 +32,6 @@ use Rattle.otp_rules.specs.Needs.{numbers_of}
 use Rattle.otp_rules.specs.Progress.{Progress, decided, gave, no_progress, progress, seen, IsCall}
 use Rattle.otp_rules.specs.Fit.{next_number, rows_in, IsLawfulFrom, IsSound}
 use Rattle.otp_rules.specs.InOrder.{is_stop, IsCalm, IsInOrder}
-use Rattle.otp_rules.specs.Slots.{AreSlotted}
 use Rattle.otp_rules.proofs.Calm.{decided-calm}
 use Rattle.otp_rules.proofs.Counting.{none_in, tell-alike, use_exit-alike}
 use Rattle.otp_rules.proofs.Decisions.{at_row-survives}
@@ -50,7 +48,7 @@ use Rattle.otp_laws.specs.Oks.{IsDownAlready}
 use Rattle.otp_laws.proofs.Basis.{empty_basis, lawful_from_0, split_lawful, stays_basis}
 use Rattle.otp_laws.proofs.Done.{Apart, NotOk, Silent, at_once-done, not_ok}
 use Rattle.otp_laws.proofs.Ids.{ids_stay_apart_law}
-use Rattle.otp_laws.proofs.Oks.{Answers, AtOnce, CameUp, Said, Told, answer-told, decided-answers, kept-told, start-quiet, tell-quiet, use_exit-quiet}
+use Rattle.otp_laws.proofs.Oks.{AtOnce, CameUp, Said, Told, answer-told, decided-answers, kept-told, start-quiet, tell-quiet, use_exit-quiet}
 use Rattle.otp_laws.proofs.Sinks.{sunk, tell-sinks, used-sinks}
 use Rattle.otp_laws.proofs.Specs.{few_specs, specs_apart}
 use Rattle.otp_laws.proofs.Stopped.{mid-stops, sinking-map}

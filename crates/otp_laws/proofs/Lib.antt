@@ -15,6 +15,7 @@ mod Sinks
 mod Done
 mod Load
 mod Once
+mod Refusals
 mod Ordered
 mod Truths
 mod Stopped

@@ -1,5 +1,5 @@
 -- What answers no call, and opens no work for one, leaves the calls as they are.
-use Rattle.std.specs.Prelude.{◌≡◌, ◌⊎◌, ℕ, ◌==◌, ◌+◌, ◌<◌, ◌++◌, Bool, true, false, List, [], ◌∷◌, Option, None, Some, refl, get_or, length, map, position, is_some, remove}
+use Rattle.std.specs.Prelude.{◌≡◌, ℕ, ◌==◌, ◌+◌, ◌<◌, ◌++◌, true, false, List, [], ◌∷◌, Option, None, Some, refl, get_or, length, position, remove}
 use Rattle.std.specs.List.{cons_option, filter_map}
 use Rattle.std.proofs.Common.{◌∙◌, ap, sym, arith, cond}
 use Rattle.std.proofs.lemmas.Bool.{false≢true}
@@ -19,7 +19,7 @@ use Rattle.otp_rules.specs.declared.work.Due.{Due}
 use Rattle.otp_rules.specs.declared.work.Sequel.{Sequel}
 use Rattle.otp_rules.specs.declared.work.Sequel.TheVariants as sequel
 use Rattle.otp_rules.specs.State.{Outcome, answer, closed, is_busy, with_waiting, with_work}
-use Rattle.otp_rules.specs.Places.{end_process, end_row, set_row}
+use Rattle.otp_rules.specs.Places.{end_process, end_row}
 use Rattle.otp_rules.specs.Restarts.{running}
 use Rattle.otp_rules.specs.Starts.{is_due, start, start_row}
 use Rattle.otp_rules.specs.Stops.{calm_all, is_exit, tell, tell_row, terminate, use_exit, without}
@@ -31,7 +31,7 @@ use Rattle.otp_rules.proofs.Counting.{end_row-alike, end_row-quiet, tell-alike, 
 use Rattle.otp_rules.proofs.Decisions.{at_number-survives, at_row-survives}
 use Rattle.otp_rules.proofs.Walks.{counted_restart, restart-by, stop_each-by, terminate-by}
 use Rattle.otp_rules.proofs.WhileOpen.{no_after, terminate-follows}
-use Rattle.otp_laws.specs.Once.{answered_calls, call_of_work, call_waiting, open_calls}
+use Rattle.otp_laws.specs.Once.{answered_calls, call_of_work, call_waiting}
 use Rattle.otp_laws.proofs.Oks.{end-quiet, tell-quiet, terminate-quiet, use_exit-quiet}
 
 abbrev pub waiting_calls : List Waiting → List ℕ

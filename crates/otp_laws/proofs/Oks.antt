@@ -96,11 +96,11 @@ pub restart-quiet : (k place : ℕ) (row : Row) (o : Outcome) → Quiet o (resta
 unfolding restart_rows
 restart-quiet k place row o = restart-by (Quiet o) k place row o (λ _. terminate-quiet ending.Intensity (counted_restart place row o)) (λ _. refl)
 
-open-quiet : (own : ℕ) (o : Outcome) → Quiet o (open_rows own o)
+pub open-quiet : (own : ℕ) (o : Outcome) → Quiet o (open_rows own o)
 unfolding open_rows open_with
 open-quiet own o = refl
 
-tick-quiet : (o : Outcome) → Quiet o (tick o)
+pub tick-quiet : (o : Outcome) → Quiet o (tick o)
 unfolding tick
 tick-quiet o = refl
 
@@ -401,7 +401,7 @@ death-quiet p r place row o =
     by_test (Quiet o) (is_restarted row.spec.restart r) (restart p place row o) (after_end p row gone) (λ _. restart-quiet p place row o)
     (λ _. by_test (Quiet o) (ends_by_significance gone.state.flags.auto_shutdown row gone.state.rows) (terminate (ending.Significant p) gone) gone (λ _. terminate-quiet (ending.Significant p) gone ∙ end-quiet place row o) (λ _. end-quiet place row o))
 
-exit-quiet : (p : ℕ) (r : Reason) (o : Outcome) → Quiet o (take_exit p r o)
+pub exit-quiet : (p : ℕ) (r : Reason) (o : Outcome) → Quiet o (take_exit p r o)
 unfolding take_exit exit_in
 exit-quiet p r o = at_number-survives (Quiet o) p (λ place row. exit_in p r place row row.state) o refl (λ place row at has. by place row row.state)
   where
@@ -425,7 +425,7 @@ unfolding take_item
 item-answers s k (item.Note x) o like brings = by_test (Answers s k) (is_over o.state.phase) o (take_note x o) (λ _. inl (like-said s k o like.2)) (λ _. note-answers s k x o like brings)
 item-answers s k (item.Call c x) o like brings = inl (ask-said s k c x o like.0 brings (like-said s k o like.2))
 
-retry-quiet : (n : ℕ) (o : Outcome) → Quiet o (retry n o)
+pub retry-quiet : (n : ℕ) (o : Outcome) → Quiet o (retry n o)
 unfolding retry
 retry-quiet n o = at_row-survives (Quiet o) (row_has (awaits_retry n)) o (restart n) o refl refl (λ place row at has. restart-quiet n place row o)
 

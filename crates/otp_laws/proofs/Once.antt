@@ -1,5 +1,5 @@
 -- Each call is answered once, or is still open.
-use Rattle.std.specs.Prelude.{◌≡◌, ◌⊎◌, ℕ, ◌==◌, ◌+◌, ◌<◌, ◌++◌, Bool, true, false, List, [], ◌∷◌, Option, None, Some, refl, if◌then◌else◌, length, map, nat_le, position, is_some, remove, slice_get, unwrap_or, count_by}
+use Rattle.std.specs.Prelude.{◌≡◌, ℕ, ◌==◌, ◌+◌, ◌<◌, ◌++◌, Bool, true, false, List, [], ◌∷◌, Option, None, Some, refl, if◌then◌else◌, length, nat_le, position, is_some, remove, slice_get, unwrap_or, count_by}
 use Rattle.std.specs.List.{cons_option, filter_map}
 use Rattle.std.proofs.Common.{◌∙◌, ap, sym, subst, arith, ⊎_elim, cond}
 use Rattle.std.proofs.lemmas.Bool.{cases_Bool, false≢true}
@@ -40,7 +40,7 @@ use Rattle.otp_rules.specs.State.{Outcome, State, answer, closed, is_busy, is_ov
 use Rattle.otp_rules.specs.Places.{at_found, at_row, end_row, set_row}
 use Rattle.otp_rules.specs.Restarts.{ends_by_significance, is_restarted}
 use Rattle.otp_rules.specs.Stops.{terminate}
-use Rattle.otp_rules.specs.Starts.{at_starting, failed_after, take_failed, take_ignored, take_up, up_after}
+use Rattle.otp_rules.specs.Starts.{failed_after, take_failed, take_ignored, take_up, up_after}
 use Rattle.otp_rules.specs.Ends.{end_all, refuse_all, refused}
 use Rattle.otp_rules.specs.Work.{advance, follow, start_first}
 use Rattle.otp_rules.specs.Deaths.{after_end, death, exit_in, restart, retry, take_exit}
@@ -54,8 +54,7 @@ use Rattle.otp_rules.proofs.Counting.{at_row-found, there, times-append, times-c
 use Rattle.otp_rules.proofs.Decisions.{StandsAt, at_number-survives, at_row-survives, by_test, decide-survives, end_row-same}
 use Rattle.otp_rules.proofs.Sound.{advance-sound, empty-sound, sound-survives}
 use Rattle.otp_rules.proofs.Walks.{advance-by, stop_first-by, with_stops}
-use Rattle.otp_rules.proofs.WhileOpen.{no_after}
-use Rattle.otp_laws.specs.Once.{answered_calls, call_in, call_of_work, call_taken, call_waiting, open_calls, taken_calls, CallsAnsweredOnce, CallsAnsweredOnceFrom}
+use Rattle.otp_laws.specs.Once.{answered_calls, call_in, call_taken, call_waiting, taken_calls, CallsAnsweredOnce, CallsAnsweredOnceFrom}
 use Rattle.otp_laws.proofs.Load.{answer-load, closed-load, end-load, idle_none, load, load-same, put-calls, restart-load, start-load, tell-load, terminate-load, tick-load, used-load, waiting_calls, work_calls}
 use Rattle.otp_laws.proofs.Oks.{at_starting-by}
 

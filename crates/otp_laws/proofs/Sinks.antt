@@ -1,6 +1,6 @@
 -- A child that is stopped for a call goes down, and nothing brings it up again while the work is open.
-use Rattle.std.specs.Prelude.{◌≡◌, ◌⊎◌, ℕ, ◌==◌, ◌+◌, ◌≤◌, ◌<◌, ◌&&◌, not, Bool, true, false, List, [], ◌∷◌, Option, None, Some, Contains, refl, position, nat_lt, slice_set, count_by}
-use Rattle.std.proofs.Common.{◌∙◌, ap, sym, subst, inl, inr, arith, ⊎_elim, cond}
+use Rattle.std.specs.Prelude.{◌≡◌, ℕ, ◌==◌, ◌+◌, ◌≤◌, ◌<◌, ◌&&◌, not, Bool, true, false, List, [], ◌∷◌, Option, Contains, refl, nat_lt, slice_set, count_by}
+use Rattle.std.proofs.Common.{◌∙◌, ap, sym, arith, ⊎_elim, cond}
 use Rattle.std.proofs.lemmas.Bool.{and_from, cases_Bool, eqb-true, false≢true}
 use Rattle.std.proofs.lemmas.List.Sums.{sum_by-cons}
 use Rattle.otp_spec.specs.declared.child.Shutdown.{Shutdown}
@@ -10,16 +10,15 @@ use Rattle.otp_table.specs.declared.row.RowState.{RowState}
 use Rattle.otp_table.specs.declared.row.RowState.TheVariants.{Undefined, Starting, Up, Asked, Killed, Restarting}
 use Rattle.otp_table.specs.Rows.{has_process, is_awaited, is_undefined, row_has, with_state}
 use Rattle.otp_rules.specs.State.{Outcome, with_waiting}
-use Rattle.otp_rules.specs.Places.{at_number, end_process, end_row, set_row}
-use Rattle.otp_rules.specs.Stops.{is_exit, tell, tell_row, told, use_exit, without}
+use Rattle.otp_rules.specs.Places.{end_process, end_row}
+use Rattle.otp_rules.specs.Stops.{tell, tell_row, told, use_exit, without}
 use Rattle.otp_rules.specs.Fit.{is_told, rows_in, runs_as, times}
-use Rattle.otp_rules.proofs.Decisions.{StandsAt}
 use Rattle.otp_rules.proofs.Counting.{cond_le, rows_in-apart, rows_in-at, rows_in-le, rows_in-set, times-cons, told-told}
 use Rattle.otp_rules.proofs.Lasting.{contains_counts}
 use Rattle.otp_rules.proofs.Homes.{same_number}
 use Rattle.otp_rules.proofs.Numbers.{holders, told_process}
 use Rattle.otp_laws.specs.Down.{AreDown, AreSinking, is_kept}
-use Rattle.otp_laws.proofs.Both.{Most, both, tell-most, use_exit-most}
+use Rattle.otp_laws.proofs.Both.{both, tell-most, use_exit-most}
 use Rattle.otp_laws.proofs.Falls.{Sinking}
 use Rattle.otp_laws.proofs.Heeded.{at_process, end-none}
 use Rattle.otp_laws.proofs.Still.{IsStill, apart, split}

@@ -1,7 +1,7 @@
 -- While a child is stopped for a call, what the event decides leaves it on its way down.
-use Rattle.std.specs.Prelude.{◌≡◌, ◌⊎◌, ℕ, ◌==◌, ◌≤◌, ◌++◌, Bool, true, false, List, [], ◌∷◌, Option, None, Some, Contains, refl, if◌then◌else◌, is_some, slice_get, count_by}
+use Rattle.std.specs.Prelude.{◌≡◌, ◌⊎◌, ℕ, ◌≤◌, Bool, true, false, List, [], ◌∷◌, Option, None, Some, Contains, refl, if◌then◌else◌, is_some, count_by}
 use Rattle.std.proofs.Common.{◌∙◌, ap, sym, subst, inl, inr, arith, ⊎_elim, cond}
-use Rattle.std.proofs.lemmas.Bool.{cases_Bool, false≢true}
+use Rattle.std.proofs.lemmas.Bool.{false≢true}
 use Rattle.otp_reason.specs.declared.name.Name.{Name}
 use Rattle.otp_table.specs.declared.row.Row.{Row}
 use Rattle.otp_table.specs.declared.row.RowState.{RowState}
@@ -21,14 +21,14 @@ use Rattle.otp_rules.specs.declared.event.Waiting.{Waiting}
 use Rattle.otp_rules.specs.declared.event.Waiting.TheVariants as waiting
 use Rattle.otp_rules.specs.declared.work.Sequel.{Sequel}
 use Rattle.otp_rules.specs.declared.work.Sequel.TheVariants as sequel
-use Rattle.otp_rules.specs.State.{Outcome, State, answer, is_busy, put_last, with_waiting, with_work}
+use Rattle.otp_rules.specs.State.{Outcome, State, answer, is_busy, with_work}
 use Rattle.otp_rules.specs.Places.{end_row, set_row}
 use Rattle.otp_rules.specs.Stops.{terminate}
 use Rattle.otp_rules.specs.Deaths.{restart, restart_rows}
 use Rattle.otp_rules.specs.Step.{decide, open_rows, open_with, stamped, tick}
 use Rattle.otp_rules.specs.Homes.{Brings}
-use Rattle.otp_rules.specs.Progress.{Progress, decided, is_opened, opened_now, process_number, seen, taken, went_on, IsCall}
-use Rattle.otp_rules.specs.Fit.{rows_in, IsSound}
+use Rattle.otp_rules.specs.Progress.{Progress, decided, is_opened, opened_now, seen, taken, went_on, IsCall}
+use Rattle.otp_rules.specs.Fit.{IsSound}
 use Rattle.otp_rules.specs.InOrder.{is_stop}
 use Rattle.otp_rules.proofs.Counting.{end_row-alike, rows_in-at}
 use Rattle.otp_rules.proofs.Decisions.{BringsStop, IsFirstAt, IsIdle, IsUnmoved, StandsAt, SurvivesEvent, decide-survives, decide-survives_event, first_passes}

@@ -1,7 +1,6 @@
 -- What is left of a child after the `ok` to the call that was to delete or to stop it (supervisor, delete_child/2 and
 -- terminate_child/2).
-use Rattle.std.specs.Prelude.{◌≡◌, ◌⊎◌, ◌&&◌, ◌≤◌, ℕ, ◌++◌, Bool, true, false, not, List, Option, None, Some, All, Contains, length, nat_lt, count_by}
-use Rattle.otp_reason.specs.declared.name.Name.{Name}
+use Rattle.std.specs.Prelude.{◌≡◌, ◌⊎◌, ◌&&◌, ◌≤◌, ℕ, ◌++◌, Bool, true, false, List, None, Some, All, Contains, length, nat_lt, count_by}
 use Rattle.otp_spec.specs.declared.child.ChildSpec.{ChildSpec}
 use Rattle.otp_spec.specs.declared.flags.SupFlags.{SupFlags}
 use Rattle.otp_spec.specs.declared.limits.TheConstants.{MAX_CHILDREN}

@@ -6,5 +6,6 @@ pub mod Life
 pub mod Musts
 pub mod Oks
 pub mod Once
+pub mod Refusals
 pub mod Simple
 pub mod Starts

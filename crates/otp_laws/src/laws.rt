@@ -6,6 +6,7 @@ ghost use Rattle.otp_laws.specs.Musts.{DeletesUndefined, DeletesUndefinedFrom, S
 ghost use Rattle.otp_laws.specs.Notes.{NotesCountOnce, NotesCountOnceFrom, UnawaitedChangesNone, UnawaitedChangesNoneFrom};
 ghost use Rattle.otp_laws.specs.Oks.{AnswersTrue, AnswersTrueFrom};
 ghost use Rattle.otp_laws.specs.Once.{CallsAnsweredOnce, CallsAnsweredOnceFrom};
+ghost use Rattle.otp_laws.specs.Refusals.{RefusalsChangeNone};
 ghost use Rattle.otp_laws.specs.Simple.{SimpleHasNoneUndefined};
 ghost use Rattle.otp_laws.specs.Starts.{EndOrdersEnd, StartsOfChildren, StartsOfChildrenFrom};
 
@@ -67,6 +68,12 @@ pub fn answers_are_true()
 pub fn calls_are_answered_once()
     ensures from_empty { CallsAnsweredOnce }
     ensures from_any { CallsAnsweredOnceFrom }
+{}
+
+/// A call that is refused changes nothing: the event which answers it changes no row, and opens no work. So it is in every state.
+/// Of one whose child was started and failed more is done (supervisor, the errors of the calls).
+pub fn refusals_change_nothing()
+    ensures { RefusalsChangeNone }
 {}
 
 /// After an event that answers `ok` to delete_child or terminate_child, that is so which the call asked for: no child has the id,
