@@ -1,8 +1,9 @@
 # Completions of otp for fish: put this file into ~/.config/fish/completions. Made by tools/words.
-set -l commands check limits run sim tree try help
+set -l commands check limits run shutdown sim tree try help
 complete -c otp -f -n "not __fish_seen_subcommand_from $commands" -a check -d 'Says all that is wrong in tree files, and where'
 complete -c otp -f -n "not __fish_seen_subcommand_from $commands" -a limits -d 'Says what each child\'s failure costs: which crashes are survived'
 complete -c otp -f -n "not __fish_seen_subcommand_from $commands" -a run -d 'Runs a tree on threads: each child does what its start says'
+complete -c otp -f -n "not __fish_seen_subcommand_from $commands" -a shutdown -d 'How long the stop of a tree may take, and who takes how much of it'
 complete -c otp -f -n "not __fish_seen_subcommand_from $commands" -a sim -d 'Plays event lines on a supervisor, and prints each order it gives'
 complete -c otp -f -n "not __fish_seen_subcommand_from $commands" -a tree -d 'Draws a tree as text'
 complete -c otp -f -n "not __fish_seen_subcommand_from $commands" -a try -d 'Says what a tree does where a script says what goes wrong'
@@ -23,4 +24,4 @@ complete -c otp -n '__fish_seen_subcommand_from try' -l timeline -d 'Draws the r
 complete -c otp -n '__fish_seen_subcommand_from try' -l quiet -d 'Tells ends of supervisors, what is not as expected, and the verdict alone'
 complete -c otp -n '__fish_seen_subcommand_from try' -l clock -x -d 'By which clock restarts are counted: milliseconds, or seconds, as OTP does'
 complete -c otp -n '__fish_seen_subcommand_from try' -l width -x -d 'How many columns a picture has, 1 to 1000'
-complete -c otp -f -n '__fish_seen_subcommand_from help' -a 'check limits run sim tree try script'
+complete -c otp -f -n '__fish_seen_subcommand_from help' -a 'check limits run shutdown sim tree try script'

@@ -5,8 +5,8 @@ use Rattle.clap.specs.declared.error.kind.ErrorKind.TheVariants as kind
 use Rattle.clap.specs.Values.{kind_of}
 use Rattle.otp_words.specs.declared.words.WordsFault.{WordsFault}
 use Rattle.otp_words.specs.declared.words.WordsFault.TheVariants.{Clap, NoCommand, FileAsCommand, UnknownClock, Topic, NotText, OutOfMemory}
-use Rattle.otp_console.specs.declared.ending.ProgramEnd.{ProgramEnd}
-use Rattle.otp_console.specs.declared.ending.ProgramEnd.TheVariants as ending
+use Rattle.otp_ending.specs.declared.ending.ProgramEnd.{ProgramEnd}
+use Rattle.otp_ending.specs.declared.ending.ProgramEnd.TheVariants as ending
 
 -- `clap` was asked for its help or its version, and has refused nothing
 abbrev pub IsShown : Error → Type 0

@@ -1,20 +1,22 @@
 //! The program but for the system under it: what it does for which words, and what it tells on which stream.
 
 ghost use Rattle.std.specs.Prelude.{ℕ, List, Option, ◌≡◌, ◌≤◌, ◌⊎◌, ◌||◌, IfErr, IfOk, OnOk, option_map, true, false};
-ghost use Rattle.otp_console.specs.Runs.{Answers, Checks, ChecksAll, Does, IsObeyed, IsProgramRun, IsTrial, IsTrialOf, IsUsed, RunsTree, Simulates, TellsFirst, Uses, draws};
-ghost use Rattle.otp_console.specs.declared.ending.ProgramEnd.TheVariants as end;
+ghost use Rattle.otp_console.specs.Runs.{Answers, Checks, ChecksAll, Does, IsObeyed, IsProgramRun, IsTrial, IsTrialOf, IsUsed, RunsTree, Simulates, Uses, draws};
+ghost use Rattle.otp_ending.specs.Told.{TellsFirst};
+ghost use Rattle.otp_ending.specs.declared.ending.ProgramEnd.TheVariants as end;
 ghost use Rattle.otp_console.specs.Words.{EndsFor};
 ghost use Rattle.otp_words.specs.declared.words.WordsFault.TheVariants.{Clap};
 
-use crate::checking::{check_file, draw_file, write_unread};
+use crate::checking::{check_file, write_unread};
 use crate::console::console;
-use crate::ending::{ProgramEnd, tell};
-use crate::files::{TreeFiles, Unread, read_file, read_run_file, read_small, read_tree_file};
-use crate::limiting::limit_file;
-use crate::running::{Pool, explain, run_file};
 use crate::trying::try_file;
 use clap::Error;
+use otp_ending::{
+    ProgramEnd, TreeFiles, Unread, read_file, read_run_file, read_small, read_tree_file, tell,
+};
 use otp_jobs::Settings;
+use otp_questions::{draw_file, limit_file, stop_file};
+use otp_running::{Pool, explain, run_file};
 use otp_sim::{Counted, Failed, Input, Output, write_all};
 use otp_tree::Gate;
 use otp_try::{Clock, Shows, Writer};
@@ -237,6 +239,7 @@ fn use_file<'a, F: TreeFiles, R: Input, W: Output, E: Output>(
             errors,
         ),
         Usage::Draw => draw_file(alloc, name, file, output),
+        Usage::Stop => stop_file(alloc, name, file, output),
         Usage::Limit { pick, grain } => limit_file(alloc, name, file, pick, grain, output),
     }
 }

@@ -1448,7 +1448,7 @@ status 6
 ];
 
 /// The same of all other commands.
-pub(crate) const SHOWN: [(&str, &str, &str); 23] = [
+pub(crate) const SHOWN: [(&str, &str, &str); 25] = [
     (
         "limits first.toml",
         "-",
@@ -1543,6 +1543,19 @@ status 0
         "-",
         r##"table 0 starts 2 restarts 0 end shutdown
 live 0
+status 0
+"##,
+    ),
+    (
+        "shutdown deadlines.toml",
+        "-",
+        r##"the longest stop may take for ever
+  no limit  patient
+  others    0.100 s
+          from         until  shutdown       child, in the order of the stops
+       0.000 s       0.000 s  brutal_kill    hard
+       0.000 s       0.100 s  100 ms         slow
+       0.100 s      no limit  infinity       patient
 status 0
 "##,
     ),
@@ -1651,6 +1664,17 @@ one_for_one, 2 restarts in 60 s, table 0: 2 starts, 0 restarts, runs
   `-- b  starting #5
 not finished, since the turns ran out: 3 processes live, and the tree awaits the start of pool/b #5; --turns takes a greater number
 status 7
+"##,
+    ),
+    (
+        "shutdown nested.toml",
+        "-",
+        r##"the longest stop takes 15.000 s
+          from         until  shutdown       child, in the order of the stops
+       0.000 s       5.000 s  5000 ms        pool/b
+       5.000 s      10.000 s  5000 ms        pool/a
+      10.000 s      15.000 s  5000 ms        db
+status 0
 "##,
     ),
     (

@@ -1,10 +1,9 @@
 //! The program on the system that it is run on.
 
 use crate::screen::Screen;
-use otp_console::ending::Unwritten;
-use otp_console::files::{LARGEST_TREE, TreeFiles};
 use otp_console::program::run;
-use otp_console::running::Pool;
+use otp_ending::{LARGEST_TREE, TreeFiles, Unwritten};
+use otp_running::Pool;
 use otp_sim::Counted;
 use otp_words::words_of;
 use std::alloc::Global;

@@ -75,6 +75,7 @@ AsksUse name rows (usage.Try script writer is_drawn is_quiet clock width) =
     × (IsFlagOf rows (codes "prompt") (is_person writer) × (IsFlagOf rows (codes "timeline") is_drawn
     × (IsFlagOf rows (codes "quiet") is_quiet × (IsClockOf rows clock × IsNumberOf rows (codes "width") width)))))
 AsksUse name rows usage.Draw = name ≡ codes "tree"
+AsksUse name rows usage.Stop = name ≡ codes "shutdown"
 AsksUse name rows (usage.Limit pick grain) =
     (name ≡ codes "limits") × (IsPickOf (first_of (codes "child") rows) (first_of (codes "table") rows) pick
     × IsFlagOf rows (codes "each") (plays_each grain))

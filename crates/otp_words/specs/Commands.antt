@@ -72,5 +72,5 @@ bare_app = record (new_app (codes "otp")) { top = record (new_shape (codes "otp"
 
 abbrev pub otp_app : App
 otp_app =
-    with_subcommand (with_subcommand (with_subcommand (with_subcommand (with_subcommand (with_subcommand bare_app run_app.top) try_app.top)
-    check_app.top) (file_app (codes "tree")).top) limits_app.top) (file_app (codes "sim")).top
+    with_subcommand (with_subcommand (with_subcommand (with_subcommand (with_subcommand (with_subcommand (with_subcommand bare_app run_app.top) try_app.top)
+    check_app.top) (file_app (codes "tree")).top) limits_app.top) (file_app (codes "shutdown")).top) (file_app (codes "sim")).top

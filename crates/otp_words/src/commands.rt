@@ -51,6 +51,11 @@ const TABLE_HELP: &str = "The children of the supervisor with this name alone;\n
 
 const EACH_HELP: &str = "Plays each child, and takes none together that are alike";
 
+const SHUTDOWN_ABOUT: &str = "How long the stop of a tree may take, and who takes how much of it";
+
+const SHUTDOWN_EXAMPLE: &str =
+    "Example: otp shutdown examples/nested.toml\nChildren are told to stop one after another, the last started first; each has\nuntil its deadline. A child with `infinity` may take for ever.\nStatuses: 0 the times were written, 1 the file says no tree (`otp check FILE`\nsays why) or can't be read, 2 the words, 4 output or memory.\nFormats: docs/FORMATS.md, under The longest stop.";
+
 const SIM_ABOUT: &str = "Plays event lines on a supervisor, and prints each order it gives";
 
 const SIM_EXAMPLE: &str =
@@ -308,11 +313,19 @@ pub(crate) fn otp_command<'a>(alloc: Global) -> Result<clap::Command<'a>, AllocE
 {
     let tree = file_command(alloc, "tree", TREE_ABOUT, TREE_EXAMPLE, FILE_OR_INPUT)?;
     let limits = limits_command(alloc)?;
+    let shutdown = file_command(
+        alloc,
+        "shutdown",
+        SHUTDOWN_ABOUT,
+        SHUTDOWN_EXAMPLE,
+        FILE_OR_INPUT,
+    )?;
     let sim = file_command(alloc, "sim", SIM_ABOUT, SIM_EXAMPLE, FILE_ALONE)?;
     let command = with_command(bare_command(alloc), run_command(alloc)?)?;
     let command = with_command(command, try_command(alloc)?)?;
     let command = with_command(command, check_command(alloc)?)?;
     let command = with_command(command, tree)?;
     let command = with_command(command, limits)?;
+    let command = with_command(command, shutdown)?;
     with_command(command, sim)
 }

@@ -1,0 +1,63 @@
+-- What a run of a tree writes (own).
+use Rattle.std.specs.Prelude.{◌≡◌, ◌⊎◌, ◌<◌, ⊤, ℕ, Bool, List, Option, None, Ok, length}
+use Rattle.std.specs.Io.KnownBytes.{Appends}
+use Rattle.otp_file.specs.declared.fault.TreeFault.{TreeFault}
+use Rattle.otp_file.specs.declared.fault.TreeFault.TheVariants.{TooManyTables}
+use Rattle.otp_file.specs.Files.{Says}
+use Rattle.otp_file.specs.Trees.{Tree, tables_of}
+use Rattle.otp_jobs.specs.Plans.{plan_fault}
+use Rattle.otp_jobs.specs.Runs.{IsRunOf, run_text}
+use Rattle.otp_file.specs.declared.fault.TreeFault.TheVariants as fault
+use Rattle.otp_jobs.specs.declared.role.Calm.{Calm}
+use Rattle.otp_jobs.specs.declared.run.FileRunFault.{FileRunFault}
+use Rattle.otp_jobs.specs.declared.run.FileRunFault.TheVariants as run
+use Rattle.otp_jobs.specs.declared.worker.WorkedJob.{WorkedJob}
+use Rattle.otp_starts.specs.Unfit.{HasStarts, IsRunnable}
+use Rattle.otp_tree.specs.declared.whole.CountedRun.{CountedRun}
+use Rattle.otp_jobs.specs.declared.plan.PlanFault.TheVariants as plan
+use Rattle.otp_check.specs.Checks.{IsFirstFault}
+use Rattle.otp_ending.specs.Devices.{HasTree, Written}
+use Rattle.otp_ending.specs.declared.ending.ProgramEnd.{ProgramEnd}
+use Rattle.otp_ending.specs.declared.ending.ProgramEnd.TheVariants.{Done, TreeRefused, UnknownStart, WrongBody, CloseMismatch, CloseMissing, NotFinished, OutputFailed, OutOfMemory}
+
+-- a fault that a supervisor may be refused for when it is opened; no tree that a file says is known to have one
+abbrev pub IsOfOpening : TreeFault → Type 0
+IsOfOpening TooManyTables = ⊤
+IsOfOpening _ = ⊥
+
+-- a run of so many supervisors, and its report, behind their counts where they are wanted
+abbrev pub HasReport : Bool → ℕ → CountedRun WorkedJob Calm → Option (List ℕ) → Option (List ℕ) → Type 0
+HasReport counted tables run old new = IsRunOf tables run × Appends old new (run_text counted run)
+
+-- the tree of a file was run to an end of this kind, and its report written
+abbrev pub HasRun : (ℕ → Type 0) → Bool → List ℕ → Written → Written → Type 0
+HasRun Left counted file old new =
+    (tree : Tree) × (Says file (Ok tree) × ((plan_fault (tables_of tree) ≡ None)
+    × ((run : CountedRun WorkedJob Calm) × (HasReport counted (length (tables_of tree)) run old.bytes new.bytes × Left run.report.live))))
+
+-- a tree was run, and its report written; or it was not. It is finished exactly where no process is left
+abbrev pub IsTreeRun : Bool → ProgramEnd → List ℕ → Written → Written → Type 0
+IsTreeRun counted Done file old new = HasRun (λ live. live ≡ 0) counted file old new
+IsTreeRun counted NotFinished file old new = HasRun (λ live. ¬ (live ≡ 0)) counted file old new
+IsTreeRun counted (TreeRefused why) file old new = (new ≡ old) × (IsFirstFault why file ⊎ (HasTree file × IsOfOpening why))
+IsTreeRun counted (UnknownStart name) file old new = (new ≡ old) × HasStarts file (plan.UnknownStart name)
+IsTreeRun counted WrongBody file old new = (new ≡ old) × HasStarts file plan.WrongBody
+IsTreeRun counted CloseMismatch file old new = (new ≡ old) × HasTree file
+IsTreeRun counted CloseMissing file old new = (new ≡ old) × HasTree file
+IsTreeRun counted OutputFailed file old new = IsRunnable file × (old.failures < new.failures)
+IsTreeRun counted OutOfMemory file old new = new ≡ old
+IsTreeRun counted _ file old new = ⊥
+
+-- how a run ends that has left so many processes
+abbrev pub IsEndOfRun : ℕ → ProgramEnd → Type 0
+IsEndOfRun live ending = ((ending ≡ Done) × (live ≡ 0)) ⊎ ((ending ≡ NotFinished) × (¬ (live ≡ 0)))
+
+-- how the program ends that didn't run a tree
+abbrev pub ending_of_run : FileRunFault → ProgramEnd
+ending_of_run run.OutOfMemory = OutOfMemory
+ending_of_run (run.UnknownStart name) = UnknownStart name
+ending_of_run run.WrongBody = WrongBody
+ending_of_run run.TooManyTables = TreeRefused fault.TooManyTables
+ending_of_run run.NoBody = TreeRefused fault.TooManyTables
+ending_of_run run.Mismatch = CloseMismatch
+ending_of_run run.Missing = CloseMissing
