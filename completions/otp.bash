@@ -8,7 +8,7 @@ _otp() {
     case $command in
         check) options="--run --all --json --help" ;;
         limits) options="--child --table --each --help" ;;
-        run) options="--schedulers --turns --counts --tree --why --help" ;;
+        run) options="--schedulers --turns --counts --tree --why --for --grace --log --help" ;;
         shutdown) options="--help" ;;
         sim) options="--help" ;;
         tree) options="--help" ;;

@@ -21,12 +21,12 @@ use Rattle.otp_folds.specs.declared.pick.Pick.{Pick}
 use Rattle.otp_questions.specs.Limited.{IsLimited}
 use Rattle.otp_questions.specs.Said.{IsDrawn}
 use Rattle.otp_questions.specs.Stopped.{IsStopped}
-use Rattle.otp_running.specs.Running.{IsTreeRun}
+use Rattle.otp_running.specs.Running.{IsTreeRun, IsTreeServed}
 use Rattle.otp_ending.specs.Statuses.{status_of}
 use Rattle.otp_ending.specs.Told.{IsSmall, IsUnreadEnd, Tells, TellsFirst, goes_on, worse}
 use Rattle.otp_ending.specs.declared.ending.Unwritten.{Unwritten}
 use Rattle.otp_ending.specs.declared.ending.ProgramEnd.{ProgramEnd}
-use Rattle.otp_ending.specs.declared.ending.ProgramEnd.TheVariants.{Done, WordsRefused, NoCommand, WordNotText, FileAsCommand, TreeNotRead, FileNotRead, TreeRefused, NoTree, UnknownStart, NotFound, WrongBody, CloseMismatch, CloseMissing, FaultsFound, LineRefused, ScriptRefused, ScriptMissed, HistoryFull, InputFailed, OutputFailed, OutOfMemory, ExpectationFailed, UnknownClock, NotFinished}
+use Rattle.otp_ending.specs.declared.ending.ProgramEnd.TheVariants.{Done, WordsRefused, NoCommand, WordNotText, FileAsCommand, TreeNotRead, FileNotRead, TreeRefused, NoTree, UnknownStart, NotFound, WrongBody, CloseMismatch, CloseMissing, FaultsFound, LineRefused, ScriptRefused, ScriptMissed, HistoryFull, InputFailed, OutputFailed, OutOfMemory, ExpectationFailed, UnknownClock, NotATime, NeedsFor, CountsTurns, NotFinished}
 use Rattle.otp_ending.specs.declared.files.TheConstants.{LARGEST_TREE}
 use Rattle.otp_words.specs.declared.words.Command.{Command}
 use Rattle.otp_words.specs.declared.words.Command.TheVariants as command
@@ -44,6 +44,9 @@ IsRun WordsRefused file old new = ⊥
 IsRun NoCommand file old new = ⊥
 IsRun WordNotText file old new = ⊥
 IsRun UnknownClock file old new = ⊥
+IsRun NotATime file old new = ⊥
+IsRun NeedsFor file old new = ⊥
+IsRun CountsTurns file old new = ⊥
 IsRun FileAsCommand file old new = ⊥
 IsRun TreeNotRead file old new = ⊥
 IsRun FileNotRead file old new = ⊥
@@ -78,6 +81,9 @@ Answers WordsRefused old new = new ≡ old
 Answers NoCommand old new = new ≡ old
 Answers WordNotText old new = new ≡ old
 Answers UnknownClock old new = new ≡ old
+Answers NotATime old new = new ≡ old
+Answers NeedsFor old new = new ≡ old
+Answers CountsTurns old new = new ≡ old
 Answers FileAsCommand old new = new ≡ old
 Answers OutputFailed old new = IsUnread old new × (old.write_failures < new.write_failures)
 Answers OutOfMemory old new = new ≡ old
@@ -173,6 +179,12 @@ RunsTree Holds counted ending old new =
     (IsUnreadEnd ending × (new ≡ old))
     ⊎ ((file : List ℕ) × (Holds file × IsTreeRun counted ending file old new))
 
+-- the tree of such a file was served for a time
+abbrev pub ServesTree : (List ℕ → Type 0) → ProgramEnd → Written → Written → Type 0
+ServesTree Holds ending old new =
+    (IsUnreadEnd ending × (new ≡ old))
+    ⊎ ((file : List ℕ) × (Holds file × IsTreeServed ending file old new))
+
 -- what a command asks for was done
 abbrev pub Does : (List ℕ → List ℕ → Type 0) → Command → ProgramEnd → Devices → Devices → Type 0
 Does Holds (command.Sim file) ending old new = Simulates (Holds file.now) ending old new
@@ -180,11 +192,14 @@ Does Holds (command.Check files checking) ending old new =
     IsUnread old new × ChecksAll checking.has_starts (λ name. Holds name.now) files.items ending (writer_of old) (writer_of new)
 Does Holds (command.Run file settings shows) ending old new =
     IsUnread old new × RunsTree (Holds file.now) settings.counted ending (writer_of old) (writer_of new)
+Does Holds (command.Serve file settings serving shows) ending old new =
+    IsUnread old new × ServesTree (Holds file.now) ending (writer_of old) (writer_of new)
 Does Holds (command.Use file usage) ending old new = Uses Holds file.now usage ending old new
 
 -- a picture of the tree that is run is told besides, or why its supervisors ended, where the command asks for it
 abbrev pub draws : Command → Bool
 draws (command.Run file settings shows) = shows.is_drawn || shows.is_why
+draws (command.Serve file settings serving shows) = shows.is_drawn || shows.is_why
 draws _ = false
 
 -- what the words ask for was done, for some command, with a picture or without; or the words alone were answered

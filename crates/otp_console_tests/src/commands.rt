@@ -8,6 +8,7 @@ use std::process::Abort;
 use std::sync::Wait;
 use std::test::Fail;
 use std::thread::Threads;
+use std::time::Clock;
 
 #[test]
 fn orders_and_sentences(rt: HostRuntime) -> Result<(), Fail> {
@@ -213,7 +214,7 @@ fn tree_of_size(alloc: Global, size: usize) -> Result<String, AllocError> {
 }
 
 /// Runs what people use on a tree file, and compares the status; a part of what is told is known.
-fn ends_with<H: Abort + Threads + Wait + Sync>(
+fn ends_with<H: Abort + Threads + Wait + Clock + Sync>(
     rt: &H,
     alloc: Global,
     text: &str,

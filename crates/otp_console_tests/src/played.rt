@@ -11,6 +11,7 @@ use std::process::Abort;
 use std::sync::Wait;
 use std::test::Fail;
 use std::thread::Threads;
+use std::time::Clock;
 
 /// The bytes of a file that the transcripts name. (Bytes, since with so many files it takes too long to prove that each is a
 /// text once more.)
@@ -88,7 +89,7 @@ fn transcripts_are_played(rt: HostRuntime) -> Result<(), Fail> {
 }
 
 /// Runs the program with the words of a line, and compares all that is written, told, and the status.
-fn plays_transcript<H: Abort + Threads + Wait + Sync>(
+fn plays_transcript<H: Abort + Threads + Wait + Clock + Sync>(
     rt: &H,
     alloc: Global,
     line: &str,

@@ -3,6 +3,7 @@
 use crate::fixtures::{holds, same};
 use crate::stand::{Shelf, Still, TREE, is_shown, is_told, seen, tells, words_in};
 use otp_console::program::run;
+use otp_live::Unwatched;
 use otp_running::Pool;
 use otp_sim::Counted;
 use otp_words::WordsFault;
@@ -13,6 +14,7 @@ use std::process::Abort;
 use std::sync::Wait;
 use std::test::Fail;
 use std::thread::Threads;
+use std::time::Clock;
 
 /// A writer that takes nothing, and how often it was asked.
 #[derive(Drop)]
@@ -65,7 +67,7 @@ fn refused_words(rt: HostRuntime) -> Result<(), Fail> {
 }
 
 /// Words that the program didn't get.
-fn refuses_faults<H: Abort + Threads + Wait + Sync>(rt: &H, alloc: Global) {
+fn refuses_faults<H: Abort + Threads + Wait + Clock + Sync>(rt: &H, alloc: Global) {
     let seen_of_text = seen(rt, alloc, Err(WordsFault::NotText), TREE, None, "");
     let told = "error: a word is not UTF-8\n";
     tells(rt, "a word that is no text", &seen_of_text, told, 2);
@@ -113,7 +115,7 @@ fn help_in_80_columns(rt: HostRuntime) -> Result<(), Fail> {
 }
 
 /// A run whose output takes nothing: it is asked once.
-fn finds_no_room<H: Abort + Threads + Wait + Sync>(
+fn finds_no_room<H: Abort + Threads + Wait + Clock + Sync>(
     rt: &H,
     alloc: Global,
     words: &[&str],
@@ -131,7 +133,11 @@ fn finds_no_room<H: Abort + Threads + Wait + Sync>(
     let mut output = Counted::new(Full { calls: 0 });
     let mut errors = Counted::new(Vec::new(alloc));
     let status = run(
-        &Pool { rt, gate: &Still },
+        &Pool {
+            rt,
+            gate: &Still,
+            watch: &Unwatched,
+        },
         alloc,
         Ok(words),
         &files,

@@ -3,6 +3,7 @@
 use crate::fixtures::{holds, same};
 use otp_console::program::run;
 use otp_ending::{TreeFiles, Unwritten};
+use otp_live::{Unwatched, Watch};
 use otp_running::Pool;
 use otp_sim::Counted;
 use otp_tree::Gate;
@@ -14,6 +15,7 @@ use std::process::Abort;
 use std::sync::Wait;
 use std::test::Fail;
 use std::thread::Threads;
+use std::time::Clock;
 
 pub(crate) const TREE: &str = "[[child]]\nid = \"a\"\nstart = \"a\"\n";
 
@@ -99,7 +101,7 @@ pub(crate) struct Streams {
 }
 
 /// Runs the program on the file `tree`.
-pub(crate) fn seen<H: Threads + Wait + Sync>(
+pub(crate) fn seen<H: Threads + Wait + Clock + Sync>(
     rt: &H,
     alloc: Global,
     words: Result<Vec<String>, WordsFault>,
@@ -119,17 +121,33 @@ pub(crate) fn seen<H: Threads + Wait + Sync>(
 }
 
 /// Runs the program on these files.
-pub(crate) fn seen_on<H: Threads + Wait + Sync, F: TreeFiles>(
+pub(crate) fn seen_on<H: Threads + Wait + Clock + Sync, F: TreeFiles>(
     rt: &H,
     alloc: Global,
     files: &F,
     words: Result<Vec<String>, WordsFault>,
     lines: &[u8],
 ) -> Streams {
+    seen_by(rt, alloc, files, words, lines, &Unwatched)
+}
+
+/// Runs the program on these files, with a watch.
+pub(crate) fn seen_by<H: Threads + Wait + Clock + Sync, F: TreeFiles, L: Watch + Sync>(
+    rt: &H,
+    alloc: Global,
+    files: &F,
+    words: Result<Vec<String>, WordsFault>,
+    lines: &[u8],
+    watch: &L,
+) -> Streams {
     let mut input = Counted::new(lines);
     let mut output = Counted::new(Vec::new(alloc));
     let mut errors = Counted::new(Vec::new(alloc));
-    let pool = Pool { rt, gate: &Still };
+    let pool = Pool {
+        rt,
+        gate: &Still,
+        watch,
+    };
     let status = run(
         &pool,
         alloc,
@@ -166,7 +184,7 @@ pub(crate) fn tells(rt: &impl Abort, what: &str, seen: &Streams, told: &str, sta
 }
 
 /// Runs the program with these words on the file `tree`, and compares what is written and told, and the status.
-pub(crate) fn shows<H: Abort + Threads + Wait + Sync>(
+pub(crate) fn shows<H: Abort + Threads + Wait + Clock + Sync>(
     rt: &H,
     alloc: Global,
     words: &[&str],
@@ -190,7 +208,7 @@ pub(crate) fn has(text: &[u8], part: &str) -> bool {
 }
 
 /// The texts of `clap` are known by a part.
-pub(crate) fn is_told<H: Abort + Threads + Wait + Sync>(
+pub(crate) fn is_told<H: Abort + Threads + Wait + Clock + Sync>(
     rt: &H,
     alloc: Global,
     words: &[&str],
@@ -206,7 +224,7 @@ pub(crate) fn is_told<H: Abort + Threads + Wait + Sync>(
 }
 
 /// The texts of help are known by a part.
-pub(crate) fn is_shown<H: Abort + Threads + Wait + Sync>(
+pub(crate) fn is_shown<H: Abort + Threads + Wait + Clock + Sync>(
     rt: &H,
     alloc: Global,
     words: &[&str],

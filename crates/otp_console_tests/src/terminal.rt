@@ -3,6 +3,7 @@
 use crate::fixtures::{same, with_status};
 use crate::stand::{Shelf, Still, TREE, words_in};
 use otp_console::program::run;
+use otp_live::Unwatched;
 use otp_running::Pool;
 use otp_sim::Counted;
 use std::alloc::Global;
@@ -12,6 +13,7 @@ use std::process::Abort;
 use std::sync::Wait;
 use std::test::Fail;
 use std::thread::Threads;
+use std::time::Clock;
 
 /// A reader of one line a call, as a terminal gives them.
 #[derive(Drop)]
@@ -35,7 +37,7 @@ impl<'a> Read for Typed<'a> {
 
 /// Runs the program on the file `tree`, where somebody types lines or they come from elsewhere, and what is written may have
 /// colours or not; compares all that is written, told, and the status.
-fn shows_at<H: Abort + Threads + Wait + Sync>(
+fn shows_at<H: Abort + Threads + Wait + Clock + Sync>(
     rt: &H,
     alloc: Global,
     words: &[&str],
@@ -59,7 +61,11 @@ fn shows_at<H: Abort + Threads + Wait + Sync>(
     let mut output = Counted::new(Vec::new(alloc));
     let mut errors = Counted::new(Vec::new(alloc));
     let status = run(
-        &Pool { rt, gate: &Still },
+        &Pool {
+            rt,
+            gate: &Still,
+            watch: &Unwatched,
+        },
         alloc,
         Ok(words),
         &files,

@@ -1,7 +1,7 @@
 //! The transcripts of the repository. `examples/check --table` writes this file from theirs.
 
 /// The name of each file that they name, and its text.
-pub(crate) const FILES: [(&str, &str); 50] = [
+pub(crate) const FILES: [(&str, &str); 51] = [
     (
         "all_significant.events",
         r##"up 1
@@ -153,6 +153,17 @@ shutdown = 100
 id = "hard"
 start = "hard"
 shutdown = "brutal_kill"
+"##,
+    ),
+    (
+        "endless.toml",
+        r##"# A worker that traps exits and goes on, whatever it is told, and may take for ever to end.
+# Look for: the stop of the root awaits its end and is given no more time than `--grace` says; then the tree is left as it is.
+
+[[child]]
+id = "a"
+start = "stubborn"
+shutdown = "infinity"
 "##,
     ),
     (
@@ -1448,7 +1459,7 @@ status 6
 ];
 
 /// The same of all other commands.
-pub(crate) const SHOWN: [(&str, &str, &str); 25] = [
+pub(crate) const SHOWN: [(&str, &str, &str); 27] = [
     (
         "limits first.toml",
         "-",
@@ -1560,6 +1571,15 @@ status 0
 "##,
     ),
     (
+        "run endless.toml --for 1s --grace 500ms",
+        "-",
+        r##"table 0 starts 1 restarts 0 end none
+live 2
+not finished, since its stop took too long: 2 processes live, and the tree awaits the end of a #2; --grace takes a longer time
+status 7
+"##,
+    ),
+    (
         "storm.toml",
         "-",
         r##"error: a file in the place of a command: say otp try FILE, or otp --help
@@ -1631,6 +1651,17 @@ one_for_one, 2 restarts in 60 s, table 0: 3 starts, 1 restart, end shutdown
   one_for_one, 1 restart in 10 s, table 1: 5 starts, 0 restarts, end shutdown
   |-- a  -
   `-- b  -
+status 0
+"##,
+    ),
+    (
+        "run nested.toml --for 1s --schedulers 1 --why",
+        "-",
+        r##"table 0 starts 3 restarts 1 end shutdown
+table 1 starts 5 restarts 0 end shutdown
+live 0
+root: 3 starts, 1 restart, was asked to stop
+pool: 5 starts, 0 restarts, was asked to stop
 status 0
 "##,
     ),

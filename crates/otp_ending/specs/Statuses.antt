@@ -12,16 +12,19 @@ use Rattle.otp_trial.specs.Taken.{taken_text}
 use Rattle.otp_ending.specs.declared.ending.Unwritten.{Unwritten}
 use Rattle.otp_ending.specs.declared.ending.Unwritten.TheVariants.{Closed, Since}
 use Rattle.otp_ending.specs.declared.ending.ProgramEnd.{ProgramEnd}
-use Rattle.otp_ending.specs.declared.ending.ProgramEnd.TheVariants.{Done, WordsRefused, NoCommand, WordNotText, FileAsCommand, TreeNotRead, FileNotRead, TreeRefused, NoTree, UnknownStart, NotFound, WrongBody, CloseMismatch, CloseMissing, FaultsFound, LineRefused, ScriptRefused, ScriptMissed, HistoryFull, InputFailed, OutputFailed, OutOfMemory, UnknownClock, ExpectationFailed, NotFinished}
+use Rattle.otp_ending.specs.declared.ending.ProgramEnd.TheVariants.{Done, WordsRefused, NoCommand, WordNotText, FileAsCommand, TreeNotRead, FileNotRead, TreeRefused, NoTree, UnknownStart, NotFound, WrongBody, CloseMismatch, CloseMissing, FaultsFound, LineRefused, ScriptRefused, ScriptMissed, HistoryFull, InputFailed, OutputFailed, OutOfMemory, UnknownClock, NotATime, NeedsFor, CountsTurns, ExpectationFailed, NotFinished}
 
 -- 0: done. 1: the tree, or a file. 2: the words. 3: the lines of the input. 4: the machine. 5: a line of a script. 6: what one
--- expects. 7: a run whose turns ran out
+-- expects. 7: a run that ran out of turns, or of time to stop
 abbrev pub status_of : ProgramEnd → ℕ
 status_of Done = 0
 status_of WordsRefused = 2
 status_of NoCommand = 2
 status_of WordNotText = 2
 status_of UnknownClock = 2
+status_of NotATime = 2
+status_of NeedsFor = 2
+status_of CountsTurns = 2
 status_of FileAsCommand = 2
 status_of TreeNotRead = 1
 status_of FileNotRead = 1
@@ -67,6 +70,9 @@ sentence_of WordsRefused = []
 sentence_of NoCommand = codes "usage: otp COMMAND FILE; otp --help says which commands there are\n"
 sentence_of WordNotText = codes "error: a word is not UTF-8\n"
 sentence_of UnknownClock = codes "error: --clock is milliseconds or seconds\n"
+sentence_of NotATime = codes "error: --for and --grace want a time, as 500ms, 2s or 5m\n"
+sentence_of NeedsFor = codes "error: --grace and --log need --for TIME\n"
+sentence_of CountsTurns = codes "error: --counts is of a run by turns, and --for is none\n"
 sentence_of FileAsCommand = codes "error: a file in the place of a command: say otp try FILE, or otp --help\n"
 sentence_of TreeNotRead = codes "tree not read\n"
 sentence_of FileNotRead = []

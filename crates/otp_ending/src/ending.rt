@@ -30,6 +30,12 @@ pub enum ProgramEnd<'a> {
     WordNotText,
     /// The clock is none that a trial is played by.
     UnknownClock,
+    /// A word is no time, where one is wanted.
+    NotATime,
+    /// The words say how a tree is served, and not how long.
+    NeedsFor,
+    /// The words ask for what is counted after turns, where no turns are counted.
+    CountsTurns,
     /// The words are a file's name, where a command is wanted.
     FileAsCommand,
     /// The tree file of `sim` can't be read.
@@ -50,7 +56,8 @@ pub enum ProgramEnd<'a> {
     CloseMismatch,
     /// E20: a part of a tree that ran is missing at its close.
     CloseMissing,
-    /// The turns of a run ran out before its tree had ended; its report was written, and it was told what is awaited.
+    /// The turns of a run, or the time for its stop, ran out before its tree had ended; its report was written, and it was told what
+    /// is awaited.
     NotFinished,
     /// `check` found faults, and has written them.
     FaultsFound,
@@ -82,6 +89,7 @@ impl<'a> ProgramEnd<'a> {
             ProgramEnd::FileNotRead | ProgramEnd::FaultsFound => 1,
             ProgramEnd::WordsRefused | ProgramEnd::NoCommand | ProgramEnd::WordNotText => 2,
             ProgramEnd::FileAsCommand | ProgramEnd::NotFound(_) | ProgramEnd::UnknownClock => 2,
+            ProgramEnd::NotATime | ProgramEnd::NeedsFor | ProgramEnd::CountsTurns => 2,
             ProgramEnd::LineRefused(_) | ProgramEnd::HistoryFull | ProgramEnd::InputFailed => 3,
             ProgramEnd::OutputFailed | ProgramEnd::OutOfMemory => 4,
             ProgramEnd::CloseMismatch | ProgramEnd::CloseMissing => 4,
@@ -201,6 +209,15 @@ fn write_sentence<E: Output>(errors: &mut E, ending: ProgramEnd<'_>) -> Result<(
         ProgramEnd::UnknownClock => write_all(
             errors,
             b"error: --clock is milliseconds or seconds\n",
+        ),
+        ProgramEnd::NotATime => write_all(
+            errors,
+            b"error: --for and --grace want a time, as 500ms, 2s or 5m\n",
+        ),
+        ProgramEnd::NeedsFor => write_all(errors, b"error: --grace and --log need --for TIME\n"),
+        ProgramEnd::CountsTurns => write_all(
+            errors,
+            b"error: --counts is of a run by turns, and --for is none\n",
         ),
         ProgramEnd::FileAsCommand => write_all(
             errors,

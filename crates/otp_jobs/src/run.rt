@@ -195,7 +195,11 @@ fn line_of(table: &TableReport) -> TableLine
 }
 
 /// What is printed of supervisors.
-fn lines_of(alloc: Global, tables: &[TableReport]) -> Result<Vec<TableLine>, AllocError>
+///
+/// # Errors
+///
+/// Where memory is refused.
+pub fn lines_of(alloc: Global, tables: &[TableReport]) -> Result<Vec<TableLine>, AllocError>
     ensures { IfOk result (λ lines. lines.items ≡ map line_of tables.now) }
 {
     let mut lines = Vec::new(alloc);

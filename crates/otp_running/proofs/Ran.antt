@@ -6,9 +6,11 @@ use Rattle.otp_file.specs.Trees.{Tree, tables_of}
 use Rattle.otp_jobs.specs.Plans.{plan_fault}
 use Rattle.otp_jobs.specs.declared.role.Calm.{Calm}
 use Rattle.otp_jobs.specs.declared.worker.WorkedJob.{WorkedJob}
+use Rattle.otp_serve.specs.declared.patient.PatientJob.{PatientJob}
+use Rattle.otp_tree.specs.declared.report.Report.{Report}
 use Rattle.otp_tree.specs.declared.whole.CountedRun.{CountedRun}
 use Rattle.otp_ending.specs.Devices.{Written}
-use Rattle.otp_running.specs.Running.{HasReport, IsEndOfRun, IsTreeRun}
+use Rattle.otp_running.specs.Running.{HasReport, HasServedReport, IsEndOfRun, IsTreeRun, IsTreeServed}
 use Rattle.otp_ending.specs.Told.{IsTold, TellsFirst}
 use Rattle.otp_ending.specs.declared.ending.ProgramEnd.{ProgramEnd}
 use Rattle.otp_ending.specs.declared.ending.ProgramEnd.TheVariants.{Done, NotFinished}
@@ -21,6 +23,15 @@ run_done counted file old new ending tree run says runnable report (inl (is, non
     subst (λ (e : ProgramEnd). IsTreeRun counted e file old new) (sym is) (tree, (says, (runnable, (run, (report, none)))))
 run_done counted file old new ending tree run says runnable report (inr (is, some)) =
     subst (λ (e : ProgramEnd). IsTreeRun counted e file old new) (sym is) (tree, (says, (runnable, (run, (report, some)))))
+
+-- the same of a tree that was served for a time
+pub serve_done : (file : List ℕ) (old new : Written) (ending : ProgramEnd) (tree : Tree) (report : Report PatientJob Calm)
+    → Says file (Ok tree) → plan_fault (tables_of tree) ≡ None → HasServedReport (length (tables_of tree)) report old.bytes new.bytes
+    → IsEndOfRun report.live ending → IsTreeServed ending file old new
+serve_done file old new ending tree report says runnable served (inl (is, none)) =
+    subst (λ (e : ProgramEnd). IsTreeServed e file old new) (sym is) (tree, (says, (runnable, (report, (served, none)))))
+serve_done file old new ending tree report says runnable served (inr (is, some)) =
+    subst (λ (e : ProgramEnd). IsTreeServed e file old new) (sym is) (tree, (says, (runnable, (report, (served, some)))))
 
 abbrev IsSet : Bool → Type 0
 IsSet true = ⊤

@@ -13,6 +13,10 @@ use Rattle.otp_jobs.specs.declared.run.FileRunFault.{FileRunFault}
 use Rattle.otp_jobs.specs.declared.run.FileRunFault.TheVariants as run
 use Rattle.otp_jobs.specs.declared.worker.WorkedJob.{WorkedJob}
 use Rattle.otp_starts.specs.Unfit.{HasStarts, IsRunnable}
+use Rattle.otp_serve.specs.Serves.{served_text}
+use Rattle.otp_serve.specs.declared.patient.PatientJob.{PatientJob}
+use Rattle.otp_tree.specs.Closes.{IsReportOf}
+use Rattle.otp_tree.specs.declared.report.Report.{Report}
 use Rattle.otp_tree.specs.declared.whole.CountedRun.{CountedRun}
 use Rattle.otp_jobs.specs.declared.plan.PlanFault.TheVariants as plan
 use Rattle.otp_check.specs.Checks.{IsFirstFault}
@@ -35,18 +39,38 @@ HasRun Left counted file old new =
     (tree : Tree) × (Says file (Ok tree) × ((plan_fault (tables_of tree) ≡ None)
     × ((run : CountedRun WorkedJob Calm) × (HasReport counted (length (tables_of tree)) run old.bytes new.bytes × Left run.report.live))))
 
+-- a tree was not run, or its report could not be made or written
+abbrev pub IsNotRun : ProgramEnd → List ℕ → Written → Written → Type 0
+IsNotRun (TreeRefused why) file old new = (new ≡ old) × (IsFirstFault why file ⊎ (HasTree file × IsOfOpening why))
+IsNotRun (UnknownStart name) file old new = (new ≡ old) × HasStarts file (plan.UnknownStart name)
+IsNotRun WrongBody file old new = (new ≡ old) × HasStarts file plan.WrongBody
+IsNotRun CloseMismatch file old new = (new ≡ old) × HasTree file
+IsNotRun CloseMissing file old new = (new ≡ old) × HasTree file
+IsNotRun OutputFailed file old new = IsRunnable file × (old.failures < new.failures)
+IsNotRun OutOfMemory file old new = new ≡ old
+IsNotRun _ file old new = ⊥
+
 -- a tree was run, and its report written; or it was not. It is finished exactly where no process is left
 abbrev pub IsTreeRun : Bool → ProgramEnd → List ℕ → Written → Written → Type 0
 IsTreeRun counted Done file old new = HasRun (λ live. live ≡ 0) counted file old new
 IsTreeRun counted NotFinished file old new = HasRun (λ live. ¬ (live ≡ 0)) counted file old new
-IsTreeRun counted (TreeRefused why) file old new = (new ≡ old) × (IsFirstFault why file ⊎ (HasTree file × IsOfOpening why))
-IsTreeRun counted (UnknownStart name) file old new = (new ≡ old) × HasStarts file (plan.UnknownStart name)
-IsTreeRun counted WrongBody file old new = (new ≡ old) × HasStarts file plan.WrongBody
-IsTreeRun counted CloseMismatch file old new = (new ≡ old) × HasTree file
-IsTreeRun counted CloseMissing file old new = (new ≡ old) × HasTree file
-IsTreeRun counted OutputFailed file old new = IsRunnable file × (old.failures < new.failures)
-IsTreeRun counted OutOfMemory file old new = new ≡ old
-IsTreeRun counted _ file old new = ⊥
+IsTreeRun counted ending file old new = IsNotRun ending file old new
+
+-- the report of a tree of so many supervisors that was served for a time
+abbrev pub HasServedReport : ℕ → Report PatientJob Calm → Option (List ℕ) → Option (List ℕ) → Type 0
+HasServedReport tables report old new = IsReportOf tables report × Appends old new (served_text report)
+
+-- the tree of a file was served to an end of this kind, and its report written
+abbrev pub HasServed : (ℕ → Type 0) → List ℕ → Written → Written → Type 0
+HasServed Left file old new =
+    (tree : Tree) × (Says file (Ok tree) × ((plan_fault (tables_of tree) ≡ None)
+    × ((report : Report PatientJob Calm) × (HasServedReport (length (tables_of tree)) report old.bytes new.bytes × Left report.live))))
+
+-- a tree was served for a time, and its report written; or it was not. It is finished exactly where no process is left
+abbrev pub IsTreeServed : ProgramEnd → List ℕ → Written → Written → Type 0
+IsTreeServed Done file old new = HasServed (λ live. live ≡ 0) file old new
+IsTreeServed NotFinished file old new = HasServed (λ live. ¬ (live ≡ 0)) file old new
+IsTreeServed ending file old new = IsNotRun ending file old new
 
 -- how a run ends that has left so many processes
 abbrev pub IsEndOfRun : ℕ → ProgramEnd → Type 0

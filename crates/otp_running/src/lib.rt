@@ -2,6 +2,8 @@
 #![tactic(auto)]
 
 pub mod running;
+pub mod serving;
 mod standing;
 
 pub use running::{Pool, explain, run_file};
+pub use serving::serve_file;

@@ -8,7 +8,7 @@ use crate::standing::draw_standing;
 use otp_ending::{ProgramEnd, write_three};
 use otp_file::{TreeFault, TreeSpec, read_tree};
 use otp_jobs::{FileRunFault, Settings, run_worked};
-use otp_outcome::{write_awaited, write_lives};
+use otp_outcome::{Limit, write_awaited, write_lives};
 use otp_sim::{Failed, Output, write_all};
 use otp_starts::find_unfit;
 use otp_text::write_number;
@@ -21,17 +21,19 @@ use std::thread::Threads;
 /// Of so many unfit starts a run that is refused tells.
 const MOST_TOLD: usize = 20;
 
-/// What trees are run with: threads, and a clock.
+/// What trees are run with: threads, a clock, and a watch.
 #[derive(Clone, Copy)]
-pub struct Pool<'a, H, G> {
+pub struct Pool<'a, H, G, L> {
     pub rt: &'a H,
     pub gate: &'a G,
+    /// Who is told what happens to each process of a tree that is served for a time.
+    pub watch: &'a L,
 }
 
 /// Reads the tree of a file, runs it with worked jobs, and writes the report, with the counts where the settings say so. What
 /// is told besides changes nothing of the output.
-pub fn run_file<'a, H, G, W, E>(
-    pool: &Pool<'_, H, G>,
+pub fn run_file<'a, H, G, L, W, E>(
+    pool: &Pool<'_, H, G, L>,
     alloc: Global,
     name: &str,
     file: &[u8],
@@ -65,7 +67,8 @@ where
         Err(fault) => return refuse_run(alloc, errors, name, file, fault),
     };
     let live = whole.report.live;
-    let Ok(remarks) = remarks_on(alloc, shows, file, whole.report.tables.as_slice(), live) else {
+    let tables = whole.report.tables.as_slice();
+    let Ok(remarks) = remarks_on(alloc, shows, Limit::Turns, file, tables, live) else {
         drop(whole);
         return ProgramEnd::OutOfMemory;
     };
@@ -81,7 +84,7 @@ where
 }
 
 /// The end of a run that has left so many processes.
-fn ending_of_live<'a>(live: u64) -> ProgramEnd<'a>
+pub(crate) fn ending_of_live<'a>(live: u64) -> ProgramEnd<'a>
     ensures { IsEndOfRun live result }
 {
     if live == 0 {
@@ -103,7 +106,7 @@ pub fn explain<E: Output>(errors: &mut E, name: &str, ending: ProgramEnd<'_>)
 }
 
 /// The end for a tree that was not run, once it is told which of its starts are unfit.
-fn refuse_run<'a, E: Output>(
+pub(crate) fn refuse_run<'a, E: Output>(
     alloc: Global,
     errors: &mut E,
     name: &str,
@@ -155,9 +158,10 @@ fn text_of_unfit(alloc: Global, name: &str, file: &[u8]) -> Result<Vec<u8>, Allo
 }
 
 /// What is told of a run beside its report: what is wanted, and of one that has left processes what it awaits.
-fn remarks_on(
+pub(crate) fn remarks_on(
     alloc: Global,
     shows: RunShows,
+    limit: Limit,
     file: &[u8],
     tables: &[TableReport],
     live: u64,
@@ -171,7 +175,7 @@ fn remarks_on(
     let Ok(tree) = read_tree(alloc, file) else {
         return Err(AllocError);
     };
-    let written = write_remarks(alloc, shows, &tree, tables, live, &mut remarks);
+    let written = write_remarks(alloc, shows, limit, &tree, tables, live, &mut remarks);
     drop(tree);
     written?;
     Ok(remarks)
@@ -181,6 +185,7 @@ fn remarks_on(
 fn write_remarks(
     alloc: Global,
     shows: RunShows,
+    limit: Limit,
     tree: &TreeSpec,
     tables: &[TableReport],
     live: u64,
@@ -193,7 +198,7 @@ fn write_remarks(
         write_lives(alloc, tree, tables, out)?;
     }
     if live > 0 {
-        write_awaited(alloc, tree, tables, live, out)?;
+        write_awaited(alloc, limit, tree, tables, live, out)?;
     }
     Ok(())
 }

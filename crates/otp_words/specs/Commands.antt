@@ -47,8 +47,11 @@ abbrev pub scheduled_app : App
 scheduled_app =
     with_rule (with_rule (file_app (codes "run")) (number_rule (codes "schedulers") 8 (codes "2"))) (number_rule (codes "turns") 10000000 (codes "100000"))
 
+abbrev pub shown_app : App
+shown_app = with_rule (with_rule (with_rule scheduled_app (flag_rule (codes "counts"))) (flag_rule (codes "tree"))) (flag_rule (codes "why"))
+
 abbrev pub run_app : App
-run_app = with_rule (with_rule (with_rule scheduled_app (flag_rule (codes "counts"))) (flag_rule (codes "tree"))) (flag_rule (codes "why"))
+run_app = with_rule (with_rule (with_rule shown_app (option_rule (codes "for"))) (option_rule (codes "grace"))) (flag_rule (codes "log"))
 
 abbrev pub played_app : App
 played_app = with_rule (with_rule (with_rule (file_app (codes "try")) script_rule) (flag_rule (codes "prompt"))) (flag_rule (codes "timeline"))

@@ -2,7 +2,7 @@
 
 ghost use Rattle.std.specs.Prelude.{◌≡◌, true, false, codes, IfOk};
 ghost use Rattle.clap.specs.Words.{app_of, new_app, rule_of, with_rule, with_subcommand};
-ghost use Rattle.otp_words.specs.Commands.{bare_app, check_app, clock_rule, file_app, file_rule, files_rule, flag_rule, limits_app, number_rule, option_rule, otp_app, played_app, run_app, scheduled_app, try_app};
+ghost use Rattle.otp_words.specs.Commands.{bare_app, check_app, clock_rule, file_app, file_rule, files_rule, flag_rule, limits_app, number_rule, option_rule, otp_app, played_app, run_app, scheduled_app, shown_app, try_app};
 
 use clap::{Arg, ArgAction};
 use std::alloc::{AllocError, Global};
@@ -14,7 +14,7 @@ const OTP_ABOUT: &str =
     "Supervisors of Erlang/OTP by rules that are proved: try them, and run trees";
 
 const OTP_STATUSES: &str =
-    "Example: otp try examples/storm.toml examples/storm_survived.script\nStatuses: 0 done, 1 a file, its tree or its starts, 2 the words, 3 a line of\nsim, the input or 2^62 events, 4 output or memory, 5 a line of a script, 6 what\na line expects, 7 a run whose turns ran out.\nThe formats stand in docs/FORMATS.md; `otp check FILE` explains what is wrong in\na tree file.";
+    "Example: otp try examples/storm.toml examples/storm_survived.script\nStatuses: 0 done, 1 a file, its tree or its starts, 2 the words, 3 a line of\nsim, the input or 2^62 events, 4 output or memory, 5 a line of a script, 6 what\na line expects, 7 a run that ran out of turns, or of time to stop.\nThe formats stand in docs/FORMATS.md; `otp check FILE` explains what is wrong in\na tree file.";
 
 const TRY_ABOUT: &str = "Says what a tree does where a script says what goes wrong";
 
@@ -24,7 +24,7 @@ const TRY_EXAMPLE: &str =
 const RUN_ABOUT: &str = "Runs a tree on threads: each child does what its start says";
 
 const RUN_EXAMPLE: &str =
-    "Example: otp run examples/nested.toml --schedulers 1\nWords of a start: steady, once, crash, crash_once, ignore, refuse, stubborn,\nbridge (`otp check --run FILE` tells which are unknown).\nEach thread takes its turns, then the root is asked to stop, and each takes as\nmany again.\nStatuses: 0 the tree was run, and has ended, 1 the file, its tree or a start\nthat is no such word, 2 the words, 4 output, memory or a tree that can't be\nclosed, 7 the turns ran out before the tree had ended.\nFormats: docs/FORMATS.md, under Runs.";
+    "Example: otp run examples/nested.toml --schedulers 1\nWords of a start: steady, once, crash, crash_once, ignore, refuse, stubborn,\nbridge (`otp check --run FILE` tells which are unknown).\nEach thread takes its turns, then the root is asked to stop, and each takes as\nmany again; with --for it is asked after that time, and threads sleep.\nStatuses: 0 the tree was run, and has ended, 1 the file, its tree or a start\nthat is no such word, 2 the words, 4 output, memory or a tree that can't be\nclosed, 7 the turns, or --grace, ran out before the tree had ended.\nFormats: docs/FORMATS.md, under Runs.";
 
 const FILE_ALONE: &str = "The tree file, in TOML";
 
@@ -88,6 +88,15 @@ const COUNTS_HELP: &str =
 const PICTURE_HELP: &str = "Draws the tree on standard error, as it stood at the end";
 
 const WHY_HELP: &str = "Says on standard error how each supervisor ended";
+
+const FOR_HELP: &str =
+    "Serves the tree until its root has ended, or for so\nlong, as 500ms, 2s or 5m; then stops it";
+
+const GRACE_HELP: &str =
+    "With --for: how long the stop may take before the tree\nis left as it is (status 7)";
+
+const LOG_HELP: &str =
+    "With --for: a line on standard error for each start and\neach end of a process";
 
 const STARTS_HELP: &str = "Looks at starts too: which of them `otp run` doesn't know";
 
@@ -288,13 +297,23 @@ fn scheduled_command<'a>(alloc: Global) -> Result<clap::Command<'a>, AllocError>
 }
 
 /// `run FILE [--schedulers N] [--turns N] [--counts] [--tree] [--why]`.
-fn run_command<'a>(alloc: Global) -> Result<clap::Command<'a>, AllocError>
-    ensures { IfOk result (λ c. app_of c ≡ run_app) }
+fn shown_command<'a>(alloc: Global) -> Result<clap::Command<'a>, AllocError>
+    ensures { IfOk result (λ c. app_of c ≡ shown_app) }
 {
     let command = scheduled_command(alloc)?;
     let command = with_arg(command, flag_arg(alloc, "counts", COUNTS_HELP))?;
     let command = with_arg(command, flag_arg(alloc, "tree", PICTURE_HELP))?;
     with_arg(command, flag_arg(alloc, "why", WHY_HELP))
+}
+
+/// The same with `[--for TIME] [--grace TIME] [--log]`.
+fn run_command<'a>(alloc: Global) -> Result<clap::Command<'a>, AllocError>
+    ensures { IfOk result (λ c. app_of c ≡ run_app) }
+{
+    let command = shown_command(alloc)?;
+    let command = with_arg(command, option_arg(alloc, "for", "TIME", FOR_HELP))?;
+    let command = with_arg(command, option_arg(alloc, "grace", "TIME", GRACE_HELP))?;
+    with_arg(command, flag_arg(alloc, "log", LOG_HELP))
 }
 
 /// The program without its commands.
