@@ -7,8 +7,8 @@ _otp() {
     fi
     case $command in
         check) options="--run --all --json --help" ;;
-        limits) options="--child --table --each --help" ;;
-        run) options="--schedulers --turns --counts --tree --why --for --grace --log --help" ;;
+        limits) options="--child --table --each --json --help" ;;
+        run) options="--schedulers --turns --counts --tree --why --for --grace --log --json --help" ;;
         shutdown) options="--help" ;;
         sim) options="--help" ;;
         tree) options="--help" ;;

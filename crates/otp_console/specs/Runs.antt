@@ -120,7 +120,7 @@ abbrev pub IsUsed : List ℕ → Usage → ProgramEnd → List ℕ → Devices �
 IsUsed name (usage.Try script writer is_drawn is_quiet clock width) ending file old new = IsTrialOf name (option_map (λ script. script.now) script) ending file old new
 IsUsed name usage.Stop ending file old new = IsUnread old new × IsStopped name ending file (writer_of old) (writer_of new)
 IsUsed name usage.Draw ending file old new = IsUnread old new × IsDrawn name ending file (writer_of old) (writer_of new)
-IsUsed name (usage.Limit pick grain) ending file old new = IsUnread old new × IsLimited grain pick name ending file (writer_of old) (writer_of new)
+IsUsed name (usage.Limit pick grain is_json) ending file old new = IsUnread old new × IsLimited is_json grain pick name ending file (writer_of old) (writer_of new)
 
 -- the same of a file of which it is known what bytes it may hold: it can't be read, or it was used
 abbrev pub Uses : (List ℕ → List ℕ → Type 0) → List ℕ → Usage → ProgramEnd → Devices → Devices → Type 0
@@ -174,16 +174,16 @@ abbrev pub ChecksAll : {T : Type 0} → Bool → (T → List ℕ → Type 0) →
 ChecksAll starts Holds names ending old new = ChecksEach starts Holds names Done ending old new ⊎ ChecksFirst starts Holds names ending old new
 
 -- a run on threads of the tree of a file whose bytes are known to be so: it can't be read, or it was run
-abbrev pub RunsTree : (List ℕ → Type 0) → Bool → ProgramEnd → Written → Written → Type 0
-RunsTree Holds counted ending old new =
+abbrev pub RunsTree : (List ℕ → Type 0) → Bool → List ℕ → Bool → ProgramEnd → Written → Written → Type 0
+RunsTree Holds is_json name counted ending old new =
     (IsUnreadEnd ending × (new ≡ old))
-    ⊎ ((file : List ℕ) × (Holds file × IsTreeRun counted ending file old new))
+    ⊎ ((file : List ℕ) × (Holds file × IsTreeRun is_json name counted ending file old new))
 
 -- the tree of such a file was served for a time
-abbrev pub ServesTree : (List ℕ → Type 0) → ProgramEnd → Written → Written → Type 0
-ServesTree Holds ending old new =
+abbrev pub ServesTree : (List ℕ → Type 0) → Bool → List ℕ → ProgramEnd → Written → Written → Type 0
+ServesTree Holds is_json name ending old new =
     (IsUnreadEnd ending × (new ≡ old))
-    ⊎ ((file : List ℕ) × (Holds file × IsTreeServed ending file old new))
+    ⊎ ((file : List ℕ) × (Holds file × IsTreeServed is_json name ending file old new))
 
 -- what a command asks for was done
 abbrev pub Does : (List ℕ → List ℕ → Type 0) → Command → ProgramEnd → Devices → Devices → Type 0
@@ -191,9 +191,9 @@ Does Holds (command.Sim file) ending old new = Simulates (Holds file.now) ending
 Does Holds (command.Check files checking) ending old new =
     IsUnread old new × ChecksAll checking.has_starts (λ name. Holds name.now) files.items ending (writer_of old) (writer_of new)
 Does Holds (command.Run file settings shows) ending old new =
-    IsUnread old new × RunsTree (Holds file.now) settings.counted ending (writer_of old) (writer_of new)
+    IsUnread old new × RunsTree (Holds file.now) shows.is_json file.now settings.counted ending (writer_of old) (writer_of new)
 Does Holds (command.Serve file settings serving shows) ending old new =
-    IsUnread old new × ServesTree (Holds file.now) ending (writer_of old) (writer_of new)
+    IsUnread old new × ServesTree (Holds file.now) shows.is_json file.now ending (writer_of old) (writer_of new)
 Does Holds (command.Use file usage) ending old new = Uses Holds file.now usage ending old new
 
 -- a picture of the tree that is run is told besides, or why its supervisors ended, where the command asks for it

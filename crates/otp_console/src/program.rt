@@ -180,7 +180,7 @@ where
     F: TreeFiles,
     W: Output,
     E: Output,
-    ensures done { RunsTree (F.holds files.now name.now) settings.counted result
+    ensures done { RunsTree (F.holds files.now name.now) shows.is_json name.now settings.counted result
         (record { bytes = W.contents output.old; failures = W.failures output.old })
         (record { bytes = W.contents output.new; failures = W.failures output.new }) }
     ensures first { TellsFirst (shows.is_drawn || shows.is_why) result (E.contents errors.old) (E.contents errors.new) (E.failures errors.old) (E.failures errors.new) }
@@ -210,7 +210,7 @@ where
     F: TreeFiles,
     W: Output,
     E: Output,
-    ensures done { ServesTree (F.holds files.now name.now) result
+    ensures done { ServesTree (F.holds files.now name.now) shows.is_json name.now result
         (record { bytes = W.contents output.old; failures = W.failures output.old })
         (record { bytes = W.contents output.new; failures = W.failures output.new }) }
     ensures first { TellsFirst (shows.is_drawn || shows.is_why) result (E.contents errors.old) (E.contents errors.new) (E.failures errors.old) (E.failures errors.new) }
@@ -286,7 +286,11 @@ fn use_file<'a, F: TreeFiles, R: Input, W: Output, E: Output>(
         ),
         Usage::Draw => draw_file(alloc, name, file, output),
         Usage::Stop => stop_file(alloc, name, file, output),
-        Usage::Limit { pick, grain } => limit_file(alloc, name, file, pick, grain, output),
+        Usage::Limit {
+            pick,
+            grain,
+            is_json,
+        } => limit_file(alloc, name, file, pick, grain, is_json, output),
     }
 }
 

@@ -1459,7 +1459,7 @@ status 6
 ];
 
 /// The same of all other commands.
-pub(crate) const SHOWN: [(&str, &str, &str); 27] = [
+pub(crate) const SHOWN: [(&str, &str, &str); 29] = [
     (
         "limits first.toml",
         "-",
@@ -1670,6 +1670,20 @@ status 0
         "-",
         r##"error: no child is found by the name pool/c
 status 2
+"##,
+    ),
+    (
+        "limits nested.toml --json",
+        "-",
+        r##"{"file": "nested.toml", "rows": [{"children": ["db"], "burst": 2, "interval": 30001, "interval_of_otp": 30500, "stops": [], "starts": ["db"], "root": 2, "ends": ["root"]}, {"children": ["pool"], "burst": 2, "interval": 30001, "interval_of_otp": 30500, "stops": [], "starts": ["pool"], "root": 2, "ends": ["root"]}, {"children": ["pool/a", "pool/b"], "burst": 1, "interval": 10001, "interval_of_otp": 11000, "stops": [], "starts": ["pool/a"], "root": 5, "ends": ["pool", "root"]}]}
+status 0
+"##,
+    ),
+    (
+        "run nested.toml --schedulers 1 --json",
+        "-",
+        r##"{"file": "nested.toml", "supervisors": [{"path": "root", "starts": 3, "restarts": 1, "end": "shutdown", "why": "was asked to stop"}, {"path": "pool", "starts": 5, "restarts": 0, "end": "shutdown", "why": "was asked to stop"}], "live": 0}
+status 0
 "##,
     ),
     (

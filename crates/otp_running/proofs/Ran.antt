@@ -16,22 +16,22 @@ use Rattle.otp_ending.specs.declared.ending.ProgramEnd.{ProgramEnd}
 use Rattle.otp_ending.specs.declared.ending.ProgramEnd.TheVariants.{Done, NotFinished}
 
 -- its report was written
-pub run_done : (counted : Bool) (file : List ℕ) (old new : Written) (ending : ProgramEnd) (tree : Tree) (run : CountedRun WorkedJob Calm)
-    → Says file (Ok tree) → plan_fault (tables_of tree) ≡ None → HasReport counted (length (tables_of tree)) run old.bytes new.bytes
-    → IsEndOfRun run.report.live ending → IsTreeRun counted ending file old new
-run_done counted file old new ending tree run says runnable report (inl (is, none)) =
-    subst (λ (e : ProgramEnd). IsTreeRun counted e file old new) (sym is) (tree, (says, (runnable, (run, (report, none)))))
-run_done counted file old new ending tree run says runnable report (inr (is, some)) =
-    subst (λ (e : ProgramEnd). IsTreeRun counted e file old new) (sym is) (tree, (says, (runnable, (run, (report, some)))))
+pub run_done : (is_json : Bool) (name : List ℕ) (counted : Bool) (file : List ℕ) (old new : Written) (ending : ProgramEnd) (tree : Tree) (run : CountedRun WorkedJob Calm)
+    → Says file (Ok tree) → plan_fault (tables_of tree) ≡ None → HasReport is_json name file counted (length (tables_of tree)) run old.bytes new.bytes
+    → IsEndOfRun run.report.live ending → IsTreeRun is_json name counted ending file old new
+run_done is_json name counted file old new ending tree run says runnable report (inl (is, none)) =
+    subst (λ (e : ProgramEnd). IsTreeRun is_json name counted e file old new) (sym is) (tree, (says, (runnable, (run, (report, none)))))
+run_done is_json name counted file old new ending tree run says runnable report (inr (is, some)) =
+    subst (λ (e : ProgramEnd). IsTreeRun is_json name counted e file old new) (sym is) (tree, (says, (runnable, (run, (report, some)))))
 
 -- the same of a tree that was served for a time
-pub serve_done : (file : List ℕ) (old new : Written) (ending : ProgramEnd) (tree : Tree) (report : Report PatientJob Calm)
-    → Says file (Ok tree) → plan_fault (tables_of tree) ≡ None → HasServedReport (length (tables_of tree)) report old.bytes new.bytes
-    → IsEndOfRun report.live ending → IsTreeServed ending file old new
-serve_done file old new ending tree report says runnable served (inl (is, none)) =
-    subst (λ (e : ProgramEnd). IsTreeServed e file old new) (sym is) (tree, (says, (runnable, (report, (served, none)))))
-serve_done file old new ending tree report says runnable served (inr (is, some)) =
-    subst (λ (e : ProgramEnd). IsTreeServed e file old new) (sym is) (tree, (says, (runnable, (report, (served, some)))))
+pub serve_done : (is_json : Bool) (name file : List ℕ) (old new : Written) (ending : ProgramEnd) (tree : Tree) (report : Report PatientJob Calm)
+    → Says file (Ok tree) → plan_fault (tables_of tree) ≡ None → HasServedReport is_json name file (length (tables_of tree)) report old.bytes new.bytes
+    → IsEndOfRun report.live ending → IsTreeServed is_json name ending file old new
+serve_done is_json name file old new ending tree report says runnable served (inl (is, none)) =
+    subst (λ (e : ProgramEnd). IsTreeServed is_json name e file old new) (sym is) (tree, (says, (runnable, (report, (served, none)))))
+serve_done is_json name file old new ending tree report says runnable served (inr (is, some)) =
+    subst (λ (e : ProgramEnd). IsTreeServed is_json name e file old new) (sym is) (tree, (says, (runnable, (report, (served, some)))))
 
 abbrev IsSet : Bool → Type 0
 IsSet true = ⊤

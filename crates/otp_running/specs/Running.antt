@@ -1,5 +1,5 @@
 -- What a run of a tree writes (own).
-use Rattle.std.specs.Prelude.{◌≡◌, ◌⊎◌, ◌<◌, ⊤, ℕ, Bool, List, Option, None, Ok, length}
+use Rattle.std.specs.Prelude.{◌≡◌, ◌⊎◌, ◌<◌, ⊤, ℕ, Bool, List, Option, None, Ok, [], length}
 use Rattle.std.specs.Io.KnownBytes.{Appends}
 use Rattle.otp_file.specs.declared.fault.TreeFault.{TreeFault}
 use Rattle.otp_file.specs.declared.fault.TreeFault.TheVariants.{TooManyTables}
@@ -13,10 +13,12 @@ use Rattle.otp_jobs.specs.declared.run.FileRunFault.{FileRunFault}
 use Rattle.otp_jobs.specs.declared.run.FileRunFault.TheVariants as run
 use Rattle.otp_jobs.specs.declared.worker.WorkedJob.{WorkedJob}
 use Rattle.otp_starts.specs.Unfit.{HasStarts, IsRunnable}
+use Rattle.otp_objects.specs.Runs.{TellsRun}
 use Rattle.otp_serve.specs.Serves.{served_text}
 use Rattle.otp_serve.specs.declared.patient.PatientJob.{PatientJob}
 use Rattle.otp_tree.specs.Closes.{IsReportOf}
 use Rattle.otp_tree.specs.declared.report.Report.{Report}
+use Rattle.otp_tree.specs.declared.report.TableReport.{TableReport}
 use Rattle.otp_tree.specs.declared.whole.CountedRun.{CountedRun}
 use Rattle.otp_jobs.specs.declared.plan.PlanFault.TheVariants as plan
 use Rattle.otp_check.specs.Checks.{IsFirstFault}
@@ -29,15 +31,21 @@ abbrev pub IsOfOpening : TreeFault → Type 0
 IsOfOpening TooManyTables = ⊤
 IsOfOpening _ = ⊥
 
--- a run of so many supervisors, and its report, behind their counts where they are wanted
-abbrev pub HasReport : Bool → ℕ → CountedRun WorkedJob Calm → Option (List ℕ) → Option (List ℕ) → Type 0
-HasReport counted tables run old new = IsRunOf tables run × Appends old new (run_text counted run)
+-- what is written of a run: this text, or an object of JSON with the name of the file
+abbrev pub IsSaid : Bool → List ℕ → List ℕ → List TableReport → ℕ → List ℕ → List ℕ → Type 0
+IsSaid false name file tables live plain text = text ≡ plain
+IsSaid true name file tables live plain text = (tree : Tree) × (Says file (Ok tree) × TellsRun name tree tables live [] text)
+
+-- a run of so many supervisors, and its report, behind their counts where they are wanted; or the object of it
+abbrev pub HasReport : Bool → List ℕ → List ℕ → Bool → ℕ → CountedRun WorkedJob Calm → Option (List ℕ) → Option (List ℕ) → Type 0
+HasReport is_json name file counted tables run old new =
+    IsRunOf tables run × ((text : List ℕ) × (IsSaid is_json name file run.report.tables.items run.report.live (run_text counted run) text × Appends old new text))
 
 -- the tree of a file was run to an end of this kind, and its report written
-abbrev pub HasRun : (ℕ → Type 0) → Bool → List ℕ → Written → Written → Type 0
-HasRun Left counted file old new =
+abbrev pub HasRun : (ℕ → Type 0) → Bool → List ℕ → Bool → List ℕ → Written → Written → Type 0
+HasRun Left is_json name counted file old new =
     (tree : Tree) × (Says file (Ok tree) × ((plan_fault (tables_of tree) ≡ None)
-    × ((run : CountedRun WorkedJob Calm) × (HasReport counted (length (tables_of tree)) run old.bytes new.bytes × Left run.report.live))))
+    × ((run : CountedRun WorkedJob Calm) × (HasReport is_json name file counted (length (tables_of tree)) run old.bytes new.bytes × Left run.report.live))))
 
 -- a tree was not run, or its report could not be made or written
 abbrev pub IsNotRun : ProgramEnd → List ℕ → Written → Written → Type 0
@@ -51,26 +59,27 @@ IsNotRun OutOfMemory file old new = new ≡ old
 IsNotRun _ file old new = ⊥
 
 -- a tree was run, and its report written; or it was not. It is finished exactly where no process is left
-abbrev pub IsTreeRun : Bool → ProgramEnd → List ℕ → Written → Written → Type 0
-IsTreeRun counted Done file old new = HasRun (λ live. live ≡ 0) counted file old new
-IsTreeRun counted NotFinished file old new = HasRun (λ live. ¬ (live ≡ 0)) counted file old new
-IsTreeRun counted ending file old new = IsNotRun ending file old new
+abbrev pub IsTreeRun : Bool → List ℕ → Bool → ProgramEnd → List ℕ → Written → Written → Type 0
+IsTreeRun is_json name counted Done file old new = HasRun (λ live. live ≡ 0) is_json name counted file old new
+IsTreeRun is_json name counted NotFinished file old new = HasRun (λ live. ¬ (live ≡ 0)) is_json name counted file old new
+IsTreeRun is_json name counted ending file old new = IsNotRun ending file old new
 
--- the report of a tree of so many supervisors that was served for a time
-abbrev pub HasServedReport : ℕ → Report PatientJob Calm → Option (List ℕ) → Option (List ℕ) → Type 0
-HasServedReport tables report old new = IsReportOf tables report × Appends old new (served_text report)
+-- the report of a tree of so many supervisors that was served for a time, or the object of it
+abbrev pub HasServedReport : Bool → List ℕ → List ℕ → ℕ → Report PatientJob Calm → Option (List ℕ) → Option (List ℕ) → Type 0
+HasServedReport is_json name file tables report old new =
+    IsReportOf tables report × ((text : List ℕ) × (IsSaid is_json name file report.tables.items report.live (served_text report) text × Appends old new text))
 
 -- the tree of a file was served to an end of this kind, and its report written
-abbrev pub HasServed : (ℕ → Type 0) → List ℕ → Written → Written → Type 0
-HasServed Left file old new =
+abbrev pub HasServed : (ℕ → Type 0) → Bool → List ℕ → List ℕ → Written → Written → Type 0
+HasServed Left is_json name file old new =
     (tree : Tree) × (Says file (Ok tree) × ((plan_fault (tables_of tree) ≡ None)
-    × ((report : Report PatientJob Calm) × (HasServedReport (length (tables_of tree)) report old.bytes new.bytes × Left report.live))))
+    × ((report : Report PatientJob Calm) × (HasServedReport is_json name file (length (tables_of tree)) report old.bytes new.bytes × Left report.live))))
 
 -- a tree was served for a time, and its report written; or it was not. It is finished exactly where no process is left
-abbrev pub IsTreeServed : ProgramEnd → List ℕ → Written → Written → Type 0
-IsTreeServed Done file old new = HasServed (λ live. live ≡ 0) file old new
-IsTreeServed NotFinished file old new = HasServed (λ live. ¬ (live ≡ 0)) file old new
-IsTreeServed ending file old new = IsNotRun ending file old new
+abbrev pub IsTreeServed : Bool → List ℕ → ProgramEnd → List ℕ → Written → Written → Type 0
+IsTreeServed is_json name Done file old new = HasServed (λ live. live ≡ 0) is_json name file old new
+IsTreeServed is_json name NotFinished file old new = HasServed (λ live. ¬ (live ≡ 0)) is_json name file old new
+IsTreeServed is_json name ending file old new = IsNotRun ending file old new
 
 -- how a run ends that has left so many processes
 abbrev pub IsEndOfRun : ℕ → ProgramEnd → Type 0

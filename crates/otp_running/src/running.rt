@@ -2,12 +2,13 @@
 
 ghost use Rattle.std.specs.Prelude.{ℕ, Bool, List, ◌≡◌, ◌≤◌, ◌||◌, [], Some, false, IfOk};
 ghost use Rattle.otp_ending.specs.Told.{IsTold, TellsFirst};
-ghost use Rattle.otp_running.specs.Running.{IsEndOfRun, IsTreeRun, ending_of_run};
+ghost use Rattle.otp_running.specs.Running.{IsEndOfRun, IsSaid, IsTreeRun, ending_of_run};
 
 use crate::standing::draw_standing;
 use otp_ending::{ProgramEnd, write_three};
 use otp_file::{TreeFault, TreeSpec, read_tree};
 use otp_jobs::{FileRunFault, Settings, run_worked};
+use otp_objects::write_run_object;
 use otp_outcome::{Limit, write_awaited, write_lives};
 use otp_sim::{Failed, Output, write_all};
 use otp_starts::find_unfit;
@@ -47,7 +48,7 @@ where
     G: Gate + Sync,
     W: Output,
     E: Output,
-    ensures done { IsTreeRun settings.counted result file.now
+    ensures done { IsTreeRun shows.is_json name.now settings.counted result file.now
         (record { bytes = W.contents output.old; failures = W.failures output.old })
         (record { bytes = W.contents output.new; failures = W.failures output.new }) }
     ensures first { TellsFirst (shows.is_drawn || shows.is_why) result (E.contents errors.old) (E.contents errors.new) (E.failures errors.old) (E.failures errors.new) }
@@ -72,8 +73,12 @@ where
         drop(whole);
         return ProgramEnd::OutOfMemory;
     };
+    let Ok(text) = say(alloc, shows.is_json, name, file, tables, live, report) else {
+        drop(whole);
+        return ProgramEnd::OutOfMemory;
+    };
     drop(whole);
-    match write_all(output, report.as_slice()) {
+    match write_all(output, text.as_slice()) {
         Ok(()) => {
             // Where nothing can be told, the report stands all the same.
             let _told = write_all(errors, remarks.as_slice());
@@ -81,6 +86,31 @@ where
         }
         Err(Failed) => ProgramEnd::OutputFailed,
     }
+}
+
+/// What is written of a run: this report, or the object of it.
+pub(crate) fn say(
+    alloc: Global,
+    is_json: bool,
+    name: &str,
+    file: &[u8],
+    tables: &[TableReport],
+    live: u64,
+    report: Vec<u8>,
+) -> Result<Vec<u8>, AllocError>
+    ensures { IfOk result (λ text. IsSaid is_json name.now file.now tables.now live report.items text.items) }
+{
+    if !is_json {
+        return Ok(report);
+    }
+    let Ok(tree) = read_tree(alloc, file) else {
+        return Err(AllocError);
+    };
+    let mut text = Vec::new(alloc);
+    let written = write_run_object(alloc, name.as_bytes(), &tree, tables, live, &mut text);
+    drop(tree);
+    written?;
+    Ok(text)
 }
 
 /// The end of a run that has left so many processes.

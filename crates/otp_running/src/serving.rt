@@ -10,7 +10,7 @@ ghost use Rattle.otp_running.specs.Running.{IsTreeServed};
 ghost use Rattle.otp_serve.specs.Serves.{served_text};
 ghost use Rattle.otp_tree.specs.Closes.{IsReportOf};
 
-use crate::running::{Pool, ending_of_live, explain, refuse_run, remarks_on};
+use crate::running::{Pool, ending_of_live, explain, refuse_run, remarks_on, say};
 use otp_ending::ProgramEnd;
 use otp_file::{TreeSpec, read_tree};
 use otp_jobs::{FileRunFault, Settings};
@@ -75,7 +75,7 @@ where
     L: Watch + Sync,
     W: Output,
     E: Output,
-    ensures done { IsTreeServed result file.now
+    ensures done { IsTreeServed shows.is_json name.now result file.now
         (record { bytes = W.contents output.old; failures = W.failures output.old })
         (record { bytes = W.contents output.new; failures = W.failures output.new }) }
     ensures first { TellsFirst (shows.is_drawn || shows.is_why) result (E.contents errors.old) (E.contents errors.new) (E.failures errors.old) (E.failures errors.new) }
@@ -97,6 +97,10 @@ where
     let live = report.live;
     let tables = report.tables.as_slice();
     let Ok(remarks) = remarks_on(alloc, shows, Limit::Grace, file, tables, live) else {
+        drop(report);
+        return ProgramEnd::OutOfMemory;
+    };
+    let Ok(text) = say(alloc, shows.is_json, name, file, tables, live, text) else {
         drop(report);
         return ProgramEnd::OutOfMemory;
     };

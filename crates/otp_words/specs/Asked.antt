@@ -85,9 +85,9 @@ AsksUse name rows (usage.Try script writer is_drawn is_quiet clock width) =
     × (IsFlagOf rows (codes "quiet") is_quiet × (IsClockOf rows clock × IsNumberOf rows (codes "width") width)))))
 AsksUse name rows usage.Draw = name ≡ codes "tree"
 AsksUse name rows usage.Stop = name ≡ codes "shutdown"
-AsksUse name rows (usage.Limit pick grain) =
+AsksUse name rows (usage.Limit pick grain is_json) =
     (name ≡ codes "limits") × (IsPickOf (first_of (codes "child") rows) (first_of (codes "table") rows) pick
-    × IsFlagOf rows (codes "each") (plays_each grain))
+    × (IsFlagOf rows (codes "each") (plays_each grain) × IsFlagOf rows (codes "json") is_json))
 
 -- how a tree is run
 abbrev pub AreSettingsOf : List Row → SettingsView → Type 0
@@ -97,7 +97,8 @@ AreSettingsOf rows settings =
 
 -- what is told of a run besides
 abbrev pub AreShownOf : List Row → RunShows → Type 0
-AreShownOf rows shows = IsFlagOf rows (codes "tree") shows.is_drawn × IsFlagOf rows (codes "why") shows.is_why
+AreShownOf rows shows =
+    IsFlagOf rows (codes "tree") shows.is_drawn × (IsFlagOf rows (codes "why") shows.is_why × IsFlagOf rows (codes "json") shows.is_json)
 
 -- how long a tree is served, how long its stop may take, and whether it is told what happens
 abbrev pub AreTimesOf : List Row → Serving → Type 0

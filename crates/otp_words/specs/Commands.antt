@@ -51,7 +51,8 @@ abbrev pub shown_app : App
 shown_app = with_rule (with_rule (with_rule scheduled_app (flag_rule (codes "counts"))) (flag_rule (codes "tree"))) (flag_rule (codes "why"))
 
 abbrev pub run_app : App
-run_app = with_rule (with_rule (with_rule shown_app (option_rule (codes "for"))) (option_rule (codes "grace"))) (flag_rule (codes "log"))
+run_app =
+    with_rule (with_rule (with_rule (with_rule shown_app (option_rule (codes "for"))) (option_rule (codes "grace"))) (flag_rule (codes "log"))) (flag_rule (codes "json"))
 
 abbrev pub played_app : App
 played_app = with_rule (with_rule (with_rule (file_app (codes "try")) script_rule) (flag_rule (codes "prompt"))) (flag_rule (codes "timeline"))
@@ -62,7 +63,8 @@ try_app =
 
 abbrev pub limits_app : App
 limits_app =
-    with_rule (with_rule (with_rule (file_app (codes "limits")) (option_rule (codes "child"))) (option_rule (codes "table"))) (flag_rule (codes "each"))
+    with_rule (with_rule (with_rule (with_rule (file_app (codes "limits")) (option_rule (codes "child"))) (option_rule (codes "table"))) (flag_rule (codes "each")))
+    (flag_rule (codes "json"))
 
 abbrev pub check_app : App
 check_app =

@@ -104,6 +104,8 @@ const ALL_HELP: &str = "Tells of all faults of a file, and not of the first 20 a
 
 const JSON_HELP: &str = "Writes an object of JSON for each file, a line each";
 
+const OBJECT_HELP: &str = "Writes one object of JSON instead, on one line";
+
 /// An argument of this name that is no value and is set or not.
 fn flag_arg<'a>(alloc: Global, name: &'a str, help: &'a str) -> Arg<'a>
     ensures rule { rule_of result ≡ flag_rule name.entry.now }
@@ -277,14 +279,15 @@ fn try_command<'a>(alloc: Global) -> Result<clap::Command<'a>, AllocError>
     with_arg(command, width_arg(alloc))
 }
 
-/// `limits FILE [--child NAME] [--table NAME] [--each]`.
+/// `limits FILE [--child NAME] [--table NAME] [--each] [--json]`.
 fn limits_command<'a>(alloc: Global) -> Result<clap::Command<'a>, AllocError>
     ensures { IfOk result (λ c. app_of c ≡ limits_app) }
 {
     let command = file_command(alloc, "limits", LIMITS_ABOUT, LIMITS_EXAMPLE, FILE_OR_INPUT)?;
     let command = with_arg(command, option_arg(alloc, "child", "NAME", CHILD_HELP))?;
     let command = with_arg(command, option_arg(alloc, "table", "NAME", TABLE_HELP))?;
-    with_arg(command, flag_arg(alloc, "each", EACH_HELP))
+    let command = with_arg(command, flag_arg(alloc, "each", EACH_HELP))?;
+    with_arg(command, flag_arg(alloc, "json", OBJECT_HELP))
 }
 
 /// `run FILE [--schedulers N] [--turns N]`.
@@ -306,14 +309,15 @@ fn shown_command<'a>(alloc: Global) -> Result<clap::Command<'a>, AllocError>
     with_arg(command, flag_arg(alloc, "why", WHY_HELP))
 }
 
-/// The same with `[--for TIME] [--grace TIME] [--log]`.
+/// The same with `[--for TIME] [--grace TIME] [--log] [--json]`.
 fn run_command<'a>(alloc: Global) -> Result<clap::Command<'a>, AllocError>
     ensures { IfOk result (λ c. app_of c ≡ run_app) }
 {
     let command = shown_command(alloc)?;
     let command = with_arg(command, option_arg(alloc, "for", "TIME", FOR_HELP))?;
     let command = with_arg(command, option_arg(alloc, "grace", "TIME", GRACE_HELP))?;
-    with_arg(command, flag_arg(alloc, "log", LOG_HELP))
+    let command = with_arg(command, flag_arg(alloc, "log", LOG_HELP))?;
+    with_arg(command, flag_arg(alloc, "json", OBJECT_HELP))
 }
 
 /// The program without its commands.
