@@ -3,7 +3,7 @@ use Rattle.std.specs.Io.KnownBytes.{Appends}
 use Rattle.otp_serve.specs.Serves.{served_text}
 use Rattle.otp_tree.specs.declared.report.TableReport.{TableReport}
 use Rattle.otp_running.specs.Running.{IsSaid}
-use Rattle.otp_running.proofs.Ran.{serve_done}
+use Rattle.otp_running.proofs.Ran.{run_told, serve_done}
 use Rattle.otp_running.proofs.serving.serve_file.Goals as goal
 
 pub returns-in-Ok-write_all-clause-done : goal.returns-in-Ok-write_all-clause-done
@@ -21,7 +21,7 @@ returns-in-Ok-write_all-clause-done g c =
             (subst (λ (tables : List TableReport). IsSaid c.args.shows.is_json c.args.name.now c.args.file.now tables c.in-Ok-serve_tree.report.live c.in-Ok-serve_tree.new.out.items c.in-Ok-say.text.items)
             c.as_slice-tables.ensures.value (c.in-Ok-say.ensures {u = tt})),
         subst (λ (l : List ℕ). Appends (g.W.Output.contents c.args.output.now) (g.W.Output.contents c.write_all.new.output) l)
-            c.as_slice-2.ensures.value (c.in-Ok-write_all.ensures {u = tt}).ok,
+            c.as_slice.ensures.value (c.in-Ok-write_all.ensures {u = tt}).ok,
       ),
     )
     c.ending_of_live.ensures
