@@ -25,7 +25,7 @@ use otp_words::{Checking, Command, RunShows, Serving, Usage, WordsFault, read_wo
 use std::alloc::Global;
 use std::sync::Wait;
 use std::thread::Threads;
-use std::time::Clock;
+use std::time;
 
 /// Does what the words of the command line ask for, and gives the exit status.
 ///
@@ -41,7 +41,7 @@ pub fn run<H, G, L, F, R, W, E>(
     errors: &mut E,
 ) -> u8
 where
-    H: Threads + Wait + Clock + Sync,
+    H: Threads + Wait + time::Clock + Sync,
     G: Gate + Sync,
     L: Watch + Sync,
     F: TreeFiles,
@@ -68,7 +68,7 @@ fn obey<'a, H, G, L, F, R, W, E>(
     errors: &mut E,
 ) -> ProgramEnd<'a>
 where
-    H: Threads + Wait + Clock + Sync,
+    H: Threads + Wait + time::Clock + Sync,
     G: Gate + Sync,
     L: Watch + Sync,
     F: TreeFiles,
@@ -102,7 +102,7 @@ pub fn do_command<'a, H, G, L, F, R, W, E>(
     errors: &mut E,
 ) -> ProgramEnd<'a>
 where
-    H: Threads + Wait + Clock + Sync,
+    H: Threads + Wait + time::Clock + Sync,
     G: Gate + Sync,
     L: Watch + Sync,
     F: TreeFiles,
@@ -205,7 +205,7 @@ fn serve_named<'a, H, G, L, F, W, E>(
     errors: &mut E,
 ) -> ProgramEnd<'a>
 where
-    H: Threads + Wait + Clock + Sync,
+    H: Threads + Wait + time::Clock + Sync,
     L: Watch + Sync,
     F: TreeFiles,
     W: Output,

@@ -195,11 +195,7 @@ fn line_of(table: &TableReport) -> TableLine
 }
 
 /// What is printed of supervisors.
-///
-/// # Errors
-///
-/// Where memory is refused.
-pub fn lines_of(alloc: Global, tables: &[TableReport]) -> Result<Vec<TableLine>, AllocError>
+fn lines_of(alloc: Global, tables: &[TableReport]) -> Result<Vec<TableLine>, AllocError>
     ensures { IfOk result (λ lines. lines.items ≡ map line_of tables.now) }
 {
     let mut lines = Vec::new(alloc);

@@ -1,9 +1,9 @@
 //! A tree of worked jobs is served for a time.
-ghost use Rattle.std.specs.Prelude.{◌≡◌, ◌<◌, ◌≤◌, ◌++◌, Some, None, IfErr, IfOk, OnOk, length};
+ghost use Rattle.std.specs.Prelude.{◌≡◌, ◌<◌, ◌≤◌, ◌++◌, Some, None, IfErr, IfOk, OnOk, length, map};
 ghost use Rattle.std.specs.Option.{option_map};
 ghost use Rattle.otp_file.specs.Trees.{tables_of};
 ghost use Rattle.otp_jobs.specs.Plans.{plan_fault};
-ghost use Rattle.otp_jobs.specs.Runs.{IsNotPlanned, IsOfRun, run_fault};
+ghost use Rattle.otp_jobs.specs.Runs.{IsNotPlanned, IsOfRun, line_of, run_fault};
 ghost use Rattle.otp_run.specs.Rule.{all_parts};
 ghost use Rattle.otp_serve.specs.Serves.{served_text};
 ghost use Rattle.otp_tree.specs.Closes.{IsReportOf};
@@ -11,9 +11,9 @@ ghost use Rattle.otp_tree.specs.Closes.{IsReportOf};
 use crate::patient::PatientJob;
 use crate::plans::{PatientPlan, patient_plans};
 use otp_file::TreeSpec;
-use otp_jobs::{Calm, FileRunFault, Settings, lines_of, plan_tree, write_report};
+use otp_jobs::{Calm, FileRunFault, Settings, TableLine, plan_tree, write_report};
 use otp_live::{Span, Watch, run_for};
-use otp_tree::{CloseFault, Report, RunFault};
+use otp_tree::{CloseFault, Report, RunFault, TableReport};
 use std::alloc::{AllocError, Global};
 use std::sync::Wait;
 use std::thread::Threads;
@@ -48,6 +48,21 @@ fn plan_patiently(alloc: Global, tree: TreeSpec) -> Result<Vec<PatientPlan>, Fil
         Ok(plans) => Ok(plans),
         Err(AllocError) => Err(FileRunFault::OutOfMemory),
     }
+}
+
+/// What is printed of supervisors.
+fn lines_of(alloc: Global, tables: &[TableReport]) -> Result<Vec<TableLine>, AllocError>
+    ensures { IfOk result (λ lines. lines.items ≡ map line_of tables.now) }
+{
+    let mut lines = Vec::new(alloc);
+    for table in tables {
+        lines.push(TableLine {
+            starts: table.starts(),
+            restarts: table.restarts(),
+            end: table.end(),
+        })?;
+    }
+    Ok(lines)
 }
 
 /// Appends what came of a run.
