@@ -1,4 +1,2 @@
 pub mod Checked
-pub mod Told
-pub mod Ran
 pub mod Tried

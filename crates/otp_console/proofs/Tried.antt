@@ -4,7 +4,7 @@ use Rattle.otp_sim.specs.Runs.{Devices}
 use Rattle.otp_try.specs.declared.play.TryEnd.{TryEnd}
 use Rattle.otp_try.specs.declared.play.TryEnd.TheVariants as trial
 use Rattle.otp_console.specs.Runs.{IsTrial, WasTried}
-use Rattle.otp_console.specs.Statuses.{ending_of_try}
+use Rattle.otp_console.specs.Endings.{ending_of_try}
 
 -- it is one of the program's
 pub is_trial : (name file : List ℕ) (old new : Devices) (end : TryEnd) → WasTried end file old new → IsTrial name (ending_of_try end) file old new

@@ -1,6 +1,3 @@
-pub mod Statuses
-pub mod Limited
+pub mod Endings
 pub mod Runs
 pub mod Words
-pub mod Devices
-pub mod Running

@@ -15,16 +15,19 @@ use Rattle.otp_try.specs.declared.play.TryEnd.{TryEnd}
 use Rattle.otp_try.specs.declared.play.TryEnd.TheVariants as trial
 use Rattle.otp_jobs.specs.declared.plan.PlanFault.{PlanFault}
 use Rattle.otp_starts.specs.Unfit.{HasStarts, IsRunnable}
-use Rattle.otp_console.specs.Devices.{HasTree, IsUnread, Written, writer_of}
+use Rattle.otp_ending.specs.Devices.{HasTree, IsUnread, Written, writer_of}
 use Rattle.otp_folds.specs.declared.alike.Grain.{Grain}
 use Rattle.otp_folds.specs.declared.pick.Pick.{Pick}
-use Rattle.otp_console.specs.Limited.{HasLimits, HasNone, IsNameOf}
-use Rattle.otp_console.specs.Running.{IsTreeRun}
-use Rattle.otp_console.specs.Statuses.{status_of, sentence_since}
-use Rattle.otp_console.specs.declared.ending.Unwritten.{Unwritten}
-use Rattle.otp_console.specs.declared.ending.ProgramEnd.{ProgramEnd}
-use Rattle.otp_console.specs.declared.ending.ProgramEnd.TheVariants.{Done, WordsRefused, NoCommand, WordNotText, FileAsCommand, TreeNotRead, FileNotRead, TreeRefused, NoTree, UnknownStart, NotFound, WrongBody, CloseMismatch, CloseMissing, FaultsFound, LineRefused, ScriptRefused, ScriptMissed, HistoryFull, InputFailed, OutputFailed, OutOfMemory, ExpectationFailed, UnknownClock, NotFinished}
-use Rattle.otp_console.specs.declared.files.TheConstants.{LARGEST_TREE}
+use Rattle.otp_questions.specs.Limited.{IsLimited}
+use Rattle.otp_questions.specs.Said.{IsDrawn}
+use Rattle.otp_questions.specs.Stopped.{IsStopped}
+use Rattle.otp_running.specs.Running.{IsTreeRun, IsTreeServed}
+use Rattle.otp_ending.specs.Statuses.{status_of}
+use Rattle.otp_ending.specs.Told.{IsSmall, IsUnreadEnd, Tells, TellsFirst, goes_on, worse}
+use Rattle.otp_ending.specs.declared.ending.Unwritten.{Unwritten}
+use Rattle.otp_ending.specs.declared.ending.ProgramEnd.{ProgramEnd}
+use Rattle.otp_ending.specs.declared.ending.ProgramEnd.TheVariants.{Done, WordsRefused, NoCommand, WordNotText, FileAsCommand, TreeNotRead, FileNotRead, TreeRefused, NoTree, UnknownStart, NotFound, WrongBody, CloseMismatch, CloseMissing, FaultsFound, LineRefused, ScriptRefused, ScriptMissed, HistoryFull, InputFailed, OutputFailed, OutOfMemory, ExpectationFailed, UnknownClock, NotATime, NeedsFor, CountsTurns, NotFinished}
+use Rattle.otp_ending.specs.declared.files.TheConstants.{LARGEST_TREE}
 use Rattle.otp_words.specs.declared.words.Command.{Command}
 use Rattle.otp_words.specs.declared.words.Command.TheVariants as command
 use Rattle.otp_words.specs.declared.words.Usage.{Usage}
@@ -41,6 +44,9 @@ IsRun WordsRefused file old new = ⊥
 IsRun NoCommand file old new = ⊥
 IsRun WordNotText file old new = ⊥
 IsRun UnknownClock file old new = ⊥
+IsRun NotATime file old new = ⊥
+IsRun NeedsFor file old new = ⊥
+IsRun CountsTurns file old new = ⊥
 IsRun FileAsCommand file old new = ⊥
 IsRun TreeNotRead file old new = ⊥
 IsRun FileNotRead file old new = ⊥
@@ -75,14 +81,13 @@ Answers WordsRefused old new = new ≡ old
 Answers NoCommand old new = new ≡ old
 Answers WordNotText old new = new ≡ old
 Answers UnknownClock old new = new ≡ old
+Answers NotATime old new = new ≡ old
+Answers NeedsFor old new = new ≡ old
+Answers CountsTurns old new = new ≡ old
 Answers FileAsCommand old new = new ≡ old
 Answers OutputFailed old new = IsUnread old new × (old.write_failures < new.write_failures)
 Answers OutOfMemory old new = new ≡ old
 Answers _ old new = ⊥
-
--- a tree file that is parsed by what people use: it is not too large for a tree
-abbrev pub IsSmall : List ℕ → Type 0
-IsSmall file = length file ≤ LARGEST_TREE
 
 -- the file says a tree, and what was written is a run of its supervisors that ended so: all their orders, or their ends alone
 abbrev pub WasTried : TryEnd → List ℕ → Devices → Devices → Type 0
@@ -103,29 +108,6 @@ IsTrial name OutputFailed file old new = WasTried trial.OutputFailed file old ne
 IsTrial name OutOfMemory file old new = (new ≡ old) ⊎ WasTried trial.OutOfMemory file old new
 IsTrial name _ file old new = ⊥
 
--- a text was written, and so it ends well; or the writer failed
-abbrev pub IsWritten : ProgramEnd → ProgramEnd → ℕ → ℕ → Type 0
-IsWritten ending well failures_before failures_now = (ending ≡ well) ⊎ ((ending ≡ OutputFailed) × (failures_before < failures_now))
-
--- what is said of the tree of the file of this name could not be: the file says none, there is no memory, or the writer failed
-abbrev pub IsNotSaid : List ℕ → ProgramEnd → List ℕ → Written → Written → Type 0
-IsNotSaid name (NoTree why named) file old new = (new ≡ old) × ((named.now ≡ name) × IsFirstFault why file)
-IsNotSaid name OutputFailed file old new = HasTree file × (old.failures < new.failures)
-IsNotSaid name OutOfMemory file old new = new ≡ old
-IsNotSaid name _ file old new = ⊥
-
--- a tree was drawn
-abbrev pub IsDrawn : List ℕ → ProgramEnd → List ℕ → Written → Written → Type 0
-IsDrawn name Done file old new = HasTree file
-IsDrawn name ending file old new = IsNotSaid name ending file old new
-
--- the limits of a tree were written, or none of its children has the name that is asked for
-abbrev pub IsLimited : Grain → Pick → List ℕ → ProgramEnd → List ℕ → Written → Written → Type 0
-IsLimited grain pick name Done file old new = (text : List ℕ) × (HasLimits grain pick file text × Appends old.bytes new.bytes text)
-IsLimited grain pick name (NotFound what) file old new = (new ≡ old) × (IsNameOf pick what × HasNone grain pick file)
-IsLimited grain pick name HistoryFull file old new = (new ≡ old) × HasTree file
-IsLimited grain pick name ending file old new = IsNotSaid name ending file old new
-
 -- the script is in another file, of which nothing of the input is read: that can't be read, or the tree was tried by it
 abbrev pub IsTrialOf : List ℕ → Option (List ℕ) → ProgramEnd → List ℕ → Devices → Devices → Type 0
 IsTrialOf name None ending file old new = IsTrial name ending file old new
@@ -136,14 +118,19 @@ IsTrialOf name (Some script) ending file old new =
 -- the tree file of this name was used so
 abbrev pub IsUsed : List ℕ → Usage → ProgramEnd → List ℕ → Devices → Devices → Type 0
 IsUsed name (usage.Try script writer is_drawn is_quiet clock width) ending file old new = IsTrialOf name (option_map (λ script. script.now) script) ending file old new
+IsUsed name usage.Stop ending file old new = IsUnread old new × IsStopped name ending file (writer_of old) (writer_of new)
 IsUsed name usage.Draw ending file old new = IsUnread old new × IsDrawn name ending file (writer_of old) (writer_of new)
-IsUsed name (usage.Limit pick grain) ending file old new = IsUnread old new × IsLimited grain pick name ending file (writer_of old) (writer_of new)
+IsUsed name (usage.Limit pick grain is_json) ending file old new = IsUnread old new × IsLimited is_json grain pick name ending file (writer_of old) (writer_of new)
 
 -- the same of a file of which it is known what bytes it may hold: it can't be read, or it was used
 abbrev pub Uses : (List ℕ → List ℕ → Type 0) → List ℕ → Usage → ProgramEnd → Devices → Devices → Type 0
 Uses Holds name usage ending old new =
     ((ending ≡ FileNotRead) × (new ≡ old)) ⊎ ((ending ≡ OutOfMemory) × (new ≡ old))
     ⊎ ((file : List ℕ) × ((Holds name file × IsSmall file) × IsUsed name usage ending file old new))
+
+-- a text was written, and so it ends well; or the writer failed
+abbrev pub IsWritten : ProgramEnd → ProgramEnd → ℕ → ℕ → Type 0
+IsWritten ending well failures_before failures_now = (ending ≡ well) ⊎ ((ending ≡ OutputFailed) × (failures_before < failures_now))
 
 -- the file says a tree; and where its starts are checked too, it can be run
 abbrev pub IsLawfulFor : Bool → List ℕ → Type 0
@@ -169,18 +156,6 @@ Checks starts Holds ending old new =
     IsWritten ending FileNotRead old.failures new.failures ⊎ ((ending ≡ OutOfMemory) × (new ≡ old))
     ⊎ ((file : List ℕ) × ((Holds file × IsSmall file) × IsChecked starts ending file old new))
 
--- whether the next file is checked after a check that ended so
-abbrev pub goes_on : ProgramEnd → Bool
-goes_on Done = true
-goes_on FaultsFound = true
-goes_on FileNotRead = true
-goes_on _ = false
-
--- how two checks end, one after the other: faults in one are faults of both
-abbrev pub worse : ProgramEnd → ProgramEnd → ProgramEnd
-worse first Done = first
-worse first rest = rest
-
 -- these files were checked, one after the other, and after each the next could be; before them it was to end so
 abbrev pub ChecksEach : {T : Type 0} → Bool → (T → List ℕ → Type 0) → List T → ProgramEnd → ProgramEnd → Written → Written → Type 0
 ChecksEach starts Holds [] so_far ending old new = (ending ≡ so_far) × (new ≡ old)
@@ -198,15 +173,17 @@ ChecksFirst {T} starts Holds names ending old new =
 abbrev pub ChecksAll : {T : Type 0} → Bool → (T → List ℕ → Type 0) → List T → ProgramEnd → Written → Written → Type 0
 ChecksAll starts Holds names ending old new = ChecksEach starts Holds names Done ending old new ⊎ ChecksFirst starts Holds names ending old new
 
--- a tree that is to be run can't be read: of a file that isn't told why, of standard input it is
-abbrev pub IsUnreadEnd : ProgramEnd → Type 0
-IsUnreadEnd ending = (ending ≡ TreeNotRead) ⊎ ((ending ≡ FileNotRead) ⊎ (ending ≡ OutOfMemory))
-
 -- a run on threads of the tree of a file whose bytes are known to be so: it can't be read, or it was run
-abbrev pub RunsTree : (List ℕ → Type 0) → Bool → ProgramEnd → Written → Written → Type 0
-RunsTree Holds counted ending old new =
+abbrev pub RunsTree : (List ℕ → Type 0) → Bool → List ℕ → Bool → ProgramEnd → Written → Written → Type 0
+RunsTree Holds is_json name counted ending old new =
     (IsUnreadEnd ending × (new ≡ old))
-    ⊎ ((file : List ℕ) × (Holds file × IsTreeRun counted ending file old new))
+    ⊎ ((file : List ℕ) × (Holds file × IsTreeRun is_json name counted ending file old new))
+
+-- the tree of such a file was served for a time
+abbrev pub ServesTree : (List ℕ → Type 0) → Bool → List ℕ → ProgramEnd → Written → Written → Type 0
+ServesTree Holds is_json name ending old new =
+    (IsUnreadEnd ending × (new ≡ old))
+    ⊎ ((file : List ℕ) × (Holds file × IsTreeServed is_json name ending file old new))
 
 -- what a command asks for was done
 abbrev pub Does : (List ℕ → List ℕ → Type 0) → Command → ProgramEnd → Devices → Devices → Type 0
@@ -214,12 +191,15 @@ Does Holds (command.Sim file) ending old new = Simulates (Holds file.now) ending
 Does Holds (command.Check files checking) ending old new =
     IsUnread old new × ChecksAll checking.has_starts (λ name. Holds name.now) files.items ending (writer_of old) (writer_of new)
 Does Holds (command.Run file settings shows) ending old new =
-    IsUnread old new × RunsTree (Holds file.now) settings.counted ending (writer_of old) (writer_of new)
+    IsUnread old new × RunsTree (Holds file.now) shows.is_json file.now settings.counted ending (writer_of old) (writer_of new)
+Does Holds (command.Serve file settings serving shows) ending old new =
+    IsUnread old new × ServesTree (Holds file.now) shows.is_json file.now ending (writer_of old) (writer_of new)
 Does Holds (command.Use file usage) ending old new = Uses Holds file.now usage ending old new
 
 -- a picture of the tree that is run is told besides, or why its supervisors ended, where the command asks for it
 abbrev pub draws : Command → Bool
 draws (command.Run file settings shows) = shows.is_drawn || shows.is_why
+draws (command.Serve file settings serving shows) = shows.is_drawn || shows.is_why
 draws _ = false
 
 -- what the words ask for was done, for some command, with a picture or without; or the words alone were answered
@@ -227,39 +207,12 @@ abbrev pub Obeys : (List ℕ → List ℕ → Type 0) → Bool → ProgramEnd �
 Obeys Holds drawn ending old new =
     ((command : Command) × ((draws command ≡ drawn) × Does Holds command ending old new)) ⊎ ((drawn ≡ false) × Answers ending old new)
 
--- a text was written, or the writer failed
-abbrev pub IsTold : List ℕ → Option (List ℕ) → Option (List ℕ) → ℕ → ℕ → Type 0
-IsTold text before now failures_before failures_now = (failures_before < failures_now) ⊎ Appends before now text
-
--- what is told before the program ends: why `clap` refuses the words, why a file can't be read, which command explains why a
--- tree is refused, which starts are unfit, what a run awaits that isn't finished, and where it is wanted a picture of a tree
--- that was run, or why its supervisors ended
-abbrev pub is_told_first : Bool → ProgramEnd → Bool
-is_told_first drawn WordsRefused = true
-is_told_first drawn FileNotRead = true
-is_told_first drawn (TreeRefused _) = true
-is_told_first drawn (UnknownStart _) = true
-is_told_first drawn WrongBody = true
-is_told_first drawn NotFinished = true
-is_told_first drawn Done = drawn
-is_told_first drawn _ = false
-
--- before the program ends nothing else is told
-abbrev pub TellsFirst : Bool → ProgramEnd → Option (List ℕ) → Option (List ℕ) → ℕ → ℕ → Type 0
-TellsFirst drawn ending before now failures_before failures_now =
-    (text : List ℕ) × ((is_told_first drawn ending ≡ false → text ≡ []) × IsTold text before now failures_before failures_now)
-
 -- what was done, and what was told before the program ends
 pub record IsObeyed (Holds : List ℕ → List ℕ → Type 0) (ending : ProgramEnd) (old new : Devices)
     (before now : Option (List ℕ)) (failures_before failures_now : ℕ) : Type 0 where
   pub drawn : Bool
   pub done : Obeys Holds drawn ending old new
   pub first : TellsFirst drawn ending before now failures_before failures_now
-
--- and with it the sentence of the ending, by why the output last failed
-abbrev pub Tells : Bool → Unwritten → ProgramEnd → Option (List ℕ) → Option (List ℕ) → ℕ → ℕ → Type 0
-Tells drawn why ending before now failures_before failures_now =
-    (text : List ℕ) × ((is_told_first drawn ending ≡ false → text ≡ []) × IsTold (text ++ sentence_since why ending) before now failures_before failures_now)
 
 -- a run of the program: how it ended, its status, what it did to its input and output, and what it told
 pub record IsProgramRun (Holds : List ℕ → List ℕ → Type 0) (status : ℕ) (old new : Devices)

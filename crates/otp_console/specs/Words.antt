@@ -4,9 +4,9 @@ use Rattle.clap.specs.declared.error.Error.{Error}
 use Rattle.clap.specs.declared.error.kind.ErrorKind.TheVariants as kind
 use Rattle.clap.specs.Values.{kind_of}
 use Rattle.otp_words.specs.declared.words.WordsFault.{WordsFault}
-use Rattle.otp_words.specs.declared.words.WordsFault.TheVariants.{Clap, NoCommand, FileAsCommand, UnknownClock, Topic, NotText, OutOfMemory}
-use Rattle.otp_console.specs.declared.ending.ProgramEnd.{ProgramEnd}
-use Rattle.otp_console.specs.declared.ending.ProgramEnd.TheVariants as ending
+use Rattle.otp_words.specs.declared.words.WordsFault.TheVariants.{Clap, NoCommand, FileAsCommand, UnknownClock, NotATime, NeedsFor, CountsTurns, Topic, NotText, OutOfMemory}
+use Rattle.otp_ending.specs.declared.ending.ProgramEnd.{ProgramEnd}
+use Rattle.otp_ending.specs.declared.ending.ProgramEnd.TheVariants as ending
 
 -- `clap` was asked for its help or its version, and has refused nothing
 abbrev pub IsShown : Error → Type 0
@@ -20,6 +20,9 @@ EndsFor (Clap error) end =
 EndsFor NoCommand end = end ≡ ending.NoCommand
 EndsFor FileAsCommand end = end ≡ ending.FileAsCommand
 EndsFor UnknownClock end = end ≡ ending.UnknownClock
+EndsFor NotATime end = end ≡ ending.NotATime
+EndsFor NeedsFor end = end ≡ ending.NeedsFor
+EndsFor CountsTurns end = end ≡ ending.CountsTurns
 EndsFor (Topic _) end = (end ≡ ending.Done) ⊎ (end ≡ ending.OutputFailed)
 EndsFor NotText end = end ≡ ending.WordNotText
 EndsFor OutOfMemory end = end ≡ ending.OutOfMemory

@@ -1,15 +1,12 @@
-//! `check` and `tree`: what a tree file says, and what is wrong in it.
+//! `check`: what is wrong in a tree file?
 
 ghost use Rattle.std.specs.Prelude.{◌≡◌, ◌≤◌, ◌<◌, true, OnErr};
-ghost use Rattle.otp_console.specs.Runs.{IsChecked, IsDrawn, IsWritten};
-ghost use Rattle.otp_console.specs.declared.ending.ProgramEnd.TheVariants.{Done, FaultsFound, FileNotRead};
+ghost use Rattle.otp_console.specs.Runs.{IsChecked, IsWritten};
+ghost use Rattle.otp_ending.specs.declared.ending.ProgramEnd.TheVariants.{Done, FaultsFound, FileNotRead};
 
-use crate::ending::{ProgramEnd, write_numbered};
-use crate::files::write_three;
 use crate::objects::{write_fault_object, write_lawful_object, write_unread_object};
 use otp_check::{Remark, check, warning};
-use otp_file::read_tree;
-use otp_picture::draw;
+use otp_ending::{ProgramEnd, write_numbered, write_three};
 use otp_sim::{Failed, Output, write_all};
 use otp_starts::find_unfit;
 use otp_words::Checking;
@@ -195,30 +192,4 @@ fn write_line<W: Output>(
     }
     write_all(output, text)?;
     write_all(output, b"\n")
-}
-/// Draws the tree that a file says.
-pub fn draw_file<'a, W: Output>(
-    alloc: Global,
-    name: &'a str,
-    file: &[u8],
-    output: &mut W,
-) -> ProgramEnd<'a>
-    ensures { IsDrawn name.now result file.now
-        (record { bytes = W.contents output.old; failures = W.failures output.old })
-        (record { bytes = W.contents output.new; failures = W.failures output.new }) }
-{
-    let tree = match read_tree(alloc, file) {
-        Ok(tree) => tree,
-        Err(fault) => return ProgramEnd::of_no_tree(fault, name),
-    };
-    let mut picture = Vec::new(alloc);
-    let Ok(()) = draw(alloc, &tree, &mut picture) else {
-        drop(tree);
-        return ProgramEnd::OutOfMemory;
-    };
-    drop(tree);
-    match write_all(output, picture.as_slice()) {
-        Ok(()) => ProgramEnd::Done,
-        Err(Failed) => ProgramEnd::OutputFailed,
-    }
 }

@@ -1,9 +1,11 @@
 //! The program but for its words, its files and its standard streams.
 
+ghost use Rattle.std.specs.Prelude.{◌≡◌};
+ghost use Rattle.otp_console.specs.Endings.{ending_of};
 ghost use Rattle.otp_console.specs.Runs.{IsRun};
 
-use crate::ending::ProgramEnd;
-use otp_file::{TreeFault, read_tree};
+use otp_ending::ProgramEnd;
+use otp_file::read_tree;
 use otp_sim::{Input, Output, SimEnd, sim};
 use std::alloc::Global;
 
@@ -23,44 +25,19 @@ pub fn console<'a, R: Input, W: Output>(
         Err(fault) => return ProgramEnd::of_tree(fault),
     };
     let (supervisor, _, _) = tree.into_parts();
-    ProgramEnd::of_sim(sim(alloc, supervisor, input, output))
+    end_of_sim(sim(alloc, supervisor, input, output))
 }
 
-impl<'a> ProgramEnd<'a> {
-    ghost use Rattle.std.specs.Prelude.{◌≡◌};
-    ghost use Rattle.otp_console.specs.Statuses.{ending_of, ending_of_tree, ending_of_no_tree};
-
-    /// The end of a run of `sim`.
-    fn of_sim(end: SimEnd) -> Self
-        ensures { result ≡ ending_of end }
-    {
-        match end {
-            SimEnd::Done => ProgramEnd::Done,
-            SimEnd::LineRefused(line) => ProgramEnd::LineRefused(line),
-            SimEnd::HistoryFull => ProgramEnd::HistoryFull,
-            SimEnd::InputFailed => ProgramEnd::InputFailed,
-            SimEnd::OutputFailed => ProgramEnd::OutputFailed,
-            SimEnd::Memory => ProgramEnd::OutOfMemory,
-        }
-    }
-
-    /// The end for a tree that is not had.
-    pub(crate) fn of_tree(fault: TreeFault) -> Self
-        ensures { result ≡ ending_of_tree fault }
-    {
-        match fault {
-            TreeFault::OutOfMemory => ProgramEnd::OutOfMemory,
-            _ => ProgramEnd::TreeRefused(fault),
-        }
-    }
-
-    /// The same of a command whose user is told who explains the fault.
-    pub(crate) fn of_no_tree(fault: TreeFault, name: &'a str) -> Self
-        ensures { result ≡ ending_of_no_tree fault name.entry }
-    {
-        match fault {
-            TreeFault::OutOfMemory => ProgramEnd::OutOfMemory,
-            _ => ProgramEnd::NoTree(fault, name),
-        }
+/// The end of a run of `sim`.
+fn end_of_sim<'a>(end: SimEnd) -> ProgramEnd<'a>
+    ensures { result ≡ ending_of end }
+{
+    match end {
+        SimEnd::Done => ProgramEnd::Done,
+        SimEnd::LineRefused(line) => ProgramEnd::LineRefused(line),
+        SimEnd::HistoryFull => ProgramEnd::HistoryFull,
+        SimEnd::InputFailed => ProgramEnd::InputFailed,
+        SimEnd::OutputFailed => ProgramEnd::OutputFailed,
+        SimEnd::Memory => ProgramEnd::OutOfMemory,
     }
 }

@@ -1,15 +1,11 @@
-//! The program: `run FILE` runs a tree on threads and prints its report; `sim FILE` reads a tree file and then lines of standard input, and prints the orders of its supervisor;
-//! `try FILE` says what the tree does where a script says what goes wrong, `check FILE` what
-//! is wrong in the file, `limits FILE` what each child's failure costs, and `tree FILE` draws it.
+//! The program, as a function of its words, its files, its input and two writers: `sim FILE` reads a tree file and then lines
+//! of standard input, and prints the orders of its supervisor; `try FILE` says what the tree does where a script says what goes
+//! wrong, and `check FILE` what is wrong in the file. What runs trees is in `otp_running`, and questions that one text answers
+//! are in `otp_questions`.
 #![tactic(auto)]
 
 pub mod checking;
 pub mod console;
-pub mod ending;
-pub mod files;
-pub mod limiting;
 mod objects;
 pub mod program;
-pub mod running;
-mod standing;
 pub mod trying;

@@ -1,33 +1,38 @@
 //! The program but for the system under it: what it does for which words, and what it tells on which stream.
 
 ghost use Rattle.std.specs.Prelude.{ℕ, List, Option, ◌≡◌, ◌≤◌, ◌⊎◌, ◌||◌, IfErr, IfOk, OnOk, option_map, true, false};
-ghost use Rattle.otp_console.specs.Runs.{Answers, Checks, ChecksAll, Does, IsObeyed, IsProgramRun, IsTrial, IsTrialOf, IsUsed, RunsTree, Simulates, TellsFirst, Uses, draws};
-ghost use Rattle.otp_console.specs.declared.ending.ProgramEnd.TheVariants as end;
+ghost use Rattle.otp_console.specs.Runs.{Answers, Checks, ChecksAll, Does, IsObeyed, IsProgramRun, IsTrial, IsTrialOf, IsUsed, RunsTree, ServesTree, Simulates, Uses, draws};
+ghost use Rattle.otp_ending.specs.Told.{TellsFirst};
+ghost use Rattle.otp_ending.specs.declared.ending.ProgramEnd.TheVariants as end;
 ghost use Rattle.otp_console.specs.Words.{EndsFor};
 ghost use Rattle.otp_words.specs.declared.words.WordsFault.TheVariants.{Clap};
 
-use crate::checking::{check_file, draw_file, write_unread};
+use crate::checking::{check_file, write_unread};
 use crate::console::console;
-use crate::ending::{ProgramEnd, tell};
-use crate::files::{TreeFiles, Unread, read_file, read_run_file, read_small, read_tree_file};
-use crate::limiting::limit_file;
-use crate::running::{Pool, explain, run_file};
 use crate::trying::try_file;
 use clap::Error;
+use otp_ending::{
+    ProgramEnd, TreeFiles, Unread, read_file, read_run_file, read_small, read_tree_file, tell,
+};
 use otp_jobs::Settings;
+use otp_live::Watch;
+use otp_questions::{draw_file, limit_file, stop_file};
+use otp_running::{Pool, explain, run_file, serve_file};
 use otp_sim::{Counted, Failed, Input, Output, write_all};
 use otp_tree::Gate;
 use otp_try::{Clock, Shows, Writer};
-use otp_words::{Checking, Command, RunShows, Usage, WordsFault, read_words};
+use otp_words::{Checking, Command, RunShows, Serving, Usage, WordsFault, read_words};
 use std::alloc::Global;
 use std::sync::Wait;
 use std::thread::Threads;
+use std::time;
 
 /// Does what the words of the command line ask for, and gives the exit status.
 ///
-/// Orders and help are written to `output`. Why the program ends, if not well, is told on `errors`, and nothing else is.
-pub fn run<H, G, F, R, W, E>(
-    pool: &Pool<'_, H, G>,
+/// Orders and help are written to `output`. Why the program ends, if not well, is told on `errors`, and nothing else is. What
+/// happens to each process of a tree that is served is told the pool's watch alone, and that where `--log` asks for it.
+pub fn run<H, G, L, F, R, W, E>(
+    pool: &Pool<'_, H, G, L>,
     alloc: Global,
     words: Result<Vec<String>, WordsFault>,
     files: &F,
@@ -36,8 +41,9 @@ pub fn run<H, G, F, R, W, E>(
     errors: &mut E,
 ) -> u8
 where
-    H: Threads + Wait + Sync,
+    H: Threads + Wait + time::Clock + Sync,
     G: Gate + Sync,
+    L: Watch + Sync,
     F: TreeFiles,
     R: Input,
     W: Output,
@@ -52,8 +58,8 @@ where
 }
 
 /// Does what the words ask for, the program's own name first, or answers them.
-fn obey<'a, H, G, F, R, W, E>(
-    pool: &Pool<'_, H, G>,
+fn obey<'a, H, G, L, F, R, W, E>(
+    pool: &Pool<'_, H, G, L>,
     alloc: Global,
     words: &'a Result<Vec<String>, WordsFault>,
     files: &F,
@@ -62,8 +68,9 @@ fn obey<'a, H, G, F, R, W, E>(
     errors: &mut E,
 ) -> ProgramEnd<'a>
 where
-    H: Threads + Wait + Sync,
+    H: Threads + Wait + time::Clock + Sync,
     G: Gate + Sync,
+    L: Watch + Sync,
     F: TreeFiles,
     R: Input,
     W: Output,
@@ -85,8 +92,8 @@ where
 }
 
 /// Does what a command asks for.
-pub fn do_command<'a, H, G, F, R, W, E>(
-    pool: &Pool<'_, H, G>,
+pub fn do_command<'a, H, G, L, F, R, W, E>(
+    pool: &Pool<'_, H, G, L>,
     alloc: Global,
     command: Command<'a>,
     files: &F,
@@ -95,8 +102,9 @@ pub fn do_command<'a, H, G, F, R, W, E>(
     errors: &mut E,
 ) -> ProgramEnd<'a>
 where
-    H: Threads + Wait + Sync,
+    H: Threads + Wait + time::Clock + Sync,
     G: Gate + Sync,
+    L: Watch + Sync,
     F: TreeFiles,
     R: Input,
     W: Output,
@@ -118,6 +126,14 @@ where
             settings,
             shows,
         } => run_named(pool, alloc, files, file, settings, shows, output, errors),
+        Command::Serve {
+            file,
+            settings,
+            serving,
+            shows,
+        } => serve_named(
+            pool, alloc, files, file, settings, serving, shows, output, errors,
+        ),
         Command::Use { file, usage } => use_named(alloc, files, file, usage, input, output, errors),
     }
 }
@@ -148,8 +164,8 @@ fn simulate<'a, F: TreeFiles, R: Input, W: Output, E: Output>(
 }
 
 /// Runs the tree of a file on threads.
-fn run_named<'a, H, G, F, W, E>(
-    pool: &Pool<'_, H, G>,
+fn run_named<'a, H, G, L, F, W, E>(
+    pool: &Pool<'_, H, G, L>,
     alloc: Global,
     files: &F,
     name: &'a str,
@@ -164,7 +180,7 @@ where
     F: TreeFiles,
     W: Output,
     E: Output,
-    ensures done { RunsTree (F.holds files.now name.now) settings.counted result
+    ensures done { RunsTree (F.holds files.now name.now) shows.is_json name.now settings.counted result
         (record { bytes = W.contents output.old; failures = W.failures output.old })
         (record { bytes = W.contents output.new; failures = W.failures output.new }) }
     ensures first { TellsFirst (shows.is_drawn || shows.is_why) result (E.contents errors.old) (E.contents errors.new) (E.failures errors.old) (E.failures errors.new) }
@@ -172,6 +188,38 @@ where
 {
     match read_run_file(files, name, errors) {
         Ok(file) => run_file(pool, alloc, name, &file, settings, shows, output, errors),
+        Err(ending) => ending,
+    }
+}
+
+/// Serves the tree of a file on threads for a time.
+fn serve_named<'a, H, G, L, F, W, E>(
+    pool: &Pool<'_, H, G, L>,
+    alloc: Global,
+    files: &F,
+    name: &'a str,
+    settings: Settings,
+    serving: Serving,
+    shows: RunShows,
+    output: &mut W,
+    errors: &mut E,
+) -> ProgramEnd<'a>
+where
+    H: Threads + Wait + time::Clock + Sync,
+    L: Watch + Sync,
+    F: TreeFiles,
+    W: Output,
+    E: Output,
+    ensures done { ServesTree (F.holds files.now name.now) shows.is_json name.now result
+        (record { bytes = W.contents output.old; failures = W.failures output.old })
+        (record { bytes = W.contents output.new; failures = W.failures output.new }) }
+    ensures first { TellsFirst (shows.is_drawn || shows.is_why) result (E.contents errors.old) (E.contents errors.new) (E.failures errors.old) (E.failures errors.new) }
+    ensures kept { E.failures errors.old ≤ E.failures errors.new }
+{
+    match read_run_file(files, name, errors) {
+        Ok(file) => serve_file(
+            pool, alloc, name, &file, settings, serving, shows, output, errors,
+        ),
         Err(ending) => ending,
     }
 }
@@ -237,7 +285,12 @@ fn use_file<'a, F: TreeFiles, R: Input, W: Output, E: Output>(
             errors,
         ),
         Usage::Draw => draw_file(alloc, name, file, output),
-        Usage::Limit { pick, grain } => limit_file(alloc, name, file, pick, grain, output),
+        Usage::Stop => stop_file(alloc, name, file, output),
+        Usage::Limit {
+            pick,
+            grain,
+            is_json,
+        } => limit_file(alloc, name, file, pick, grain, is_json, output),
     }
 }
 
@@ -382,6 +435,9 @@ fn answer<'a, W: Output, E: Output>(
         WordsFault::NoCommand => ProgramEnd::NoCommand,
         WordsFault::FileAsCommand => ProgramEnd::FileAsCommand,
         WordsFault::UnknownClock => ProgramEnd::UnknownClock,
+        WordsFault::NotATime => ProgramEnd::NotATime,
+        WordsFault::NeedsFor => ProgramEnd::NeedsFor,
+        WordsFault::CountsTurns => ProgramEnd::CountsTurns,
         WordsFault::Topic(text) => show_text(text, output),
         WordsFault::NotText => ProgramEnd::WordNotText,
         WordsFault::OutOfMemory => ProgramEnd::OutOfMemory,

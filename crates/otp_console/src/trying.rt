@@ -1,10 +1,10 @@
 //! `try`: what would a tree do?
 
 ghost use Rattle.std.specs.Prelude.{◌≡◌};
+ghost use Rattle.otp_console.specs.Endings.{ending_of_try};
 ghost use Rattle.otp_console.specs.Runs.{IsTrial};
-ghost use Rattle.otp_console.specs.Statuses.{ending_of_try};
 
-use crate::ending::ProgramEnd;
+use otp_ending::ProgramEnd;
 use otp_file::read_tree;
 use otp_sim::{Input, Output};
 use otp_try::{Clock, Shows, TryEnd, Writer, try_tree};
@@ -29,23 +29,21 @@ pub fn try_file<'a, R: Input, W: Output>(
         Ok(tree) => tree,
         Err(fault) => return ProgramEnd::of_no_tree(fault, name),
     };
-    ProgramEnd::of_try(try_tree(alloc, tree, writer, shows, clock, script, output))
+    end_of_try(try_tree(alloc, tree, writer, shows, clock, script, output))
 }
 
-impl<'a> ProgramEnd<'a> {
-    /// The end of a trial.
-    fn of_try(end: TryEnd) -> Self
-        ensures { result ≡ ending_of_try end }
-    {
-        match end {
-            TryEnd::Done => ProgramEnd::Done,
-            TryEnd::LineRefused(line, fault) => ProgramEnd::ScriptRefused(line, fault),
-            TryEnd::LineMissed(line, taken) => ProgramEnd::ScriptMissed(line, taken),
-            TryEnd::ExpectationFailed(line) => ProgramEnd::ExpectationFailed(line),
-            TryEnd::HistoryFull => ProgramEnd::HistoryFull,
-            TryEnd::InputFailed => ProgramEnd::InputFailed,
-            TryEnd::OutputFailed => ProgramEnd::OutputFailed,
-            TryEnd::OutOfMemory => ProgramEnd::OutOfMemory,
-        }
+/// The end of a trial.
+fn end_of_try<'a>(end: TryEnd) -> ProgramEnd<'a>
+    ensures { result ≡ ending_of_try end }
+{
+    match end {
+        TryEnd::Done => ProgramEnd::Done,
+        TryEnd::LineRefused(line, fault) => ProgramEnd::ScriptRefused(line, fault),
+        TryEnd::LineMissed(line, taken) => ProgramEnd::ScriptMissed(line, taken),
+        TryEnd::ExpectationFailed(line) => ProgramEnd::ExpectationFailed(line),
+        TryEnd::HistoryFull => ProgramEnd::HistoryFull,
+        TryEnd::InputFailed => ProgramEnd::InputFailed,
+        TryEnd::OutputFailed => ProgramEnd::OutputFailed,
+        TryEnd::OutOfMemory => ProgramEnd::OutOfMemory,
     }
 }

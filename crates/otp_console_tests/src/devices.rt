@@ -2,7 +2,7 @@
 
 use crate::fixtures::{said, same};
 use otp_console::console::console;
-use otp_console::ending::ProgramEnd;
+use otp_ending::ProgramEnd;
 use otp_sim::Counted;
 use std::alloc::Global;
 use std::cell::Cell;

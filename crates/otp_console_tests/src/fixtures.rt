@@ -1,7 +1,7 @@
 //! Input played, and what was written and told of it.
 
 use otp_console::console::console;
-use otp_console::ending::{ProgramEnd, Unwritten, tell};
+use otp_ending::{ProgramEnd, Unwritten, tell};
 use otp_sim::Counted;
 use std::alloc::{AllocError, Global};
 use std::fmt::Debug;

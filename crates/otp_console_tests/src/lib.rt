@@ -5,14 +5,24 @@
 #![tactic(auto)]
 
 #[cfg(test)]
+mod commands;
+#[cfg(test)]
 mod devices;
 #[cfg(test)]
 mod fixtures;
 #[cfg(test)]
 mod long;
 #[cfg(test)]
-mod program;
+mod played;
+#[cfg(test)]
+mod refusals;
 #[cfg(test)]
 mod rows;
+#[cfg(test)]
+mod runs;
+#[cfg(test)]
+mod stand;
+#[cfg(test)]
+mod terminal;
 #[cfg(test)]
 mod transcripts;

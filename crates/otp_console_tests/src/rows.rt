@@ -2,7 +2,7 @@
 
 use crate::fixtures::{plays, same};
 use otp_console::console::console;
-use otp_console::ending::ProgramEnd;
+use otp_ending::ProgramEnd;
 use otp_file::TreeFault;
 use otp_sim::Counted;
 use std::test::Fail;

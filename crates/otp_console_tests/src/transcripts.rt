@@ -1,7 +1,7 @@
 //! The transcripts of the repository. `examples/check --table` writes this file from theirs.
 
 /// The name of each file that they name, and its text.
-pub(crate) const FILES: [(&str, &str); 50] = [
+pub(crate) const FILES: [(&str, &str); 51] = [
     (
         "all_significant.events",
         r##"up 1
@@ -153,6 +153,17 @@ shutdown = 100
 id = "hard"
 start = "hard"
 shutdown = "brutal_kill"
+"##,
+    ),
+    (
+        "endless.toml",
+        r##"# A worker that traps exits and goes on, whatever it is told, and may take for ever to end.
+# Look for: the stop of the root awaits its end and is given no more time than `--grace` says; then the tree is left as it is.
+
+[[child]]
+id = "a"
+start = "stubborn"
+shutdown = "infinity"
 "##,
     ),
     (
@@ -1448,7 +1459,7 @@ status 6
 ];
 
 /// The same of all other commands.
-pub(crate) const SHOWN: [(&str, &str, &str); 23] = [
+pub(crate) const SHOWN: [(&str, &str, &str); 29] = [
     (
         "limits first.toml",
         "-",
@@ -1547,6 +1558,28 @@ status 0
 "##,
     ),
     (
+        "shutdown deadlines.toml",
+        "-",
+        r##"the longest stop may take for ever
+  no limit  patient
+  others    0.100 s
+          from         until  shutdown       child, in the order of the stops
+       0.000 s       0.000 s  brutal_kill    hard
+       0.000 s       0.100 s  100 ms         slow
+       0.100 s      no limit  infinity       patient
+status 0
+"##,
+    ),
+    (
+        "run endless.toml --for 1s --grace 500ms",
+        "-",
+        r##"table 0 starts 1 restarts 0 end none
+live 2
+not finished, since its stop took too long: 2 processes live, and the tree awaits the end of a #2; --grace takes a longer time
+status 7
+"##,
+    ),
+    (
         "storm.toml",
         "-",
         r##"error: a file in the place of a command: say otp try FILE, or otp --help
@@ -1622,10 +1655,35 @@ status 0
 "##,
     ),
     (
+        "run nested.toml --for 1s --schedulers 1 --why",
+        "-",
+        r##"table 0 starts 3 restarts 1 end shutdown
+table 1 starts 5 restarts 0 end shutdown
+live 0
+root: 3 starts, 1 restart, was asked to stop
+pool: 5 starts, 0 restarts, was asked to stop
+status 0
+"##,
+    ),
+    (
         "limits nested.toml --child pool/c",
         "-",
         r##"error: no child is found by the name pool/c
 status 2
+"##,
+    ),
+    (
+        "limits nested.toml --json",
+        "-",
+        r##"{"file": "nested.toml", "rows": [{"children": ["db"], "burst": 2, "interval": 30001, "interval_of_otp": 30500, "stops": [], "starts": ["db"], "root": 2, "ends": ["root"]}, {"children": ["pool"], "burst": 2, "interval": 30001, "interval_of_otp": 30500, "stops": [], "starts": ["pool"], "root": 2, "ends": ["root"]}, {"children": ["pool/a", "pool/b"], "burst": 1, "interval": 10001, "interval_of_otp": 11000, "stops": [], "starts": ["pool/a"], "root": 5, "ends": ["pool", "root"]}]}
+status 0
+"##,
+    ),
+    (
+        "run nested.toml --schedulers 1 --json",
+        "-",
+        r##"{"file": "nested.toml", "supervisors": [{"path": "root", "starts": 3, "restarts": 1, "end": "shutdown", "why": "was asked to stop"}, {"path": "pool", "starts": 5, "restarts": 0, "end": "shutdown", "why": "was asked to stop"}], "live": 0}
+status 0
 "##,
     ),
     (
@@ -1651,6 +1709,17 @@ one_for_one, 2 restarts in 60 s, table 0: 2 starts, 0 restarts, runs
   `-- b  starting #5
 not finished, since the turns ran out: 3 processes live, and the tree awaits the start of pool/b #5; --turns takes a greater number
 status 7
+"##,
+    ),
+    (
+        "shutdown nested.toml",
+        "-",
+        r##"the longest stop takes 15.000 s
+          from         until  shutdown       child, in the order of the stops
+       0.000 s       5.000 s  5000 ms        pool/b
+       5.000 s      10.000 s  5000 ms        pool/a
+      10.000 s      15.000 s  5000 ms        db
+status 0
 "##,
     ),
     (

@@ -1,10 +1,10 @@
 //! The program on the system that it is run on.
 
 use crate::screen::Screen;
-use otp_console::ending::Unwritten;
-use otp_console::files::{LARGEST_TREE, TreeFiles};
 use otp_console::program::run;
-use otp_console::running::Pool;
+use otp_ending::{LARGEST_TREE, TreeFiles, Unwritten};
+use otp_live::LogLines;
+use otp_running::Pool;
 use otp_sim::Counted;
 use otp_words::words_of;
 use std::alloc::Global;
@@ -15,10 +15,11 @@ use std::process::ExitCode;
 use std::sync::Wait;
 use std::sync::atomic::{AtomicU64, Ordering};
 use std::thread::Threads;
+use std::time::Clock;
 use std::{env, fs, io};
 
 /// Does what the words of the command line ask for. Trees are run with these threads, which `main` alone has.
-pub fn otp<H: Threads + Wait + Sync>(rt: &HostRuntime, threads: &H) -> ExitCode {
+pub fn otp<H: Threads + Wait + Clock + Sync>(rt: &HostRuntime, threads: &H) -> ExitCode {
     let mut input = Counted::new(rt.stdin());
     let system = System {
         rt,
@@ -32,6 +33,7 @@ pub fn otp<H: Threads + Wait + Sync>(rt: &HostRuntime, threads: &H) -> ExitCode 
     let pool = Pool {
         rt: threads,
         gate: &Screen::start(rt),
+        watch: &LogLines::to(rt, rt.alloc()),
     };
     let status = run(
         &pool,

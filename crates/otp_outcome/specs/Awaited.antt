@@ -10,6 +10,8 @@ use Rattle.otp_table.specs.declared.row.RowState.TheVariants as row
 use Rattle.otp_report.specs.declared.report.TableReport.{TableReport}
 use Rattle.otp_trial.specs.Played.{IsPlanted, Seated}
 use Rattle.otp_outcome.specs.Lives.{count_text}
+use Rattle.otp_outcome.specs.declared.awaited.Limit.{Limit}
+use Rattle.otp_outcome.specs.declared.awaited.Limit.TheVariants.{Turns, Grace}
 
 -- a child is awaited that was ordered to start or to end, and hasn't
 unfoldable pub is_awaited : RowState → Bool
@@ -62,21 +64,24 @@ unfoldable pub wait_text : Option (List ℕ × Row) → List ℕ
 wait_text None = []
 wait_text (Some wait) = codes ", and the tree awaits " ++ state_text wait.1.state wait.0 wait.1
 
-unfoldable pub unfinished : List ℕ
-unfinished = codes "not finished, since the turns ran out: "
+-- why a tree is left before it has ended
+unfoldable pub unfinished : Limit → List ℕ
+unfinished Turns = codes "not finished, since the turns ran out: "
+unfinished Grace = codes "not finished, since its stop took too long: "
 
--- how many processes live in a tree whose turns have run out
-unfoldable pub living_text : ℕ → List ℕ
-living_text live = unfinished ++ count_text live (codes " process lives") (codes " processes live")
+-- how many processes live in a tree that is left so
+unfoldable pub living_text : Limit → ℕ → List ℕ
+living_text limit live = unfinished limit ++ count_text live (codes " process lives") (codes " processes live")
 
 -- what there is to do
-unfoldable pub advice : List ℕ
-advice = codes "; --turns takes a greater number\n"
+unfoldable pub advice : Limit → List ℕ
+advice Turns = codes "; --turns takes a greater number\n"
+advice Grace = codes "; --grace takes a longer time\n"
 
--- one sentence, a line: how many processes live in a tree whose turns have run out, and for what it waits
-unfoldable pub awaited_text : ℕ → Option (List ℕ × Row) → List ℕ
-awaited_text live wait = living_text live ++ wait_text wait ++ advice
+-- one sentence, a line: how many processes live in a tree that is left, and for what it waits
+unfoldable pub awaited_text : Limit → ℕ → Option (List ℕ × Row) → List ℕ
+awaited_text limit live wait = living_text limit live ++ wait_text wait ++ advice limit
 
 -- the sentence was put behind a text
-abbrev pub TellsAwaited : Tree → List TableReport → ℕ → List ℕ → List ℕ → Type 0
-TellsAwaited tree tables live old new = (seats : List Seated) × (IsPlanted true tree seats × (new ≡ old ++ awaited_text live (last_wait seats tables)))
+abbrev pub TellsAwaited : Limit → Tree → List TableReport → ℕ → List ℕ → List ℕ → Type 0
+TellsAwaited limit tree tables live old new = (seats : List Seated) × (IsPlanted true tree seats × (new ≡ old ++ awaited_text limit live (last_wait seats tables)))

@@ -13,6 +13,15 @@ use otp_tree::TableReport;
 use otp_trial::{Seat, plant_seats};
 use std::alloc::{AllocError, Global};
 
+/// What ran out before a tree had ended.
+#[derive(Clone, Copy, Debug, PartialEq, Eq)]
+pub enum Limit {
+    /// The turns of its threads.
+    Turns,
+    /// The time that its stop may take.
+    Grace,
+}
+
 /// A child that is awaited, and what stands in front of its id: the ids of the supervisors from the root's child on.
 #[derive(Clone, Copy)]
 struct Wait<'a> {
@@ -137,71 +146,85 @@ fn write_wait(wait: Option<Wait<'_>>, out: &mut Vec<u8>) -> Result<(), AllocErro
     }
 }
 
-/// Appends why a run isn't finished.
+/// Appends why a tree is left before it has ended.
 #[tactic(auto, unfolding(crate::specs::Awaited::unfinished))]
-fn write_unfinished(out: &mut Vec<u8>) -> Result<(), AllocError>
-    ensures { OnOk result (out.new.items ≡ out.old.items ++ unfinished) }
+fn write_unfinished(limit: Limit, out: &mut Vec<u8>) -> Result<(), AllocError>
+    ensures { OnOk result (out.new.items ≡ out.old.items ++ unfinished limit) }
 {
-    out.extend_from_slice(b"not finished, since the turns ran out: ")
+    match limit {
+        Limit::Turns => out.extend_from_slice(b"not finished, since the turns ran out: "),
+        Limit::Grace => out.extend_from_slice(b"not finished, since its stop took too long: "),
+    }
 }
 
-/// Appends how many processes live in a tree whose turns have run out.
+/// Appends how many processes live in a tree that is left.
 #[tactic(auto, unfolding(crate::specs::Awaited::living_text))]
-fn write_living(live: u64, out: &mut Vec<u8>) -> Result<(), AllocError>
-    ensures { OnOk result (out.new.items ≡ out.old.items ++ living_text live) }
+fn write_living(limit: Limit, live: u64, out: &mut Vec<u8>) -> Result<(), AllocError>
+    ensures { OnOk result (out.new.items ≡ out.old.items ++ living_text limit live) }
 {
-    write_unfinished(out)?;
+    write_unfinished(limit, out)?;
     write_count(live, b" process lives", b" processes live", out)
 }
 
 /// Appends what there is to do.
 #[tactic(auto, unfolding(crate::specs::Awaited::advice))]
-fn write_advice(out: &mut Vec<u8>) -> Result<(), AllocError>
-    ensures { OnOk result (out.new.items ≡ out.old.items ++ advice) }
+fn write_advice(limit: Limit, out: &mut Vec<u8>) -> Result<(), AllocError>
+    ensures { OnOk result (out.new.items ≡ out.old.items ++ advice limit) }
 {
-    out.extend_from_slice(b"; --turns takes a greater number\n")
+    match limit {
+        Limit::Turns => out.extend_from_slice(b"; --turns takes a greater number\n"),
+        Limit::Grace => out.extend_from_slice(b"; --grace takes a longer time\n"),
+    }
 }
 
 /// Appends the sentence.
 #[tactic(auto, unfolding(crate::specs::Awaited::awaited_text))]
-fn write_sentence(live: u64, wait: Option<Wait<'_>>, out: &mut Vec<u8>) -> Result<(), AllocError>
-    ensures { OnOk result (out.new.items ≡ out.old.items ++ awaited_text live (option_map (λ wait. (wait.path.now, wait.child)) wait.entry)) }
+fn write_sentence(
+    limit: Limit,
+    live: u64,
+    wait: Option<Wait<'_>>,
+    out: &mut Vec<u8>,
+) -> Result<(), AllocError>
+    ensures { OnOk result (out.new.items ≡ out.old.items ++ awaited_text limit live (option_map (λ wait. (wait.path.now, wait.child)) wait.entry)) }
 {
-    write_living(live, out)?;
+    write_living(limit, live, out)?;
     write_wait(wait, out)?;
-    write_advice(out)
+    write_advice(limit, out)
 }
 
 /// Appends the sentence for supervisors of a tree, by their numbers.
 fn write_awaited_of(
+    limit: Limit,
     seats: &[Seat],
     tables: &[TableReport],
     live: u64,
     out: &mut Vec<u8>,
 ) -> Result<(), AllocError>
-    ensures { OnOk result (out.new.items ≡ out.old.items ++ awaited_text live (last_wait seats.now tables.now)) }
+    ensures { OnOk result (out.new.items ≡ out.old.items ++ awaited_text limit live (last_wait seats.now tables.now)) }
 {
-    write_sentence(live, last_wait(seats, tables), out)
+    write_sentence(limit, live, last_wait(seats, tables), out)
 }
 
-/// Appends one sentence, a line: how many processes live in a tree whose turns have run out, and for what it waits.
+/// Appends one sentence, a line: how many processes live in a tree that was left for this before it had ended, and for what it
+/// waits.
 ///
 /// # Errors
 ///
 /// Where memory is refused.
 pub fn write_awaited(
     alloc: Global,
+    limit: Limit,
     tree: &TreeSpec,
     tables: &[TableReport],
     live: u64,
     out: &mut Vec<u8>,
 ) -> Result<(), AllocError>
-    ensures { OnOk result (TellsAwaited tree.now tables.now live out.old.items out.new.items) }
+    ensures { OnOk result (TellsAwaited limit tree.now tables.now live out.old.items out.new.items) }
 {
     let Ok(seats) = plant_seats(alloc, tree) else {
         return Err(AllocError);
     };
-    let written = write_awaited_of(seats.as_slice(), tables, live, out);
+    let written = write_awaited_of(limit, seats.as_slice(), tables, live, out);
     drop(seats);
     written
 }

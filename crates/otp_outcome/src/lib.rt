@@ -5,5 +5,5 @@ mod awaited;
 mod life;
 mod words;
 
-pub use awaited::write_awaited;
-pub use life::write_lives;
+pub use awaited::{Limit, write_awaited};
+pub use life::{supervisor_name, write_end, write_lives};

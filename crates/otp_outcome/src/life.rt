@@ -16,7 +16,7 @@ use std::alloc::{AllocError, Global};
 
 /// The path of a supervisor whose children have this in front of their ids.
 #[tactic(auto, unfolding(crate::specs::Lives::supervisor_text))]
-fn supervisor_name(path: &[u8]) -> &[u8]
+pub fn supervisor_name(path: &[u8]) -> &[u8]
     ensures { result.now ≡ supervisor_text path.now }
 {
     match path {
@@ -91,8 +91,12 @@ fn write_failed(id: &Name, out: &mut Vec<u8>) -> Result<(), AllocError>
 }
 
 /// Appends why a supervisor that has these flags ended, or that it hasn't.
+///
+/// # Errors
+///
+/// Where memory is refused.
 #[tactic(auto, unfolding(crate::specs::Lives::end_text))]
-fn write_end(flags: &SupFlags, phase: Phase, out: &mut Vec<u8>) -> Result<(), AllocError>
+pub fn write_end(flags: &SupFlags, phase: Phase, out: &mut Vec<u8>) -> Result<(), AllocError>
     ensures { OnOk result (out.new.items ≡ out.old.items ++ end_text flags.now phase) }
 {
     match phase {

@@ -11,8 +11,12 @@ use Rattle.otp_trial.specs.declared.clock.Clock.{Clock}
 use Rattle.otp_trial.specs.declared.clock.Clock.TheVariants.{Milliseconds, Seconds}
 use Rattle.otp_try.specs.declared.play.Writer.{Writer}
 use Rattle.otp_try.specs.declared.play.Writer.TheVariants.{Script, Person}
+use Rattle.otp_jobs.specs.Runs.{SettingsView}
+use Rattle.otp_words.specs.Times.{time_in}
 use Rattle.otp_words.specs.declared.words.Command.{Command}
 use Rattle.otp_words.specs.declared.words.Command.TheVariants as command
+use Rattle.otp_words.specs.declared.words.RunShows.{RunShows}
+use Rattle.otp_words.specs.declared.words.Serving.{Serving}
 use Rattle.otp_words.specs.declared.words.Usage.{Usage}
 use Rattle.otp_words.specs.declared.words.Usage.TheVariants as usage
 
@@ -37,6 +41,11 @@ IsFileOf rows file = first_of (codes "FILE") rows ≡ Some file
 abbrev pub script_in : Option Text → Option Text
 script_in None = None
 script_in (Some name) = if bytes_eq name (codes "-") then None else Some name
+
+-- the time that is given, if one is: none where the word says no time
+abbrev pub time_given : Option Text → Option (Option ℕ)
+time_given None = Some None
+time_given (Some word) = option_map Some (time_in word)
 
 abbrev pub is_person : Writer → Bool
 is_person Script = false
@@ -75,9 +84,27 @@ AsksUse name rows (usage.Try script writer is_drawn is_quiet clock width) =
     × (IsFlagOf rows (codes "prompt") (is_person writer) × (IsFlagOf rows (codes "timeline") is_drawn
     × (IsFlagOf rows (codes "quiet") is_quiet × (IsClockOf rows clock × IsNumberOf rows (codes "width") width)))))
 AsksUse name rows usage.Draw = name ≡ codes "tree"
-AsksUse name rows (usage.Limit pick grain) =
+AsksUse name rows usage.Stop = name ≡ codes "shutdown"
+AsksUse name rows (usage.Limit pick grain is_json) =
     (name ≡ codes "limits") × (IsPickOf (first_of (codes "child") rows) (first_of (codes "table") rows) pick
-    × IsFlagOf rows (codes "each") (plays_each grain))
+    × (IsFlagOf rows (codes "each") (plays_each grain) × IsFlagOf rows (codes "json") is_json))
+
+-- how a tree is run
+abbrev pub AreSettingsOf : List Row → SettingsView → Type 0
+AreSettingsOf rows settings =
+    IsNumberOf rows (codes "schedulers") settings.schedulers × (IsNumberOf rows (codes "turns") settings.turns
+    × IsFlagOf rows (codes "counts") settings.counted)
+
+-- what is told of a run besides
+abbrev pub AreShownOf : List Row → RunShows → Type 0
+AreShownOf rows shows =
+    IsFlagOf rows (codes "tree") shows.is_drawn × (IsFlagOf rows (codes "why") shows.is_why × IsFlagOf rows (codes "json") shows.is_json)
+
+-- how long a tree is served, how long its stop may take, and whether it is told what happens
+abbrev pub AreTimesOf : List Row → Serving → Type 0
+AreTimesOf rows serving =
+    (time_given (first_of (codes "for") rows) ≡ Some (Some serving.time)) × ((time_given (first_of (codes "grace") rows) ≡ Some serving.grace)
+    × IsFlagOf rows (codes "log") serving.is_logged)
 
 -- the subcommand of this name asks for this, with what was found for it
 abbrev pub Asks : Text → List Row → Command → Type 0
@@ -87,9 +114,9 @@ Asks name rows (command.Check files checking) =
     × (IsFlagOf rows (codes "run") checking.has_starts
     × (IsFlagOf rows (codes "all") checking.has_all × IsFlagOf rows (codes "json") checking.is_json)))
 Asks name rows (command.Run file settings shows) =
-    (name ≡ codes "run") × (IsFileOf rows file.now
-    × (IsNumberOf rows (codes "schedulers") settings.schedulers × (IsNumberOf rows (codes "turns") settings.turns
-    × (IsFlagOf rows (codes "counts") settings.counted × (IsFlagOf rows (codes "tree") shows.is_drawn × IsFlagOf rows (codes "why") shows.is_why)))))
+    (name ≡ codes "run") × (IsFileOf rows file.now × (first_of (codes "for") rows ≡ None × (AreSettingsOf rows settings × AreShownOf rows shows)))
+Asks name rows (command.Serve file settings serving shows) =
+    (name ≡ codes "run") × (IsFileOf rows file.now × (AreTimesOf rows serving × (AreSettingsOf rows settings × AreShownOf rows shows)))
 Asks name rows (command.Use file what) = IsFileOf rows file.now × AsksUse name rows what
 
 -- the same of the subcommand that was found in the words, if one was

@@ -47,8 +47,12 @@ abbrev pub scheduled_app : App
 scheduled_app =
     with_rule (with_rule (file_app (codes "run")) (number_rule (codes "schedulers") 8 (codes "2"))) (number_rule (codes "turns") 10000000 (codes "100000"))
 
+abbrev pub shown_app : App
+shown_app = with_rule (with_rule (with_rule scheduled_app (flag_rule (codes "counts"))) (flag_rule (codes "tree"))) (flag_rule (codes "why"))
+
 abbrev pub run_app : App
-run_app = with_rule (with_rule (with_rule scheduled_app (flag_rule (codes "counts"))) (flag_rule (codes "tree"))) (flag_rule (codes "why"))
+run_app =
+    with_rule (with_rule (with_rule (with_rule shown_app (option_rule (codes "for"))) (option_rule (codes "grace"))) (flag_rule (codes "log"))) (flag_rule (codes "json"))
 
 abbrev pub played_app : App
 played_app = with_rule (with_rule (with_rule (file_app (codes "try")) script_rule) (flag_rule (codes "prompt"))) (flag_rule (codes "timeline"))
@@ -59,7 +63,8 @@ try_app =
 
 abbrev pub limits_app : App
 limits_app =
-    with_rule (with_rule (with_rule (file_app (codes "limits")) (option_rule (codes "child"))) (option_rule (codes "table"))) (flag_rule (codes "each"))
+    with_rule (with_rule (with_rule (with_rule (file_app (codes "limits")) (option_rule (codes "child"))) (option_rule (codes "table"))) (flag_rule (codes "each")))
+    (flag_rule (codes "json"))
 
 abbrev pub check_app : App
 check_app =
@@ -72,5 +77,5 @@ bare_app = record (new_app (codes "otp")) { top = record (new_shape (codes "otp"
 
 abbrev pub otp_app : App
 otp_app =
-    with_subcommand (with_subcommand (with_subcommand (with_subcommand (with_subcommand (with_subcommand bare_app run_app.top) try_app.top)
-    check_app.top) (file_app (codes "tree")).top) limits_app.top) (file_app (codes "sim")).top
+    with_subcommand (with_subcommand (with_subcommand (with_subcommand (with_subcommand (with_subcommand (with_subcommand bare_app run_app.top) try_app.top)
+    check_app.top) (file_app (codes "tree")).top) limits_app.top) (file_app (codes "shutdown")).top) (file_app (codes "sim")).top

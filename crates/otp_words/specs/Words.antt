@@ -7,7 +7,7 @@ use Rattle.clap.specs.declared.error.Error.{Error}
 use Rattle.clap.specs.declared.error.kind.ErrorKind.TheVariants as kind
 use Rattle.clap.specs.Values.{kind_of}
 use Rattle.otp_words.specs.declared.words.WordsFault.{WordsFault}
-use Rattle.otp_words.specs.declared.words.WordsFault.TheVariants.{Clap, NoCommand, FileAsCommand, UnknownClock, NotText, OutOfMemory, Topic}
+use Rattle.otp_words.specs.declared.words.WordsFault.TheVariants.{Clap, NoCommand, FileAsCommand, UnknownClock, NotATime, NeedsFor, CountsTurns, NotText, OutOfMemory, Topic}
 
 -- an error of clap that is handed on is not want of memory
 abbrev pub IsHandedOn : WordsFault → Type 0
@@ -15,6 +15,9 @@ IsHandedOn (Clap error) = ¬ (kind_of error ≡ kind.OutOfMemory)
 IsHandedOn NoCommand = Unit {0}
 IsHandedOn FileAsCommand = Unit {0}
 IsHandedOn UnknownClock = Unit {0}
+IsHandedOn NotATime = Unit {0}
+IsHandedOn NeedsFor = Unit {0}
+IsHandedOn CountsTurns = Unit {0}
 IsHandedOn (Topic _) = Unit {0}
 IsHandedOn NotText = Unit {0}
 IsHandedOn OutOfMemory = Unit {0}

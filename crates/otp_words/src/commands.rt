@@ -2,7 +2,7 @@
 
 ghost use Rattle.std.specs.Prelude.{◌≡◌, true, false, codes, IfOk};
 ghost use Rattle.clap.specs.Words.{app_of, new_app, rule_of, with_rule, with_subcommand};
-ghost use Rattle.otp_words.specs.Commands.{bare_app, check_app, clock_rule, file_app, file_rule, files_rule, flag_rule, limits_app, number_rule, option_rule, otp_app, played_app, run_app, scheduled_app, try_app};
+ghost use Rattle.otp_words.specs.Commands.{bare_app, check_app, clock_rule, file_app, file_rule, files_rule, flag_rule, limits_app, number_rule, option_rule, otp_app, played_app, run_app, scheduled_app, shown_app, try_app};
 
 use clap::{Arg, ArgAction};
 use std::alloc::{AllocError, Global};
@@ -14,7 +14,7 @@ const OTP_ABOUT: &str =
     "Supervisors of Erlang/OTP by rules that are proved: try them, and run trees";
 
 const OTP_STATUSES: &str =
-    "Example: otp try examples/storm.toml examples/storm_survived.script\nStatuses: 0 done, 1 a file, its tree or its starts, 2 the words, 3 a line of\nsim, the input or 2^62 events, 4 output or memory, 5 a line of a script, 6 what\na line expects, 7 a run whose turns ran out.\nThe formats stand in docs/FORMATS.md; `otp check FILE` explains what is wrong in\na tree file.";
+    "Example: otp try examples/storm.toml examples/storm_survived.script\nStatuses: 0 done, 1 a file, its tree or its starts, 2 the words, 3 a line of\nsim, the input or 2^62 events, 4 output or memory, 5 a line of a script, 6 what\na line expects, 7 a run that ran out of turns, or of time to stop.\nThe formats stand in docs/FORMATS.md; `otp check FILE` explains what is wrong in\na tree file.";
 
 const TRY_ABOUT: &str = "Says what a tree does where a script says what goes wrong";
 
@@ -24,7 +24,7 @@ const TRY_EXAMPLE: &str =
 const RUN_ABOUT: &str = "Runs a tree on threads: each child does what its start says";
 
 const RUN_EXAMPLE: &str =
-    "Example: otp run examples/nested.toml --schedulers 1\nWords of a start: steady, once, crash, crash_once, ignore, refuse, stubborn,\nbridge (`otp check --run FILE` tells which are unknown).\nEach thread takes its turns, then the root is asked to stop, and each takes as\nmany again.\nStatuses: 0 the tree was run, and has ended, 1 the file, its tree or a start\nthat is no such word, 2 the words, 4 output, memory or a tree that can't be\nclosed, 7 the turns ran out before the tree had ended.\nFormats: docs/FORMATS.md, under Runs.";
+    "Example: otp run examples/nested.toml --schedulers 1\nWords of a start: steady, once, crash, crash_once, ignore, refuse, stubborn,\nbridge (`otp check --run FILE` tells which are unknown).\nEach thread takes its turns, then the root is asked to stop, and each takes as\nmany again; with --for it is asked after that time, and threads sleep.\nStatuses: 0 the tree was run, and has ended, 1 the file, its tree or a start\nthat is no such word, 2 the words, 4 output, memory or a tree that can't be\nclosed, 7 the turns, or --grace, ran out before the tree had ended.\nFormats: docs/FORMATS.md, under Runs.";
 
 const FILE_ALONE: &str = "The tree file, in TOML";
 
@@ -50,6 +50,11 @@ const CHILD_HELP: &str = "The child with this name alone, as pool/worker, with\n
 const TABLE_HELP: &str = "The children of the supervisor with this name alone;\nroot is the root";
 
 const EACH_HELP: &str = "Plays each child, and takes none together that are alike";
+
+const SHUTDOWN_ABOUT: &str = "How long the stop of a tree may take, and who takes how much of it";
+
+const SHUTDOWN_EXAMPLE: &str =
+    "Example: otp shutdown examples/nested.toml\nChildren are told to stop one after another, the last started first; each has\nuntil its deadline. A child with `infinity` may take for ever.\nStatuses: 0 the times were written, 1 the file says no tree (`otp check FILE`\nsays why) or can't be read, 2 the words, 4 output or memory.\nFormats: docs/FORMATS.md, under The longest stop.";
 
 const SIM_ABOUT: &str = "Plays event lines on a supervisor, and prints each order it gives";
 
@@ -84,11 +89,22 @@ const PICTURE_HELP: &str = "Draws the tree on standard error, as it stood at the
 
 const WHY_HELP: &str = "Says on standard error how each supervisor ended";
 
+const FOR_HELP: &str =
+    "Serves the tree until its root has ended, or for so\nlong, as 500ms, 2s or 5m; then stops it";
+
+const GRACE_HELP: &str =
+    "With --for: how long the stop may take before the tree\nis left as it is (status 7)";
+
+const LOG_HELP: &str =
+    "With --for: a line on standard error for each start and\neach end of a process";
+
 const STARTS_HELP: &str = "Looks at starts too: which of them `otp run` doesn't know";
 
 const ALL_HELP: &str = "Tells of all faults of a file, and not of the first 20 alone";
 
 const JSON_HELP: &str = "Writes an object of JSON for each file, a line each";
+
+const OBJECT_HELP: &str = "Writes one object of JSON instead, on one line";
 
 /// An argument of this name that is no value and is set or not.
 fn flag_arg<'a>(alloc: Global, name: &'a str, help: &'a str) -> Arg<'a>
@@ -263,14 +279,15 @@ fn try_command<'a>(alloc: Global) -> Result<clap::Command<'a>, AllocError>
     with_arg(command, width_arg(alloc))
 }
 
-/// `limits FILE [--child NAME] [--table NAME] [--each]`.
+/// `limits FILE [--child NAME] [--table NAME] [--each] [--json]`.
 fn limits_command<'a>(alloc: Global) -> Result<clap::Command<'a>, AllocError>
     ensures { IfOk result (λ c. app_of c ≡ limits_app) }
 {
     let command = file_command(alloc, "limits", LIMITS_ABOUT, LIMITS_EXAMPLE, FILE_OR_INPUT)?;
     let command = with_arg(command, option_arg(alloc, "child", "NAME", CHILD_HELP))?;
     let command = with_arg(command, option_arg(alloc, "table", "NAME", TABLE_HELP))?;
-    with_arg(command, flag_arg(alloc, "each", EACH_HELP))
+    let command = with_arg(command, flag_arg(alloc, "each", EACH_HELP))?;
+    with_arg(command, flag_arg(alloc, "json", OBJECT_HELP))
 }
 
 /// `run FILE [--schedulers N] [--turns N]`.
@@ -283,13 +300,24 @@ fn scheduled_command<'a>(alloc: Global) -> Result<clap::Command<'a>, AllocError>
 }
 
 /// `run FILE [--schedulers N] [--turns N] [--counts] [--tree] [--why]`.
-fn run_command<'a>(alloc: Global) -> Result<clap::Command<'a>, AllocError>
-    ensures { IfOk result (λ c. app_of c ≡ run_app) }
+fn shown_command<'a>(alloc: Global) -> Result<clap::Command<'a>, AllocError>
+    ensures { IfOk result (λ c. app_of c ≡ shown_app) }
 {
     let command = scheduled_command(alloc)?;
     let command = with_arg(command, flag_arg(alloc, "counts", COUNTS_HELP))?;
     let command = with_arg(command, flag_arg(alloc, "tree", PICTURE_HELP))?;
     with_arg(command, flag_arg(alloc, "why", WHY_HELP))
+}
+
+/// The same with `[--for TIME] [--grace TIME] [--log] [--json]`.
+fn run_command<'a>(alloc: Global) -> Result<clap::Command<'a>, AllocError>
+    ensures { IfOk result (λ c. app_of c ≡ run_app) }
+{
+    let command = shown_command(alloc)?;
+    let command = with_arg(command, option_arg(alloc, "for", "TIME", FOR_HELP))?;
+    let command = with_arg(command, option_arg(alloc, "grace", "TIME", GRACE_HELP))?;
+    let command = with_arg(command, flag_arg(alloc, "log", LOG_HELP))?;
+    with_arg(command, flag_arg(alloc, "json", OBJECT_HELP))
 }
 
 /// The program without its commands.
@@ -308,11 +336,19 @@ pub(crate) fn otp_command<'a>(alloc: Global) -> Result<clap::Command<'a>, AllocE
 {
     let tree = file_command(alloc, "tree", TREE_ABOUT, TREE_EXAMPLE, FILE_OR_INPUT)?;
     let limits = limits_command(alloc)?;
+    let shutdown = file_command(
+        alloc,
+        "shutdown",
+        SHUTDOWN_ABOUT,
+        SHUTDOWN_EXAMPLE,
+        FILE_OR_INPUT,
+    )?;
     let sim = file_command(alloc, "sim", SIM_ABOUT, SIM_EXAMPLE, FILE_ALONE)?;
     let command = with_command(bare_command(alloc), run_command(alloc)?)?;
     let command = with_command(command, try_command(alloc)?)?;
     let command = with_command(command, check_command(alloc)?)?;
     let command = with_command(command, tree)?;
     let command = with_command(command, limits)?;
+    let command = with_command(command, shutdown)?;
     with_command(command, sim)
 }

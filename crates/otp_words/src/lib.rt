@@ -5,7 +5,8 @@
 #![tactic(auto)]
 
 mod commands;
+mod times;
 mod topics;
 mod words;
 
-pub use words::{Checking, Command, RunShows, Usage, WordsFault, read_words, words_of};
+pub use words::{Checking, Command, RunShows, Serving, Usage, WordsFault, read_words, words_of};

@@ -1,8 +1,8 @@
 use Rattle.std.proofs.Common.{◌+◌, ℕ, List, Bor, rules, subst, sym, take, arith}
 use Rattle.otp_console.proofs.Checked.{checked_all, checked_first, checked_next}
 use Rattle.otp_console.specs.Runs.{ChecksEach}
-use Rattle.otp_console.specs.declared.ending.ProgramEnd.{ProgramEnd}
-use Rattle.otp_console.specs.declared.ending.ProgramEnd.TheVariants.{Done}
+use Rattle.otp_ending.specs.declared.ending.ProgramEnd.{ProgramEnd}
+use Rattle.otp_ending.specs.declared.ending.ProgramEnd.TheVariants.{Done}
 use Rattle.otp_console.proofs.program.check_all.Goals as goal
 
 pub loop-name-preserved : goal.loop-name-preserved

@@ -1,6 +1,6 @@
 use Rattle.std.proofs.Common.{take}
 use Rattle.otp_console.specs.Runs.{ChecksEach}
-use Rattle.otp_console.specs.declared.ending.ProgramEnd.TheVariants.{Done}
+use Rattle.otp_ending.specs.declared.ending.ProgramEnd.TheVariants.{Done}
 use Rattle.otp_console.proofs.program.check_all.Given as goal
 
 abbrev pub invariant-loop-name : goal.invariant-loop-name

@@ -1,4 +1,4 @@
-use Rattle.otp_console.proofs.Told.{told_last}
+use Rattle.otp_ending.proofs.Told.{told_last}
 use Rattle.otp_console.proofs.program.run.Goals as goal
 
 pub returns : goal.returns

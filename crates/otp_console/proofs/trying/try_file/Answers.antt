@@ -2,7 +2,7 @@ use Rattle.std.proofs.Common.{◌≡◌, List, ℕ, sym, subst}
 use Rattle.otp_sim.specs.Runs.{Devices}
 use Rattle.otp_try.specs.Pages.{tells_orders}
 use Rattle.otp_console.specs.Runs.{IsTrial}
-use Rattle.otp_console.specs.declared.ending.ProgramEnd.{ProgramEnd}
+use Rattle.otp_ending.specs.declared.ending.ProgramEnd.{ProgramEnd}
 use Rattle.otp_console.proofs.Tried.{is_trial}
 use Rattle.otp_console.proofs.trying.try_file.Goals as goal
 
@@ -20,6 +20,6 @@ returns g c =
       read_failures = g.R.Input.failures c.try_tree.new.input;
       write_failures = g.W.Output.failures c.try_tree.new.output;
     } in
-    subst (λ (e : ProgramEnd). IsTrial c.args.name.now e c.args.file.now old new) (sym c.of_try.ensures)
+    subst (λ (e : ProgramEnd). IsTrial c.args.name.now e c.args.file.now old new) (sym c.end_of_try.ensures)
     (is_trial c.args.name.now c.args.file.now old new c.try_tree.result
     (c.in-Ok.tree, ((c.in-Ok.ensures {u = tt}).tree, (tells_orders c.args.writer c.args.shows, c.try_tree.ensures))))

@@ -13,4 +13,5 @@ returns c =
     let three = c.in_ok-command-3.ensures ∙ ap₂ with_subcommand two (ap top_of c.in_ok-check_command.ensures) in
     let four = c.in_ok-command-4.ensures ∙ ap₂ with_subcommand three (ap top_of c.in_ok-tree.ensures) in
     let five = c.in_ok-command-5.ensures ∙ ap₂ with_subcommand four (ap top_of c.in_ok-limits.ensures) in
-    IfOk-weaker c.with_command-6.result _ _ (λ command added. added ∙ ap₂ with_subcommand five (ap top_of c.in_ok-sim.ensures)) c.with_command-6.ensures
+    let six = c.in_ok-command-6.ensures ∙ ap₂ with_subcommand five (ap top_of c.in_ok-shutdown.ensures) in
+    IfOk-weaker c.with_command-7.result _ _ (λ command added. added ∙ ap₂ with_subcommand six (ap top_of c.in_ok-sim.ensures)) c.with_command-7.ensures

@@ -1,0 +1,23 @@
+-- What is told in two parts.
+use Rattle.std.proofs.Common.{◌≡◌, ℕ, ◌<◌, ◌≤◌, ◌⊎◌, Bool, inl, inr, List, ◌++◌, Option, None, Some, ap, ◌∙◌, append_assoc, arith}
+use Rattle.std.specs.Io.KnownBytes.{Appends}
+use Rattle.otp_ending.specs.declared.ending.ProgramEnd.{ProgramEnd}
+use Rattle.otp_ending.specs.Statuses.{sentence_since}
+use Rattle.otp_ending.specs.declared.ending.Unwritten.{Unwritten}
+use Rattle.otp_ending.specs.Told.{IsTold, TellsFirst, Tells}
+
+pub appends_more : (a b c : Option (List ℕ)) (x y : List ℕ) → Appends a b x → Appends b c y → Appends a c (x ++ y)
+appends_more None b c x y first second = tt
+appends_more (Some xs) None c x y first second = absurd first
+appends_more (Some xs) (Some ys) None x y first second = absurd second
+appends_more (Some xs) (Some ys) (Some zs) x y first second = second ∙ ap (λ bytes. bytes ++ y) first ∙ append_assoc xs x y
+
+pub told_more : (x y : List ℕ) (a b c : Option (List ℕ)) (f g h : ℕ) → f ≤ g → g ≤ h → IsTold x a b f g → IsTold y b c g h → IsTold (x ++ y) a c f h
+told_more x y a b c f g h first_kept second_kept (inl failed) second = inl (omega arith)
+told_more x y a b c f g h first_kept second_kept (inr first) (inl failed) = inl (omega arith)
+told_more x y a b c f g h first_kept second_kept (inr first) (inr second) = inr (appends_more a b c x y first second)
+
+pub told_last : (drawn : Bool) (why : Unwritten) (ending : ProgramEnd) (a b c : Option (List ℕ)) (f g h : ℕ) → f ≤ g → g ≤ h → TellsFirst drawn ending a b f g
+    → IsTold (sentence_since why ending) b c g h → Tells drawn why ending a c f h
+told_last drawn why ending a b c f g h first_kept second_kept first last =
+    (first.0, (first.1.0, told_more first.0 (sentence_since why ending) a b c f g h first_kept second_kept first.1.1 last))

@@ -1,0 +1,243 @@
+//! The files that the program reads.
+
+ghost use Rattle.std.specs.Prelude.{ℕ, Bool, List, ◌≡◌, ◌≤◌, ◌<◌, ◌++◌, ◌⊎◌, IfErr, IfOk, OnOk, OnErr, codes, vec_len};
+ghost use Rattle.std.specs.Io.KnownBytes.{Appends};
+ghost use Rattle.otp_ending.specs.Told.{IsUnreadEnd, TellsFirst};
+ghost use Rattle.otp_ending.specs.Statuses.{not_read_text};
+ghost use Rattle.otp_ending.specs.declared.files.TheConstants.{LARGEST_TREE};
+ghost use Rattle.otp_ending.specs.declared.ending.ProgramEnd.TheVariants.{FileNotRead, OutOfMemory};
+
+use crate::ending::{ProgramEnd, Unwritten};
+use otp_sim::{Failed, Output, write_all};
+use std::io;
+use std::io::ErrorKind;
+
+/// The most bytes of a tree file for `check`, `try`, `tree` and `limits`: 1 MiB. What is
+/// parsed takes many times the memory of its file.
+pub const LARGEST_TREE: usize = 1_048_576;
+
+/// Why a file that is larger is not parsed.
+const TOO_LARGE: &str = "it has more than 1048576 bytes, too many for a tree file";
+
+/// Where tree files are read from.
+pub trait TreeFiles {
+    /// What a file of this name may hold.
+    ghost holds: { Self → List ℕ → List ℕ → Type 0 };
+
+    /// The bytes of a file.
+    fn read(&self, name: &str) -> io::Result<Vec<u8>>
+        ensures { IfOk result (λ file. holds self.now name.now file.items) };
+
+    /// The bytes of a tree file of this name. Of more than a tree file may have not all are read.
+    fn read_tree(&self, name: &str) -> io::Result<Vec<u8>>
+        ensures { IfOk result (λ file. holds self.now name.now file.items) };
+
+    /// The bytes of standard input, which is the file `-`. Of more than a tree file may have not all are read.
+    fn read_input(&self) -> io::Result<Vec<u8>>
+        ensures { IfOk result (λ file. holds self.now (codes "-") file.items) };
+
+    /// Whether somebody writes the lines of standard input at a terminal.
+    fn is_terminal(&self) -> bool;
+
+    /// Whether what is written to standard output may have colours.
+    fn has_colours(&self) -> bool;
+
+    /// Why a write to standard output last failed, where that is known.
+    fn unwritten(&self) -> Unwritten;
+}
+
+/// The bytes of the file of this name; `-` is standard input.
+fn read_named<F: TreeFiles>(files: &F, name: &str) -> io::Result<Vec<u8>>
+    ensures { IfOk result (λ file. F.holds files.now name.now file.items) }
+{
+    match name.as_bytes() {
+        b"-" => files.read_input(),
+        _ => files.read(name),
+    }
+}
+
+/// The same of a tree file, of which no more bytes are read than show that it has too many.
+fn read_tree_named<F: TreeFiles>(files: &F, name: &str) -> io::Result<Vec<u8>>
+    ensures { IfOk result (λ file. F.holds files.now name.now file.items) }
+{
+    match name.as_bytes() {
+        b"-" => files.read_input(),
+        _ => files.read_tree(name),
+    }
+}
+
+/// The bytes of a file; `-` is standard input.
+///
+/// # Errors
+///
+/// [`ProgramEnd::FileNotRead`], once it is told on `errors` which file can't be read and why, and [`ProgramEnd::OutOfMemory`].
+pub fn read_file<'a, F: TreeFiles, E: Output>(
+    files: &F,
+    name: &'a str,
+    errors: &mut E,
+) -> Result<Vec<u8>, ProgramEnd<'a>>
+    ensures holds { IfOk result (λ file. F.holds files.now name.now file.items) }
+    ensures silent { OnOk result (errors.new ≡ errors.old) }
+    ensures ending { IfErr result (λ ending. (ending ≡ FileNotRead) ⊎ (ending ≡ OutOfMemory)) }
+    ensures first { IfErr result (λ ending. (drawn : Bool) → TellsFirst drawn ending (E.contents errors.old) (E.contents errors.new) (E.failures errors.old) (E.failures errors.new)) }
+    ensures kept { E.failures errors.old ≤ E.failures errors.new }
+{
+    match read_named(files, name) {
+        Ok(file) => Ok(file),
+        Err(error) => Err(tell_error(errors, name, &error)),
+    }
+}
+
+/// The bytes of a tree file, of which there are at most [`LARGEST_TREE`].
+///
+/// # Errors
+///
+/// Those of [`read_file`], and [`ProgramEnd::FileNotRead`] where it is larger, once that is told.
+pub fn read_tree_file<'a, F: TreeFiles, E: Output>(
+    files: &F,
+    name: &'a str,
+    errors: &mut E,
+) -> Result<Vec<u8>, ProgramEnd<'a>>
+    ensures holds { IfOk result (λ file. F.holds files.now name.now file.items) }
+    ensures small { IfOk result (λ file. vec_len file ≤ LARGEST_TREE) }
+    ensures silent { OnOk result (errors.new ≡ errors.old) }
+    ensures ending { IfErr result (λ ending. (ending ≡ FileNotRead) ⊎ (ending ≡ OutOfMemory)) }
+    ensures first { IfErr result (λ ending. (drawn : Bool) → TellsFirst drawn ending (E.contents errors.old) (E.contents errors.new) (E.failures errors.old) (E.failures errors.new)) }
+    ensures kept { E.failures errors.old ≤ E.failures errors.new }
+{
+    match read_small(files, name) {
+        Ok(file) => Ok(file),
+        Err(Unread::OutOfMemory) => Err(ProgramEnd::OutOfMemory),
+        Err(Unread::Since(why)) => Err(tell_not_read(errors, name, why)),
+    }
+}
+
+/// Why a file can't be read.
+#[derive(Clone, Copy)]
+pub enum Unread {
+    OutOfMemory,
+    Since(&'static str),
+}
+
+/// The bytes of a tree file, of which there are at most [`LARGEST_TREE`].
+///
+/// # Errors
+///
+/// Why it can't be read, or that it is larger.
+pub fn read_small<F: TreeFiles>(files: &F, name: &str) -> Result<Vec<u8>, Unread>
+    ensures holds { IfOk result (λ file. F.holds files.now name.now file.items) }
+    ensures small { IfOk result (λ file. vec_len file ≤ LARGEST_TREE) }
+{
+    let file = match read_tree_named(files, name) {
+        Ok(file) => file,
+        Err(error) => return Err(why_unread(error.kind())),
+    };
+    if file.len() > LARGEST_TREE {
+        return Err(Unread::Since(TOO_LARGE));
+    }
+    Ok(file)
+}
+
+/// Why a file can't be read, by the kind of the error.
+fn why_unread(kind: ErrorKind) -> Unread {
+    match kind {
+        ErrorKind::OutOfMemory => Unread::OutOfMemory,
+        kind => Unread::Since(why(kind)),
+    }
+}
+
+/// The bytes of a tree file that is run. Standard input, which is the file `-`, is read as by [`read_tree_file`], since no
+/// more of it is taken than a tree may have; a file may have any size, and it isn't told why it can't be read.
+///
+/// # Errors
+///
+/// [`ProgramEnd::TreeNotRead`] and [`ProgramEnd::OutOfMemory`]; for standard input those of [`read_tree_file`].
+pub fn read_run_file<'a, F: TreeFiles, E: Output>(
+    files: &F,
+    name: &'a str,
+    errors: &mut E,
+) -> Result<Vec<u8>, ProgramEnd<'a>>
+    ensures holds { IfOk result (λ file. F.holds files.now name.now file.items) }
+    ensures silent { OnOk result (errors.new ≡ errors.old) }
+    ensures ending { IfErr result IsUnreadEnd }
+    ensures first { IfErr result (λ ending. (drawn : Bool) → TellsFirst drawn ending (E.contents errors.old) (E.contents errors.new) (E.failures errors.old) (E.failures errors.new)) }
+    ensures kept { E.failures errors.old ≤ E.failures errors.new }
+{
+    if let b"-" = name.as_bytes() {
+        return read_tree_file(files, name, errors);
+    }
+    match files.read(name) {
+        Ok(file) => Ok(file),
+        Err(error) => Err(ProgramEnd::of_file(&error)),
+    }
+}
+
+/// The end where a file can't be read, once it is told which and why, if not for want of memory.
+fn tell_error<'a, E: Output>(errors: &mut E, name: &'a str, error: &io::Error) -> ProgramEnd<'a>
+    ensures ending { (result ≡ FileNotRead) ⊎ (result ≡ OutOfMemory) }
+    ensures first { (drawn : Bool) → TellsFirst drawn result (E.contents errors.old) (E.contents errors.new) (E.failures errors.old) (E.failures errors.new) }
+    ensures kept { E.failures errors.old ≤ E.failures errors.new }
+{
+    match error.kind() {
+        ErrorKind::OutOfMemory => ProgramEnd::OutOfMemory,
+        kind => tell_not_read(errors, name, why(kind)),
+    }
+}
+
+/// Tells which file can't be read, and why.
+fn tell_not_read<'a, E: Output>(errors: &mut E, name: &'a str, why: &str) -> ProgramEnd<'a>
+    ensures ending { result ≡ FileNotRead }
+    ensures first { (drawn : Bool) → TellsFirst drawn result (E.contents errors.old) (E.contents errors.new) (E.failures errors.old) (E.failures errors.new) }
+    ensures kept { E.failures errors.old ≤ E.failures errors.new }
+{
+    // Where nothing can be told, the status alone says it.
+    let _told = write_not_read(errors, name, why);
+    ProgramEnd::FileNotRead
+}
+
+/// Why a file can't be read.
+fn why(kind: ErrorKind) -> &'static str {
+    match kind {
+        ErrorKind::NotFound => "there is no such file",
+        ErrorKind::NotADirectory => "a part of its path is no folder",
+        ErrorKind::IsADirectory => "it is a folder",
+        ErrorKind::PermissionDenied => "you may not read it",
+        _ => "reading it failed",
+    }
+}
+
+/// Writes which file can't be read, and why.
+fn write_not_read<E: Output>(errors: &mut E, name: &str, why: &str) -> Result<(), Failed>
+    ensures ok { OnOk result (Appends (E.contents errors.old) (E.contents errors.new) (not_read_text name.now why.now)) }
+    ensures kept { E.failures errors.old ≤ E.failures errors.new }
+    ensures failed { OnErr result (E.failures errors.old < E.failures errors.new) }
+{
+    write_three(errors, b"error: ", name.as_bytes(), b" can't be read: ")?;
+    write_two(errors, why.as_bytes(), b"\n")
+}
+
+/// Writes three texts.
+pub fn write_three<E: Output>(
+    errors: &mut E,
+    front: &[u8],
+    text: &[u8],
+    back: &[u8],
+) -> Result<(), Failed>
+    ensures ok { OnOk result (Appends (E.contents errors.old) (E.contents errors.new) (front.now ++ text.now ++ back.now)) }
+    ensures kept { E.failures errors.old ≤ E.failures errors.new }
+    ensures failed { OnErr result (E.failures errors.old < E.failures errors.new) }
+{
+    write_all(errors, front)?;
+    write_all(errors, text)?;
+    write_all(errors, back)
+}
+
+/// Writes two texts.
+fn write_two<E: Output>(errors: &mut E, text: &[u8], back: &[u8]) -> Result<(), Failed>
+    ensures ok { OnOk result (Appends (E.contents errors.old) (E.contents errors.new) (text.now ++ back.now)) }
+    ensures kept { E.failures errors.old ≤ E.failures errors.new }
+    ensures failed { OnErr result (E.failures errors.old < E.failures errors.new) }
+{
+    write_all(errors, text)?;
+    write_all(errors, back)
+}

@@ -1,0 +1,12 @@
+//! How the program ends: its exit status, what it tells of it on standard error, and the files that it reads, of which each may
+//! end it.
+#![tactic(auto)]
+
+pub mod ending;
+pub mod files;
+
+pub use ending::{ProgramEnd, Unwritten, tell, write_numbered};
+pub use files::{
+    LARGEST_TREE, TreeFiles, Unread, read_file, read_run_file, read_small, read_tree_file,
+    write_three,
+};

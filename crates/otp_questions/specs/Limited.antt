@@ -1,0 +1,50 @@
+-- What `limits` writes (own).
+use Rattle.std.specs.Prelude.{◌≡◌, ℕ, Bool, true, false, List, [], Ok}
+use Rattle.std.specs.Io.KnownBytes.{Appends}
+use Rattle.std.specs.Borrow.{Bor}
+use Rattle.otp_file.specs.Files.{Says}
+use Rattle.otp_file.specs.Trees.{Tree}
+use Rattle.otp_folds.specs.Told.{Tells}
+use Rattle.otp_folds.specs.declared.alike.Grain.{Grain}
+use Rattle.otp_folds.specs.declared.pick.Pick.{Pick}
+use Rattle.otp_folds.specs.declared.pick.Pick.TheVariants as pick
+use Rattle.otp_objects.specs.Limits.{TellsObject}
+use Rattle.otp_trial.specs.declared.trial.Halt.{Halt}
+use Rattle.otp_trial.specs.declared.trial.Halt.TheVariants as halt
+use Rattle.otp_ending.specs.declared.ending.ProgramEnd.{ProgramEnd}
+use Rattle.otp_ending.specs.Devices.{HasTree, Written}
+use Rattle.otp_ending.specs.declared.ending.ProgramEnd.TheVariants.{Done, NotFound, HistoryFull, OutOfMemory}
+use Rattle.otp_questions.specs.Said.{IsNotSaid}
+
+-- how the program ends where a core can't be played on
+abbrev pub ending_of_halt : Halt → ProgramEnd
+ending_of_halt halt.HistoryFull = HistoryFull
+ending_of_halt halt.OutOfMemory = OutOfMemory
+
+-- the limits of those children that are asked for, as a table or as an object with the name of their file
+abbrev pub TellsLimits : Bool → List ℕ → Bool → Grain → Pick → Tree → List ℕ → List ℕ → Type 0
+TellsLimits false name found grain pick tree before after = Tells found grain pick tree before after
+TellsLimits true name found grain pick tree before after = TellsObject found name grain pick tree before after
+
+-- the file says a tree, and the text tells the limits of those children that are asked for
+abbrev pub HasLimits : Bool → List ℕ → Grain → Pick → List ℕ → List ℕ → Type 0
+HasLimits is_json name grain pick file text = (tree : Tree) × (Says file (Ok tree) × TellsLimits is_json name true grain pick tree [] text)
+
+-- the file says a tree, and there is none
+abbrev pub HasNone : Bool → List ℕ → Grain → Pick → List ℕ → Type 0
+HasNone is_json name grain pick file =
+    (tree : Tree) × (after : List ℕ) × (Says file (Ok tree) × TellsLimits is_json name false grain pick tree [] after)
+
+-- the name of a child or a supervisor that is asked for
+abbrev pub IsNameOf : Pick → Bor (List ℕ) → Type 0
+IsNameOf pick.All what = ⊥
+IsNameOf (pick.Child name) what = what ≡ name
+IsNameOf (pick.Table name) what = what ≡ name
+
+-- the limits of a tree were written, or none of its children has the name that is asked for
+abbrev pub IsLimited : Bool → Grain → Pick → List ℕ → ProgramEnd → List ℕ → Written → Written → Type 0
+IsLimited is_json grain pick name Done file old new =
+    (text : List ℕ) × (HasLimits is_json name grain pick file text × Appends old.bytes new.bytes text)
+IsLimited is_json grain pick name (NotFound what) file old new = (new ≡ old) × (IsNameOf pick what × HasNone is_json name grain pick file)
+IsLimited is_json grain pick name HistoryFull file old new = (new ≡ old) × HasTree file
+IsLimited is_json grain pick name ending file old new = IsNotSaid name ending file old new

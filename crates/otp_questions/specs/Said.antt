@@ -1,0 +1,18 @@
+-- What is said of the tree of a file, or that it could not be (own).
+use Rattle.std.specs.Prelude.{◌≡◌, ℕ, ◌<◌, List}
+use Rattle.otp_check.specs.Checks.{IsFirstFault}
+use Rattle.otp_ending.specs.Devices.{HasTree, Written}
+use Rattle.otp_ending.specs.declared.ending.ProgramEnd.{ProgramEnd}
+use Rattle.otp_ending.specs.declared.ending.ProgramEnd.TheVariants.{Done, NoTree, OutputFailed, OutOfMemory}
+
+-- what is said of the tree of the file of this name could not be: the file says none, there is no memory, or the writer failed
+abbrev pub IsNotSaid : List ℕ → ProgramEnd → List ℕ → Written → Written → Type 0
+IsNotSaid name (NoTree why named) file old new = (new ≡ old) × ((named.now ≡ name) × IsFirstFault why file)
+IsNotSaid name OutputFailed file old new = HasTree file × (old.failures < new.failures)
+IsNotSaid name OutOfMemory file old new = new ≡ old
+IsNotSaid name _ file old new = ⊥
+
+-- a tree was drawn
+abbrev pub IsDrawn : List ℕ → ProgramEnd → List ℕ → Written → Written → Type 0
+IsDrawn name Done file old new = HasTree file
+IsDrawn name ending file old new = IsNotSaid name ending file old new

@@ -1,0 +1,36 @@
+//! `tree`: what does a tree look like?
+
+ghost use Rattle.otp_questions.specs.Said.{IsDrawn};
+
+use otp_ending::ProgramEnd;
+use otp_file::read_tree;
+use otp_picture::draw;
+use otp_sim::{Failed, Output, write_all};
+use std::alloc::Global;
+
+/// Draws the tree that a file says.
+pub fn draw_file<'a, W: Output>(
+    alloc: Global,
+    name: &'a str,
+    file: &[u8],
+    output: &mut W,
+) -> ProgramEnd<'a>
+    ensures { IsDrawn name.now result file.now
+        (record { bytes = W.contents output.old; failures = W.failures output.old })
+        (record { bytes = W.contents output.new; failures = W.failures output.new }) }
+{
+    let tree = match read_tree(alloc, file) {
+        Ok(tree) => tree,
+        Err(fault) => return ProgramEnd::of_no_tree(fault, name),
+    };
+    let mut picture = Vec::new(alloc);
+    let Ok(()) = draw(alloc, &tree, &mut picture) else {
+        drop(tree);
+        return ProgramEnd::OutOfMemory;
+    };
+    drop(tree);
+    match write_all(output, picture.as_slice()) {
+        Ok(()) => ProgramEnd::Done,
+        Err(Failed) => ProgramEnd::OutputFailed,
+    }
+}

@@ -1,0 +1,90 @@
+//! `limits`: what does each child's failure cost?
+
+ghost use Rattle.std.specs.Prelude.{◌≡◌, ℕ, List, IfOk, false};
+ghost use Rattle.std.specs.Borrow.{Bor};
+ghost use Rattle.otp_ending.specs.declared.ending.ProgramEnd.TheVariants.{NotFound};
+ghost use Rattle.otp_questions.specs.Limited.{IsLimited, IsNameOf, TellsLimits, ending_of_halt};
+ghost use Rattle.otp_folds.specs.Told.{is_all};
+
+use otp_ending::ProgramEnd;
+use otp_file::{TreeSpec, read_tree};
+use otp_folds::{Grain, Pick, write_limits};
+use otp_objects::write_limits_object;
+use otp_sim::{Failed, Output, write_all};
+use otp_trial::Halt;
+use std::alloc::Global;
+
+/// Appends the limits of those children of a tree that are asked for, as a table or as an object, and says whether there are any.
+#[tactic(auto, unfolding(otp_folds::specs::Told::TellsRows, otp_objects::specs::Limits::TellsRows))]
+fn tell_limits(
+    alloc: Global,
+    is_json: bool,
+    name: &str,
+    tree: &TreeSpec,
+    grain: Grain,
+    pick: &Pick<'_>,
+    out: &mut Vec<u8>,
+) -> Result<bool, Halt>
+    ensures told { IfOk result (λ found. TellsLimits is_json name.now found grain pick.now tree.now out.old.items out.new.items) }
+    ensures none { IfOk result (λ found. found ≡ false → is_all pick.now ≡ false) }
+{
+    if is_json {
+        write_limits_object(alloc, name.as_bytes(), tree, grain, pick, out)
+    } else {
+        write_limits(alloc, tree, grain, pick, out)
+    }
+}
+
+/// Reads the tree of a file, plays crashes of those children that are asked for, and writes what they cost.
+pub fn limit_file<'a, W: Output>(
+    alloc: Global,
+    name: &'a str,
+    file: &[u8],
+    pick: Pick<'a>,
+    grain: Grain,
+    is_json: bool,
+    output: &mut W,
+) -> ProgramEnd<'a>
+    ensures { IsLimited is_json grain pick.entry name.now result file.now
+        (record { bytes = W.contents output.old; failures = W.failures output.old })
+        (record { bytes = W.contents output.new; failures = W.failures output.new }) }
+{
+    let tree = match read_tree(alloc, file) {
+        Ok(tree) => tree,
+        Err(fault) => return ProgramEnd::of_no_tree(fault, name),
+    };
+    let mut table = Vec::new(alloc);
+    let told = tell_limits(alloc, is_json, name, &tree, grain, &pick, &mut table);
+    drop(tree);
+    match told {
+        Ok(true) => {}
+        Ok(false) => return not_found(pick),
+        Err(halt) => return end_of_halt(halt),
+    }
+    match write_all(output, table.as_slice()) {
+        Ok(()) => ProgramEnd::Done,
+        Err(Failed) => ProgramEnd::OutputFailed,
+    }
+}
+
+/// The end where no child is found by a name.
+#[tactic(auto, unfolding(otp_folds::specs::Told::is_all))]
+fn not_found<'a>(pick: Pick<'a>) -> ProgramEnd<'a>
+    requires { is_all pick ≡ false }
+    ensures { (what : Bor (List ℕ)) × (IsNameOf pick.entry what × (result ≡ NotFound what)) }
+{
+    match pick {
+        Pick::Child(name) | Pick::Table(name) => ProgramEnd::NotFound(name),
+        Pick::All => ProgramEnd::Done,
+    }
+}
+
+/// The end for a core that can't be played on.
+pub fn end_of_halt<'a>(halt: Halt) -> ProgramEnd<'a>
+    ensures { result ≡ ending_of_halt halt }
+{
+    match halt {
+        Halt::HistoryFull => ProgramEnd::HistoryFull,
+        Halt::OutOfMemory => ProgramEnd::OutOfMemory,
+    }
+}

@@ -1,0 +1,9 @@
+//! `run`: a tree is run on threads, with worked jobs, and it is told what came of it.
+#![tactic(auto)]
+
+pub mod running;
+pub mod serving;
+mod standing;
+
+pub use running::{Pool, explain, run_file};
+pub use serving::serve_file;

@@ -1,0 +1,251 @@
+//! `run`: a tree is run on threads, with worked jobs.
+
+ghost use Rattle.std.specs.Prelude.{ℕ, Bool, List, ◌≡◌, ◌≤◌, ◌||◌, [], Some, false, IfOk};
+ghost use Rattle.otp_ending.specs.Told.{IsTold, TellsFirst};
+ghost use Rattle.otp_running.specs.Running.{IsEndOfRun, IsSaid, IsTreeRun, ending_of_run};
+
+use crate::standing::draw_standing;
+use otp_ending::{ProgramEnd, write_three};
+use otp_file::{TreeFault, TreeSpec, read_tree};
+use otp_jobs::{FileRunFault, Settings, run_worked};
+use otp_objects::write_run_object;
+use otp_outcome::{Limit, write_awaited, write_lives};
+use otp_sim::{Failed, Output, write_all};
+use otp_starts::find_unfit;
+use otp_text::write_number;
+use otp_tree::{Gate, TableReport};
+use otp_words::RunShows;
+use std::alloc::{AllocError, Global};
+use std::sync::Wait;
+use std::thread::Threads;
+
+/// Of so many unfit starts a run that is refused tells.
+const MOST_TOLD: usize = 20;
+
+/// What trees are run with: threads, a clock, and a watch.
+#[derive(Clone, Copy)]
+pub struct Pool<'a, H, G, L> {
+    pub rt: &'a H,
+    pub gate: &'a G,
+    /// Who is told what happens to each process of a tree that is served for a time.
+    pub watch: &'a L,
+}
+
+/// Reads the tree of a file, runs it with worked jobs, and writes the report, with the counts where the settings say so. What
+/// is told besides changes nothing of the output.
+pub fn run_file<'a, H, G, L, W, E>(
+    pool: &Pool<'_, H, G, L>,
+    alloc: Global,
+    name: &str,
+    file: &[u8],
+    settings: Settings,
+    shows: RunShows,
+    output: &mut W,
+    errors: &mut E,
+) -> ProgramEnd<'a>
+where
+    H: Threads + Wait + Sync,
+    G: Gate + Sync,
+    W: Output,
+    E: Output,
+    ensures done { IsTreeRun shows.is_json name.now settings.counted result file.now
+        (record { bytes = W.contents output.old; failures = W.failures output.old })
+        (record { bytes = W.contents output.new; failures = W.failures output.new }) }
+    ensures first { TellsFirst (shows.is_drawn || shows.is_why) result (E.contents errors.old) (E.contents errors.new) (E.failures errors.old) (E.failures errors.new) }
+    ensures kept { E.failures errors.old ≤ E.failures errors.new }
+{
+    let tree = match read_tree(alloc, file) {
+        Ok(tree) => tree,
+        Err(fault) => {
+            let ending = ProgramEnd::of_tree(fault);
+            explain(errors, name, ending);
+            return ending;
+        }
+    };
+    let mut report = Vec::new(alloc);
+    let whole = match run_worked(pool.rt, alloc, tree, settings, pool.gate, &mut report) {
+        Ok(whole) => whole,
+        Err(fault) => return refuse_run(alloc, errors, name, file, fault),
+    };
+    let live = whole.report.live;
+    let tables = whole.report.tables.as_slice();
+    let Ok(remarks) = remarks_on(alloc, shows, Limit::Turns, file, tables, live) else {
+        drop(whole);
+        return ProgramEnd::OutOfMemory;
+    };
+    let Ok(text) = say(alloc, shows.is_json, name, file, tables, live, report) else {
+        drop(whole);
+        return ProgramEnd::OutOfMemory;
+    };
+    drop(whole);
+    match write_all(output, text.as_slice()) {
+        Ok(()) => {
+            // Where nothing can be told, the report stands all the same.
+            let _told = write_all(errors, remarks.as_slice());
+            ending_of_live(live)
+        }
+        Err(Failed) => ProgramEnd::OutputFailed,
+    }
+}
+
+/// What is written of a run: this report, or the object of it.
+pub(crate) fn say(
+    alloc: Global,
+    is_json: bool,
+    name: &str,
+    file: &[u8],
+    tables: &[TableReport],
+    live: u64,
+    report: Vec<u8>,
+) -> Result<Vec<u8>, AllocError>
+    ensures { IfOk result (λ text. IsSaid is_json name.now file.now tables.now live report.items text.items) }
+{
+    if !is_json {
+        return Ok(report);
+    }
+    let Ok(tree) = read_tree(alloc, file) else {
+        return Err(AllocError);
+    };
+    let mut text = Vec::new(alloc);
+    let written = write_run_object(alloc, name.as_bytes(), &tree, tables, live, &mut text);
+    drop(tree);
+    written?;
+    Ok(text)
+}
+
+/// The end of a run that has left so many processes.
+pub(crate) fn ending_of_live<'a>(live: u64) -> ProgramEnd<'a>
+    ensures { IsEndOfRun live result }
+{
+    if live == 0 {
+        ProgramEnd::Done
+    } else {
+        ProgramEnd::NotFinished
+    }
+}
+
+/// Tells which command explains an ending, where one does: a tree that is refused is explained by `check`.
+pub fn explain<E: Output>(errors: &mut E, name: &str, ending: ProgramEnd<'_>)
+    ensures first { (drawn : Bool) → TellsFirst drawn ending.entry (E.contents errors.old) (E.contents errors.new) (E.failures errors.old) (E.failures errors.new) }
+    ensures kept { E.failures errors.old ≤ E.failures errors.new }
+{
+    if let ProgramEnd::TreeRefused(_) = ending {
+        // Where nothing can be told, the ending alone says it.
+        let _told = write_three(errors, b"tip: otp check ", name.as_bytes(), b" tells why\n");
+    }
+}
+
+/// The end for a tree that was not run, once it is told which of its starts are unfit.
+pub(crate) fn refuse_run<'a, E: Output>(
+    alloc: Global,
+    errors: &mut E,
+    name: &str,
+    file: &[u8],
+    fault: FileRunFault,
+) -> ProgramEnd<'a>
+    ensures ending { result ≡ ending_of_run fault }
+    ensures first { (drawn : Bool) → TellsFirst drawn result (E.contents errors.old) (E.contents errors.new) (E.failures errors.old) (E.failures errors.new) }
+    ensures kept { E.failures errors.old ≤ E.failures errors.new }
+{
+    match fault {
+        FileRunFault::UnknownStart(start) => {
+            tell_unfit(alloc, errors, name, file);
+            ProgramEnd::UnknownStart(start)
+        }
+        FileRunFault::WrongBody => {
+            tell_unfit(alloc, errors, name, file);
+            ProgramEnd::WrongBody
+        }
+        _ => end_of_run(fault),
+    }
+}
+
+/// Tells which starts of a file are unfit, and what to write. Where there is no memory for it, nothing is told.
+fn tell_unfit<E: Output>(alloc: Global, errors: &mut E, name: &str, file: &[u8])
+    ensures told { (text : List ℕ) × IsTold text (E.contents errors.old) (E.contents errors.new) (E.failures errors.old) (E.failures errors.new) }
+    ensures kept { E.failures errors.old ≤ E.failures errors.new }
+{
+    let Ok(text) = text_of_unfit(alloc, name, file) else {
+        return;
+    };
+    let _told = write_all(errors, text.as_slice());
+}
+
+/// Which starts of a file are unfit, a line for each of the first.
+fn text_of_unfit(alloc: Global, name: &str, file: &[u8]) -> Result<Vec<u8>, AllocError> {
+    let mut text = Vec::new(alloc);
+    for start in find_unfit(alloc, file)?.as_slice().iter().take(MOST_TOLD) {
+        text.extend_from_slice(name.as_bytes())?;
+        if let Some(line) = start.line {
+            text.extend_from_slice(b":")?;
+            write_number(line, &mut text)?;
+        }
+        text.extend_from_slice(b": ")?;
+        text.extend_from_slice(start.text.as_slice())?;
+        text.extend_from_slice(b"\n")?;
+    }
+    Ok(text)
+}
+
+/// What is told of a run beside its report: what is wanted, and of one that has left processes what it awaits.
+pub(crate) fn remarks_on(
+    alloc: Global,
+    shows: RunShows,
+    limit: Limit,
+    file: &[u8],
+    tables: &[TableReport],
+    live: u64,
+) -> Result<Vec<u8>, AllocError>
+    ensures { IfOk result (λ remarks. (shows.is_drawn || shows.is_why) ≡ false → live ≡ 0 → remarks.items ≡ []) }
+{
+    let mut remarks = Vec::new(alloc);
+    if !shows.is_drawn && !shows.is_why && live == 0 {
+        return Ok(remarks);
+    }
+    let Ok(tree) = read_tree(alloc, file) else {
+        return Err(AllocError);
+    };
+    let written = write_remarks(alloc, shows, limit, &tree, tables, live, &mut remarks);
+    drop(tree);
+    written?;
+    Ok(remarks)
+}
+
+/// Appends what is told of a run of this tree.
+fn write_remarks(
+    alloc: Global,
+    shows: RunShows,
+    limit: Limit,
+    tree: &TreeSpec,
+    tables: &[TableReport],
+    live: u64,
+    out: &mut Vec<u8>,
+) -> Result<(), AllocError> {
+    if shows.is_drawn {
+        draw_standing(alloc, tree, tables, out)?;
+    }
+    if shows.is_why {
+        write_lives(alloc, tree, tables, out)?;
+    }
+    if live > 0 {
+        write_awaited(alloc, limit, tree, tables, live, out)?;
+    }
+    Ok(())
+}
+
+/// The end for a tree that was not run.
+fn end_of_run<'a>(fault: FileRunFault) -> ProgramEnd<'a>
+    ensures { result ≡ ending_of_run fault }
+{
+    match fault {
+        FileRunFault::OutOfMemory => ProgramEnd::OutOfMemory,
+        FileRunFault::UnknownStart(name) => ProgramEnd::UnknownStart(name),
+        FileRunFault::WrongBody => ProgramEnd::WrongBody,
+        // No tree that a file says comes to these two.
+        FileRunFault::TooManyTables | FileRunFault::NoBody => {
+            ProgramEnd::TreeRefused(TreeFault::TooManyTables)
+        }
+        FileRunFault::Mismatch => ProgramEnd::CloseMismatch,
+        FileRunFault::Missing => ProgramEnd::CloseMissing,
+    }
+}

@@ -1,0 +1,116 @@
+//! `run --for`: a tree is served for a time on threads that sleep, with worked jobs that wait.
+
+ghost use Rattle.std.specs.Prelude.{◌≡◌, ◌≤◌, ◌||◌, ◌++◌, Some, None, IfErr, IfOk, OnOk, length};
+ghost use Rattle.std.specs.Option.{option_map};
+ghost use Rattle.otp_ending.specs.Told.{TellsFirst};
+ghost use Rattle.otp_file.specs.Trees.{tables_of};
+ghost use Rattle.otp_jobs.specs.Plans.{plan_fault};
+ghost use Rattle.otp_jobs.specs.Runs.{IsOfRun, run_fault};
+ghost use Rattle.otp_running.specs.Running.{IsTreeServed};
+ghost use Rattle.otp_serve.specs.Serves.{served_text};
+ghost use Rattle.otp_close.specs.Closes.{IsReportOf};
+
+use crate::running::{Pool, ending_of_live, explain, refuse_run, remarks_on, say};
+use otp_ending::ProgramEnd;
+use otp_file::{TreeSpec, read_tree};
+use otp_jobs::{FileRunFault, Settings};
+use otp_live::{Span, Unwatched, Watch};
+use otp_outcome::Limit;
+use otp_serve::{PatientReport, serve_worked};
+use otp_sim::{Failed, Output, write_all};
+use otp_words::{RunShows, Serving};
+use std::alloc::Global;
+use std::sync::Wait;
+use std::thread::Threads;
+use std::time::Clock;
+
+/// How long a tree is served that is to be served so.
+fn span_of(serving: Serving) -> Span {
+    Span {
+        stop: Some(serving.time),
+        grace: serving.grace,
+    }
+}
+
+/// Serves a tree, and appends its report. The watch is told what happens where that is wanted.
+fn serve_tree<H, G, L>(
+    pool: &Pool<'_, H, G, L>,
+    alloc: Global,
+    tree: TreeSpec,
+    settings: Settings,
+    serving: Serving,
+    out: &mut Vec<u8>,
+) -> Result<PatientReport, FileRunFault>
+where
+    H: Threads + Wait + Clock + Sync,
+    L: Watch + Sync,
+    ensures served { IfOk result (IsReportOf (length (tables_of tree))) }
+    ensures report { IfOk result (λ report. out.new.items ≡ out.old.items ++ served_text report) }
+    ensures runnable { OnOk result (plan_fault (tables_of tree) ≡ None) }
+    ensures fault { IfErr result (λ why. IsOfRun why → option_map run_fault (plan_fault (tables_of tree)) ≡ Some why) }
+{
+    let span = span_of(serving);
+    if serving.is_logged {
+        serve_worked(pool.rt, alloc, tree, settings, span, pool.watch, out)
+    } else {
+        serve_worked(pool.rt, alloc, tree, settings, span, &Unwatched, out)
+    }
+}
+
+/// Reads the tree of a file, serves it with worked jobs for a time, and writes the report. What is told besides changes nothing of
+/// the output.
+pub fn serve_file<'a, H, G, L, W, E>(
+    pool: &Pool<'_, H, G, L>,
+    alloc: Global,
+    name: &str,
+    file: &[u8],
+    settings: Settings,
+    serving: Serving,
+    shows: RunShows,
+    output: &mut W,
+    errors: &mut E,
+) -> ProgramEnd<'a>
+where
+    H: Threads + Wait + Clock + Sync,
+    L: Watch + Sync,
+    W: Output,
+    E: Output,
+    ensures done { IsTreeServed shows.is_json name.now result file.now
+        (record { bytes = W.contents output.old; failures = W.failures output.old })
+        (record { bytes = W.contents output.new; failures = W.failures output.new }) }
+    ensures first { TellsFirst (shows.is_drawn || shows.is_why) result (E.contents errors.old) (E.contents errors.new) (E.failures errors.old) (E.failures errors.new) }
+    ensures kept { E.failures errors.old ≤ E.failures errors.new }
+{
+    let tree = match read_tree(alloc, file) {
+        Ok(tree) => tree,
+        Err(fault) => {
+            let ending = ProgramEnd::of_tree(fault);
+            explain(errors, name, ending);
+            return ending;
+        }
+    };
+    let mut text = Vec::new(alloc);
+    let report = match serve_tree(pool, alloc, tree, settings, serving, &mut text) {
+        Ok(report) => report,
+        Err(fault) => return refuse_run(alloc, errors, name, file, fault),
+    };
+    let live = report.live;
+    let tables = report.tables.as_slice();
+    let Ok(remarks) = remarks_on(alloc, shows, Limit::Grace, file, tables, live) else {
+        drop(report);
+        return ProgramEnd::OutOfMemory;
+    };
+    let Ok(text) = say(alloc, shows.is_json, name, file, tables, live, text) else {
+        drop(report);
+        return ProgramEnd::OutOfMemory;
+    };
+    drop(report);
+    match write_all(output, text.as_slice()) {
+        Ok(()) => {
+            // Where nothing can be told, the report stands all the same.
+            let _told = write_all(errors, remarks.as_slice());
+            ending_of_live(live)
+        }
+        Err(Failed) => ProgramEnd::OutputFailed,
+    }
+}
