@@ -42,11 +42,17 @@ head_text row =
     key_text (codes "{") (codes "children") ++ names_text row.path row.names
     ++ key_text (codes ", ") (codes "burst") ++ fate_text row.own.burst (codes "\"any\"")
 
--- how far apart crashes must be, by milliseconds and by whole seconds
+-- how far apart crashes must be, by milliseconds
+unfoldable pub interval_text : Row → List ℕ
+interval_text row = key_text (codes ", ") (codes "interval") ++ steady_text row.own.burst row.own.steady
+
+-- the same by whole seconds
+unfoldable pub otp_text : Row → List ℕ
+otp_text row = key_text (codes ", ") (codes "interval_of_otp") ++ steady_text row.own.burst row.own.seconds
+
+-- and by each clock
 unfoldable pub clocks_text : Row → List ℕ
-clocks_text row =
-    key_text (codes ", ") (codes "interval") ++ steady_text row.own.burst row.own.steady
-    ++ key_text (codes ", ") (codes "interval_of_otp") ++ steady_text row.own.burst row.own.seconds
+clocks_text row = interval_text row ++ otp_text row
 
 -- what a crash stops and starts again
 unfoldable pub affected_text : Row → List ℕ

@@ -2,7 +2,7 @@
 
 ghost use Rattle.std.specs.Prelude.{◌≡◌, ◌++◌, [], true, IfOk, OnOk};
 ghost use Rattle.std.specs.List.{flat_map};
-ghost use Rattle.otp_objects.specs.Limits.{TellsObject, TellsRows, affected_text, clocks_text, fall_text, fate_text, gone_value, head_text, is_none, limits_text, next_row, row_text, rows_text, steady_text, steady_value};
+ghost use Rattle.otp_objects.specs.Limits.{TellsObject, TellsRows, affected_text, clocks_text, fall_text, fate_text, gone_value, head_text, interval_text, is_none, limits_text, next_row, otp_text, row_text, rows_text, steady_text, steady_value};
 
 use crate::names::{write_names, write_paths};
 use otp_file::TreeSpec;
@@ -83,15 +83,31 @@ fn write_head(row: &Row, word: &mut Vec<u8>, out: &mut Vec<u8>) -> Result<(), Al
     write_fate(row.own.burst, b"\"any\"", out)
 }
 
+/// Appends how far apart crashes must be.
+#[tactic(auto, unfolding(crate::specs::Limits::interval_text))]
+fn write_interval(row: &Row, out: &mut Vec<u8>) -> Result<(), AllocError>
+    ensures { OnOk result (out.new.items ≡ out.old.items ++ interval_text row.now) }
+{
+    put_key(b", ", b"interval", out)?;
+    write_steady(row.own.burst, row.own.steady, out)
+}
+
+/// Appends the same by the clock of OTP. A long text stands alone, since the prover's search loses it among others.
+#[tactic(auto, unfolding(crate::specs::Limits::otp_text))]
+fn write_otp(row: &Row, out: &mut Vec<u8>) -> Result<(), AllocError>
+    ensures { OnOk result (out.new.items ≡ out.old.items ++ otp_text row.now) }
+{
+    put_key(b", ", b"interval_of_otp", out)?;
+    write_steady(row.own.burst, row.own.seconds, out)
+}
+
 /// Appends how far apart crashes must be, by each clock.
 #[tactic(auto, unfolding(crate::specs::Limits::clocks_text))]
 fn write_clocks(row: &Row, out: &mut Vec<u8>) -> Result<(), AllocError>
     ensures { OnOk result (out.new.items ≡ out.old.items ++ clocks_text row.now) }
 {
-    put_key(b", ", b"interval", out)?;
-    write_steady(row.own.burst, row.own.steady, out)?;
-    put_key(b", ", b"interval_of_otp", out)?;
-    write_steady(row.own.burst, row.own.seconds, out)
+    write_interval(row, out)?;
+    write_otp(row, out)
 }
 
 /// Appends what a crash stops and starts again.
