@@ -1,0 +1,17 @@
+//! What would a tree have done, had happened to it what a log tells? The lines of the log that say what happened are a script, each at
+//! the time of its timestamp, and the script is tried (otp_try).
+//!
+//! `specs/Logs` says the script of each log, a line for each of its lines, and `specs/Told` what is written.
+#![tactic(auto)]
+
+mod entry;
+mod event;
+mod played;
+mod reading;
+mod stamp;
+mod words;
+
+pub use entry::LONGEST_ENTRY;
+pub use played::{ReplayEnd, replay};
+pub use reading::{Counts, LogFault, Reading, read_log};
+pub use stamp::{MOST_SECONDS, Stamp};

@@ -1,0 +1,193 @@
+//! A log that is replayed on the supervisors of a tree.
+
+ghost use Rattle.std.specs.Prelude.{ℕ, List, ◌≡◌, ◌++◌, Ok, IfOk, OnOk};
+ghost use Rattle.otp_replay.specs.declared.played.ReplayEnd.TheVariants.{Tried};
+ghost use Rattle.otp_replay.specs.Logs.{log_in};
+ghost use Rattle.otp_replay.specs.Told.{Closes, PlaysLog, Replays, at_line_text, counts_text, fault_text, goes_back_text, hint_text, listed_if, other_clock_text, tail_text};
+ghost use Rattle.otp_try.specs.Pages.{tells_orders};
+ghost use Rattle.otp_try.specs.declared.play.Writer.TheVariants.{Script};
+
+use crate::reading::{LogFault, Reading, read_log};
+use otp_file::TreeSpec;
+use otp_sim::{Counted, Output, write_all};
+use otp_text::write_number;
+use otp_try::{Clock, Shows, TryEnd, Writer, try_tree};
+use std::alloc::{AllocError, Global};
+
+/// How a replay ended.
+#[derive(Clone, Copy, Debug, PartialEq, Eq)]
+pub enum ReplayEnd {
+    /// The log has a fault, and nothing was played.
+    LogRefused(LogFault),
+    /// The script of the log was tried, and that ended so. Its lines have the numbers of the log's.
+    Tried(TryEnd),
+}
+
+/// Appends which line has a fault.
+#[tactic(auto, unfolding(crate::specs::Told::at_line_text))]
+fn write_at_line(line: u64, out: &mut Vec<u8>) -> Result<(), AllocError>
+    ensures { OnOk result (out.new.items ≡ out.old.items ++ at_line_text line) }
+{
+    out.extend_from_slice(b"line ")?;
+    write_number(line, out)
+}
+
+#[tactic(auto, unfolding(crate::specs::Told::goes_back_text))]
+fn write_goes_back(out: &mut Vec<u8>) -> Result<(), AllocError>
+    ensures { OnOk result (out.new.items ≡ out.old.items ++ goes_back_text) }
+{
+    out.extend_from_slice(
+        b": its timestamp is earlier than that of the line before that is played\n",
+    )
+}
+
+#[tactic(auto, unfolding(crate::specs::Told::other_clock_text))]
+fn write_other_clock(out: &mut Vec<u8>) -> Result<(), AllocError>
+    ensures { OnOk result (out.new.items ≡ out.old.items ++ other_clock_text) }
+{
+    out.extend_from_slice(
+        b": seconds and instants as timestamps in one log count from different zeros\n",
+    )
+}
+
+impl LogFault {
+    /// Appends why a log is refused: a line.
+    #[tactic(auto, unfolding(crate::specs::Told::fault_text))]
+    pub fn write(self, out: &mut Vec<u8>) -> Result<(), AllocError>
+        ensures { OnOk result (out.new.items ≡ out.old.items ++ fault_text self) }
+    {
+        match self {
+            LogFault::GoesBack(line) => {
+                write_at_line(line, out)?;
+                write_goes_back(out)
+            }
+            LogFault::OtherClock(line) => {
+                write_at_line(line, out)?;
+                write_other_clock(out)
+            }
+        }
+    }
+}
+
+/// Appends how lines are seen that aren't played.
+#[tactic(auto, unfolding(crate::specs::Told::hint_text))]
+fn write_hint(is_listed: bool, missed: u64, out: &mut Vec<u8>) -> Result<(), AllocError>
+    ensures { OnOk result (out.new.items ≡ out.old.items ++ hint_text is_listed missed) }
+{
+    if !is_listed && missed != 0 {
+        out.extend_from_slice(b" (--unmatched shows them)")
+    } else {
+        Ok(())
+    }
+}
+
+/// Appends how many lines were played, and how many weren't.
+#[tactic(auto, unfolding(crate::specs::Told::counts_text))]
+fn write_counts(
+    played: u64,
+    missed: u64,
+    is_listed: bool,
+    out: &mut Vec<u8>,
+) -> Result<(), AllocError>
+    ensures { OnOk result (out.new.items ≡ out.old.items ++ counts_text played missed is_listed) }
+{
+    out.extend_from_slice(b"lines played: ")?;
+    write_number(played, out)?;
+    out.extend_from_slice(b", not matched: ")?;
+    write_number(missed, out)?;
+    write_hint(is_listed, missed, out)?;
+    out.extend_from_slice(b"\n")
+}
+
+/// Lines that are listed, if they are.
+fn listed_if(is_listed: bool, others: &[u8]) -> &[u8]
+    ensures { result.now ≡ listed_if is_listed others.now }
+{
+    if is_listed { others } else { &[] }
+}
+
+/// What stands behind all that `try` writes.
+#[tactic(auto, unfolding(crate::specs::Told::tail_text))]
+fn tail_of(alloc: Global, is_listed: bool, log: &Reading) -> Result<Vec<u8>, AllocError>
+    ensures { IfOk result (λ tail. tail.items ≡ tail_text is_listed log.now) }
+{
+    let mut tail = Vec::new(alloc);
+    let counts = log.counts();
+    write_counts(counts.played, counts.missed, is_listed, &mut tail)?;
+    tail.extend_from_slice(listed_if(is_listed, log.others()))?;
+    Ok(tail)
+}
+
+/// Writes what stands behind a run that was played to its end.
+fn close<W: Output>(tried: TryEnd, tail: &[u8], output: &mut W) -> TryEnd
+    ensures { Closes tried result tail.now (W.contents output.old) (W.contents output.new) }
+{
+    match tried {
+        TryEnd::Done | TryEnd::ExpectationFailed(_) => match write_all(output, tail) {
+            Ok(()) => tried,
+            Err(_) => TryEnd::OutputFailed,
+        },
+        other => other,
+    }
+}
+
+/// Tries the script of a log that was read.
+fn play_log<W: Output>(
+    alloc: Global,
+    tree: TreeSpec,
+    log: &Reading,
+    shows: Shows,
+    clock: Clock,
+    is_listed: bool,
+    output: &mut W,
+) -> TryEnd
+    ensures { (text : List ℕ) → log_in text ≡ Ok log.now → Replays (Tried result) tree text (tells_orders Script shows) is_listed (W.contents output.old) (W.contents output.new) }
+{
+    let Ok(tail) = tail_of(alloc, is_listed, log) else {
+        drop(tree);
+        return TryEnd::OutOfMemory;
+    };
+    let mut script = Counted::new(log.script());
+    let tried = try_tree(
+        alloc,
+        tree,
+        Writer::Script,
+        shows,
+        clock,
+        &mut script,
+        output,
+    );
+    close(tried, tail.as_slice(), output)
+}
+
+/// Plays what a log tells on the supervisors of a tree, from the first line on that says what happened: it is a script in which each
+/// such line stands at the time of its timestamp, and what is written is what `try` writes of that. Behind it stands how many lines
+/// were played and how many weren't, and those themselves, if they are listed.
+///
+/// Where the run ends early, as at a line that means a child without a process, all that was told before is written, and no counts.
+pub fn replay<W: Output>(
+    alloc: Global,
+    tree: TreeSpec,
+    text: &[u8],
+    shows: Shows,
+    clock: Clock,
+    is_listed: bool,
+    output: &mut W,
+) -> ReplayEnd
+    ensures { Replays result tree text.now (tells_orders Script shows) is_listed (W.contents output.old) (W.contents output.new) }
+{
+    let log = match read_log(alloc, text) {
+        Ok(Ok(log)) => log,
+        Ok(Err(fault)) => {
+            drop(tree);
+            return ReplayEnd::LogRefused(fault);
+        }
+        Err(_) => {
+            drop(tree);
+            return ReplayEnd::Tried(TryEnd::OutOfMemory);
+        }
+    };
+    let end = play_log(alloc, tree, &log, shows, clock, is_listed, output);
+    drop(log);
+    ReplayEnd::Tried(end)
+}

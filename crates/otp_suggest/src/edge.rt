@@ -1,0 +1,151 @@
+//! The least intensity, or the greatest period, with which a supervisor survives crashes of a child.
+
+ghost use Rattle.std.specs.Prelude.{◌≡◌, ◌≤◌, ◌<◌, ◌^◌, ◌-◌, IfOk};
+ghost use Rattle.otp_limits.specs.declared.steady.Verdict.TheVariants.{Falls, Lasts};
+ghost use Rattle.otp_spec.specs.declared.limits.TheConstants.{MAX_PERIOD};
+ghost use Rattle.otp_suggest.specs.Edges.{AreBounds, IsEdge, IsJudgedAt, last_step, turned};
+
+use crate::dial::Dial;
+use otp_limits::{Verdict, judge};
+use otp_reason::Name;
+use otp_spec::{SupSpec, copy_specs};
+use otp_trial::{Clock, Halt};
+use std::alloc::Global;
+
+/// The last value of a flag with which crashes of a child are survived.
+#[derive(Clone, Copy, Debug, PartialEq, Eq)]
+pub enum Edge {
+    /// Each value survives them.
+    Any,
+    /// This one does, and the next one doesn't: an intensity of one less, or a period of a second more.
+    At(u64),
+    /// No value survives them.
+    Nowhere,
+}
+
+/// Between which steps the edge lies: at the long one the crashes are survived, and at the short one they aren't.
+#[derive(Clone, Copy)]
+pub(crate) struct Bounds {
+    pub short: u64,
+    pub long: u64,
+}
+
+/// A supervisor with another value of a flag.
+pub(crate) fn with_value(
+    alloc: Global,
+    supervisor: &SupSpec,
+    dial: Dial,
+    value: u64,
+) -> Result<SupSpec, Halt>
+    ensures { IfOk result (λ other. other ≡ record { flags = turned dial value supervisor.now.flags; specs = supervisor.now.specs }) }
+{
+    let specs = copy_specs(alloc, supervisor.specs())?;
+    let flags = dial.turned(value, supervisor.flags());
+    match SupSpec::check(flags, specs) {
+        Ok(other) => Ok(other),
+        // Whether specifications are lawful hangs on neither flag, and each value is.
+        Err(_) => Err(Halt::OutOfMemory),
+    }
+}
+
+/// Plays crashes of a child at an interval, where a flag of its supervisor has the value of this step.
+fn judge_at(
+    alloc: Global,
+    supervisor: &SupSpec,
+    clock: Clock,
+    id: &Name,
+    gap: u64,
+    dial: Dial,
+    step: u64,
+) -> Result<Verdict, Halt>
+    requires gap { gap ≤ 2 ^ 30 }
+    requires step { step ≤ MAX_PERIOD }
+    ensures { IfOk result (IsJudgedAt dial clock supervisor.now.flags supervisor.now.specs id.now gap step) }
+{
+    let other = with_value(alloc, supervisor, dial, dial.value_at(step))?;
+    let verdict = judge(alloc, &other, clock, id, gap);
+    drop(other);
+    verdict
+}
+
+/// The bounds once crashes were played at a step between them.
+fn narrow(
+    alloc: Global,
+    supervisor: &SupSpec,
+    clock: Clock,
+    id: &Name,
+    gap: u64,
+    dial: Dial,
+    bounds: Bounds,
+    step: u64,
+) -> Result<Bounds, Halt>
+    requires gap { gap ≤ 2 ^ 30 }
+    requires bounds { AreBounds dial clock supervisor.now.flags supervisor.now.specs id.now gap bounds }
+    requires inside { (bounds.short < step) × (step < bounds.long) }
+    ensures bounds { IfOk result (AreBounds dial clock supervisor.now.flags supervisor.now.specs id.now gap) }
+    ensures narrower { IfOk result (λ after. after.long - after.short < bounds.long - bounds.short) }
+{
+    match judge_at(alloc, supervisor, clock, id, gap, dial, step)? {
+        Verdict::Lasts => Ok(Bounds {
+            short: bounds.short,
+            long: step,
+        }),
+        Verdict::Falls => Ok(Bounds {
+            short: step,
+            long: bounds.long,
+        }),
+    }
+}
+
+/// Finds the edge by halving.
+#[tactic(auto, unfolding(crate::specs::Edges::IsEdge))]
+fn search(
+    alloc: Global,
+    supervisor: &SupSpec,
+    clock: Clock,
+    id: &Name,
+    gap: u64,
+    dial: Dial,
+) -> Result<Edge, Halt>
+    requires gap { gap ≤ 2 ^ 30 }
+    requires falls { IsJudgedAt dial clock supervisor.now.flags supervisor.now.specs id.now gap 0 Falls }
+    requires lasts { IsJudgedAt dial clock supervisor.now.flags supervisor.now.specs id.now gap (last_step dial) Lasts }
+    ensures { IfOk result (IsEdge dial clock supervisor.now.flags supervisor.now.specs id.now gap) }
+{
+    let mut bounds = Bounds {
+        short: 0,
+        long: dial.last_step(),
+    };
+    'halving: while bounds.long - bounds.short > 1 {
+        let middle = bounds.short + (bounds.long - bounds.short) / 2;
+        bounds = narrow(alloc, supervisor, clock, id, gap, dial, bounds, middle)?;
+    }
+    Ok(Edge::At(dial.value_at(bounds.long)))
+}
+
+/// The last value of a flag with which a supervisor survives crashes of a child that are so many milliseconds apart.
+///
+/// # Errors
+///
+/// Where memory is refused, or a supervisor has 2^62 events before the last crash of a run.
+#[tactic(auto, unfolding(crate::specs::Edges::IsEdge))]
+pub fn find_edge(
+    alloc: Global,
+    supervisor: &SupSpec,
+    clock: Clock,
+    id: &Name,
+    gap: u64,
+    dial: Dial,
+) -> Result<Edge, Halt>
+    requires gap { gap ≤ 2 ^ 30 }
+    ensures { IfOk result (IsEdge dial clock supervisor.now.flags supervisor.now.specs id.now gap) }
+{
+    match judge_at(alloc, supervisor, clock, id, gap, dial, 0)? {
+        Verdict::Lasts => return Ok(Edge::Any),
+        Verdict::Falls => {}
+    }
+    match judge_at(alloc, supervisor, clock, id, gap, dial, dial.last_step())? {
+        Verdict::Falls => Ok(Edge::Nowhere),
+        Verdict::Lasts => search(alloc, supervisor, clock, id, gap, dial),
+    }
+}
