@@ -8,6 +8,7 @@ use Rattle.otp_inbox.specs.Tokens.{SenderState, all_parts, all_sent, count_limit
 use Rattle.otp_rules.specs.declared.event.Item.{Item}
 use Rattle.otp_run.specs.Lists.{AllAt}
 use Rattle.otp_run.proofs.Places.{each_at, map-append, set_at}
+use Rattle.otp_hand.proofs.Sendings.{sent_joined, together-append}
 use Rattle.otp_close.specs.Closes.{all_senders}
 use Rattle.otp_hand.specs.Hands.{ClientView, HandView, senders_of}
 use Rattle.otp_hand.specs.Sendings.{sent_at, sent_in, sent_to, parts_at, parts_of, parts_to, with_sender}
