@@ -2,6 +2,7 @@
 
 use crate::caller::Caller;
 use crate::clock::Stopwatch;
+use crate::span::Span;
 use crate::watch::{Seen, Watch, happening_of};
 use otp_reason::Note;
 use otp_tree::MAX_HANDS;
@@ -27,6 +28,7 @@ struct Places {
 pub(crate) struct Crew<'a, C, W, J: Drop, S: Drop> {
     pub clock: &'a Stopwatch<'a, C>,
     pub stop: &'a Stop,
+    span: Span,
     pub post: Arc<Post>,
     pub callers: &'a [Caller<J, S>],
     pub alloc: Global,
@@ -55,6 +57,7 @@ impl<'a, C: Clock, W: Watch, J: Drop, S: Drop> Crew<'a, C, W, J, S> {
         alloc: Global,
         clock: &'a Stopwatch<'a, C>,
         stop: &'a Stop,
+        span: Span,
         watch: &'a W,
         callers: &'a [Caller<J, S>],
         post: Arc<Post>,
@@ -65,6 +68,7 @@ impl<'a, C: Clock, W: Watch, J: Drop, S: Drop> Crew<'a, C, W, J, S> {
         Ok(Crew {
             clock,
             stop,
+            span,
             post,
             callers,
             alloc,
@@ -84,6 +88,27 @@ impl<'a, C: Clock, W: Watch, J: Drop, S: Drop> Crew<'a, C, W, J, S> {
     /// Whether the root has ended.
     pub fn has_ended(&self) -> bool {
         self.has_ended.load(Ordering::SeqCst) != 0
+    }
+
+    /// Raises the stop once its time has come, and says whether the hands are to leave.
+    pub fn keep_time(&self) -> bool {
+        if self.span.stop.is_none() {
+            return false;
+        }
+        let reading = self.clock.reading();
+        if self.span.is_to_stop(reading) && !self.stop.is_raised() {
+            self.stop.raise();
+        }
+        self.span.is_over(reading)
+    }
+
+    /// When a hand that sleeps has to wake at the latest, whatever comes: for the stop, or once that was raised to leave.
+    pub fn next_due(&self) -> Option<u64> {
+        if self.stop.is_raised() {
+            self.span.leave()
+        } else {
+            self.span.stop
+        }
     }
 
     /// Whether this hand is to ask the root to stop: one of them is, once the stop was raised.

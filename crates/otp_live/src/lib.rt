@@ -9,6 +9,9 @@
 //! raised the [`Stop`]. Then the tree was shut down in order, as OTP's `supervisor` does at the end of an application, and closed;
 //! the report is that of [`System::close`](otp_tree::System::close).
 //!
+//! [`run_for`] runs it for a time: then the stop is raised, and where the tree hasn't ended some time after that, the hands leave it
+//! ([`Span`]). The report says what is left.
+//!
 //! A [`Watch`] is told what happens: which processes started and ended, and why, and when. It is told by the thread in which it
 //! happened, with no lock held.
 //!
@@ -32,6 +35,7 @@ pub mod log;
 pub mod mailbox;
 mod seat;
 mod served;
+pub mod span;
 pub mod watch;
 
 pub use caller::{Answer, Caller};
@@ -40,8 +44,9 @@ pub use calls::{
     TerminateRefusal,
 };
 pub use clock::Stopwatch;
-pub use live::{close_callers, run, run_with_callers};
+pub use live::{close_callers, run, run_for, run_with_callers};
 pub use log::{LogLines, write_line};
 pub use mailbox::Mailbox;
 pub use otp_wake::{Stop, Waker};
+pub use span::Span;
 pub use watch::{Happening, Seen, Unwatched, Watch};

@@ -9,6 +9,7 @@ use crate::clock::Stopwatch;
 use crate::crew::Crew;
 use crate::seat::Seat;
 use crate::served::serve_tree;
+use crate::span::{Span, sooner};
 use crate::watch::Watch;
 use otp_bridge::Subsystem;
 use otp_inbox::InboxNaming;
@@ -87,8 +88,93 @@ where
     ensures report { IfOk result (IsReportOf (length plans.items)) }
     ensures mismatch { IfErr result IsRunMismatchOnly }
 {
+    run_spanned(
+        rt,
+        alloc,
+        plans,
+        hands,
+        stop,
+        Span::endless(),
+        watch,
+        callers,
+    )
+}
+
+/// Runs a tree for a time: then its root is asked to shut down, as by a stop, and where that hasn't ended by the end of its grace,
+/// the hands leave the tree as it is. It is closed then, and the report says how many processes are left.
+///
+/// # Errors
+///
+/// As [`run`], and [`RunFault::Open`] where memory for a stop is refused.
+pub fn run_for<R, J, S, W>(
+    rt: &R,
+    alloc: Global,
+    plans: Vec<TablePlan<J, S>>,
+    hands: usize,
+    span: Span,
+    watch: &W,
+) -> Result<Report<J, S>, RunFault<J, S>>
+where
+    R: Threads + Wait + Clock + Sync,
+    J: Job + Send,
+    S: Subsystem + Send,
+    W: Watch + Sync,
+    requires tables { length plans.items ≤ MAX_TABLES }
+    requires some { 0 < hands }
+    requires few { hands ≤ all_parts }
+    ensures report { IfOk result (IsReportOf (length plans.items)) }
+    ensures mismatch { IfErr result IsRunMismatchOnly }
+{
+    let Ok(stop) = Stop::new(alloc) else {
+        drop(plans);
+        return Err(RunFault::Open(SystemFault::OutOfMemory));
+    };
+    let callers = Vec::new(alloc);
+    run_spanned(
+        rt,
+        alloc,
+        plans,
+        hands,
+        &stop,
+        span,
+        watch,
+        callers.as_slice(),
+    )
+}
+
+/// Runs a tree so long, with these callers.
+fn run_spanned<R, J, S, W>(
+    rt: &R,
+    alloc: Global,
+    plans: Vec<TablePlan<J, S>>,
+    hands: usize,
+    stop: &Stop,
+    span: Span,
+    watch: &W,
+    callers: &[Caller<J, S>],
+) -> Result<Report<J, S>, RunFault<J, S>>
+where
+    R: Threads + Wait + Clock + Sync,
+    J: Job + Send,
+    S: Subsystem + Send,
+    W: Watch + Sync,
+    requires tables { length plans.items ≤ MAX_TABLES }
+    requires some { 0 < hands }
+    requires few { hands ≤ all_parts }
+    ensures report { IfOk result (IsReportOf (length plans.items)) }
+    ensures mismatch { IfErr result IsRunMismatchOnly }
+{
     let clock = Stopwatch::start(rt);
-    let Ok(crew) = gather(alloc, &clock, stop, watch, callers, plans.len(), hands) else {
+    let Ok(crew) = gather(
+        alloc,
+        &clock,
+        stop,
+        span,
+        watch,
+        callers,
+        plans.len(),
+        hands,
+    ) else {
         drop(plans);
         close_callers(rt, callers);
         return Err(RunFault::Open(SystemFault::OutOfMemory));
@@ -116,6 +202,7 @@ fn gather<'a, C: Clock, W: Watch, J: Drop, S: Drop>(
     alloc: Global,
     clock: &'a Stopwatch<'a, C>,
     stop: &'a Stop,
+    span: Span,
     watch: &'a W,
     callers: &'a [Caller<J, S>],
     tables: usize,
@@ -123,10 +210,12 @@ fn gather<'a, C: Clock, W: Watch, J: Drop, S: Drop>(
 ) -> Result<Crew<'a, C, W, J, S>, AllocError> {
     let post = Post::open(alloc, slots_of(tables), stop.bells())?;
     let post = Arc::new(alloc, post)?;
-    Crew::of(alloc, clock, stop, watch, callers, post, tables, hands)
+    Crew::of(
+        alloc, clock, stop, span, watch, callers, post, tables, hands,
+    )
 }
 
-/// Serves by a hand until the root has ended.
+/// Serves by a hand until the root has ended, or the time of the run is over.
 pub(crate) fn serve<N, R, J, S, W>(
     rt: &R,
     seat: &Seat<'_, R, W, J, S>,
@@ -146,7 +235,7 @@ where
     let _opened = hand.open_post(&crew.post);
     let mut crowded: u32 = 0;
     for _ in rt.forever() {
-        if crew.has_ended() {
+        if crew.has_ended() || crew.keep_time() {
             return;
         }
         if crew.is_to_ask() {
@@ -300,7 +389,8 @@ where
         }
         return;
     }
-    announced.sleep(rt, time_left(hand.next_due(), reading));
+    let due = sooner(hand.next_due(), crew.next_due());
+    announced.sleep(rt, time_left(due, reading));
 }
 
 /// How long it is until a deadline, by this reading of the clock.
