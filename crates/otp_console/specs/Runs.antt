@@ -1,9 +1,8 @@
 -- What the program did to its input, its output and the standard error, by how it ended (own).
-use Rattle.std.specs.Prelude.{◌≡◌, ◌⊎◌, ◌||◌, ℕ, ◌<◌, ◌≤◌, length, Bool, true, false, List, [], ◌∷◌, ◌++◌, Option, Some, None, option_map, Ok, Err}
+use Rattle.std.specs.Prelude.{◌≡◌, ◌⊎◌, ◌||◌, ℕ, ◌<◌, Bool, true, false, List, [], ◌∷◌, ◌++◌, Option, Some, None, option_map, Ok}
 use Rattle.std.specs.Io.KnownBytes.{Appends}
 use Rattle.otp_file.specs.declared.fault.TreeFault.{TreeFault}
-use Rattle.otp_file.specs.declared.fault.TreeFault.TheVariants.{NotToml}
-use Rattle.otp_file.specs.Files.{Says, IsToml}
+use Rattle.otp_file.specs.Files.{Says}
 use Rattle.otp_file.specs.Trees.{Tree}
 use Rattle.otp_sim.specs.declared.engine.SimEnd.{SimEnd}
 use Rattle.otp_sim.specs.declared.engine.SimEnd.TheVariants as sim
@@ -16,8 +15,6 @@ use Rattle.otp_try.specs.declared.play.TryEnd.TheVariants as trial
 use Rattle.otp_jobs.specs.declared.plan.PlanFault.{PlanFault}
 use Rattle.otp_starts.specs.Unfit.{HasStarts, IsRunnable}
 use Rattle.otp_ending.specs.Devices.{HasTree, IsUnread, Written, writer_of}
-use Rattle.otp_folds.specs.declared.alike.Grain.{Grain}
-use Rattle.otp_folds.specs.declared.pick.Pick.{Pick}
 use Rattle.otp_questions.specs.Limited.{IsLimited}
 use Rattle.otp_questions.specs.Said.{IsDrawn}
 use Rattle.otp_questions.specs.Stopped.{IsStopped}
@@ -27,7 +24,6 @@ use Rattle.otp_ending.specs.Told.{IsSmall, IsUnreadEnd, Tells, TellsFirst, goes_
 use Rattle.otp_ending.specs.declared.ending.Unwritten.{Unwritten}
 use Rattle.otp_ending.specs.declared.ending.ProgramEnd.{ProgramEnd}
 use Rattle.otp_ending.specs.declared.ending.ProgramEnd.TheVariants.{Done, WordsRefused, NoCommand, WordNotText, FileAsCommand, TreeNotRead, FileNotRead, TreeRefused, NoTree, UnknownStart, NotFound, WrongBody, CloseMismatch, CloseMissing, FaultsFound, LineRefused, ScriptRefused, ScriptMissed, HistoryFull, InputFailed, OutputFailed, OutOfMemory, ExpectationFailed, UnknownClock, NotATime, NeedsFor, CountsTurns, NotFinished}
-use Rattle.otp_ending.specs.declared.files.TheConstants.{LARGEST_TREE}
 use Rattle.otp_words.specs.declared.words.Command.{Command}
 use Rattle.otp_words.specs.declared.words.Command.TheVariants as command
 use Rattle.otp_words.specs.declared.words.Usage.{Usage}

@@ -1,5 +1,5 @@
 -- What `shutdown` writes (own).
-use Rattle.std.specs.Prelude.{◌≡◌, ℕ, List, [], Ok}
+use Rattle.std.specs.Prelude.{ℕ, List, [], Ok}
 use Rattle.std.specs.Io.KnownBytes.{Appends}
 use Rattle.otp_file.specs.Files.{Says}
 use Rattle.otp_file.specs.Trees.{Tree}
