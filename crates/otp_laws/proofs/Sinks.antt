@@ -13,7 +13,7 @@ use Rattle.otp_rules.specs.State.{Outcome, with_waiting}
 use Rattle.otp_rules.specs.Places.{end_process, end_row}
 use Rattle.otp_rules.specs.Stops.{tell, tell_row, told, use_exit, without}
 use Rattle.otp_rules.specs.Fit.{is_told, rows_in, runs_as, times}
-use Rattle.otp_rules.proofs.Counting.{cond_le, rows_in-apart, rows_in-at, rows_in-le, rows_in-set, times-cons, told-told}
+use Rattle.otp_rules.proofs.Counting.{cond_le, rows_in-apart, rows_in-at, rows_in-set, times-cons, told-told}
 use Rattle.otp_rules.proofs.Lasting.{contains_counts}
 use Rattle.otp_rules.proofs.Homes.{same_number}
 use Rattle.otp_rules.proofs.Numbers.{holders, told_process}
@@ -78,17 +78,7 @@ popped-sinks u p ps rows none h = omega (arith, none, h, counts_le (both u (is_k
     one true (Killed _) = omega arith
     one true (Restarting _) = omega arith
 
-runs_held : (p : ℕ) (rows : List Row) → rows_in (runs_as p) rows ≤ rows_in (has_process p) rows
-runs_held p = rows_in-le (runs_as p) (has_process p) one
-  where
-    one : (state : RowState) → cond (runs_as p state) 1 0 ≤ cond (has_process p state) 1 0
-    one Undefined = omega arith
-    one (Starting _ _) = omega arith
-    one (Up _) = omega arith
-    one (Asked _ _) = omega arith
-    one (Killed _) = omega arith
-    one (Restarting _) = omega arith
-
+-- what runs under a number has the process, and wasn't told to stop
 runs_or_told : (p : ℕ) (rows : List Row) → rows_in (runs_as p) rows + rows_in (is_told p) rows ≤ rows_in (has_process p) rows
 runs_or_told p = rows_in-apart (runs_as p) (is_told p) (has_process p) one
   where
@@ -105,8 +95,8 @@ used-none : (p : ℕ) (place : Option ℕ) (o : Outcome) → holders p o ≤ 1 �
 unfolding use_exit end_process
 used-none p place o one =
     let left : Outcome = with_waiting (without o.state.waiting place) o in
-    at_process (λ (x : Outcome). rows_in (runs_as p) x.state.rows ≤ 0) p end_row left (λ none. omega (arith, none, runs_held p o.state.rows))
-    (λ i row at has. omega (arith, end-none p i row left one at has, runs_held p (end_row i row left).state.rows))
+    at_process (λ (x : Outcome). rows_in (runs_as p) x.state.rows ≤ 0) p end_row left (λ none. omega (arith, none, runs_or_told p o.state.rows))
+    (λ i row at has. omega (arith, end-none p i row left one at has, runs_or_told p (end_row i row left).state.rows))
 
 pub used-sinks : (u : Row → Bool) → IsStill u → (p : ℕ) (ps : List ℕ) (place : Option ℕ) (o : Outcome) → holders p o ≤ 1 → AreSinking u (p ∷ ps) o.state.rows → AreSinking u ps (use_exit p place o).state.rows
 used-sinks u still p ps place o one h = popped-sinks u p ps (use_exit p place o).state.rows (used-none p place o one) (use_exit-most u (is_kept (p ∷ ps)) still (sinks (p ∷ ps)) 0 p place o h)
@@ -115,7 +105,7 @@ used-sinks u still p ps place o one h = popped-sinks u p ps (use_exit p place o)
 told-none : (p : ℕ) (o : Outcome) → holders p o ≤ 1 → rows_in (runs_as p) (tell p o).state.rows ≤ 0
 unfolding tell tell_row
 told-none p o one =
-    at_process (λ (x : Outcome). rows_in (runs_as p) x.state.rows ≤ 0) p (tell_row p) o (λ none. omega (arith, none, runs_held p o.state.rows))
+    at_process (λ (x : Outcome). rows_in (runs_as p) x.state.rows ≤ 0) p (tell_row p) o (λ none. omega (arith, none, runs_or_told p o.state.rows))
     (λ i row at has.
     let now : RowState = told o.state.last p row.spec.shutdown in
     let rows : List Row = slice_set o.state.rows i (with_state now row) in
