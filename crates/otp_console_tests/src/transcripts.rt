@@ -1675,7 +1675,7 @@ status 2
     (
         "limits nested.toml --json",
         "-",
-        r##"{"file": "nested.toml", "rows": [{"children": ["db"], "burst": 2, "interval": 30001, "interval_of_otp": 30500, "stops": [], "starts": ["db"], "root": 2, "ends": ["root"]}, {"children": ["pool"], "burst": 2, "interval": 30001, "interval_of_otp": 30500, "stops": [], "starts": ["pool"], "root": 2, "ends": ["root"]}, {"children": ["pool/a", "pool/b"], "burst": 1, "interval": 10001, "interval_of_otp": 11000, "stops": [], "starts": ["pool/a"], "root": 5, "ends": ["pool", "root"]}]}
+        r##"{"file": "nested.toml", "rows": [{"children": ["db"], "burst": 2, "interval": 30001, "otp_needs": 30500, "stops": [], "starts": ["db"], "root": 2, "ends": ["root"]}, {"children": ["pool"], "burst": 2, "interval": 30001, "otp_needs": 30500, "stops": [], "starts": ["pool"], "root": 2, "ends": ["root"]}, {"children": ["pool/a", "pool/b"], "burst": 1, "interval": 10001, "otp_needs": 11000, "stops": [], "starts": ["pool/a"], "root": 5, "ends": ["pool", "root"]}]}
 status 0
 "##,
     ),

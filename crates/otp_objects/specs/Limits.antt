@@ -48,7 +48,7 @@ interval_text row = key_text (codes ", ") (codes "interval") ++ steady_text row.
 
 -- the same by whole seconds
 unfoldable pub otp_text : Row → List ℕ
-otp_text row = key_text (codes ", ") (codes "interval_of_otp") ++ steady_text row.own.burst row.own.seconds
+otp_text row = key_text (codes ", ") (codes "otp_needs") ++ steady_text row.own.burst row.own.seconds
 
 -- and by each clock
 unfoldable pub clocks_text : Row → List ℕ

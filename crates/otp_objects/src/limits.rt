@@ -97,7 +97,7 @@ fn write_interval(row: &Row, out: &mut Vec<u8>) -> Result<(), AllocError>
 fn write_otp(row: &Row, out: &mut Vec<u8>) -> Result<(), AllocError>
     ensures { OnOk result (out.new.items ≡ out.old.items ++ otp_text row.now) }
 {
-    put_key(b", ", b"interval_of_otp", out)?;
+    put_key(b", ", b"otp_needs", out)?;
     write_steady(row.own.burst, row.own.seconds, out)
 }
 
