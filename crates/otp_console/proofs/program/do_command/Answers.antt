@@ -1,7 +1,8 @@
-use Rattle.std.proofs.Common.{ℕ, List, Bor, refl, subst, sym}
+use Rattle.std.proofs.Common.{ℕ, List, [], Bor, inr, refl, subst, sym}
 use Rattle.otp_sim.specs.Runs.{Devices}
 use Rattle.otp_console.specs.Runs.{ChecksAll, Does}
 use Rattle.otp_words.specs.declared.words.Command.{Command}
+use Rattle.otp_console.proofs.Untold.{appends_nothing}
 use Rattle.otp_console.proofs.program.do_command.Goals as goal
 
 pub returns-in-Check-clause-done : goal.returns-in-Check-clause-done
@@ -24,3 +25,6 @@ returns-in-Check-clause-done g c =
           (record { bytes = old.written; failures = old.write_failures }) (record { bytes = new.written; failures = new.write_failures }))
           c.as_slice.ensures.value c.check_all.ensures,
     )
+
+pub returns-in-Check-clause-first : goal.returns-in-Check-clause-first
+returns-in-Check-clause-first g c = ([], (λ unasked. refl, inr (appends_nothing (g.E.Output.contents c.args.errors.now))))
