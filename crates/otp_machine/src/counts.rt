@@ -3,7 +3,7 @@
 ghost use Rattle.std.specs.Prelude.{◌≡◌, ◌≤◌, length, vec_capacity};
 
 use crate::machine::Machine;
-use otp_lists::counts::list_lines;
+use otp_decisions::counts::list_lines;
 use otp_rules::{ChildLines, CountsNow, Effect, Reply};
 use std::mem;
 

@@ -4,7 +4,9 @@ ghost use Rattle.std.specs.Prelude.{◌≡◌, ◌<◌, ◌≤◌, Some, length,
 ghost use Rattle.std.specs.VecDeque.{deque_capacity};
 
 use crate::machine::Machine;
-use otp_lists::restarts::{affected, ends_by_significance, is_restarted, list_dues, list_running};
+use otp_decisions::restarts::{
+    affected, ends_by_significance, is_restarted, list_dues, list_running,
+};
 use otp_reason::{Note, Reason};
 use otp_rules::{Ending, Item, Sequel, Waiting};
 use otp_table::{Row, RowState};

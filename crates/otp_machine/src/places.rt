@@ -3,7 +3,7 @@
 ghost use Rattle.std.specs.Prelude.{◌≡◌, ◌<◌, ◌≤◌, Some, length, slice_get};
 
 use crate::machine::Machine;
-use otp_lists::places::is_removed;
+use otp_decisions::places::is_removed;
 use otp_table::RowState;
 
 impl Machine {

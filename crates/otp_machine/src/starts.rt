@@ -3,7 +3,7 @@
 ghost use Rattle.std.specs.Prelude.{◌≡◌, ◌<◌, Some, length, slice_get, vec_len, vec_capacity};
 
 use crate::machine::Machine;
-use otp_lists::starts::find_due;
+use otp_decisions::starts::find_due;
 use otp_reason::Reason;
 use otp_rules::{CallFault, Due, Effect, Ending, Reply, Sequel, Waiting};
 use otp_table::RowState;

@@ -5,8 +5,8 @@ ghost use Rattle.otp_rules.specs.Stops.{is_exit};
 ghost use Rattle.otp_spec.specs.declared.limits.TheConstants.{MAX_READING};
 
 use crate::machine::Machine;
-use otp_lists::restarts::list_running;
-use otp_lists::stops::{stop_order, told};
+use otp_decisions::restarts::list_running;
+use otp_decisions::stops::{stop_order, told};
 use otp_rules::{Ending, Sequel};
 use std::mem;
 

@@ -1,3 +1,4 @@
 pub mod Walk
 pub mod Going
 pub mod Needed
+pub mod Stored

@@ -1,8 +1,9 @@
-//! Which events start a child, asked beforehand: [`needs_number`] walks the rules without a change and, by its code, without memory.
-//! No step asks it; it is for callers that must have a number before they step.
+//! Which events start a child, asked beforehand of a core ([`NeedsNumber`]): the rules are walked without a change and, by the code,
+//! without memory. No step asks it; it is for callers that must have a number before they step.
 #![tactic(auto)]
 
-pub mod needs;
-pub mod waited;
+pub mod asking;
+pub(crate) mod needs;
+pub(crate) mod waited;
 
-pub use needs::needs_number;
+pub use asking::NeedsNumber;

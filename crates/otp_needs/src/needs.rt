@@ -25,8 +25,8 @@ ghost use Rattle.otp_table.specs.declared.row.Row.{Row};
 ghost use Rattle.otp_table.specs.declared.row.RowState.TheVariants.{Up};
 
 use crate::waited::{has_other_awaited, have_ended, have_ended_with, restart_goes_on};
-use otp_lists::restarts::{affected, is_restarted};
-use otp_lists::state::is_over;
+use otp_decisions::restarts::{affected, is_restarted};
+use otp_decisions::state::is_over;
 use otp_machine::Machine;
 use otp_reason::{Name, Note, Reason};
 use otp_rules::laws::number_starts_work;
@@ -379,8 +379,8 @@ fn decision_starts(machine: &Machine, kind: Kind, now: u64) -> bool
     }
 }
 
-/// Whether the event needs a number: it starts a child. By its code it takes no memory and changes nothing.
-pub fn needs_number(machine: &Machine, reading: u64, kind: &Kind) -> bool
+/// Whether the event starts a child, decided by what a core decides by.
+pub(crate) fn needs_number(machine: &Machine, reading: u64, kind: &Kind) -> bool
     requires { All (λ s. s ≤ machine.now.last) machine.now.window.stamps }
     ensures { result ≡ needs_number (outcome_of machine.now).state reading kind.now }
 {

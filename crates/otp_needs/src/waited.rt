@@ -18,9 +18,9 @@ ghost use Rattle.otp_needs.specs.Begun.{left};
 ghost use Rattle.otp_needs.specs.Ups.{ends_counted, passes};
 ghost use Rattle.otp_rules.specs.Fit.{runs_as};
 
-use otp_lists::places::is_temporary;
-use otp_lists::stops::is_exit;
-use otp_lists::waits::Waits;
+use otp_decisions::places::is_temporary;
+use otp_decisions::stops::is_exit;
+use otp_stores::waits::Waits;
 use otp_table::{Row, RowState};
 
 /// Whether an answer of one of the children is awaited.

@@ -2,6 +2,7 @@
 
 use crate::fixtures::{named, same};
 use otp_core::{Core, Counter, OpenFault};
+use otp_needs::NeedsNumber;
 use otp_reason::{Name, Note, Reason, Text};
 use otp_rules::{Call, Cause, CountsNow, Effect, Ending, Item, Kind, SupEnd};
 use otp_spec::{ChildSpec, Shutdown, SupFlags};

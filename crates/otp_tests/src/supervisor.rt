@@ -5,6 +5,7 @@ use crate::driver::{
 };
 use crate::fixtures::{named, same};
 use otp_core::{Core, OpenFault, ReplyAnswer};
+use otp_needs::NeedsNumber;
 use otp_reason::{Name, Note, Reason, Text};
 use otp_rules::{
     Call, CallFault, Cause, ChildProcess, CountsNow, Ending, Event, Item, Kind, Phase, Reply,

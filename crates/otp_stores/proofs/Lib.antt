@@ -1,0 +1,6 @@
+pub mod Halves
+pub mod Histories
+pub mod Replies
+pub mod Rising
+pub mod Queues
+pub mod Lines
