@@ -161,7 +161,7 @@ home_is slot placed.Waiting h = absurd (false≢true h)
 home_is slot placed.Free h = absurd (false≢true h)
 home_is slot (placed.Away k) h = absurd (false≢true h)
 
-put_home-behind : (i slot : ℕ) (x : Kept) (ys : List Kept) → put_home (suc i) slot (x ∷ ys) ≡ x ∷ put_home i slot ys
+pub put_home-behind : (i slot : ℕ) (x : Kept) (ys : List Kept) → put_home (suc i) slot (x ∷ ys) ≡ x ∷ put_home i slot ys
 put_home-behind i slot x ys = by_found (slice_get ys i) refl
   where
     by_found : (found : Option Kept) → slice_get ys i ≡ found → put_home_at (suc i) slot (x ∷ ys) found ≡ x ∷ put_home_at i slot ys found

@@ -4,3 +4,5 @@ pub mod Placed
 pub mod Once
 pub mod Owned
 pub mod Stored
+pub mod Few
+pub mod OnlyLoose

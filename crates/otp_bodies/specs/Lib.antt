@@ -4,3 +4,4 @@ pub mod Ends
 pub mod LetterInside
 pub mod Ports
 pub mod Slots
+pub mod Loose

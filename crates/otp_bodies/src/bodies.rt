@@ -1,7 +1,7 @@
 //! The bodies that a supervisor keeps: of children that have no process, and those that no child has.
-ghost use Rattle.std.specs.Prelude.{◌≡◌, ℕ, ◌<◌, ◌≤◌, ◌++◌, ◌∷◌, [], true, get_or, is_some, false, length, position, remove, slice_set, Bool, IfErr, IfSome, MatchOption, None, OnOk, OnErr, Some};
+ghost use Rattle.std.specs.Prelude.{◌≡◌, ℕ, ◌<◌, ◌≤◌, ◌++◌, ◌∷◌, [], true, get_or, is_some, false, length, position, remove, slice_set, Bool, IfErr, IfSome, IsTrue, MatchOption, None, OnOk, OnErr, Some};
 ghost use Rattle.std.specs.List.{list_any};
-ghost use Rattle.otp_bodies.specs.Bodies.{AreHere, are_ready, come_home, came_for, count_given, has_body, home_or_free, IsNew, is_at_home, is_here, is_left_of, is_stray, is_waiting, move_first, opened, place_of_call, place_without_line, put_home, settled, without_first, count_opened};
+ghost use Rattle.otp_bodies.specs.Bodies.{AreHere, are_ready, come_home, came_for, count_given, has_body, home_or_free, IsNew, is_at_home, is_away, is_here, is_left_of, is_stray, is_waiting, move_first, opened, place_of_call, place_without_line, put_home, settled, without_first, count_opened};
 ghost use Rattle.otp_bodies.specs.Slots.{AreBelow};
 ghost use Rattle.otp_bodies.specs.declared.bodies.Kept.{Kept};
 ghost use Rattle.otp_bodies.specs.declared.bodies.Origin.TheVariants as origin;
@@ -9,8 +9,9 @@ ghost use Rattle.otp_bodies.specs.declared.bodies.Place.TheVariants as placed;
 
 use crate::kept::{
     are_given, find_away, find_home, find_left, find_stray, find_waiting, home_or_free,
-    is_any_from, is_any_out, open_items, place_of_call, settle_items,
+    is_any_from, is_any_out, is_away, open_items, place_of_call, settle_items,
 };
+use crate::loose::{find_home_at, is_alone_and_stays, only_at, only_loose};
 use otp_spec::SupSpec;
 use otp_table::Row;
 use std::alloc::{AllocError, Global};
@@ -68,18 +69,22 @@ pub struct Bodies<B: Drop> {
     kept: Vec<Kept>,
     /// The bodies in the same order, of those that are here.
     bodies: Vec<Option<B>>,
+    /// The place in the list of the only one that an event may let go, where that is known: no other is then at home, or
+    /// waits with its call.
+    only: Option<usize>,
 }
 
 impl<B: Drop> Model for Bodies<B> {
     ghost use Rattle.std.specs.Prelude.{◌-◌, length, map, is_some, min, vec_capacity};
     ghost use Rattle.otp_bodies.specs.Bodies.{IsStored};
     ghost use Rattle.otp_bodies.specs.Bodies.{BodiesView};
+    ghost use Rattle.otp_bodies.specs.Loose.{IsOnlyLoose};
 
     ghost Value = { BodiesView };
 
     ghost view = { λ b. record { kept = b.kept.items; room = min (vec_capacity b.kept - length b.kept.items) (vec_capacity b.bodies - length b.bodies.items) } };
 
-    ghost invariant = { λ b. IsStored (map is_some b.bodies.items) b.kept.items };
+    ghost invariant = { λ b. IsStored (map is_some b.bodies.items) b.kept.items × IsOnlyLoose b.only b.kept.items };
 }
 
 impl<B: Drop> Bodies<B> {
@@ -90,6 +95,7 @@ impl<B: Drop> Bodies<B> {
         Bodies {
             kept: Vec::new(alloc),
             bodies: Vec::new(alloc),
+            only: Some(0),
         }
     }
 
@@ -131,6 +137,7 @@ impl<B: Drop> Bodies<B> {
         requires new { IsNew origin self.old.kept }
         ensures { self.new.kept ≡ self.old.kept ++ record { origin = origin; place = place } ∷ [] }
     {
+        self.only = only_at(&self.kept, self.only, self.kept.len());
         self.kept.push_reserved(Kept { origin, place });
         self.bodies.push_reserved(Some(body));
     }
@@ -141,6 +148,7 @@ impl<B: Drop> Bodies<B> {
         ensures kept { self.new.kept ≡ remove self.old.kept at }
         ensures body { (d : Kept) → is_some result ≡ is_here (get_or self.old.kept at d).place }
     {
+        self.only = None;
         self.kept.remove(at);
         self.bodies.remove(at)
     }
@@ -163,6 +171,7 @@ impl<B: Drop> Bodies<B> {
         requires here { (d : Kept) → is_here (get_or self.old.kept at d).place ≡ is_here to }
         ensures { (d : Kept) → self.new.kept ≡ slice_set self.old.kept at (record (get_or self.old.kept at d) { place = to }) }
     {
+        self.only = None;
         self.kept[at].place = to;
     }
 
@@ -172,6 +181,7 @@ impl<B: Drop> Bodies<B> {
         requires here { is_here to ≡ true }
         ensures { (d : Kept) → self.new.kept ≡ slice_set self.old.kept at (record (get_or self.old.kept at d) { place = to }) }
     {
+        self.only = only_at(&self.kept, self.only, at);
         self.kept[at].place = to;
         self.bodies[at] = Some(body);
     }
@@ -183,6 +193,7 @@ impl<B: Drop> Bodies<B> {
         ensures kept { (d : Kept) → self.new.kept ≡ slice_set self.old.kept at (record (get_or self.old.kept at d) { place = to }) }
         ensures body { (d : Kept) → is_some result ≡ is_here (get_or self.old.kept at d).place }
     {
+        self.only = only_at(&self.kept, self.only, at);
         self.kept[at].place = to;
         self.bodies[at].take()
     }
@@ -191,7 +202,7 @@ impl<B: Drop> Bodies<B> {
     pub fn find_home(&self, slot: Option<usize>) -> Option<usize>
         ensures { MatchOption slot (result ≡ None) (λ k. result ≡ position (is_at_home k) self.now.kept) }
     {
-        find_home(&self.kept, slot?)
+        find_home_at(&self.kept, self.only, slot?)
     }
 
     /// Takes out the body at this place in the list, which is at home in this slot: it goes with the child's process.
@@ -239,6 +250,14 @@ impl<B: Drop> Bodies<B> {
         }
     }
 
+    /// Whether the body at this place in the list is that of the child in this slot, and with its process.
+    pub fn is_away_at(&self, at: usize, slot: usize) -> bool
+        ensures within { IsTrue result → at < length self.now.kept }
+        ensures away { IsTrue result → (d : Kept) → is_away slot (get_or self.now.kept at d) ≡ true }
+    {
+        at < self.kept.len() && is_away(&self.kept[at], slot)
+    }
+
     /// An end note brought this body: home, to the child in this slot, or else it is nobody's.
     pub fn come(&mut self, home: Option<usize>, body: B)
         requires { 0 < self.old.room }
@@ -274,7 +293,11 @@ impl<B: Drop> Bodies<B> {
         requires { AreBelow rows.now }
         ensures { self.new.kept ≡ settled rows.now is_any_waiting self.old.kept }
     {
+        if is_alone_and_stays(&self.kept, self.only, rows, is_any_waiting) {
+            return;
+        }
         settle_items(&mut self.kept, rows, is_any_waiting);
+        self.only = only_loose(&self.kept);
     }
 
     /// At an opening each child, of these rows, has the body that was handed in for it.
@@ -282,6 +305,7 @@ impl<B: Drop> Bodies<B> {
         requires { AreBelow rows.now }
         ensures { self.new.kept ≡ opened rows.now self.old.kept }
     {
+        self.only = None;
         open_items(&mut self.kept, rows);
     }
 

@@ -9,7 +9,7 @@ use crate::slots::{is_taken, taken_slots};
 use otp_spec::MAX_CHILDREN;
 use otp_table::Row;
 
-fn is_at_home(kept: &Kept, slot: usize) -> bool
+pub(crate) fn is_at_home(kept: &Kept, slot: usize) -> bool
     ensures { result ≡ is_at_home slot kept.now }
 {
     match kept.place {
@@ -18,7 +18,7 @@ fn is_at_home(kept: &Kept, slot: usize) -> bool
     }
 }
 
-fn is_away(kept: &Kept, slot: usize) -> bool
+pub(crate) fn is_away(kept: &Kept, slot: usize) -> bool
     ensures { result ≡ is_away slot kept.now }
 {
     match kept.place {
@@ -145,7 +145,7 @@ fn settle_all(kept: &mut [Kept], rows: &[Row], is_any_waiting: bool)
 }
 
 /// Whether one look tells that the body stays where it is once these are the rows: a child is mostly at the place of its slot.
-fn is_seen_to_stay(one: &Kept, rows: &[Row], is_any_waiting: bool) -> bool
+pub(crate) fn is_seen_to_stay(one: &Kept, rows: &[Row], is_any_waiting: bool) -> bool
     ensures { IsTrue result → place_among rows.now is_any_waiting one.now.place ≡ one.now.place }
 {
     match one.place {

@@ -8,6 +8,7 @@
 pub mod bodies;
 mod kept;
 pub mod letter;
+mod loose;
 pub mod port;
 mod slots;
 pub mod told;
@@ -15,4 +16,4 @@ pub mod told;
 pub use bodies::{Bodies, Kept, Origin, Place, count_opened};
 pub use letter::Letter;
 pub use port::{Flushed, Launched, MemoryPort, NewProcess, Port, ToldNote};
-pub use told::{Evidence, ToldEnd, evidence_of, keep_end};
+pub use told::{Evidence, ToldEnd, evidence_of, keep_end, number_of};

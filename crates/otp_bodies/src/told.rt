@@ -91,7 +91,8 @@ pub struct ToldEnd {
     pub end: Evidence,
 }
 
-fn number_of(note: Note) -> u64
+/// The number of the process that a note tells of.
+pub fn number_of(note: Note) -> u64
     ensures { result ≡ number_of note }
 {
     match note {

@@ -3,4 +3,5 @@ pub mod CoreInside
 pub mod Opened
 pub mod Replies
 pub mod Full
+pub mod Happened
 pub mod Resumed

@@ -23,7 +23,8 @@ ghost use Rattle.otp_machine.specs.Seen.{IsSound, outcome_of};
 ghost use Rattle.otp_rules.specs.Evidence.{IsShowing};
 ghost use Rattle.otp_base.specs.States.{state_in};
 ghost use Rattle.otp_rules.specs.Cuts.{short_base_of};
-ghost use Rattle.otp_rules.specs.State.{is_over};
+ghost use Rattle.otp_rules.specs.State.{is_over, own_number};
+ghost use Rattle.otp_table.specs.Rows.{has_process, row_has};
 ghost use Rattle.otp_rules.specs.Stops.{is_exit};
 ghost use Rattle.otp_rules.specs.Step.{is_late, step};
 ghost use Rattle.otp_rules.specs.Ends.{last_stamps};
@@ -32,16 +33,15 @@ use crate::cut::{CutFault, MAX_EVENTS_IN_ALL, MAX_KEPT_LINES};
 use crate::opening::OpenFault;
 use crate::reply::ReplyAnswer;
 use otp_base::{Base, Counts, Origin, ResumeFault, base_at, machine_at, origin_of};
-use otp_lists::answers::{Answers, greater_of};
-use otp_lists::effects::{count_orders, move_orders};
-use otp_lists::history::History;
-use otp_lists::next::{has_late, next_deadline};
-use otp_lists::state::{answers_call, is_over};
-use otp_lists::waits::Waits;
+use otp_decisions::effects::{count_orders, move_orders};
+use otp_decisions::next::{has_late, next_deadline};
+use otp_decisions::state::{answers_call, is_over, own_number};
 use otp_machine::{Given, Machine, Numbers};
-use otp_needs::needs_number;
 use otp_rules::{CountsNow, Effect, Event, Kind, Phase, Reply, SupEnd, Waiting, laws};
 use otp_spec::{ChildSpec, MAX_EVENTS, SupFlags, SupSpec, check_supervisor, copy_specs};
+use otp_stores::answers::{Answers, greater_of};
+use otp_stores::history::History;
+use otp_stores::waits::Waits;
 use otp_table::{Row, Rows};
 use otp_window::Window;
 use std::alloc::{AllocError, Global};
@@ -66,9 +66,7 @@ pub struct Spare {
 /// let mut numbers = Counter { last: core.greatest_number() }; // whatever gives process numbers
 /// let mut next = Some(Kind::Opened(own));
 /// while let Some(kind) = next {
-///     core.make_room(MAX_EVENTS)?;                         // a cut where the core is full: no history fills
-///     core.prepare()?;                                     // all memory of the event; it may be refused
-///     core.step_with(clock, kind, &mut numbers);           // decides; by its code takes no memory
+///     core.happen(MAX_EVENTS, clock, kind, &mut numbers)?; // decides; memory may be refused
 ///     carry_out(core.effects());                           // start, ask, kill; answers by Core::reply
 ///     core.clear_effects();
 ///     next = core.next_kind(clock, is_stop_wanted)         // what comes next by itself
@@ -76,7 +74,8 @@ pub struct Spare {
 /// }
 /// ```
 ///
-/// It ends when [`Core::has_ended`]; until [`Core::next_deadline`] it may wait for its inbox.
+/// It ends when [`Core::has_ended`]; until [`Core::next_deadline`] it may wait for its inbox. Whoever takes an item only where
+/// its event is sure to come has [`Core::happen`] in three: [`Core::make_room`], [`Core::prepare`], [`Core::step_with`].
 ///
 /// # Memory
 ///
@@ -330,12 +329,27 @@ impl Core {
         self.machine.phase
     }
 
+    /// The supervisor's own process number, of the last opening. 0 where there was none.
+    pub fn own_number(&self) -> u64
+        ensures { result ≡ own_number (state_of self.now).phase }
+    {
+        own_number(self.machine.phase)
+    }
+
     /// The children in start order, at most [`otp_spec::MAX_CHILDREN`].
     pub fn rows(&self) -> &[Row]
         ensures value { result.now ≡ (state_of self.now).rows }
         ensures limit { length (state_of self.now).rows ≤ MAX_CHILDREN }
     {
         self.machine.rows.as_slice()
+    }
+
+    /// The place among its children ([`Core::rows`]) of the one whose process has this number, if one has. It is found by
+    /// halving the numbers, and no child is looked at that hasn't it.
+    pub fn find_process(&self, number: u64) -> Option<usize>
+        ensures { result ≡ position (row_has (has_process number)) (state_of self.now).rows }
+    {
+        self.machine.rows.find_process(number)
     }
 
     /// Whether children are being stopped or started.
@@ -482,12 +496,13 @@ impl Core {
         self.machine.counts()
     }
 
-    /// Whether an event at this reading would start a child, so that [`Core::step`] wants a number for it.
-    pub fn needs_number(&self, reading: u64, kind: &Kind) -> bool
-        ensures { result ≡ needs_number (state_of self.now) reading kind.now }
+    /// What the core decides by, for crates that ask the rules something before a step. It tells the state of the stored
+    /// events.
+    pub fn machine(&self) -> &Machine
+        ensures sound { IsSound result.now }
+        ensures state { (outcome_of result.now).state ≡ stored_state self.now }
     {
-        laws::cuts_agree();
-        needs_number(&self.machine, reading, kind)
+        &self.machine
     }
 
     /// The last process number that an event of the history gave to a child, or 0 where none did. A core that was resumed has
@@ -671,7 +686,7 @@ impl Core {
         number
     }
 
-    /// One event, with a number exactly where it starts a child ([`Core::needs_number`]), greater than each earlier one.
+    /// One event, with a number exactly where it starts a child (`otp_needs` tells beforehand), greater than each earlier one.
     /// It takes no memory by its code; its orders are put behind the effects that are there.
     pub fn step(&mut self, event: Event)
         requires prepared { IsTrue self.old.prepared }

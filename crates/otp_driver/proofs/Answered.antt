@@ -2,10 +2,12 @@
 use Rattle.std.specs.Prelude.{◌≡◌, ◌≤◌, ◌<◌, ◌+◌, ◌-◌, ℕ, Bool, true, false, ◌⊎◌, ◌==◌, List, [], ◌∷◌, ◌++◌, Option, None, Some, All, get_or, is_some, length, map, refl, slice_get, take, if◌then◌else◌}
 use Rattle.std.specs.List.{AllByRecursion, filter_map}
 use Rattle.std.proofs.Common.{◌∙◌, ap, append_assoc, arith, inl, inr, subst, sym}
-use Rattle.std.proofs.lemmas.Bool.{eq-eqb, false≢true}
+use Rattle.std.proofs.lemmas.Bool.{eq-eqb, eqb-true, false≢true}
 use Rattle.std.proofs.lemmas.List.{length-append, length-drop, take-append-le}
 use Rattle.std.proofs.lemmas.List.Elements.{All-append, All-from_recursion, All-nil}
 use Rattle.std.proofs.lemmas.Option.{get_or_from_slice_get, slice_get_within}
+use Rattle.otp_core.specs.Full.{cut_after}
+use Rattle.otp_core.specs.Happened.{Happened, cut_before}
 use Rattle.otp_core.specs.View.{View, checkpoint_of, past_of, state_of, stored_of, stored_state}
 use Rattle.otp_core.specs.Replies.{IsReplyAnswer}
 use Rattle.otp_core.specs.declared.reply.ReplyAnswer.{ReplyAnswer}
@@ -127,12 +129,32 @@ answered_after told cuts forgets joined goes v w e base cut history stored effec
     (subst (λ (xs : List Answered). All (IsAnswered xs) (v.effects ++ orders)) (sym replies)
     (All-append (IsAnswered (rs ++ given)) v.effects orders (all_stay rs given v.effects h) new))
 
--- where memory was taken, and room was made by a cut while no order waits, all stay answered
-pub room_answered : (u v w : View) → v ≡ record u { prepared = true } → w ≡ record v { cut = w.cut } → (w ≡ v) ⊎ (v.effects ≡ []) → AreAnswered u → AreAnswered w
-room_answered u v w taken cut (inl same) h = subst AreAnswered (sym (same ∙ taken)) h
-room_answered u v w taken cut (inr none) h =
-    let e : w.effects ≡ [] = ap (λ (x : View). x.effects) cut ∙ none in
-    subst (λ (es : List Effect). All (IsAnswered (stored_state w).replies) es) (sym e) (All-nil (IsAnswered (stored_state w).replies))
+-- where room was made by a cut while no order waits, all stay answered
+room_answered : (u : View) (n : ℕ) → (n ≡ u.cut) ⊎ (u.effects ≡ []) → AreAnswered u → AreAnswered (record u { cut = n })
+room_answered u n (inl same) h = subst (λ (k : ℕ). AreAnswered (record u { cut = k })) (sym same) h
+room_answered u n (inr none) h =
+    let Kept : Effect → Type 0 = IsAnswered (stored_state (record u { cut = n })).replies in
+    subst (λ (es : List Effect). All Kept es) (sym none) (All-nil Kept)
+
+none_left : (es : List Effect) → (length es == 0) ≡ true → es ≡ []
+none_left [] h = refl
+none_left (e ∷ es) h =
+    let same : length (e ∷ es) ≡ 0 = eqb-true (length (e ∷ es)) 0 h in
+    absurd (omega (arith, same))
+
+-- nothing is cut off while an order waits
+cut_of : (limit : ℕ) (u : View) (n : ℕ) → n ≡ cut_before limit u → (n ≡ u.cut) ⊎ (u.effects ≡ [])
+cut_of limit u n is = by (length u.effects == 0) refl
+  where
+    by : (b : Bool) → (length u.effects == 0) ≡ b → (n ≡ u.cut) ⊎ (u.effects ≡ [])
+    by true e = inr (none_left u.effects e)
+    by false e = inl (is ∙ ap (λ (b : Bool). if b then cut_after limit u else u.cut) e)
+
+-- and so they do by an event with the room for it
+pub answered_on : AnswersTold → CutsAgree → StepForgets → RunsJoined → RunGoesOn → (limit : ℕ) (e : Event) (u w : View) → Happened limit e u w → AreAnswered u → AreAnswered w
+answered_on told cuts forgets joined goes limit e u w is h =
+    answered_after told cuts forgets joined goes (record u { cut = w.cut }) w e is.base refl is.history is.stored is.effects
+    (room_answered u w.cut (cut_of limit u w.cut is.cut) h)
 
 pub answered_at : (v : View) (k c : ℕ) → AreAnswered v → slice_get v.effects k ≡ Some (effect.Reply c) → is_some (reply_of c (stored_state v).replies) ≡ true
 answered_at v k c h at =

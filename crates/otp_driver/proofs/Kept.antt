@@ -4,9 +4,13 @@ use Rattle.std.proofs.Common.{◌∙◌, ap, arith, inl, inr, sym}
 use Rattle.std.proofs.lemmas.Bool.{leb-true}
 use Rattle.std.proofs.lemmas.List.{length-append, take-append-drop}
 use Rattle.otp_core.specs.Full.{has_most_events, has_most_lines, is_full}
+use Rattle.otp_core.specs.Happened.{IsEventFault}
+use Rattle.otp_core.specs.declared.happening.EventFault.{EventFault}
 use Rattle.otp_core.specs.View.{View, past_of, state_of, stored_of, stored_state}
 use Rattle.otp_core.specs.declared.cut.TheConstants.{MAX_KEPT_LINES}
-use Rattle.otp_driver.specs.Members.{IsMany}
+use Rattle.otp_driver.specs.Members.{HasNoRoom, IsMany, fault_of}
+use Rattle.otp_driver.specs.declared.fault.DriveFault.{DriveFault}
+use Rattle.otp_driver.specs.declared.fault.DriveFault.TheVariants.{OutOfMemory}
 use Rattle.otp_rules.specs.Counts.{lines_told}
 use Rattle.otp_rules.specs.Cuts.{CutsAgree, older, told_before}
 use Rattle.otp_rules.specs.Run.{RunsJoined, answered, reply_of, state_after}
@@ -70,3 +74,10 @@ of_either cuts joined v (inr lines) =
 -- a core that is full has had as many events, or has listed as many children, as it keeps without a cut
 pub full_is_many : CutsAgree → RunsJoined → (v : View) → is_full v ≡ true → IsMany v.base v.history
 full_is_many cuts joined v full = of_either cuts joined v (either (has_most_events v) (has_most_lines v) full)
+
+-- why a core takes no event is why the driver takes none
+pub refused_as : CutsAgree → RunsJoined → (v : View) (cause : EventFault) (why : DriveFault) → why ≡ fault_of cause → IsEventFault v cause
+    → (why ≡ OutOfMemory) ⊎ HasNoRoom v.base v.history v.effects why
+refused_as cuts joined v cause why is (inl memory) = inl (is ∙ ap fault_of memory)
+refused_as cuts joined v cause why is (inr (inl (waits, some, full))) = inr (inl (is ∙ ap fault_of waits, some, full_is_many cuts joined v full))
+refused_as cuts joined v cause why is (inr (inr (spent, _, many))) = inr (inr (is ∙ ap fault_of spent, many))

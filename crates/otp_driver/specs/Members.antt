@@ -2,6 +2,8 @@
 use Rattle.std.specs.Prelude.{◌≡◌, ℕ, ◌+◌, ◌<◌, ◌≤◌, ◌⊎◌, Bool, List, [], ◌∷◌, ◌++◌, Option, Some, None, length, nat_lt, if◌then◌else◌}
 use Rattle.otp_core.specs.View.{View, state_of}
 use Rattle.otp_core.specs.declared.cut.TheConstants.{MAX_EVENTS_IN_ALL, MAX_KEPT_LINES}
+use Rattle.otp_core.specs.declared.happening.EventFault.{EventFault}
+use Rattle.otp_core.specs.declared.happening.EventFault.TheVariants as event
 use Rattle.otp_driver.specs.declared.fault.DriveFault.{DriveFault}
 use Rattle.otp_driver.specs.declared.fault.DriveFault.TheVariants.{OrdersWait, OutOfMemory, Spent}
 use Rattle.otp_rules.specs.declared.event.Effect.{Effect}
@@ -63,6 +65,12 @@ IsMany base history = (MAX_EVENTS ≤ length history) ⊎ (MAX_KEPT_LINES ≤ li
 abbrev pub HasNoRoom : State → List Event → List Effect → DriveFault → Type 0
 HasNoRoom base history effects why =
     ((why ≡ OrdersWait) × ¬ (effects ≡ []) × IsMany base history) ⊎ ((why ≡ Spent) × (MAX_EVENTS_IN_ALL < length history))
+
+-- why a core takes no event, as the driver says it
+abbrev pub fault_of : EventFault → DriveFault
+fault_of event.OutOfMemory = OutOfMemory
+fault_of event.OrdersWait = OrdersWait
+fault_of event.HistoryFull = Spent
 
 -- the numbers of processes are used up: the last one of the tree, or one of the supervisor that is greater than it
 abbrev pub IsSpent : ℕ → Member → Type 0

@@ -15,7 +15,7 @@ ghost use Rattle.otp_driver.specs.Turns.{Turns};
 
 use crate::fault::DriveFault;
 use crate::link::{Link, find_process, find_row};
-use crate::route::{Route, nested_of, route_of, row_at};
+use crate::route::{Route, nested_of, route_of};
 use crate::supervisor::Supervisor;
 use otp_reason::Note;
 use otp_rules::{Call, Ending, Item, Kind};
@@ -236,7 +236,7 @@ impl Driver {
         let supervisor = &self.supervisors[place];
         match supervisor.order() {
             None => None,
-            Some(order) => Some(route_of(self.links.as_slice(), place, supervisor.rows(), order)),
+            Some(order) => Some(route_of(self.links.as_slice(), place, supervisor, order)),
         }
     }
 
@@ -375,7 +375,7 @@ impl Driver {
         if find_process(links, place, number).is_some() {
             return true;
         }
-        let row = row_at(self.supervisors[place].rows(), number);
+        let row = self.supervisors[place].child(number);
         nested_of(links, place, row).is_some()
     }
 

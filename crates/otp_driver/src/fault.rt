@@ -1,6 +1,8 @@
 //! Why something is not taken.
+ghost use Rattle.std.specs.Prelude.{◌≡◌};
+ghost use Rattle.otp_driver.specs.Members.{fault_of};
 
-use otp_core::CutFault;
+use otp_core::EventFault;
 use std::alloc::AllocError;
 use thiserror::Error;
 
@@ -39,13 +41,13 @@ impl From<AllocError> for DriveFault {
     }
 }
 
-impl From<CutFault> for DriveFault {
-    ghost use Rattle.std.specs.Prelude.{◌≡◌};
-    ghost use Rattle.otp_driver.specs.declared.fault.DriveFault.TheVariants.{Spent};
-
-    ghost from_gives = { λ _ fault. fault ≡ Spent };
-
-    fn from(_error: CutFault) -> Self {
-        DriveFault::Spent
+/// Why a core takes no event, as the driver says it.
+pub(crate) fn fault_of(cause: EventFault) -> DriveFault
+    ensures { result ≡ fault_of cause }
+{
+    match cause {
+        EventFault::OutOfMemory => DriveFault::OutOfMemory,
+        EventFault::OrdersWait => DriveFault::OrdersWait,
+        EventFault::HistoryFull => DriveFault::Spent,
     }
 }

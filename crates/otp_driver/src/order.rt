@@ -2,11 +2,12 @@
 
 ghost use Rattle.std.specs.Prelude.{◌≡◌, ℕ};
 ghost use Rattle.otp_driver.specs.Orders.{deadline_in, start_in, task_of, what_of};
-ghost use Rattle.otp_driver.specs.Routes.{row_at};
+ghost use Rattle.otp_driver.specs.Members.{state_in};
 ghost use Rattle.otp_driver.specs.declared.order.What.TheVariants as what;
 ghost use Rattle.otp_rules.specs.declared.event.Effect.TheVariants as effect;
 
-use crate::route::{ending_in, row_at};
+use crate::route::ending_in;
+use crate::supervisor::Supervisor;
 use otp_reason::{Name, Reason};
 use otp_rules::{Effect, Ending};
 use otp_table::{Row, RowState};
@@ -68,10 +69,10 @@ fn deadline_in(row: Option<Row>) -> Option<u64>
     }
 }
 
-fn task_of(rows: &[Row], id: &Option<Name>, number: u64) -> Task
-    ensures { result ≡ task_of rows.now id.now number }
+fn task_of(supervisor: &Supervisor, id: &Option<Name>, number: u64) -> Task
+    ensures { result ≡ task_of (state_in supervisor.now).rows id.now number }
 {
-    let start = start_in(row_at(rows, number));
+    let start = start_in(supervisor.child(number));
     Task {
         number,
         id: *id,
@@ -79,19 +80,19 @@ fn task_of(rows: &[Row], id: &Option<Name>, number: u64) -> Task
     }
 }
 
-/// What an order says, of a supervisor that has these children.
+/// What an order of this supervisor says.
 #[tactic(auto, unfolding(crate::specs::Orders::what_of))]
-pub(crate) fn what_of(rows: &[Row], order: &Effect) -> What
-    ensures what { result ≡ what_of rows.now order.now }
+pub(crate) fn what_of(supervisor: &Supervisor, order: &Effect) -> What
+    ensures what { result ≡ what_of (state_in supervisor.now).rows order.now }
     ensures reply { (call : ℕ) → result ≡ what.Reply call → order.now ≡ effect.Reply call }
 {
     match order {
-        Effect::Start(id, number) => What::Start(task_of(rows, id, *number)),
+        Effect::Start(id, number) => What::Start(task_of(supervisor, id, *number)),
         Effect::Ask(id, number) => What::Ask(
-            task_of(rows, id, *number),
-            deadline_in(row_at(rows, *number)),
+            task_of(supervisor, id, *number),
+            deadline_in(supervisor.child(*number)),
         ),
-        Effect::Kill(id, number) => What::Kill(task_of(rows, id, *number)),
+        Effect::Kill(id, number) => What::Kill(task_of(supervisor, id, *number)),
         Effect::Reply(call) => What::Reply(*call),
         Effect::Ready => What::Ready,
         Effect::End(end) => What::End(end.reason, ending_in(&end.cause)),

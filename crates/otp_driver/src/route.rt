@@ -1,10 +1,11 @@
 //! What an order of a supervisor is in the tree: whom it reaches, and as what.
 
-ghost use Rattle.std.specs.Prelude.{◌≡◌, position, slice_get};
-ghost use Rattle.otp_table.specs.Rows.{has_process, row_has};
-ghost use Rattle.otp_driver.specs.Routes.{end_route, ending_in, nested_of, ready_route, route_of, row_at, start_route, stop_route};
+ghost use Rattle.std.specs.Prelude.{◌≡◌, slice_get};
+ghost use Rattle.otp_driver.specs.Routes.{end_route, ending_in, nested_of, ready_route, route_of, start_route, stop_route};
+ghost use Rattle.otp_driver.specs.Members.{state_in};
 
 use crate::link::{Link, find_process, find_row, note_of_end};
+use crate::supervisor::Supervisor;
 use otp_reason::{Note, Reason};
 use otp_rules::{Cause, Effect, Ending};
 use otp_table::Row;
@@ -20,23 +21,6 @@ pub enum Route {
     Stop(usize),
     /// The supervisor of this number, the parent, is told so, by one that is up or has ended for this reason.
     Tell(usize, Note, Option<Ending>),
-}
-
-/// The place of the child that has this process.
-fn find_child(rows: &[Row], number: u64) -> Option<usize>
-    ensures { result ≡ position (row_has (has_process number)) rows.now }
-{
-    rows.iter().position(|row| row.state.has_process(number))
-}
-
-/// The child that has this process.
-#[tactic(auto, unfolding(crate::specs::Routes::row_at))]
-pub(crate) fn row_at(rows: &[Row], number: u64) -> Option<Row>
-    ensures { result ≡ row_at rows.now number }
-{
-    let place = find_child(rows, number)?;
-    let row = rows.get(place)?;
-    Some(*row)
 }
 
 pub(crate) fn link_at(links: &[Link], place: usize) -> Option<Link>
@@ -117,14 +101,20 @@ fn end_route(link: Option<Link>, reason: Reason, ending: Ending) -> Route
     }
 }
 
-/// What this order is, of the supervisor at this place that has these children.
+/// What this order is, of this supervisor, which is at this place.
 #[tactic(auto, unfolding(crate::specs::Routes::route_of))]
-pub(crate) fn route_of(links: &[Link], place: usize, rows: &[Row], order: &Effect) -> Route
-    ensures { result ≡ route_of links.now place rows.now order.now }
+pub(crate) fn route_of(
+    links: &[Link],
+    place: usize,
+    supervisor: &Supervisor,
+    order: &Effect,
+) -> Route
+    ensures { result ≡ route_of links.now place (state_in supervisor.now).rows order.now }
 {
     match order {
         Effect::Start(_, number) => {
-            start_route(nested_of(links, place, row_at(rows, *number)), *number)
+            let row = supervisor.child(*number);
+            start_route(nested_of(links, place, row), *number)
         }
         Effect::Ask(_, number) => stop_route(find_process(links, place, *number)),
         Effect::Kill(_, number) => stop_route(find_process(links, place, *number)),

@@ -71,7 +71,7 @@ impl Session {
             None => None,
             Some(order) => Some(Order {
                 supervisor: place,
-                what: what_of(supervisor.rows(), order),
+                what: what_of(supervisor, order),
             }),
         }
     }

@@ -1,7 +1,6 @@
 //! A supervisor of the tree: its core, and how many of its orders were taken.
 
 ghost use Rattle.std.specs.Prelude.{◌≡◌, ℕ, All, ◌≤◌, ◌<◌, ◌^◌, ◌-◌, ◌⊎◌, [], false, true, IsTrue, Some, is_some, min, slice_get, length, nat_lt, option_map, IfErr, IfOk, OnOk, OnErr};
-ghost use Rattle.otp_core.specs.Full.{is_full};
 ghost use Rattle.otp_rules.specs.Counts.{counts_of};
 ghost use Rattle.otp_rules.specs.Ends.{last_stamps};
 ghost use Rattle.otp_rules.specs.Next.{next_deadline, next_kind};
@@ -10,11 +9,12 @@ ghost use Rattle.otp_rules.specs.State.{is_over};
 ghost use Rattle.otp_spec.specs.declared.limits.TheConstants.{MAX_READING};
 ghost use Rattle.otp_driver.specs.Members.{CoreHappens, Happens, HasNoRoom, IsMany, IsRefused, has_order, passed, state_in, unopened};
 ghost use Rattle.otp_driver.specs.Replies.{AreAnswered, IsKept, IsReplyIn};
+ghost use Rattle.otp_driver.specs.Routes.{row_at};
 ghost use Rattle.otp_driver.specs.declared.fault.DriveFault.TheVariants.{OutOfMemory};
 ghost use Rattle.otp_rules.specs.Needs.{numbers_of};
 ghost use Rattle.otp_rules.specs.declared.event.Effect.TheVariants as effect;
 
-use crate::fault::DriveFault;
+use crate::fault::{DriveFault, fault_of};
 use crate::limits::KEPT_EVENTS;
 use otp_core::{Core, Counter, ReplyAnswer, laws};
 use otp_rules::{CountsNow, Effect, Kind, Phase, Reply};
@@ -45,62 +45,26 @@ impl Model for Supervisor {
     ghost invariant = { IsMember };
 }
 
-/// A core that is full has had as many events, or has listed as many children, as it keeps without a cut. Says whether it is.
-fn is_full(core: &Core) -> bool
-    ensures full { result ≡ is_full core.now }
-    ensures many { result ≡ true → IsMany core.now.base core.now.history }
-{
-    laws::cuts_agree();
-    laws::runs_are_joined();
-    core.is_full()
-}
-
-/// Makes room for the next event: where no order waits, only the last events are kept.
-fn make_room(core: &mut Core) -> Result<(), DriveFault>
-    ensures core { core.new ≡ record core.old { cut = core.new.cut } }
-    ensures orders { (core.new ≡ core.old) ⊎ (core.old.effects ≡ []) }
-    ensures room { OnOk result (is_full core.new ≡ false) }
-    ensures err { IfErr result (λ why. HasNoRoom core.old.base core.old.history core.old.effects why) }
-{
-    if core.effects().is_empty() {
-        core.make_room(KEPT_EVENTS)?;
-        return Ok(());
-    }
-    if is_full(core) {
-        Err(DriveFault::OrdersWait)
-    } else {
-        Ok(())
-    }
-}
-
-/// What a cut drops is no answer that an order tells of.
-fn make_ready(core: &mut Core) -> Result<(), DriveFault>
-    ensures core { core.new ≡ record core.old { cut = core.new.cut; prepared = core.new.prepared } }
-    ensures prepared { OnOk result (core.new.prepared ≡ true) }
-    ensures room { OnOk result (is_full core.new ≡ false) }
-    ensures err { IfErr result (λ why. (why ≡ OutOfMemory) ⊎ HasNoRoom core.old.base core.old.history core.old.effects why) }
-    ensures answered { AreAnswered core.old → AreAnswered core.new }
-{
-    core.prepare()?;
-    make_room(core)
-}
-
-/// An event happens to a core that is ready for it: the last process number then.
-fn step(core: &mut Core, reading: u64, kind: Kind, last: u64) -> u64
-    requires prepared { IsTrue core.old.prepared }
-    requires room { is_full core.old ≡ false }
+/// Something happens to a core, of which only the last events are kept while no order waits. The answer is the last process
+/// number then.
+fn happen(core: &mut Core, reading: u64, kind: Kind, last: u64) -> Result<u64, DriveFault>
     requires reading { reading ≤ MAX_READING }
     requires last { last < MAX_READING }
     requires numbers { (n : ℕ) → last < n → All (λ m. m < n) (numbers_of core.old.history) }
-    ensures happens { CoreHappens reading last kind core.old core.new result }
+    ensures ok { IfOk result (λ after. CoreHappens reading last kind core.old core.new after) }
+    ensures err { OnErr result (core.new ≡ record core.old { prepared = core.new.prepared }) }
+    ensures why { IfErr result (λ why. (why ≡ OutOfMemory) ⊎ HasNoRoom core.old.base core.old.history core.old.effects why) }
+    // What a cut drops is no answer that an order tells of.
     ensures answered { AreAnswered core.old → AreAnswered core.new }
 {
     laws::answers_are_told();
     laws::cuts_agree();
     laws::runs_are_joined();
     let mut numbers = Counter { last };
-    let _ = core.step_with(reading, kind, &mut numbers);
-    numbers.last
+    match core.happen(KEPT_EVENTS, reading, kind, &mut numbers) {
+        Ok(_) => Ok(numbers.last),
+        Err(cause) => Err(fault_of(cause)),
+    }
 }
 
 impl Supervisor {
@@ -130,8 +94,7 @@ impl Supervisor {
         if last >= MAX_READING || last < self.core.last_number() {
             return Err(DriveFault::Spent);
         }
-        make_ready(&mut self.core)?;
-        Ok(step(&mut self.core, reading, kind, last))
+        happen(&mut self.core, reading, kind, last)
     }
 
     /// The next order that was not taken.
@@ -174,6 +137,16 @@ impl Supervisor {
         ensures { result.now ≡ (state_in self.now).rows }
     {
         self.core.rows()
+    }
+
+    /// The child that has this process. The core finds it by the number.
+    #[tactic(auto, unfolding(crate::specs::Routes::row_at))]
+    pub fn child(&self, number: u64) -> Option<Row>
+        ensures { result ≡ row_at (state_in self.now).rows number }
+    {
+        let place = self.core.find_process(number)?;
+        let row = self.core.rows().get(place)?;
+        Some(*row)
     }
 
     /// Whether it runs, and how it ended.

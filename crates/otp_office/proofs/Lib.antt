@@ -10,3 +10,4 @@ pub mod Slots
 pub mod StartOrders
 pub mod Telling
 mod Worked
+pub mod Due

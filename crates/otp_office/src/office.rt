@@ -2,14 +2,13 @@
 ghost use Rattle.std.specs.Prelude.{◌≡◌, ℕ, ◌+◌, ◌<◌, ◌≤◌, ◌^◌, [], true, false, length, Contains, IsTrue, IfSome, IfErr, OnErr, OnOk, MatchOption, None};
 ghost use Rattle.otp_spec.specs.declared.limits.TheConstants.{MAX_CHILDREN, MAX_READING};
 ghost use Rattle.otp_core.specs.View.{state_of, stored_of};
-ghost use Rattle.otp_rules.specs.State.{own_number, is_over};
+ghost use Rattle.otp_rules.specs.State.{is_over};
 ghost use Rattle.otp_rules.specs.Counts.{counts_of};
-ghost use Rattle.otp_rules.specs.Next.{next_deadline};
 ghost use Rattle.otp_core.specs.Replies.{IsReplyAnswer};
 ghost use Rattle.otp_counts.specs.Words.{AreFew};
 ghost use Rattle.otp_signals.specs.Lists.{EachBetween};
 ghost use Rattle.otp_office.specs.Orders.{has_some, starts_in};
-ghost use Rattle.otp_office.specs.Events.{item_of, IsOpening, is_any_waiting, is_told, may_open, due_kind, Happened, Readied, IsRefusal};
+ghost use Rattle.otp_office.specs.Events.{item_of, IsOpening, is_told, may_open, due_kind, Happened, Readied, IsRefusal};
 ghost use Rattle.otp_office.specs.Offices.{new_office, KeepsOffice};
 ghost use Rattle.otp_office.specs.Cuts.{HasTooManyEvents, cut_office};
 ghost use Rattle.otp_core.specs.Full.{is_full};
@@ -76,15 +75,6 @@ fn is_told(signal: Signal) -> bool
     !matches!(signal, Signal::None)
 }
 
-pub(crate) fn own_number(phase: Phase) -> u64
-    ensures { result ≡ own_number phase }
-{
-    match phase {
-        Phase::Unopened => 0,
-        Phase::Open(own) | Phase::Ended(own, _) => own,
-    }
-}
-
 fn may_open(number: u64, phase: Phase) -> bool
     ensures { result ≡ may_open number phase }
 {
@@ -124,7 +114,7 @@ impl<N: WordsNaming> Office<N> {
         ensures outbox { result ≡ None → self.now.outbox ≡ [] }
         ensures no_turn { IfSome result (λ early. (n : ℕ) → HasTurned early n n) }
     {
-        let own = own_number(self.core.phase());
+        let own = self.core.own_number();
         if number < own {
             return Some(Ok(TurnAnswer::Ended));
         }
@@ -140,8 +130,9 @@ impl<N: WordsNaming> Office<N> {
         None
     }
 
-    /// The event that is due whether or not an item can be taken.
-    #[tactic(auto, unfolding(crate::specs::Events::due_kind, otp_rules::specs::Next::next_kind, otp_rules::specs::Next::idle_kind))]
+    /// The event that is due whether or not an item can be taken: an opening, or else what the core does by itself
+    /// ([`Core::next_kind`]).
+    #[tactic(auto, unfolding(crate::specs::Events::due_kind))]
     pub fn due_kind(&self, number: u64, reading: u64, told: Signal) -> Option<Kind>
         ensures kind { result ≡ due_kind (state_of self.now.core) number reading told }
         ensures no_item { IfSome result (λ kind. item_of kind ≡ None) }
@@ -150,19 +141,7 @@ impl<N: WordsNaming> Office<N> {
         if may_open(number, self.core.phase()) {
             return Some(Kind::Opened(number));
         }
-        if self.core.is_due(reading) {
-            return Some(Kind::Ticked);
-        }
-        if self.core.has_open_work() {
-            return None;
-        }
-        if is_told(told) && !self.core.has_ended() {
-            return Some(Kind::Stopped);
-        }
-        if self.core.has_waiting() {
-            return Some(Kind::Resumed);
-        }
-        None
+        self.core.next_kind(reading, is_told(told))
     }
 
     /// Its core, as the last event left it.
@@ -293,20 +272,6 @@ impl<N: WordsNaming> Office<N> {
         laws::slots_are_owned();
         let _ = self.core.history();
         self.core.rows()
-    }
-
-    /// Whether something waits until no work is open.
-    pub fn has_waiting(&self) -> bool
-        ensures { result ≡ is_any_waiting (state_of self.now.core) }
-    {
-        self.core.has_waiting()
-    }
-
-    /// The least deadline of its children ([`Core::next_deadline`]).
-    pub fn next_deadline(&self) -> Option<u64>
-        ensures { result ≡ next_deadline (state_of self.now.core).rows }
-    {
-        self.core.next_deadline()
     }
 
     /// The kept answer of the call with this number.

@@ -1,23 +1,16 @@
 //! Which slot the child has that has a process.
-ghost use Rattle.std.specs.Prelude.{◌≡◌, position};
-ghost use Rattle.otp_table.specs.Rows.{has_process, row_has};
+ghost use Rattle.std.specs.Prelude.{◌≡◌};
+ghost use Rattle.otp_core.specs.View.{state_of};
 ghost use Rattle.otp_office.specs.Rows.{slot_of};
 
-use otp_table::Row;
+use otp_core::Core;
 
-/// The place of the first row that has this process.
-fn find_row(rows: &[Row], number: u64) -> Option<usize>
-    ensures { result ≡ position (row_has (has_process number)) rows.now }
+/// The slot of the row that has this process, and 0 where none has. The core finds the row by the number.
+pub(crate) fn slot_of(core: &Core, number: u64) -> usize
+    ensures { result ≡ slot_of (state_of core.now).rows number }
 {
-    rows.iter().position(|row| row.state.has_process(number))
-}
-
-/// The slot of the row that has this process, and 0 where none has.
-pub(crate) fn slot_of(rows: &[Row], number: u64) -> usize
-    ensures { result ≡ slot_of rows.now number }
-{
-    match find_row(rows, number) {
-        Some(place) => rows[place].slot,
+    match core.find_process(number) {
+        Some(place) => core.rows()[place].slot,
         None => 0,
     }
 }

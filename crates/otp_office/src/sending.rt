@@ -4,7 +4,6 @@ ghost use Rattle.otp_reason.specs.declared.note.Note.{Note};
 ghost use Rattle.otp_rules.specs.declared.event.Item.TheVariants as item;
 ghost use Rattle.otp_spec.specs.declared.limits.TheConstants.{MAX_CHILDREN};
 ghost use Rattle.otp_core.specs.View.{state_of};
-ghost use Rattle.otp_rules.specs.State.{own_number};
 ghost use Rattle.otp_office.specs.Flushes.{IsFirst, Posts, Posted, FlushesTo, first_end};
 ghost use Rattle.otp_bodies.specs.Ports.{carried};
 ghost use Rattle.otp_bodies.specs.Letters.{Comes, one_if};
@@ -14,7 +13,7 @@ ghost use Rattle.otp_office.specs.Rows.{slot_of};
 ghost use Rattle.otp_office.specs.Orders.{has_some};
 ghost use Rattle.otp_office.specs.Offices.{slot_to_start};
 
-use crate::office::{Office, own_number};
+use crate::office::Office;
 use crate::orders::{Sending, end_in, first_order, sending_of};
 use crate::rows::slot_of;
 use otp_bodies::{Flushed, NewProcess, Port};
@@ -22,13 +21,6 @@ use otp_rules::{SupEnd, laws};
 use otp_signals::{Signal, Words, WordsNaming};
 
 impl<N: WordsNaming> Office<N> {
-    /// The supervisor's own process number.
-    fn own(&self) -> u64
-        ensures { result ≡ own_number (state_of self.now.core).phase }
-    {
-        own_number(self.core.phase())
-    }
-
     /// How the first order is to be sent.
     fn first(&self) -> Option<Sending>
         ensures { MatchOption result (self.now.outbox ≡ []) (λ how. IsFirst self.now how) }
@@ -38,9 +30,7 @@ impl<N: WordsNaming> Office<N> {
         if place >= effects.len() {
             return None;
         }
-        let own = self.own();
-        let order = &effects[place];
-        sending_of(order, own)
+        sending_of(&effects[place], self.core.own_number())
     }
 
     /// The end that the first order tells, if it is that of an end.
@@ -65,7 +55,7 @@ impl<N: WordsNaming> Office<N> {
     {
         laws::slots_are_owned();
         let _ = self.core.history();
-        slot_of(self.core.rows(), number)
+        slot_of(&self.core, number)
     }
 
     /// Posts what the first order says, to the slot of the row that has its process.

@@ -11,4 +11,4 @@ invariant_of-self g c =
     let now : Kept = c.index_mut.result.now in
     let here : is_here now.place ≡ is_here c.args.to = ap (λ (k : Kept). is_here k.place) c.index_mut.ensures.value
     ∙ ap (λ (v : BodiesView). is_here (get_or v.kept c.args.at now).place) c.self.view_is ∙ c.requires.here now in
-    stored_moved (map is_some c.self.inside.bodies.items) xs c.args.at now c.args.to c.index_mut.ensures.value here c.self.invariant
+    (stored_moved (map is_some c.self.inside.bodies.items) xs c.args.at now c.args.to c.index_mut.ensures.value here c.self.invariant.0, tt)

@@ -1,4 +1,5 @@
 use Rattle.std.proofs.Common.{ℕ, ◌<◌, sym, subst}
+use Rattle.otp_core.specs.View.{state_of}
 use Rattle.otp_rules.specs.State.{State}
 use Rattle.otp_rules.specs.Run.{empty_state, state_after}
 use Rattle.otp_rules.specs.Slots.{AreSlotted}
@@ -12,5 +13,5 @@ returns-clause-below g c =
     let F : State → Type 0 = λ b. AreSlotted (state_after b core.history).rows in
     let Below : ℕ → Type 0 = λ k. k < 256 in
     subst Below (sym c.slot_of.ensures)
-    (slot_of-below c.rows.result.now c.args.number
-    (subst AreSlotted (sym c.rows.ensures.value) (subst F (sym begins.is) (c.slots_are_owned.ensures.from_any (empty_state begins.flags begins.specs) core.history begins.few unslotted))))
+    (slot_of-below (state_of core).rows c.args.number
+    (subst F (sym begins.is) (c.slots_are_owned.ensures.from_any (empty_state begins.flags begins.specs) core.history begins.few unslotted)))

@@ -1,0 +1,14 @@
+use Rattle.otp_rules.specs.declared.event.Event.{Event}
+use Rattle.otp_driver.proofs.Answered.{answered_on}
+use Rattle.otp_driver.proofs.Kept.{refused_as}
+use Rattle.otp_driver.proofs.supervisor.happen.Goals as goal
+
+pub returns-in-Ok-clause-answered : goal.returns-in-Ok-clause-answered
+returns-in-Ok-clause-answered c =
+    let event : Event = record { reading = c.args.reading; number = c.in-Ok.field-0; kind = c.args.kind } in
+    answered_on c.answers_are_told.ensures.told c.cuts_agree.ensures.runs c.cuts_agree.ensures.step c.runs_are_joined.ensures.lists c.runs_are_joined.ensures.one_more
+    _ event c.args.core.now c.happen.new.self (c.in-Ok.ensures {u = tt}).happened
+
+pub returns-in-Err-clause-why : goal.returns-in-Err-clause-why
+returns-in-Err-clause-why c =
+    refused_as c.cuts_agree.ensures.runs c.runs_are_joined.ensures.lists c.args.core.now c.in-Err.cause c.fault_of.result c.fault_of.ensures (c.in-Err.ensures {u = tt}).why
