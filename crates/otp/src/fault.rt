@@ -91,7 +91,8 @@ impl<J: Drop, S: Drop> From<RunFault<J, S>> for Fault {
             RunFault::Open(SystemFault::OutOfMemory) => Fault::OutOfMemory,
             RunFault::Open(SystemFault::NoBody { .. }) => Fault::NoBody,
             RunFault::Close(CloseFault::OutOfMemory(())) => Fault::OutOfMemory,
-            RunFault::Close(CloseFault::Missing(()) | CloseFault::Misplaced(())) => Fault::Missing,
+            RunFault::Close(CloseFault::Missing(()) | CloseFault::Misplaced((), _)) =>
+                Fault::Missing,
             RunFault::Close(CloseFault::Mismatch(_, report)) => {
                 drop(report);
                 Fault::Mismatch

@@ -49,7 +49,8 @@ pub use otp_spec::{
 };
 pub use otp_tree::{
     CallEnd, CallId, CallRequest, Client, CountedRun, Gate, Hand, Leader, Led, MAX_HANDS, Millis,
-    Report, Round, RunFault, Session, System, SystemFault, TablePlan, TableReport, with_system,
+    PlanNaming, Report, Round, RunFault, Session, System, SystemFault, TablePlan, TableReport,
+    with_system,
 };
 pub use running::{lead, plans, run, run_counted, run_turns, run_with_callers};
 pub use still::Still;

@@ -1,3 +1,4 @@
+pub mod Ordered
 pub mod Partings
 pub mod Sums
 pub mod Apart

@@ -27,31 +27,31 @@ module _ {N J S : Type 0} where
   pub refused-report : (cause : Refusal) (shared : SystemView) (hands : List (HandView J S)) (client : ClientView) (r : CloseFault J S (Intact N J S)) (P : Report J S → Type 0) → IsRefusalOf cause shared hands client r → IfSome (report_in (Err r)) P
   refused-report refusal.OutOfMemory shared hands client (fault.OutOfMemory k) P refused = tt
   refused-report refusal.OutOfMemory shared hands client (fault.Missing k) P refused = tt
-  refused-report refusal.OutOfMemory shared hands client (fault.Misplaced k) P refused = tt
+  refused-report refusal.OutOfMemory shared hands client (fault.Misplaced k d) P refused = tt
   refused-report refusal.OutOfMemory shared hands client (fault.Mismatch m report) P refused = absurd refused
   refused-report refusal.Missing shared hands client (fault.OutOfMemory k) P refused = tt
   refused-report refusal.Missing shared hands client (fault.Missing k) P refused = tt
-  refused-report refusal.Missing shared hands client (fault.Misplaced k) P refused = tt
+  refused-report refusal.Missing shared hands client (fault.Misplaced k d) P refused = tt
   refused-report refusal.Missing shared hands client (fault.Mismatch m report) P refused = absurd refused
-  refused-report refusal.Misplaced shared hands client (fault.OutOfMemory k) P refused = tt
-  refused-report refusal.Misplaced shared hands client (fault.Missing k) P refused = tt
-  refused-report refusal.Misplaced shared hands client (fault.Misplaced k) P refused = tt
-  refused-report refusal.Misplaced shared hands client (fault.Mismatch m report) P refused = absurd refused
+  refused-report (refusal.Misplaced e) shared hands client (fault.OutOfMemory k) P refused = tt
+  refused-report (refusal.Misplaced e) shared hands client (fault.Missing k) P refused = tt
+  refused-report (refusal.Misplaced e) shared hands client (fault.Misplaced k d) P refused = tt
+  refused-report (refusal.Misplaced e) shared hands client (fault.Mismatch m report) P refused = absurd refused
 
   -- nor a mismatch
   pub refused-mismatch : (cause : Refusal) (shared : SystemView) (hands : List (HandView J S)) (client : ClientView) (r : CloseFault J S (Intact N J S)) → IsRefusalOf cause shared hands client r → IsMismatchOnly r
   refused-mismatch refusal.OutOfMemory shared hands client (fault.OutOfMemory k) refused = tt
   refused-mismatch refusal.OutOfMemory shared hands client (fault.Missing k) refused = tt
-  refused-mismatch refusal.OutOfMemory shared hands client (fault.Misplaced k) refused = tt
+  refused-mismatch refusal.OutOfMemory shared hands client (fault.Misplaced k d) refused = tt
   refused-mismatch refusal.OutOfMemory shared hands client (fault.Mismatch m report) refused = absurd refused
   refused-mismatch refusal.Missing shared hands client (fault.OutOfMemory k) refused = tt
   refused-mismatch refusal.Missing shared hands client (fault.Missing k) refused = tt
-  refused-mismatch refusal.Missing shared hands client (fault.Misplaced k) refused = tt
+  refused-mismatch refusal.Missing shared hands client (fault.Misplaced k d) refused = tt
   refused-mismatch refusal.Missing shared hands client (fault.Mismatch m report) refused = absurd refused
-  refused-mismatch refusal.Misplaced shared hands client (fault.OutOfMemory k) refused = tt
-  refused-mismatch refusal.Misplaced shared hands client (fault.Missing k) refused = tt
-  refused-mismatch refusal.Misplaced shared hands client (fault.Misplaced k) refused = tt
-  refused-mismatch refusal.Misplaced shared hands client (fault.Mismatch m report) refused = absurd refused
+  refused-mismatch (refusal.Misplaced e) shared hands client (fault.OutOfMemory k) refused = tt
+  refused-mismatch (refusal.Misplaced e) shared hands client (fault.Missing k) refused = tt
+  refused-mismatch (refusal.Misplaced e) shared hands client (fault.Misplaced k d) refused = tt
+  refused-mismatch (refusal.Misplaced e) shared hands client (fault.Mismatch m report) refused = absurd refused
 
   intact_as : (shared : SystemView) (back hands : List (HandView J S)) (client : ClientView) (k : Intact N J S) → back ≡ hands → IsIntact shared back client k → IsIntact shared hands client k
   intact_as shared back hands client k same was = record { shared_is = was.shared_is; hands_are = was.hands_are ∙ same; client_is = was.client_is }
@@ -60,37 +60,37 @@ module _ {N J S : Type 0} where
   pub refused-back : (cause : Refusal) (shared : SystemView) (back hands : List (HandView J S)) (client : ClientView) (r : CloseFault J S (Intact N J S)) → back ≡ hands → IsRefusalOf cause shared back client r → IfSome (kept_in r) (IsIntact shared hands client)
   refused-back refusal.OutOfMemory shared back hands client (fault.OutOfMemory k) same refused = intact_as shared back hands client k same refused
   refused-back refusal.OutOfMemory shared back hands client (fault.Missing k) same refused = absurd refused
-  refused-back refusal.OutOfMemory shared back hands client (fault.Misplaced k) same refused = absurd refused
+  refused-back refusal.OutOfMemory shared back hands client (fault.Misplaced k d) same refused = absurd refused
   refused-back refusal.OutOfMemory shared back hands client (fault.Mismatch m report) same refused = tt
   refused-back refusal.Missing shared back hands client (fault.OutOfMemory k) same refused = absurd refused
   refused-back refusal.Missing shared back hands client (fault.Missing k) same refused = intact_as shared back hands client k same refused
-  refused-back refusal.Missing shared back hands client (fault.Misplaced k) same refused = absurd refused
+  refused-back refusal.Missing shared back hands client (fault.Misplaced k d) same refused = absurd refused
   refused-back refusal.Missing shared back hands client (fault.Mismatch m report) same refused = tt
-  refused-back refusal.Misplaced shared back hands client (fault.OutOfMemory k) same refused = absurd refused
-  refused-back refusal.Misplaced shared back hands client (fault.Missing k) same refused = absurd refused
-  refused-back refusal.Misplaced shared back hands client (fault.Misplaced k) same refused = intact_as shared back hands client k same refused
-  refused-back refusal.Misplaced shared back hands client (fault.Mismatch m report) same refused = tt
+  refused-back (refusal.Misplaced e) shared back hands client (fault.OutOfMemory k) same refused = absurd refused
+  refused-back (refusal.Misplaced e) shared back hands client (fault.Missing k) same refused = absurd refused
+  refused-back (refusal.Misplaced e) shared back hands client (fault.Misplaced k d) same refused = intact_as shared back hands client k same refused
+  refused-back (refusal.Misplaced e) shared back hands client (fault.Mismatch m report) same refused = tt
 
   -- a part is said to be missing only where the schedulers aren't all
   pub refused-missing : (complete : Type 0) (schedulers : List SchedulerState) (cause : Refusal) (shared : SystemView) (hands : List (HandView J S)) (client : ClientView) (r : CloseFault J S (Intact N J S)) → (complete → IsAll schedulers) → IsHandsRefused schedulers cause → IsRefusalOf cause shared hands client r → IsMissingOnly complete r
   refused-missing complete schedulers refusal.OutOfMemory shared hands client (fault.OutOfMemory k) all why refused = tt
   refused-missing complete schedulers refusal.OutOfMemory shared hands client (fault.Missing k) all why refused = absurd refused
-  refused-missing complete schedulers refusal.OutOfMemory shared hands client (fault.Misplaced k) all why refused = tt
+  refused-missing complete schedulers refusal.OutOfMemory shared hands client (fault.Misplaced k d) all why refused = tt
   refused-missing complete schedulers refusal.OutOfMemory shared hands client (fault.Mismatch m report) all why refused = tt
   refused-missing complete schedulers refusal.Missing shared hands client (fault.OutOfMemory k) all why refused = tt
   refused-missing complete schedulers refusal.Missing shared hands client (fault.Missing k) all why refused = λ whole. why (all whole)
-  refused-missing complete schedulers refusal.Missing shared hands client (fault.Misplaced k) all why refused = tt
+  refused-missing complete schedulers refusal.Missing shared hands client (fault.Misplaced k d) all why refused = tt
   refused-missing complete schedulers refusal.Missing shared hands client (fault.Mismatch m report) all why refused = tt
-  refused-missing complete schedulers refusal.Misplaced shared hands client (fault.OutOfMemory k) all why refused = tt
-  refused-missing complete schedulers refusal.Misplaced shared hands client (fault.Missing k) all why refused = absurd refused
-  refused-missing complete schedulers refusal.Misplaced shared hands client (fault.Misplaced k) all why refused = tt
-  refused-missing complete schedulers refusal.Misplaced shared hands client (fault.Mismatch m report) all why refused = tt
+  refused-missing complete schedulers (refusal.Misplaced e) shared hands client (fault.OutOfMemory k) all why refused = tt
+  refused-missing complete schedulers (refusal.Misplaced e) shared hands client (fault.Missing k) all why refused = absurd refused
+  refused-missing complete schedulers (refusal.Misplaced e) shared hands client (fault.Misplaced k d) all why refused = tt
+  refused-missing complete schedulers (refusal.Misplaced e) shared hands client (fault.Mismatch m report) all why refused = tt
 
   -- a part is said to be missing where one is
   pub unreached-missing : (complete : Type 0) (shared : SystemView) (hands : List (HandView J S)) (client : ClientView) (r : CloseFault J S (Intact N J S)) → (complete → ⊥) → IsRefusalOf refusal.Missing shared hands client r → IsMissingOnly complete r
   unreached-missing complete shared hands client (fault.OutOfMemory k) isnt refused = tt
   unreached-missing complete shared hands client (fault.Missing k) isnt refused = isnt
-  unreached-missing complete shared hands client (fault.Misplaced k) isnt refused = tt
+  unreached-missing complete shared hands client (fault.Misplaced k d) isnt refused = tt
   unreached-missing complete shared hands client (fault.Mismatch m report) isnt refused = tt
 
 module _ {J S K : Type 0} where
@@ -99,7 +99,7 @@ module _ {J S K : Type 0} where
   reported-missing complete (Ok x) report is = tt
   reported-missing complete (Err (fault.OutOfMemory k)) report is = tt
   reported-missing complete (Err (fault.Missing k)) report is = absurd (true≢false (sym (ap is_some is)))
-  reported-missing complete (Err (fault.Misplaced k)) report is = tt
+  reported-missing complete (Err (fault.Misplaced k d)) report is = tt
   reported-missing complete (Err (fault.Mismatch m found)) report is = tt
 
   -- and nothing comes back
@@ -107,5 +107,5 @@ module _ {J S K : Type 0} where
   reported-back P (Ok x) report is = tt
   reported-back P (Err (fault.OutOfMemory k)) report is = absurd (true≢false (sym (ap is_some is)))
   reported-back P (Err (fault.Missing k)) report is = absurd (true≢false (sym (ap is_some is)))
-  reported-back P (Err (fault.Misplaced k)) report is = absurd (true≢false (sym (ap is_some is)))
+  reported-back P (Err (fault.Misplaced k d)) report is = absurd (true≢false (sym (ap is_some is)))
   reported-back P (Err (fault.Mismatch m found)) report is = tt

@@ -53,12 +53,12 @@ module _ {A : Type 0} where
   rest_of f n rest x xs next all = each_at (λ j y. f y ≡ n + suc j) (λ j y. f y ≡ (n + 1) + j) xs (λ j. subst (λ l. AllAt (λ i y. f y ≡ n + i) l) next all (suc j)) (λ j y within e. e ∙ omega arith)
 
 module _ {A : Type 0} where
-  but_last : (P : ℕ → A → Type 0) (xs : List A) (x : A) → AllAt P (xs ++ x ∷ []) → AllAt P xs
+  pub but_last : (P : ℕ → A → Type 0) (xs : List A) (x : A) → AllAt P (xs ++ x ∷ []) → AllAt P xs
   but_last P [] x all k = tt
   but_last P (y ∷ ys) x all zero = all zero
   but_last P (y ∷ ys) x all (suc k) = but_last (λ j. P (suc j)) ys x (λ j. all (suc j)) k
 
-  last_one : (P : ℕ → A → Type 0) (xs : List A) (x : A) → AllAt P (xs ++ x ∷ []) → P (length xs) x
+  pub last_one : (P : ℕ → A → Type 0) (xs : List A) (x : A) → AllAt P (xs ++ x ∷ []) → P (length xs) x
   last_one P [] x all = all zero
   last_one P (y ∷ ys) x all = last_one (λ j. P (suc j)) ys x (λ j. all (suc j))
 

@@ -7,6 +7,8 @@ use Rattle.otp_rules.specs.Needs.{numbers_of}
 use Rattle.otp_run.specs.Gathers.{IsAll}
 use Rattle.otp_run.specs.Lists.{AllAt}
 use Rattle.otp_signals.specs.Lists.{NoneInBoth}
+use Rattle.otp_spec.specs.Supervisor.{Supervisor}
+use Rattle.otp_sup.specs.Plans.{never_opened}
 use Rattle.otp_bodies.specs.Ends.{AreTold}
 use Rattle.otp_office.specs.Offices.{Begins}
 use Rattle.otp_close.specs.declared.closing.CloseFault.{CloseFault}
@@ -44,6 +46,11 @@ IsComplete shared hands client = IsAll (schedulers_of hands) × IsReached shared
 abbrev pub HasBegun : TableReport → Type 0
 HasBegun t = Begins t.core.base
 
+-- each core began as the supervisor that these plans have under its number, which was never opened: with the flags and the
+-- specifications of that plan
+abbrev pub HaveBegun : (ℕ → Supervisor) → List TableReport → Type 0
+HaveBegun plans tables = AllAt (λ k (t : TableReport). t.core.base ≡ never_opened (plans k)) tables
+
 -- each end of another supervisor that the history was told is for the note's reason, and shown
 abbrev pub HasTold : TableReport → Type 0
 HasTold t = AreTold (stored_of t.core) t.ends_told.items
@@ -58,28 +65,28 @@ module _ {J S K : Type 0} where
   report_in (Ok report) = Some report
   report_in (Err (fault.OutOfMemory k)) = None
   report_in (Err (fault.Missing k)) = None
-  report_in (Err (fault.Misplaced k)) = None
+  report_in (Err (fault.Misplaced k d)) = None
   report_in (Err (fault.Mismatch m report)) = Some report
 
   -- what comes back where nothing was taken apart
   abbrev pub kept_in : CloseFault J S K → Option K
   kept_in (fault.OutOfMemory k) = Some k
   kept_in (fault.Missing k) = Some k
-  kept_in (fault.Misplaced k) = Some k
+  kept_in (fault.Misplaced k d) = Some k
   kept_in (fault.Mismatch m report) = None
 
   -- a part is said to be missing only where one is
   abbrev pub IsMissingOnly : Type 0 → CloseFault J S K → Type 0
   IsMissingOnly complete (fault.OutOfMemory k) = ⊤
   IsMissingOnly complete (fault.Missing k) = ¬ complete
-  IsMissingOnly complete (fault.Misplaced k) = ⊤
+  IsMissingOnly complete (fault.Misplaced k d) = ⊤
   IsMissingOnly complete (fault.Mismatch m report) = ⊤
 
   -- a mismatch is that of an event of the report
   abbrev pub IsMismatchOnly : CloseFault J S K → Type 0
   IsMismatchOnly (fault.OutOfMemory k) = ⊤
   IsMismatchOnly (fault.Missing k) = ⊤
-  IsMismatchOnly (fault.Misplaced k) = ⊤
+  IsMismatchOnly (fault.Misplaced k d) = ⊤
   IsMismatchOnly (fault.Mismatch m report) = IsMismatch report.tables.items m
 
 module _ {J S : Type 0} where
@@ -116,5 +123,5 @@ pub record IsIntact {N J S : Type 0} (shared : SystemView) (hands : List (HandVi
 abbrev pub IsRefusalOf : {N J S : Type 0} → Refusal → SystemView → List (HandView J S) → ClientView → CloseFault J S (Intact N J S) → Type 0
 IsRefusalOf refusal.OutOfMemory shared hands client (fault.OutOfMemory k) = IsIntact shared hands client k
 IsRefusalOf refusal.Missing shared hands client (fault.Missing k) = IsIntact shared hands client k
-IsRefusalOf refusal.Misplaced shared hands client (fault.Misplaced k) = IsIntact shared hands client k
+IsRefusalOf (refusal.Misplaced e) shared hands client (fault.Misplaced k d) = IsIntact shared hands client k
 IsRefusalOf _ shared hands client _ = ⊥

@@ -9,4 +9,4 @@ use Rattle.otp_close.specs.declared.closing.Refusal.TheVariants as refusal
 abbrev pub IsHandsRefused : List SchedulerState → Refusal → Type 0
 IsHandsRefused schedulers refusal.Missing = ¬ (IsAll schedulers)
 IsHandsRefused schedulers refusal.OutOfMemory = ⊤
-IsHandsRefused schedulers refusal.Misplaced = ⊤
+IsHandsRefused schedulers (refusal.Misplaced d) = ⊤

@@ -1,6 +1,6 @@
 -- How the inboxes of a tree are emptied. (own)
 use Rattle.std.specs.Prelude.{◌≡◌, ℕ, ◌+◌, ◌≤◌, List, [], ◌++◌, Option, MatchOption, IfSome, length, slice_get, min, vec_capacity}
-use Rattle.otp_inbox.specs.Tokens.{SenderState, TakerState, all_parts, all_sent}
+use Rattle.otp_inbox.specs.Tokens.{SenderState, TakerState, all_parts, all_sent, sent_lists}
 use Rattle.otp_rules.specs.declared.event.Item.{Item}
 use Rattle.otp_run.specs.Lists.{AllAt}
 use Rattle.otp_sup.specs.Facts.{UnlockedView}
@@ -10,10 +10,19 @@ use Rattle.otp_close.specs.declared.unlocking.Loose.{Loose}
 use Rattle.otp_hand.specs.Ended.{ends_held}
 use Rattle.otp_hand.specs.Hands.{ClientView}
 use Rattle.otp_hand.specs.Sendings.{parts_at, parts_to, sent_at, sent_to}
+use Rattle.otp_close.specs.Leavings.{lists_at, lists_to}
 
 -- a sender has what the old one at its place has and what another one there has
 abbrev pub IsJoined : List (SenderState Item) → List (SenderState Item) → ℕ → SenderState Item → Type 0
 IsJoined old other k s = MatchOption (slice_get old k) ⊥ (λ (o : SenderState Item). (all_sent s ≡ all_sent o ++ sent_at k other) × (s.parts ≡ min (o.parts + parts_at k other) all_parts))
+
+-- a sender knows the lists that the old one at its place knew, and those that another one there knows
+abbrev pub HasJoined : List (SenderState Item) → List (SenderState Item) → ℕ → SenderState Item → Type 0
+HasJoined old other k s = MatchOption (slice_get old k) ⊥ (λ (o : SenderState Item). sent_lists s ≡ sent_lists o ++ lists_at k other)
+
+-- a sender knows the lists of all senders of its place
+abbrev pub HasLists : List (List (SenderState Item)) → ℕ → SenderState Item → Type 0
+HasLists all k s = sent_lists s ≡ lists_to k all
 
 -- a sender has what all senders of its place have
 abbrev pub HasAll : List (List (SenderState Item)) → ℕ → SenderState Item → Type 0

@@ -1,7 +1,7 @@
 //! A tree is taken apart, once all its hands and its client are back.
 ghost use Rattle.std.specs.Prelude.{◌≡◌, ◌+◌, ◌<◌, ◌≤◌, ◌∷◌, [], All, Err, IfErr, IfOk, IfSome, OnSome, Some, length, map, sum_by, vec_capacity};
-ghost use Rattle.otp_inbox.specs.Lists.{AsOften};
-ghost use Rattle.otp_inbox.specs.Tokens.{all_sent};
+ghost use Rattle.otp_inbox.specs.Lists.{AsOften, EachInOrder};
+ghost use Rattle.otp_inbox.specs.Tokens.{all_sent, sent_lists};
 ghost use Rattle.otp_rules.specs.Needs.{numbers_of};
 ghost use Rattle.otp_run.specs.Gathers.{IsLiveTotal, begun_of, ended_of};
 ghost use Rattle.otp_run.specs.Rule.{ticket_of};
@@ -10,12 +10,13 @@ ghost use Rattle.otp_signals.specs.Lists.{AllIn, NoneInBoth};
 ghost use Rattle.otp_close.specs.Totals.{HasAllStarts, starts_of, unsent_of, HasAllEnds, HasHeard, ends_of};
 ghost use Rattle.otp_hand.specs.Begun.{starts_credited};
 ghost use Rattle.otp_hand.specs.Ended.{ends_sent, held_by};
-ghost use Rattle.otp_close.specs.Closes.{AreApart, HasBegun, HasTold, IsComplete, IsIntact, IsMismatchOnly, IsMissingOnly, IsReached, IsRefusalOf, IsReportOf, all_senders, kept_in, report_in};
-ghost use Rattle.otp_close.specs.Leavings.{AreAccounted, HasUnsent, IsLast, line_of};
+ghost use Rattle.otp_close.specs.Closes.{AreApart, HasBegun, HaveBegun, HasTold, IsComplete, IsIntact, IsMismatchOnly, IsMissingOnly, IsReached, IsRefusalOf, IsReportOf, all_senders, kept_in, report_in};
+ghost use Rattle.otp_close.specs.Leavings.{AreAccounted, AreInOrder, HasUnsent, IsLast, IsLastInOrder, line_of, lists_at};
 ghost use Rattle.otp_hand.specs.Sendings.{sent_at};
 ghost use Rattle.otp_close.specs.Partings.{schedulers_of};
 ghost use Rattle.otp_close.specs.Settlings.{AreReady, IsLoose, IsReady, held_in, senders_in};
 ghost use Rattle.otp_report.specs.Tellings.{AreSo};
+ghost use Rattle.otp_sup.specs.Plans.{never_opened};
 
 use crate::complete::is_reached;
 use crate::joining::{Joined, join_all};
@@ -31,7 +32,7 @@ use otp_report::{Mismatch, Report, TableReport};
 use otp_rules::Item;
 use otp_run::{LiveTotal, RunNaming};
 use otp_signals::{Owner, Words, WordsNaming};
-use otp_sup::{Letter, SupParts, Unlocked};
+use otp_sup::{Displaced, Letter, PlanNaming, SupParts, Unlocked};
 use std::alloc::Global;
 use std::sync::Wait;
 
@@ -44,9 +45,9 @@ pub enum CloseFault<J: Drop, S: Drop, K: Drop> {
     /// E20: a hand is missing or another tree's, or the hands aren't in the order in which the tree was opened with them,
     /// or the client isn't the one that it was opened with.
     Missing(K),
-    /// A supervisor's lock holds another one's. It doesn't happen, since each is opened with its own and nothing moves
-    /// them; but what lies under a lock is known by its type alone, which doesn't say whose it is.
-    Misplaced(K),
+    /// A supervisor's lock holds another one's, and here is what shows it. It doesn't happen, since each is opened with its own
+    /// and nothing moves them; but what lies under a lock is known by its type alone, which doesn't say whose it is.
+    Misplaced(K, Displaced),
     /// E17: a supervisor was told an end of another that isn't the one that the other's own history gives, as far as that is
     /// stored ([`Report::find_mismatch`]).
     Mismatch(Mismatch, Report<J, S>),
@@ -61,7 +62,7 @@ impl<J: Drop, S: Drop, K: Drop> CloseFault<J, S, K> {
         match self {
             CloseFault::OutOfMemory(_) => CloseFault::OutOfMemory(()),
             CloseFault::Missing(_) => CloseFault::Missing(()),
-            CloseFault::Misplaced(_) => CloseFault::Misplaced(()),
+            CloseFault::Misplaced(_, found) => CloseFault::Misplaced((), found),
             CloseFault::Mismatch(mismatch, report) => CloseFault::Mismatch(mismatch, report),
         }
     }
@@ -72,12 +73,12 @@ impl<J: Drop, S: Drop, K: Drop> CloseFault<J, S, K> {
 pub(crate) enum Refusal {
     OutOfMemory,
     Missing,
-    Misplaced,
+    Misplaced(Displaced),
 }
 
 /// A tree that was not taken apart, as it was.
 #[derive(Drop)]
-pub struct Intact<N: WordsNaming + InboxNaming + RunNaming, J: Drop, S: Drop> {
+pub struct Intact<N: WordsNaming + InboxNaming + PlanNaming + RunNaming, J: Drop, S: Drop> {
     pub shared: Shared<N, J, S>,
     pub hands: Vec<Hand<N, J, S>>,
     pub client: Client<N, Body<J, S>>,
@@ -97,7 +98,7 @@ pub struct Intact<N: WordsNaming + InboxNaming + RunNaming, J: Drop, S: Drop> {
 /// [`CloseFault::OutOfMemory`] (E0), [`CloseFault::Missing`] (E20) and [`CloseFault::Misplaced`] are found before
 /// anything is taken apart; the tree, all hands and the client come back as they were. [`CloseFault::Mismatch`] (E17)
 /// has the report.
-pub fn close<N: WordsNaming + InboxNaming + RunNaming, J: Drop, S: Drop, R: Wait>(
+pub fn close<N: WordsNaming + InboxNaming + PlanNaming + RunNaming, J: Drop, S: Drop, R: Wait>(
     rt: &R,
     alloc: Global,
     shared: Shared<N, J, S>,
@@ -119,7 +120,8 @@ pub fn close<N: WordsNaming + InboxNaming + RunNaming, J: Drop, S: Drop, R: Wait
     ensures ends { IfSome (report_in result) (λ report. HasAllEnds report) }
     ensures heard { IfSome (report_in result) (λ report. HasHeard client.waiter report.heard) }
     ensures held { IfSome (report_in result) (λ report. report.held ≡ sum_by held_by hands.items) }
-    // Each core began as a supervisor that was never opened.
+    // Each core began as the supervisor of its plan, never opened: with that plan's flags and specifications.
+    ensures plans { IfSome (report_in result) (λ report. HaveBegun N.plan report.tables.items) }
     ensures begins { IfSome (report_in result) (λ report. All HasBegun report.tables.items) }
     // Each end of another supervisor that its history was told is for the note's reason, and shown.
     ensures shown { IfSome (report_in result) (λ report. All HasTold report.tables.items) }
@@ -128,6 +130,9 @@ pub fn close<N: WordsNaming + InboxNaming + RunNaming, J: Drop, S: Drop, R: Wait
     // The items of each supervisor's history and those left in its inbox are as often as all hands and the client sent
     // them to it; and so it is with those that the client took of the root's, and the last.
     ensures left { IfSome (report_in result) (λ report. AreAccounted (all_senders client hands.items) report.tables.items) }
+    // Each sender's items stand there in the order in which it sent them.
+    ensures order { IfSome (report_in result) (λ report. AreInOrder (all_senders client hands.items) report.tables.items) }
+    ensures last_order { IfSome (report_in result) (λ report. IsLastInOrder shared.tables (all_senders client hands.items) client.waiter report.last.items) }
     ensures last { IfSome (report_in result) (λ report. IsLast shared.tables (all_senders client hands.items) client.waiter report.last.items) }
     // Of the orders of each history all were sent, but those that were still to be sent; one start at most is there.
     ensures unsent { IfSome (report_in result) (λ report. All HasUnsent report.tables.items) }
@@ -151,7 +156,7 @@ pub fn close<N: WordsNaming + InboxNaming + RunNaming, J: Drop, S: Drop, R: Wait
 }
 
 /// Closes the tree ([`close`]), once the processes that wait were given back to the run queue. Where it can't be closed it is dropped.
-pub fn finish<N: WordsNaming + InboxNaming + RunNaming, J: Drop, S: Drop, R: Wait>(
+pub fn finish<N: WordsNaming + InboxNaming + PlanNaming + RunNaming, J: Drop, S: Drop, R: Wait>(
     rt: &R,
     alloc: Global,
     shared: Shared<N, J, S>,
@@ -159,6 +164,7 @@ pub fn finish<N: WordsNaming + InboxNaming + RunNaming, J: Drop, S: Drop, R: Wai
     client: Client<N, Body<J, S>>,
 ) -> Result<Report<J, S>, CloseFault<J, S, ()>>
     ensures report { IfOk result (IsReportOf shared.tables) }
+    ensures plans { IfSome (report_in result) (λ report. HaveBegun N.plan report.tables.items) }
     ensures mismatch { IfErr result IsMismatchOnly }
 {
     let mut hands = hands;
@@ -179,7 +185,7 @@ fn rouse_all<N: WordsNaming + InboxNaming + RunNaming, J: Drop, S: Drop>(
 }
 
 /// Takes all supervisors apart, and empties all inboxes.
-fn report_of<N: WordsNaming + InboxNaming, J: Drop, S: Drop, R: Wait>(
+fn report_of<N: WordsNaming + InboxNaming + PlanNaming, J: Drop, S: Drop, R: Wait>(
     rt: &R,
     loose: Loose<N, J, S>,
     gathered: Gathered<N, J, S>,
@@ -190,10 +196,13 @@ fn report_of<N: WordsNaming + InboxNaming, J: Drop, S: Drop, R: Wait>(
     requires ended { gathered.total.ended ≡ sum_by ends_sent (map senders_in gathered.rests.items) + sum_by held_in gathered.rests.items }
     requires reached { IsReached (length loose.sups.items) client (client.senders ∷ map senders_in gathered.rests.items) }
     ensures count { length result.tables.items ≡ length loose.sups.items }
+    ensures plans { HaveBegun N.plan result.tables.items }
     ensures begins { All HasBegun result.tables.items }
     ensures shown { All HasTold result.tables.items }
     ensures apart { AreApart result.tables.items }
     ensures left { AreAccounted (client.senders ∷ map senders_in gathered.rests.items) result.tables.items }
+    ensures order { AreInOrder (client.senders ∷ map senders_in gathered.rests.items) result.tables.items }
+    ensures last_order { IsLastInOrder (length loose.sups.items) (client.senders ∷ map senders_in gathered.rests.items) client.waiter result.last.items }
     ensures last { IsLast (length loose.sups.items) (client.senders ∷ map senders_in gathered.rests.items) client.waiter result.last.items }
     ensures unsent { All HasUnsent result.tables.items }
     ensures starts { HasAllStarts result }
@@ -249,7 +258,7 @@ fn report_of<N: WordsNaming + InboxNaming, J: Drop, S: Drop, R: Wait>(
 }
 
 /// Takes all supervisors apart, and empties the inbox of each.
-fn take_all_apart<N: WordsNaming + InboxNaming, B: Drop, R: Wait>(
+fn take_all_apart<N: WordsNaming + InboxNaming + PlanNaming, B: Drop, R: Wait>(
     rt: &R,
     words: &Words<N>,
     sups: Vec<Unlocked<N, B>>,
@@ -260,12 +269,15 @@ fn take_all_apart<N: WordsNaming + InboxNaming, B: Drop, R: Wait>(
 ) -> Vec<TableReport>
     requires none { tables.items ≡ [] }
     requires room { length sups.items ≤ vec_capacity tables }
+    requires placed { AllAt (λ k u. u.inbox ≡ k) sups.items }
     requires ready { AreReady sups.items senders.items rooms.items }
     requires as_many { length senders.items ≡ length sups.items }
+    ensures plans { HaveBegun N.plan result.items }
     ensures begins { All HasBegun result.items }
     ensures shown { All HasTold result.items }
     ensures apart { AreApart result.items }
     ensures left { AllAt (λ k t. AsOften (sent_at k senders.items) (line_of t)) result.items }
+    ensures order { AllAt (λ k t. EachInOrder (lists_at k senders.items) (line_of t)) result.items }
     ensures unsent { All HasUnsent result.items }
     ensures starts { starts_credited senders.items + sum_by unsent_of result.items ≡ sum_by starts_of result.items }
     ensures ends { ends_sent senders.items ≡ sum_by ends_of result.items }
@@ -283,7 +295,7 @@ fn take_all_apart<N: WordsNaming + InboxNaming, B: Drop, R: Wait>(
 
 /// Takes a supervisor apart, and empties its inbox. Its seat is joined to the owner, which shows that no number was drawn by
 /// both.
-fn take_apart<N: WordsNaming + InboxNaming, B: Drop, R: Wait>(
+fn take_apart<N: WordsNaming + InboxNaming + PlanNaming, B: Drop, R: Wait>(
     rt: &R,
     words: &Words<N>,
     sup: Unlocked<N, B>,
@@ -292,9 +304,11 @@ fn take_apart<N: WordsNaming + InboxNaming, B: Drop, R: Wait>(
     owner: &mut Owner<N>,
 ) -> TableReport
     requires { IsReady sup sender room }
+    ensures plan { result.core.base ≡ never_opened (N.plan sup.inbox) }
     ensures begins { HasBegun result }
     ensures shown { HasTold result }
     ensures left { AsOften (all_sent sender) (line_of result) }
+    ensures order { EachInOrder (sent_lists sender) (line_of result) }
     ensures unsent { HasUnsent result }
     ensures starts { sender.shares.starts + result.unsent ≡ starts_of result }
     ensures apart { NoneInBoth owner.old.drawn (numbers_of result.core.history) }
@@ -321,7 +335,7 @@ fn take_apart<N: WordsNaming + InboxNaming, B: Drop, R: Wait>(
 }
 
 /// All comes back.
-fn refuse<N: WordsNaming + InboxNaming + RunNaming, J: Drop, S: Drop>(
+fn refuse<N: WordsNaming + InboxNaming + PlanNaming + RunNaming, J: Drop, S: Drop>(
     cause: Refusal,
     shared: Shared<N, J, S>,
     hands: Vec<Hand<N, J, S>>,
@@ -337,7 +351,7 @@ fn refuse<N: WordsNaming + InboxNaming + RunNaming, J: Drop, S: Drop>(
     match cause {
         Refusal::OutOfMemory => CloseFault::OutOfMemory(tree),
         Refusal::Missing => CloseFault::Missing(tree),
-        Refusal::Misplaced => CloseFault::Misplaced(tree),
+        Refusal::Misplaced(found) => CloseFault::Misplaced(tree, found),
     }
 }
 

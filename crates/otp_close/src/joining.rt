@@ -5,7 +5,7 @@ ghost use Rattle.otp_run.specs.Lists.{AllAt};
 ghost use Rattle.otp_hand.specs.Begun.{starts_credited};
 ghost use Rattle.otp_hand.specs.Ended.{ends_sent};
 ghost use Rattle.otp_hand.specs.Sendings.{parts_to};
-ghost use Rattle.otp_close.specs.Settlings.{ArePlaced, IsJoined, IsWhole, held_in, senders_in};
+ghost use Rattle.otp_close.specs.Settlings.{ArePlaced, HasJoined, HasLists, IsJoined, IsWhole, held_in, senders_in};
 
 use crate::parting::Rest;
 use otp_hand::Senders;
@@ -14,10 +14,10 @@ use otp_inbox::{Inbox, InboxNaming};
 use otp_job::Body;
 use otp_rules::Item;
 use otp_signals::WordsNaming;
-use otp_sup::{Letter, Unlocked};
+use otp_sup::{Letter, PlanNaming, Unlocked};
 
 /// The inbox of the supervisor at this place, or of whoever opened the tree.
-fn inbox_at<'a, N: WordsNaming + InboxNaming, B: Drop>(
+fn inbox_at<'a, N: WordsNaming + InboxNaming + PlanNaming, B: Drop>(
     sups: &'a [Unlocked<N, B>],
     outer: &'a Inbox<N, Item, Letter<B>>,
     place: usize,
@@ -32,7 +32,7 @@ fn inbox_at<'a, N: WordsNaming + InboxNaming, B: Drop>(
 }
 
 /// Joins a hand's senders to these, each to that of its supervisor.
-fn join_senders<N: WordsNaming + InboxNaming, B: Drop>(
+fn join_senders<N: WordsNaming + InboxNaming + PlanNaming, B: Drop>(
     sups: &[Unlocked<N, B>],
     outer: &Inbox<N, Item, Letter<B>>,
     senders: &mut Senders<N, B>,
@@ -45,6 +45,7 @@ fn join_senders<N: WordsNaming + InboxNaming, B: Drop>(
     ensures starts { starts_credited senders.new ≡ starts_credited senders.old + starts_credited others }
     ensures ends { ends_sent senders.new ≡ ends_sent senders.old + ends_sent others }
     ensures joined { AllAt (IsJoined senders.old others) senders.new }
+    ensures lists { AllAt (HasJoined senders.old others) senders.new }
     ensures len { length senders.new ≡ length senders.old }
 {
     for sender in others.list {
@@ -57,13 +58,13 @@ fn join_senders<N: WordsNaming + InboxNaming, B: Drop>(
 
 /// Senders that know all that was sent, and how many end notes hands had still to send: 2^64 - 1 where they would be more.
 #[derive(Drop)]
-pub(crate) struct Joined<N: WordsNaming + InboxNaming, J: Drop, S: Drop> {
+pub(crate) struct Joined<N: WordsNaming + InboxNaming + PlanNaming, J: Drop, S: Drop> {
     pub senders: Senders<N, Body<J, S>>,
     pub held: u64,
 }
 
 /// Joins the senders of all hands to the client's, so that each knows all that was sent to its supervisor.
-pub(crate) fn join_all<N: WordsNaming + InboxNaming, J: Drop, S: Drop>(
+pub(crate) fn join_all<N: WordsNaming + InboxNaming + PlanNaming, J: Drop, S: Drop>(
     sups: &[Unlocked<N, Body<J, S>>],
     outer: &Inbox<N, Item, Letter<Body<J, S>>>,
     mut senders: Senders<N, Body<J, S>>,
@@ -77,6 +78,7 @@ pub(crate) fn join_all<N: WordsNaming + InboxNaming, J: Drop, S: Drop>(
     ensures ends { ends_sent result.senders ≡ ends_sent senders + sum_by ends_sent (map senders_in rests.items) }
     ensures held { result.held ≡ min (sum_by held_in rests.items) (2 ^ 64 - 1) }
     ensures whole { AllAt (IsWhole (senders ∷ map senders_in rests.items)) result.senders }
+    ensures lists { AllAt (HasLists (senders ∷ map senders_in rests.items)) result.senders }
     ensures len { length result.senders ≡ length senders }
 {
     let mut held: u64 = 0;

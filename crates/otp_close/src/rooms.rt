@@ -14,7 +14,7 @@ use otp_job::Body;
 use otp_rules::Item;
 use otp_run::RunNaming;
 use otp_signals::WordsNaming;
-use otp_sup::{Letter, Unlocked};
+use otp_sup::{Letter, PlanNaming, Unlocked};
 use std::alloc::{AllocError, Global};
 
 /// Room for what is left in one inbox: for the letters, and for what they say.
@@ -64,7 +64,7 @@ fn count_sent<N: WordsNaming + InboxNaming + RunNaming, J: Drop, S: Drop>(
 }
 
 /// Room for what is left in the inbox of one supervisor.
-fn room_for<N: WordsNaming + InboxNaming + RunNaming, J: Drop, S: Drop>(
+fn room_for<N: WordsNaming + InboxNaming + PlanNaming + RunNaming, J: Drop, S: Drop>(
     alloc: Global,
     place: usize,
     sup: &Unlocked<N, Body<J, S>>,
@@ -74,9 +74,24 @@ fn room_for<N: WordsNaming + InboxNaming + RunNaming, J: Drop, S: Drop>(
     ensures room { IfOk result (IsRoomAt (all_senders client.now hands.now) place sup.now) }
     ensures cause { IfErr result (λ why. (schedulers : List SchedulerState) → IsHandsRefused schedulers why) }
 {
-    if !sup.takes_from_inbox() {
-        return Err(Refusal::Misplaced);
+    match sup.find_displaced() {
+        Some(found) => Err(Refusal::Misplaced(found)),
+        None => room_of(alloc, place, sup, hands, client),
     }
+}
+
+/// The same of a supervisor that takes from its own inbox.
+fn room_of<N: WordsNaming + InboxNaming + PlanNaming + RunNaming, J: Drop, S: Drop>(
+    alloc: Global,
+    place: usize,
+    sup: &Unlocked<N, Body<J, S>>,
+    hands: &[Hand<N, J, S>],
+    client: &Client<N, Body<J, S>>,
+) -> Result<LeftRoom<Body<J, S>>, Refusal>
+    requires takes { sup.now.table.taker.inbox ≡ sup.now.inbox }
+    ensures room { IfOk result (IsRoomAt (all_senders client.now hands.now) place sup.now) }
+    ensures cause { IfErr result (λ why. (schedulers : List SchedulerState) → IsHandsRefused schedulers why) }
+{
     match LeftRoom::between(alloc, count_sent(place, hands, client), sup.taken_count()) {
         Some(room) => Ok(room),
         None => Err(Refusal::OutOfMemory),
@@ -84,7 +99,7 @@ fn room_for<N: WordsNaming + InboxNaming + RunNaming, J: Drop, S: Drop>(
 }
 
 /// Room for what is left in the inbox of each supervisor.
-pub(crate) fn make_rooms<N: WordsNaming + InboxNaming + RunNaming, J: Drop, S: Drop>(
+pub(crate) fn make_rooms<N: WordsNaming + InboxNaming + PlanNaming + RunNaming, J: Drop, S: Drop>(
     alloc: Global,
     sups: &[Unlocked<N, Body<J, S>>],
     hands: &[Hand<N, J, S>],

@@ -1,7 +1,7 @@
 //! The inboxes of a tree are emptied, once all that sends to them is in one hand.
 ghost use Rattle.std.specs.Prelude.{◌≡◌, ◌≤◌, ◌++◌, [], length, map, vec_capacity};
-ghost use Rattle.otp_inbox.specs.Lists.{AsOften};
-ghost use Rattle.otp_inbox.specs.Tokens.{all_parts, all_sent};
+ghost use Rattle.otp_inbox.specs.Lists.{AsOften, EachInOrder};
+ghost use Rattle.otp_inbox.specs.Tokens.{all_parts, all_sent, sent_lists};
 ghost use Rattle.otp_close.specs.Settlings.{IsRoom};
 
 use crate::rooms::LeftRoom;
@@ -36,6 +36,8 @@ pub(crate) fn settle<N: InboxNaming, B: Drop, R: Wait>(
     requires whole { sender.parts ≡ all_parts }
     requires room { IsRoom (length (all_sent sender)) (length taker.taken) room }
     ensures left { AsOften (all_sent sender) (taker.taken ++ result.items) }
+    // Each sender's items stand there in the order in which it sent them.
+    ensures order { EachInOrder (sent_lists sender) (taker.taken ++ result.items) }
     // What the sender was credited with is what the taker gave.
     ensures shares { sender.shares ≡ taker.given }
 {

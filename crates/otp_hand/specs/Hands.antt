@@ -39,6 +39,8 @@ pub record RunnerView (J S : Type 0) : Type 0 where
   pub resting : List (Rested J S)
   pub unsent : Option (Unsent J S)
   pub refusals : ℕ
+  -- the words that its viewer loaded, each with its slot
+  pub looks : List (ℕ × ℕ)
 
 abbrev pub senders_of : {J S : Type 0} → HandView J S → List (SenderState Item)
 senders_of h = h.senders

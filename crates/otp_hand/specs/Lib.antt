@@ -5,3 +5,4 @@ pub mod Hands
 pub mod Begun
 pub mod Ended
 pub mod Readings
+pub mod Turns

@@ -12,7 +12,7 @@ use otp_job::Body;
 use otp_rules::CountsNow;
 use otp_run::RunNaming;
 use otp_signals::{Signal, Words, WordsNaming};
-use otp_sup::{Sup, TurnAnswer, TurnFault};
+use otp_sup::{PlanNaming, Sup, TurnAnswer, TurnFault};
 use otp_wake::Post;
 use std::alloc::AllocError;
 use std::marker::Model;
@@ -108,6 +108,8 @@ impl<N: WordsNaming + InboxNaming + RunNaming, J: Drop, S: Drop> Hand<N, J, S> {
         reading: u64,
         told: Signal,
     ) -> Result<TurnAnswer, TurnFault>
+    where
+        N: PlanNaming,
         requires { reading ≤ MAX_READING }
         ensures { self.new.passes ≡ self.old.passes }
     {

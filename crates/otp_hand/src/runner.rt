@@ -5,6 +5,7 @@ ghost use Rattle.otp_bodies.specs.Letters.{Comes, carries_body};
 ghost use Rattle.otp_rules.specs.declared.event.Item.TheVariants as item;
 ghost use Rattle.otp_hand.specs.Begun.{NoneBegan};
 ghost use Rattle.otp_hand.specs.Ended.{NoneEnded, end_of, ends_held};
+ghost use Rattle.otp_hand.specs.Turns.{IsTold, Worked, WorkedAsTold, nested_by, table_above, table_nested};
 
 use crate::around::Around;
 use crate::places::put_into;
@@ -55,7 +56,7 @@ impl<N: WordsNaming + RunNaming, J: Drop, S: Drop> Model for Runner<N, J, S> {
 
     ghost Value = { RunnerView J S };
 
-    ghost view = { λ r. record { scheduler = r.scheduler; turning = r.turning; waiting = r.waiting; resting = r.resting; unsent = r.unsent; refusals = r.refusals.count } };
+    ghost view = { λ r. record { scheduler = r.scheduler; turning = r.turning; waiting = r.waiting; resting = r.resting; unsent = r.unsent; refusals = r.refusals.count; looks = r.viewer } };
 
     ghost invariant = { λ r. out r.scheduler ≡ one_if (is_some r.turning) + length r.waiting + length r.resting };
 }
@@ -81,6 +82,8 @@ impl<N: WordsNaming + RunNaming, J: Drop, S: Drop> Port<Body<J, S>> for Runner<N
         ensures back { IfErr result (λ back. back ≡ process) }
         ensures notes { notes_by self.new ≡ notes_by self.old }
         ensures beside { beside_of self.new ≡ beside_of self.old }
+        // The process belongs to the supervisor whose turn it is.
+        ensures table { OnOk result (self.new.scheduler.own.puts ≡ self.old.scheduler.own.puts ++ record { number = process.number; slot = process.slot; table = table_nested self.old.turning } ∷ []) }
     {
         let NewProcess { number, slot, body } = process;
         let Some(body) = body else {
@@ -127,9 +130,14 @@ impl<N: WordsNaming + RunNaming, J: Drop, S: Drop> Port<Body<J, S>> for Runner<N
 }
 
 /// The number of the supervisor that runs in the process that is out: its children's notes go to it.
-fn nested_in<J: Drop, S: Drop>(turning: &Option<Process<J, S>>) -> usize {
-    match turning {
-        Some(process) => process.nested_table().unwrap_or(usize::MAX),
+fn nested_in<J: Drop, S: Drop>(turning: &Option<Process<J, S>>) -> usize
+    ensures { result ≡ table_nested turning.now }
+{
+    let Some(process) = turning else {
+        return usize::MAX;
+    };
+    match process.nested_table() {
+        Some(table) => table,
         None => usize::MAX,
     }
 }
@@ -157,6 +165,8 @@ impl<N: WordsNaming + RunNaming, J: Drop, S: Drop> Runner<N, J, S> {
     fn letter_of(&mut self, note: Note, end: Option<&SupEnd>) -> Option<Unsent<J, S>>
         requires { Comes (item.Note note) (option_copied end) }
         ensures item { IfSome result (λ u. u.letter.item ≡ item.Note note) }
+        // It goes to the supervisor to which the process belongs.
+        ensures table { IfSome result (λ u. u.table ≡ table_above self.old.turning) }
         ensures end { IfSome result (λ u. u.letter.end ≡ option_copied end.entry) }
         ensures unsent { self.new.unsent ≡ self.old.unsent }
         ensures refusals { self.new.refusals ≡ self.old.refusals }
@@ -357,7 +367,9 @@ impl<N: WordsNaming + RunNaming, J: Drop, S: Drop> Runner<N, J, S> {
     }
 
     /// The number of the supervisor to which the process that it has out belongs.
-    pub fn parent(&self) -> usize {
+    pub fn parent(&self) -> usize
+        ensures { result ≡ table_above self.now.turning }
+    {
         match &self.turning {
             Some(process) => process.table(),
             None => usize::MAX,
@@ -365,14 +377,17 @@ impl<N: WordsNaming + RunNaming, J: Drop, S: Drop> Runner<N, J, S> {
     }
 
     /// The supervisor that runs in the process that it has out, and that process's number.
-    pub fn nested(&self) -> Option<(usize, u64)> {
+    pub fn nested(&self) -> Option<(usize, u64)>
+        ensures { result ≡ nested_by self.now.turning }
+    {
         let process = self.turning.as_ref()?;
         let table = process.nested_table()?;
         Some((table, process.number()))
     }
 
-    /// What the process that it has out is told by its supervisor.
+    /// What the process that it has out is told by its supervisor: what the word of its slot says for its number.
     pub fn look(&mut self, words: &Words<N>) -> Signal
+        ensures told { IfSome self.old.turning (λ p. IsTold words.now p.ticket result self.old.looks self.new.looks) }
         ensures turning { self.new.turning ≡ self.old.turning }
         ensures unsent { self.new.unsent ≡ self.old.unsent }
         ensures begun { NoneBegan self.old.scheduler self.new.scheduler }
@@ -390,9 +405,21 @@ impl<N: WordsNaming + RunNaming, J: Drop, S: Drop> Runner<N, J, S> {
 }
 
 impl<N: WordsNaming + RunNaming, J: Job, S: Subsystem> Runner<N, J, S> {
-    /// A turn of the worker or the bridge that it has out.
-    pub fn work(&mut self, told: Signal)
+    /// A turn of the worker or the bridge that it has out, which is told what its supervisor has posted for it.
+    pub fn work_as_told(&mut self, words: &Words<N>)
         requires { self.old.unsent ≡ None }
+        ensures begun { NoneBegan self.old.scheduler self.new.scheduler }
+        ensures ended { self.new.scheduler.ended ≡ self.old.scheduler.ended + ends_held self.new.unsent }
+        ensures turn { IfSome self.old.turning (λ p. WorkedAsTold J.started S.inited J.is_trapping J.turned S.polled S.terminated words.now p self.old self.new) }
+    {
+        let told = self.look(words);
+        self.work(told);
+    }
+
+    /// A turn of the worker or the bridge that it has out, which is told this ([`one_turn_at`]).
+    fn work(&mut self, told: Signal)
+        requires { self.old.unsent ≡ None }
+        ensures turn { IfSome self.old.turning (λ p. Worked J.started S.inited J.is_trapping J.turned S.polled S.terminated told p self.old self.new) }
         ensures begun { NoneBegan self.old.scheduler self.new.scheduler }
         // It ended exactly where its end note is to be sent.
         ensures ended { self.new.scheduler.ended ≡ self.old.scheduler.ended + ends_held self.new.unsent }
@@ -404,7 +431,7 @@ impl<N: WordsNaming + RunNaming, J: Job, S: Subsystem> Runner<N, J, S> {
             put_into(&mut self.turning, Some(process));
             return;
         }
-        let table = process.table();
+        let table = process.ticket().table;
         self.around.take(process.slot());
         let after = one_turn_at(process, told, &self.around.site());
         match after {
@@ -474,7 +501,8 @@ fn keep_waiting<J: Drop, S: Drop>(
 /// The letter that a process has started.
 fn started<J: Drop, S: Drop>(note: Note) -> Letter<Body<J, S>>
     requires { carries_body (item.Note note) ≡ false }
-    ensures { end_of result.item ≡ 0 }
+    ensures letter { result ≡ record { item = item.Note note; body = None; end = None } }
+    ensures none { end_of result.item ≡ 0 }
 {
     Letter::note(note, None)
 }
@@ -482,7 +510,8 @@ fn started<J: Drop, S: Drop>(note: Note) -> Letter<Body<J, S>>
 /// The letter of a process's end, which brings the body home.
 fn ended<J: Drop, S: Drop>(end: EndNote<J, S>) -> Letter<Body<J, S>>
     requires { carries_body (item.Note end.note) ≡ true }
-    ensures { end_of result.item ≡ 1 }
+    ensures letter { result ≡ record { item = item.Note end.note; body = Some end.body; end = None } }
+    ensures one { end_of result.item ≡ 1 }
 {
     let EndNote { note, body } = end;
     Letter::note(note, Some(body))

@@ -14,7 +14,7 @@ use crate::places::body_in;
 use otp_inbox::{Inbox, InboxNaming, Sender};
 use otp_rules::{Call, Item};
 use otp_signals::{Signal, Words, WordsNaming};
-use otp_sup::{Letter, Port, Sup, TurnAnswer, TurnFault};
+use otp_sup::{Letter, PlanNaming, Port, Sup, TurnAnswer, TurnFault};
 use std::alloc::Global;
 use std::marker::Model;
 use std::sync::Wait;
@@ -85,7 +85,7 @@ impl<N: InboxNaming, B: Drop> Senders<N, B> {
         told: Signal,
     ) -> Result<TurnAnswer, TurnFault>
     where
-        N: WordsNaming,
+        N: WordsNaming + PlanNaming,
         requires reaches { sup.now.inbox < length self.old }
         requires reading { reading ≤ MAX_READING }
         // A start was credited for each process that the port took, of which it keeps the rest as it was.

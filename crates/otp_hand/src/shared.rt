@@ -5,12 +5,12 @@ use otp_inbox::{Inbox, InboxNaming};
 use otp_job::Body;
 use otp_rules::Item;
 use otp_signals::{Words, WordsNaming};
-use otp_sup::{Letter, Sup};
+use otp_sup::{Letter, PlanNaming, Sup};
 use std::marker::Model;
 
 /// The signal words and the supervisors of a tree, which all hands share, and the inbox of whoever opened it.
 #[derive(Drop)]
-pub struct Shared<N: WordsNaming + InboxNaming, J: Drop, S: Drop> {
+pub struct Shared<N: WordsNaming + InboxNaming + PlanNaming, J: Drop, S: Drop> {
     pub words: Words<N>,
     /// In the order of their numbers, the root first.
     pub sups: Vec<Sup<N, Body<J, S>>>,
@@ -18,7 +18,7 @@ pub struct Shared<N: WordsNaming + InboxNaming, J: Drop, S: Drop> {
     pub outer: Inbox<N, Item, Letter<Body<J, S>>>,
 }
 
-impl<N: WordsNaming + InboxNaming, J: Drop, S: Drop> Model for Shared<N, J, S> {
+impl<N: WordsNaming + InboxNaming + PlanNaming, J: Drop, S: Drop> Model for Shared<N, J, S> {
     ghost use Rattle.std.specs.Prelude.{◌≡◌, length};
     ghost use Rattle.otp_run.specs.Lists.{AllAt};
     ghost use Rattle.otp_hand.specs.Hands.{SystemView};
@@ -30,7 +30,7 @@ impl<N: WordsNaming + InboxNaming, J: Drop, S: Drop> Model for Shared<N, J, S> {
     ghost invariant = { λ s. AllAt (λ k sup. sup.inbox ≡ k) s.sups.items × (s.outer ≡ length s.sups.items) };
 }
 
-impl<N: WordsNaming + InboxNaming, J: Drop, S: Drop> Shared<N, J, S> {
+impl<N: WordsNaming + InboxNaming + PlanNaming, J: Drop, S: Drop> Shared<N, J, S> {
     /// How many supervisors the tree has.
     pub fn tables(&self) -> usize
         ensures { result ≡ self.now.tables }

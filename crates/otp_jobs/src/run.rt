@@ -87,7 +87,7 @@ impl From<RunFault<WorkedJob, Calm>> for FileRunFault {
         match why {
             RunFault::Open(fault) => FileRunFault::from(fault),
             RunFault::Close(CloseFault::OutOfMemory(())) => FileRunFault::OutOfMemory,
-            RunFault::Close(CloseFault::Missing(()) | CloseFault::Misplaced(())) => {
+            RunFault::Close(CloseFault::Missing(()) | CloseFault::Misplaced((), _)) => {
                 FileRunFault::Missing
             }
             RunFault::Close(CloseFault::Mismatch(..)) => FileRunFault::Mismatch,

@@ -1,1 +1,2 @@
 pub mod Spans
+mod Answers

@@ -5,6 +5,7 @@ use otp_inbox::InboxNaming;
 use otp_job::Body;
 use otp_rules::{Call, Reply};
 use otp_signals::WordsNaming;
+use otp_sup::PlanNaming;
 use otp_tree::{CallRefusal, Client, System, Uncalled};
 use otp_wake::{Bells, Stop};
 use std::alloc::{AllocError, Global};
@@ -192,7 +193,7 @@ impl<J: Drop, S: Drop> Caller<J, S> {
         client: &Mutex<Client<N, Body<J, S>>>,
     ) -> Option<usize>
     where
-        N: WordsNaming + InboxNaming,
+        N: WordsNaming + InboxNaming + PlanNaming,
         R: Wait,
     {
         let Wanted { table, call, body } = self.take_wanted(rt)?;
@@ -223,7 +224,7 @@ impl<J: Drop, S: Drop> Caller<J, S> {
     /// Looks whether its call was answered, and tells it. Other hands look after this one.
     pub(crate) fn collect<N, R>(&self, rt: &R, system: &System<N, J, S>)
     where
-        N: WordsNaming + InboxNaming,
+        N: WordsNaming + InboxNaming + PlanNaming,
         R: Wait,
     {
         let mut stage = self.stage.lock(rt);
@@ -272,7 +273,7 @@ fn answer_of<N, R, J, S>(
     number: u64,
 ) -> Option<Answer<J, S>>
 where
-    N: WordsNaming + InboxNaming,
+    N: WordsNaming + InboxNaming + PlanNaming,
     R: Wait,
     J: Drop,
     S: Drop,

@@ -26,6 +26,7 @@
 //! deadline fires without anybody polling. A bridge wants a turn again and again, so where one runs one hand is awake.
 #![tactic(auto)]
 
+pub mod answers;
 pub mod caller;
 pub mod calls;
 pub mod clock;
@@ -38,11 +39,11 @@ mod served;
 pub mod span;
 pub mod watch;
 
-pub use caller::{Answer, Caller};
-pub use calls::{
+pub use answers::{
     CallError, DeleteRefusal, GetRefusal, NoRefusal, RestartRefusal, StartEnd, StartRefusal,
     TerminateRefusal,
 };
+pub use caller::{Answer, Caller};
 pub use clock::Stopwatch;
 pub use live::{close_callers, run, run_for, run_with_callers};
 pub use log::{LogLines, write_line};

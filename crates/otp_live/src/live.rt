@@ -1,9 +1,10 @@
 //! A tree runs until it has ended.
-ghost use Rattle.std.specs.Prelude.{◌≡◌, ◌<◌, ◌≤◌, length, IfErr, IfOk};
+ghost use Rattle.std.specs.Prelude.{◌≡◌, ◌<◌, ◌≤◌, length, IfErr, IfOk, OnOk};
 ghost use Rattle.otp_spec.specs.declared.limits.TheConstants.{MAX_READING, MAX_TABLES};
 ghost use Rattle.otp_run.specs.Rule.{all_parts};
-ghost use Rattle.otp_close.specs.Closes.{IsReportOf};
-ghost use Rattle.otp_tree.specs.Closes.{IsRunMismatchOnly};
+ghost use Rattle.otp_close.specs.Closes.{HaveBegun, IsReportOf};
+ghost use Rattle.otp_tree.specs.Closes.{IsRunMismatchOnly, IsRunOpenFault};
+ghost use Rattle.otp_open.specs.Plans.{HaveBodies, plans_of};
 
 use crate::caller::Caller;
 use crate::clock::Stopwatch;
@@ -17,6 +18,7 @@ use otp_inbox::InboxNaming;
 use otp_job::{Body, Job};
 use otp_run::RunNaming;
 use otp_signals::WordsNaming;
+use otp_sup::PlanNaming;
 use otp_tree::{Client, Hand, Report, RunFault, System, SystemFault, TablePlan};
 use otp_wake::{Post, Stop};
 use std::alloc::{AllocError, Global};
@@ -62,7 +64,12 @@ where
     requires few { hands ≤ all_parts }
     // The report has each supervisor of the plans, and is one that `System::close` can give.
     ensures report { IfOk result (IsReportOf (length plans.items)) }
+    // Each core began as the supervisor of the plan at its place in the list, never opened.
+    ensures plans { IfOk result (λ report. HaveBegun (plans_of plans.items) report.tables.items) }
     ensures mismatch { IfErr result IsRunMismatchOnly }
+    // Each plan has a body for each child that an opening makes, or that is why it isn't run, or memory was refused.
+    ensures bodies { OnOk result (HaveBodies plans.items) }
+    ensures opened { IfErr result (IsRunOpenFault plans.items) }
 {
     let callers = Vec::new(alloc);
     run_with_callers(rt, alloc, plans, hands, stop, watch, callers.as_slice())
@@ -87,7 +94,12 @@ where
     requires some { 0 < hands }
     requires few { hands ≤ all_parts }
     ensures report { IfOk result (IsReportOf (length plans.items)) }
+    // Each core began as the supervisor of the plan at its place in the list, never opened.
+    ensures plans { IfOk result (λ report. HaveBegun (plans_of plans.items) report.tables.items) }
     ensures mismatch { IfErr result IsRunMismatchOnly }
+    // Each plan has a body for each child that an opening makes, or that is why it isn't run, or memory was refused.
+    ensures bodies { OnOk result (HaveBodies plans.items) }
+    ensures opened { IfErr result (IsRunOpenFault plans.items) }
 {
     run_spanned(
         rt,
@@ -124,7 +136,12 @@ where
     requires some { 0 < hands }
     requires few { hands ≤ all_parts }
     ensures report { IfOk result (IsReportOf (length plans.items)) }
+    // Each core began as the supervisor of the plan at its place in the list, never opened.
+    ensures plans { IfOk result (λ report. HaveBegun (plans_of plans.items) report.tables.items) }
     ensures mismatch { IfErr result IsRunMismatchOnly }
+    // Each plan has a body for each child that an opening makes, or that is why it isn't run, or memory was refused.
+    ensures bodies { OnOk result (HaveBodies plans.items) }
+    ensures opened { IfErr result (IsRunOpenFault plans.items) }
 {
     let Ok(stop) = Stop::new(alloc) else {
         drop(plans);
@@ -163,7 +180,12 @@ where
     requires some { 0 < hands }
     requires few { hands ≤ all_parts }
     ensures report { IfOk result (IsReportOf (length plans.items)) }
+    // Each core began as the supervisor of the plan at its place in the list, never opened.
+    ensures plans { IfOk result (λ report. HaveBegun (plans_of plans.items) report.tables.items) }
     ensures mismatch { IfErr result IsRunMismatchOnly }
+    // Each plan has a body for each child that an opening makes, or that is why it isn't run, or memory was refused.
+    ensures bodies { OnOk result (HaveBodies plans.items) }
+    ensures opened { IfErr result (IsRunOpenFault plans.items) }
 {
     let clock = Stopwatch::start(rt);
     let Ok(crew) = gather(
@@ -225,7 +247,7 @@ pub(crate) fn serve<N, R, J, S, W>(
     client: &Mutex<Client<N, Body<J, S>>>,
 )
 where
-    N: WordsNaming + InboxNaming + RunNaming,
+    N: WordsNaming + InboxNaming + PlanNaming + RunNaming,
     R: Wait + Clock,
     J: Job,
     S: Subsystem,
@@ -263,7 +285,7 @@ fn serve_some<N, R, J, S, W>(
     hand: &mut Hand<N, J, S>,
 ) -> bool
 where
-    N: WordsNaming + InboxNaming + RunNaming,
+    N: WordsNaming + InboxNaming + PlanNaming + RunNaming,
     R: Wait + Clock,
     J: Job,
     S: Subsystem,
@@ -286,7 +308,7 @@ fn ask<N, R, J, S, W>(
     client: &Mutex<Client<N, Body<J, S>>>,
 )
 where
-    N: WordsNaming + InboxNaming,
+    N: WordsNaming + InboxNaming + PlanNaming,
     R: Wait + Clock,
     J: Drop,
     S: Drop,
@@ -306,7 +328,7 @@ fn send_calls<N, R, J, S, W>(
     client: &Mutex<Client<N, Body<J, S>>>,
 )
 where
-    N: WordsNaming + InboxNaming,
+    N: WordsNaming + InboxNaming + PlanNaming,
     R: Wait + Clock,
     J: Drop,
     S: Drop,
@@ -323,7 +345,7 @@ where
 /// Looks whether calls were answered, and tells those who made them.
 fn collect_answers<N, R, J, S, W>(rt: &R, seat: &Seat<'_, R, W, J, S>, system: &System<N, J, S>)
 where
-    N: WordsNaming + InboxNaming,
+    N: WordsNaming + InboxNaming + PlanNaming,
     R: Wait + Clock,
     J: Drop,
     S: Drop,
@@ -366,7 +388,7 @@ fn sleep<N, R, J, S, W>(
     hand: &mut Hand<N, J, S>,
 )
 where
-    N: WordsNaming + InboxNaming + RunNaming,
+    N: WordsNaming + InboxNaming + PlanNaming + RunNaming,
     R: Wait + Clock,
     J: Job,
     S: Subsystem,

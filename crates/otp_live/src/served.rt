@@ -1,11 +1,12 @@
 //! A tree is opened, served by each hand in a thread of its own, and closed.
-ghost use Rattle.std.specs.Prelude.{◌≡◌, ◌<◌, ◌≤◌, length, IfErr, IfOk};
+ghost use Rattle.std.specs.Prelude.{◌≡◌, ◌<◌, ◌≤◌, length, IfErr, IfOk, OnOk};
 ghost use Rattle.otp_spec.specs.declared.limits.TheConstants.{MAX_TABLES};
 ghost use Rattle.otp_run.specs.Lists.{AllAt};
 ghost use Rattle.otp_run.specs.Rule.{all_parts};
-ghost use Rattle.otp_close.specs.Closes.{IsReportOf};
-ghost use Rattle.otp_tree.specs.Closes.{IsRunMismatchOnly};
+ghost use Rattle.otp_close.specs.Closes.{HaveBegun, IsReportOf};
+ghost use Rattle.otp_tree.specs.Closes.{IsRunMismatchOnly, IsRunOpenFault};
 ghost use Rattle.otp_open.specs.Opens.{slots_of};
+ghost use Rattle.otp_open.specs.Plans.{HaveBodies, plans_of};
 
 use crate::crew::Crew;
 use crate::live::serve;
@@ -16,6 +17,7 @@ use otp_inbox::InboxNaming;
 use otp_job::{Body, Job};
 use otp_run::RunNaming;
 use otp_signals::WordsNaming;
+use otp_sup::PlanNaming;
 use otp_tree::{Client, Hand, MAX_HANDS, Opened, Parts, Report, RunFault, System, TablePlan};
 use std::alloc::Global;
 use std::marker::Brand;
@@ -41,7 +43,10 @@ where
     requires some { 0 < hands }
     requires few { hands ≤ all_parts }
     ensures report { IfOk result (IsReportOf (length plans.items)) }
+    ensures plans { IfOk result (λ report. HaveBegun (plans_of plans.items) report.tables.items) }
     ensures mismatch { IfErr result IsRunMismatchOnly }
+    ensures bodies { OnOk result (HaveBodies plans.items) }
+    ensures opened { IfErr result (IsRunOpenFault plans.items) }
 {
     let parts = Parts::open(alloc, plans, hands)?;
     serve_named::<Brand, R, J, S, W>(rt, alloc, parts, crew)
@@ -54,19 +59,24 @@ fn serve_named<N, R, J, S, W>(
     crew: &Crew<'_, R, W, J, S>,
 ) -> Result<Report<J, S>, RunFault<J, S>>
 where
-    N: WordsNaming + InboxNaming + RunNaming + Send + Sync,
+    N: WordsNaming + InboxNaming + PlanNaming + RunNaming + Send + Sync,
     R: Threads + Wait + Clock + Sync,
     J: Job + Send,
     S: Subsystem + Send,
     W: Watch + Sync,
     requires words { parts.words.words ≡ N.words }
     requires inboxes { AllAt (λ k id. id ≡ N.inbox k) parts.inboxes.items }
+    requires plans { AllAt (λ k plan. plan.supervisor ≡ N.plan k) parts.plans.items }
+    requires as_many { length parts.plans.items ≡ length parts.inboxes.items }
     requires outer { parts.outer ≡ N.inbox (length parts.inboxes.items) }
     requires deques { AllAt (λ k id. id ≡ N.deque k) parts.queue }
     requires slots { parts.words.slots ≡ slots_of (length parts.inboxes.items) }
     requires few { length parts.inboxes.items ≤ MAX_TABLES }
     ensures report { IfOk result (IsReportOf (length parts.inboxes.items)) }
+    ensures plans { IfOk result (λ report. HaveBegun N.plan report.tables.items) }
     ensures mismatch { IfErr result IsRunMismatchOnly }
+    ensures bodies { OnOk result (HaveBodies parts.plans.items) }
+    ensures opened { IfErr result (IsRunOpenFault parts.plans.items) }
 {
     let opened = match parts.named::<N>(alloc) {
         Ok(opened) => opened,
@@ -96,7 +106,7 @@ fn serve_all<N, R, J, S, W>(
     client: Client<N, Body<J, S>>,
 ) -> Client<N, Body<J, S>>
 where
-    N: WordsNaming + InboxNaming + RunNaming + Send + Sync,
+    N: WordsNaming + InboxNaming + PlanNaming + RunNaming + Send + Sync,
     R: Threads + Wait + Clock + Sync,
     J: Job + Send,
     S: Subsystem + Send,
@@ -122,7 +132,7 @@ fn serve_at<N, R, J, S, W>(
     client: &Mutex<Client<N, Body<J, S>>>,
 )
 where
-    N: WordsNaming + InboxNaming + RunNaming,
+    N: WordsNaming + InboxNaming + PlanNaming + RunNaming,
     R: Wait + Clock,
     J: Job,
     S: Subsystem,

@@ -15,8 +15,9 @@ opened_out : (count index : ℕ) → out (opened count index) ≡ 0
 unfolding out
 opened_out count index = ap (λ l. length l - 0 - 0) (nothing_stolen (order_of index count))
 
-pub all_idle : (count : ℕ) (schedulers : List SchedulerState) → AllAt (λ k s. s ≡ opened count k) schedulers → AllAt IsIdle schedulers
-all_idle count schedulers all = each_at (λ k s. s ≡ opened count k) IsIdle schedulers all (λ j x within is. record {
+pub all_idle : (count : ℕ) (schedulers : List SchedulerState) → AllAt (λ k s. s ≡ opened count k) schedulers → AllAt (IsIdle count) schedulers
+all_idle count schedulers all = each_at (λ k s. s ≡ opened count k) (IsIdle count) schedulers all (λ j x within is. record {
+  is = is;
   index = ap (λ (s : SchedulerState). s.own.index) is;
   none_out = ap out is ∙ opened_out count j;
   none_begun = ap (λ (s : SchedulerState). s.begun) is;

@@ -1,2 +1,4 @@
 pub mod Fresh
 pub mod Firsts
+pub mod Handed
+pub mod EachOpened

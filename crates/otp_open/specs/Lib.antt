@@ -1,3 +1,4 @@
 pub mod Drafts
 pub mod Opens
 pub mod Passes
+pub mod Plans

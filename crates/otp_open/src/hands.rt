@@ -1,8 +1,9 @@
 //! A hand is made for each scheduler, with a sender to each supervisor and a pass to the counts of each.
-ghost use Rattle.std.specs.Prelude.{◌≡◌, ◌+◌, ◌<◌, IfOk, OnOk, IfSome, length};
+ghost use Rattle.std.specs.Prelude.{◌≡◌, ◌+◌, ◌<◌, IfErr, IfOk, OnOk, IfSome, length};
 ghost use Rattle.otp_inbox.specs.Tokens.{first_sender};
 ghost use Rattle.otp_run.specs.Lists.{AllAt};
-ghost use Rattle.otp_open.specs.Opens.{HasRootOnly, IsIdle};
+ghost use Rattle.otp_open.specs.Opens.{AreOpened, HasRootOnly, IsIdle, IsOpened};
+ghost use Rattle.otp_open.specs.declared.opening.SystemFault.TheVariants.{OutOfMemory};
 ghost use Rattle.otp_hand.specs.Begun.{starts_credited};
 ghost use Rattle.otp_hand.specs.Ended.{ends_sent};
 ghost use Rattle.otp_open.specs.Passes.{CanRead, IsFresh};
@@ -17,7 +18,7 @@ use otp_job::{Body, Process};
 use otp_rules::Item;
 use otp_run::{RunNaming, Scheduler};
 use otp_signals::{Viewer, WordsNaming};
-use otp_sup::Letter;
+use otp_sup::{Letter, PlanNaming};
 use otp_tally::Tally;
 use std::alloc::{AllocError, Global};
 
@@ -43,8 +44,9 @@ fn begin<N: RunNaming, J: Drop, S: Drop>(
     schedulers: &mut [Scheduler<N, J, S>],
     root: Process<J, S>,
 ) -> Result<(), AllocError>
-    requires { AllAt IsIdle schedulers.old }
-    ensures { OnOk result (AllAt (λ _ s. HasRootOnly s) schedulers.new) }
+    requires { AllAt (IsIdle (length schedulers.old)) schedulers.old }
+    ensures begun { OnOk result (AllAt (IsOpened root.ticket (length schedulers.old)) schedulers.new) }
+    ensures many { length schedulers.new ≡ length schedulers.old }
 {
     if schedulers.is_empty() {
         return Ok(());
@@ -60,15 +62,16 @@ fn begin_first<N: RunNaming, J: Drop, S: Drop>(
     schedulers: &mut Vec<Scheduler<N, J, S>>,
     root: Process<J, S>,
 ) -> Result<(), AllocError>
-    requires { AllAt IsIdle schedulers.old.items }
-    ensures { OnOk result (AllAt (λ _ s. HasRootOnly s) schedulers.new.items) }
+    requires { AllAt (IsIdle (length schedulers.old.items)) schedulers.old.items }
+    ensures begun { OnOk result (AllAt (IsOpened root.ticket (length schedulers.old.items)) schedulers.new.items) }
+    ensures many { length schedulers.new.items ≡ length schedulers.old.items }
 {
     begin(schedulers, root)
 }
 
 /// A sender to each supervisor and to whoever opened the tree, with so many parts of the right to send. None where
 /// not more are there.
-fn split_senders<N: WordsNaming + InboxNaming, J: Drop, S: Drop>(
+fn split_senders<N: WordsNaming + InboxNaming + PlanNaming, J: Drop, S: Drop>(
     alloc: Global,
     shared: &Shared<N, J, S>,
     senders: &mut Senders<N, Body<J, S>>,
@@ -102,7 +105,7 @@ fn split_senders<N: WordsNaming + InboxNaming, J: Drop, S: Drop>(
 }
 
 /// A hand of a scheduler, with a viewer, a sender to each supervisor and a pass to the counts of each, which are split off.
-fn make_hand<N: WordsNaming + InboxNaming + RunNaming, J: Drop, S: Drop>(
+fn make_hand<N: WordsNaming + InboxNaming + PlanNaming + RunNaming, J: Drop, S: Drop>(
     alloc: Global,
     shared: &Shared<N, J, S>,
     scheduler: Scheduler<N, J, S>,
@@ -111,7 +114,9 @@ fn make_hand<N: WordsNaming + InboxNaming + RunNaming, J: Drop, S: Drop>(
     viewer: Viewer<N>,
 ) -> Result<Hand<N, J, S>, SystemFault>
     requires { HasRootOnly scheduler }
+    ensures scheduler { IfOk result (λ hand. hand.scheduler ≡ scheduler) }
     ensures fresh { IfOk result (λ hand. IsFresh passes.old.items hand) }
+    ensures memory { IfErr result (λ why. why ≡ OutOfMemory) }
     ensures same { OnOk result (passes.new.items ≡ passes.old.items) }
     ensures starts { starts_credited senders.new ≡ starts_credited senders.old }
     ensures ends { ends_sent senders.new ≡ ends_sent senders.old }
@@ -146,7 +151,7 @@ fn make_hand<N: WordsNaming + InboxNaming + RunNaming, J: Drop, S: Drop>(
 }
 
 /// A hand for each scheduler. The first has the root's process.
-pub fn make_hands<N: WordsNaming + InboxNaming + RunNaming, J: Drop, S: Drop>(
+pub fn make_hands<N: WordsNaming + InboxNaming + PlanNaming + RunNaming, J: Drop, S: Drop>(
     alloc: Global,
     shared: &Shared<N, J, S>,
     schedulers: Vec<Scheduler<N, J, S>>,
@@ -155,8 +160,10 @@ pub fn make_hands<N: WordsNaming + InboxNaming + RunNaming, J: Drop, S: Drop>(
     mut viewer: Viewer<N>,
     root: Process<J, S>,
 ) -> Result<Vec<Hand<N, J, S>>, SystemFault>
-    requires { AllAt IsIdle schedulers.items }
+    requires { AllAt (IsIdle (length schedulers.items)) schedulers.items }
+    ensures opened { IfOk result (λ hands. AreOpened root.ticket (length schedulers.items) hands.items) }
     ensures hands { IfOk result (λ hands. CanRead (length passes.old.items) hands.items) }
+    ensures memory { IfErr result (λ why. why ≡ OutOfMemory) }
     ensures same { OnOk result (passes.new.items ≡ passes.old.items) }
     ensures starts { starts_credited senders.new ≡ starts_credited senders.old }
     ensures ends { ends_sent senders.new ≡ ends_sent senders.old }

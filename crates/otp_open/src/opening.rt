@@ -1,5 +1,5 @@
 //! The supervisors of a tree are opened, each under its number, with its inbox and its seat.
-ghost use Rattle.std.specs.Prelude.{◌≡◌, ◌+◌, ◌*◌, ◌<◌, ◌≤◌, ◌^◌, ◌++◌, ◌∷◌, [], Contains, IfOk, OnOk, length, true};
+ghost use Rattle.std.specs.Prelude.{◌≡◌, ◌+◌, ◌*◌, ◌<◌, ◌≤◌, ◌^◌, ◌++◌, ◌∷◌, [], Contains, IfErr, IfOk, OnOk, length, true};
 ghost use Rattle.otp_spec.specs.declared.limits.TheConstants.{MAX_CHILDREN, MAX_TABLES};
 ghost use Rattle.otp_core.specs.View.{state_of};
 ghost use Rattle.otp_rules.specs.Counts.{counts_of};
@@ -7,7 +7,9 @@ ghost use Rattle.otp_bodies.specs.Bodies.{are_ready, count_opened};
 ghost use Rattle.otp_inbox.specs.Tokens.{first_sender, no_shares};
 ghost use Rattle.otp_run.specs.Lists.{AllAt};
 ghost use Rattle.otp_signals.specs.Lists.{EachBetween, StayBelow, StayFrom};
+ghost use Rattle.otp_sup.specs.Plans.{never_opened};
 ghost use Rattle.otp_open.specs.Opens.{first_slot, slots_of};
+ghost use Rattle.otp_open.specs.Plans.{HasBodies, HaveBodies, IsOpenFault, IsUnready, Suffice, handed_in};
 
 use crate::plan::TablePlan;
 use otp_counts::{CountsPass, Publisher};
@@ -17,7 +19,7 @@ use otp_job::Body;
 use otp_rules::Item;
 use otp_signals::{Owner, Words, WordsNaming};
 use otp_spec::{MAX_CHILDREN, SupSpec};
-use otp_sup::{Bodies, Letter, Office, Sup, Table, count_opened};
+use otp_sup::{Bodies, Letter, Office, PlanNaming, Sup, Table, count_opened};
 use std::alloc::{AllocError, Global};
 
 /// How many slots of signal words each supervisor has: one for each child that there can be.
@@ -36,6 +38,11 @@ pub enum SystemFault {
 }
 
 impl From<AllocError> for SystemFault {
+    ghost use Rattle.std.specs.Prelude.{◌≡◌};
+    ghost use Rattle.otp_open.specs.declared.opening.SystemFault.TheVariants.{OutOfMemory};
+
+    ghost from_gives = { λ _ fault. fault ≡ OutOfMemory };
+
     fn from(_: AllocError) -> SystemFault {
         SystemFault::OutOfMemory
     }
@@ -64,14 +71,14 @@ pub fn open_inboxes<B: Drop>(
 
 /// A supervisor under its number, the first sender to it, and the first pass to its counts.
 #[derive(Drop)]
-struct NamedOne<N: WordsNaming + InboxNaming, J: Drop, S: Drop> {
+struct NamedOne<N: WordsNaming + InboxNaming + PlanNaming, J: Drop, S: Drop> {
     sup: Sup<N, Body<J, S>>,
     sender: Sender<N, Item, Letter<Body<J, S>>>,
     pass: CountsPass,
 }
 
 /// One supervisor under its number. Its seat is cut off the owner.
-fn open_one<N: WordsNaming + InboxNaming, J: Drop, S: Drop>(
+fn open_one<N: WordsNaming + InboxNaming + PlanNaming, J: Drop, S: Drop>(
     alloc: Global,
     words: &Words<N>,
     owner: &mut Owner<N>,
@@ -80,10 +87,14 @@ fn open_one<N: WordsNaming + InboxNaming, J: Drop, S: Drop>(
     plan: TablePlan<J, S>,
 ) -> Result<NamedOne<N, J, S>, SystemFault>
     requires named { inbox ≡ N.inbox number }
+    requires plan { plan.supervisor ≡ N.plan number }
     requires few { number < MAX_TABLES }
     requires slots { EachBetween (first_slot number) (first_slot (number + 1)) (Contains owner.old.slots) }
     requires unposted { owner.old.posts ≡ [] }
     ensures sup { IfOk result (λ r. r.sup.inbox ≡ number) }
+    // It has a body for each child that an opening makes, or that is why it isn't opened.
+    ensures bodies { OnOk result (HasBodies plan) }
+    ensures fault { IfErr result (IsUnready number (length plan.bodies.items) plan.supervisor) }
     ensures sender { IfOk result (λ r. r.sender ≡ first_sender number) }
     ensures lower { OnOk result (StayBelow (first_slot number) owner.old.slots owner.new.slots) }
     ensures upper { OnOk result (StayFrom (first_slot (number + 1)) owner.old.slots owner.new.slots) }
@@ -105,9 +116,14 @@ fn ready_bodies<B: Drop>(
     bodies: Vec<B>,
     number: usize,
 ) -> Result<Bodies<B>, SystemFault>
-    ensures { IfOk result (λ b. are_ready (count_opened supervisor.now.flags supervisor.now.specs) b.kept ≡ true) }
+    ensures ready { IfOk result (λ b. are_ready (count_opened supervisor.now.flags supervisor.now.specs) b.kept ≡ true) }
+    ensures handed { IfOk result (λ b. b.kept ≡ handed_in (length bodies.items)) }
+    ensures enough { OnOk result (Suffice (length bodies.items) supervisor.now) }
+    ensures fault { IfErr result (IsUnready number (length bodies.items) supervisor.now) }
 {
-    let bodies = hand_in_all(alloc, bodies)?;
+    let Ok(bodies) = hand_in_all(alloc, bodies) else {
+        return Err(SystemFault::OutOfMemory);
+    };
     if bodies.are_ready(count_opened(supervisor)) {
         Ok(bodies)
     } else {
@@ -116,7 +132,7 @@ fn ready_bodies<B: Drop>(
 }
 
 /// A supervisor that has its seat and its bodies.
-fn open_seated<N: WordsNaming + InboxNaming, J: Drop, S: Drop>(
+fn open_seated<N: WordsNaming + InboxNaming + PlanNaming, J: Drop, S: Drop>(
     alloc: Global,
     inbox: UnnamedInbox<Item, Letter<Body<J, S>>>,
     number: usize,
@@ -126,6 +142,7 @@ fn open_seated<N: WordsNaming + InboxNaming, J: Drop, S: Drop>(
     first: usize,
 ) -> Result<NamedOne<N, J, S>, AllocError>
     requires named { inbox ≡ N.inbox number }
+    requires plan { supervisor ≡ N.plan number }
     requires ready { are_ready (count_opened supervisor.flags supervisor.specs) bodies.kept ≡ true }
     requires drawn { seat.drawn ≡ [] }
     requires posts { seat.posts ≡ [] }
@@ -142,12 +159,13 @@ fn open_seated<N: WordsNaming + InboxNaming, J: Drop, S: Drop>(
 }
 
 /// The table of a supervisor that was never opened, and the first pass to its counts.
-fn open_table<N: WordsNaming + InboxNaming, B: Drop>(
+fn open_table<N: WordsNaming + InboxNaming + PlanNaming, B: Drop>(
     alloc: Global,
     office: Office<N>,
     taker: Taker<N, Item, Letter<B>>,
     bodies: Bodies<B>,
 ) -> Result<(Table<N, B>, CountsPass), AllocError>
+    requires plan { office.core.base ≡ never_opened (N.plan taker.inbox) }
     requires history { office.core.history ≡ [] }
     requires taken { taker.taken ≡ [] }
     requires unused { (taker.empty_finds ≡ 0) × (taker.given ≡ no_shares) }
@@ -175,19 +193,23 @@ fn publish<N: WordsNaming>(
     Ok((counts, pass))
 }
 
-fn hand_in_all<B: Drop>(alloc: Global, bodies: Vec<B>) -> Result<Bodies<B>, AllocError> {
+/// Hands in these bodies, each for the child specification at its place.
+fn hand_in_all<B: Drop>(alloc: Global, bodies: Vec<B>) -> Result<Bodies<B>, AllocError>
+    ensures { IfOk result (λ all. all.kept ≡ handed_in (length bodies.items)) }
+{
     let mut all = Bodies::new(alloc);
     let count = bodies.len();
     let mut bodies = bodies.into_iter();
     for place in 0..count {
-        let Some(body) = bodies.next() else {
-            break;
-        };
-        if let Err(refused) = all.hand_in(place, body) {
-            drop(refused);
-            drop(bodies);
-            drop(all);
-            return Err(AllocError);
+        let body = next_of(&mut bodies);
+        match all.hand_in(place, body) {
+            Ok(()) => {}
+            Err(refused) => {
+                drop(refused);
+                drop(bodies);
+                drop(all);
+                return Err(AllocError);
+            }
         }
     }
     drop(bodies);
@@ -196,13 +218,13 @@ fn hand_in_all<B: Drop>(alloc: Global, bodies: Vec<B>) -> Result<Bodies<B>, Allo
 
 /// All supervisors under their numbers, the first sender to each, and the first pass to the counts of each.
 #[derive(Drop)]
-pub struct Named<N: WordsNaming + InboxNaming, J: Drop, S: Drop> {
+pub struct Named<N: WordsNaming + InboxNaming + PlanNaming, J: Drop, S: Drop> {
     pub sups: Vec<Sup<N, Body<J, S>>>,
     pub senders: Vec<Sender<N, Item, Letter<Body<J, S>>>>,
     pub passes: Vec<CountsPass>,
 }
 
-impl<N: WordsNaming + InboxNaming, J: Drop, S: Drop> Named<N, J, S> {
+impl<N: WordsNaming + InboxNaming + PlanNaming, J: Drop, S: Drop> Named<N, J, S> {
     /// None so far.
     fn new(alloc: Global) -> Self
         ensures sups { result.sups.items ≡ [] }
@@ -237,7 +259,7 @@ impl<N: WordsNaming + InboxNaming, J: Drop, S: Drop> Named<N, J, S> {
 }
 
 /// All supervisors of these plans, each under the number of its place. Their seats are cut off the owner.
-pub fn open_all<N: WordsNaming + InboxNaming, J: Drop, S: Drop>(
+pub fn open_all<N: WordsNaming + InboxNaming + PlanNaming, J: Drop, S: Drop>(
     alloc: Global,
     words: &Words<N>,
     owner: &mut Owner<N>,
@@ -245,11 +267,16 @@ pub fn open_all<N: WordsNaming + InboxNaming, J: Drop, S: Drop>(
     plans: Vec<TablePlan<J, S>>,
 ) -> Result<Named<N, J, S>, SystemFault>
     requires named { AllAt (λ k id. id ≡ N.inbox k) inboxes.items }
+    requires plans { AllAt (λ k plan. plan.supervisor ≡ N.plan k) plans.items }
+    requires as_many { length plans.items ≡ length inboxes.items }
     requires few { length inboxes.items ≤ MAX_TABLES }
     requires slots { EachBetween 0 (slots_of (length inboxes.items)) (Contains owner.old.slots) }
     requires unposted { owner.old.posts ≡ [] }
     ensures sups { IfOk result (λ r. AllAt (λ k sup. sup.inbox ≡ k) r.sups.items) }
     ensures many { IfOk result (λ r. length r.sups.items ≡ length inboxes.items) }
+    // Each plan has its bodies, or one that hasn't is why nothing is opened.
+    ensures bodies { OnOk result (HaveBodies plans.items) }
+    ensures fault { IfErr result (IsOpenFault plans.items) }
     ensures senders { IfOk result (λ r. AllAt (λ k s. s ≡ first_sender k) r.senders.items) }
     ensures count { IfOk result (λ r. length r.senders.items ≡ length inboxes.items) }
     ensures passes { IfOk result (λ r. length r.passes.items ≡ length inboxes.items) }

@@ -29,7 +29,7 @@ fn fault_of(why: RunFault<PatientJob, Calm>) -> FileRunFault
     match why {
         RunFault::Open(fault) => FileRunFault::from(fault),
         RunFault::Close(CloseFault::OutOfMemory(())) => FileRunFault::OutOfMemory,
-        RunFault::Close(CloseFault::Missing(()) | CloseFault::Misplaced(())) => {
+        RunFault::Close(CloseFault::Missing(()) | CloseFault::Misplaced((), _)) => {
             FileRunFault::Missing
         }
         RunFault::Close(CloseFault::Mismatch(..)) => FileRunFault::Mismatch,

@@ -32,6 +32,7 @@ use Rattle.otp_bodies.specs.Ports.{Taken}
 use Rattle.otp_office.specs.Rows.{slot_of}
 use Rattle.otp_office.specs.Events.{Readied}
 use Rattle.otp_sup.proofs.Calls.{readied_state}
+use Rattle.otp_sup.proofs.Found.{contains_counts, in_list, same_slot}
 use Rattle.otp_sup.proofs.Homes.{or_none}
 use Rattle.otp_bodies.proofs.Placed.{any_left, away_had, away_leaves, away_left, away_settled, away_when_home, away_without, given_moved, given_settled, given_without, none_away, stays_when_left}
 use Rattle.otp_bodies.proofs.Once.{any_unleft, any_unmoved, both_when_left, both_without, count_moved, count_settled, count_without, home_has_row, none_home}
@@ -39,35 +40,6 @@ use Rattle.otp_bodies.proofs.Owned.{first_own, left_own, without_own}
 use Rattle.otp_rules.proofs.Counting.{found}
 use Rattle.std.proofs.lemmas.List.Quantifiers.{position-Some}
 use Rattle.otp_office.proofs.Slots.{slot_read}
-
--- as many rows as there are of a slot: one at most, so two are one
-
-contains_counts : (t : Row → Bool) (rows : List Row) (row : Row) → Contains rows row → t row ≡ true → 0 < count_by t rows
-contains_counts t [] row c h = absurd (omega (arith, c.1))
-contains_counts t (x ∷ xs) row (zero, a, b) h =
-    let one : ◌≡◌ {A = ℕ} (cond (t x) 1 0) 1 = ap (λ (r : Bool). cond r 1 0) (subst (λ (r : Row). t r ≡ true) (sym b) h) in
-    omega (arith, one, sum_by-cons (λ (r : Row). cond (t r) 1 0) x xs)
-contains_counts t (x ∷ xs) row (suc k, a, b) h = omega (arith, contains_counts t xs row (k, omega (arith, a), b) h, sum_by-cons (λ (r : Row). cond (t r) 1 0) x xs)
-
-one_row : (t : Row → Bool) (rows : List Row) (a b : Row) → count_by t rows ≤ 1 → Contains rows a → Contains rows b → t a ≡ true → t b ≡ true → a ≡ b
-one_row t [] a b few ca cb ha hb = absurd (omega (arith, ca.1))
-one_row t (x ∷ xs) a b few (zero, wa, ea) (zero, wb, eb) ha hb = sym ea ∙ eb
-one_row t (x ∷ xs) a b few (zero, wa, ea) (suc j, wb, eb) ha hb =
-    let one : ◌≡◌ {A = ℕ} (cond (t x) 1 0) 1 = ap (λ (r : Bool). cond r 1 0) (subst (λ (r : Row). t r ≡ true) (sym ea) ha) in
-    absurd (omega (arith, few, one, contains_counts t xs b (j, omega (arith, wb), eb) hb, sum_by-cons (λ (r : Row). cond (t r) 1 0) x xs))
-one_row t (x ∷ xs) a b few (suc i, wa, ea) (zero, wb, eb) ha hb =
-    let one : ◌≡◌ {A = ℕ} (cond (t x) 1 0) 1 = ap (λ (r : Bool). cond r 1 0) (subst (λ (r : Row). t r ≡ true) (sym eb) hb) in
-    absurd (omega (arith, few, one, contains_counts t xs a (i, omega (arith, wa), ea) ha, sum_by-cons (λ (r : Row). cond (t r) 1 0) x xs))
-one_row t (x ∷ xs) a b few (suc i, wa, ea) (suc j, wb, eb) ha hb =
-    one_row t xs a b (let e = sum_by-cons (λ (r : Row). cond (t r) 1 0) x xs in omega (arith, few, e)) (i, omega (arith, wa), ea) (j, omega (arith, wb), eb) ha hb
-
-same_slot : (rows : List Row) (a b : Row) → AreSlotted rows → Contains rows a → Contains rows b → a.slot ≡ b.slot → a ≡ b
-same_slot rows a b own ca cb same = one_row (has_slot b.slot) rows a b (own.one b.slot) ca cb (eq-eqb a.slot b.slot same) (eq-eqb b.slot b.slot refl)
-
-in_list : (xs : List Row) (i : ℕ) (d : Row) → i < length xs → Contains xs (get_or xs i d)
-in_list [] i d w = absurd (omega (arith, w))
-in_list (x ∷ xs) zero d w = (0, omega arith, refl)
-in_list (x ∷ xs) (suc i) d w = let r : Contains xs (get_or xs i d) = in_list xs i d (omega (arith, w)) in (suc r.0, omega (arith, r.1), r.2)
 
 -- the slot of a process is that of the child that has it
 pub slot_of_row : (rows : List Row) (p : ℕ) (row : Row) → AreApart rows → Contains rows row → has_process p row.state ≡ true → slot_of rows p ≡ row.slot

@@ -3,11 +3,13 @@ pub mod CountAfter
 pub mod Credits
 pub mod Cutting
 pub mod Heeding
+pub mod Found
 pub mod OneAfter
 pub mod OwnAfter
 pub mod Homes
 pub mod Flushing
 pub mod Leaving
 pub mod OneBody
+pub mod Planned
 pub mod Turning
 pub mod Unsent

@@ -13,6 +13,7 @@ use Rattle.otp_core.specs.View.{state_of, stored_of}
 use Rattle.otp_counts.specs.Counts.{EndsWith, Publishing}
 use Rattle.otp_inbox.specs.Tokens.{TakerState}
 use Rattle.otp_rules.specs.Waits.{starts_waiting}
+use Rattle.otp_spec.specs.Supervisor.{Supervisor}
 use Rattle.otp_bodies.specs.declared.bodies.Kept.{Kept}
 use Rattle.otp_bodies.specs.Bodies.{are_given, calls_waiting, count_away, count_given, count_home, has_body, is_own, count_opened}
 use Rattle.otp_office.specs.Orders.{starts_in}
@@ -20,6 +21,7 @@ use Rattle.otp_bodies.specs.declared.told.ToldEnd.{ToldEnd}
 use Rattle.otp_bodies.specs.Ends.{AreTold}
 use Rattle.otp_office.specs.Events.{items_of}
 use Rattle.otp_office.specs.Offices.{KeepsOffice, OfficeView, starts_sent}
+use Rattle.otp_sup.specs.Plans.{never_opened}
 
 -- what contracts see of a table
 pub record TableView : Type 0 where
@@ -96,7 +98,10 @@ HasBodies o kept = KeepsBodies (state_of o.core) (starts_in o.outbox) kept
 abbrev pub HaveOneBody : OfficeView → List Kept → Type 0
 HaveOneBody o kept = (row : Row) → Contains (state_of o.core).rows row → HasOneBody (state_of o.core) (starts_in o.outbox) kept row
 
-pub record IsTable (t : TableView) : Type 0 where
+-- of the plans that all supervisors have, by the numbers of their inboxes
+pub record IsTable (plans : ℕ → Supervisor) (t : TableView) : Type 0 where
+  -- its history begins with the supervisor of its plan, never opened
+  pub plan : t.office.core.base ≡ never_opened (plans t.taker.inbox)
   pub taken : t.taker.taken ≡ items_of t.office.core.history
   -- each start call that waits has its body with it, in their order
   pub calls : calls_waiting t.bodies ≡ starts_waiting (state_of t.office.core).waiting
@@ -109,8 +114,10 @@ pub record IsTable (t : TableView) : Type 0 where
   -- and one for each event, and for each time that it found its inbox empty
   pub turns : t.taker.given.turns ≡ length t.office.core.history + t.taker.empty_finds
 
--- what holds whenever the lock is free
-pub record KeepsRules (t : TableView) : Type 0 where
+-- what holds whenever the lock is free, where the supervisors have these plans by the numbers of their inboxes
+pub record KeepsRules (plans : ℕ → Supervisor) (t : TableView) : Type 0 where
+  -- its history begins with the supervisor of its plan, never opened: the flags and the specifications are that plan's
+  pub plan : t.office.core.base ≡ never_opened (plans t.taker.inbox)
   pub office : KeepsOffice t.office
   -- the items taken from the inbox are those of the history, each once and in order
   pub taken : t.taker.taken ≡ items_of t.office.core.history

@@ -12,6 +12,7 @@
 pub mod client;
 pub mod cut;
 mod moves;
+pub mod naming;
 mod plans;
 mod rows;
 pub mod sup;
@@ -19,10 +20,11 @@ pub mod table;
 
 pub use client::{Client, SplitFault, SubmitCause, SubmitFault};
 pub use cut::CutAnswer;
+pub use naming::PlanNaming;
 pub use otp_bodies::{
     Bodies, Evidence, Flushed, Kept, Launched, Letter, MemoryPort, NewProcess, Origin, Place, Port,
     ToldEnd, ToldNote, count_opened, evidence_of,
 };
 pub use otp_office::{Office, TurnAnswer, TurnFault};
-pub use sup::{Sup, SupParts, Unlocked};
+pub use sup::{Displaced, Sup, SupParts, Unlocked};
 pub use table::Table;

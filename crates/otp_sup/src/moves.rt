@@ -5,7 +5,7 @@ ghost use Rattle.otp_core.specs.View.{state_of};
 ghost use Rattle.otp_rules.specs.State.{State, is_over};
 ghost use Rattle.otp_rules.specs.Waits.{starts_waiting};
 ghost use Rattle.otp_table.specs.declared.row.Row.{Row};
-ghost use Rattle.otp_bodies.specs.Bodies.{CanComeBack, bodies_in, calls_waiting, came_for, has_body, is_at_home, left_home, place_of_call, taken_up};
+ghost use Rattle.otp_bodies.specs.Bodies.{CanComeBack, bodies_in, calls_waiting, came_for, count_away, count_home, has_body, is_at_home, left_home, place_of_call, taken_up};
 ghost use Rattle.otp_sup.specs.Moves.{IsPlan, bodies_after, brings_body, given_among, let_go, moved};
 ghost use Rattle.otp_bodies.specs.declared.bodies.Kept.{Kept};
 ghost use Rattle.otp_bodies.specs.declared.bodies.Origin.TheVariants as origin;
@@ -37,6 +37,7 @@ pub(crate) fn happen<N: WordsNaming, B: Drop>(
     requires space { 0 < bodies.old.room }
     requires carries { is_some body ≡ brings_body kind }
     requires over { IsOpening kind → is_over (state_of office.old.core).phase ≡ true }
+    requires one_body { (slot : ℕ) → count_home slot bodies.old.kept + count_away slot bodies.old.kept ≤ 1 }
     ensures happened { Happened reading kind office.old office.new }
     ensures bodies { bodies.new.kept ≡ bodies_after (state_of office.old.core) (state_of office.new.core) kind bodies.old.kept }
     ensures count { bodies_in bodies.new.kept ≡ bodies_in bodies.old.kept + one_if (brings_body kind) }
@@ -73,6 +74,7 @@ fn move_bodies<B: Drop>(
 )
     requires space { 0 < bodies.old.room }
     requires carries { is_some body ≡ brings_body kind.now }
+    requires one_body { (slot : ℕ) → count_home slot bodies.old.kept + count_away slot bodies.old.kept ≤ 1 }
     ensures { (s : State) (rows : List Row) → IsPlan s kind.now plan.now → slot ≡ given_among plan.now.free rows → bodies.new.kept ≡ moved s rows kind.now bodies.old.kept }
 {
     match kind {
@@ -85,11 +87,25 @@ fn move_bodies<B: Drop>(
 
 /// An end note brought this body, another note none.
 fn come<B: Drop>(bodies: &mut Bodies<B>, home: Option<usize>, body: Option<B>)
-    requires { 0 < bodies.old.room }
+    requires room { 0 < bodies.old.room }
+    requires one_body { (slot : ℕ) → count_home slot bodies.old.kept + count_away slot bodies.old.kept ≤ 1 }
     ensures { bodies.new.kept ≡ (if is_some body then came_for home bodies.old.kept else bodies.old.kept) }
 {
     if let Some(body) = body {
-        bodies.come(home, body);
+        come_for(bodies, home, body);
+    }
+}
+
+/// A body comes for the child in this slot, if there is one. Most often it is at the place of its slot in the list; no other is
+/// looked at then.
+fn come_for<B: Drop>(bodies: &mut Bodies<B>, home: Option<usize>, body: B)
+    requires room { 0 < bodies.old.room }
+    requires one_body { (slot : ℕ) → count_home slot bodies.old.kept + count_away slot bodies.old.kept ≤ 1 }
+    ensures { bodies.new.kept ≡ came_for home bodies.old.kept }
+{
+    match home {
+        Some(slot) if bodies.is_away_at(slot, slot) => bodies.come_back(slot, slot, body),
+        _ => bodies.come(home, body),
     }
 }
 
@@ -123,7 +139,7 @@ fn let_go<N: WordsNaming, B: Drop>(bodies: &mut Bodies<B>, office: &Office<N>, k
     ensures { bodies.new.kept ≡ let_go (state_of office.now.core) kind.now bodies.old.kept }
 {
     let rows = office.rows();
-    let is_any_waiting = office.has_waiting();
+    let is_any_waiting = office.core().has_waiting();
     if let Kind::Opened(_) = kind {
         bodies.settle(&[], is_any_waiting);
         bodies.open(rows);

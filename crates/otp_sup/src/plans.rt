@@ -40,13 +40,13 @@ fn is_taken_up(core: &Core) -> bool
 }
 
 /// The slot of the child whose body an end note brings home.
-fn home_of(core: &Core, note: &Note) -> Option<usize>
-    ensures { result ≡ home_of (state_of core.now) note.now }
+fn home_of<N: WordsNaming>(office: &Office<N>, note: &Note) -> Option<usize>
+    ensures { result ≡ home_of (state_of office.now.core) note.now }
 {
-    if core.has_ended() {
+    if office.has_ended() {
         return None;
     }
-    slot_heeding(note, core.rows())
+    slot_heeding(office, note)
 }
 
 /// Whether an event may make a child for a call that brought a body.
@@ -77,7 +77,7 @@ pub(crate) fn plan_of<N: WordsNaming>(office: &Office<N>, kind: &Kind) -> Plan
 {
     let core = office.core();
     let home = match kind {
-        Kind::Took(Item::Note(note)) => home_of(core, note),
+        Kind::Took(Item::Note(note)) => home_of(office, note),
         _ => None,
     };
     Plan {

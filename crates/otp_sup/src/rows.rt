@@ -1,11 +1,15 @@
 //! Which child a note tells of, and whether a slot is a child's.
-ghost use Rattle.std.specs.Prelude.{◌≡◌};
+ghost use Rattle.std.specs.Prelude.{◌≡◌, if◌then◌else◌, None, Some};
 ghost use Rattle.std.specs.List.{list_any};
 ghost use Rattle.otp_table.specs.Rows.{has_slot};
 ghost use Rattle.otp_rules.specs.Fit.{is_starting};
+ghost use Rattle.otp_core.specs.View.{state_of};
 ghost use Rattle.otp_sup.specs.Moves.{is_heeded, slot_heeding};
 
+use otp_bodies::number_of;
+use otp_office::Office;
 use otp_reason::Note;
+use otp_signals::WordsNaming;
 use otp_table::{Row, RowState};
 
 /// Whether a row has this slot.
@@ -34,14 +38,26 @@ fn is_starting(state: &RowState, number: u64) -> bool
     }
 }
 
-/// The slot of the child whose body an end note brings home, if it changes its row or waits.
-pub(crate) fn slot_heeding(note: &Note, rows: &[Row]) -> Option<usize>
-    ensures { result ≡ slot_heeding note.now rows.now }
+/// The row's slot, if the note tells the end of its process and changes the row or waits.
+fn slot_if_heeded(note: &Note, row: &Row) -> Option<usize>
+    ensures { result ≡ (if is_heeded note.now row.now then Some row.now.slot else None) }
 {
-    for row in rows {
-        if is_heeded(note, row) {
-            return Some(row.slot);
-        }
+    if is_heeded(note, row) {
+        Some(row.slot)
+    } else {
+        None
     }
-    None
+}
+
+/// The slot of the child whose body an end note brings home, if it changes its row or waits. The core finds the row by the
+/// number of the process: no other has that process.
+pub(crate) fn slot_heeding<N: WordsNaming>(office: &Office<N>, note: &Note) -> Option<usize>
+    ensures { result ≡ slot_heeding note.now (state_of office.now.core).rows }
+{
+    office.keeps_rules();
+    let core = office.core();
+    match core.find_process(number_of(*note)) {
+        Some(place) => slot_if_heeded(note, &core.rows()[place]),
+        None => None,
+    }
 }

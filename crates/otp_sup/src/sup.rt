@@ -1,5 +1,5 @@
 //! A table under its lock, beside its inbox.
-ghost use Rattle.std.specs.Prelude.{◌≡◌, ◌⊎◌, ◌+◌, ◌<◌, ◌≤◌, ◌↔◌, [], is_some, length, min, IfOk, IsTrue, OnErr, Ok};
+ghost use Rattle.std.specs.Prelude.{◌≡◌, ◌⊎◌, ◌+◌, ◌<◌, ◌≤◌, ◌↔◌, [], is_some, length, min, None, IfOk, OnErr, Ok};
 ghost use Rattle.otp_spec.specs.declared.limits.TheConstants.{MAX_READING};
 ghost use Rattle.otp_inbox.specs.Tokens.{count_limit};
 ghost use Rattle.otp_bodies.specs.Bodies.{bodies_in, is_left_of, is_stray};
@@ -13,6 +13,7 @@ ghost use Rattle.otp_office.specs.Answers.{HasTurned};
 ghost use Rattle.otp_sup.specs.Turns.{HadBody, HadTurn, HasDeadline, HasReply, KeepsReply, IsFlushed, IsOfAnother, TurnedUnder};
 ghost use Rattle.otp_office.specs.declared.turns.TurnAnswer.TheVariants as answer;
 
+use crate::naming::PlanNaming;
 use crate::table::Table;
 use otp_bodies::{Flushed, Letter, Port, ToldEnd};
 use otp_core::{Core, ReplyAnswer};
@@ -27,12 +28,12 @@ use std::sync::{Mutex, Wait};
 /// A supervisor that threads share: a table under its lock, beside its inbox, so that whoever sends to it doesn't wait
 /// for the lock.
 #[derive(Drop)]
-pub struct Sup<N: WordsNaming + InboxNaming, B: Drop> {
+pub struct Sup<N: WordsNaming + InboxNaming + PlanNaming, B: Drop> {
     inbox: Inbox<N, Item, Letter<B>>,
     table: Mutex<Table<N, B>>,
 }
 
-impl<N: WordsNaming + InboxNaming, B: Drop> Sup<N, B> {
+impl<N: WordsNaming + InboxNaming + PlanNaming, B: Drop> Sup<N, B> {
     /// Puts the table under a lock.
     pub fn new(inbox: Inbox<N, Item, Letter<B>>, table: Table<N, B>) -> Self
         requires { inbox ≡ table.taker.inbox }
@@ -77,8 +78,8 @@ impl<N: WordsNaming + InboxNaming, B: Drop> Sup<N, B> {
         requires sender { sender.old.inbox ≡ self.now.inbox }
         requires may_send { 0 < sender.old.parts }
         requires reading { reading ≤ MAX_READING }
-        ensures turned { TurnedUnder self.now.inbox number reading told result ⊎ ((result ≡ Ok answer.Pending) × IsOfAnother self.now.inbox) }
-        ensures flushed { IsFlushed (P.refusals port.old) (P.refusals port.new) ⊎ ((result ≡ Ok answer.Pending) × IsOfAnother self.now.inbox) }
+        ensures turned { TurnedUnder N.plan self.now.inbox number reading told result ⊎ ((result ≡ Ok answer.Pending) × IsOfAnother N.plan self.now.inbox) }
+        ensures flushed { IsFlushed N.plan (P.refusals port.old) (P.refusals port.new) ⊎ ((result ≡ Ok answer.Pending) × IsOfAnother N.plan self.now.inbox) }
         ensures port { TookMore (taken_by (P.processes port.old) (P.notes port.old)) (taken_by (P.processes port.new) (P.notes port.new)) (P.refusals port.old) (P.refusals port.new) }
         // The sender has a turn more exactly where the table had one,
         ensures turns { HasTurned result sender.old.shares.turns sender.new.shares.turns }
@@ -88,7 +89,7 @@ impl<N: WordsNaming + InboxNaming, B: Drop> Sup<N, B> {
         ensures beside { P.beside port.new ≡ P.beside port.old }
         // All of this of one table: it had the turn, then a checkpoint if that was Full, and then the port took what its
         // first orders put and tell.
-        ensures one_table { HadTurn self.now.inbox number reading told result (P.processes port.old) (P.notes port.old) (P.refusals port.old) (P.processes port.new) (P.notes port.new) (P.refusals port.new) }
+        ensures one_table { HadTurn N.plan self.now.inbox number reading told result (P.processes port.old) (P.notes port.old) (P.refusals port.old) (P.processes port.new) (P.notes port.new) (P.refusals port.new) }
     {
         let mut guard = self.table.lock(rt);
         let table = &mut *guard;
@@ -112,8 +113,8 @@ impl<N: WordsNaming + InboxNaming, B: Drop> Sup<N, B> {
     ///
     /// E0: there is no memory for the copy. Only of an answer that is kept.
     pub fn reply<R: Wait>(&self, rt: &R, call: u64) -> Result<ReplyAnswer<Reply>, AllocError>
-        ensures found { IfOk result (HasReply call) }
-        ensures refused { OnErr result (KeepsReply call) }
+        ensures found { IfOk result (HasReply N.plan call) }
+        ensures refused { OnErr result (KeepsReply N.plan call) }
     {
         let guard = self.table.lock(rt);
         let table = &*guard;
@@ -127,7 +128,7 @@ impl<N: WordsNaming + InboxNaming, B: Drop> Sup<N, B> {
 
     /// The least deadline of its children: see [`Table::next_deadline`].
     pub fn next_deadline<R: Wait>(&self, rt: &R) -> Option<u64>
-        ensures { HasDeadline result }
+        ensures { HasDeadline N.plan result }
     {
         let guard = self.table.lock(rt);
         let table = &*guard;
@@ -137,7 +138,7 @@ impl<N: WordsNaming + InboxNaming, B: Drop> Sup<N, B> {
 
     /// The body that the call with this number brought: see [`Table::take_box`].
     pub fn take_box<R: Wait>(&self, rt: &R, call: u64) -> Option<B>
-        ensures { HadBody (is_left_of call) (is_some result) }
+        ensures { HadBody N.plan (is_left_of call) (is_some result) }
     {
         let mut guard = self.table.lock(rt);
         let table = &mut *guard;
@@ -147,7 +148,7 @@ impl<N: WordsNaming + InboxNaming, B: Drop> Sup<N, B> {
 
     /// A body that came with a note that told nothing: see [`Table::take_stray`].
     pub fn take_stray<R: Wait>(&self, rt: &R) -> Option<B>
-        ensures { HadBody is_stray (is_some result) }
+        ensures { HadBody N.plan is_stray (is_some result) }
     {
         let mut guard = self.table.lock(rt);
         let table = &mut *guard;
@@ -158,7 +159,7 @@ impl<N: WordsNaming + InboxNaming, B: Drop> Sup<N, B> {
     /// Takes the table out of its lock, as the last turn left it. [`Unlocked::lock`] puts it back.
     pub fn unlock(self) -> Unlocked<N, B>
         ensures inbox { result.inbox ≡ self.inbox }
-        ensures rules { KeepsRules result.table }
+        ensures rules { KeepsRules N.plan result.table }
     {
         let Sup { inbox, table } = self;
         let table = table.into_inner();
@@ -167,14 +168,34 @@ impl<N: WordsNaming + InboxNaming, B: Drop> Sup<N, B> {
     }
 }
 
+/// What shows that the lock of the supervisor with one inbox held a table that takes from another. Only
+/// [`Unlocked::find_displaced`] makes one: so it can't be said of a supervisor that has its own table.
+#[derive(Clone, Copy, Debug, PartialEq, Eq)]
+pub struct Displaced {
+    inbox: usize,
+    takes: usize,
+}
+
+impl Displaced {
+    /// The number of the supervisor's inbox.
+    pub fn inbox(self) -> usize {
+        self.inbox
+    }
+
+    /// The number of the inbox from which the table takes.
+    pub fn takes(self) -> usize {
+        self.takes
+    }
+}
+
 /// A supervisor that is out of its lock: its inbox, and its table as the last turn left it.
 #[derive(Drop)]
-pub struct Unlocked<N: WordsNaming + InboxNaming, B: Drop> {
+pub struct Unlocked<N: WordsNaming + InboxNaming + PlanNaming, B: Drop> {
     inbox: Inbox<N, Item, Letter<B>>,
     table: Table<N, B>,
 }
 
-impl<N: WordsNaming + InboxNaming, B: Drop> Model for Unlocked<N, B> {
+impl<N: WordsNaming + InboxNaming + PlanNaming, B: Drop> Model for Unlocked<N, B> {
     ghost use Rattle.otp_sup.specs.Facts.{UnlockedView};
 
     ghost Value = { UnlockedView };
@@ -196,7 +217,7 @@ pub struct SupParts<N: WordsNaming + InboxNaming, B: Drop> {
     pub ends_told: Vec<ToldEnd>,
 }
 
-impl<N: WordsNaming + InboxNaming, B: Drop> Unlocked<N, B> {
+impl<N: WordsNaming + InboxNaming + PlanNaming, B: Drop> Unlocked<N, B> {
     /// Its inbox.
     pub fn inbox(&self) -> &Inbox<N, Item, Letter<B>>
         ensures { result.now ≡ self.now.inbox }
@@ -204,11 +225,16 @@ impl<N: WordsNaming + InboxNaming, B: Drop> Unlocked<N, B> {
         &self.inbox
     }
 
-    /// Whether the table takes from this inbox. What lies under a lock is known by its type alone, which doesn't say it.
-    pub fn takes_from_inbox(&self) -> bool
-        ensures { IsTrue result ↔ (self.now.table.taker.inbox ≡ self.now.inbox) }
+    /// What shows that the table takes from another inbox than this one, if it does. What lies under a lock is known by its type
+    /// alone, which doesn't say it.
+    pub fn find_displaced(&self) -> Option<Displaced>
+        ensures { result ≡ None ↔ (self.now.table.taker.inbox ≡ self.now.inbox) }
     {
-        self.table.number() == self.inbox.number()
+        let (inbox, takes) = (self.inbox.number(), self.table.number());
+        if takes == inbox {
+            return None;
+        }
+        Some(Displaced { inbox, takes })
     }
 
     /// How many items it took from its inbox. The count stops at 2^62.
@@ -220,7 +246,7 @@ impl<N: WordsNaming + InboxNaming, B: Drop> Unlocked<N, B> {
 
     /// What is so of its table ([`Table::keeps_rules`]).
     pub fn keeps_rules(&self)
-        ensures { KeepsRules self.now.table }
+        ensures { KeepsRules N.plan self.now.table }
     {
         self.table.keeps_rules();
     }
@@ -266,7 +292,7 @@ impl<N: WordsNaming + InboxNaming, B: Drop> Unlocked<N, B> {
 }
 
 /// Makes a checkpoint where a turn answered that the core is full. Such a turn left nothing to be sent.
-fn cut_where_full<N: WordsNaming + InboxNaming, B: Drop>(
+fn cut_where_full<N: WordsNaming + InboxNaming + PlanNaming, B: Drop>(
     table: &mut Table<N, B>,
     said: &Result<TurnAnswer, TurnFault>,
 )
@@ -286,7 +312,7 @@ fn was_sent(flushed: Flushed) -> bool
 }
 
 /// Sends orders until none is left or the port refuses.
-fn flush_all<N: WordsNaming + InboxNaming, B: Drop, P: Port<B>>(
+fn flush_all<N: WordsNaming + InboxNaming + PlanNaming, B: Drop, P: Port<B>>(
     table: &mut Table<N, B>,
     words: &Words<N>,
     inbox: &Inbox<N, Item, Letter<B>>,

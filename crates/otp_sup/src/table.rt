@@ -12,6 +12,7 @@ ghost use Rattle.otp_counts.specs.Counts.{after_publish, fresh_pass};
 ghost use Rattle.otp_bodies.specs.Bodies.{are_ready, bodies_in, bodies_sent, is_left_of, is_stray, settled, without_first, count_opened};
 ghost use Rattle.otp_sup.specs.Cuts.{WasCut};
 ghost use Rattle.otp_sup.specs.Facts.{KeepsRules};
+ghost use Rattle.otp_sup.specs.Plans.{never_opened};
 ghost use Rattle.otp_office.specs.Offices.{slot_to_start};
 ghost use Rattle.otp_office.specs.Orders.{starts_in};
 ghost use Rattle.otp_office.specs.Flushes.{FlushesTo, starts_flushed};
@@ -23,6 +24,7 @@ ghost use Rattle.otp_sup.specs.Turns.{Turned};
 
 use crate::cut::CutAnswer;
 use crate::moves::{come_back, happen, leave};
+use crate::naming::PlanNaming;
 use otp_bodies::{Bodies, Evidence, Flushed, Letter, Port, ToldEnd, keep_end};
 use otp_core::{CutFault, ReplyAnswer};
 use otp_counts::{CountsPass, Publisher};
@@ -37,7 +39,7 @@ use std::sync::Wait;
 /// What lies under a supervisor's lock: its core with seat and orders, the taker of its inbox, the bodies that it keeps,
 /// the right to publish its counts, and the ends of supervisors that it was told.
 #[derive(Drop)]
-pub struct Table<N: WordsNaming + InboxNaming, B: Drop> {
+pub struct Table<N: WordsNaming + InboxNaming + PlanNaming, B: Drop> {
     office: Office<N>,
     taker: Taker<N, Item, Letter<B>>,
     bodies: Bodies<B>,
@@ -46,14 +48,14 @@ pub struct Table<N: WordsNaming + InboxNaming, B: Drop> {
     of: PhantomData<N>,
 }
 
-impl<N: WordsNaming + InboxNaming, B: Drop> Model for Table<N, B> {
+impl<N: WordsNaming + InboxNaming + PlanNaming, B: Drop> Model for Table<N, B> {
     ghost use Rattle.otp_sup.specs.Facts.{TableView, IsTable};
 
     ghost Value = { TableView };
 
     ghost view = { λ t. record { office = t.office; taker = t.taker; bodies = t.bodies.kept; counts = t.counts; ends_told = t.ends.items } };
 
-    ghost invariant = { λ t. IsTable (record { office = t.office; taker = t.taker; bodies = t.bodies.kept; counts = t.counts; ends_told = t.ends.items }) };
+    ghost invariant = { λ t. IsTable N.plan (record { office = t.office; taker = t.taker; bodies = t.bodies.kept; counts = t.counts; ends_told = t.ends.items }) };
 }
 
 /// Publishes what count_children would answer now.
@@ -63,7 +65,7 @@ fn publish<N: WordsNaming>(office: &Office<N>, counts: &mut Publisher)
     counts.publish(office.counts());
 }
 
-impl<N: WordsNaming + InboxNaming, B: Drop> Table<N, B> {
+impl<N: WordsNaming + InboxNaming + PlanNaming, B: Drop> Table<N, B> {
     /// The table of a supervisor that was never opened, with the bodies of its child specifications: one at least for
     /// each child that an opening makes ([`Bodies::are_ready`], [`count_opened`]). Published of it is
     /// what it counts now, and nothing before ([`Office::counts`]).
@@ -74,6 +76,7 @@ impl<N: WordsNaming + InboxNaming, B: Drop> Table<N, B> {
         mut bodies: Bodies<B>,
         counts: Publisher,
     ) -> Self
+        requires plan { office.core.base ≡ never_opened (N.plan taker.inbox) }
         requires history { office.core.history ≡ [] }
         requires taken { taker.taken ≡ [] }
         requires unused { (taker.empty_finds ≡ 0) × (taker.given ≡ no_shares) }
@@ -118,7 +121,7 @@ impl<N: WordsNaming + InboxNaming, B: Drop> Table<N, B> {
     /// A checkpoint ([`Table::cut`]) drops the events so far. All of this is still said of the whole history, with the
     /// events that were dropped: those stand in contracts alone. Only the ends that it was told are those since then.
     pub fn keeps_rules(&self)
-        ensures { KeepsRules self.now }
+        ensures { KeepsRules N.plan self.now }
     {
         let _ = &self.taker;
         self.office.keeps_rules();
@@ -304,7 +307,7 @@ impl<N: WordsNaming + InboxNaming, B: Drop> Table<N, B> {
         ensures { result ≡ next_deadline (state_of self.now.office.core).rows }
     {
         let _ = &self.taker;
-        self.office.next_deadline()
+        self.office.core().next_deadline()
     }
 
     /// Makes a checkpoint: the events so far are stored no longer, nor what they kept: the answers to calls, the ends of

@@ -10,7 +10,8 @@ use otp_rules::{Cause, Item};
 use otp_signals::{OpenWords, Signal, Viewer, Words, WordsNaming};
 use otp_spec::SupSpec;
 use otp_sup::{
-    Bodies, Flushed, Letter, MemoryPort, NewProcess, Port, Table, ToldNote, TurnAnswer, TurnFault,
+    Bodies, Flushed, Letter, MemoryPort, NewProcess, PlanNaming, Port, Table, ToldNote, TurnAnswer,
+    TurnFault,
 };
 use std::alloc::Global;
 use std::process::Abort;
@@ -25,7 +26,7 @@ pub(crate) const OWN: u64 = 6;
 
 // A table, and what a test needs to drive it.
 #[derive(Drop)]
-pub(crate) struct Alone<N: WordsNaming + InboxNaming> {
+pub(crate) struct Alone<N: WordsNaming + InboxNaming + PlanNaming> {
     words: Words<N>,
     viewer: Viewer<N>,
     inbox: Inbox<N, Item, Post>,
@@ -47,7 +48,7 @@ fn hand_in_all(alloc: Global, own: &[u64]) -> Result<Bodies<u64>, Fail> {
 }
 
 // A table of these children, with these bodies for the specifications.
-pub(crate) fn make_table<N: WordsNaming + InboxNaming>(
+pub(crate) fn make_table<N: WordsNaming + InboxNaming + PlanNaming>(
     alloc: Global,
     words: OpenWords,
     inbox: UnnamedInbox<Item, Post>,
@@ -57,6 +58,7 @@ pub(crate) fn make_table<N: WordsNaming + InboxNaming>(
     requires words { words.words ≡ N.words }
     requires slots { words.slots ≡ 256 }
     requires inbox { inbox ≡ N.inbox 0 }
+    requires plan { supervisor ≡ N.plan 0 }
 {
     let bodies = match hand_in_all(alloc, own) {
         Ok(bodies) => bodies,
@@ -100,7 +102,7 @@ pub(crate) fn make_table<N: WordsNaming + InboxNaming>(
     })
 }
 
-impl<N: WordsNaming + InboxNaming> Alone<N> {
+impl<N: WordsNaming + InboxNaming + PlanNaming> Alone<N> {
     fn turn<R: Wait + Abort>(
         &mut self,
         rt: &R,

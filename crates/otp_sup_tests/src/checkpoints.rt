@@ -2,15 +2,15 @@
 ghost use Rattle.std.specs.Prelude.{◌≡◌};
 
 use crate::alone::OWN;
-use crate::driven::{Driven, make_childless};
-use crate::fixtures::{of_one_child, open_parts};
+use crate::driven::{Driven, childless, make_childless};
+use crate::fixtures::{of_one_child, open_for};
 use crate::script::{Known, Step, plays};
 use otp_inbox::{InboxNaming, UnnamedInbox};
 use otp_reason::{Note, Reason};
 use otp_rules::Item;
 use otp_signals::{OpenWords, Signal, WordsNaming};
-use otp_spec::MAX_EVENTS;
-use otp_sup::{CutAnswer, Letter, TurnAnswer};
+use otp_spec::{MAX_EVENTS, SupSpec};
+use otp_sup::{CutAnswer, Letter, PlanNaming, TurnAnswer};
 use std::alloc::Global;
 use std::marker::Brand;
 use std::process::Abort;
@@ -74,22 +74,24 @@ fn call_waits_over_a_checkpoint(rt: HostRuntime) -> Result<(), Fail> {
 
 #[test]
 fn full_history_stops_nobody(rt: HostRuntime) -> Result<(), Fail> {
-    let (words, inbox) = open_parts(rt.alloc())?;
-    full_in::<Brand, _>(&rt, rt.alloc(), words, inbox)
+    let (words, inbox, supervisor) = open_for(rt.alloc(), childless(rt.alloc())?)?;
+    full_in::<Brand, _>(&rt, rt.alloc(), words, inbox, supervisor)
 }
 
 // A supervisor without children fills its history; it goes on, and can be stopped.
-fn full_in<N: WordsNaming + InboxNaming, R: Wait + Abort>(
+fn full_in<N: WordsNaming + InboxNaming + PlanNaming, R: Wait + Abort>(
     rt: &R,
     alloc: Global,
     words: OpenWords,
     inbox: UnnamedInbox<Item, Letter<u64>>,
+    supervisor: SupSpec,
 ) -> Result<(), Fail>
     requires words { words.words ≡ N.words }
     requires slots { words.slots ≡ 256 }
     requires inbox { inbox ≡ N.inbox 0 }
+    requires plan { supervisor ≡ N.plan 0 }
 {
-    let mut one = make_childless::<N>(alloc, words, inbox, 1)?;
+    let mut one = make_childless::<N>(alloc, words, inbox, supervisor, 1)?;
     fills(rt, &mut one);
     goes_on(rt, &mut one);
     is_stopped(rt, &mut one);
@@ -98,7 +100,10 @@ fn full_in<N: WordsNaming + InboxNaming, R: Wait + Abort>(
 }
 
 // It opens, and takes notes of no child until it stores as many events as there may be.
-fn fills<N: WordsNaming + InboxNaming, R: Wait + Abort>(rt: &R, one: &mut Driven<N, u64>) {
+fn fills<N: WordsNaming + InboxNaming + PlanNaming, R: Wait + Abort>(
+    rt: &R,
+    one: &mut Driven<N, u64>,
+) {
     one.opens(rt);
     for _ in 1..MAX_EVENTS {
         one.up(rt, 7);
@@ -107,13 +112,19 @@ fn fills<N: WordsNaming + InboxNaming, R: Wait + Abort>(rt: &R, one: &mut Driven
 }
 
 // One turn makes the checkpoint, and the next finds the inbox empty.
-fn goes_on<N: WordsNaming + InboxNaming, R: Wait + Abort>(rt: &R, one: &mut Driven<N, u64>) {
+fn goes_on<N: WordsNaming + InboxNaming + PlanNaming, R: Wait + Abort>(
+    rt: &R,
+    one: &mut Driven<N, u64>,
+) {
     one.turns(rt, 0, 0, Signal::None, Ok(TurnAnswer::Full));
     one.turns(rt, 0, 0, Signal::None, Ok(TurnAnswer::Quiet));
 }
 
 // A stop passes.
-fn is_stopped<N: WordsNaming + InboxNaming, R: Wait + Abort>(rt: &R, one: &mut Driven<N, u64>) {
+fn is_stopped<N: WordsNaming + InboxNaming + PlanNaming, R: Wait + Abort>(
+    rt: &R,
+    one: &mut Driven<N, u64>,
+) {
     one.turns(rt, 0, 0, Signal::Shutdown, Ok(TurnAnswer::Stopped));
     one.turns(rt, 0, 0, Signal::None, Ok(TurnAnswer::Ended));
 }

@@ -1,13 +1,16 @@
 // Calls that two clients send from threads of their own, while a third thread takes turns of the supervisor.
 ghost use Rattle.std.specs.Prelude.{◌≡◌};
 
-use crate::driven::{Driven, make_childless};
-use crate::fixtures::open_parts;
+use crate::driven::{Driven, childless, make_childless};
+use crate::fixtures::open_for;
 use otp_core::{History, ReplyAnswer};
 use otp_inbox::{InboxNaming, Sender, UnnamedInbox};
 use otp_rules::{Call, CountsNow, Item, Kind, Reply};
 use otp_signals::{OpenWords, Signal, Words, WordsNaming};
-use otp_sup::{Client, Letter, MemoryPort, SplitFault, SubmitCause, Sup, TurnAnswer, TurnFault};
+use otp_spec::SupSpec;
+use otp_sup::{
+    Client, Letter, MemoryPort, PlanNaming, SplitFault, SubmitCause, Sup, TurnAnswer, TurnFault,
+};
 use std::alloc::Global;
 use std::marker::Brand;
 use std::process::Abort;
@@ -23,19 +26,24 @@ type Post = Letter<u64>;
 
 #[test]
 fn two_clients_and_a_hand(rt: HostRuntime) -> Result<(), Fail> {
-    let (words, inbox) = open_parts(rt.alloc())?;
-    clients_in::<Brand, _>(&rt, rt.alloc(), words, inbox)
+    let (words, inbox, supervisor) = open_for(rt.alloc(), childless(rt.alloc())?)?;
+    clients_in::<Brand, _>(&rt, rt.alloc(), words, inbox, supervisor)
 }
 
-fn clients_in<N: WordsNaming + InboxNaming + Send + Sync, R: Threads + Wait + Abort + Sync>(
+fn clients_in<
+    N: WordsNaming + InboxNaming + PlanNaming + Send + Sync,
+    R: Threads + Wait + Abort + Sync,
+>(
     rt: &R,
     alloc: Global,
     words: OpenWords,
     inbox: UnnamedInbox<Item, Post>,
+    supervisor: SupSpec,
 ) -> Result<(), Fail>
     requires words { words.words ≡ N.words }
     requires slots { words.slots ≡ 256 }
     requires inbox { inbox ≡ N.inbox 0 }
+    requires plan { supervisor ≡ N.plan 0 }
 {
     let Driven {
         words,
@@ -44,7 +52,7 @@ fn clients_in<N: WordsNaming + InboxNaming + Send + Sync, R: Threads + Wait + Ab
         sender,
         client,
         port,
-    } = make_childless::<N>(alloc, words, inbox, 2 * CALLS)?;
+    } = make_childless::<N>(alloc, words, inbox, supervisor, 2 * CALLS)?;
     drop(viewer);
     let sent = send_from_threads(rt, alloc, &words, &sup, client, sender, port);
     drop(words);
@@ -58,7 +66,10 @@ fn clients_in<N: WordsNaming + InboxNaming + Send + Sync, R: Threads + Wait + Ab
 }
 
 // It opens, and then two clients send while it is served: the numbers of the calls of each.
-fn send_from_threads<N: WordsNaming + InboxNaming + Send + Sync, R: Threads + Wait + Abort + Sync>(
+fn send_from_threads<
+    N: WordsNaming + InboxNaming + PlanNaming + Send + Sync,
+    R: Threads + Wait + Abort + Sync,
+>(
     rt: &R,
     alloc: Global,
     words: &Words<N>,
@@ -93,7 +104,7 @@ fn send_from_threads<N: WordsNaming + InboxNaming + Send + Sync, R: Threads + Wa
 }
 
 // Each of these calls was answered, and the history has each once, and no other event but the opening.
-fn are_taken<N: WordsNaming + InboxNaming, R: Wait + Abort>(
+fn are_taken<N: WordsNaming + InboxNaming + PlanNaming, R: Wait + Abort>(
     rt: &R,
     alloc: Global,
     sup: Sup<N, u64>,
@@ -157,7 +168,7 @@ fn are_once(taken: &[u64], calls: &[u64]) -> bool {
 }
 
 // Another client with half of the numbers; the first can't have more than it has, and sends no body that no call wants.
-fn split<N: WordsNaming + InboxNaming, R: Wait + Abort>(
+fn split<N: WordsNaming + InboxNaming + PlanNaming, R: Wait + Abort>(
     rt: &R,
     first: &mut Client<N, u64>,
     words: &Words<N>,
@@ -174,7 +185,7 @@ fn split<N: WordsNaming + InboxNaming, R: Wait + Abort>(
 }
 
 // Sends its calls, and answers their numbers. One more is refused, as no number is left.
-fn send_all<N: WordsNaming + InboxNaming, R: Wait + Abort>(
+fn send_all<N: WordsNaming + InboxNaming + PlanNaming, R: Wait + Abort>(
     rt: &R,
     alloc: Global,
     sup: &Sup<N, u64>,
@@ -186,7 +197,7 @@ fn send_all<N: WordsNaming + InboxNaming, R: Wait + Abort>(
     sent
 }
 
-fn send_each<N: WordsNaming + InboxNaming, R: Wait + Abort>(
+fn send_each<N: WordsNaming + InboxNaming + PlanNaming, R: Wait + Abort>(
     rt: &R,
     alloc: Global,
     sup: &Sup<N, u64>,
@@ -205,7 +216,7 @@ fn send_each<N: WordsNaming + InboxNaming, R: Wait + Abort>(
     Ok(numbers)
 }
 
-fn send_one<N: WordsNaming + InboxNaming, R: Wait + Abort>(
+fn send_one<N: WordsNaming + InboxNaming + PlanNaming, R: Wait + Abort>(
     rt: &R,
     sup: &Sup<N, u64>,
     words: &Words<N>,
@@ -217,7 +228,7 @@ fn send_one<N: WordsNaming + InboxNaming, R: Wait + Abort>(
 }
 
 // A turn, with which this sender is credited.
-fn turn<N: WordsNaming + InboxNaming, R: Wait + Abort>(
+fn turn<N: WordsNaming + InboxNaming + PlanNaming, R: Wait + Abort>(
     rt: &R,
     sup: &Sup<N, u64>,
     words: &Words<N>,
@@ -230,7 +241,7 @@ fn turn<N: WordsNaming + InboxNaming, R: Wait + Abort>(
 }
 
 // Takes turns until all calls were taken: no other item comes.
-fn serve<N: WordsNaming + InboxNaming, R: Wait + Abort>(
+fn serve<N: WordsNaming + InboxNaming + PlanNaming, R: Wait + Abort>(
     rt: &R,
     sup: &Sup<N, u64>,
     words: &Words<N>,
@@ -252,7 +263,7 @@ fn serve<N: WordsNaming + InboxNaming, R: Wait + Abort>(
     port
 }
 
-fn both_answered<N: WordsNaming + InboxNaming, R: Wait + Abort>(
+fn both_answered<N: WordsNaming + InboxNaming + PlanNaming, R: Wait + Abort>(
     rt: &R,
     sup: &Sup<N, u64>,
     first: &[u64],
@@ -263,7 +274,7 @@ fn both_answered<N: WordsNaming + InboxNaming, R: Wait + Abort>(
 }
 
 // Each call was taken once, and answered.
-fn answered<N: WordsNaming + InboxNaming, R: Wait + Abort>(
+fn answered<N: WordsNaming + InboxNaming + PlanNaming, R: Wait + Abort>(
     rt: &R,
     sup: &Sup<N, u64>,
     numbers: &[u64],

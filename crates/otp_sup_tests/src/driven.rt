@@ -10,8 +10,8 @@ use otp_rules::{Call, Cause, Item};
 use otp_signals::{OpenWords, Signal, Viewer, Words, WordsNaming};
 use otp_spec::{SupFlags, SupSpec};
 use otp_sup::{
-    Bodies, Client, Letter, MemoryPort, NewProcess, SubmitCause, Sup, ToldNote, TurnAnswer,
-    TurnFault,
+    Bodies, Client, Letter, MemoryPort, NewProcess, PlanNaming, SubmitCause, Sup, ToldNote,
+    TurnAnswer, TurnFault,
 };
 use std::alloc::Global;
 use std::process::Abort;
@@ -40,7 +40,7 @@ pub(crate) type Post = Letter<Body>;
 
 // A supervisor, and what a test needs to drive it.
 #[derive(Drop)]
-pub(crate) struct Driven<N: WordsNaming + InboxNaming, B: Drop> {
+pub(crate) struct Driven<N: WordsNaming + InboxNaming + PlanNaming, B: Drop> {
     pub(crate) words: Words<N>,
     pub(crate) viewer: Viewer<N>,
     pub(crate) sup: Sup<N, B>,
@@ -60,7 +60,7 @@ pub(crate) fn of_one_body<B: Drop>(alloc: Global, body: B) -> Result<Bodies<B>, 
 }
 
 // A supervisor of these children, with these bodies for the specifications. Its client may send so many calls.
-pub(crate) fn make_driven<N: WordsNaming + InboxNaming, B: Drop>(
+pub(crate) fn make_driven<N: WordsNaming + InboxNaming + PlanNaming, B: Drop>(
     alloc: Global,
     words: OpenWords,
     inbox: UnnamedInbox<Item, Letter<B>>,
@@ -71,6 +71,7 @@ pub(crate) fn make_driven<N: WordsNaming + InboxNaming, B: Drop>(
     requires words { words.words ≡ N.words }
     requires slots { words.slots ≡ 256 }
     requires inbox { inbox ≡ N.inbox 0 }
+    requires plan { supervisor ≡ N.plan 0 }
 {
     let (words, mut owner) = words.named::<N>();
     let Ok(seat) = words.split(&mut owner, 0..256, 1000) else {
@@ -117,26 +118,28 @@ pub(crate) fn make_driven<N: WordsNaming + InboxNaming, B: Drop>(
     })
 }
 
-// A supervisor without children. Its client may send so many calls.
-pub(crate) fn make_childless<N: WordsNaming + InboxNaming>(
+// A supervisor without children, with the default flags.
+pub(crate) fn childless(alloc: Global) -> Result<SupSpec, Fail> {
+    Ok(SupSpec::check(SupFlags::default(), Vec::new(alloc))?)
+}
+
+// This supervisor without children. Its client may send so many calls.
+pub(crate) fn make_childless<N: WordsNaming + InboxNaming + PlanNaming>(
     alloc: Global,
     words: OpenWords,
     inbox: UnnamedInbox<Item, Letter<u64>>,
+    supervisor: SupSpec,
     calls: u64,
 ) -> Result<Driven<N, u64>, Fail>
     requires words { words.words ≡ N.words }
     requires slots { words.slots ≡ 256 }
     requires inbox { inbox ≡ N.inbox 0 }
+    requires plan { supervisor ≡ N.plan 0 }
 {
-    let Ok(supervisor) = SupSpec::check(SupFlags::default(), Vec::new(alloc)) else {
-        drop(words);
-        drop(inbox);
-        return Err("flags were refused".into());
-    };
     make_driven(alloc, words, inbox, supervisor, Bodies::new(alloc), calls)
 }
 
-impl<N: WordsNaming + InboxNaming, B: Drop> Driven<N, B> {
+impl<N: WordsNaming + InboxNaming + PlanNaming, B: Drop> Driven<N, B> {
     // A turn. Under `rt try --test --fail-alloc N` memory is refused once: nothing has happened then, and the same turn
     // with memory does what it would have done.
     fn turn<R: Wait + Abort>(
@@ -289,7 +292,7 @@ impl<N: WordsNaming + InboxNaming, B: Drop> Driven<N, B> {
 }
 
 // The number, the slot and the body's tag of the process that was put; the port has it no more.
-pub(crate) fn launched<N: WordsNaming + InboxNaming, R: Wait + Abort>(
+pub(crate) fn launched<N: WordsNaming + InboxNaming + PlanNaming, R: Wait + Abort>(
     rt: &R,
     one: &mut Driven<N, Body>,
     number: u64,
@@ -309,7 +312,7 @@ fn seen_of(process: &NewProcess<Body>) -> Option<(u64, usize, u64)> {
 }
 
 // The process that was put has this number, this slot and this body.
-pub(crate) fn puts<N: WordsNaming + InboxNaming, R: Wait + Abort>(
+pub(crate) fn puts<N: WordsNaming + InboxNaming + PlanNaming, R: Wait + Abort>(
     rt: &R,
     one: &mut Driven<N, Body>,
     number: u64,
@@ -319,7 +322,7 @@ pub(crate) fn puts<N: WordsNaming + InboxNaming, R: Wait + Abort>(
 }
 
 // The note that the parent was told; the port has it no more.
-fn told<N: WordsNaming + InboxNaming, R: Wait + Abort>(
+fn told<N: WordsNaming + InboxNaming + PlanNaming, R: Wait + Abort>(
     rt: &R,
     one: &mut Driven<N, Body>,
 ) -> Option<Note> {
@@ -333,7 +336,7 @@ fn told<N: WordsNaming + InboxNaming, R: Wait + Abort>(
 }
 
 // The parent was told this note.
-pub(crate) fn tells<N: WordsNaming + InboxNaming, R: Wait + Abort>(
+pub(crate) fn tells<N: WordsNaming + InboxNaming + PlanNaming, R: Wait + Abort>(
     rt: &R,
     one: &mut Driven<N, Body>,
     note: Note,

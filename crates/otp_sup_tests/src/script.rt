@@ -5,14 +5,14 @@ ghost use Rattle.std.specs.Prelude.{◌≡◌, true};
 ghost use Rattle.otp_rules.specs.Homes.{is_start_call};
 
 use crate::alone::{Alone, Post, make_table};
-use crate::fixtures::{child, crash, open_parts, second};
+use crate::fixtures::{child, crash, open_for, second};
 use otp_core::ReplyAnswer;
 use otp_inbox::{InboxNaming, UnnamedInbox};
 use otp_reason::{Note, Reason};
 use otp_rules::{Call, CallFault, Item, Reply};
 use otp_signals::{OpenWords, Signal, WordsNaming};
 use otp_spec::{MAX_READING, SupSpec};
-use otp_sup::{CutAnswer, Letter, TurnAnswer, TurnFault};
+use otp_sup::{CutAnswer, Letter, PlanNaming, TurnAnswer, TurnFault};
 use std::alloc::Global;
 use std::marker::Brand;
 use std::process::Abort;
@@ -93,7 +93,7 @@ fn known_of(reply: ReplyAnswer<&Reply>) -> Known {
 }
 
 // A letter comes and is taken, and as many orders follow.
-fn takes<N: WordsNaming + InboxNaming, R: Wait + Abort>(
+fn takes<N: WordsNaming + InboxNaming + PlanNaming, R: Wait + Abort>(
     rt: &R,
     one: &mut Alone<N>,
     letter: Post,
@@ -104,13 +104,17 @@ fn takes<N: WordsNaming + InboxNaming, R: Wait + Abort>(
     one.sends(rt, orders);
 }
 
-fn opens<N: WordsNaming + InboxNaming, R: Wait + Abort>(rt: &R, one: &mut Alone<N>, orders: u64) {
+fn opens<N: WordsNaming + InboxNaming + PlanNaming, R: Wait + Abort>(
+    rt: &R,
+    one: &mut Alone<N>,
+    orders: u64,
+) {
     one.opens(rt);
     one.sends(rt, orders);
 }
 
 // A call with a body comes and is taken, and as many orders follow.
-fn starts<N: WordsNaming + InboxNaming, R: Wait + Abort>(
+fn starts<N: WordsNaming + InboxNaming + PlanNaming, R: Wait + Abort>(
     rt: &R,
     alloc: Global,
     one: &mut Alone<N>,
@@ -128,7 +132,7 @@ fn starts<N: WordsNaming + InboxNaming, R: Wait + Abort>(
     Ok(())
 }
 
-fn counts<N: WordsNaming + InboxNaming, R: Wait + Abort>(
+fn counts<N: WordsNaming + InboxNaming + PlanNaming, R: Wait + Abort>(
     rt: &R,
     alloc: Global,
     one: &mut Alone<N>,
@@ -141,15 +145,24 @@ fn counts<N: WordsNaming + InboxNaming, R: Wait + Abort>(
     Ok(())
 }
 
-fn knows<N: WordsNaming + InboxNaming, R: Abort>(rt: &R, one: &Alone<N>, call: u64, what: Known) {
+fn knows<N: WordsNaming + InboxNaming + PlanNaming, R: Abort>(
+    rt: &R,
+    one: &Alone<N>,
+    call: u64,
+    what: Known,
+) {
     assert_eq!(rt; known_of(one.table.reply(call)), what);
 }
 
-fn cuts<N: WordsNaming + InboxNaming, R: Abort>(rt: &R, one: &mut Alone<N>, answer: CutAnswer) {
+fn cuts<N: WordsNaming + InboxNaming + PlanNaming, R: Abort>(
+    rt: &R,
+    one: &mut Alone<N>,
+    answer: CutAnswer,
+) {
     assert_eq!(rt; one.table.cut(), Ok(answer));
 }
 
-fn gives_back<N: WordsNaming + InboxNaming, R: Abort>(
+fn gives_back<N: WordsNaming + InboxNaming + PlanNaming, R: Abort>(
     rt: &R,
     one: &mut Alone<N>,
     call: u64,
@@ -158,20 +171,20 @@ fn gives_back<N: WordsNaming + InboxNaming, R: Abort>(
     assert_eq!(rt; one.table.take_box(call), body);
 }
 
-fn has_no_stray<N: WordsNaming + InboxNaming, R: Abort>(rt: &R, one: &mut Alone<N>) {
+fn has_no_stray<N: WordsNaming + InboxNaming + PlanNaming, R: Abort>(rt: &R, one: &mut Alone<N>) {
     assert_eq!(rt; one.table.take_stray(), None);
 }
 
-fn tells_asked<N: WordsNaming + InboxNaming, R: Abort>(rt: &R, one: &Alone<N>) {
+fn tells_asked<N: WordsNaming + InboxNaming + PlanNaming, R: Abort>(rt: &R, one: &Alone<N>) {
     assert!(rt; one.has_told_asked());
 }
 
-fn has_empty_port<N: WordsNaming + InboxNaming, R: Abort>(rt: &R, one: &Alone<N>) {
+fn has_empty_port<N: WordsNaming + InboxNaming + PlanNaming, R: Abort>(rt: &R, one: &Alone<N>) {
     assert!(rt; one.has_empty_port());
 }
 
 // One step.
-fn does<N: WordsNaming + InboxNaming, R: Wait + Abort>(
+fn does<N: WordsNaming + InboxNaming + PlanNaming, R: Wait + Abort>(
     rt: &R,
     alloc: Global,
     one: &mut Alone<N>,
@@ -197,7 +210,11 @@ fn does<N: WordsNaming + InboxNaming, R: Wait + Abort>(
 }
 
 // What is done to it without memory.
-fn moves<N: WordsNaming + InboxNaming, R: Wait + Abort>(rt: &R, one: &mut Alone<N>, step: Step) {
+fn moves<N: WordsNaming + InboxNaming + PlanNaming, R: Wait + Abort>(
+    rt: &R,
+    one: &mut Alone<N>,
+    step: Step,
+) {
     match step {
         Step::Turn(number, reading, told, answer) => {
             one.turns(rt, number, reading.min(MAX_READING), told, answer)
@@ -234,7 +251,11 @@ fn moves<N: WordsNaming + InboxNaming, R: Wait + Abort>(rt: &R, one: &mut Alone<
 }
 
 // What is seen of it.
-fn sees<N: WordsNaming + InboxNaming, R: Wait + Abort>(rt: &R, one: &mut Alone<N>, step: Step) {
+fn sees<N: WordsNaming + InboxNaming + PlanNaming, R: Wait + Abort>(
+    rt: &R,
+    one: &mut Alone<N>,
+    step: Step,
+) {
     match step {
         Step::Knows(call, what) => knows(rt, one, call, what),
         Step::Puts(number, slot, body) => one.puts(rt, (number, slot, body)),
@@ -249,7 +270,7 @@ fn sees<N: WordsNaming + InboxNaming, R: Wait + Abort>(rt: &R, one: &mut Alone<N
 }
 
 // All steps, one after the other.
-fn play<N: WordsNaming + InboxNaming, R: Wait + Abort>(
+fn play<N: WordsNaming + InboxNaming + PlanNaming, R: Wait + Abort>(
     rt: &R,
     alloc: Global,
     one: &mut Alone<N>,
@@ -262,7 +283,11 @@ fn play<N: WordsNaming + InboxNaming, R: Wait + Abort>(
 }
 
 // As many events are stored at the end.
-fn stores<N: WordsNaming + InboxNaming, R: Abort>(rt: &R, one: Alone<N>, events: usize) {
+fn stores<N: WordsNaming + InboxNaming + PlanNaming, R: Abort>(
+    rt: &R,
+    one: Alone<N>,
+    events: usize,
+) {
     let (office, taker, ends) = one.into_table().into_parts();
     drop(taker);
     drop(ends);
@@ -272,7 +297,7 @@ fn stores<N: WordsNaming + InboxNaming, R: Abort>(rt: &R, one: Alone<N>, events:
     drop(core);
 }
 
-fn play_in<N: WordsNaming + InboxNaming, R: Wait + Abort>(
+fn play_in<N: WordsNaming + InboxNaming + PlanNaming, R: Wait + Abort>(
     rt: &R,
     alloc: Global,
     words: OpenWords,
@@ -285,6 +310,7 @@ fn play_in<N: WordsNaming + InboxNaming, R: Wait + Abort>(
     requires words { words.words ≡ N.words }
     requires slots { words.slots ≡ 256 }
     requires inbox { inbox ≡ N.inbox 0 }
+    requires plan { supervisor ≡ N.plan 0 }
 {
     let mut one = make_table::<N>(alloc, words, inbox, supervisor, own)?;
     let played = play(rt, alloc, &mut one, steps);
@@ -301,12 +327,6 @@ pub(crate) fn plays<R: Wait + Abort>(
     steps: &[Step],
     events: usize,
 ) -> Result<(), Fail> {
-    let (words, inbox) = match open_parts(alloc) {
-        Ok(parts) => parts,
-        Err(fail) => {
-            drop(supervisor);
-            return Err(fail);
-        }
-    };
+    let (words, inbox, supervisor) = open_for(alloc, supervisor)?;
     play_in::<Brand, _>(rt, alloc, words, inbox, supervisor, own, steps, events)
 }

@@ -4,13 +4,14 @@ ghost use Rattle.std.specs.Prelude.{◌≡◌};
 use crate::driven::{
     Body, Driven, Job, Post, Tagged, launched, make_driven, of_one_body, puts, tells,
 };
-use crate::fixtures::{child, crash, of_one_child, second};
+use crate::fixtures::{child, crash, of_one_child, open_for, second};
 use otp_core::ReplyAnswer;
 use otp_inbox::{InboxNaming, UnnamedInbox};
 use otp_reason::{Note, Reason};
 use otp_rules::{Call, CallFault, Item, Reply};
 use otp_signals::{OpenWords, Signal, WordsNaming};
-use otp_sup::{Letter, TurnAnswer, TurnFault};
+use otp_spec::SupSpec;
+use otp_sup::{Letter, PlanNaming, TurnAnswer, TurnFault};
 use std::alloc::Global;
 use std::marker::Brand;
 use std::process::Abort;
@@ -18,25 +19,18 @@ use std::sync::Wait;
 use std::test::*;
 
 // A supervisor of the child `a`, with this body for it.
-fn make_one<N: WordsNaming + InboxNaming>(
+fn make_one<N: WordsNaming + InboxNaming + PlanNaming>(
     alloc: Global,
     words: OpenWords,
     inbox: UnnamedInbox<Item, Post>,
+    supervisor: SupSpec,
     body: Body,
 ) -> Result<Driven<N, Body>, Fail>
     requires words { words.words ≡ N.words }
     requires slots { words.slots ≡ 256 }
     requires inbox { inbox ≡ N.inbox 0 }
+    requires plan { supervisor ≡ N.plan 0 }
 {
-    let supervisor = match of_one_child(alloc) {
-        Ok(supervisor) => supervisor,
-        Err(fail) => {
-            drop(words);
-            drop(inbox);
-            drop(body);
-            return Err(fail);
-        }
-    };
     let bodies = match of_one_body(alloc, body) {
         Ok(bodies) => bodies,
         Err(fail) => {
@@ -51,14 +45,13 @@ fn make_one<N: WordsNaming + InboxNaming>(
 
 #[test]
 fn one_child(rt: HostRuntime) -> Result<(), Fail> {
-    let words = OpenWords::open(rt.alloc(), 256)?;
-    let inbox = UnnamedInbox::<Item, Post>::open(rt.alloc())?;
+    let (words, inbox, supervisor) = open_for(rt.alloc(), of_one_child(rt.alloc())?)?;
     let bodies: (Body, Body, Body) = (
         Box::new(rt.alloc(), Tagged { tag: 6 })?,
         Box::new(rt.alloc(), Tagged { tag: 7 })?,
         Box::new(rt.alloc(), Tagged { tag: 8 })?,
     );
-    one_child_in::<Brand, _>(&rt, rt.alloc(), words, inbox, bodies)
+    one_child_in::<Brand, _>(&rt, rt.alloc(), words, inbox, supervisor, bodies)
 }
 
 fn is_send<T: Send>(_: &T) {}
@@ -66,7 +59,7 @@ fn is_send<T: Send>(_: &T) {}
 fn is_sync<T: Sync>(_: &T) {}
 
 // What threads share or carry can be shared and carried, with boxed jobs too.
-fn crosses_threads<N: WordsNaming + InboxNaming + Send + Sync>(one: &Driven<N, Body>) {
+fn crosses_threads<N: WordsNaming + InboxNaming + PlanNaming + Send + Sync>(one: &Driven<N, Body>) {
     is_sync(&one.words);
     is_send(&one.words);
     is_send(&one.viewer);
@@ -77,19 +70,21 @@ fn crosses_threads<N: WordsNaming + InboxNaming + Send + Sync>(one: &Driven<N, B
 }
 
 // Opened, restarted, stopped, killed and ended, line by line.
-fn one_child_in<N: WordsNaming + InboxNaming + Send + Sync, R: Wait + Abort>(
+fn one_child_in<N: WordsNaming + InboxNaming + PlanNaming + Send + Sync, R: Wait + Abort>(
     rt: &R,
     alloc: Global,
     words: OpenWords,
     inbox: UnnamedInbox<Item, Post>,
+    supervisor: SupSpec,
     bodies: (Body, Body, Body),
 ) -> Result<(), Fail>
     requires words { words.words ≡ N.words }
     requires slots { words.slots ≡ 256 }
     requires inbox { inbox ≡ N.inbox 0 }
+    requires plan { supervisor ≡ N.plan 0 }
 {
     let (own, second, third) = bodies;
-    let mut one = make_one::<N>(alloc, words, inbox, own)?;
+    let mut one = make_one::<N>(alloc, words, inbox, supervisor, own)?;
     crosses_threads(&one);
     opens_under_its_number(rt, &mut one);
     crashes_once(rt, &mut one, second);
@@ -100,7 +95,7 @@ fn one_child_in<N: WordsNaming + InboxNaming + Send + Sync, R: Wait + Abort>(
 }
 
 // It opens under its number, and its child starts; a turn under another number is refused.
-fn opens_under_its_number<N: WordsNaming + InboxNaming, R: Wait + Abort>(
+fn opens_under_its_number<N: WordsNaming + InboxNaming + PlanNaming, R: Wait + Abort>(
     rt: &R,
     one: &mut Driven<N, Body>,
 ) {
@@ -114,7 +109,7 @@ fn opens_under_its_number<N: WordsNaming + InboxNaming, R: Wait + Abort>(
 }
 
 // Its child crashes, and is restarted with the body that came home.
-fn crashes_once<N: WordsNaming + InboxNaming, R: Wait + Abort>(
+fn crashes_once<N: WordsNaming + InboxNaming + PlanNaming, R: Wait + Abort>(
     rt: &R,
     one: &mut Driven<N, Body>,
     body: Body,
@@ -127,7 +122,7 @@ fn crashes_once<N: WordsNaming + InboxNaming, R: Wait + Abort>(
 }
 
 // It is asked to stop, asks its child, kills it at the deadline, and ends.
-fn is_stopped<N: WordsNaming + InboxNaming, R: Wait + Abort>(
+fn is_stopped<N: WordsNaming + InboxNaming + PlanNaming, R: Wait + Abort>(
     rt: &R,
     one: &mut Driven<N, Body>,
     body: Body,
@@ -140,7 +135,10 @@ fn is_stopped<N: WordsNaming + InboxNaming, R: Wait + Abort>(
 }
 
 // Its child sees what it posts: a shutdown, and the kill at the deadline.
-fn is_asked<N: WordsNaming + InboxNaming, R: Wait + Abort>(rt: &R, one: &mut Driven<N, Body>) {
+fn is_asked<N: WordsNaming + InboxNaming + PlanNaming, R: Wait + Abort>(
+    rt: &R,
+    one: &mut Driven<N, Body>,
+) {
     one.shows(rt, 2, Signal::None);
     one.turns(rt, 0, 1000, Signal::Shutdown, Ok(TurnAnswer::Stopped));
     one.shows(rt, 2, Signal::Shutdown);
@@ -149,7 +147,10 @@ fn is_asked<N: WordsNaming + InboxNaming, R: Wait + Abort>(rt: &R, one: &mut Dri
 }
 
 // Under a greater number it opens again, with the body that came home.
-fn opens_again<N: WordsNaming + InboxNaming, R: Wait + Abort>(rt: &R, one: &mut Driven<N, Body>) {
+fn opens_again<N: WordsNaming + InboxNaming + PlanNaming, R: Wait + Abort>(
+    rt: &R,
+    one: &mut Driven<N, Body>,
+) {
     one.turns(rt, 9, 6000, Signal::None, Ok(TurnAnswer::Opened));
     puts(rt, one, 9, (3, 0, 8));
     one.turns(rt, 0, 6000, Signal::None, Ok(TurnAnswer::Ended));
@@ -158,36 +159,37 @@ fn opens_again<N: WordsNaming + InboxNaming, R: Wait + Abort>(rt: &R, one: &mut 
 
 #[test]
 fn bodies_come_back(rt: HostRuntime) -> Result<(), Fail> {
-    let words = OpenWords::open(rt.alloc(), 256)?;
-    let inbox = UnnamedInbox::<Item, Post>::open(rt.alloc())?;
+    let (words, inbox, supervisor) = open_for(rt.alloc(), of_one_child(rt.alloc())?)?;
     let bodies: (Body, Body, Body) = (
         Box::new(rt.alloc(), Tagged { tag: 6 })?,
         Box::new(rt.alloc(), Tagged { tag: 7 })?,
         Box::new(rt.alloc(), Tagged { tag: 8 })?,
     );
-    bodies_in::<Brand, _>(&rt, rt.alloc(), words, inbox, bodies)
+    bodies_in::<Brand, _>(&rt, rt.alloc(), words, inbox, supervisor, bodies)
 }
 
 // The body of a call that was refused, and one that came with a note of no process, can be had once.
-fn bodies_in<N: WordsNaming + InboxNaming, R: Wait + Abort>(
+fn bodies_in<N: WordsNaming + InboxNaming + PlanNaming, R: Wait + Abort>(
     rt: &R,
     alloc: Global,
     words: OpenWords,
     inbox: UnnamedInbox<Item, Post>,
+    supervisor: SupSpec,
     bodies: (Body, Body, Body),
 ) -> Result<(), Fail>
     requires words { words.words ≡ N.words }
     requires slots { words.slots ≡ 256 }
     requires inbox { inbox ≡ N.inbox 0 }
+    requires plan { supervisor ≡ N.plan 0 }
 {
     let (own, second, third) = bodies;
-    let mut one = make_one::<N>(alloc, words, inbox, own)?;
+    let mut one = make_one::<N>(alloc, words, inbox, supervisor, own)?;
     let shown = has_bodies(rt, alloc, &mut one, second, third);
     drop(one);
     shown
 }
 
-fn has_bodies<N: WordsNaming + InboxNaming, R: Wait + Abort>(
+fn has_bodies<N: WordsNaming + InboxNaming + PlanNaming, R: Wait + Abort>(
     rt: &R,
     alloc: Global,
     one: &mut Driven<N, Body>,
@@ -204,14 +206,17 @@ fn has_bodies<N: WordsNaming + InboxNaming, R: Wait + Abort>(
 }
 
 // It opens, and its child runs.
-fn runs<N: WordsNaming + InboxNaming, R: Wait + Abort>(rt: &R, one: &mut Driven<N, Body>) {
+fn runs<N: WordsNaming + InboxNaming + PlanNaming, R: Wait + Abort>(
+    rt: &R,
+    one: &mut Driven<N, Body>,
+) {
     one.opens(rt);
     one.up(rt, 1);
     one.takes(rt, 0);
 }
 
 // A start_child of an id that runs is refused, and its body can be had once, under the call's number.
-fn refuses_a_start<N: WordsNaming + InboxNaming, R: Wait + Abort>(
+fn refuses_a_start<N: WordsNaming + InboxNaming + PlanNaming, R: Wait + Abort>(
     rt: &R,
     alloc: Global,
     one: &mut Driven<N, Body>,
@@ -236,7 +241,7 @@ fn refuses_a_start<N: WordsNaming + InboxNaming, R: Wait + Abort>(
 }
 
 // The tag of the body of the call 40 that can be had back now.
-fn gives_back<N: WordsNaming + InboxNaming, R: Wait + Abort>(
+fn gives_back<N: WordsNaming + InboxNaming + PlanNaming, R: Wait + Abort>(
     rt: &R,
     one: &mut Driven<N, Body>,
     tag: Option<u64>,
@@ -245,7 +250,7 @@ fn gives_back<N: WordsNaming + InboxNaming, R: Wait + Abort>(
 }
 
 // A note of no process brings a body, which is nobody's, and can be had once.
-fn gets_a_stray<N: WordsNaming + InboxNaming, R: Wait + Abort>(
+fn gets_a_stray<N: WordsNaming + InboxNaming + PlanNaming, R: Wait + Abort>(
     rt: &R,
     one: &mut Driven<N, Body>,
     body: Body,
@@ -258,7 +263,7 @@ fn gets_a_stray<N: WordsNaming + InboxNaming, R: Wait + Abort>(
 }
 
 // The tag of a stray body that can be had now.
-fn has_stray<N: WordsNaming + InboxNaming, R: Wait + Abort>(
+fn has_stray<N: WordsNaming + InboxNaming + PlanNaming, R: Wait + Abort>(
     rt: &R,
     one: &mut Driven<N, Body>,
     tag: Option<u64>,
@@ -272,8 +277,7 @@ fn tag_of(body: Option<Body>) -> Option<u64> {
 
 #[test]
 fn refused_growths(rt: HostRuntime) -> Result<(), Fail> {
-    let words = OpenWords::open(rt.alloc(), 256)?;
-    let inbox = UnnamedInbox::<Item, Post>::open(rt.alloc())?;
+    let (words, inbox, supervisor) = open_for(rt.alloc(), of_one_child(rt.alloc())?)?;
     let bodies: (Body, Body, Body, Body, Body) = (
         Box::new(rt.alloc(), Tagged { tag: 6 })?,
         Box::new(rt.alloc(), Tagged { tag: 7 })?,
@@ -281,25 +285,27 @@ fn refused_growths(rt: HostRuntime) -> Result<(), Fail> {
         Box::new(rt.alloc(), Tagged { tag: 9 })?,
         Box::new(rt.alloc(), Tagged { tag: 10 })?,
     );
-    growths_in::<Brand, _>(&rt, rt.alloc(), words, inbox, bodies)
+    growths_in::<Brand, _>(&rt, rt.alloc(), words, inbox, supervisor, bodies)
 }
 
 // A turn, a call and the sending of an order, to an end by the intensity: its note takes a copy of the end. Of `rt try --test --fail-alloc N` the least N refuse what is opened, which
 // the test then tells; each of the next refuses one growth of these calls: nothing has happened, the body is back, and the
 // same call with memory then does what it would have done.
-fn growths_in<N: WordsNaming + InboxNaming, R: Wait + Abort>(
+fn growths_in<N: WordsNaming + InboxNaming + PlanNaming, R: Wait + Abort>(
     rt: &R,
     alloc: Global,
     words: OpenWords,
     inbox: UnnamedInbox<Item, Post>,
+    supervisor: SupSpec,
     bodies: (Body, Body, Body, Body, Body),
 ) -> Result<(), Fail>
     requires words { words.words ≡ N.words }
     requires slots { words.slots ≡ 256 }
     requires inbox { inbox ≡ N.inbox 0 }
+    requires plan { supervisor ≡ N.plan 0 }
 {
     let (own, second, third, fourth, fifth) = bodies;
-    let mut one = make_one::<N>(alloc, words, inbox, own)?;
+    let mut one = make_one::<N>(alloc, words, inbox, supervisor, own)?;
     opens(rt, &mut one);
     let shown = grows(rt, &mut one, (second, third), (fourth, fifth));
     drop(one);
@@ -307,7 +313,7 @@ fn growths_in<N: WordsNaming + InboxNaming, R: Wait + Abort>(
 }
 
 // A second child, a restart of the first, and the crash that is one too many.
-fn grows<N: WordsNaming + InboxNaming, R: Wait + Abort>(
+fn grows<N: WordsNaming + InboxNaming + PlanNaming, R: Wait + Abort>(
     rt: &R,
     one: &mut Driven<N, Body>,
     started: (Body, Body),
@@ -320,7 +326,10 @@ fn grows<N: WordsNaming + InboxNaming, R: Wait + Abort>(
 }
 
 // It opens, and its child starts.
-fn opens<N: WordsNaming + InboxNaming, R: Wait + Abort>(rt: &R, one: &mut Driven<N, Body>) {
+fn opens<N: WordsNaming + InboxNaming + PlanNaming, R: Wait + Abort>(
+    rt: &R,
+    one: &mut Driven<N, Body>,
+) {
     one.opens(rt);
     puts(rt, one, 0, (1, 0, 6));
     one.up(rt, 1);
@@ -329,7 +338,7 @@ fn opens<N: WordsNaming + InboxNaming, R: Wait + Abort>(rt: &R, one: &mut Driven
 }
 
 // A call starts a second child: the number of its process.
-fn starts_another<N: WordsNaming + InboxNaming, R: Wait + Abort>(
+fn starts_another<N: WordsNaming + InboxNaming + PlanNaming, R: Wait + Abort>(
     rt: &R,
     one: &mut Driven<N, Body>,
     body: Body,
@@ -345,7 +354,7 @@ fn starts_another<N: WordsNaming + InboxNaming, R: Wait + Abort>(
 }
 
 // The second child's process is put, with the call's body: its number.
-fn puts_second<N: WordsNaming + InboxNaming, R: Wait + Abort>(
+fn puts_second<N: WordsNaming + InboxNaming + PlanNaming, R: Wait + Abort>(
     rt: &R,
     one: &mut Driven<N, Body>,
 ) -> u64 {
@@ -355,7 +364,7 @@ fn puts_second<N: WordsNaming + InboxNaming, R: Wait + Abort>(
 }
 
 // The first child is restarted: the number of its new process.
-fn restarts<N: WordsNaming + InboxNaming, R: Wait + Abort>(
+fn restarts<N: WordsNaming + InboxNaming + PlanNaming, R: Wait + Abort>(
     rt: &R,
     one: &mut Driven<N, Body>,
     child: u64,
@@ -370,7 +379,7 @@ fn restarts<N: WordsNaming + InboxNaming, R: Wait + Abort>(
 }
 
 // The first child's new process is put, with the body that came home: its number.
-fn puts_first<N: WordsNaming + InboxNaming, R: Wait + Abort>(
+fn puts_first<N: WordsNaming + InboxNaming + PlanNaming, R: Wait + Abort>(
     rt: &R,
     one: &mut Driven<N, Body>,
     child: u64,
@@ -381,7 +390,7 @@ fn puts_first<N: WordsNaming + InboxNaming, R: Wait + Abort>(
 }
 
 // A second crash is one too many: the other child is asked, and then the parent is told the end.
-fn gives_up<N: WordsNaming + InboxNaming, R: Wait + Abort>(
+fn gives_up<N: WordsNaming + InboxNaming + PlanNaming, R: Wait + Abort>(
     rt: &R,
     one: &mut Driven<N, Body>,
     again: u64,

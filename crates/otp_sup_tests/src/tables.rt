@@ -5,13 +5,14 @@ ghost use Rattle.otp_bodies.specs.Letters.{Comes};
 ghost use Rattle.otp_bodies.specs.Ports.{launched, launched_all, told};
 
 use crate::alone::{Alone, OWN, Post, make_table};
-use crate::fixtures::{of_one_child, open_parts};
+use crate::fixtures::{of_one_child, open_for};
 use crate::script::{Known, Step, plays};
 use otp_inbox::{InboxNaming, UnnamedInbox};
 use otp_reason::{Note, Reason};
 use otp_rules::{Item, SupEnd};
 use otp_signals::{OpenWords, Signal, WordsNaming};
-use otp_sup::{Letter, NewProcess, Port, ToldNote, TurnAnswer, TurnFault};
+use otp_spec::SupSpec;
+use otp_sup::{Letter, NewProcess, PlanNaming, Port, ToldNote, TurnAnswer, TurnFault};
 use otp_tally::Tally;
 use std::alloc::Global;
 use std::marker::Brand;
@@ -130,29 +131,23 @@ impl Port<u64> for Shut {
 
 #[test]
 fn refused_order(rt: HostRuntime) -> Result<(), Fail> {
-    let (words, inbox) = open_parts(rt.alloc())?;
-    refused_in::<Brand, _>(&rt, rt.alloc(), words, inbox)
+    let (words, inbox, supervisor) = open_for(rt.alloc(), of_one_child(rt.alloc())?)?;
+    refused_in::<Brand, _>(&rt, rt.alloc(), words, inbox, supervisor)
 }
 
 // An order that the port refuses stays, and so does the body: nothing happens before it was sent.
-fn refused_in<N: WordsNaming + InboxNaming, R: Wait + Abort>(
+fn refused_in<N: WordsNaming + InboxNaming + PlanNaming, R: Wait + Abort>(
     rt: &R,
     alloc: Global,
     words: OpenWords,
     inbox: UnnamedInbox<Item, Post>,
+    supervisor: SupSpec,
 ) -> Result<(), Fail>
     requires words { words.words ≡ N.words }
     requires slots { words.slots ≡ 256 }
     requires inbox { inbox ≡ N.inbox 0 }
+    requires plan { supervisor ≡ N.plan 0 }
 {
-    let supervisor = match of_one_child(alloc) {
-        Ok(supervisor) => supervisor,
-        Err(fail) => {
-            drop(words);
-            drop(inbox);
-            return Err(fail);
-        }
-    };
     let mut one = make_table::<N>(alloc, words, inbox, supervisor, &[OWN])?;
     let mut shut = Shut {
         processes: Vec::new(alloc),
@@ -167,7 +162,7 @@ fn refused_in<N: WordsNaming + InboxNaming, R: Wait + Abort>(
 }
 
 // Its first start is refused twice, and then sent, with the body that was handed in.
-fn start_is_refused<N: WordsNaming + InboxNaming, R: Wait + Abort>(
+fn start_is_refused<N: WordsNaming + InboxNaming + PlanNaming, R: Wait + Abort>(
     rt: &R,
     one: &mut Alone<N>,
     shut: &mut Shut,
@@ -182,7 +177,7 @@ fn start_is_refused<N: WordsNaming + InboxNaming, R: Wait + Abort>(
 }
 
 // That it runs is told in vain, and then told.
-fn note_is_refused<N: WordsNaming + InboxNaming, R: Wait + Abort>(
+fn note_is_refused<N: WordsNaming + InboxNaming + PlanNaming, R: Wait + Abort>(
     rt: &R,
     one: &mut Alone<N>,
     shut: &mut Shut,

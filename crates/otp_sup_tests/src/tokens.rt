@@ -5,8 +5,8 @@ use otp_job::{Body, BoxedJob};
 use otp_rules::Item;
 use otp_signals::WordsNaming;
 use otp_sup::{
-    Bodies, Client, Evidence, Letter, MemoryPort, NewProcess, Office, SubmitFault, Sup, SupParts,
-    Table, ToldEnd, ToldNote, Unlocked,
+    Bodies, Client, Evidence, Letter, MemoryPort, NewProcess, Office, PlanNaming, SubmitFault, Sup,
+    SupParts, Table, ToldEnd, ToldNote, Unlocked,
 };
 
 type Boxed = Body<BoxedJob, BoxedSubsystem>;
@@ -26,7 +26,7 @@ pub fn inbox_crosses<N: InboxNaming + Send + Sync>(
     is_send(taker);
 }
 
-pub fn supervisor_crosses<N: WordsNaming + InboxNaming + Send + Sync>(
+pub fn supervisor_crosses<N: WordsNaming + InboxNaming + PlanNaming + Send + Sync>(
     sup: &Sup<N, Boxed>,
     table: &Table<N, Boxed>,
     office: &Office<N>,
@@ -40,7 +40,7 @@ pub fn supervisor_crosses<N: WordsNaming + InboxNaming + Send + Sync>(
 }
 
 // What a supervisor is taken apart into.
-pub fn parts_cross<N: WordsNaming + InboxNaming + Send + Sync>(
+pub fn parts_cross<N: WordsNaming + InboxNaming + PlanNaming + Send + Sync>(
     unlocked: &Unlocked<N, Boxed>,
     parts: &SupParts<N, Boxed>,
 ) {

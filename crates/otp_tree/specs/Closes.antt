@@ -2,6 +2,8 @@
 use Rattle.std.specs.Prelude.{◌≡◌, ⊤, List}
 use Rattle.otp_close.specs.Closes.{IsMismatchOnly}
 use Rattle.otp_hand.specs.Hands.{ClientView, HandView, SystemView}
+use Rattle.otp_open.specs.Plans.{HaveBodies, IsOpenFault}
+use Rattle.otp_open.specs.declared.plan.TablePlan.{TablePlan}
 use Rattle.otp_tree.specs.declared.closing.Unclosed.{Unclosed}
 use Rattle.otp_tree.specs.declared.whole.RunFault.{RunFault}
 use Rattle.otp_tree.specs.declared.whole.RunFault.TheVariants as run
@@ -17,3 +19,8 @@ module _ {J S : Type 0} where
   abbrev pub IsRunMismatchOnly : RunFault J S → Type 0
   IsRunMismatchOnly (run.Open why) = ⊤
   IsRunMismatchOnly (run.Close why) = IsMismatchOnly why
+
+  -- why it was not opened: memory was refused, or a plan of these lacks a body
+  abbrev pub IsRunOpenFault : List (TablePlan J S) → RunFault J S → Type 0
+  IsRunOpenFault plans (run.Open why) = IsOpenFault plans why
+  IsRunOpenFault plans (run.Close why) = HaveBodies plans

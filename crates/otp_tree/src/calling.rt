@@ -15,7 +15,7 @@ use otp_job::Body;
 use otp_rules::{Call, Item, Reply};
 use otp_signals::{Words, WordsNaming};
 use otp_spec::ChildType;
-use otp_sup::Letter;
+use otp_sup::{Letter, PlanNaming};
 use std::alloc::{AllocError, Global};
 use std::sync::Wait;
 
@@ -40,7 +40,7 @@ pub struct Uncalled<B> {
     pub body: Option<B>,
 }
 
-impl<N: WordsNaming + InboxNaming, J: Drop, S: Drop> System<N, J, S> {
+impl<N: WordsNaming + InboxNaming + PlanNaming, J: Drop, S: Drop> System<N, J, S> {
     /// Sends a call to the supervisor with this number, with a body exactly where it starts a new child
     /// (supervisor, start_child/2), and answers the number of the call. The supervisor takes it in one of its turns; then
     /// [`System::reply`] has the answer under this number.
@@ -91,7 +91,7 @@ impl<N: WordsNaming + InboxNaming, J: Drop, S: Drop> System<N, J, S> {
         table: usize,
         call: u64,
     ) -> Result<ReplyAnswer<Reply>, AllocError>
-        ensures kept { table < self.now.tables → IfOk result (HasReply call) }
+        ensures kept { table < self.now.tables → IfOk result (HasReply N.plan call) }
         ensures none { self.now.tables ≤ table → result ≡ Ok answer.NotYet }
     {
         match self.shared.sups.get(table) {
@@ -103,7 +103,7 @@ impl<N: WordsNaming + InboxNaming, J: Drop, S: Drop> System<N, J, S> {
     /// The body that the call with this number brought, once it was answered and no child of that supervisor has the body:
     /// after a refusal, or when the child is gone. It is given once.
     pub fn take_box<R: Wait>(&self, rt: &R, table: usize, call: u64) -> Option<Body<J, S>>
-        ensures kept { table < self.now.tables → HadBody (is_left_of call) (is_some result) }
+        ensures kept { table < self.now.tables → HadBody N.plan (is_left_of call) (is_some result) }
         ensures none { self.now.tables ≤ table → result ≡ None }
     {
         match self.shared.sups.get(table) {

@@ -1,7 +1,7 @@
 //! A tree is closed, once all its hands and its client are back.
 ghost use Rattle.std.specs.Prelude.{◌≡◌, ◌+◌, All, IfErr, IfOk, IfSome, OnSome, length, map, sum_by};
-ghost use Rattle.otp_close.specs.Closes.{AreApart, HasBegun, HasTold, IsComplete, IsMismatchOnly, IsMissingOnly, IsReportOf, all_senders, kept_in, report_in};
-ghost use Rattle.otp_close.specs.Leavings.{AreAccounted, HasUnsent, IsLast};
+ghost use Rattle.otp_close.specs.Closes.{AreApart, HasBegun, HasTold, HaveBegun, IsComplete, IsMismatchOnly, IsMissingOnly, IsReportOf, all_senders, kept_in, report_in};
+ghost use Rattle.otp_close.specs.Leavings.{AreAccounted, AreInOrder, HasUnsent, IsLast, IsLastInOrder};
 ghost use Rattle.otp_close.specs.Partings.{schedulers_of};
 ghost use Rattle.otp_close.specs.Totals.{HasAllEnds, HasAllStarts, HasHeard};
 ghost use Rattle.otp_hand.specs.Ended.{held_by};
@@ -18,18 +18,19 @@ use otp_job::Body;
 use otp_report::Report;
 use otp_run::RunNaming;
 use otp_signals::WordsNaming;
+use otp_sup::PlanNaming;
 use std::alloc::Global;
 use std::sync::Wait;
 
 /// A tree that was not taken apart, as it was.
 #[derive(Drop)]
-pub struct Unclosed<N: WordsNaming + InboxNaming + RunNaming, J: Drop, S: Drop> {
+pub struct Unclosed<N: WordsNaming + InboxNaming + PlanNaming + RunNaming, J: Drop, S: Drop> {
     pub system: System<N, J, S>,
     pub hands: Vec<Hand<N, J, S>>,
     pub client: Client<N, Body<J, S>>,
 }
 
-impl<N: WordsNaming + InboxNaming, J: Drop, S: Drop> System<N, J, S> {
+impl<N: WordsNaming + InboxNaming + PlanNaming, J: Drop, S: Drop> System<N, J, S> {
     /// Takes the tree apart, and reports what it was, with what is left in each inbox.
     ///
     /// Of each supervisor stands what [`Table::keeps_rules`](otp_sup::Table::keeps_rules) says; and no process number is a child's in
@@ -68,7 +69,8 @@ impl<N: WordsNaming + InboxNaming, J: Drop, S: Drop> System<N, J, S> {
         ensures ends { IfSome (report_in result) (λ report. HasAllEnds report) }
         ensures heard { IfSome (report_in result) (λ report. HasHeard client.waiter report.heard) }
         ensures held { IfSome (report_in result) (λ report. report.held ≡ sum_by held_by hands.items) }
-        // Each core began as a supervisor that was never opened.
+        // Each core began as the supervisor of its plan, never opened: with that plan's flags and specifications.
+        ensures plans { IfSome (report_in result) (λ report. HaveBegun N.plan report.tables.items) }
         ensures begins { IfSome (report_in result) (λ report. All HasBegun report.tables.items) }
         // Each end of another supervisor that its history was told is for the note's reason, and shown.
         ensures shown { IfSome (report_in result) (λ report. All HasTold report.tables.items) }
@@ -77,6 +79,9 @@ impl<N: WordsNaming + InboxNaming, J: Drop, S: Drop> System<N, J, S> {
         // The items of each supervisor's history and those left in its inbox are as often as all hands and the client sent
         // them to it; and so it is with those that the client took of the root's, and the last.
         ensures left { IfSome (report_in result) (λ report. AreAccounted (all_senders client hands.items) report.tables.items) }
+        // Each sender's items stand there in the order in which it sent them.
+        ensures order { IfSome (report_in result) (λ report. AreInOrder (all_senders client hands.items) report.tables.items) }
+        ensures last_order { IfSome (report_in result) (λ report. IsLastInOrder self.tables (all_senders client hands.items) client.waiter report.last.items) }
         ensures last { IfSome (report_in result) (λ report. IsLast self.tables (all_senders client hands.items) client.waiter report.last.items) }
         // Of the orders of each history all were sent, but those that were still to be sent; one start at most is there.
         ensures unsent { IfSome (report_in result) (λ report. All HasUnsent report.tables.items) }
@@ -93,7 +98,9 @@ impl<N: WordsNaming + InboxNaming, J: Drop, S: Drop> System<N, J, S> {
             )),
             Err(CloseFault::OutOfMemory(tree)) => Err(CloseFault::OutOfMemory(given_back(tree))),
             Err(CloseFault::Missing(tree)) => Err(CloseFault::Missing(given_back(tree))),
-            Err(CloseFault::Misplaced(tree)) => Err(CloseFault::Misplaced(given_back(tree))),
+            Err(CloseFault::Misplaced(tree, found)) => {
+                Err(CloseFault::Misplaced(given_back(tree), found))
+            }
         }
     }
 
@@ -109,6 +116,7 @@ impl<N: WordsNaming + InboxNaming, J: Drop, S: Drop> System<N, J, S> {
     where
         N: RunNaming,
         ensures report { IfOk result (IsReportOf self.tables) }
+        ensures plans { IfSome (report_in result) (λ report. HaveBegun N.plan report.tables.items) }
         ensures mismatch { IfErr result IsMismatchOnly }
     {
         finish(rt, alloc, self.shared, hands, client)
@@ -116,7 +124,7 @@ impl<N: WordsNaming + InboxNaming, J: Drop, S: Drop> System<N, J, S> {
 }
 
 /// The tree as whoever opened it has it.
-fn given_back<N: WordsNaming + InboxNaming + RunNaming, J: Drop, S: Drop>(
+fn given_back<N: WordsNaming + InboxNaming + PlanNaming + RunNaming, J: Drop, S: Drop>(
     tree: Intact<N, J, S>,
 ) -> Unclosed<N, J, S>
     ensures { IsAsItWas tree.shared tree.hands.items tree.client result }

@@ -88,6 +88,7 @@ pub use otp_close::CloseFault;
 pub use otp_hand::{Client, Hand, Senders};
 pub use otp_open::{SystemFault, TableDraft, TablePlan, Unplanned};
 pub use otp_report::{Mismatch, Report, TableReport};
+pub use otp_sup::PlanNaming;
 pub use pool::{MAX_HANDS, pool_run};
 pub use rounds::{CallEnd, CallId, CallRequest, Leader, Led, Round, lead};
 pub use session::{Session, with_system};

@@ -1,10 +1,11 @@
 //! A tree is opened: its parts without a name first, then the tree under a name.
-ghost use Rattle.std.specs.Prelude.{◌≡◌, ◌+◌, ◌*◌, ◌<◌, ◌≤◌, [], IfOk, length, is_some, true};
+ghost use Rattle.std.specs.Prelude.{◌≡◌, ◌+◌, ◌*◌, ◌<◌, ◌≤◌, [], IfErr, IfOk, IfSome, OnOk, length, is_some, true};
 ghost use Rattle.otp_spec.specs.declared.limits.TheConstants.{MAX_TABLES};
 ghost use Rattle.otp_run.specs.Lists.{AllAt};
 ghost use Rattle.otp_run.specs.Rule.{all_parts};
-ghost use Rattle.otp_open.specs.Opens.{slots_of};
+ghost use Rattle.otp_open.specs.Opens.{AreOpened, root_ticket, slots_of};
 ghost use Rattle.otp_open.specs.Passes.{CanRead};
+ghost use Rattle.otp_open.specs.Plans.{HaveBodies, IsOpenFault};
 
 use crate::system::System;
 use otp_counts::CountsPass;
@@ -15,7 +16,7 @@ use otp_open::{Named, SLOTS, SystemFault, TablePlan, make_hands, open_all, open_
 use otp_rules::Item;
 use otp_run::{RunNaming, RunQueue};
 use otp_signals::{OpenWords, WordsNaming};
-use otp_sup::Letter;
+use otp_sup::{Letter, PlanNaming};
 use std::alloc::{AllocError, Global};
 
 /// The parts of a tree, without a name.
@@ -30,7 +31,7 @@ pub struct Parts<J: Drop, S: Drop> {
 
 /// All that opening gives.
 #[derive(Drop)]
-pub struct Opened<N: WordsNaming + InboxNaming + RunNaming, J: Drop, S: Drop> {
+pub struct Opened<N: WordsNaming + InboxNaming + PlanNaming + RunNaming, J: Drop, S: Drop> {
     pub system: System<N, J, S>,
     pub hands: Vec<Hand<N, J, S>>,
     pub client: Client<N, Body<J, S>>,
@@ -52,6 +53,7 @@ impl<J: Drop, S: Drop> Parts<J, S> {
         ensures slots { IfOk result (λ p. p.words.slots ≡ slots_of (length p.inboxes.items)) }
         ensures few { IfOk result (λ p. length p.inboxes.items ≤ MAX_TABLES) }
         ensures hands { IfOk result (λ p. length p.queue ≡ hands) }
+        ensures plans { IfOk result (λ p. p.plans ≡ plans) }
     {
         let Ok(words) = OpenWords::open(alloc, 1 + SLOTS * plans.len()) else {
             drop(plans);
@@ -87,19 +89,26 @@ impl<J: Drop, S: Drop> Parts<J, S> {
 
 impl<J: Drop, S: Drop> Parts<J, S> {
     /// The tree under a name, with its hands and its first client.
-    pub fn named<N: WordsNaming + InboxNaming + RunNaming>(
+    pub fn named<N: WordsNaming + InboxNaming + PlanNaming + RunNaming>(
         self,
         alloc: Global,
     ) -> Result<Opened<N, J, S>, SystemFault>
         requires words { self.words.words ≡ N.words }
         requires inboxes { AllAt (λ k id. id ≡ N.inbox k) self.inboxes.items }
+        requires plans { AllAt (λ k plan. plan.supervisor ≡ N.plan k) self.plans.items }
+        requires as_many { length self.plans.items ≡ length self.inboxes.items }
         requires outer { self.outer ≡ N.inbox (length self.inboxes.items) }
         requires deques { AllAt (λ k id. id ≡ N.deque k) self.queue }
         requires slots { self.words.slots ≡ slots_of (length self.inboxes.items) }
         requires few { length self.inboxes.items ≤ MAX_TABLES }
         ensures root { IfOk result (λ o. is_some o.client.root ≡ true) }
         ensures tables { IfOk result (λ o. o.system.tables ≡ length self.inboxes.items) }
+        ensures bodies { OnOk result (HaveBodies self.plans.items) }
+        ensures fault { IfErr result (IsOpenFault self.plans.items) }
         ensures passes { IfOk result (λ o. CanRead (length self.inboxes.items) o.hands.items) }
+        // There are as many hands as were asked for, in the order of their schedulers, and the first has put the root's process: it
+        // has the number for which the client stops it.
+        ensures hands { IfOk result (λ o. IfSome o.client.root (λ number. AreOpened (root_ticket number (length self.inboxes.items)) (length self.queue) o.hands.items)) }
         ensures own { IfOk result (λ o. length o.passes.items ≡ length self.inboxes.items) }
         // Nobody was asked to stop.
         ensures unasked { IfOk result (λ o. o.client.owner.posts ≡ []) }

@@ -11,6 +11,7 @@ use otp_inbox::InboxNaming;
 use otp_job::Job;
 use otp_run::RunNaming;
 use otp_signals::WordsNaming;
+use otp_sup::PlanNaming;
 use std::sync::Wait;
 use std::thread;
 use std::thread::Threads;
@@ -31,7 +32,7 @@ pub fn pool_run<N, J, S, R, G>(
     turns: u64,
 )
 where
-    N: WordsNaming + InboxNaming + RunNaming + Send + Sync,
+    N: WordsNaming + InboxNaming + PlanNaming + RunNaming + Send + Sync,
     J: Job + Send,
     S: Subsystem + Send,
     R: Threads + Wait + Sync,
@@ -57,7 +58,7 @@ fn serve_beside<N, J, S, R, G>(
     meeting: &Meeting,
 )
 where
-    N: WordsNaming + InboxNaming + RunNaming,
+    N: WordsNaming + InboxNaming + PlanNaming + RunNaming,
     J: Job,
     S: Subsystem,
     R: Wait,
@@ -90,7 +91,7 @@ fn turn_beside<N, J, S, R>(
     vain: &mut u64,
 ) -> bool
 where
-    N: WordsNaming + InboxNaming + RunNaming,
+    N: WordsNaming + InboxNaming + PlanNaming + RunNaming,
     J: Job,
     S: Subsystem,
     R: Wait,
@@ -122,7 +123,7 @@ fn look_again<N, J, S, R>(
     reading: u64,
 ) -> bool
 where
-    N: WordsNaming + InboxNaming + RunNaming,
+    N: WordsNaming + InboxNaming + PlanNaming + RunNaming,
     J: Job,
     S: Subsystem,
     R: Wait,

@@ -1,10 +1,11 @@
 //! A whole tree on threads, round by round.
-ghost use Rattle.std.specs.Prelude.{◌≡◌, ◌<◌, ◌≤◌, length, IfErr, IfOk};
+ghost use Rattle.std.specs.Prelude.{◌≡◌, ◌<◌, ◌≤◌, length, IfErr, IfOk, IfSome, OnOk};
 ghost use Rattle.otp_spec.specs.declared.limits.TheConstants.{MAX_TABLES};
 ghost use Rattle.otp_run.specs.Lists.{AllAt};
 ghost use Rattle.otp_run.specs.Rule.{all_parts};
-ghost use Rattle.otp_close.specs.Closes.{IsMismatchOnly, IsReportOf};
+ghost use Rattle.otp_close.specs.Closes.{HaveBegun, IsMismatchOnly, IsReportOf, report_in};
 ghost use Rattle.otp_open.specs.Opens.{slots_of};
+ghost use Rattle.otp_open.specs.Plans.{HaveBodies, IsOpenFault, plans_of};
 
 use crate::calling::Uncalled;
 use crate::clock::Gate;
@@ -23,6 +24,7 @@ use otp_report::Report;
 use otp_rules::{Call, Reply};
 use otp_run::RunNaming;
 use otp_signals::WordsNaming;
+use otp_sup::PlanNaming;
 use std::alloc::Global;
 use std::marker::Brand;
 use std::sync::Wait;
@@ -125,7 +127,12 @@ where
     requires some { 0 < hands }
     requires few { hands ≤ all_parts }
     ensures report { IfOk result (λ led. IfOk led.report (IsReportOf (length plans.items))) }
+    // Each core began as the supervisor of the plan at its place in the list, never opened.
+    ensures plans { IfOk result (λ led. IfSome (report_in led.report) (λ report. HaveBegun (plans_of plans.items) report.tables.items)) }
     ensures mismatch { IfOk result (λ led. IfErr led.report IsMismatchOnly) }
+    // Each plan has a body for each child that an opening makes, or that is why it isn't led, or memory was refused.
+    ensures bodies { OnOk result (HaveBodies plans.items) }
+    ensures fault { IfErr result (IsOpenFault plans.items) }
 {
     let parts = Parts::open(alloc, plans, hands)?;
     lead_named::<Brand, R, J, S, G, L>(rt, alloc, parts, gate, rounds, leader)
@@ -140,7 +147,7 @@ fn lead_named<N, R, J, S, G, L>(
     mut leader: L,
 ) -> Result<Led<J, S, L>, SystemFault>
 where
-    N: WordsNaming + InboxNaming + RunNaming + Send + Sync,
+    N: WordsNaming + InboxNaming + PlanNaming + RunNaming + Send + Sync,
     R: Threads + Wait + Sync,
     J: Job + Send,
     S: Subsystem + Send,
@@ -148,12 +155,17 @@ where
     L: Leader<J, S>,
     requires words { parts.words.words ≡ N.words }
     requires inboxes { AllAt (λ k id. id ≡ N.inbox k) parts.inboxes.items }
+    requires plans { AllAt (λ k plan. plan.supervisor ≡ N.plan k) parts.plans.items }
+    requires as_many { length parts.plans.items ≡ length parts.inboxes.items }
     requires outer { parts.outer ≡ N.inbox (length parts.inboxes.items) }
     requires deques { AllAt (λ k id. id ≡ N.deque k) parts.queue }
     requires slots { parts.words.slots ≡ slots_of (length parts.inboxes.items) }
     requires few { length parts.inboxes.items ≤ MAX_TABLES }
     ensures report { IfOk result (λ led. IfOk led.report (IsReportOf (length parts.inboxes.items))) }
+    ensures plans { IfOk result (λ led. IfSome (report_in led.report) (λ report. HaveBegun N.plan report.tables.items)) }
     ensures mismatch { IfOk result (λ led. IfErr led.report IsMismatchOnly) }
+    ensures bodies { OnOk result (HaveBodies parts.plans.items) }
+    ensures fault { IfErr result (IsOpenFault parts.plans.items) }
 {
     let opened = match parts.named::<N>(alloc) {
         Ok(opened) => opened,
@@ -200,7 +212,7 @@ fn make_round<N, R, J, S, G, L>(
     round: Round<J, S>,
 ) -> bool
 where
-    N: WordsNaming + InboxNaming + RunNaming + Send + Sync,
+    N: WordsNaming + InboxNaming + PlanNaming + RunNaming + Send + Sync,
     R: Threads + Wait + Sync,
     J: Job + Send,
     S: Subsystem + Send,
@@ -240,7 +252,7 @@ where
 /// What became of a call so far.
 fn answer_to<N, R, J, S>(rt: &R, system: &System<N, J, S>, asked: CallId) -> CallEnd<J, S>
 where
-    N: WordsNaming + InboxNaming,
+    N: WordsNaming + InboxNaming + PlanNaming,
     R: Wait,
     J: Drop,
     S: Drop,

@@ -13,10 +13,10 @@ use otp_job::{Body, Job};
 use otp_reason::Note;
 use otp_run::RunNaming;
 use otp_signals::{Signal, WordsNaming};
-use otp_sup::{Letter, TurnAnswer};
+use otp_sup::{Letter, PlanNaming, TurnAnswer};
 use std::sync::Wait;
 
-impl<N: WordsNaming + InboxNaming, J: Job, S: Subsystem> System<N, J, S> {
+impl<N: WordsNaming + InboxNaming + PlanNaming, J: Job, S: Subsystem> System<N, J, S> {
     /// Gives a hand so many turns, in the thread that calls.
     ///
     /// A turn first sends a note that was refused before. Then it takes the process that the hand has out, or one that waited and
@@ -67,15 +67,15 @@ impl<N: WordsNaming + InboxNaming, J: Job, S: Subsystem> System<N, J, S> {
             return false;
         }
         hand.runner.note_reading(reading);
-        let told = hand.runner.look(&self.shared.words);
         let parent = hand.runner.parent();
         match hand.runner.nested() {
             Some((table, number)) => {
+                let told = hand.runner.look(&self.shared.words);
                 self.supervise(rt, hand, table, number, reading, told, parent, listener);
             }
             None => {
                 let before = hand.runner.waiting.len();
-                hand.runner.work(told);
+                hand.runner.work_as_told(&self.shared.words);
                 tell_of_wait(listener, parent, before, hand.runner.waiting.len());
             }
         }

@@ -1,9 +1,10 @@
 //! A tree for one call: the name is picked here, so that no caller has to.
-ghost use Rattle.std.specs.Prelude.{◌≡◌, ◌<◌, ◌≤◌, length};
+ghost use Rattle.std.specs.Prelude.{◌≡◌, ◌<◌, ◌≤◌, length, IfErr, OnOk};
 ghost use Rattle.otp_spec.specs.declared.limits.TheConstants.{MAX_TABLES};
 ghost use Rattle.otp_run.specs.Lists.{AllAt};
 ghost use Rattle.otp_run.specs.Rule.{all_parts};
 ghost use Rattle.otp_open.specs.Opens.{slots_of};
+ghost use Rattle.otp_open.specs.Plans.{HaveBodies, IsOpenFault};
 
 use crate::opening::{Opened, Parts};
 use crate::system::System;
@@ -13,6 +14,7 @@ use otp_job::Body;
 use otp_open::{SystemFault, TablePlan};
 use otp_run::RunNaming;
 use otp_signals::WordsNaming;
+use otp_sup::PlanNaming;
 use std::alloc::Global;
 use std::marker::Brand;
 
@@ -25,7 +27,7 @@ pub trait Session<R, J: Drop, S: Drop>: Drop {
     type Output;
 
     /// Is called once, with the open tree.
-    fn run<N: WordsNaming + InboxNaming + RunNaming + Send + Sync>(
+    fn run<N: WordsNaming + InboxNaming + PlanNaming + RunNaming + Send + Sync>(
         self,
         rt: &R,
         system: System<N, J, S>,
@@ -45,13 +47,16 @@ pub fn with_system<R, J: Drop, S: Drop, T: Session<R, J, S>>(
     requires tables { length plans.items ≤ MAX_TABLES }
     requires some { 0 < hands }
     requires few { hands ≤ all_parts }
+    // Each plan has a body for each child that an opening makes, or that is why there was no session, or memory was refused.
+    ensures bodies { OnOk result (HaveBodies plans.items) }
+    ensures fault { IfErr result (IsOpenFault plans.items) }
 {
     let parts = Parts::open(alloc, plans, hands)?;
     run_named::<Brand, R, J, S, T>(rt, alloc, parts, session)
 }
 
 fn run_named<
-    N: WordsNaming + InboxNaming + RunNaming + Send + Sync,
+    N: WordsNaming + InboxNaming + PlanNaming + RunNaming + Send + Sync,
     R,
     J: Drop,
     S: Drop,
@@ -59,10 +64,14 @@ fn run_named<
 >(rt: &R, alloc: Global, parts: Parts<J, S>, session: T) -> Result<T::Output, SystemFault>
     requires words { parts.words.words ≡ N.words }
     requires inboxes { AllAt (λ k id. id ≡ N.inbox k) parts.inboxes.items }
+    requires plans { AllAt (λ k plan. plan.supervisor ≡ N.plan k) parts.plans.items }
+    requires as_many { length parts.plans.items ≡ length parts.inboxes.items }
     requires outer { parts.outer ≡ N.inbox (length parts.inboxes.items) }
     requires deques { AllAt (λ k id. id ≡ N.deque k) parts.queue }
     requires slots { parts.words.slots ≡ slots_of (length parts.inboxes.items) }
     requires few { length parts.inboxes.items ≤ MAX_TABLES }
+    ensures bodies { OnOk result (HaveBodies parts.plans.items) }
+    ensures fault { IfErr result (IsOpenFault parts.plans.items) }
 {
     let opened = match parts.named::<N>(alloc) {
         Ok(opened) => opened,

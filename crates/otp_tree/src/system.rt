@@ -5,6 +5,7 @@ ghost use Rattle.otp_signals.specs.Signals.{word_of};
 ghost use Rattle.otp_signals.specs.declared.signal.Signal.TheVariants.{Shutdown};
 ghost use Rattle.otp_hand.specs.Hands.{Heard};
 ghost use Rattle.otp_hand.specs.Readings.{HasRead};
+ghost use Rattle.otp_tree.specs.Hearings.{HeardNothing};
 
 use otp_hand::ending::count_end;
 use otp_hand::places::said_in;
@@ -15,16 +16,17 @@ use otp_reason::Note;
 use otp_rules::{CountsNow, Item};
 use otp_run::RunNaming;
 use otp_signals::WordsNaming;
+use otp_sup::PlanNaming;
 use std::marker::Model;
 use std::sync::Wait;
 
 /// A tree, for whoever opened it: what all hands share, with all that can be done with it.
 #[derive(Drop)]
-pub struct System<N: WordsNaming + InboxNaming, J: Drop, S: Drop> {
+pub struct System<N: WordsNaming + InboxNaming + PlanNaming, J: Drop, S: Drop> {
     pub(crate) shared: Shared<N, J, S>,
 }
 
-impl<N: WordsNaming + InboxNaming, J: Drop, S: Drop> Model for System<N, J, S> {
+impl<N: WordsNaming + InboxNaming + PlanNaming, J: Drop, S: Drop> Model for System<N, J, S> {
     ghost use Rattle.otp_hand.specs.Hands.{SystemView};
 
     ghost Value = { SystemView };
@@ -32,7 +34,7 @@ impl<N: WordsNaming + InboxNaming, J: Drop, S: Drop> Model for System<N, J, S> {
     ghost view = { λ s. s.shared };
 }
 
-impl<N: WordsNaming + InboxNaming, J: Drop, S: Drop> System<N, J, S> {
+impl<N: WordsNaming + InboxNaming + PlanNaming, J: Drop, S: Drop> System<N, J, S> {
     /// How many supervisors the tree has.
     pub fn tables(&self) -> usize
         ensures { result ≡ self.now.tables }
@@ -55,6 +57,8 @@ impl<N: WordsNaming + InboxNaming, J: Drop, S: Drop> System<N, J, S> {
     /// there is nothing new, or this isn't the client that the tree was opened with.
     pub fn root_note<R: Wait>(&self, rt: &R, client: &mut Client<N, Body<J, S>>) -> Option<Note>
         ensures heard { IfSome result (λ note. Heard note client.old client.new) }
+        // Where nothing is told the inbox was found empty: no note is lost.
+        ensures nothing { IfNone result (HeardNothing self.now.tables client.old client.new) }
         ensures owner { client.new.owner ≡ client.old.owner }
         ensures senders { client.new.senders ≡ client.old.senders }
         ensures root { client.new.root ≡ client.old.root }
@@ -69,7 +73,7 @@ impl<N: WordsNaming + InboxNaming, J: Drop, S: Drop> System<N, J, S> {
                 client.heard = client.heard.saturating_add(count_end(note));
                 Some(note)
             }
-            Item::Call(..) => None,
+            Item::Call(_, _) => None,
         }
     }
 

@@ -1,11 +1,12 @@
 //! The whole life of a tree on threads, in one call.
-ghost use Rattle.std.specs.Prelude.{◌≡◌, ◌<◌, ◌≤◌, [], length, vec_capacity, IfErr, IfOk};
+ghost use Rattle.std.specs.Prelude.{◌≡◌, ◌<◌, ◌≤◌, [], length, vec_capacity, IfErr, IfOk, OnOk};
 ghost use Rattle.otp_spec.specs.declared.limits.TheConstants.{MAX_TABLES};
 ghost use Rattle.otp_run.specs.Lists.{AllAt};
 ghost use Rattle.otp_run.specs.Rule.{all_parts};
-ghost use Rattle.otp_close.specs.Closes.{IsReportOf};
-ghost use Rattle.otp_tree.specs.Closes.{IsRunMismatchOnly};
+ghost use Rattle.otp_close.specs.Closes.{HaveBegun, IsReportOf};
+ghost use Rattle.otp_tree.specs.Closes.{IsRunMismatchOnly, IsRunOpenFault};
 ghost use Rattle.otp_open.specs.Opens.{slots_of};
+ghost use Rattle.otp_open.specs.Plans.{HaveBodies, plans_of};
 
 use crate::clock::Gate;
 use crate::opening::{Opened, Parts};
@@ -23,6 +24,7 @@ use otp_report::Report;
 use otp_rules::CountsNow;
 use otp_run::RunNaming;
 use otp_signals::WordsNaming;
+use otp_sup::PlanNaming;
 use std::alloc::{AllocError, Global};
 use std::marker::Brand;
 use std::sync::Wait;
@@ -108,7 +110,7 @@ fn run_half<N, R, J, S, G>(
     passes: &mut [CountsPass],
 )
 where
-    N: WordsNaming + InboxNaming + RunNaming + Send + Sync,
+    N: WordsNaming + InboxNaming + PlanNaming + RunNaming + Send + Sync,
     R: Threads + Wait + Sync,
     J: Job + Send,
     S: Subsystem + Send,
@@ -147,7 +149,7 @@ fn run_both<N, R, J, S, G>(
     counts: &mut Vec<CountsNow>,
 )
 where
-    N: WordsNaming + InboxNaming + RunNaming + Send + Sync,
+    N: WordsNaming + InboxNaming + PlanNaming + RunNaming + Send + Sync,
     R: Threads + Wait + Sync,
     J: Job + Send,
     S: Subsystem + Send,
@@ -189,7 +191,12 @@ where
     ensures counts { IfOk result (λ run. length run.counts.items ≡ length plans.items) }
     // The report has each supervisor of the plans, and is one that `System::close` can give.
     ensures report { IfOk result (λ run. IsReportOf (length plans.items) run.report) }
+    // Each core began as the supervisor of the plan at its place in the list, never opened.
+    ensures plans { IfOk result (λ run. HaveBegun (plans_of plans.items) run.report.tables.items) }
     ensures mismatch { IfErr result IsRunMismatchOnly }
+    // Each plan has a body for each child that an opening makes, or that is why it isn't run, or memory was refused.
+    ensures bodies { OnOk result (HaveBodies plans.items) }
+    ensures opened { IfErr result (IsRunOpenFault plans.items) }
 {
     let parts = Parts::open(alloc, plans, hands)?;
     run_named::<Brand, R, J, S, G>(rt, alloc, parts, gate, turns)
@@ -203,20 +210,25 @@ fn run_named<N, R, J, S, G>(
     turns: u64,
 ) -> Result<CountedRun<J, S>, RunFault<J, S>>
 where
-    N: WordsNaming + InboxNaming + RunNaming + Send + Sync,
+    N: WordsNaming + InboxNaming + PlanNaming + RunNaming + Send + Sync,
     R: Threads + Wait + Sync,
     J: Job + Send,
     S: Subsystem + Send,
     G: Gate + Sync,
     requires words { parts.words.words ≡ N.words }
     requires inboxes { AllAt (λ k id. id ≡ N.inbox k) parts.inboxes.items }
+    requires plans { AllAt (λ k plan. plan.supervisor ≡ N.plan k) parts.plans.items }
+    requires as_many { length parts.plans.items ≡ length parts.inboxes.items }
     requires outer { parts.outer ≡ N.inbox (length parts.inboxes.items) }
     requires deques { AllAt (λ k id. id ≡ N.deque k) parts.queue }
     requires slots { parts.words.slots ≡ slots_of (length parts.inboxes.items) }
     requires few { length parts.inboxes.items ≤ MAX_TABLES }
     ensures counts { IfOk result (λ run. length run.counts.items ≡ length parts.inboxes.items) }
     ensures report { IfOk result (λ run. IsReportOf (length parts.inboxes.items) run.report) }
+    ensures plans { IfOk result (λ run. HaveBegun N.plan run.report.tables.items) }
     ensures mismatch { IfErr result IsRunMismatchOnly }
+    ensures bodies { OnOk result (HaveBodies parts.plans.items) }
+    ensures opened { IfErr result (IsRunOpenFault parts.plans.items) }
 {
     let Ok(mut counts) = Vec::with_capacity(alloc, parts.inboxes.len()) else {
         drop(parts);
@@ -274,7 +286,10 @@ where
     requires some { 0 < hands }
     requires few { hands ≤ all_parts }
     ensures report { IfOk result (IsReportOf (length plans.items)) }
+    ensures plans { IfOk result (λ report. HaveBegun (plans_of plans.items) report.tables.items) }
     ensures mismatch { IfErr result IsRunMismatchOnly }
+    ensures bodies { OnOk result (HaveBodies plans.items) }
+    ensures opened { IfErr result (IsRunOpenFault plans.items) }
 {
     match run_tree_counted(rt, alloc, plans, hands, gate, turns) {
         Ok(CountedRun { counts: _, report }) => Ok(report),

@@ -4,13 +4,13 @@ use otp_inbox::InboxNaming;
 use otp_job::{Body, BoxedJob};
 use otp_run::RunNaming;
 use otp_signals::WordsNaming;
-use otp_tree::{Client, Hand, Report, System, TablePlan};
+use otp_tree::{Client, Hand, PlanNaming, Report, System, TablePlan};
 
 fn is_send<T: Send>(_: &T) {}
 
 fn is_sync<T: Sync>(_: &T) {}
 
-pub fn system_is_shared<N: WordsNaming + InboxNaming + Send + Sync>(
+pub fn system_is_shared<N: WordsNaming + InboxNaming + PlanNaming + Send + Sync>(
     system: &System<N, BoxedJob, BoxedSubsystem>,
     client: &Client<N, Body<BoxedJob, BoxedSubsystem>>,
 ) {
@@ -19,7 +19,7 @@ pub fn system_is_shared<N: WordsNaming + InboxNaming + Send + Sync>(
     is_send(client);
 }
 
-pub fn hand_is_carried<N: WordsNaming + InboxNaming + RunNaming + Send + Sync>(
+pub fn hand_is_carried<N: WordsNaming + InboxNaming + PlanNaming + RunNaming + Send + Sync>(
     hand: &Hand<N, BoxedJob, BoxedSubsystem>,
 ) {
     is_send(hand);

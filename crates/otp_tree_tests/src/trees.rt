@@ -13,8 +13,8 @@ use otp_run::RunNaming;
 use otp_signals::WordsNaming;
 use otp_spec::SupFlags;
 use otp_tree::{
-    Client, CloseFault, Gate, Hand, Leader, Led, Report, Round, Session, System, SystemFault,
-    TablePlan, TableReport, Unclosed, lead, run_tree, with_system,
+    Client, CloseFault, Gate, Hand, Leader, Led, PlanNaming, Report, Round, Session, System,
+    SystemFault, TablePlan, TableReport, Unclosed, lead, run_tree, with_system,
 };
 use std::alloc::{AllocError, Global};
 use std::process::Abort;
@@ -376,7 +376,7 @@ struct Alone {
 impl<R: Wait + Abort> Session<R, Worker, BoxedSubsystem> for Alone {
     type Output = UpAndDown;
 
-    fn run<N: WordsNaming + InboxNaming + RunNaming + Send + Sync>(
+    fn run<N: WordsNaming + InboxNaming + PlanNaming + RunNaming + Send + Sync>(
         self,
         rt: &R,
         system: System<N, Worker, BoxedSubsystem>,
@@ -394,7 +394,7 @@ impl<R: Wait + Abort> Session<R, Worker, BoxedSubsystem> for Alone {
 }
 
 // Serves all hands, as the leader says, until the root has ended.
-fn lead_alone<N: WordsNaming + InboxNaming + RunNaming, R: Wait + Abort>(
+fn lead_alone<N: WordsNaming + InboxNaming + PlanNaming + RunNaming, R: Wait + Abort>(
     rt: &R,
     system: &System<N, Worker, BoxedSubsystem>,
     hands: &mut Vec<Hand<N, Worker, BoxedSubsystem>>,
@@ -437,7 +437,7 @@ struct Closing {
 impl<R: Wait + Abort> Session<R, Worker, BoxedSubsystem> for Closing {
     type Output = Option<Report<Worker, BoxedSubsystem>>;
 
-    fn run<N: WordsNaming + InboxNaming + RunNaming + Send + Sync>(
+    fn run<N: WordsNaming + InboxNaming + PlanNaming + RunNaming + Send + Sync>(
         self,
         rt: &R,
         system: System<N, Worker, BoxedSubsystem>,
@@ -458,7 +458,7 @@ impl<R: Wait + Abort> Session<R, Worker, BoxedSubsystem> for Closing {
 }
 
 // Closes the tree without one of its two hands: all that is there comes back.
-fn close_without<N: WordsNaming + InboxNaming + RunNaming, R: Wait + Abort>(
+fn close_without<N: WordsNaming + InboxNaming + PlanNaming + RunNaming, R: Wait + Abort>(
     rt: &R,
     alloc: Global,
     system: System<N, Worker, BoxedSubsystem>,
@@ -476,7 +476,7 @@ fn close_without<N: WordsNaming + InboxNaming + RunNaming, R: Wait + Abort>(
 }
 
 // Closes the tree. Under a refused growth all comes back, and the tree can be closed again.
-fn close_with_all<N: WordsNaming + InboxNaming + RunNaming, R: Wait + Abort>(
+fn close_with_all<N: WordsNaming + InboxNaming + PlanNaming + RunNaming, R: Wait + Abort>(
     rt: &R,
     alloc: Global,
     back: Unclosed<N, Worker, BoxedSubsystem>,
@@ -548,7 +548,7 @@ fn may_follow(last: u64, now: CountsNow) -> bool {
 }
 
 // A hand reads these counts of a supervisor.
-fn reads<N: WordsNaming + InboxNaming + RunNaming, R: Abort>(
+fn reads<N: WordsNaming + InboxNaming + PlanNaming + RunNaming, R: Abort>(
     rt: &R,
     system: &System<N, Worker, BoxedSubsystem>,
     hand: &mut Hand<N, Worker, BoxedSubsystem>,
@@ -560,7 +560,7 @@ fn reads<N: WordsNaming + InboxNaming + RunNaming, R: Abort>(
 }
 
 // Serves by one hand, while another reads after each turn; and reads once all is up and `c` was restarted.
-fn count_along<N: WordsNaming + InboxNaming + RunNaming, R: Wait + Abort>(
+fn count_along<N: WordsNaming + InboxNaming + PlanNaming + RunNaming, R: Wait + Abort>(
     rt: &R,
     system: &System<N, Worker, BoxedSubsystem>,
     serving: &mut Hand<N, Worker, BoxedSubsystem>,
@@ -579,7 +579,7 @@ fn count_along<N: WordsNaming + InboxNaming + RunNaming, R: Wait + Abort>(
 }
 
 // Reads after each of many turns.
-fn count_turns<N: WordsNaming + InboxNaming + RunNaming, R: Wait + Abort>(
+fn count_turns<N: WordsNaming + InboxNaming + PlanNaming + RunNaming, R: Wait + Abort>(
     rt: &R,
     system: &System<N, Worker, BoxedSubsystem>,
     serving: &mut Hand<N, Worker, BoxedSubsystem>,
@@ -605,7 +605,7 @@ struct Counting;
 impl<R: Wait + Abort> Session<R, Worker, BoxedSubsystem> for Counting {
     type Output = bool;
 
-    fn run<N: WordsNaming + InboxNaming + RunNaming + Send + Sync>(
+    fn run<N: WordsNaming + InboxNaming + PlanNaming + RunNaming + Send + Sync>(
         self,
         rt: &R,
         system: System<N, Worker, BoxedSubsystem>,

@@ -11,7 +11,8 @@ use otp_run::RunNaming;
 use otp_signals::WordsNaming;
 use otp_spec::{SpecFault, SupFlags};
 use otp_tree::{
-    Client, Hand, Millis, Session, System, SystemFault, TableDraft, TablePlan, with_system,
+    Client, Hand, Millis, PlanNaming, Session, System, SystemFault, TableDraft, TablePlan,
+    with_system,
 };
 use std::alloc::{AllocError, Global};
 use std::sync::Wait;
@@ -118,7 +119,7 @@ struct UpAndDown {
 impl<R: Wait> Session<R, Steady, BoxedSubsystem> for UpAndDown {
     type Output = Run;
 
-    fn run<N: WordsNaming + InboxNaming + RunNaming + Send + Sync>(
+    fn run<N: WordsNaming + InboxNaming + PlanNaming + RunNaming + Send + Sync>(
         self,
         rt: &R,
         system: System<N, Steady, BoxedSubsystem>,
@@ -144,7 +145,7 @@ fn serve_all<N, R>(
     hands: &mut Vec<Hand<N, Steady, BoxedSubsystem>>,
 )
 where
-    N: WordsNaming + InboxNaming + RunNaming,
+    N: WordsNaming + InboxNaming + PlanNaming + RunNaming,
     R: Wait,
 {
     for place in 0..hands.len() {
@@ -161,7 +162,7 @@ fn count_children<N, R>(
     client: &mut Client<N, Body<Steady, BoxedSubsystem>>,
 ) -> Option<CountsNow>
 where
-    N: WordsNaming + InboxNaming + RunNaming,
+    N: WordsNaming + InboxNaming + PlanNaming + RunNaming,
     R: Wait,
 {
     let call = system.submit(rt, alloc, client, 0, Call::CountChildren, None);
@@ -181,7 +182,7 @@ fn next_note<N, R>(
     client: &mut Client<N, Body<Steady, BoxedSubsystem>>,
 ) -> Option<Note>
 where
-    N: WordsNaming + InboxNaming + RunNaming,
+    N: WordsNaming + InboxNaming + PlanNaming + RunNaming,
     R: Wait,
 {
     for _ in 0..100 {

@@ -5,8 +5,8 @@ use Rattle.otp_run.specs.Gathers.{IsLiveTotal, begun_of, ended_of}
 use Rattle.otp_run.specs.Rule.{ticket_of}
 use Rattle.otp_close.specs.Totals.{HasAllStarts, HasAllEnds, HasHeard}
 use Rattle.otp_hand.specs.Ended.{held_by}
-use Rattle.otp_close.specs.Closes.{AreApart, HasBegun, HasTold, IsComplete, IsIntact, all_senders, kept_in}
-use Rattle.otp_close.specs.Leavings.{AreAccounted, HasUnsent, IsLast}
+use Rattle.otp_close.specs.Closes.{AreApart, HasBegun, HasTold, HaveBegun, IsComplete, IsIntact, all_senders, kept_in}
+use Rattle.otp_close.specs.Leavings.{AreAccounted, AreInOrder, HasUnsent, IsLast, IsLastInOrder}
 use Rattle.otp_close.specs.Partings.{schedulers_of}
 use Rattle.otp_close.proofs.Refusals.{refused-report, refused-mismatch, refused-back, refused-missing, reached-by, unreached-missing, reported-missing, reported-back}
 use Rattle.otp_close.proofs.closing.close.Goals as goal
@@ -29,6 +29,12 @@ returns-in-Ok-gather_hands-clause-left g c =
     subst (λ o. IfSome o (λ report. AreAccounted (all_senders c.args.client c.args.hands.items) report.tables.items)) (sym c.judge.ensures.report)
     (subst (λ l. AreAccounted (c.args.client.senders ∷ l) c.report_of.result.tables.items) e.senders c.report_of.ensures.left)
 
+pub returns-in-Ok-gather_hands-clause-order : goal.returns-in-Ok-gather_hands-clause-order
+returns-in-Ok-gather_hands-clause-order g c =
+    let e = c.in-Ok-gather_hands.ensures {u = tt} in
+    subst (λ o. IfSome o (λ report. AreInOrder (all_senders c.args.client c.args.hands.items) report.tables.items)) (sym c.judge.ensures.report)
+    (subst (λ l. AreInOrder (c.args.client.senders ∷ l) c.report_of.result.tables.items) e.senders c.report_of.ensures.order)
+
 pub returns-in-Err-clause-complete : goal.returns-in-Err-clause-complete
 returns-in-Err-clause-complete g c = refused-report c.in-Err.field-0.cause c.in-Err.field-0.shared c.args.hands.items c.args.client c.refuse-in-Err.result (λ _. IsComplete c.args.shared c.args.hands.items c.args.client) c.refuse-in-Err.ensures
 
@@ -44,6 +50,9 @@ returns-in-Err-clause-begun g c = refused-report c.in-Err.field-0.cause c.in-Err
 pub returns-in-Err-clause-ended : goal.returns-in-Err-clause-ended
 returns-in-Err-clause-ended g c = refused-report c.in-Err.field-0.cause c.in-Err.field-0.shared c.args.hands.items c.args.client c.refuse-in-Err.result (λ report. report.ended ≡ sum_by ended_of (schedulers_of c.args.hands.items)) c.refuse-in-Err.ensures
 
+pub returns-in-Err-clause-plans : goal.returns-in-Err-clause-plans
+returns-in-Err-clause-plans g c = refused-report c.in-Err.field-0.cause c.in-Err.field-0.shared c.args.hands.items c.args.client c.refuse-in-Err.result (λ report. HaveBegun g.N.PlanNaming.plan report.tables.items) c.refuse-in-Err.ensures
+
 pub returns-in-Err-clause-begins : goal.returns-in-Err-clause-begins
 returns-in-Err-clause-begins g c = refused-report c.in-Err.field-0.cause c.in-Err.field-0.shared c.args.hands.items c.args.client c.refuse-in-Err.result (λ report. All HasBegun report.tables.items) c.refuse-in-Err.ensures
 
@@ -52,6 +61,12 @@ returns-in-Err-clause-shown g c = refused-report c.in-Err.field-0.cause c.in-Err
 
 pub returns-in-Err-clause-apart : goal.returns-in-Err-clause-apart
 returns-in-Err-clause-apart g c = refused-report c.in-Err.field-0.cause c.in-Err.field-0.shared c.args.hands.items c.args.client c.refuse-in-Err.result (λ report. AreApart report.tables.items) c.refuse-in-Err.ensures
+
+pub returns-in-Err-clause-order : goal.returns-in-Err-clause-order
+returns-in-Err-clause-order g c = refused-report c.in-Err.field-0.cause c.in-Err.field-0.shared c.args.hands.items c.args.client c.refuse-in-Err.result (λ report. AreInOrder (all_senders c.args.client c.args.hands.items) report.tables.items) c.refuse-in-Err.ensures
+
+pub returns-in-Err-clause-last_order : goal.returns-in-Err-clause-last_order
+returns-in-Err-clause-last_order g c = refused-report c.in-Err.field-0.cause c.in-Err.field-0.shared c.args.hands.items c.args.client c.refuse-in-Err.result (λ report. IsLastInOrder c.args.shared.tables (all_senders c.args.client c.args.hands.items) c.args.client.waiter report.last.items) c.refuse-in-Err.ensures
 
 pub returns-in-Err-clause-left : goal.returns-in-Err-clause-left
 returns-in-Err-clause-left g c = refused-report c.in-Err.field-0.cause c.in-Err.field-0.shared c.args.hands.items c.args.client c.refuse-in-Err.result (λ report. AreAccounted (all_senders c.args.client c.args.hands.items) report.tables.items) c.refuse-in-Err.ensures
@@ -91,11 +106,20 @@ returns-in-Err-gather_hands-clause-begun g c = refused-report c.in-Err-gather_ha
 pub returns-in-Err-gather_hands-clause-ended : goal.returns-in-Err-gather_hands-clause-ended
 returns-in-Err-gather_hands-clause-ended g c = refused-report c.in-Err-gather_hands.field-0.cause c.lock.result c.in-Err-gather_hands.field-0.hands.items c.args.client c.refuse-in-Err-gather_hands.result (λ report. report.ended ≡ sum_by ended_of (schedulers_of c.args.hands.items)) c.refuse-in-Err-gather_hands.ensures
 
+pub returns-in-Err-gather_hands-clause-plans : goal.returns-in-Err-gather_hands-clause-plans
+returns-in-Err-gather_hands-clause-plans g c = refused-report c.in-Err-gather_hands.field-0.cause c.lock.result c.in-Err-gather_hands.field-0.hands.items c.args.client c.refuse-in-Err-gather_hands.result (λ report. HaveBegun g.N.PlanNaming.plan report.tables.items) c.refuse-in-Err-gather_hands.ensures
+
 pub returns-in-Err-gather_hands-clause-begins : goal.returns-in-Err-gather_hands-clause-begins
 returns-in-Err-gather_hands-clause-begins g c = refused-report c.in-Err-gather_hands.field-0.cause c.lock.result c.in-Err-gather_hands.field-0.hands.items c.args.client c.refuse-in-Err-gather_hands.result (λ report. All HasBegun report.tables.items) c.refuse-in-Err-gather_hands.ensures
 
 pub returns-in-Err-gather_hands-clause-apart : goal.returns-in-Err-gather_hands-clause-apart
 returns-in-Err-gather_hands-clause-apart g c = refused-report c.in-Err-gather_hands.field-0.cause c.lock.result c.in-Err-gather_hands.field-0.hands.items c.args.client c.refuse-in-Err-gather_hands.result (λ report. AreApart report.tables.items) c.refuse-in-Err-gather_hands.ensures
+
+pub returns-in-Err-gather_hands-clause-order : goal.returns-in-Err-gather_hands-clause-order
+returns-in-Err-gather_hands-clause-order g c = refused-report c.in-Err-gather_hands.field-0.cause c.lock.result c.in-Err-gather_hands.field-0.hands.items c.args.client c.refuse-in-Err-gather_hands.result (λ report. AreInOrder (all_senders c.args.client c.args.hands.items) report.tables.items) c.refuse-in-Err-gather_hands.ensures
+
+pub returns-in-Err-gather_hands-clause-last_order : goal.returns-in-Err-gather_hands-clause-last_order
+returns-in-Err-gather_hands-clause-last_order g c = refused-report c.in-Err-gather_hands.field-0.cause c.lock.result c.in-Err-gather_hands.field-0.hands.items c.args.client c.refuse-in-Err-gather_hands.result (λ report. IsLastInOrder c.args.shared.tables (all_senders c.args.client c.args.hands.items) c.args.client.waiter report.last.items) c.refuse-in-Err-gather_hands.ensures
 
 pub returns-in-Err-gather_hands-clause-left : goal.returns-in-Err-gather_hands-clause-left
 returns-in-Err-gather_hands-clause-left g c = refused-report c.in-Err-gather_hands.field-0.cause c.lock.result c.in-Err-gather_hands.field-0.hands.items c.args.client c.refuse-in-Err-gather_hands.result (λ report. AreAccounted (all_senders c.args.client c.args.hands.items) report.tables.items) c.refuse-in-Err-gather_hands.ensures
@@ -138,6 +162,9 @@ returns-then-not-is_reached-clause-begun g c = refused-report refusal.Missing c.
 pub returns-then-not-is_reached-clause-ended : goal.returns-then-not-is_reached-clause-ended
 returns-then-not-is_reached-clause-ended g c = refused-report refusal.Missing c.args.shared c.args.hands.items c.args.client c.refuse.result (λ report. report.ended ≡ sum_by ended_of (schedulers_of c.args.hands.items)) c.refuse.ensures
 
+pub returns-then-not-is_reached-clause-plans : goal.returns-then-not-is_reached-clause-plans
+returns-then-not-is_reached-clause-plans g c = refused-report refusal.Missing c.args.shared c.args.hands.items c.args.client c.refuse.result (λ report. HaveBegun g.N.PlanNaming.plan report.tables.items) c.refuse.ensures
+
 pub returns-then-not-is_reached-clause-begins : goal.returns-then-not-is_reached-clause-begins
 returns-then-not-is_reached-clause-begins g c = refused-report refusal.Missing c.args.shared c.args.hands.items c.args.client c.refuse.result (λ report. All HasBegun report.tables.items) c.refuse.ensures
 
@@ -157,6 +184,12 @@ returns-then-not-is_reached-clause-missing g c =
 
 pub returns-then-not-is_reached-clause-back : goal.returns-then-not-is_reached-clause-back
 returns-then-not-is_reached-clause-back g c = refused-back refusal.Missing c.args.shared c.args.hands.items c.args.hands.items c.args.client c.refuse.result refl c.refuse.ensures
+
+pub returns-then-not-is_reached-clause-order : goal.returns-then-not-is_reached-clause-order
+returns-then-not-is_reached-clause-order g c = refused-report refusal.Missing c.args.shared c.args.hands.items c.args.client c.refuse.result (λ report. AreInOrder (all_senders c.args.client c.args.hands.items) report.tables.items) c.refuse.ensures
+
+pub returns-then-not-is_reached-clause-last_order : goal.returns-then-not-is_reached-clause-last_order
+returns-then-not-is_reached-clause-last_order g c = refused-report refusal.Missing c.args.shared c.args.hands.items c.args.client c.refuse.result (λ report. IsLastInOrder c.args.shared.tables (all_senders c.args.client c.args.hands.items) c.args.client.waiter report.last.items) c.refuse.ensures
 
 pub returns-then-not-is_reached-clause-left : goal.returns-then-not-is_reached-clause-left
 returns-then-not-is_reached-clause-left g c = refused-report refusal.Missing c.args.shared c.args.hands.items c.args.client c.refuse.result (λ report. AreAccounted (all_senders c.args.client c.args.hands.items) report.tables.items) c.refuse.ensures

@@ -1,6 +1,8 @@
-use Rattle.std.proofs.Common.{◌+◌, ◌∙◌, ap, sym, arith}
+use Rattle.std.proofs.Common.{◌+◌, ◌∙◌, ap, sym, subst, arith}
+use Rattle.std.specs.Prelude.{IfSome}
 use Rattle.std.proofs.lemmas.List.{length-map}
 use Rattle.otp_run.specs.Rule.{ticket_of}
+use Rattle.otp_close.specs.Closes.{HaveBegun}
 use Rattle.otp_close.proofs.closing.finish.Goals as goal
 
 pub returns-in-Ok-clause-report : goal.returns-in-Ok-clause-report
@@ -22,3 +24,7 @@ returns-in-Ok-clause-report g c =
       starts = e.starts;
       ends = e.ends;
     }
+
+pub returns-in-Err-clause-plans : goal.returns-in-Err-clause-plans
+returns-in-Err-clause-plans g c =
+    subst (λ o. IfSome o (λ report. HaveBegun g.N.PlanNaming.plan report.tables.items)) (sym c.without_tree.ensures.report) (c.in-Err.ensures {u = tt}).plans

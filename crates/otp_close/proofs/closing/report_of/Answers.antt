@@ -1,6 +1,6 @@
 use Rattle.std.proofs.Common.{◌≡◌, ◌<◌, ℕ, ◌-◌, ◌^◌, ◌∷◌, ◌++◌, length, map, min, sym, ap, ◌∙◌, subst, arith}
 use Rattle.std.specs.Prelude.{IfSome, MatchOption, sum_by}
-use Rattle.otp_inbox.specs.Lists.{AsOften}
+use Rattle.otp_inbox.specs.Lists.{AsOften, EachInOrder}
 use Rattle.otp_inbox.specs.declared.rule.Shares.{Shares}
 use Rattle.otp_inbox.specs.Tokens.{TakerState, all_parts, no_shares}
 use Rattle.otp_hand.specs.Sendings.{parts_to, sent_at, sent_to}
@@ -12,8 +12,9 @@ use Rattle.otp_close.proofs.Begun.{as_far_as, others_as_far}
 use Rattle.otp_hand.proofs.Begun.{starts_push}
 use Rattle.otp_run.specs.Lists.{AllAt}
 use Rattle.otp_run.proofs.Places.{each_at}
-use Rattle.otp_close.specs.Leavings.{line_of}
-use Rattle.otp_close.specs.Settlings.{IsRoom, IsWhole, senders_in}
+use Rattle.otp_close.specs.Leavings.{line_of, lists_at, lists_to}
+use Rattle.otp_close.specs.Settlings.{HasLists, IsRoom, IsWhole, senders_in}
+use Rattle.otp_close.proofs.Ordered.{lists_but_last, lists_of_last}
 use Rattle.otp_close.proofs.Settlings.{last_whole, others_ready, others_sent, others_whole}
 use Rattle.otp_close.proofs.closing.report_of.Goals as goal
 
@@ -140,3 +141,33 @@ returns-clause-heard g c =
     let exact : c.client.inside.heard ≡ ends_in taken = omega (arith, joined, none, cut, last, parts, heard, ended) in
     let waits = sym (ap (λ v. v.waiter) c.client.view_is) ∙ c.in-Some.is in
     subst (λ o. MatchOption o ⊥ (λ (w : TakerState Item). c.client.inside.heard ≡ ends_in w.taken)) (sym waits) exact
+
+pub returns-clause-order : goal.returns-clause-order
+returns-clause-order g c =
+    let rests = c.args.gathered.rests.items in
+    let all = c.args.client.senders ∷ map senders_in rests in
+    let list = c.into_last-senders.result.0.items in
+    let lists = subst (λ v. AllAt (HasLists (v.senders ∷ map senders_in rests)) c.join_all-senders.result.senders) c.client.view_is c.join_all-senders.ensures.lists in
+    let whole = subst (λ v. AllAt (IsWhole (v.senders ∷ map senders_in rests)) c.join_all-senders.result.senders) c.client.view_is c.join_all-senders.ensures.whole in
+    let many = c.join_all-senders.ensures.len ∙ ap (λ v. length v.senders) c.client.view_is ∙ c.requires.reached.reach in
+    let l = c.into_last-senders.ensures in
+    let size = (others_whole all c.args.loose.sups.items list _ c.join_all-senders.result.senders l.all whole many).1 in
+    let count = c.take_all_apart-tables.ensures.count in
+    each_at (λ k t. EachInOrder (lists_at k list) (line_of t)) (λ k t. EachInOrder (lists_to k all) (line_of t)) c.take_all_apart-tables.result.items c.take_all_apart-tables.ensures.order
+    (λ j t within each. subst (λ ls. EachInOrder ls (line_of t)) (lists_but_last all list _ c.join_all-senders.result.senders j l.all lists (omega (arith, within, size, count))) each)
+
+pub returns-clause-last_order : goal.returns-clause-last_order
+returns-clause-last_order g c =
+    let rests = c.args.gathered.rests.items in
+    let all = c.args.client.senders ∷ map senders_in rests in
+    let list = c.into_last-senders.result.0.items in
+    let tables = length c.args.loose.sups.items in
+    let lists = subst (λ v. AllAt (HasLists (v.senders ∷ map senders_in rests)) c.join_all-senders.result.senders) c.client.view_is c.join_all-senders.ensures.lists in
+    let whole = subst (λ v. AllAt (IsWhole (v.senders ∷ map senders_in rests)) c.join_all-senders.result.senders) c.client.view_is c.join_all-senders.ensures.whole in
+    let many = c.join_all-senders.ensures.len ∙ ap (λ v. length v.senders) c.client.view_is ∙ c.requires.reached.reach in
+    let l = c.into_last-senders.ensures in
+    let size : length list ≡ tables = (others_whole all c.args.loose.sups.items list _ c.join_all-senders.result.senders l.all whole many).1 in
+    let last = lists_of_last all list _ c.join_all-senders.result.senders l.all lists ∙ ap (λ n. lists_to n all) size in
+    let waits = sym (ap (λ v. v.waiter) c.client.view_is) ∙ c.in-Some.is in
+    subst (λ o. MatchOption o ⊥ (λ w. EachInOrder (lists_to tables all) (w.taken ++ c.settle-last.result.items))) (sym waits)
+    (subst (λ ls. EachInOrder ls (c.in-Some.waiter.taken ++ c.settle-last.result.items)) last c.settle-last.ensures.order)

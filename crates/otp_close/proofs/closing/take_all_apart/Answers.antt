@@ -1,13 +1,16 @@
-use Rattle.std.proofs.Common.{drop, length, sym, ap, ◌∙◌, subst, arith}
-use Rattle.otp_inbox.specs.Lists.{AsOften}
+use Rattle.std.proofs.Common.{◌≡◌, drop, length, sym, ap, ◌∙◌, subst, arith}
+use Rattle.otp_inbox.specs.Lists.{AsOften, EachInOrder}
 use Rattle.otp_run.specs.Lists.{AllAt}
 use Rattle.otp_run.proofs.Places.{push_at}
-use Rattle.otp_close.specs.Closes.{HasBegun, HasTold}
-use Rattle.otp_close.specs.Leavings.{HasUnsent, line_of}
+use Rattle.otp_report.specs.declared.report.TableReport.{TableReport}
+use Rattle.otp_sup.specs.Plans.{never_opened}
+use Rattle.otp_close.specs.Closes.{HasBegun, HasTold, HaveBegun}
+use Rattle.otp_close.specs.Leavings.{HasUnsent, line_of, lists_at, lists_in}
 use Rattle.otp_hand.specs.Sendings.{sent_at, sent_in}
 use Rattle.otp_close.proofs.Apart.{all-more, length-more, seen-more, apart-more}
 use Rattle.otp_close.proofs.Settlings.{all_ready, more_next, next_at, next_behind, room_ready, sender_ready}
 use Rattle.otp_close.proofs.Begun.{apart_starts, none_left}
+use Rattle.otp_close.proofs.Leavings.{found_at}
 use Rattle.otp_close.proofs.Ended.{told_each}
 use Rattle.otp_close.proofs.closing.take_all_apart.Goals as goal
 
@@ -48,6 +51,9 @@ loop-sup-preserved g c =
     let shorter = ap length next in
     let sender = c.next_of-sender.ensures.next in
     let room_of = c.next_of-room.ensures.next in
+    let at = next_at c.args.sups.items n _ _ _ i.sups next in
+    let own : c.in-Some.sup.inbox ≡ n = found_at (λ k u. u.inbox ≡ k) c.args.sups.items n c.in-Some.sup c.requires.placed at in
+    let planned = c.take_apart.ensures.plan ∙ ap (λ m. never_opened (g.N.PlanNaming.plan m)) own in
     let shorter_too = ap length sender in
     let shorter_rooms = ap length room_of in
     let fewer_too = c.next_of-sender.ensures.len in
@@ -70,6 +76,7 @@ loop-sup-preserved g c =
       left_rooms = omega arith;
       room = omega arith;
       count = omega arith;
+      plans = subst (HaveBegun g.N.PlanNaming.plan) (sym one) (push_at (λ k (t : TableReport). t.core.base ≡ never_opened (g.N.PlanNaming.plan k)) _ _ i.plans planned);
       begins = all-more HasBegun _ _ _ one i.begins apart.begins;
       shown = all-more HasTold _ _ _ one i.shown apart.shown;
       apart = apart-more _ _ _ old one apart.apart i.seen i.apart;
@@ -77,6 +84,7 @@ loop-sup-preserved g c =
       unsent = all-more HasUnsent _ _ _ one i.unsent apart.unsent;
       starts = apart_starts c.args.senders.items _ _ _ _ _ _ one sender apart.starts i.starts;
       done = subst (λ l. AllAt (λ k t. AsOften (sent_at k c.args.senders.items) (line_of t)) l) (sym one) (push_at (λ k t. AsOften (sent_at k c.args.senders.items) (line_of t)) _ _ i.done (subst (λ o. AsOften (sent_in o) (line_of c.take_apart.result)) (sym (next_at c.args.senders.items n _ _ _ i.senders sender)) apart.left));
+      order = subst (λ l. AllAt (λ k t. EachInOrder (lists_at k c.args.senders.items) (line_of t)) l) (sym one) (push_at (λ k t. EachInOrder (lists_at k c.args.senders.items) (line_of t)) _ _ i.order (subst (λ o. EachInOrder (lists_in o) (line_of c.take_apart.result)) (sym (next_at c.args.senders.items n _ _ _ i.senders sender)) apart.order));
       sups = ap (λ n. drop n c.args.sups.items) long ∙ next_behind c.args.sups.items n _ _ _ i.sups next;
       senders = ap (λ n. drop n c.args.senders.items) long ∙ next_behind c.args.senders.items n _ _ _ i.senders sender;
       rooms = ap (λ n. drop n c.args.rooms.items) long ∙ next_behind c.args.rooms.items n _ _ _ i.rooms room_of;

@@ -1,11 +1,11 @@
 use Rattle.std.proofs.Common.{◌≡◌, ◌+◌, ◌≤◌, drop, length}
 use Rattle.std.specs.Prelude.{All, sum_by, vec_capacity, vec_len}
-use Rattle.otp_inbox.specs.Lists.{AsOften}
+use Rattle.otp_inbox.specs.Lists.{AsOften, EachInOrder}
 use Rattle.otp_run.specs.Lists.{AllAt}
 use Rattle.otp_hand.specs.Begun.{starts_credited}
 use Rattle.otp_close.specs.Totals.{starts_of, unsent_of}
-use Rattle.otp_close.specs.Closes.{AreApart, HasBegun, HasTold}
-use Rattle.otp_close.specs.Leavings.{HasUnsent, line_of}
+use Rattle.otp_close.specs.Closes.{AreApart, HasBegun, HasTold, HaveBegun}
+use Rattle.otp_close.specs.Leavings.{HasUnsent, line_of, lists_at}
 use Rattle.otp_hand.specs.Sendings.{sent_at}
 use Rattle.otp_close.proofs.Apart.{Seen}
 use Rattle.otp_close.proofs.closing.take_all_apart.Given as goal
@@ -18,6 +18,7 @@ invariant-loop-sup g l =
       left_rooms : l.rooms.rest.len ≡ length l.rooms.rest.items;
       room : vec_len l.tables + length l.sup-iterator.rest.items ≤ vec_capacity l.tables;
       count : length l.tables.items + length l.sup-iterator.rest.items ≡ length l.fn.sups.items;
+      plans : HaveBegun g.N.PlanNaming.plan l.tables.items;
       begins : All HasBegun l.tables.items;
       shown : All HasTold l.tables.items;
       apart : AreApart l.tables.items;
@@ -25,6 +26,7 @@ invariant-loop-sup g l =
       unsent : All HasUnsent l.tables.items;
       starts : starts_credited l.fn.senders.items + sum_by unsent_of l.tables.items ≡ sum_by starts_of l.tables.items + starts_credited l.senders.rest.items;
       done : AllAt (λ k t. AsOften (sent_at k l.fn.senders.items) (line_of t)) l.tables.items;
+      order : AllAt (λ k t. EachInOrder (lists_at k l.fn.senders.items) (line_of t)) l.tables.items;
       sups : drop (length l.tables.items) l.fn.sups.items ≡ l.sup-iterator.rest.items;
       senders : drop (length l.tables.items) l.fn.senders.items ≡ l.senders.rest.items;
       rooms : drop (length l.tables.items) l.fn.rooms.items ≡ l.rooms.rest.items;

@@ -1,16 +1,19 @@
 use Rattle.std.proofs.Common.{ℕ, ◌++◌, List, length, length-append, sym, ap, arith, ◌∙◌, subst}
 use Rattle.std.proofs.lemmas.List.Elements.{filter_map-append}
 use Rattle.otp_inbox.specs.declared.rule.Shares.{Shares}
+use Rattle.otp_inbox.specs.Lists.{EachInOrder}
+use Rattle.otp_inbox.specs.Tokens.{sent_lists}
 use Rattle.otp_rules.specs.declared.event.Effect.{Effect}
 use Rattle.otp_office.specs.Orders.{started_by}
 use Rattle.std.specs.Prelude.{sum_by}
 use Rattle.otp_rules.specs.Needs.{numbers_of}
 use Rattle.otp_signals.specs.Lists.{AllIn, NoneInBoth}
-use Rattle.otp_core.specs.View.{stored_of}
+use Rattle.otp_core.specs.View.{View, stored_of}
 use Rattle.otp_bodies.specs.Ends.{AreTold}
 use Rattle.otp_office.specs.Events.{items_of}
 use Rattle.otp_office.specs.Offices.{sent_of}
 use Rattle.otp_office.specs.Orders.{starts_in}
+use Rattle.otp_sup.specs.Plans.{never_opened}
 use Rattle.otp_close.proofs.closing.take_apart.Goals as goal
 
 pub returns-clause-left : goal.returns-clause-left
@@ -48,3 +51,14 @@ returns-clause-starts g c =
     let unsent = c.unsent_starts-unsent.ensures.value in
     let same = ap (λ core. length (numbers_of core.history)) parts.core in
     omega (arith, given, all, cut, unsent, same)
+
+pub returns-clause-plan : goal.returns-clause-plan
+returns-clause-plan g c =
+    let parts = c.into_parts-inbox.ensures in
+    ap (λ (core : View). core.base) parts.core ∙ c.keeps_rules.ensures.plan ∙ ap (λ n. never_opened (g.N.PlanNaming.plan n)) c.requires.takes
+
+pub returns-clause-order : goal.returns-clause-order
+returns-clause-order g c =
+    let parts = c.into_parts-inbox.ensures in
+    let taken = ap (λ t. t.taken) parts.taker ∙ c.keeps_rules.ensures.taken ∙ ap (λ core. items_of core.history) (sym parts.core) in
+    subst (λ l. EachInOrder (sent_lists c.args.sender) (l ++ c.settle-left.result.items)) taken c.settle-left.ensures.order

@@ -5,9 +5,10 @@ use Rattle.otp_hand.proofs.Begun.{starts_push}
 use Rattle.std.specs.Prelude.{slice_get}
 use Rattle.otp_run.specs.Lists.{AllAt}
 use Rattle.otp_hand.specs.Seats.{Seated}
-use Rattle.otp_close.specs.Settlings.{IsJoined}
+use Rattle.otp_close.specs.Settlings.{HasJoined, IsJoined}
 use Rattle.otp_hand.specs.Sendings.{with_sender}
 use Rattle.otp_close.proofs.Leavings.{joined_more, joined_past}
+use Rattle.otp_close.proofs.Ordered.{lists_more, lists_past}
 use Rattle.otp_close.proofs.Settlings.{seat_of, some_at}
 use Rattle.otp_close.proofs.joining.join_senders.Goals as goal
 
@@ -31,6 +32,7 @@ loop-sender-preserved-then-place-len g c =
     let new : c.join_at.new.self ≡ set now (length before) (with_sender x s.0) = c.join_at.ensures.joined s.0 (ap (slice_get now) at ∙ s.1) ∙ ap (λ k. set now k (with_sender x s.0)) at in
     record {
       joined = subst (λ l. AllAt (IsJoined old (before ++ x ∷ [])) l) (sym new) (joined_more old before now x s.0 s.1 i.joined);
+      lists = subst (λ l. AllAt (HasJoined old (before ++ x ∷ [])) l) (sym new) (lists_more old before now x s.0 s.1 i.lists);
       len = c.join_at.ensures.len ∙ i.len;
       starts =
           let one = c.join_at.ensures.starts in
@@ -66,6 +68,7 @@ loop-sender-preserved g c =
     let none : ⊥ = omega (arith, number, seat, size, test, len, as_far, whole, long, one) in
     record {
       joined = joined_past old before now x (omega arith) i.joined;
+      lists = lists_past old before now x (omega arith) i.lists;
       len = i.len;
       starts = absurd none;
       ends = absurd none;

@@ -1,9 +1,10 @@
-use Rattle.std.proofs.Common.{◌≡◌, ℕ, [], ◌+◌, length}
-use Rattle.std.specs.Prelude.{slice_get, Contains}
+use Rattle.std.proofs.Common.{◌≡◌, ℕ, [], ◌+◌, ◌<◌, length}
+use Rattle.std.specs.Prelude.{slice_get, Contains, IfSome}
 use Rattle.otp_inbox.specs.Tokens.{first_sender}
 use Rattle.otp_run.specs.Lists.{AllAt}
 use Rattle.otp_signals.specs.Lists.{EachBetween}
 use Rattle.otp_open.specs.Opens.{first_slot, slots_of}
+use Rattle.otp_open.specs.Plans.{HasBodies}
 use Rattle.otp_open.proofs.opening.open_all.Given as goal
 
 abbrev pub invariant-loop-number : goal.invariant-loop-number
@@ -11,6 +12,8 @@ invariant-loop-number g l =
     record {
       rest : (k : ℕ) → slice_get l.inboxes.rest.items k ≡ slice_get l.fn.inboxes.items (l.number + k);
       count : l.number + length l.inboxes.rest.items ≡ length l.fn.inboxes.items;
+      plans : (k : ℕ) → slice_get l.plans.rest.items k ≡ slice_get l.fn.plans.items (l.number + k);
+      ready : (k : ℕ) → k < l.number → IfSome (slice_get l.fn.plans.items k) HasBodies;
       left : l.inboxes.rest.len ≡ length l.inboxes.rest.items;
       many : length l.named.senders.items ≡ l.number;
       many_passes : length l.named.passes.items ≡ l.number;

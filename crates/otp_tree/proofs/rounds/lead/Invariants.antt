@@ -1,5 +1,6 @@
 use Rattle.std.specs.Prelude.{◌++◌, ◌∷◌, []}
 use Rattle.otp_inbox.specs.Names as inboxes
+use Rattle.otp_open.specs.Plans.{plans_of}
 use Rattle.otp_run.specs.Names as deques
 use Rattle.otp_tree.proofs.rounds.lead.Given as goal
 
@@ -8,6 +9,9 @@ ghosts-lead_named-N-WordsNaming g a = record { words = a.parts.words.words }
 
 abbrev pub ghosts-lead_named-N-InboxNaming : goal.ghosts-lead_named-N-InboxNaming
 ghosts-lead_named-N-InboxNaming g a = record { inbox = inboxes.numbered (a.parts.inboxes.items ++ a.parts.outer ∷ []) }
+
+abbrev pub ghosts-lead_named-N-PlanNaming : goal.ghosts-lead_named-N-PlanNaming
+ghosts-lead_named-N-PlanNaming g a = record { plan = plans_of a.parts.plans.items }
 
 abbrev pub ghosts-lead_named-N-RunNaming : goal.ghosts-lead_named-N-RunNaming
 ghosts-lead_named-N-RunNaming g a = record { deque = deques.numbered a.parts.queue }

@@ -16,6 +16,7 @@ use Rattle.otp_rules.specs.declared.event.Item.{Item}
 use Rattle.otp_office.specs.Flushes.{starts_flushed}
 use Rattle.otp_office.proofs.Shared.{starts_sent_on}
 use Rattle.otp_sup.proofs.Leaving.{Left, left_or_not}
+use Rattle.otp_sup.proofs.Planned.{planned}
 use Rattle.otp_office.proofs.Putting.{flushes_core, flushes_none}
 use Rattle.otp_sup.proofs.table.Table.flush_one.Goals as goal
 
@@ -41,6 +42,7 @@ invariant_of-self g c =
     let Has : List Kept → Type 0 = λ l. HasBodies c.flush_one-flushed.new.self l in
     let Slot : Option ℕ → Type 0 = λ o. HasBodies c.flush_one-flushed.new.self (bodies_sent c.flush_one-flushed.result.0 o c.self.inside.bodies.kept) in
     record {
+      plan = planned g.N.PlanNaming.plan _ _ _ _ (ap (λ (v : View). v.base) core) (ap (λ (t : TakerState Item). t.inbox) c.credit_start.ensures.taker) c.self.invariant.plan;
       taken = ap (λ (t : TakerState Item). t.taken) c.credit_start.ensures.taker ∙ c.self.invariant.taken ∙ ap (λ (v : View). items_of v.history) (sym core);
       calls = ap (λ (l : List Kept). calls_waiting l) is
           ∙ sent_calls c.flush_one-flushed.result.0 slot c.self.inside.bodies.kept

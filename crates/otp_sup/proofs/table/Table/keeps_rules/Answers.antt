@@ -7,7 +7,8 @@ use Rattle.otp_sup.proofs.table.Table.keeps_rules.Goals as goal
 
 pub returns : goal.returns
 returns g c =
-    subst KeepsRules c.self.view_is (record {
+    subst (KeepsRules g.N.PlanNaming.plan) c.self.view_is (record {
+      plan = c.self.invariant.plan;
       office = c.keeps_rules.ensures;
       taken = c.self.invariant.taken;
       calls = c.self.invariant.calls;

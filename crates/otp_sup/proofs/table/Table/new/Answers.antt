@@ -16,6 +16,7 @@ pub invariant_of-result : goal.invariant_of-result
 invariant_of-result g c =
     let Has : List Kept → Type 0 = λ l. HasBodies c.args.office l in
     record {
+      plan = c.requires.plan;
       taken = c.requires.taken ∙ sym (ap items_of c.requires.history);
       calls = ap calls_waiting c.settle.ensures ∙ settled_calls [] false c.args.bodies.kept ∙ sym (nothing_waits c.args.office c.keeps_rules.ensures.begins c.requires.history);
       bodies = subst Has (sym c.settle.ensures) (first_bodies c.args.office c.args.bodies.kept c.keeps_rules.ensures c.requires.history c.requires.bodies c.has_one_each.ensures);

@@ -13,6 +13,7 @@ pub invariant_of-self : goal.invariant_of-self
 invariant_of-self g c =
     let Has : List Kept → Type 0 = λ l. HasBodies c.self.inside.office l in
     record {
+      plan = c.self.invariant.plan;
       taken = c.self.invariant.taken;
       calls = ap calls_waiting c.take_of_nobody.ensures.kept ∙ without_calls (is_stray) c.self.inside.bodies.kept (λ b t. (and_parts _ _ t).1) ∙ c.self.invariant.calls;
       bodies = subst Has (sym c.take_of_nobody.ensures.kept) (stray_bodies (state_of c.self.inside.office.core) (starts_in c.self.inside.office.outbox) c.self.inside.bodies.kept c.self.invariant.bodies);

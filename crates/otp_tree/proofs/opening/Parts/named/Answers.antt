@@ -1,7 +1,9 @@
-use Rattle.std.proofs.Common.{ap, arith, length, sym, subst, ◌∙◌}
-use Rattle.std.specs.Prelude.{Contains}
+use Rattle.std.proofs.Common.{◌≡◌, ap, arith, length, sym, subst, ◌∙◌}
+use Rattle.std.specs.Prelude.{Contains, IfSome}
 use Rattle.otp_signals.specs.declared.view.Holding.{Holding}
 use Rattle.otp_open.proofs.Fresh.{all_idle}
+use Rattle.otp_open.specs.Opens.{AreOpened, IsIdle, root_ticket}
+use Rattle.otp_run.specs.Lists.{AllAt}
 use Rattle.otp_hand.specs.Hands.{ClientView}
 use Rattle.otp_tree.proofs.opening.Parts.named.Goals as goal
 
@@ -11,7 +13,9 @@ open_all-requires-clause-slots g c =
     λ slot low below. subst (λ (o : Holding). Contains o.slots slot) (sym c.viewer-viewer.ensures.same) (c.named-words.ensures.slots slot low (omega (arith, slots, below)))
 
 pub make_hands-requires : goal.make_hands-requires
-make_hands-requires g c = all_idle _ _ ((c.in_ok-schedulers.ensures {u = tt}).opened)
+make_hands-requires g c =
+    let opened = c.in_ok-schedulers.ensures {u = tt} in
+    subst (λ n. AllAt (IsIdle n) c.in_ok-schedulers.schedulers.items) (sym opened.count) (all_idle _ _ opened.opened)
 
 pub returns-clause-tables : goal.returns-clause-tables
 returns-clause-tables g c = (c.in_ok-sups.ensures {u = tt}).many
@@ -21,3 +25,17 @@ returns-clause-own g c = ap length (c.in_ok-hands.ensures {u = tt}).same ∙ (c.
 
 pub returns-clause-unasked : goal.returns-clause-unasked
 returns-clause-unasked g c = ap (λ (v : ClientView). v.owner.posts) c.first-client.ensures ∙ ap (λ (h : Holding). h.posts) (c.in-Ok.ensures {u = tt}).drawn ∙ (c.in_ok-sups.ensures {u = tt}).posts
+
+pub returns-clause-hands : goal.returns-clause-hands
+returns-clause-hands g c =
+    let hands = c.in_ok-hands.hands.items in
+    let queue = c.args.self.queue in
+    let tables = length c.args.self.inboxes.items in
+    let opened = (c.in_ok-hands.ensures {u = tt}).opened in
+    let many = (c.in_ok-schedulers.ensures {u = tt}).count in
+    let count = c.len-tables.ensures in
+    let ok = c.args.self.inboxes.ok.0 in
+    let same : c.len-tables.result ≡ tables = omega (arith, count, ok) in
+    let ticket = ap (λ p. p.ticket) (c.in-Ok-new.ensures {u = tt}).made ∙ ap (root_ticket c.in-Ok.root) same in
+    subst (λ (v : ClientView). IfSome v.root (λ number. AreOpened (root_ticket number tables) (length queue) hands)) (sym c.first-client.ensures)
+    (subst (λ t. AreOpened t (length queue) hands) ticket (subst (λ n. AreOpened c.in-Ok-new.process.ticket n hands) many opened))

@@ -1,0 +1,21 @@
+//! Which supervisor has which plan.
+use std::marker::Brand;
+
+/// A name for the supervisors of a program: with which flags and child specifications each was opened, by the number of
+/// its inbox.
+///
+/// A table carries the name in its type's fact. So of what lies under a lock, of which a caller knows the type alone, the
+/// flags and specifications are known too: the base of its history is that plan, never opened. A function that is generic
+/// in the name is called at [`Brand`]: that call picks it.
+pub trait PlanNaming {
+    ghost use Rattle.std.specs.Prelude.{ℕ};
+    ghost use Rattle.otp_spec.specs.Supervisor.{Supervisor};
+
+    ghost plan: { ℕ → Supervisor };
+}
+
+impl PlanNaming for Brand {
+    ghost use Rattle.otp_sup.specs.Plans.{no_plan};
+
+    ghost plan = { λ number. no_plan };
+}
