@@ -1,18 +1,17 @@
-//! Tests of the crates that play a supervisor or look at tree files for people, each from outside: scripts, tables of limits,
-//! findings and pictures.
+//! Tests of the crates that play a supervisor or look at tree files for people, each from outside: lines of scripts, limits, places
+//! in a text, and readers and writers that fail.
 //!
-//! They stand apart from `otp_tests`, so that the gate proves both side by side.
+//! What the program prints stands in the tables of `.ci/calls`, which are played with the program that the gate has built. These
+//! tests stand apart from `otp_tests`, so that the gate proves both side by side.
 #![tactic(auto)]
 
 #[cfg(test)]
-mod checking;
+mod devices;
 #[cfg(test)]
 mod fixtures;
 #[cfg(test)]
 mod limits;
 #[cfg(test)]
-mod slips;
+mod scripts;
 #[cfg(test)]
 mod sources;
-#[cfg(test)]
-mod trying;

@@ -1,9 +1,8 @@
-//! What no clause says: what is printed of trees whose limits were worked out by hand, and that children which are alike fare
-//! alike.
+//! What no clause says of limits: that children which are alike fare alike, and the intervals of a clock of whole seconds.
 
 use crate::fixtures::{holds_of, same};
 use otp_file::{TreeSpec, read_tree};
-use otp_folds::{Grain, Pick, Row, find_rows, write_limits};
+use otp_folds::{Grain, Pick, Row, find_rows};
 use otp_limits::{Steady, find_steady};
 use otp_reason::Name;
 use otp_spec::{ChildSpec, SupFlags, SupSpec};
@@ -15,57 +14,6 @@ use std::test::Fail;
 /// The tree that a file says.
 fn tree_of(alloc: Global, file: &str) -> Result<TreeSpec, Fail> {
     Ok(read_tree(alloc, file.as_bytes()).map_err(|_| "a tree")?)
-}
-
-/// Compares what is printed of the limits of a tree with what was expected.
-fn prints(
-    rt: &impl Abort,
-    alloc: Global,
-    file: &str,
-    pick: Pick<'_>,
-    printed: &str,
-) -> Result<(), Fail> {
-    let tree = tree_of(alloc, file)?;
-    let mut text = Vec::new(alloc);
-    let Ok(found) = write_limits(alloc, &tree, Grain::Alike, &pick, &mut text) else {
-        return Err(Fail::from("limits that are found"));
-    };
-    same(rt, "the table", text.as_slice(), printed.as_bytes());
-    same(rt, "whether there are rows", found, !printed.is_empty());
-    Ok(())
-}
-
-/// The shop, and what is printed of it.
-const SHOP: &str =
-    "strategy = \"rest_for_one\"\nintensity = 3\nperiod = 10\nchild = [{id = \"log\", start = \"m\", restart = \"temporary\"}, {id = \"db\", start = \"m\"}, {id = \"cache\", start = \"m\"}, {id = \"web\", start = \"m\", restart = \"transient\"}]";
-
-const SHOP_LIMITS: &str =
-    "child                             burst      interval  stops  starts  gives up\ndb                                    3       3334 ms      2       3  root\ncache                                 3       3334 ms      1       2  root\nweb                                   3       3334 ms      0       1  root\nlog                                 any           any      0       0  nobody\na crash of db\n  stops  web cache\n  starts db cache web\n  OTP    needs 3667 ms between crashes: it counts restarts in whole seconds\na crash of cache\n  stops  web\n  starts cache web\n  OTP    needs 3667 ms between crashes: it counts restarts in whole seconds\na crash of web\n  stops  nothing\n  starts web\n  OTP    needs 3667 ms between crashes: it counts restarts in whole seconds\na crash of log\n  stops  nothing\n  starts nothing\n";
-
-/// Three restarts within ten seconds are survived, so crashes may be 3,334 ms apart: 3,333 ms would have a fourth one
-/// within the ten seconds. By whole seconds they have to be eleven seconds by three apart. A crash of `db` takes down what was
-/// started after it; a temporary child isn't started again.
-#[test]
-fn rest_for_one(rt: HostRuntime) -> Result<(), Fail> {
-    prints(&rt, rt.alloc(), SHOP, Pick::All, SHOP_LIMITS)
-}
-
-/// Fourteen workers under one_for_all, of which one is another: by a table, by a child, and by a name that isn't there.
-const POOL: &str =
-    "strategy = \"one_for_all\"\nchild = [{id = \"a\", start = \"m\"}, {id = \"b\", start = \"m\"}, {id = \"t\", start = \"m\", restart = \"temporary\"}, {id = \"c\", start = \"m\"}, {id = \"d\", start = \"m\"}, {id = \"e\", start = \"m\"}, {id = \"f\", start = \"m\"}, {id = \"g\", start = \"m\"}, {id = \"h\", start = \"m\"}, {id = \"i\", start = \"m\"}, {id = \"j\", start = \"m\"}, {id = \"k\", start = \"m\"}, {id = \"l\", start = \"m\"}, {id = \"n\", start = \"m\"}]";
-
-const POOL_LIMITS: &str =
-    "child                             burst      interval  stops  starts  gives up\na (13 alike)                          1       5001 ms     13      13  root\nt                                   any           any      0       0  nobody\na crash of a\n  stops  n l k and 10 more\n  starts a b c and 10 more\n  OTP    needs 6000 ms between crashes: it counts restarts in whole seconds\n  alike  a b c and 10 more\na crash of t\n  stops  nothing\n  starts nothing\n";
-
-const CHILD_LIMITS: &str =
-    "child                             burst      interval  stops  starts  gives up\na (13 alike)                          1       5001 ms     13      13  root\na crash of a\n  stops  n l k j i h g f e d c t b\n  starts a b c d e f g h i j k l n\n  OTP    needs 6000 ms between crashes: it counts restarts in whole seconds\n  alike  a b c d e f g h i j k l n\n";
-
-#[test]
-fn alike(rt: HostRuntime) -> Result<(), Fail> {
-    let alloc = rt.alloc();
-    prints(&rt, alloc, POOL, Pick::Table("root"), POOL_LIMITS)?;
-    prints(&rt, alloc, POOL, Pick::Child("e"), CHILD_LIMITS)?;
-    prints(&rt, alloc, POOL, Pick::Child("x"), "")
 }
 
 /// Whether a row stands for this child.
@@ -171,26 +119,4 @@ fn whole_seconds(rt: HostRuntime) -> Result<(), Fail> {
         same(&rt, "the interval", steady, Steady::Apart(apart));
     }
     Ok(())
-}
-
-/// A supervisor with a child, whose tree is this.
-fn above(alloc: Global, id: &str, tree: &str) -> Result<String, Fail> {
-    let text = format!(in alloc; "{{child = [{{id = \"{id}\", start = \"m\", tree = {tree}}}]}}")?;
-    Ok(text)
-}
-
-/// What is printed of a tree in which a child's path has 81 bytes, and another 80.
-const DEEP: &str =
-    "child                     burst      interval  stops  starts    root  gives up\na                             1       5001 ms      0       1       1  root\na/second_supervisor_below_root\n                              1       5001 ms      0       1       3  a\na/second_supervisor_below_root/third_supervisor_below_the_root\n                              1       5001 ms      0       1       7  supervisor\n...cond_supervisor_below_root/third_supervisor_below_the_root/eighteen_letters_x\n                              1       5001 ms      0       1      15  supervisor\na/second_supervisor_below_root/third_supervisor_below_the_root/seventeen_letters\n                              1       5001 ms      0       1      15  supervisor\na crash of a\n  stops  nothing\n  starts a\n  ends   root\n  OTP    needs 6000 ms between crashes: it counts restarts in whole seconds\na crash of a/second_supervisor_below_root\n  stops  nothing\n  starts a/second_supervisor_below_root\n  ends   a root\n  OTP    needs 6000 ms between crashes: it counts restarts in whole seconds\na crash of a/second_supervisor_below_root/third_supervisor_below_the_root\n  stops  nothing\n  starts a/second_supervisor_below_root/third_supervisor_below_the_root\n  ends   a/second_supervisor_below_root a root\n  OTP    needs 6000 ms between crashes: it counts restarts in whole seconds\na crash of ...isor_below_root/third_supervisor_below_the_root/eighteen_letters_x\n  stops  nothing\n  starts\n         ...rvisor_below_root/third_supervisor_below_the_root/eighteen_letters_x\n  ends   a/second_supervisor_below_root/third_supervisor_below_the_root\n         a/second_supervisor_below_root a root\n  OTP    needs 6000 ms between crashes: it counts restarts in whole seconds\na crash of ...visor_below_root/third_supervisor_below_the_root/seventeen_letters\n  stops  nothing\n  starts\n         ...ervisor_below_root/third_supervisor_below_the_root/seventeen_letters\n  ends   a/second_supervisor_below_root/third_supervisor_below_the_root\n         a/second_supervisor_below_root a root\n  OTP    needs 6000 ms between crashes: it counts restarts in whole seconds\n";
-
-/// Of a name that is longer than a line the end stands, behind dots; one that fits is not cut.
-#[test]
-fn long_paths(rt: HostRuntime) -> Result<(), Fail> {
-    let alloc = rt.alloc();
-    let tree =
-        "{child = [{id = \"eighteen_letters_x\", start = \"m\"}, {id = \"seventeen_letters\", start = \"m\", restart = \"transient\"}]}";
-    let tree = above(alloc, "third_supervisor_below_the_root", tree)?;
-    let tree = above(alloc, "second_supervisor_below_root", &tree)?;
-    let file = format!(in alloc; "child = [{{id = \"a\", start = \"m\", tree = {tree}}}]")?;
-    prints(&rt, alloc, &file, Pick::All, DEEP)
 }

@@ -1,9 +1,9 @@
 //! Readers and writers that fail in mid-stream, that watch one another, and that count their calls.
 
-use crate::fixtures::{said, same};
-use otp_console::console::console;
-use otp_ending::ProgramEnd;
-use otp_sim::Counted;
+use crate::fixtures::same;
+use otp_file::read_tree;
+use otp_sim::{Counted, Failed, SimEnd, sim, write_all};
+use otp_spec::SupSpec;
 use std::alloc::Global;
 use std::cell::Cell;
 use std::io::{Error, ErrorKind, Read, Write};
@@ -13,6 +13,13 @@ use std::{io, iter};
 
 const THREE_WORKERS: &str =
     "[[child]]\nid = \"a\"\nstart = \"a\"\n[[child]]\nid = \"b\"\nstart = \"b\"\n[[child]]\nid = \"c\"\nstart = \"c\"\n";
+
+fn three_workers(alloc: Global) -> Result<SupSpec, Fail> {
+    let (supervisor, nested, trees) = read_tree(alloc, THREE_WORKERS.as_bytes())?.into_parts();
+    drop(nested);
+    drop(trees);
+    Ok(supervisor)
+}
 
 /// A reader of these bytes, so many at a call, that fails where they end. Every other call is interrupted.
 #[derive(Drop)]
@@ -77,12 +84,12 @@ fn failed_reads(rt: HostRuntime) -> Result<(), Fail> {
     let opened = "start a #1\n";
     let second = "start a #1\nstart b #2\n";
     let rows = [
-        (b"up 1\n".as_slice(), second, "input not read 3"),
-        (b"up 1\nup 2".as_slice(), second, "input not read 3"),
-        (b"".as_slice(), opened, "input not read 3"),
-        (longest.as_slice(), opened, "input not read 3"),
+        (b"up 1\n".as_slice(), second, SimEnd::InputFailed),
+        (b"up 1\nup 2".as_slice(), second, SimEnd::InputFailed),
+        (b"".as_slice(), opened, SimEnd::InputFailed),
+        (longest.as_slice(), opened, SimEnd::InputFailed),
         // a line that is too long is refused before its end is read
-        (longer.as_slice(), opened, "line 1 refused 3"),
+        (longer.as_slice(), opened, SimEnd::LineRefused(1)),
     ];
     for (bytes, printed, end) in rows {
         for at_once in [1usize, 7, 4096] {
@@ -103,15 +110,15 @@ fn reads_broken(
     alloc: Global,
     broken: Broken<'_>,
     printed: &str,
-    end: &str,
+    end: SimEnd,
 ) -> Result<(), Fail> {
+    let supervisor = three_workers(alloc)?;
     let mut reader = Counted::new(broken);
     let mut writer = Counted::new(Vec::new(alloc));
-    let ended = console(alloc, THREE_WORKERS.as_bytes(), &mut reader, &mut writer);
+    let ended = sim(alloc, supervisor, &mut reader, &mut writer);
     let text = writer.into_device();
     same(rt, "what is printed", text.as_slice(), printed.as_bytes());
-    let said = said(alloc, ended)?;
-    same(rt, "the end", said.as_str(), end);
+    same(rt, "the end", ended, end);
     Ok(())
 }
 
@@ -124,9 +131,9 @@ fn failed_writes(rt: HostRuntime) -> Result<(), Fail> {
         "start a #1\nstart b #2\nstart c #3\nready\nask c #3\nask b #2\nask a #1\nend shutdown\n";
     for room in 0..printed.len() + 1 {
         let end = if room < printed.len() {
-            "output not written 4"
+            SimEnd::OutputFailed
         } else {
-            " 0"
+            SimEnd::Done
         };
         let slow = Slow {
             bytes: Vec::new(alloc),
@@ -145,15 +152,15 @@ fn writes_slowly(
     slow: Slow,
     lines: &str,
     written: &[u8],
-    end: &str,
+    end: SimEnd,
 ) -> Result<(), Fail> {
+    let supervisor = three_workers(alloc)?;
     let mut reader = Counted::new(lines.as_bytes());
     let mut writer = Counted::new(slow);
-    let ended = console(alloc, THREE_WORKERS.as_bytes(), &mut reader, &mut writer);
+    let ended = sim(alloc, supervisor, &mut reader, &mut writer);
     let Slow { bytes, .. } = writer.into_device();
     same(rt, "what is written", bytes.as_slice(), written);
-    let said = said(alloc, ended)?;
-    same(rt, "the end", said.as_str(), end);
+    same(rt, "the end", ended, end);
     Ok(())
 }
 
@@ -222,6 +229,7 @@ fn answers_come_before_reads(rt: HostRuntime) -> Result<(), Fail> {
         before = before.saturating_add(printed.len());
         waited.push((line, before))?;
     }
+    let supervisor = three_workers(rt.alloc())?;
     let written = Cell::new(0usize);
     let mut reader = Counted::new(Waiting {
         lines: &waited,
@@ -229,13 +237,8 @@ fn answers_come_before_reads(rt: HostRuntime) -> Result<(), Fail> {
         written: &written,
     });
     let mut writer = Counted::new(Watched { written: &written });
-    let ended = console(
-        rt.alloc(),
-        THREE_WORKERS.as_bytes(),
-        &mut reader,
-        &mut writer,
-    );
-    same(&rt, "the end", ended, ProgramEnd::Done);
+    let ended = sim(rt.alloc(), supervisor, &mut reader, &mut writer);
+    same(&rt, "the end", ended, SimEnd::Done);
     same(&rt, "how much is written", written.get(), before);
     Ok(())
 }
@@ -285,13 +288,14 @@ fn few_reads_and_writes(rt: HostRuntime) -> Result<(), Fail> {
     for _ in 0..20_000u64 {
         lines.push_str("which\n\n\n\n\n\n")?;
     }
+    let supervisor = three_workers(alloc)?;
     let mut reader = Counted::new(Asked {
         bytes: lines.as_bytes(),
         calls: 0,
     });
     let mut writer = Counted::new(Taking { calls: 0, bytes: 0 });
-    let ended = console(alloc, THREE_WORKERS.as_bytes(), &mut reader, &mut writer);
-    same(&rt, "the end", ended, ProgramEnd::Done);
+    let ended = sim(alloc, supervisor, &mut reader, &mut writer);
+    same(&rt, "the end", ended, SimEnd::Done);
     // the last read finds the end
     let reads = reader.into_device().calls;
     let wanted = lines.len().div_ceil(65536).saturating_add(1);
@@ -300,5 +304,38 @@ fn few_reads_and_writes(rt: HostRuntime) -> Result<(), Fail> {
     let taken = writer.into_device();
     assert!(rt; taken.bytes > 1_000_000);
     assert!(rt; taken.calls <= reads.saturating_add(taken.bytes / 65536));
+    Ok(())
+}
+
+/// A writer that takes nothing, and how often it was asked.
+#[derive(Drop)]
+struct Full {
+    calls: usize,
+}
+
+impl Write for Full {
+    fn write(&mut self, _bytes: &[u8]) -> io::Result<usize> {
+        self.calls = self.calls.saturating_add(1);
+        Ok(0)
+    }
+
+    fn flush(&mut self) -> io::Result<()> {
+        Ok(())
+    }
+}
+
+/// An output that takes nothing is asked once: for orders, and for a text such as a help.
+#[test]
+fn full_outputs(rt: HostRuntime) -> Result<(), Fail> {
+    let supervisor = three_workers(rt.alloc())?;
+    let mut reader = Counted::new(b"up 1\n".as_slice());
+    let mut writer = Counted::new(Full { calls: 0 });
+    let ended = sim(rt.alloc(), supervisor, &mut reader, &mut writer);
+    same(&rt, "the end", ended, SimEnd::OutputFailed);
+    same(&rt, "the writes", writer.into_device().calls, 1);
+    let mut writer = Counted::new(Full { calls: 0 });
+    let written = write_all(&mut writer, b"a help");
+    same(&rt, "a text", written, Err(Failed));
+    same(&rt, "the writes", writer.into_device().calls, 1);
     Ok(())
 }
