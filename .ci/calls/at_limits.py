@@ -4,6 +4,7 @@ CHILD = '[[child]]\nid = "{0}"\nstart = "{1}"\n'
 TREE = CHILD.format("a", "a")
 # What helps people with a tree file that is refused.
 TIP = "tip: otp check tree tells why\n"
+LINES_TIP = "tip: otp help lines says which lines there are\n"
 
 
 def calls(make):
@@ -90,7 +91,7 @@ def long_input(sim):
 def too_long_line(sim):
     """A line has at most 512 bytes."""
     lines = "up 1\n" + "x" * 513 + "\nup 2\n"
-    return sim("too_long_line", with_children(2), lines, "start c0 #1\nstart c1 #2\n", "line 2 refused\n", 3)
+    return sim("too_long_line", with_children(2), lines, "start c0 #1\nstart c1 #2\n", LINES_TIP + "line 2 refused\n", 3)
 
 
 def bytes_that_are_no_text(make):
@@ -102,15 +103,23 @@ def large_files(make):
     """A file of a byte more than 1 MiB is not parsed by what people use, and one of 1 MiB is."""
     for size, status in ((1 << 20, 0), ((1 << 20) + 1, 1)):
         tree = TREE.encode().ljust(size, b"\n")
-        for command in ("check", "tree", "try", "limits", "shutdown"):
-            call = make(f"large_files, {size} bytes", [command, "tree"], {"tree": tree}, status=status)
+        for line in ("check tree", "tree tree", "try tree", "limits tree", "shutdown tree", "suggest tree --child a --every 1h", "diff tree tree"):
+            call = make(f"large_files, {size} bytes", line.split(), {"tree": tree}, status=status)
             call.how = {"shows": "part", "tells": "part"}
             # What `check` finds is what it writes.
-            if status and command == "check":
+            if status and line == "check tree":
                 call.shows = b"1048576 bytes"
             elif status:
                 call.tells = b"1048576 bytes"
             yield call
+        # A log may be as long on standard input as a tree file, and in a file as long as it likes.
+        log = b"1 crash a\n".ljust(size)
+        call = make(f"long_logs, {size} bytes", ["replay", "tree", "-"], {"tree": TREE.encode()}, log, status=status)
+        call.how, call.tells = {"shows": "part", "tells": "part"}, b"1048576 bytes" if status else b""
+        yield call
+        call = make(f"long_logs, {size} bytes", ["replay", "tree", "log"], {"tree": TREE.encode(), "log": log})
+        call.how = {"shows": "part"}
+        yield call
 
 
 def check_at_limits(make):

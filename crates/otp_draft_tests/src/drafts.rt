@@ -1,9 +1,9 @@
 // Which plans come of a draft.
-use crate::shown::{Draft, shown};
-use otp_draft::{Child, DraftFault};
+use crate::shown::{Draft, got, has_plans, same};
+use otp_draft::Child;
 use otp_spec::{ChildType, Restart, Shutdown, Strategy, SupFlags};
 use std::alloc::Global;
-use std::test::*;
+use std::process::Abort;
 
 // Three levels: the supervisors stand in the order of the walk, each before those below its own children, and not in that in
 // which they were made.
@@ -31,97 +31,116 @@ fn simple() -> SupFlags {
     }
 }
 
-fn east(alloc: Global) -> Result<Draft, DraftFault> {
-    let mut deep = Draft::new(alloc, SupFlags::default());
-    deep.add_worker("x", 3)?;
-    let mut east = Draft::new(alloc, SupFlags::default());
-    east.add_worker("a", 2)?;
-    east.add_supervisor("deep", deep)?;
-    east.add_worker("b", 4)?;
-    Ok(east)
+// A draft with these flags, which are lawful.
+fn empty(alloc: Global) -> Draft {
+    Draft::new(alloc, SupFlags::default())
 }
 
-fn west(alloc: Global) -> Result<Draft, DraftFault> {
+fn work(rt: &impl Abort, draft: &mut Draft, id: &str, job: u64) {
+    got(rt, "a worker was refused", draft.add_worker(id, job));
+}
+
+fn put(rt: &impl Abort, draft: &mut Draft, id: &str, below: Draft) {
+    got(rt, "a tree was refused", draft.add_supervisor(id, below));
+}
+
+fn deep(rt: &impl Abort, alloc: Global) -> Draft {
+    let mut deep = empty(alloc);
+    work(rt, &mut deep, "x", 3);
+    deep
+}
+
+fn east(rt: &impl Abort, alloc: Global) -> Draft {
+    let mut east = empty(alloc);
+    work(rt, &mut east, "a", 2);
+    put(rt, &mut east, "deep", deep(rt, alloc));
+    work(rt, &mut east, "b", 4);
+    east
+}
+
+fn calls(rt: &impl Abort, alloc: Global) -> Draft {
     let mut calls = Draft::new(alloc, simple());
-    calls.add_template("any")?;
-    let mut west = Draft::new(alloc, SupFlags::default());
-    west.add_worker("y", 5)?;
-    west.add_supervisor("calls", calls)?;
-    Ok(west)
+    got(rt, "a template was refused", calls.add_template("any"));
+    calls
 }
 
-pub(crate) fn three_levels(alloc: Global) -> Result<Draft, DraftFault> {
-    let mut root = Draft::new(alloc, SupFlags::default());
-    root.add_worker("db", 1)?;
-    root.add_supervisor("east", east(alloc)?)?;
-    root.add_bridge("gate", 7)?;
-    root.add_supervisor("west", west(alloc)?)?;
-    root.add_worker("last", 9)?;
-    Ok(root)
+fn west(rt: &impl Abort, alloc: Global) -> Draft {
+    let mut west = empty(alloc);
+    work(rt, &mut west, "y", 5);
+    put(rt, &mut west, "calls", calls(rt, alloc));
+    west
 }
 
-fn shown_from(alloc: Global, first: usize) -> Result<String, Fail> {
-    shown(alloc, three_levels(alloc)?.finish(alloc)?, first)
+pub(crate) fn three_levels(rt: &impl Abort, alloc: Global) -> Draft {
+    let mut root = empty(alloc);
+    work(rt, &mut root, "db", 1);
+    put(rt, &mut root, "east", east(rt, alloc));
+    got(rt, "a bridge was refused", root.add_bridge("gate", 7));
+    put(rt, &mut root, "west", west(rt, alloc));
+    work(rt, &mut root, "last", 9);
+    root
 }
 
-#[test]
-fn supervisors_stand_in_the_order_of_the_walk(rt: HostRuntime) -> Result<(), Fail> {
-    for (first, expected) in [(0, THREE_LEVELS), (3, FROM_THREE)] {
-        let text = shown_from(rt.alloc(), first)?;
-        assert_eq!(rt; text.as_str(), expected);
-    }
-    Ok(())
+// The plans of that tree, the root having this number.
+fn are_planned(rt: &impl Abort, alloc: Global, first: usize, wanted: &str) {
+    let plan = three_levels(rt, alloc).finish(alloc);
+    has_plans(rt, alloc, got(rt, "it was refused", plan), first, wanted);
 }
 
 #[test]
-fn size_and_depth_are_counted(rt: HostRuntime) -> Result<(), Fail> {
-    let draft = three_levels(rt.alloc())?;
+fn supervisors_stand_in_the_order_of_the_walk(rt: HostRuntime) {
+    are_planned(&rt, rt.alloc(), 0, THREE_LEVELS);
+    are_planned(&rt, rt.alloc(), 3, FROM_THREE);
+}
+
+#[test]
+fn size_and_depth_are_counted(rt: HostRuntime) {
+    let draft = three_levels(&rt, rt.alloc());
     let counted = (draft.tables(), draft.depth(), draft.len(), draft.is_empty());
     drop(draft);
-    assert_eq!(rt; counted, (5, 3, 5, false));
-    Ok(())
+    same(&rt, "the counts", counted, (5, 3, 5, false));
 }
 
-// The keys of children as they were said, and their defaults by type.
+// A child has these keys, as they were said or are the defaults of its type.
+fn has_keys(rt: &impl Abort, child: Child<u64, u64>, wanted: (Restart, bool, Shutdown, ChildType)) {
+    let spec = child.keys.spec();
+    drop(child);
+    match spec {
+        Some(spec) => {
+            let said = (spec.restart, spec.significant, spec.shutdown, spec.kind);
+            same(rt, "the keys", said, wanted);
+        }
+        None => panic!(rt; "a specification"),
+    }
+}
+
 #[test]
-fn keys_are_those_that_were_said(rt: HostRuntime) -> Result<(), Fail> {
-    let plain: Child<u64, u64> = Child::worker("a", 1);
-    let bridge: Child<u64, u64> = Child::bridge("b", 2).kind(ChildType::Supervisor);
-    let other: Child<u64, u64> = Child::template("c")
+fn keys_are_those_that_were_said(rt: HostRuntime) {
+    let worker = (
+        Restart::Permanent,
+        false,
+        Shutdown::Milliseconds(5000),
+        ChildType::Worker,
+    );
+    has_keys(&rt, Child::worker("a", 1), worker);
+    let bridge = (
+        Restart::Permanent,
+        false,
+        Shutdown::Infinity,
+        ChildType::Supervisor,
+    );
+    let child = Child::bridge("b", 2).kind(ChildType::Supervisor);
+    has_keys(&rt, child, bridge);
+    let other = (
+        Restart::Transient,
+        true,
+        Shutdown::BrutalKill,
+        ChildType::Supervisor,
+    );
+    let child = Child::template("c")
         .restart(Restart::Transient)
         .significant()
         .shutdown(Shutdown::BrutalKill)
         .kind(ChildType::Supervisor);
-    let keys = [plain.keys, bridge.keys, other.keys];
-    drop(plain);
-    drop(bridge);
-    drop(other);
-    let expected = [
-        (
-            Restart::Permanent,
-            false,
-            Shutdown::Milliseconds(5000),
-            ChildType::Worker,
-        ),
-        (
-            Restart::Permanent,
-            false,
-            Shutdown::Infinity,
-            ChildType::Supervisor,
-        ),
-        (
-            Restart::Transient,
-            true,
-            Shutdown::BrutalKill,
-            ChildType::Supervisor,
-        ),
-    ];
-    for (keys, expected) in keys.iter().zip(expected.iter()) {
-        let spec = keys.spec().ok_or("no specification")?;
-        assert_eq!(rt;
-            (spec.restart, spec.significant, spec.shutdown, spec.kind),
-            *expected
-        );
-    }
-    Ok(())
+    has_keys(&rt, child, other);
 }

@@ -1,10 +1,9 @@
 // Each fault of a draft, with what comes back.
-use crate::drafts::three_levels;
-use crate::shown::{Draft, shown};
+use crate::shown::{Draft, MEMORY, got, same};
 use otp_draft::{Child, DraftFault, Refused};
 use otp_spec::{ChildType, Restart, Shutdown, SpecFault, SpecKey, Strategy, SupFlags};
 use std::alloc::Global;
-use std::test::*;
+use std::process::Abort;
 
 // Thirty-three bytes, one more than an id may have.
 const LONG_ID: &str = "abcdefghijklmnopqrstuvwxyz0123456";
@@ -48,184 +47,191 @@ fn alone(alloc: Global) -> Draft {
     Draft::new(alloc, SupFlags::default())
 }
 
+// A text that is made up.
+fn numbered(rt: &impl Abort, alloc: Global, letter: &str, number: u64) -> String {
+    got(rt, MEMORY, format!(in alloc; "{letter}{number}"))
+}
+
 // A supervisor of so many children.
-fn of_children(alloc: Global, count: u64) -> Result<Draft, Fail> {
+fn of_children(rt: &impl Abort, alloc: Global, count: u64) -> Draft {
     let mut draft = alone(alloc);
     for number in 0..count {
-        let id = format!(in alloc; "c{number}")?;
-        draft.add_worker(id.as_str(), number)?;
+        let id = numbered(rt, alloc, "c", number);
+        got(
+            rt,
+            "a child was refused",
+            draft.add_worker(id.as_str(), number),
+        );
     }
-    Ok(draft)
+    draft
+}
+
+fn put(rt: &impl Abort, above: &mut Draft, id: &str, below: Draft) {
+    got(rt, "a tree was refused", above.add_supervisor(id, below));
 }
 
 // So many levels of supervisors.
-fn of_levels(alloc: Global, levels: usize) -> Result<Draft, Fail> {
+fn of_levels(rt: &impl Abort, alloc: Global, levels: usize) -> Draft {
     let mut draft = alone(alloc);
     for _ in 1..levels {
         let mut above = alone(alloc);
-        above.add_supervisor("below", draft)?;
+        put(rt, &mut above, "below", draft);
         draft = above;
     }
-    Ok(draft)
+    draft
 }
 
 // A supervisor of so many others.
-fn of_supervisors(alloc: Global, count: u64) -> Result<Draft, Fail> {
+fn of_supervisors(rt: &impl Abort, alloc: Global, count: u64) -> Draft {
     let mut draft = alone(alloc);
     for number in 0..count {
-        let id = format!(in alloc; "s{number}")?;
-        draft.add_supervisor(id.as_str(), alone(alloc))?;
+        let id = numbered(rt, alloc, "s", number);
+        put(rt, &mut draft, id.as_str(), alone(alloc));
     }
-    Ok(draft)
+    draft
+}
+
+// A supervisor of so many children, and of one more with this id.
+fn with_one_more(rt: &impl Abort, alloc: Global, count: u64, id: &str) -> Draft {
+    let mut draft = of_children(rt, alloc, count);
+    got(rt, "a child was refused", draft.add_worker(id, 9));
+    draft
+}
+
+// A worker of this id isn't added: its job comes back, and there are as many children as before.
+fn gives_job_back(rt: &impl Abort, draft: Draft, id: &str, fault: DraftFault, len: usize) {
+    let mut draft = draft;
+    let back = job_back(draft.add_worker(id, 7));
+    let seen = (back, draft.len());
+    drop(draft);
+    same(rt, id, seen, (Some((fault, 7)), len));
 }
 
 #[test]
-fn a_job_that_was_not_added_comes_back(rt: HostRuntime) -> Result<(), Fail> {
-    let mut full = of_children(rt.alloc(), 256)?;
-    let mut dynamic = Draft::new(rt.alloc(), simple());
-    let mut two = of_children(rt.alloc(), 2)?;
-    let backs = [
-        (
-            job_back(full.add_worker("one_more", 7)),
-            DraftFault::Spec(SpecFault::TooManyChildren),
-        ),
-        (job_back(dynamic.add_worker("a", 7)), DraftFault::Dynamic),
-        (job_back(dynamic.add_bridge("a", 7)), DraftFault::Dynamic),
-        (
-            job_back(two.add_worker(LONG_ID, 7)),
-            DraftFault::Spec(SpecFault::BadSpec {
-                index: 2,
-                key: SpecKey::Id,
-            }),
-        ),
-    ];
-    let lens = (full.len(), dynamic.len(), two.len());
-    drop(full);
-    drop(dynamic);
-    drop(two);
-    for (back, fault) in backs.iter() {
-        assert_eq!(rt; *back, Some((*fault, 7)));
-    }
-    assert_eq!(rt; lens, (256, 0, 2));
-    Ok(())
-}
-
-#[test]
-fn a_tree_that_was_not_put_below_another_comes_back(rt: HostRuntime) -> Result<(), Fail> {
+fn a_job_that_was_not_added_comes_back(rt: HostRuntime) {
     let alloc = rt.alloc();
-    let mut root = alone(alloc);
-    let mut many = of_supervisors(alloc, 62)?;
+    let many = DraftFault::Spec(SpecFault::TooManyChildren);
+    gives_job_back(&rt, of_children(&rt, alloc, 256), "one_more", many, 256);
+    let dynamic = Draft::new(alloc, simple());
+    gives_job_back(&rt, dynamic, "a", DraftFault::Dynamic, 0);
+    let id = DraftFault::Spec(SpecFault::BadSpec {
+        index: 2,
+        key: SpecKey::Id,
+    });
+    gives_job_back(&rt, of_children(&rt, alloc, 2), LONG_ID, id, 2);
     let mut dynamic = Draft::new(alloc, simple());
-    let mut twice = alone(alloc);
-    twice.add_worker("a", 1)?;
-    twice.add_worker("a", 2)?;
-    let backs = [
-        (
-            tree_back(root.add_supervisor("deep", of_levels(alloc, 16)?)),
-            DraftFault::TooDeep,
-            16,
-            1,
-        ),
-        (
-            tree_back(many.add_supervisor("more", of_levels(alloc, 2)?)),
-            DraftFault::TooManyTables,
-            2,
-            1,
-        ),
-        (
-            tree_back(dynamic.add_supervisor("a", of_children(alloc, 3)?)),
-            DraftFault::Dynamic,
-            1,
-            3,
-        ),
-        (
-            tree_back(root.add_supervisor("twice", twice)),
-            DraftFault::Spec(SpecFault::DuplicateId { index: 1 }),
-            1,
-            2,
-        ),
-        (
-            tree_back(root.add_supervisor("empty", Draft::new(alloc, simple()))),
-            DraftFault::Spec(SpecFault::SimpleNeedsOne),
-            1,
-            0,
-        ),
-    ];
-    let sizes = (root.tables(), many.tables(), dynamic.tables());
-    let one_more = tree_back(many.add_supervisor("last", alone(alloc)));
-    let most = many.tables();
-    drop(root);
-    drop(many);
+    let back = job_back(dynamic.add_bridge("a", 7));
+    let seen = (back, dynamic.len());
     drop(dynamic);
-    for (back, fault, tables, children) in backs.iter() {
-        assert_eq!(rt; *back, Some((*fault, *tables, *children)));
-    }
-    assert_eq!(rt; sizes, (1, 63, 1));
-    assert_eq!(rt; (one_more, most), (None, 64));
-    Ok(())
+    let wanted = (Some((DraftFault::Dynamic, 7)), 0);
+    same(&rt, "a bridge", seen, wanted);
+}
+
+// This tree isn't put below the other, and comes back: the fault, and how many supervisors and children it has.
+fn gives_tree_back(
+    rt: &impl Abort,
+    root: &mut Draft,
+    id: &str,
+    below: Draft,
+    wanted: (DraftFault, usize, usize),
+) {
+    let back = tree_back(root.add_supervisor(id, below));
+    same(rt, id, back, Some(wanted));
+}
+
+// A root without children refuses these, and is the one supervisor then.
+fn root_gives_back(rt: &impl Abort, alloc: Global, root: &mut Draft) {
+    let deep = (DraftFault::TooDeep, 16, 1);
+    gives_tree_back(rt, root, "deep", of_levels(rt, alloc, 16), deep);
+    let twice = (DraftFault::Spec(SpecFault::DuplicateId { index: 1 }), 1, 2);
+    gives_tree_back(rt, root, "twice", with_one_more(rt, alloc, 1, "c0"), twice);
+    let empty = (DraftFault::Spec(SpecFault::SimpleNeedsOne), 1, 0);
+    gives_tree_back(rt, root, "empty", Draft::new(alloc, simple()), empty);
+    same(rt, "the supervisors", root.tables(), 1);
+}
+
+// Of 63 supervisors the root takes one more, and not two.
+fn many_give_back(rt: &impl Abort, alloc: Global, many: &mut Draft) {
+    let more = (DraftFault::TooManyTables, 2, 1);
+    gives_tree_back(rt, many, "more", of_levels(rt, alloc, 2), more);
+    same(rt, "the supervisors", many.tables(), 63);
+    put(rt, many, "last", alone(alloc));
+    same(rt, "the supervisors then", many.tables(), 64);
+}
+
+// A supervisor of dynamic children has none below it.
+fn dynamic_gives_back(rt: &impl Abort, alloc: Global, dynamic: &mut Draft) {
+    let wanted = (DraftFault::Dynamic, 1, 3);
+    gives_tree_back(rt, dynamic, "a", of_children(rt, alloc, 3), wanted);
+    same(rt, "the supervisors", dynamic.tables(), 1);
 }
 
 #[test]
-fn what_is_not_of_its_type_is_refused(rt: HostRuntime) -> Result<(), Fail> {
-    let alloc = rt.alloc();
-    let mut root = alone(alloc);
-    let faults = [
-        fault_of(root.add(Child::worker("a", 1).kind(ChildType::Supervisor))),
-        fault_of(root.add(Child::supervisor("b", alone(alloc)).kind(ChildType::Worker))),
-        fault_of(root.add(Child::supervisor("c", alone(alloc)).shutdown(Shutdown::BrutalKill))),
-        fault_of(root.add(Child::template("d"))),
-        fault_of(root.add(Child::bridge("e", 1).kind(ChildType::Supervisor))),
-        fault_of(root.add(Child::supervisor("f", alone(alloc)).restart(Restart::Temporary))),
-    ];
+fn a_tree_that_was_not_put_below_another_comes_back(rt: HostRuntime) {
+    let mut root = alone(rt.alloc());
+    root_gives_back(&rt, rt.alloc(), &mut root);
+    drop(root);
+    let mut many = of_supervisors(&rt, rt.alloc(), 62);
+    many_give_back(&rt, rt.alloc(), &mut many);
+    drop(many);
+    let mut dynamic = Draft::new(rt.alloc(), simple());
+    dynamic_gives_back(&rt, rt.alloc(), &mut dynamic);
+    drop(dynamic);
+}
+
+// A child isn't added, for this fault, or is added.
+fn has_fault(rt: &impl Abort, root: &mut Draft, child: Child<u64, u64>, fault: Option<DraftFault>) {
+    same(rt, "the fault", fault_of(root.add(child)), fault);
+}
+
+#[test]
+fn what_is_not_of_its_type_is_refused(rt: HostRuntime) {
+    let mut root = alone(rt.alloc());
+    types_are_refused(&rt, rt.alloc(), &mut root);
     let counted = (root.len(), root.tables());
     drop(root);
-    let expected = [
-        Some(DraftFault::WrongBody),
-        Some(DraftFault::WrongBody),
-        Some(DraftFault::NestedNotInfinity),
-        Some(DraftFault::NoBody),
-        None,
-        None,
-    ];
-    assert_eq!(rt; faults, expected);
-    assert_eq!(rt; counted, (2, 2));
-    Ok(())
+    same(&rt, "the children and supervisors", counted, (2, 2));
 }
 
-// The fault for which a tree is not finished; it comes back.
-fn unfinished(alloc: Global, draft: Draft) -> Result<(DraftFault, usize), Fail> {
+fn types_are_refused(rt: &impl Abort, alloc: Global, root: &mut Draft) {
+    let wrong = Some(DraftFault::WrongBody);
+    let child = Child::worker("a", 1).kind(ChildType::Supervisor);
+    has_fault(rt, root, child, wrong);
+    let child = Child::supervisor("b", alone(alloc)).kind(ChildType::Worker);
+    has_fault(rt, root, child, wrong);
+    let child = Child::supervisor("c", alone(alloc)).shutdown(Shutdown::BrutalKill);
+    has_fault(rt, root, child, Some(DraftFault::NestedNotInfinity));
+    has_fault(rt, root, Child::template("d"), Some(DraftFault::NoBody));
+    let child = Child::bridge("e", 1).kind(ChildType::Supervisor);
+    has_fault(rt, root, child, None);
+    let child = Child::supervisor("f", alone(alloc)).restart(Restart::Temporary);
+    has_fault(rt, root, child, None);
+}
+
+// This tree isn't finished, for this fault, and comes back with so many children.
+fn is_unfinished(rt: &impl Abort, alloc: Global, draft: Draft, wanted: (DraftFault, usize)) {
     match draft.finish(alloc) {
         Ok(plan) => {
             drop(plan);
-            Err("it was finished".into())
+            panic!(rt; "it was finished")
         }
         Err(Refused { fault, given }) => {
             let len = given.len();
             drop(given);
-            Ok((fault, len))
+            same(rt, "the fault", (fault, len), wanted);
         }
     }
 }
 
 #[test]
-fn a_root_without_lawful_flags_or_children_comes_back(rt: HostRuntime) -> Result<(), Fail> {
+fn a_root_without_lawful_flags_or_children_comes_back(rt: HostRuntime) {
     let alloc = rt.alloc();
-    let no_period = SupFlags {
-        period: 0,
-        ..SupFlags::default()
-    };
-    let mut twice = of_children(alloc, 2)?;
-    twice.add_worker("c0", 9)?;
-    let faults = [
-        unfinished(alloc, Draft::new(alloc, no_period))?,
-        unfinished(alloc, Draft::new(alloc, simple()))?,
-        unfinished(alloc, twice)?,
-    ];
-    let expected = [
-        (DraftFault::Spec(SpecFault::BadFlag), 0),
-        (DraftFault::Spec(SpecFault::SimpleNeedsOne), 0),
-        (DraftFault::Spec(SpecFault::DuplicateId { index: 2 }), 3),
-    ];
-    assert_eq!(rt; faults, expected);
-    Ok(())
+    let mut no_period = SupFlags::default();
+    no_period.period = 0;
+    let flags = (DraftFault::Spec(SpecFault::BadFlag), 0);
+    is_unfinished(&rt, alloc, Draft::new(alloc, no_period), flags);
+    let one = (DraftFault::Spec(SpecFault::SimpleNeedsOne), 0);
+    is_unfinished(&rt, alloc, Draft::new(alloc, simple()), one);
+    let twice = (DraftFault::Spec(SpecFault::DuplicateId { index: 2 }), 3);
+    is_unfinished(&rt, alloc, with_one_more(&rt, alloc, 2, "c0"), twice);
 }

@@ -1,14 +1,35 @@
 // A plan as text, a line for each supervisor: the ids of its children in start order, each with what it runs, as `db=w1` for a
 // worker's job 1, `gate=b2` for a bridge to subsystem 2, `pool=^3` for supervisor 3, and `any` for the specification of dynamic
 // children.
+ghost use Rattle.std.specs.Prelude.{◌≡◌, Ok};
+
 use otp_draft::{TablePlan, TreeDraft, TreePlan};
 use otp_job::Body;
 use otp_spec::{ChildSpec, MAX_TABLES};
 use std::alloc::{AllocError, Global};
-use std::test::*;
+use std::fmt::Debug;
+use std::process::Abort;
 
 // Jobs and subsystems are numbers here, so that each can be told from others.
 pub(crate) type Draft = TreeDraft<u64, u64>;
+
+// Asserts that a value is the one that is wanted; `what` says in the message which assertion failed.
+pub(crate) fn same<T: PartialEq + Debug + Copy>(rt: &impl Abort, what: &str, value: T, wanted: T) {
+    assert_eq!(rt; value, wanted, "{what}");
+}
+
+// What a try gave. Where it failed the test stops, with these words: so no test has an exit beside a draft.
+pub(crate) fn got<T, E>(rt: &impl Abort, what: &str, tried: Result<T, E>) -> T
+    ensures { tried ≡ Ok result }
+{
+    match tried {
+        Ok(value) => value,
+        Err(_) => panic!(rt; "{what}"),
+    }
+}
+
+// What a test says that stops for want of memory.
+pub(crate) const MEMORY: &str = "memory was refused";
 
 // Appends what a child runs.
 fn show_body(body: &Body<u64, u64>, text: &mut String) -> Result<(), AllocError> {
@@ -38,16 +59,19 @@ fn show_table(
     text.push_str("\n")
 }
 
-// The plans, the root having this number.
-pub(crate) fn shown(alloc: Global, plan: TreePlan<u64, u64>, first: usize) -> Result<String, Fail> {
-    if first > MAX_TABLES - plan.len() {
-        drop(plan);
-        return Err("too many supervisors".into());
-    }
+// The plans of a tree are these, the root having this number.
+pub(crate) fn has_plans(
+    rt: &impl Abort,
+    alloc: Global,
+    plan: TreePlan<u64, u64>,
+    first: usize,
+    wanted: &str,
+) {
+    assert!(rt; first <= MAX_TABLES - plan.len());
     let plans = plan.numbered(first);
-    let text = show_all(alloc, plans.as_slice(), first);
+    let text = got(rt, MEMORY, show_all(alloc, plans.as_slice(), first));
     drop(plans);
-    Ok(text?)
+    same(rt, "the plans", text.as_str(), wanted);
 }
 
 fn show_all(

@@ -1,10 +1,13 @@
-//! What the tests need: a session, what it is told, and the orders that are wanted.
+//! What the tests need: a session, what it is told as lines of `sim` have it, and its orders as text.
 
 use otp_driver::{DriveFault, Order, Session, Task, What};
 use otp_file::{TreeFault, read_tree};
-use otp_reason::{Name, Note, Reason, Text};
-use otp_rules::{Call, Ending};
-use std::alloc::Global;
+use otp_reason::{Name, Reason};
+use otp_rules::Ending;
+use otp_text::{
+    Line, read_line, write_child_name, write_name, write_number, write_process, write_reason,
+};
+use std::alloc::{AllocError, Global};
 use std::fmt::Debug;
 use std::process::Abort;
 use std::test::Fail;
@@ -19,44 +22,31 @@ pub(crate) fn same<T: PartialEq + Debug + Copy>(rt: &impl Abort, what: &str, val
     assert_eq!(rt; value, wanted, "{what}");
 }
 
-pub(crate) fn crash() -> Result<Reason, Fail> {
-    Ok(Reason::Error(Text::new(b"x").ok_or("a text")?))
-}
-
-/// What a tree is told. The first number is that of the supervisor.
-#[derive(Clone, Copy)]
-pub(crate) enum Line {
-    At(u64),
-    Told(usize, Note),
-    Asked(usize, Call),
-    Stop,
-}
-
-pub(crate) fn up(supervisor: usize, number: u64) -> Line {
-    Line::Told(supervisor, Note::Up(number))
-}
-
-pub(crate) fn exit(supervisor: usize, number: u64, reason: Reason) -> Line {
-    Line::Told(supervisor, Note::Exit(number, reason))
-}
-
 /// The tree of a file, opened. Where memory is refused once, the next try finds it.
 pub(crate) fn open(alloc: Global, text: &[u8]) -> Result<Session, Fail> {
     let tree = match read_tree(alloc, text) {
         Err(TreeFault::OutOfMemory) => read_tree(alloc, text)?,
         read => read?,
     };
-    match Session::open(alloc, &tree) {
-        Err(DriveFault::OutOfMemory) => Ok(Session::open(alloc, &tree)?),
-        opened => Ok(opened?),
-    }
+    let opened = match Session::open(alloc, &tree) {
+        Err(DriveFault::OutOfMemory) => Session::open(alloc, &tree),
+        opened => opened,
+    };
+    drop(tree);
+    Ok(opened?)
 }
 
-fn tell_once(session: &mut Session, line: Line) -> Result<(), DriveFault> {
+/// The line of a text.
+pub(crate) fn line_of(text: &str) -> Result<Line, Fail> {
+    Ok(read_line(text.as_bytes()).ok_or("a line")?)
+}
+
+fn tell_once(session: &mut Session, place: usize, line: Line) -> Result<(), DriveFault> {
     match line {
+        Line::Empty => Ok(()),
         Line::At(reading) => session.driver.tick(reading),
-        Line::Told(place, note) => session.driver.note(place, note),
-        Line::Asked(place, call) => match session.driver.call(place, call) {
+        Line::Note(note) => session.driver.note(place, note),
+        Line::Call(call) => match session.driver.call(place, call) {
             Ok(_) => Ok(()),
             Err(fault) => Err(fault),
         },
@@ -67,10 +57,10 @@ fn tell_once(session: &mut Session, line: Line) -> Result<(), DriveFault> {
     }
 }
 
-/// Tells a line, again where memory was refused.
-pub(crate) fn tell(session: &mut Session, line: Line) -> Result<(), DriveFault> {
-    match tell_once(session, line) {
-        Err(DriveFault::OutOfMemory) => tell_once(session, line),
+/// Tells the supervisor of this number a line, again where memory was refused.
+pub(crate) fn tell(session: &mut Session, place: usize, line: Line) -> Result<(), DriveFault> {
+    match tell_once(session, place, line) {
+        Err(DriveFault::OutOfMemory) => tell_once(session, place, line),
         told => told,
     }
 }
@@ -83,74 +73,110 @@ pub(crate) fn next(session: &mut Session) -> Result<Option<Order>, DriveFault> {
     }
 }
 
-/// Takes orders, which have to be these and no others.
-pub(crate) fn expect(
-    rt: &impl Abort,
-    session: &mut Session,
-    what: &str,
-    wanted: &[Order],
-) -> Result<(), Fail> {
-    for order in wanted {
-        same(rt, what, next(session)?, Some(*order));
+/// Appends a process after what is ordered: its child's id and start word, and its number.
+fn write_task(word: &[u8], task: &Task, out: &mut Vec<u8>) -> Result<(), AllocError> {
+    out.extend_from_slice(word)?;
+    write_child_name(&task.id, out)?;
+    out.extend_from_slice(b" ")?;
+    write_child_name(&task.start, out)?;
+    out.extend_from_slice(b" ")?;
+    write_process(task.number, out)
+}
+
+/// Appends until when it may take, if there is a deadline.
+fn write_until(deadline: Option<u64>, out: &mut Vec<u8>) -> Result<(), AllocError> {
+    match deadline {
+        None => Ok(()),
+        Some(reading) => {
+            out.extend_from_slice(b" until ")?;
+            write_number(reading, out)
+        }
     }
-    same(rt, what, next(session)?, None);
+}
+
+/// Appends an end, and what it comes from.
+fn write_end(reason: &Reason, ending: &Ending, out: &mut Vec<u8>) -> Result<(), AllocError> {
+    out.extend_from_slice(b" end ")?;
+    write_reason(reason, out)?;
+    match ending {
+        Ending::Asked => out.extend_from_slice(b", asked"),
+        Ending::InitFailed(id) => {
+            out.extend_from_slice(b", no start of ")?;
+            write_name(id, out)
+        }
+        Ending::Intensity | Ending::Significant(_) => out.extend_from_slice(b", by itself"),
+    }
+}
+
+/// Appends an order, behind the number of its supervisor.
+fn write_order(order: &Order, out: &mut Vec<u8>) -> Result<(), AllocError> {
+    write_number(order.supervisor as u64, out)?;
+    match &order.what {
+        What::Start(task) => write_task(b" start ", task, out),
+        What::Ask(task, deadline) => {
+            write_task(b" ask ", task, out)?;
+            write_until(*deadline, out)
+        }
+        What::Kill(task) => write_task(b" kill ", task, out),
+        What::Reply(call) => {
+            out.extend_from_slice(b" reply ")?;
+            write_number(*call, out)
+        }
+        What::Ready => out.extend_from_slice(b" ready"),
+        What::End(reason, ending) => write_end(reason, ending, out),
+    }
+}
+
+/// Takes all orders, of which there are a few at most, and appends them.
+fn write_orders(session: &mut Session, out: &mut Vec<u8>) -> Result<(), Fail> {
+    for _ in 0..10 {
+        let Some(order) = next(session)? else {
+            return Ok(());
+        };
+        write_order(&order, out)?;
+        out.extend_from_slice(b";")?;
+    }
     Ok(())
 }
 
-/// A line, and the orders that follow it.
-#[derive(Clone, Copy)]
-pub(crate) struct Step<'a> {
-    pub(crate) line: Line,
-    pub(crate) orders: &'a [Order],
+/// The number of a supervisor, what it is told, and all orders that follow.
+pub(crate) type Step = (usize, &'static str, &'static str);
+
+/// A page that has room for all that is written on it.
+fn page(alloc: Global) -> Result<Vec<u8>, Fail> {
+    match Vec::with_capacity(alloc, 256) {
+        Ok(page) => Ok(page),
+        Err(_) => Ok(Vec::with_capacity(alloc, 256)?),
+    }
 }
 
 /// Plays lines, each with its orders.
 pub(crate) fn play(
     rt: &impl Abort,
+    alloc: Global,
     session: &mut Session,
-    what: &str,
     steps: &[Step],
 ) -> Result<(), Fail> {
+    let mut told = page(alloc)?;
     for step in steps {
-        tell(session, step.line)?;
-        expect(rt, session, what, step.orders)?;
+        let (place, text, orders) = *step;
+        told.clear();
+        tell(session, place, line_of(text)?)?;
+        write_orders(session, &mut told)?;
+        same(rt, text, told.as_slice(), orders.as_bytes());
     }
     Ok(())
 }
 
-fn order(supervisor: usize, what: What) -> Order {
-    Order { supervisor, what }
-}
-
-/// A process whose start word is its id.
-fn task(id: Name, number: u64) -> Task {
-    Task {
-        number,
-        id: Some(id),
-        start: Some(id),
-    }
-}
-
-pub(crate) fn start(supervisor: usize, id: Name, number: u64) -> Order {
-    order(supervisor, What::Start(task(id, number)))
-}
-
-pub(crate) fn ask(supervisor: usize, id: Name, number: u64, deadline: u64) -> Order {
-    order(supervisor, What::Ask(task(id, number), Some(deadline)))
-}
-
-pub(crate) fn kill(supervisor: usize, id: Name, number: u64) -> Order {
-    order(supervisor, What::Kill(task(id, number)))
-}
-
-pub(crate) fn reply(supervisor: usize, call: u64) -> Order {
-    order(supervisor, What::Reply(call))
-}
-
-pub(crate) fn ready() -> Order {
-    order(0, What::Ready)
-}
-
-pub(crate) fn end(reason: Reason, ending: Ending) -> Order {
-    order(0, What::End(reason, ending))
+/// The same with the tree of a file, which is opened for that.
+pub(crate) fn plays(
+    rt: &impl Abort,
+    alloc: Global,
+    file: &[u8],
+    steps: &[Step],
+) -> Result<(), Fail> {
+    let mut session = open(alloc, file)?;
+    let done = play(rt, alloc, &mut session, steps);
+    drop(session);
+    done
 }

@@ -1,10 +1,10 @@
 //! What is refused, and what stands then.
 
-use crate::fixtures::{Line, exit, expect, named, next, open, same, start, tell, up};
+use crate::fixtures::{Step, line_of, open, play, same, tell};
 use otp_driver::{DriveFault, Session};
-use otp_reason::{Note, Reason};
-use otp_rules::Call;
 use otp_spec::MAX_READING;
+use otp_text::Line;
+use std::alloc::Global;
 use std::process::Abort;
 use std::test::Fail;
 
@@ -14,102 +14,78 @@ const NESTED: &[u8] = b"[[child]]\nid = \"pool\"\nstart = \"pool\"\n[child.tree]
 /// More than an untaken order lets a supervisor keep.
 const MOST_EVENTS: usize = 65_536;
 
-fn refuses(rt: &impl Abort, session: &mut Session, line: Line, fault: DriveFault) {
+/// What a supervisor is told, and why that is refused. The pool, which is number 1, is the library's own: from outside nobody tells
+/// anything of it.
+const REFUSED: [(usize, &str, DriveFault); 6] = [
+    (0, "up 1", DriveFault::IsNested),
+    (0, "exit 1 normal", DriveFault::IsNested),
+    (0, "ignore 1", DriveFault::IsNested),
+    (2, "up 2", DriveFault::NoSupervisor),
+    (usize::MAX, "up 2", DriveFault::NoSupervisor),
+    (2, "count", DriveFault::NoSupervisor),
+];
+
+fn refuses(rt: &impl Abort, session: &mut Session, place: usize, line: Line, fault: DriveFault) {
     let reading = session.driver.reading();
-    same(rt, "a refusal", tell(session, line), Err(fault));
-    same(
-        rt,
-        "the clock after a refusal",
-        session.driver.reading(),
-        reading,
-    );
+    same(rt, "a refusal", tell(session, place, line), Err(fault));
+    let after = session.driver.reading();
+    same(rt, "the clock after a refusal", after, reading);
 }
 
+/// The greatest reading is one, and an earlier one counts as that. A number that no child has changes nothing.
+const LATE: [Step; 3] = [
+    (0, "at 4611686018427387904", ""),
+    (0, "at 5", ""),
+    (0, "up 77", ""),
+];
+
 /// Each refusal leaves all as it was: the same orders come as without it.
-fn each_refusal(rt: &impl Abort, session: &mut Session) -> Result<(), Fail> {
-    let a = named(b"a")?;
-    expect(rt, session, "the first order", &[start(1, a, 2)])?;
-    // The pool, which is number 1, is the library's own: from outside nobody tells anything of it.
-    refuses(rt, session, up(0, 1), DriveFault::IsNested);
-    refuses(
-        rt,
-        session,
-        exit(0, 1, Reason::Normal),
-        DriveFault::IsNested,
-    );
-    refuses(
-        rt,
-        session,
-        Line::Told(0, Note::Ignored(1)),
-        DriveFault::IsNested,
-    );
-    refuses(rt, session, up(2, 2), DriveFault::NoSupervisor);
-    refuses(rt, session, up(usize::MAX, 2), DriveFault::NoSupervisor);
-    refuses(
-        rt,
-        session,
-        Line::Asked(2, Call::CountChildren),
-        DriveFault::NoSupervisor,
-    );
-    refuses(
-        rt,
-        session,
-        Line::At(MAX_READING + 1),
-        DriveFault::BadReading,
-    );
-    refuses(rt, session, Line::At(u64::MAX), DriveFault::BadReading);
-    // The greatest reading is one, and an earlier one counts as that.
-    tell(session, Line::At(MAX_READING))?;
-    tell(session, Line::At(5))?;
+fn each_refusal(rt: &impl Abort, alloc: Global, session: &mut Session) -> Result<(), Fail> {
+    play(rt, alloc, session, &[(0, "", "1 start a a #2;")])?;
+    for (place, text, fault) in REFUSED {
+        refuses(rt, session, place, line_of(text)?, fault);
+    }
+    for reading in [MAX_READING + 1, u64::MAX] {
+        refuses(rt, session, 0, Line::At(reading), DriveFault::BadReading);
+    }
+    play(rt, alloc, session, &LATE)?;
     same(rt, "the clock", session.driver.reading(), MAX_READING);
-    // A number that no child has changes nothing.
-    tell(session, up(0, 77))?;
-    same(rt, "no order", next(session)?, None);
     Ok(())
 }
 
 #[test]
 fn each_refusal_leaves_all_as_it_was(rt: HostRuntime) -> Result<(), Fail> {
     let mut session = open(rt.alloc(), NESTED)?;
-    let done = each_refusal(&rt, &mut session);
+    let done = each_refusal(&rt, rt.alloc(), &mut session);
     drop(session);
     done
 }
 
 /// As many events as a supervisor keeps while an order waits.
-fn fill(session: &mut Session) -> Result<(), DriveFault> {
+fn fill(session: &mut Session, line: Line) -> Result<(), DriveFault> {
     for _ in 0..MOST_EVENTS {
-        tell(session, up(1, 77))?;
+        tell(session, 1, line)?;
     }
     Ok(())
 }
 
 /// Whose orders aren't taken, is told so at last; it goes on once they are.
-fn untaken(rt: &impl Abort, session: &mut Session) -> Result<(), Fail> {
-    let a = named(b"a")?;
+fn untaken(rt: &impl Abort, alloc: Global, session: &mut Session) -> Result<(), Fail> {
     // The order to start waits from the moment at which the pool is opened.
-    same(
-        rt,
-        "the place of an order",
-        session.driver.advance()?,
-        Some(1),
-    );
-    same(
-        rt,
-        "too many events",
-        fill(session),
-        Err(DriveFault::OrdersWait),
-    );
-    refuses(rt, session, up(1, 77), DriveFault::OrdersWait);
-    expect(rt, session, "the order that waited", &[start(1, a, 2)])?;
-    tell(session, up(1, 77))?;
-    Ok(())
+    let place = session.driver.advance()?;
+    same(rt, "the place of an order", place, Some(1));
+    let line = line_of("up 77")?;
+    let full = Err(DriveFault::OrdersWait);
+    same(rt, "too many events", fill(session, line), full);
+    refuses(rt, session, 1, line, DriveFault::OrdersWait);
+    let steps: [Step; 2] = [(0, "", "1 start a a #2;"), (1, "up 77", "")];
+    play(rt, alloc, session, &steps)
 }
 
 #[test]
 fn orders_that_nobody_takes_are_waited_for(rt: HostRuntime) -> Result<(), Fail> {
     let mut session = open(rt.alloc(), NESTED)?;
-    let done = untaken(&rt, &mut session);
+    let done = untaken(&rt, rt.alloc(), &mut session);
     drop(session);
     done
 }

@@ -1,6 +1,8 @@
 // The supervisors of a tree that runs are called from threads of their own.
 
-use crate::guests::{Guest, Kind, Plan, Shared, can_run, flags, make_guest, same, tree};
+use crate::guests::{
+    Guest, Kind, MEMORY, Plan, Shared, flags, got, make_guest, may_run, named, same, tree,
+};
 use otp_bridge::BoxedSubsystem;
 use otp_job::Body;
 use otp_live::{
@@ -13,7 +15,6 @@ use otp_tree::CallRefusal;
 use std::alloc::Global;
 use std::process::Abort;
 use std::sync::{Arc, Wait};
-use std::test::*;
 use std::thread;
 use std::thread::Threads;
 use std::time::Clock;
@@ -28,31 +29,21 @@ fn live_with<R>(
     hands: usize,
     stop: &Stop,
     callers: &[Calling],
-) -> Option<u64>
+) -> u64
 where
-    R: Threads + Wait + Clock + Sync,
+    R: Threads + Wait + Clock + Abort + Sync,
 {
-    if !can_run(plans.as_slice(), hands) {
-        drop(plans);
-        return None;
-    }
-    match run_with_callers(rt, alloc, plans, hands, stop, &Unwatched, callers) {
-        Ok(report) => {
-            let live = report.live;
-            drop(report);
-            Some(live)
-        }
-        Err(fault) => {
-            drop(fault);
-            None
-        }
-    }
+    may_run(rt, plans.as_slice(), hands);
+    let ran = run_with_callers(rt, alloc, plans, hands, stop, &Unwatched, callers);
+    let report = got(rt, "the tree was not run", ran);
+    let live = report.live;
+    drop(report);
+    live
 }
 
 // Calls the root of a tree whose workers are a and b, behind a supervisor.
-fn call_all<R: Wait + Abort>(rt: &R, caller: &Calling, shared: &Arc<Shared>) -> Result<(), Fail> {
-    let name = Name::new(b"a").ok_or("a name")?;
-    let unknown = Name::new(b"unknown").ok_or("a name")?;
+fn call_all<R: Wait + Abort>(rt: &R, caller: &Calling, shared: &Arc<Shared>) {
+    let (name, unknown) = (named(rt, b"a"), named(rt, b"unknown"));
     assert!(rt;
         caller.restart_child(rt, 0, name) == Err(CallError::Refused(RestartRefusal::Running))
     );
@@ -68,78 +59,47 @@ fn call_all<R: Wait + Abort>(rt: &R, caller: &Calling, shared: &Arc<Shared>) -> 
     assert!(rt;
         caller.delete_child(rt, 7, name) == Err(CallError::Unsent(CallRefusal::NoSupervisor))
     );
-    start(rt, caller, shared, unknown)?;
-    let counts = caller.count_children(rt, 0);
-    let Ok(counts) = counts else {
-        return Err("no counts".into());
-    };
+    start(rt, caller, shared, unknown);
+    let counts = got(rt, "the counts", caller.count_children(rt, 0));
     same(rt, "the children", counts.active, 4);
-    Ok(())
 }
 
 // Starts a child more.
-fn start<R: Wait + Abort>(
-    rt: &R,
-    caller: &Calling,
-    shared: &Arc<Shared>,
-    id: Name,
-) -> Result<(), Fail> {
-    let job = make_guest(Kind::Steady, shared)?;
-    match caller.start_child(rt, 0, ChildSpec::new(id, id), Body::Worker(job)) {
-        Ok(number) => {
-            assert!(rt; number.is_some());
-            Ok(())
-        }
-        Err(back) => {
-            drop(back);
-            Err("the child was not started".into())
-        }
-    }
+fn start<R: Wait + Abort>(rt: &R, caller: &Calling, shared: &Arc<Shared>, id: Name) {
+    let job = make_guest(rt, Kind::Steady, shared);
+    let started = caller.start_child(rt, 0, ChildSpec::new(id, id), Body::Worker(job));
+    let number = got(rt, "the child was not started", started);
+    assert!(rt; number.is_some());
 }
 
 // Calls all and stops the tree; then nobody is there.
-fn call_and_stop<R: Wait + Abort>(
-    rt: &R,
-    caller: &Calling,
-    shared: &Arc<Shared>,
-) -> Result<(), Fail> {
-    let called = call_all(rt, caller, shared);
+fn call_and_stop<R: Wait + Abort>(rt: &R, caller: &Calling, shared: &Arc<Shared>) {
+    call_all(rt, caller, shared);
     shared.stop.raise();
-    called?;
     for _ in 0..u64::MAX {
         if caller.count_children(rt, 0) == Err(CallError::Over) {
             break;
         }
     }
-    Ok(())
 }
 
-fn call_beside<R: Threads + Wait + Clock + Abort + Sync>(
-    rt: &R,
-    alloc: Global,
-    hands: usize,
-) -> Result<(), Fail> {
-    let shared = Shared::new(alloc)?;
+fn call_beside<R: Threads + Wait + Clock + Abort + Sync>(rt: &R, alloc: Global, hands: usize) {
+    let shared = Shared::new(rt, alloc);
+    let callers = [got(rt, MEMORY, Caller::new(&shared.stop))];
     let kinds = [Kind::Steady, Kind::Busy];
-    let plans = tree(alloc, &kinds, &kinds, &shared, flags(1))?;
-    let callers = [Caller::new(&shared.stop)?];
-    let (live, called) = thread::join(
+    let plans = tree(rt, alloc, &kinds, &kinds, &shared, flags(1));
+    let (live, ()) = thread::join(
         rt,
         || live_with(rt, alloc, plans, hands, &shared.stop, &callers),
         || call_and_stop(rt, &callers[0], &shared),
     );
-    called?;
-    same(
-        rt,
-        "the processes that are left",
-        live.ok_or("the tree was not run")?,
-        0,
-    );
-    Ok(())
+    same(rt, "the processes that are left", live, 0);
+    drop(callers);
+    drop(shared);
 }
 
 #[test]
-fn supervisors_are_called_while_they_run(rt: HostRuntime) -> Result<(), Fail> {
-    call_beside(&rt, rt.alloc(), 1)?;
-    call_beside(&rt, rt.alloc(), 4)
+fn supervisors_are_called_while_they_run(rt: HostRuntime) {
+    call_beside(&rt, rt.alloc(), 1);
+    call_beside(&rt, rt.alloc(), 4);
 }

@@ -1,20 +1,19 @@
 //! The jobs of the tests' trees, and the trees.
-ghost use Rattle.std.specs.Prelude.{◌≡◌, ◌<◌, ◌≤◌, true, length, IfOk};
+ghost use Rattle.std.specs.Prelude.{◌≡◌, ◌<◌, ◌≤◌, true, length, Ok};
 ghost use Rattle.otp_run.specs.Rule.{all_parts};
 ghost use Rattle.otp_spec.specs.declared.limits.TheConstants.{MAX_TABLES};
 
 use otp_bridge::BoxedSubsystem;
-use otp_job::{Job, Place, Told, Turn};
+use otp_job::{Body, Job, Place, Told, Turn};
 use otp_live::{Stop, Unwatched, Waker, Watch, run};
 use otp_reason::{Name, Reason, Started, Text};
 use otp_spec::{ChildSpec, MAX_TABLES, Shutdown, SupFlags};
 use otp_tree::{MAX_HANDS, Report, TableDraft, TablePlan};
-use std::alloc::{AllocError, Global};
+use std::alloc::Global;
 use std::fmt::Debug;
 use std::process::Abort;
 use std::sync::atomic::{AtomicU64, Ordering};
 use std::sync::{Arc, OnceLock, Wait};
-use std::test::*;
 use std::thread::Threads;
 use std::time::Clock;
 
@@ -46,15 +45,15 @@ pub struct Shared {
 }
 
 impl Shared {
-    pub fn new(alloc: Global) -> Result<Arc<Shared>, AllocError> {
+    pub fn new(rt: &impl Abort, alloc: Global) -> Arc<Shared> {
         let shared = Shared {
             starts: AtomicU64::new(0),
             given: AtomicU64::new(0),
             seen: AtomicU64::new(0),
             waker: OnceLock::new(),
-            stop: Stop::new(alloc)?,
+            stop: got(rt, MEMORY, Stop::new(alloc)),
         };
-        Ok(Arc::new(alloc, shared)?)
+        got(rt, MEMORY, Arc::new(alloc, shared))
     }
 
     pub fn starts(&self) -> u64 {
@@ -132,94 +131,79 @@ impl Job for Guest {
 pub type Plan = TablePlan<Guest, BoxedSubsystem>;
 
 /// Such a job.
-pub fn make_guest(kind: Kind, shared: &Arc<Shared>) -> Result<Guest, Fail> {
-    Ok(Guest {
+pub fn make_guest(rt: &impl Abort, kind: Kind, shared: &Arc<Shared>) -> Guest {
+    Guest {
         kind,
-        shared: Arc::try_clone(shared)?,
-        crash: Text::new(b"crash").ok_or("a text")?,
-    })
+        shared: got(rt, MEMORY, Arc::try_clone(shared)),
+        crash: Text::joined(b"crash", b""),
+    }
+}
+
+/// A name that the test knows to be short enough.
+pub fn named(rt: &impl Abort, name: &[u8]) -> Name {
+    match Name::new(name) {
+        Some(name) => name,
+        None => panic!(rt; "a name"),
+    }
 }
 
 /// The names of up to eight children.
 const NAMES: [&[u8]; 8] = [b"a", b"b", b"c", b"d", b"e", b"f", b"g", b"h"];
 
-fn fill(
+fn add(
+    rt: &impl Abort,
     draft: &mut TableDraft<Guest, BoxedSubsystem>,
-    kinds: &[Kind],
+    name: &[u8],
+    kind: Kind,
     shared: &Arc<Shared>,
-) -> Result<(), Fail> {
-    for (name, kind) in NAMES.iter().zip(kinds) {
-        let id = Name::new(name).ok_or("a name")?;
-        let mut spec = ChildSpec::new(id, id);
-        if *kind == Kind::Deaf {
-            spec.shutdown = Shutdown::Milliseconds(20);
-        }
-        let job = make_guest(*kind, shared)?;
-        draft
-            .add(spec, otp_job::Body::Worker(job))
-            .map_err(|_| AllocError)?;
+) {
+    let id = named(rt, name);
+    let mut spec = ChildSpec::new(id, id);
+    if kind == Kind::Deaf {
+        spec.shutdown = Shutdown::Milliseconds(20);
     }
-    Ok(())
+    let job = make_guest(rt, kind, shared);
+    got(rt, MEMORY, draft.add(spec, Body::Worker(job)));
 }
 
 /// The plan of a supervisor of such jobs, and of the supervisors with these numbers before them.
 fn make_plan(
+    rt: &impl Abort,
     alloc: Global,
     below: &[usize],
     kinds: &[Kind],
     shared: &Arc<Shared>,
     flags: SupFlags,
-) -> Result<Plan, Fail> {
+) -> Plan {
     let mut draft = TableDraft::new(alloc);
     for table in below {
-        let added = match Name::new(b"sub") {
-            Some(id) => draft.add_supervisor(id, *table).is_ok(),
-            None => false,
-        };
-        if !added {
-            drop(draft);
-            return Err("a supervisor".into());
-        }
+        got(rt, MEMORY, draft.add_supervisor(named(rt, b"sub"), *table));
     }
-    if let Err(fault) = fill(&mut draft, kinds, shared) {
-        drop(draft);
-        return Err(fault);
+    for (name, kind) in NAMES.iter().zip(kinds) {
+        add(rt, &mut draft, name, *kind, shared);
     }
-    match draft.plan(flags) {
-        Ok(plan) => Ok(plan),
-        Err(back) => {
-            drop(back);
-            Err("a plan".into())
-        }
-    }
+    got(rt, "a lawful plan", draft.plan(flags))
 }
 
 /// A tree of a root of such jobs, and of a supervisor of such others before them.
 pub fn tree(
+    rt: &impl Abort,
     alloc: Global,
     kinds: &[Kind],
     below: &[Kind],
     shared: &Arc<Shared>,
     flags: SupFlags,
-) -> Result<Vec<Plan>, Fail>
-    ensures { IfOk result (λ plans. length plans.items ≡ 2) }
+) -> Vec<Plan>
+    ensures { length result.items ≡ 2 }
 {
-    let root = make_plan(alloc, &[1], kinds, shared, flags)?;
-    let sub = match make_plan(alloc, &[], below, shared, flags) {
-        Ok(sub) => sub,
-        Err(fault) => {
-            drop(root);
-            return Err(fault);
-        }
-    };
+    let root = make_plan(rt, alloc, &[1], kinds, shared, flags);
+    let sub = make_plan(rt, alloc, &[], below, shared, flags);
     let Ok(mut plans) = Vec::with_capacity(alloc, 2) else {
-        drop(root);
-        drop(sub);
-        return Err(AllocError.into());
+        panic!(rt; "there is memory");
     };
     plans.push_reserved(root);
     plans.push_reserved(sub);
-    Ok(plans)
+    plans
 }
 
 /// What came of a tree.
@@ -255,13 +239,15 @@ fn outcome_of(report: &Report<Guest, BoxedSubsystem>) -> Outcome {
     }
 }
 
-/// Whether a tree of so many supervisors can be run with so many hands. A thread that runs one beside others asks by itself.
-pub fn can_run(plans: &[Plan], hands: usize) -> bool
-    ensures tables { result ≡ true → length plans.now ≤ MAX_TABLES }
-    ensures some { result ≡ true → 0 < hands }
-    ensures few { result ≡ true → hands ≤ all_parts }
+/// A tree of so many supervisors can be run with so many hands. A thread that runs one beside others asks by itself.
+pub fn may_run(rt: &impl Abort, plans: &[Plan], hands: usize)
+    ensures tables { length plans.now ≤ MAX_TABLES }
+    ensures some { 0 < hands }
+    ensures few { hands ≤ all_parts }
 {
-    plans.len() <= MAX_TABLES && 0 < hands && hands <= MAX_HANDS
+    assert!(rt; plans.len() <= MAX_TABLES);
+    assert!(rt; 0 < hands);
+    assert!(rt; hands <= MAX_HANDS);
 }
 
 /// Runs a tree until it has ended, and says what came of it.
@@ -272,40 +258,38 @@ pub fn run_watched<R, W>(
     hands: usize,
     stop: &Stop,
     watch: &W,
-) -> Result<Outcome, Fail>
+) -> Outcome
 where
-    R: Threads + Wait + Clock + Sync,
+    R: Threads + Wait + Clock + Abort + Sync,
     W: Watch + Sync,
 {
-    if !can_run(plans.as_slice(), hands) {
-        drop(plans);
-        return Err("a tree that can't be run".into());
-    }
-    match run(rt, alloc, plans, hands, stop, watch) {
-        Ok(report) => {
-            let seen = outcome_of(&report);
-            drop(report);
-            Ok(seen)
-        }
-        Err(fault) => {
-            drop(fault);
-            Err("the tree was not run".into())
-        }
-    }
+    may_run(rt, plans.as_slice(), hands);
+    let ran = run(rt, alloc, plans, hands, stop, watch);
+    let report = got(rt, "the tree was not run", ran);
+    let seen = outcome_of(&report);
+    drop(report);
+    seen
 }
 
 /// The same where nobody watches.
-pub fn unwatched<R>(
-    rt: &R,
-    alloc: Global,
-    plans: Vec<Plan>,
-    hands: usize,
-    stop: &Stop,
-) -> Result<Outcome, Fail>
+pub fn unwatched<R>(rt: &R, alloc: Global, plans: Vec<Plan>, hands: usize, stop: &Stop) -> Outcome
 where
-    R: Threads + Wait + Clock + Sync,
+    R: Threads + Wait + Clock + Abort + Sync,
 {
     run_watched(rt, alloc, plans, hands, stop, &Unwatched)
+}
+
+/// What a test says that stops for want of memory.
+pub const MEMORY: &str = "memory was refused";
+
+/// What a try gave. Where it failed the test stops, with these words: so no test has an exit beside what it holds.
+pub fn got<T, E>(rt: &impl Abort, what: &str, tried: Result<T, E>) -> T
+    ensures { tried ≡ Ok result }
+{
+    match tried {
+        Ok(value) => value,
+        Err(_) => panic!(rt; "{what}"),
+    }
 }
 
 /// Asserts that a value is the one that is wanted.

@@ -3,33 +3,46 @@ use crate::guests::{Kind, Outcome, Shared, flags, run_watched, same, tree, unwat
 use otp_live::{Happening, Seen, Watch};
 use std::alloc::Global;
 use std::process::Abort;
-use std::sync::Wait;
 use std::sync::atomic::{AtomicU64, Ordering};
-use std::test::*;
+use std::sync::{Arc, Wait};
 use std::thread;
 use std::thread::Threads;
 use std::time::Clock;
 
 // A tree of steady workers that is stopped before it runs: it is opened, and shut down.
-fn stop_before<R: Threads + Wait + Clock + Abort + Sync>(
+fn stop_before<R: Threads + Wait + Clock + Abort + Sync>(rt: &R, alloc: Global, hands: usize) {
+    let shared = Shared::new(rt, alloc);
+    shared.stop.raise();
+    let kinds = [Kind::Steady, Kind::Busy];
+    all_ended(rt, lives(rt, alloc, &kinds, &kinds, &shared, 1, hands));
+    drop(shared);
+}
+
+// Runs a tree of a root of such jobs, and of a supervisor of such others; so many restarts are allowed, and there are so many
+// threads.
+fn lives<R: Threads + Wait + Clock + Abort + Sync>(
     rt: &R,
     alloc: Global,
+    kinds: &[Kind],
+    below: &[Kind],
+    shared: &Arc<Shared>,
+    intensity: u64,
     hands: usize,
-) -> Result<(), Fail> {
-    let shared = Shared::new(alloc)?;
-    let kinds = [Kind::Steady, Kind::Busy];
-    let plans = tree(alloc, &kinds, &kinds, &shared, flags(1))?;
-    shared.stop.raise();
-    let seen = unwatched(rt, alloc, plans, hands, &shared.stop)?;
+) -> Outcome {
+    let plans = tree(rt, alloc, kinds, below, shared, flags(intensity));
+    unwatched(rt, alloc, plans, hands, &shared.stop)
+}
+
+// No process is left, and both supervisors have ended.
+fn all_ended(rt: &impl Abort, seen: Outcome) {
     same(rt, "the processes that are left", seen.live, 0);
     same(rt, "the supervisors that have ended", seen.ended, 2);
-    Ok(())
 }
 
 #[test]
-fn a_stop_raised_before_is_seen(rt: HostRuntime) -> Result<(), Fail> {
-    stop_before(&rt, rt.alloc(), 1)?;
-    stop_before(&rt, rt.alloc(), 4)
+fn a_stop_raised_before_is_seen(rt: HostRuntime) {
+    stop_before(&rt, rt.alloc(), 1);
+    stop_before(&rt, rt.alloc(), 4);
 }
 
 // Waits until so many jobs were started, and raises the stop.
@@ -44,76 +57,64 @@ fn stop_after(shared: &Shared, starts: u64) {
 }
 
 // A tree that another thread stops while all its threads may sleep.
-fn stop_beside<R: Threads + Wait + Clock + Abort + Sync>(
-    rt: &R,
-    alloc: Global,
-    hands: usize,
-) -> Result<(), Fail> {
-    let shared = Shared::new(alloc)?;
+fn stop_beside<R: Threads + Wait + Clock + Abort + Sync>(rt: &R, alloc: Global, hands: usize) {
+    let shared = Shared::new(rt, alloc);
     let kinds = [Kind::Steady, Kind::Steady];
-    let plans = tree(alloc, &kinds, &kinds, &shared, flags(1))?;
     let (seen, ()) = thread::join(
         rt,
-        || unwatched(rt, alloc, plans, hands, &shared.stop),
+        || lives(rt, alloc, &kinds, &kinds, &shared, 1, hands),
         || stop_after(&shared, 4),
     );
-    let seen = seen?;
-    same(rt, "the processes that are left", seen.live, 0);
-    same(rt, "the supervisors that have ended", seen.ended, 2);
+    drop(shared);
+    all_ended(rt, seen);
     same(rt, "the processes that began", seen.begun, 6);
-    Ok(())
 }
 
 #[test]
-fn another_thread_stops_a_tree(rt: HostRuntime) -> Result<(), Fail> {
+fn another_thread_stops_a_tree(rt: HostRuntime) {
     for _ in 0..20 {
-        stop_beside(&rt, rt.alloc(), 1)?;
-        stop_beside(&rt, rt.alloc(), 3)?;
+        stop_beside(&rt, rt.alloc(), 1);
+        stop_beside(&rt, rt.alloc(), 3);
     }
-    Ok(())
 }
 
 // A child that doesn't heed the shutdown is killed at its deadline, though every thread sleeps until then.
 #[test]
-fn a_deadline_wakes_a_tree(rt: HostRuntime) -> Result<(), Fail> {
+fn a_deadline_wakes_a_tree(rt: HostRuntime) {
     for hands in [1, 4] {
-        let shared = Shared::new(rt.alloc())?;
+        let shared = Shared::new(&rt, rt.alloc());
         let kinds = [Kind::Deaf, Kind::Stops(2)];
-        let plans = tree(rt.alloc(), &kinds, &[], &shared, flags(1))?;
-        let seen = unwatched(&rt, rt.alloc(), plans, hands, &shared.stop)?;
-        same(&rt, "the processes that are left", seen.live, 0);
-        same(&rt, "the supervisors that have ended", seen.ended, 2);
+        let seen = lives(&rt, rt.alloc(), &kinds, &[], &shared, 1, hands);
+        drop(shared);
+        all_ended(&rt, seen);
     }
-    Ok(())
 }
 
 // A tree that gives up ends by itself.
 #[test]
-fn a_tree_ends_by_itself(rt: HostRuntime) -> Result<(), Fail> {
+fn a_tree_ends_by_itself(rt: HostRuntime) {
     for hands in [1, 4] {
-        let shared = Shared::new(rt.alloc())?;
+        let shared = Shared::new(&rt, rt.alloc());
         let kinds = [Kind::Steady, Kind::Crashes(u64::MAX)];
-        let plans = tree(rt.alloc(), &[Kind::Steady], &kinds, &shared, flags(3))?;
-        let seen = unwatched(&rt, rt.alloc(), plans, hands, &shared.stop)?;
-        same(&rt, "the processes that are left", seen.live, 0);
-        same(&rt, "the supervisors that have ended", seen.ended, 2);
+        let root = [Kind::Steady];
+        let seen = lives(&rt, rt.alloc(), &root, &kinds, &shared, 3, hands);
         assert!(rt; !shared.stop.is_raised());
+        drop(shared);
+        all_ended(&rt, seen);
     }
-    Ok(())
 }
 
 // Crashes and restarts in one supervisor until its jobs were started 50 times; then a job of the other stops the tree.
 #[test]
-fn a_tree_restarts_until_it_is_stopped(rt: HostRuntime) -> Result<(), Fail> {
+fn a_tree_restarts_until_it_is_stopped(rt: HostRuntime) {
     for hands in [1, 2, 4, 8] {
-        let shared = Shared::new(rt.alloc())?;
+        let shared = Shared::new(&rt, rt.alloc());
         let kinds = [Kind::Crashes(50), Kind::Stops(50)];
-        let plans = tree(rt.alloc(), &[Kind::Busy], &kinds, &shared, flags(1000))?;
-        let seen = unwatched(&rt, rt.alloc(), plans, hands, &shared.stop)?;
-        same(&rt, "the processes that are left", seen.live, 0);
-        same(&rt, "the supervisors that have ended", seen.ended, 2);
+        let root = [Kind::Busy];
+        let seen = lives(&rt, rt.alloc(), &root, &kinds, &shared, 1000, hands);
+        drop(shared);
+        all_ended(&rt, seen);
     }
-    Ok(())
 }
 
 // Counts what it is told.
@@ -139,23 +140,23 @@ impl Watch for Counting {
 
 // A watch is told of each start and each end: of four jobs, the supervisor below, and the root.
 #[test]
-fn a_watch_is_told(rt: HostRuntime) -> Result<(), Fail> {
-    let shared = Shared::new(rt.alloc())?;
-    let kinds = [Kind::Steady, Kind::Stops(4)];
-    let plans = tree(rt.alloc(), &kinds, &kinds, &shared, flags(1))?;
+fn a_watch_is_told(rt: HostRuntime) {
+    let shared = Shared::new(&rt, rt.alloc());
     let counting = Counting {
         started: AtomicU64::new(0),
         exited: AtomicU64::new(0),
         of_root: AtomicU64::new(0),
     };
-    let ran: Outcome = run_watched(&rt, rt.alloc(), plans, 2, &shared.stop, &counting)?;
-    same(&rt, "the processes that are left", ran.live, 0);
-    for (what, told, wanted) in [
-        ("the starts", &counting.started, 6),
-        ("the ends", &counting.exited, 6),
-        ("what was told of the root", &counting.of_root, 2),
-    ] {
-        same(&rt, what, told.load(Ordering::SeqCst), wanted);
-    }
-    Ok(())
+    let kinds = [Kind::Steady, Kind::Stops(4)];
+    let plans = tree(&rt, rt.alloc(), &kinds, &kinds, &shared, flags(1));
+    let seen = run_watched(&rt, rt.alloc(), plans, 2, &shared.stop, &counting);
+    drop(shared);
+    same(&rt, "the processes that are left", seen.live, 0);
+    is_told(&rt, "the starts", &counting.started, 6);
+    is_told(&rt, "the ends", &counting.exited, 6);
+    is_told(&rt, "what was told of the root", &counting.of_root, 2);
+}
+
+fn is_told(rt: &impl Abort, what: &str, told: &AtomicU64, wanted: u64) {
+    same(rt, what, told.load(Ordering::SeqCst), wanted);
 }

@@ -1,18 +1,17 @@
 // Jobs that wait are woken by other threads.
-ghost use Rattle.std.specs.Prelude.{◌≡◌, true, length, IfOk};
+ghost use Rattle.std.specs.Prelude.{◌≡◌, true, length};
 
-use crate::guests::{Kind, Shared, flags, same, tree, unwatched};
+use crate::guests::{Kind, MEMORY, Shared, flags, got, named, same, tree, unwatched};
 use otp_bridge::BoxedSubsystem;
 use otp_job::{Job, Place, Told, Turn};
 use otp_live::{Mailbox, Stop, Unwatched, run};
-use otp_reason::{Name, Reason, Started};
+use otp_reason::{Reason, Started};
 use otp_spec::{MAX_TABLES, SupFlags};
 use otp_tree::{TableDraft, TablePlan};
-use std::alloc::{AllocError, Global};
+use std::alloc::Global;
 use std::process::Abort;
 use std::sync::atomic::{AtomicU64, Ordering};
 use std::sync::{Arc, Wait};
-use std::test::*;
 use std::thread;
 use std::thread::Threads;
 use std::time::Clock;
@@ -49,40 +48,29 @@ fn wait_until_seen(shared: &Shared, ticket: u64) {
 }
 
 // Four threads do that.
-fn wake_from_four<R: Threads + Sync>(
-    rt: &R,
-    alloc: Global,
-    shared: &Shared,
-) -> Result<(), AllocError> {
-    let done = thread::map_indices(rt, alloc, 4, &|_| wake_often(shared))?;
-    drop(done);
-    Ok(())
+fn wake_from_four<R: Threads + Abort + Sync>(rt: &R, alloc: Global, shared: &Shared) {
+    let done = thread::map_indices(rt, alloc, 4, &|_| wake_often(shared));
+    drop(got(rt, MEMORY, done));
 }
 
 // The job stops the tree once it has seen all that was given: were one of the 10,000 wakes lost, all would wait for ever.
-fn wake_all<R: Threads + Wait + Clock + Abort + Sync>(
-    rt: &R,
-    alloc: Global,
-    hands: usize,
-) -> Result<(), Fail> {
-    let shared = Shared::new(alloc)?;
+fn wake_all<R: Threads + Wait + Clock + Abort + Sync>(rt: &R, alloc: Global, hands: usize) {
+    let shared = Shared::new(rt, alloc);
     let kinds = [Kind::Steady, Kind::Counts(4 * WAKES)];
-    let plans = tree(alloc, &kinds, &[Kind::Steady], &shared, flags(1))?;
-    let (seen, woken) = thread::join(
+    let plans = tree(rt, alloc, &kinds, &[Kind::Steady], &shared, flags(1));
+    let (seen, ()) = thread::join(
         rt,
         || unwatched(rt, alloc, plans, hands, &shared.stop),
         || wake_from_four(rt, alloc, &shared),
     );
-    let seen = seen?;
-    woken?;
+    drop(shared);
     same(rt, "the processes that are left", seen.live, 0);
-    Ok(())
 }
 
 #[test]
-fn no_wake_of_four_threads_is_lost(rt: HostRuntime) -> Result<(), Fail> {
-    wake_all(&rt, rt.alloc(), 1)?;
-    wake_all(&rt, rt.alloc(), 4)
+fn no_wake_of_four_threads_is_lost(rt: HostRuntime) {
+    wake_all(&rt, rt.alloc(), 1);
+    wake_all(&rt, rt.alloc(), 4);
 }
 
 // Adds up what is posted into its mailbox, and stops the tree once so many posts came.
@@ -142,90 +130,86 @@ type ReaderPlan<R> = TablePlan<Reader<R>, BoxedSubsystem>;
 
 // A tree of one reader.
 fn reader_tree<R: Wait + Send + Drop>(
+    rt: &impl Abort,
     alloc: Global,
     reader: Reader<R>,
-) -> Result<Vec<ReaderPlan<R>>, Fail>
-    ensures { IfOk result (λ plans. length plans.items ≡ 1) }
+) -> Vec<ReaderPlan<R>>
+    ensures { length result.items ≡ 1 }
 {
-    let Some(id) = Name::new(b"reader") else {
-        drop(reader);
-        return Err("a name".into());
-    };
     let mut root = TableDraft::new(alloc);
-    if let Err(reader) = root.add_worker(id, reader) {
-        drop(reader);
-        drop(root);
-        return Err(AllocError.into());
-    }
-    let plan = match root.plan(SupFlags::default()) {
-        Ok(plan) => plan,
-        Err(back) => {
-            drop(back);
-            return Err("a plan".into());
-        }
-    };
+    got(rt, MEMORY, root.add_worker(named(rt, b"reader"), reader));
+    let plan = got(rt, "a lawful plan", root.plan(SupFlags::default()));
     let Ok(mut plans) = Vec::with_capacity(alloc, 1) else {
-        drop(plan);
-        return Err(AllocError.into());
+        panic!(rt; "there is memory");
     };
     plans.push_reserved(plan);
-    Ok(plans)
+    plans
 }
 
-// Runs readers until they have ended. Whether they were run.
-fn run_readers<R>(rt: &R, alloc: Global, plans: Vec<ReaderPlan<R>>, stop: &Stop) -> bool
+// Runs readers until they have ended.
+fn run_readers<R>(rt: &R, alloc: Global, plans: Vec<ReaderPlan<R>>, stop: &Stop)
 where
-    R: Threads + Wait + Clock + Send + Sync + Drop,
+    R: Threads + Wait + Clock + Abort + Send + Sync + Drop,
 {
-    if plans.len() > MAX_TABLES {
-        drop(plans);
-        return false;
-    }
-    match run(rt, alloc, plans, 2, stop, &Unwatched) {
-        Ok(report) => {
-            drop(report);
-            true
-        }
-        Err(fault) => {
-            drop(fault);
-            false
-        }
-    }
+    assert!(rt; plans.len() <= MAX_TABLES);
+    let ran = run(rt, alloc, plans, 2, stop, &Unwatched);
+    drop(got(rt, "the readers weren't run", ran));
 }
 
 // Posts the numbers below it.
-fn post_all<R: Wait>(rt: &R, posts: &Mailbox<u64>, count: u64) -> Result<(), Fail> {
+fn post_all<R: Wait + Abort>(rt: &R, posts: &Mailbox<u64>, count: u64) {
     for number in 0..count {
-        posts.post(rt, number).map_err(|_| AllocError)?;
+        assert!(rt; posts.post(rt, number).is_ok());
     }
-    Ok(())
 }
 
 // How many numbers are posted.
 const POSTS: u64 = 1_000;
 
+// What the reader and the test share.
+#[derive(Drop)]
+struct Shelf {
+    posts: Arc<Mailbox<u64>>,
+    sum: Arc<AtomicU64>,
+    stop: Stop,
+}
+
+fn make_shelf(rt: &impl Abort, alloc: Global) -> Shelf {
+    let mailbox = got(rt, MEMORY, Mailbox::new(alloc));
+    Shelf {
+        posts: got(rt, MEMORY, Arc::new(alloc, mailbox)),
+        sum: got(rt, MEMORY, Arc::new(alloc, AtomicU64::new(0))),
+        stop: got(rt, MEMORY, Stop::new(alloc)),
+    }
+}
+
+// The same.
+fn share(rt: &impl Abort, shelf: &Shelf) -> Shelf {
+    Shelf {
+        posts: got(rt, MEMORY, Arc::try_clone(&shelf.posts)),
+        sum: got(rt, MEMORY, Arc::try_clone(&shelf.sum)),
+        stop: got(rt, MEMORY, shelf.stop.try_clone()),
+    }
+}
+
 // A job waits for what another thread posts into its mailbox.
 #[test]
-fn a_mailbox_wakes_its_job(rt: HostRuntime) -> Result<(), Fail> {
-    let alloc = rt.alloc();
-    let posts = Arc::new(alloc, Mailbox::new(alloc)?)?;
-    let sum = Arc::new(alloc, AtomicU64::new(0))?;
-    let stop = Stop::new(alloc)?;
+fn a_mailbox_wakes_its_job(rt: HostRuntime) {
+    let shelf = make_shelf(&rt, rt.alloc());
+    let Shelf { posts, sum, stop } = share(&rt, &shelf);
     let reader = Reader {
         rt,
-        posts: Arc::try_clone(&posts)?,
-        sum: Arc::try_clone(&sum)?,
+        posts,
+        sum,
         left: POSTS,
-        stop: stop.try_clone()?,
+        stop,
     };
-    let plans = reader_tree(alloc, reader)?;
-    let (ran, posted) = thread::join(
+    let plans = reader_tree(&rt, rt.alloc(), reader);
+    let ((), ()) = thread::join(
         &rt,
-        || run_readers(&rt, alloc, plans, &stop),
-        || post_all(&rt, &posts, POSTS),
+        || run_readers(&rt, rt.alloc(), plans, &shelf.stop),
+        || post_all(&rt, &shelf.posts, POSTS),
     );
-    posted?;
-    assert!(rt; ran);
-    same(&rt, "the sum", sum.load(Ordering::SeqCst), 499_500);
-    Ok(())
+    same(&rt, "the sum", shelf.sum.load(Ordering::SeqCst), 499_500);
+    drop(shelf);
 }

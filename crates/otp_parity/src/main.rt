@@ -18,6 +18,3 @@ fn main(rt: HostRuntime) -> io::Result<ExitCode> {
     println!(rt; "{score}")?;
     Ok(ExitCode::from(score.status()))
 }
-
-#[cfg(test)]
-mod tests;

@@ -1,24 +1,19 @@
 //! Readers and writers that fail in mid-stream, that watch one another, and that count their calls.
 
-use crate::fixtures::same;
-use otp_file::read_tree;
+use crate::fixtures::{got, same, supervisor_of};
 use otp_sim::{Counted, Failed, SimEnd, sim, write_all};
 use otp_spec::SupSpec;
 use std::alloc::Global;
 use std::cell::Cell;
+use std::io;
 use std::io::{Error, ErrorKind, Read, Write};
 use std::process::Abort;
-use std::test::Fail;
-use std::{io, iter};
 
 const THREE_WORKERS: &str =
     "[[child]]\nid = \"a\"\nstart = \"a\"\n[[child]]\nid = \"b\"\nstart = \"b\"\n[[child]]\nid = \"c\"\nstart = \"c\"\n";
 
-fn three_workers(alloc: Global) -> Result<SupSpec, Fail> {
-    let (supervisor, nested, trees) = read_tree(alloc, THREE_WORKERS.as_bytes())?.into_parts();
-    drop(nested);
-    drop(trees);
-    Ok(supervisor)
+fn three_workers(rt: &impl Abort, alloc: Global) -> SupSpec {
+    supervisor_of(rt, alloc, THREE_WORKERS)
 }
 
 /// A reader of these bytes, so many at a call, that fails where they end. Every other call is interrupted.
@@ -48,10 +43,26 @@ impl<'a> Read for Broken<'a> {
 
 /// A writer that takes one byte a call, and fails once it has so many. Every other call is interrupted.
 #[derive(Drop)]
-struct Slow {
+pub(crate) struct Slow {
     bytes: Vec<u8>,
     room: usize,
     is_interrupted: bool,
+}
+
+impl Slow {
+    pub(crate) fn of_room(alloc: Global, room: usize) -> Slow {
+        Slow {
+            bytes: Vec::new(alloc),
+            room,
+            is_interrupted: false,
+        }
+    }
+
+    /// What it has taken.
+    pub(crate) fn into_bytes(self) -> Vec<u8> {
+        let Slow { bytes, .. } = self;
+        bytes
+    }
 }
 
 impl Write for Slow {
@@ -77,91 +88,61 @@ impl Write for Slow {
 
 /// The lines whose LF was read are served, and no other.
 #[test]
-fn failed_reads(rt: HostRuntime) -> Result<(), Fail> {
-    let alloc = rt.alloc();
-    let longest: Vec<u8> = iter::repeat_n(b'x', 512).collect(alloc)?;
-    let longer: Vec<u8> = iter::repeat_n(b'x', 513).collect(alloc)?;
+fn failed_reads(rt: HostRuntime) {
     let opened = "start a #1\n";
     let second = "start a #1\nstart b #2\n";
-    let rows = [
-        (b"up 1\n".as_slice(), second, SimEnd::InputFailed),
-        (b"up 1\nup 2".as_slice(), second, SimEnd::InputFailed),
-        (b"".as_slice(), opened, SimEnd::InputFailed),
-        (longest.as_slice(), opened, SimEnd::InputFailed),
-        // a line that is too long is refused before its end is read
-        (longer.as_slice(), opened, SimEnd::LineRefused(1)),
-    ];
-    for (bytes, printed, end) in rows {
-        for at_once in [1usize, 7, 4096] {
-            let broken = Broken {
-                bytes,
-                at_once,
-                is_interrupted: false,
-            };
-            reads_broken(&rt, alloc, broken, printed, end)?;
-        }
-    }
-    Ok(())
+    let end = SimEnd::InputFailed;
+    reads_broken(&rt, rt.alloc(), b"up 1\n", second, end);
+    reads_broken(&rt, rt.alloc(), b"up 1\nup 2", second, end);
+    reads_broken(&rt, rt.alloc(), b"", opened, end);
+    reads_broken(&rt, rt.alloc(), &[b'x'; 512], opened, end);
+    // a line that is too long is refused before its end is read
+    let end = SimEnd::LineRefused(1);
+    reads_broken(&rt, rt.alloc(), &[b'x'; 513], opened, end);
 }
 
-/// What is printed of such an input, and how the program ends.
-fn reads_broken(
-    rt: &impl Abort,
-    alloc: Global,
-    broken: Broken<'_>,
-    printed: &str,
-    end: SimEnd,
-) -> Result<(), Fail> {
-    let supervisor = three_workers(alloc)?;
-    let mut reader = Counted::new(broken);
-    let mut writer = Counted::new(Vec::new(alloc));
-    let ended = sim(alloc, supervisor, &mut reader, &mut writer);
-    let text = writer.into_device();
-    same(rt, "what is printed", text.as_slice(), printed.as_bytes());
-    same(rt, "the end", ended, end);
-    Ok(())
+/// What is printed of such an input, and how the program ends, however many bytes come at once.
+fn reads_broken(rt: &impl Abort, alloc: Global, bytes: &[u8], printed: &str, end: SimEnd) {
+    for at_once in [1usize, 7, 4096] {
+        let supervisor = three_workers(rt, alloc);
+        let mut reader = Counted::new(Broken {
+            bytes,
+            at_once,
+            is_interrupted: false,
+        });
+        let mut writer = Counted::new(Vec::new(alloc));
+        let ended = sim(alloc, supervisor, &mut reader, &mut writer);
+        let text = writer.into_device();
+        same(rt, "what is printed", text.as_slice(), printed.as_bytes());
+        same(rt, "the end", ended, end);
+    }
 }
+
+/// Three workers start, and are stopped.
+const LINES: &str = "up 1\nup 2\nup 3\nstop\nexit 3 shutdown\nexit 2 shutdown\nexit 1 shutdown\n";
+
+const PRINTED: &str =
+    "start a #1\nstart b #2\nstart c #3\nready\nask c #3\nask b #2\nask a #1\nend shutdown\n";
 
 /// A write that fails after so many bytes, for each number of them.
 #[test]
-fn failed_writes(rt: HostRuntime) -> Result<(), Fail> {
-    let alloc = rt.alloc();
-    let lines = "up 1\nup 2\nup 3\nstop\nexit 3 shutdown\nexit 2 shutdown\nexit 1 shutdown\n";
-    let printed =
-        "start a #1\nstart b #2\nstart c #3\nready\nask c #3\nask b #2\nask a #1\nend shutdown\n";
-    for room in 0..printed.len() + 1 {
-        let end = if room < printed.len() {
-            SimEnd::OutputFailed
-        } else {
-            SimEnd::Done
-        };
-        let slow = Slow {
-            bytes: Vec::new(alloc),
-            room,
-            is_interrupted: false,
-        };
-        writes_slowly(&rt, alloc, slow, lines, &printed.as_bytes()[..room], end)?;
+fn failed_writes(rt: HostRuntime) {
+    for room in 0..PRINTED.len() {
+        writes_slowly(&rt, rt.alloc(), room, SimEnd::OutputFailed);
     }
-    Ok(())
+    writes_slowly(&rt, rt.alloc(), PRINTED.len(), SimEnd::Done);
 }
 
-/// What is written of these lines by such a writer, and how the program ends.
-fn writes_slowly(
-    rt: &impl Abort,
-    alloc: Global,
-    slow: Slow,
-    lines: &str,
-    written: &[u8],
-    end: SimEnd,
-) -> Result<(), Fail> {
-    let supervisor = three_workers(alloc)?;
-    let mut reader = Counted::new(lines.as_bytes());
-    let mut writer = Counted::new(slow);
+/// What is written of these lines where there is so much room, and how the program ends.
+fn writes_slowly(rt: &impl Abort, alloc: Global, room: usize, end: SimEnd) {
+    let supervisor = three_workers(rt, alloc);
+    let mut reader = Counted::new(LINES.as_bytes());
+    let mut writer = Counted::new(Slow::of_room(alloc, room));
     let ended = sim(alloc, supervisor, &mut reader, &mut writer);
-    let Slow { bytes, .. } = writer.into_device();
-    same(rt, "what is written", bytes.as_slice(), written);
+    let bytes = writer.into_device().into_bytes();
+    let written = PRINTED.as_bytes().get(..room);
+    same(rt, "what is written", Some(bytes.as_slice()), written);
     same(rt, "the end", ended, end);
-    Ok(())
 }
 
 /// A reader of one line a call, that fails where the writer hasn't yet got all that the lines before print.
@@ -209,38 +190,30 @@ impl<'a> Write for Watched<'a> {
     }
 }
 
+/// Lines, and how much is written before each is read: all that the lines before it print.
+const WAITED: [(&str, usize); 6] = [
+    ("up 1\n", 11),
+    ("up 2\n", 22),
+    ("up 3\n", 33),
+    ("count\n", 39),
+    ("stop\n", 94),
+    ("", 103),
+];
+
 /// At a terminal each line is answered before the next one is waited for.
 #[test]
-fn answers_come_before_reads(rt: HostRuntime) -> Result<(), Fail> {
-    let lines = [
-        ("up 1\n", "start a #1\n"),
-        ("up 2\n", "start b #2\n"),
-        ("up 3\n", "start c #3\n"),
-        ("count\n", "ready\n"),
-        (
-            "stop\n",
-            "reply 1 count specs 3 active 3 supervisors 0 workers 3\n",
-        ),
-        ("", "ask c #3\n"),
-    ];
-    let mut waited: Vec<(&str, usize)> = Vec::new(rt.alloc());
-    let mut before = 0usize;
-    for (line, printed) in lines {
-        before = before.saturating_add(printed.len());
-        waited.push((line, before))?;
-    }
-    let supervisor = three_workers(rt.alloc())?;
+fn answers_come_before_reads(rt: HostRuntime) {
+    let supervisor = three_workers(&rt, rt.alloc());
     let written = Cell::new(0usize);
     let mut reader = Counted::new(Waiting {
-        lines: &waited,
+        lines: &WAITED,
         count: 0,
         written: &written,
     });
     let mut writer = Counted::new(Watched { written: &written });
     let ended = sim(rt.alloc(), supervisor, &mut reader, &mut writer);
     same(&rt, "the end", ended, SimEnd::Done);
-    same(&rt, "how much is written", written.get(), before);
-    Ok(())
+    same(&rt, "how much is written", written.get(), 103);
 }
 
 /// A reader that gives all that a buffer has room for, and how often it was asked.
@@ -261,17 +234,29 @@ impl<'a> Read for Asked<'a> {
     }
 }
 
-/// A writer that takes all, and how often it was asked and for how much.
+/// A writer that takes all, how often it was asked and for how much, and how much at once at the most.
 #[derive(Drop)]
-struct Taking {
-    calls: usize,
-    bytes: usize,
+pub(crate) struct Taking {
+    pub(crate) calls: usize,
+    pub(crate) bytes: usize,
+    pub(crate) most: usize,
+}
+
+impl Taking {
+    pub(crate) fn new() -> Taking {
+        Taking {
+            calls: 0,
+            bytes: 0,
+            most: 0,
+        }
+    }
 }
 
 impl Write for Taking {
     fn write(&mut self, bytes: &[u8]) -> io::Result<usize> {
         self.calls = self.calls.saturating_add(1);
         self.bytes = self.bytes.saturating_add(bytes.len());
+        self.most = self.most.max(bytes.len());
         Ok(bytes.len())
     }
 
@@ -280,31 +265,38 @@ impl Write for Taking {
     }
 }
 
+/// Many lines.
+fn many_lines(rt: &impl Abort, alloc: Global) -> String {
+    let mut lines = got(rt, "there is memory", "up 1\nup 2\nup 3\n".to_string(alloc));
+    for _ in 0..20_000u64 {
+        assert!(rt; lines.push_str("which\n\n\n\n\n\n").is_ok());
+    }
+    lines
+}
+
 /// Input is read, and output written, some 64 KiB at a time.
 #[test]
-fn few_reads_and_writes(rt: HostRuntime) -> Result<(), Fail> {
-    let alloc = rt.alloc();
-    let mut lines = "up 1\nup 2\nup 3\n".to_string(alloc)?;
-    for _ in 0..20_000u64 {
-        lines.push_str("which\n\n\n\n\n\n")?;
-    }
-    let supervisor = three_workers(alloc)?;
+fn few_reads_and_writes(rt: HostRuntime) {
+    let lines = many_lines(&rt, rt.alloc());
+    let supervisor = three_workers(&rt, rt.alloc());
     let mut reader = Counted::new(Asked {
         bytes: lines.as_bytes(),
         calls: 0,
     });
-    let mut writer = Counted::new(Taking { calls: 0, bytes: 0 });
-    let ended = sim(alloc, supervisor, &mut reader, &mut writer);
+    let mut writer = Counted::new(Taking::new());
+    let ended = sim(rt.alloc(), supervisor, &mut reader, &mut writer);
     same(&rt, "the end", ended, SimEnd::Done);
     // the last read finds the end
     let reads = reader.into_device().calls;
     let wanted = lines.len().div_ceil(65536).saturating_add(1);
     same(&rt, "the reads", reads, wanted);
-    // one before each read, and one for each 64 KiB
-    let taken = writer.into_device();
+    took_few(&rt, &writer.into_device(), reads);
+}
+
+/// One write before each read, and one for each 64 KiB.
+fn took_few(rt: &impl Abort, taken: &Taking, reads: usize) {
     assert!(rt; taken.bytes > 1_000_000);
     assert!(rt; taken.calls <= reads.saturating_add(taken.bytes / 65536));
-    Ok(())
 }
 
 /// A writer that takes nothing, and how often it was asked.
@@ -326,8 +318,8 @@ impl Write for Full {
 
 /// An output that takes nothing is asked once: for orders, and for a text such as a help.
 #[test]
-fn full_outputs(rt: HostRuntime) -> Result<(), Fail> {
-    let supervisor = three_workers(rt.alloc())?;
+fn full_outputs(rt: HostRuntime) {
+    let supervisor = three_workers(&rt, rt.alloc());
     let mut reader = Counted::new(b"up 1\n".as_slice());
     let mut writer = Counted::new(Full { calls: 0 });
     let ended = sim(rt.alloc(), supervisor, &mut reader, &mut writer);
@@ -337,5 +329,4 @@ fn full_outputs(rt: HostRuntime) -> Result<(), Fail> {
     let written = write_all(&mut writer, b"a help");
     same(&rt, "a text", written, Err(Failed));
     same(&rt, "the writes", writer.into_device().calls, 1);
-    Ok(())
 }

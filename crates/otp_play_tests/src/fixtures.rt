@@ -1,5 +1,10 @@
 //! What several tests need.
 
+ghost use Rattle.std.specs.Prelude.{◌≡◌, Ok};
+
+use otp_file::{TreeSpec, read_tree};
+use otp_spec::SupSpec;
+use std::alloc::Global;
 use std::fmt::Debug;
 use std::process::Abort;
 
@@ -13,4 +18,27 @@ pub(crate) fn same<T: PartialEq + Debug + Copy>(rt: &impl Abort, what: &str, val
 /// Asserts that what is told of a text holds; the message has the text.
 pub(crate) fn holds_of(rt: &impl Abort, text: &[u8], holds: bool) {
     assert!(rt; holds, "{}", text.escape_ascii());
+}
+
+/// What a try gave. Where it failed the test stops, with these words: so no test has an exit beside what it holds.
+pub(crate) fn got<T, E>(rt: &impl Abort, what: &str, tried: Result<T, E>) -> T
+    ensures { tried ≡ Ok result }
+{
+    match tried {
+        Ok(value) => value,
+        Err(_) => panic!(rt; "{what}"),
+    }
+}
+
+/// The tree that a file says.
+pub(crate) fn tree_of(rt: &impl Abort, alloc: Global, file: &str) -> TreeSpec {
+    got(rt, "a tree", read_tree(alloc, file.as_bytes()))
+}
+
+/// The supervisor of a tree file that has no tree below it.
+pub(crate) fn supervisor_of(rt: &impl Abort, alloc: Global, file: &str) -> SupSpec {
+    let (supervisor, nested, trees) = tree_of(rt, alloc, file).into_parts();
+    drop(nested);
+    drop(trees);
+    supervisor
 }

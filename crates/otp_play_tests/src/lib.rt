@@ -1,5 +1,5 @@
-//! Tests of the crates that play a supervisor or look at tree files for people, each from outside: lines of scripts, limits, places
-//! in a text, and readers and writers that fail.
+//! Tests of the crates that play a supervisor or look at tree files for people, each from outside: limits, places in a text,
+//! readers and writers that fail, and runs of `sim` for which there is no memory.
 //!
 //! What the program prints stands in the tables of `.ci/calls`, which are played with the program that the gate has built. These
 //! tests stand apart from `otp_tests`, so that the gate proves both side by side.
@@ -12,6 +12,6 @@ mod fixtures;
 #[cfg(test)]
 mod limits;
 #[cfg(test)]
-mod scripts;
+mod runs;
 #[cfg(test)]
 mod sources;

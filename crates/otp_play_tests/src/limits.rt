@@ -1,20 +1,11 @@
-//! What no clause says of limits: that children which are alike fare alike, and the intervals of a clock of whole seconds.
+//! What no clause says of limits: that children which are alike fare alike.
 
-use crate::fixtures::{holds_of, same};
-use otp_file::{TreeSpec, read_tree};
+use crate::fixtures::{got, holds_of, same, tree_of};
+use otp_file::TreeSpec;
 use otp_folds::{Grain, Pick, Row, find_rows};
-use otp_limits::{Steady, find_steady};
 use otp_reason::Name;
-use otp_spec::{ChildSpec, SupFlags, SupSpec};
-use otp_trial::Clock;
-use std::alloc::Global;
+use std::alloc::{AllocError, Global};
 use std::process::Abort;
-use std::test::Fail;
-
-/// The tree that a file says.
-fn tree_of(alloc: Global, file: &str) -> Result<TreeSpec, Fail> {
-    Ok(read_tree(alloc, file.as_bytes()).map_err(|_| "a tree")?)
-}
 
 /// Whether a row stands for this child.
 fn stands_for(row: &Row, name: &Name) -> bool {
@@ -53,20 +44,27 @@ fn fares_so(rt: &impl Abort, each: &Row, folded: &[Row]) {
     holds_of(rt, each.own.id.as_bytes(), false);
 }
 
+/// The rows of a tree's children, each or those alike together.
+fn rows_of(rt: &impl Abort, alloc: Global, grain: Grain, tree: &TreeSpec) -> Vec<Row> {
+    got(
+        rt,
+        "limits that are found",
+        find_rows(alloc, grain, &Pick::All, tree),
+    )
+}
+
 /// Plays each child of a tree, and holds it against the row that it has with others.
-fn all_fare_so(rt: &impl Abort, alloc: Global, file: &str) -> Result<(), Fail> {
-    let tree = tree_of(alloc, file)?;
-    let Ok(each) = find_rows(alloc, Grain::Each, &Pick::All, &tree) else {
-        return Err(Fail::from("limits that are found"));
-    };
-    let Ok(folded) = find_rows(alloc, Grain::Alike, &Pick::All, &tree) else {
-        return Err(Fail::from("limits that are found"));
-    };
+fn all_fare_so(rt: &impl Abort, alloc: Global, file: &str) {
+    let tree = tree_of(rt, alloc, file);
+    let each = rows_of(rt, alloc, Grain::Each, &tree);
+    let folded = rows_of(rt, alloc, Grain::Alike, &tree);
+    drop(tree);
     holds_of(rt, file.as_bytes(), folded.len() <= each.len());
     for row in &each {
         fares_so(rt, row, folded.as_slice());
     }
-    Ok(())
+    drop(each);
+    drop(folded);
 }
 
 /// Children of each restart type, two and two, in between one another, as workers and as supervisors.
@@ -77,46 +75,20 @@ const KINDS: &str =
 const SIGNIFICANT: &str =
     "[{id = \"a\", start = \"m\"}, {id = \"b\", start = \"m\", restart = \"transient\", significant = true}, {id = \"c\", start = \"m\", restart = \"temporary\", significant = true}, {id = \"d\", start = \"m\"}, {id = \"e\", start = \"m\", restart = \"transient\", significant = true}, {id = \"f\", start = \"m\", restart = \"temporary\", significant = true}]";
 
-#[test]
-fn alike_is_alike(rt: HostRuntime) -> Result<(), Fail> {
-    let alloc = rt.alloc();
-    for strategy in ["one_for_one", "one_for_all", "rest_for_one"] {
-        for intensity in [0, 1, 3] {
-            let head = format!(in alloc;
-                "strategy = \"{strategy}\", intensity = {intensity}, period = 2"
-            )?;
-            let file = format!(in alloc;
-                "child = [{{id = \"x\", start = \"m\", tree = {{{head}, child = {KINDS}}}}}, {{id = \"y\", start = \"m\", tree = {{{head}, auto_shutdown = \"any_significant\", child = {SIGNIFICANT}}}}}, {{id = \"z\", start = \"m\", tree = {{{head}, auto_shutdown = \"all_significant\", child = {SIGNIFICANT}}}}}]"
-            )?;
-            all_fare_so(&rt, alloc, &file)?;
-        }
-    }
-    Ok(())
+fn tree_with(alloc: Global, strategy: &str, intensity: u64) -> Result<String, AllocError> {
+    let head = format!(in alloc; "strategy = \"{strategy}\", intensity = {intensity}, period = 2")?;
+    format!(in alloc;
+        "child = [{{id = \"x\", start = \"m\", tree = {{{head}, child = {KINDS}}}}}, {{id = \"y\", start = \"m\", tree = {{{head}, auto_shutdown = \"any_significant\", child = {SIGNIFICANT}}}}}, {{id = \"z\", start = \"m\", tree = {{{head}, auto_shutdown = \"all_significant\", child = {SIGNIFICANT}}}}}]"
+    )
 }
 
-/// By whole seconds the least interval is the period and a second more, by the intensity.
 #[test]
-fn whole_seconds(rt: HostRuntime) -> Result<(), Fail> {
-    let alloc = rt.alloc();
-    let name = Name::new(b"a").ok_or("a name")?;
-    for (intensity, period, apart) in [
-        (1, 5, 6000),
-        (3, 10, 3667),
-        (7, 1, 286),
-        (1000, 2, 3),
-        (10, 30, 3100),
-    ] {
-        let flags = SupFlags {
-            intensity,
-            period,
-            ..SupFlags::default()
-        };
-        let specs = vec![in alloc; ChildSpec::new(name, name)]?;
-        let supervisor = SupSpec::check(flags, specs)?;
-        let Ok(steady) = find_steady(alloc, &supervisor, Clock::Seconds, &name) else {
-            return Err(Fail::from("an interval"));
-        };
-        same(&rt, "the interval", steady, Steady::Apart(apart));
+fn alike_is_alike(rt: HostRuntime) {
+    for strategy in ["one_for_one", "one_for_all", "rest_for_one"] {
+        for intensity in [0, 1, 3] {
+            let file = tree_with(rt.alloc(), strategy, intensity);
+            let file = got(&rt, "there is memory", file);
+            all_fare_so(&rt, rt.alloc(), file.as_str());
+        }
     }
-    Ok(())
 }

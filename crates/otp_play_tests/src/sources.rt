@@ -1,11 +1,10 @@
 //! What no clause says of places in a text: the line of a key is the one on which it stands. Documents are made up by chance, in
 //! all forms that TOML has, and each number in them stands once; so the line on which its digits are is known.
 
-use crate::fixtures::{holds_of, same};
+use crate::fixtures::{got, holds_of};
 use otp_source::{Part, Source};
 use std::alloc::{AllocError, Global};
 use std::process::Abort;
-use std::test::Fail;
 use toml::Value;
 
 /// Numbers that look drawn at random, and are the same in each run.
@@ -149,6 +148,17 @@ impl Draft {
         self.write_one_of(&["\n", "\r\n", " # [a] = 1\n"])
     }
 
+    /// Some lines, behind a mark where that is wanted.
+    fn fill(&mut self, is_marked: bool) -> Result<(), AllocError> {
+        if is_marked {
+            self.write("\u{feff}")?;
+        }
+        for _ in 0..14 {
+            self.write_line()?;
+        }
+        Ok(())
+    }
+
     /// A header or a key with its value.
     fn write_line(&mut self) -> Result<(), AllocError> {
         self.write_one_of(&BEFORE)?;
@@ -160,64 +170,84 @@ impl Draft {
 }
 
 /// The line on which a number stands in a text.
-fn line_of(alloc: Global, text: &[u8], number: i64) -> Result<Option<u64>, AllocError> {
-    let digits = format!(in alloc; "{number}")?;
+fn line_of(rt: &impl Abort, alloc: Global, text: &[u8], number: i64) -> Option<u64> {
+    let digits = got(rt, "there is memory", format!(in alloc; "{number}"));
     let length = digits.as_str().len();
     if length == 0 {
-        return Ok(None);
+        return None;
     }
     let mut windows = text.windows(length);
-    let Some(place) = windows.position(|window| window == digits.as_bytes()) else {
-        return Ok(None);
-    };
+    let place = windows.position(|window| window == digits.as_bytes())?;
     let mut line: u64 = 1;
     for byte in text.iter().take(place) {
         if *byte == b'\n' {
             line = line.saturating_add(1);
         }
     }
-    Ok(Some(line))
+    Some(line)
+}
+
+/// Values of a document that are still to be looked at, each with where it stands.
+type Left<'a> = Vec<(&'a Value, Option<Part>)>;
+
+/// The number is found on the line on which its digits stand.
+fn is_found(rt: &impl Abort, alloc: Global, text: &[u8], line: Option<u64>, number: i64) {
+    holds_of(rt, text, line.is_some());
+    holds_of(rt, text, line == line_of(rt, alloc, text, number));
+}
+
+/// What stands in a table or an array is to be looked at then.
+fn push_all<'a>(
+    source: &Source,
+    value: &'a Value,
+    part: Option<Part>,
+    left: &mut Left<'a>,
+) -> Result<(), AllocError> {
+    match value {
+        Value::Table(table) => {
+            for (key, value) in table.iter() {
+                let part = source.at_key(part, key.as_str());
+                left.push((value, part)).map_err(|_| AllocError)?;
+            }
+        }
+        Value::Array(values) => {
+            for (index, value) in values.iter().enumerate() {
+                let part = source.at_index(part, index);
+                left.push((value, part)).map_err(|_| AllocError)?;
+            }
+        }
+        _ => {}
+    }
+    Ok(())
 }
 
 /// Compares the lines of all numbers of a document, and says how many there are.
-fn compare(rt: &impl Abort, alloc: Global, text: &[u8], value: Value) -> Result<u64, AllocError> {
-    let source = Source::read(alloc, text)?;
-    let mut left: Vec<(&Value, Option<Part>)> = Vec::new(alloc);
-    left.push((&value, Some(Part::WHOLE)))
-        .map_err(|_| AllocError)?;
+fn compare(rt: &impl Abort, alloc: Global, text: &[u8], value: &Value) -> u64 {
+    let source = got(rt, "there is memory", Source::read(alloc, text));
+    let mut left: Left<'_> = Vec::new(alloc);
+    got(rt, "there is memory", left.push((value, Some(Part::WHOLE))));
     let mut numbers: u64 = 0;
     for _ in 0..100_000 {
         let Some((value, part)) = left.pop() else {
             break;
         };
-        match value {
-            Value::Table(table) => {
-                for (key, value) in table.iter() {
-                    let part = source.at_key(part, key.as_str());
-                    left.push((value, part)).map_err(|_| AllocError)?;
-                }
-            }
-            Value::Array(values) => {
-                for (index, value) in values.iter().enumerate() {
-                    let part = source.at_index(part, index);
-                    left.push((value, part)).map_err(|_| AllocError)?;
-                }
-            }
-            Value::Integer(number) => {
-                numbers = numbers.saturating_add(1);
-                let line = source.line(part);
-                holds_of(rt, text, line.is_some());
-                let wanted = line_of(alloc, text, *number)?;
-                holds_of(rt, text, line == wanted);
-            }
-            _ => {}
+        if let Value::Integer(number) = value {
+            numbers = numbers.saturating_add(1);
+            is_found(rt, alloc, text, source.line(part), *number);
         }
+        got(
+            rt,
+            "there is memory",
+            push_all(&source, value, part, &mut left),
+        );
     }
-    Ok(numbers)
+    drop(left);
+    drop(source);
+    numbers
 }
 
 /// A document of some lines.
-fn make_draft(alloc: Global, seed: u64) -> Result<Vec<u8>, AllocError> {
+fn make_draft(rt: &impl Abort, alloc: Global, seed: u64) -> Vec<u8> {
     let mut draft = Draft {
         alloc,
         text: Vec::new(alloc),
@@ -226,32 +256,27 @@ fn make_draft(alloc: Global, seed: u64) -> Result<Vec<u8>, AllocError> {
         },
         next: 10_000_000,
     };
-    if seed % 7 == 0 {
-        draft.write("\u{feff}")?;
-    }
-    for _ in 0..14 {
-        draft.write_line()?;
-    }
+    got(rt, "there is memory", draft.fill(seed % 7 == 0));
     let Draft { text, .. } = draft;
-    Ok(text)
+    text
 }
 
 /// Each number of a document that `toml` reads is found under its keys and places, on the line on which its digits stand.
 #[test]
-fn lines_are_those_of_the_text(rt: HostRuntime) -> Result<(), Fail> {
-    let alloc = rt.alloc();
+fn lines_are_those_of_the_text(rt: HostRuntime) {
     let mut documents: u64 = 0;
     let mut numbers: u64 = 0;
     for seed in 0..400 {
-        let text = make_draft(alloc, seed)?;
-        if let Ok(table) = toml::table_from_slice(alloc, text.as_slice()) {
+        let text = make_draft(&rt, rt.alloc(), seed);
+        if let Ok(table) = toml::table_from_slice(rt.alloc(), text.as_slice()) {
             documents = documents.saturating_add(1);
-            let found = compare(&rt, alloc, text.as_slice(), Value::Table(table))?;
+            let value = Value::Table(table);
+            let found = compare(&rt, rt.alloc(), text.as_slice(), &value);
+            drop(value);
             numbers = numbers.saturating_add(found);
         }
     }
     // So that the test is no empty one.
-    same(&rt, "documents", documents > 100, true);
-    same(&rt, "numbers", numbers > 1_000, true);
-    Ok(())
+    assert!(rt; documents > 100);
+    assert!(rt; numbers > 1_000);
 }

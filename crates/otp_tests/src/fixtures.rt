@@ -1,14 +1,43 @@
 //! What several tests need.
+//!
+//! What a test knows to be there is got by a call that stops the test where it isn't: a `?` is proved anew wherever it stands.
 
-use otp_reason::Name;
+ghost use Rattle.std.specs.Prelude.{◌≡◌, Ok};
+
+use otp_reason::{Name, Reason, Text};
+use otp_spec::ChildSpec;
 use std::alloc::Global;
 use std::fmt::{Debug, Display};
 use std::process::Abort;
 use std::test::Fail;
 
-/// A name that the test knows to be short enough.
-pub(crate) fn named(bytes: &[u8]) -> Result<Name, Fail> {
-    Ok(Name::new(bytes).ok_or("a name of at most 32 bytes")?)
+/// What a try for memory gave.
+pub(crate) fn got<T, E>(rt: &impl Abort, tried: Result<T, E>) -> T
+    ensures { tried ≡ Ok result }
+{
+    match tried {
+        Ok(value) => value,
+        Err(_) => panic!(rt; "there is memory"),
+    }
+}
+
+/// A name of at most 32 bytes.
+pub(crate) fn named(rt: &impl Abort, bytes: &[u8]) -> Name {
+    match Name::new(bytes) {
+        Some(name) => name,
+        None => panic!(rt; "a name of at most 32 bytes"),
+    }
+}
+
+/// A child with this id, which is its start word too.
+pub(crate) fn child(rt: &impl Abort, id: &[u8]) -> ChildSpec {
+    let id = named(rt, id);
+    ChildSpec::new(id, id)
+}
+
+/// The reason of a crash.
+pub(crate) fn error() -> Reason {
+    Reason::Error(Text::joined(b"x", b""))
 }
 
 /// Asserts that a value is the one that is wanted; `what` says in the message which assertion failed.

@@ -1,4 +1,4 @@
-use crate::fixtures::{named, same};
+use crate::fixtures::{error, named, same};
 use otp_core::History;
 use otp_reason::{Note, Reason, Text};
 use otp_rules::{Call, Event, Item, Kind};
@@ -22,16 +22,15 @@ fn asked(reading: u64, number: u64, call: Call) -> Event {
 }
 
 // Each kind of event, with each kind of reason.
-fn all_events() -> Result<[Event; 17], Fail> {
-    let x = Text::new(b"x").ok_or("a text")?;
-    let y = Text::new(b"y").ok_or("a text")?;
-    let db = named(b"db")?;
-    let web = named(b"web")?;
-    Ok([
+fn all_events(rt: &impl Abort) -> [Event; 17] {
+    let y = Text::joined(b"y", b"");
+    let db = named(rt, b"db");
+    let web = named(rt, b"web");
+    [
         plain(0, Kind::Opened(7)),
         told(1, Note::Up(1)),
         told(2, Note::Ignored(2)),
-        told(3, Note::Failed(3, Reason::Error(x))),
+        told(3, Note::Failed(3, error())),
         asked(4, 1, Call::RestartChild(db)),
         told(5, Note::Exit(1, Reason::ShutdownWith(y))),
         Event {
@@ -39,7 +38,7 @@ fn all_events() -> Result<[Event; 17], Fail> {
             number: Some(9),
             kind: Kind::Took(Item::Note(Note::Exit(4, Reason::Normal))),
         },
-        told(7, Note::Exit(5, Reason::Error(x))),
+        told(7, Note::Exit(5, error())),
         asked(8, 2, Call::DeleteChild(web)),
         asked(9, 3, Call::CountChildren),
         told(10, Note::Exit(6, Reason::Shutdown)),
@@ -49,13 +48,13 @@ fn all_events() -> Result<[Event; 17], Fail> {
         plain(14, Kind::Resumed),
         plain(15, Kind::Ticked),
         plain(16, Kind::Stopped),
-    ])
+    ]
 }
 
 /// Each event is told as it was kept: terms and calls don't come into disorder.
 #[test]
 fn tells_what_it_keeps(rt: HostRuntime) -> Result<(), Fail> {
-    let events = all_events()?;
+    let events = all_events(&rt);
     let mut history = History::new(rt.alloc());
     same(&rt, "the events of a new history", history.len(), 0);
     let shown = keeps(&rt, &mut history, &events);
@@ -72,8 +71,7 @@ fn keeps(rt: &impl Abort, history: &mut History, events: &[Event]) -> Result<(),
     same(rt, "the number of events", history.len(), events.len());
     for (place, event) in events.iter().enumerate() {
         assert!(rt; place < history.len());
-        let told = (place, history.get(place));
-        same(rt, "an event", told, (place, *event));
+        same(rt, "an event", history.get(place), *event);
     }
     Ok(())
 }

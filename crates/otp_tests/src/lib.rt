@@ -3,7 +3,7 @@
 //!
 //! They stand in a crate of their own, one module for a crate, since a crate with tests is proved twice. Tests of what plays a
 //! supervisor and looks at files for people are in `otp_play_tests`, those of what threads share in `otp_thread_tests`,
-//! `otp_sup_tests` and `otp_tree_tests`.
+//! `otp_sup_tests` and `otp_tree_tests`. Event lines are read, and orders printed, by the calls of `.ci/calls`.
 //!
 //! A test is cut in short stages that borrow what they look at, and asserts by `fixtures::same`: the proof of a function grows
 //! faster than its length, by each `assert_eq!` and by each `?` beside a value that is let go there.
@@ -28,14 +28,10 @@ mod resumes;
 #[cfg(test)]
 mod rules;
 #[cfg(test)]
-mod sim;
-#[cfg(test)]
 mod spec;
 #[cfg(test)]
 mod supervisor;
 #[cfg(test)]
 mod table;
-#[cfg(test)]
-mod text;
 #[cfg(test)]
 mod window;

@@ -1,150 +1,138 @@
 //! A supervisor that goes on from a checkpoint: as the one that the checkpoint was made of, or it is refused by name.
 
-use crate::checkpoints::is_gone;
-use crate::driver::{Driver, Line, Order, child, error, exit, expect, two_children, up};
-use crate::fixtures::{named, same};
-use crate::supervisor::is_count;
+use crate::checkpoints::{is_count, is_gone};
+use crate::driver::{Driver, Order, crashes_once, exit, expect, one_child, two_children, up};
+use crate::fixtures::{error, named, same};
 use otp_core::{Base, BaseFault, Core, ReplyAnswer, ResumeFault};
 use otp_reason::Reason;
 use otp_rules::{Call, Ending, Phase, Reply};
-use otp_spec::{ChildSpec, MAX_CHILDREN, MAX_READING, SpecFault, SupFlags};
+use otp_spec::{ChildSpec, MAX_CHILDREN, MAX_READING, SpecFault};
+use otp_table::Row;
 use std::alloc::Global;
 use std::mem;
 use std::process::Abort;
-use std::test::Fail;
 
 // The checkpoint of a supervisor whose orders were carried out. Where memory is refused once, the next try finds it.
-fn checkpoint(alloc: Global, core: &mut Core) -> Result<Base, Fail> {
+fn checkpoint(rt: &impl Abort, alloc: Global, core: &mut Core) -> Base {
     core.clear_effects();
+    if let Ok(base) = core.checkpoint(alloc) {
+        return base;
+    }
     match core.checkpoint(alloc) {
-        Ok(base) => Ok(base),
-        Err(_) => Ok(core.checkpoint(alloc)?),
+        Ok(base) => base,
+        Err(_) => panic!(rt; "there is memory now"),
     }
 }
 
-fn resume(alloc: Global, base: &Base) -> Result<Core, Fail> {
-    match Core::resume(alloc, base) {
-        Err(ResumeFault::OutOfMemory) => Ok(Core::resume(alloc, base)?),
-        resumed => Ok(resumed?),
+fn resume(rt: &impl Abort, alloc: Global, base: &Base) -> Core {
+    let resumed = match Core::resume(alloc, base) {
+        Err(ResumeFault::OutOfMemory) => Core::resume(alloc, base),
+        resumed => resumed,
+    };
+    match resumed {
+        Ok(core) => core,
+        Err(_) => panic!(rt; "a checkpoint of a core"),
     }
 }
 
 // In the place of the core comes one that is resumed from its checkpoint.
-fn move_on(alloc: Global, driver: &mut Driver) -> Result<(), Fail> {
-    let base = checkpoint(alloc, &mut driver.core)?;
-    let resumed = resume(alloc, &base);
+fn move_on(rt: &impl Abort, alloc: Global, driver: &mut Driver) {
+    let base = checkpoint(rt, alloc, &mut driver.core);
+    let resumed = resume(rt, alloc, &base);
     drop(base);
-    drop(mem::replace(&mut driver.core, resumed?));
-    Ok(())
+    drop(mem::replace(&mut driver.core, resumed));
 }
 
 // A child that crashes at 1,000 ms, and again at this reading: a restart within 5 seconds of the first is one too many.
-fn crashes_again(rt: &impl Abort, alloc: Global, at: u64, last: Order) -> Result<(), Fail> {
-    let a = child(b"a")?;
-    let mut driver = Driver::open(rt, alloc, SupFlags::default(), &[a])?;
-    let shown = is_moved_between(rt, alloc, &mut driver, at, last);
-    drop(driver);
-    shown
-}
-
-fn is_moved_between(
-    rt: &impl Abort,
-    alloc: Global,
-    driver: &mut Driver,
-    at: u64,
-    last: Order,
-) -> Result<(), Fail> {
-    let lines = [
-        up(1),
-        Line::At(1_000),
-        exit(1, error()?),
-        up(2),
-        Line::At(at),
-    ];
-    driver.lines(rt, &lines)?;
-    move_on(alloc, driver)?;
+fn crashes_again(rt: &impl Abort, alloc: Global, at: u64, last: Order) {
+    let mut driver = one_child(rt, alloc);
+    crashes_once(rt, &mut driver, error(), at);
+    move_on(rt, alloc, &mut driver);
     same(rt, "the events", driver.core.history().len(), 0);
     same(rt, "the last number", driver.core.last_number(), 0);
     same(rt, "the greatest", driver.core.greatest_number(), 2);
-    driver.line(rt, exit(2, error()?))?;
+    driver.line(rt, exit(2, error()));
     expect(rt, driver.core.effects(), "after the checkpoint", &[last]);
-    Ok(())
+    drop(driver);
 }
 
 #[test]
-fn checkpoint_has_the_restarts_that_count(rt: HostRuntime) -> Result<(), Fail> {
-    crashes_again(&rt, rt.alloc(), 6_000, Order::End(Reason::Shutdown))
+fn checkpoint_has_the_restarts_that_count(rt: HostRuntime) {
+    crashes_again(&rt, rt.alloc(), 6_000, Order::End(Reason::Shutdown));
 }
 
 #[test]
-fn numbers_go_on_above_those_before(rt: HostRuntime) -> Result<(), Fail> {
-    let id = named(b"a")?;
-    crashes_again(&rt, rt.alloc(), 6_001, Order::Start(Some(id), 3))
+fn numbers_go_on_above_those_before(rt: HostRuntime) {
+    let last = Order::Start(Some(named(&rt, b"a")), 3);
+    crashes_again(&rt, rt.alloc(), 6_001, last);
 }
 
 // A child is stopped for a call, and two calls wait.
 #[test]
-fn open_work_and_what_waits_go_on(rt: HostRuntime) -> Result<(), Fail> {
-    let mut driver = two_children(&rt, rt.alloc())?;
-    let shown = work_goes_on(&rt, rt.alloc(), &mut driver);
+fn open_work_and_what_waits_go_on(rt: HostRuntime) {
+    let mut driver = two_children(&rt, rt.alloc());
+    opens_work(&rt, &mut driver);
+    move_on(&rt, rt.alloc(), &mut driver);
+    has_open_work(&rt, &driver.core);
+    driver.line(&rt, exit(1, Reason::Shutdown));
+    has_answered(&rt, &driver.core);
     drop(driver);
-    shown
 }
 
-fn work_goes_on(rt: &impl Abort, alloc: Global, driver: &mut Driver) -> Result<(), Fail> {
-    let count = Call::CountChildren;
-    driver.lines(rt, &[up(1), up(2)])?;
-    let stop = Call::TerminateChild(named(b"a")?);
-    driver.take_calls(rt, &[(9, count), (3, stop), (4, count), (5, count)])?;
-    move_on(alloc, driver)?;
-    let core = &driver.core;
-    assert!(rt; core.has_open_work() && core.is_open_call(3) && core.is_open_call(5));
-    assert!(rt; is_gone(core, 9) && is_gone(core, 8));
-    driver.line(rt, exit(1, Reason::Shutdown))?;
+fn opens_work(rt: &impl Abort, driver: &mut Driver) {
+    driver.both_up(rt);
+    driver.take_call(rt, 9, Call::CountChildren);
+    driver.take_call(rt, 3, Call::TerminateChild(named(rt, b"a")));
+    driver.take_call(rt, 4, Call::CountChildren);
+    driver.take_call(rt, 5, Call::CountChildren);
+}
+
+fn has_open_work(rt: &impl Abort, core: &Core) {
+    assert!(rt; core.has_open_work());
+    assert!(rt; core.is_open_call(3));
+    assert!(rt; core.is_open_call(5));
+    assert!(rt; is_gone(core, 9));
+    assert!(rt; is_gone(core, 8));
+}
+
+fn has_answered(rt: &impl Abort, core: &Core) {
     let orders = [Order::Reply(3), Order::Reply(4), Order::Reply(5)];
-    expect(rt, driver.core.effects(), "the answers", &orders);
-    let core = &driver.core;
+    expect(rt, core.effects(), "the answers", &orders);
     assert!(rt; matches!(core.reply(3), ReplyAnswer::Kept(Reply::Ok)));
-    assert!(rt; is_count(core, 4) && is_count(core, 5));
-    Ok(())
+    assert!(rt; is_count(core, 4));
+    assert!(rt; is_count(core, 5));
 }
 
 // What a checkpoint of a checkpoint counts, it counts from the beginning.
 #[test]
-fn counts_go_on(rt: HostRuntime) -> Result<(), Fail> {
-    let mut driver = two_children(&rt, rt.alloc())?;
-    let shown = counts_all(&rt, rt.alloc(), &mut driver);
+fn counts_go_on(rt: HostRuntime) {
+    let mut driver = two_children(&rt, rt.alloc());
+    driver.both_up(&rt);
+    driver.take_call(&rt, 1, Call::CountChildren);
+    move_on(&rt, rt.alloc(), &mut driver);
+    driver.line(&rt, exit(2, error()));
+    driver.line(&rt, up(3));
+    let base = checkpoint(&rt, rt.alloc(), &mut driver.core);
     drop(driver);
-    shown
+    counts_all(&rt, &base);
+    drop(base);
 }
 
-fn counts_all(rt: &impl Abort, alloc: Global, driver: &mut Driver) -> Result<(), Fail> {
-    driver.lines(rt, &[up(1), up(2), Line::Asked(Call::CountChildren)])?;
-    move_on(alloc, driver)?;
-    driver.lines(rt, &[exit(2, error()?), up(3)])?;
-    let base = checkpoint(alloc, &mut driver.core)?;
+fn counts_all(rt: &impl Abort, base: &Base) {
     same(rt, "the events", base.counts.events, 6);
     same(rt, "the starts", base.counts.starts, 3);
     same(rt, "the restarts", base.counts.restarts, 1);
     same(rt, "the greatest number", base.counts.greatest_number, 3);
     same(rt, "the greatest call", base.counts.greatest_call, Some(1));
-    drop(base);
-    Ok(())
 }
 
 // A supervisor of one child that crashed once, as it stands.
-pub(crate) fn sample(rt: &impl Abort, alloc: Global) -> Result<Base, Fail> {
-    let a = child(b"a")?;
-    let mut driver = Driver::open(rt, alloc, SupFlags::default(), &[a])?;
-    let shown = sample_of(rt, alloc, &mut driver);
+pub(crate) fn sample(rt: &impl Abort, alloc: Global) -> Base {
+    let mut driver = one_child(rt, alloc);
+    crashes_once(rt, &mut driver, error(), 1_000);
+    let base = checkpoint(rt, alloc, &mut driver.core);
     drop(driver);
-    shown
-}
-
-fn sample_of(rt: &impl Abort, alloc: Global, driver: &mut Driver) -> Result<Base, Fail> {
-    let lines = [up(1), Line::At(1_000), exit(1, error()?), up(2)];
-    driver.lines(rt, &lines)?;
-    checkpoint(alloc, &mut driver.core)
+    base
 }
 
 fn fault_of(alloc: Global, base: &Base) -> Option<BaseFault> {
@@ -158,85 +146,82 @@ fn fault_of(alloc: Global, base: &Base) -> Option<BaseFault> {
     }
 }
 
-#[test]
-fn refused_restarts(rt: HostRuntime) -> Result<(), Fail> {
-    let mut base = sample(&rt, rt.alloc())?;
-    let shown = restarts_are_refused(&rt, rt.alloc(), &mut base);
-    drop(base);
-    shown
+// The checkpoint is refused for this fault, or for none.
+fn has_fault(rt: &impl Abort, alloc: Global, what: &str, base: &Base, fault: Option<BaseFault>) {
+    same(rt, what, fault_of(alloc, base), fault);
 }
 
-fn restarts_are_refused(rt: &impl Abort, alloc: Global, base: &mut Base) -> Result<(), Fail> {
+#[test]
+fn refused_restarts(rt: HostRuntime) {
+    let mut base = sample(&rt, rt.alloc());
+    has_fault(&rt, rt.alloc(), "as it stands", &base, None);
+    restarts_are_refused(&rt, rt.alloc(), &mut base);
+    drop(base);
+}
+
+fn restarts_are_refused(rt: &impl Abort, alloc: Global, base: &mut Base) {
     let restarts = Some(BaseFault::Restarts);
-    same(rt, "as it stands", fault_of(alloc, base), None);
-    base.stamps.push(900)?;
-    same(
-        rt,
-        "a restart before another",
-        fault_of(alloc, base),
-        restarts,
-    );
+    assert!(rt; base.stamps.push(900).is_ok());
+    has_fault(rt, alloc, "a restart before another", base, restarts);
     base.stamps[0] = 800;
-    same(rt, "one too many", fault_of(alloc, base), restarts);
+    has_fault(rt, alloc, "one too many", base, restarts);
     base.phase = Phase::Ended(0, Ending::Intensity);
-    same(rt, "one too many at the end", fault_of(alloc, base), None);
+    has_fault(rt, alloc, "one too many at the end", base, None);
     base.last = 899;
-    same(rt, "a restart to come", fault_of(alloc, base), restarts);
+    has_fault(rt, alloc, "a restart to come", base, restarts);
     base.last = 10_000;
-    base.stamps.push(9_000)?;
-    same(rt, "more than are kept", fault_of(alloc, base), restarts);
+    assert!(rt; base.stamps.push(9_000).is_ok());
+    has_fault(rt, alloc, "more than are kept", base, restarts);
     base.stamps.clear();
-    same(
-        rt,
-        "an end without restarts",
-        fault_of(alloc, base),
-        restarts,
-    );
-    Ok(())
+    has_fault(rt, alloc, "an end without restarts", base, restarts);
 }
 
 #[test]
-fn refused_numbers(rt: HostRuntime) -> Result<(), Fail> {
-    let mut base = sample(&rt, rt.alloc())?;
-    let shown = numbers_are_refused(&rt, rt.alloc(), &mut base);
+fn refused_numbers(rt: HostRuntime) {
+    let mut base = sample(&rt, rt.alloc());
+    numbers_are_refused(&rt, rt.alloc(), &mut base);
     drop(base);
-    shown
 }
 
-fn numbers_are_refused(rt: &impl Abort, alloc: Global, base: &mut Base) -> Result<(), Fail> {
+fn numbers_are_refused(rt: &impl Abort, alloc: Global, base: &mut Base) {
     base.last = MAX_READING + 1;
     let reading = Some(BaseFault::Reading);
-    same(rt, "a late event", fault_of(alloc, base), reading);
+    has_fault(rt, alloc, "a late event", base, reading);
     base.last = MAX_READING;
-    same(rt, "the latest event", fault_of(alloc, base), None);
+    has_fault(rt, alloc, "the latest event", base, None);
     base.counts.events = (1 << 62) + 1;
     let counts = Some(BaseFault::Counts);
-    same(rt, "too many events", fault_of(alloc, base), counts);
+    has_fault(rt, alloc, "too many events", base, counts);
     base.counts.events = 1;
-    same(rt, "more starts than events", fault_of(alloc, base), counts);
-    Ok(())
+    has_fault(rt, alloc, "more starts than events", base, counts);
 }
 
 #[test]
-fn refused_children(rt: HostRuntime) -> Result<(), Fail> {
-    let mut base = sample(&rt, rt.alloc())?;
-    let shown = children_are_refused(&rt, rt.alloc(), &mut base);
+fn refused_children(rt: HostRuntime) {
+    let mut base = sample(&rt, rt.alloc());
+    children_are_refused(&rt, rt.alloc(), &mut base);
     drop(base);
-    shown
 }
 
-fn children_are_refused(rt: &impl Abort, alloc: Global, base: &mut Base) -> Result<(), Fail> {
-    let row = *base.rows.first().ok_or("a row")?;
-    for _ in 1..MAX_CHILDREN {
-        base.rows.push(row)?;
+// The row of the first child.
+pub(crate) fn first_of(rt: &impl Abort, base: &Base) -> Row {
+    match base.rows.first() {
+        Some(row) => *row,
+        None => panic!(rt; "a row"),
     }
-    same(rt, "as many as may be", fault_of(alloc, base), None);
-    base.rows.push(row)?;
+}
+
+fn children_are_refused(rt: &impl Abort, alloc: Global, base: &mut Base) {
+    let row = first_of(rt, base);
+    for _ in 1..MAX_CHILDREN {
+        assert!(rt; base.rows.push(row).is_ok());
+    }
+    has_fault(rt, alloc, "as many as may be", base, None);
+    assert!(rt; base.rows.push(row).is_ok());
     let rows = Some(BaseFault::Rows);
-    same(rt, "one child more", fault_of(alloc, base), rows);
-    let spec: ChildSpec = *base.specs.first().ok_or("a specification")?;
-    base.specs.push(spec)?;
+    has_fault(rt, alloc, "one child more", base, rows);
+    let spec: ChildSpec = row.spec;
+    assert!(rt; base.specs.push(spec).is_ok());
     let twice = BaseFault::Spec(SpecFault::DuplicateId { index: 1 });
-    same(rt, "an id twice", fault_of(alloc, base), Some(twice));
-    Ok(())
+    has_fault(rt, alloc, "an id twice", base, Some(twice));
 }

@@ -1,24 +1,32 @@
-use crate::fixtures::same;
+use crate::fixtures::{got, same};
 use otp_reason::Name;
 use otp_rules::{ChildLine, ChildLines, ChildProcess, Stamps};
 use otp_spec::{ChildType, Modules};
-use std::test::Fail;
+use std::alloc::Global;
+use std::process::Abort;
 
 #[test]
-fn lists_come_back(rt: HostRuntime) -> Result<(), Fail> {
-    let stamps = Stamps::from_vec(vec![in rt.alloc(); 0, 5000]?);
-    same(&rt, "stamps", stamps.as_slice(), [0, 5000].as_slice());
+fn lists_come_back(rt: HostRuntime) {
+    let times: [u64; 2] = [0, 5000];
+    let stamps = Stamps::from_vec(got(&rt, Vec::from_slice(rt.alloc(), times.as_slice())));
+    same(&rt, "stamps", stamps.as_slice(), times.as_slice());
     let back = stamps.into_vec();
-    same(&rt, "given back", back.as_slice(), [0, 5000].as_slice());
+    same(&rt, "given back", back.as_slice(), times.as_slice());
+    drop(back);
+    children_come_back(&rt, rt.alloc());
+}
+
+fn children_come_back(rt: &impl Abort, alloc: Global) {
     let line = ChildLine {
         id: Name::new(b"a"),
         process: ChildProcess::Number(1),
         kind: ChildType::Worker,
         modules: Modules::Dynamic,
     };
-    let lines = ChildLines::from_vec(vec![in rt.alloc(); line, line]?);
-    same(&rt, "lines", lines.as_slice(), [line, line].as_slice());
+    let both = [line, line];
+    let lines = ChildLines::from_vec(got(rt, Vec::from_slice(alloc, both.as_slice())));
+    same(rt, "lines", lines.as_slice(), both.as_slice());
     let back = lines.into_vec();
-    same(&rt, "given back", back.as_slice(), [line, line].as_slice());
-    Ok(())
+    same(rt, "given back", back.as_slice(), both.as_slice());
+    drop(back);
 }

@@ -7,7 +7,8 @@ use otp_spec::{
     AutoShutdown, ChildSpec, ChildType, Modules, Restart, Shutdown, SpecFault, SpecKey, Strategy,
     SupFlags, SupSpec, check_childspecs, check_flags,
 };
-use std::alloc::Global;
+use std::alloc::{AllocError, Global};
+use std::process::Abort;
 use std::slice;
 use std::test::Fail;
 
@@ -18,43 +19,46 @@ fn check_one(spec: ChildSpec, auto_shutdown: AutoShutdown) -> Result<(), SpecFau
     check_childspecs(slice::from_ref(&spec), Some(auto_shutdown))
 }
 
-fn child(id: &[u8]) -> Result<ChildSpec, Fail> {
-    Ok(ChildSpec::new(named(id)?, named(b"start")?))
+// A child whose id isn't its start word.
+fn worker(rt: &impl Abort, id: &[u8]) -> ChildSpec {
+    ChildSpec::new(named(rt, id), named(rt, b"start"))
 }
 
-fn significant(id: &[u8], restart: Restart) -> Result<ChildSpec, Fail> {
-    let mut spec = child(id)?;
+fn significant(rt: &impl Abort, id: &[u8], restart: Restart) -> ChildSpec {
+    let mut spec = worker(rt, id);
     spec.significant = true;
     spec.restart = restart;
-    Ok(spec)
+    spec
 }
 
 #[test]
-fn defaults_are_the_manuals(rt: HostRuntime) -> Result<(), Fail> {
-    let flags = SupFlags::default();
+fn defaults_are_the_manuals(rt: HostRuntime) {
     let wanted = SupFlags {
         strategy: Strategy::OneForOne,
         intensity: 1,
         period: 5,
         auto_shutdown: AutoShutdown::Never,
     };
-    same(&rt, "the flags", flags, wanted);
-    let spec = child(b"a")?;
-    same(&rt, "the restart type", spec.restart, Restart::Permanent);
-    same(&rt, "whether it is significant", spec.significant, false);
-    let worker = Shutdown::Milliseconds(5000);
-    same(&rt, "a worker's time to stop", spec.shutdown, worker);
-    same(&rt, "the type", spec.kind, ChildType::Worker);
-    let modules = Modules::One(named(b"start")?);
-    same(&rt, "the modules", spec.modules, modules);
+    same(&rt, "the flags", SupFlags::default(), wanted);
+    same(&rt, "their check", check_flags(&wanted), Ok(()));
+    let name = named(&rt, b"a");
+    let wanted = ChildSpec {
+        id: name,
+        start: name,
+        restart: Restart::Permanent,
+        significant: false,
+        shutdown: Shutdown::Milliseconds(5000),
+        kind: ChildType::Worker,
+        modules: Modules::One(name),
+    };
+    same(&rt, "a worker", ChildSpec::new(name, name), wanted);
     let time = Shutdown::default_of(ChildType::Supervisor);
     same(&rt, "a supervisor's time", time, Shutdown::Infinity);
-    Ok(())
 }
 
 #[test]
-fn same_modules(rt: HostRuntime) -> Result<(), Fail> {
-    let [a, b] = [named(b"a")?, named(b"b")?];
+fn same_modules(rt: HostRuntime) {
+    let [a, b] = [named(&rt, b"a"), named(&rt, b"b")];
     let lists = [
         Modules::Dynamic,
         Modules::None,
@@ -71,219 +75,151 @@ fn same_modules(rt: HostRuntime) -> Result<(), Fail> {
             same(&rt, "the same modules", told, wanted);
         }
     }
-    Ok(())
 }
 
 #[test]
-fn limits_of_flags(rt: HostRuntime) {
-    let limits = [
-        (0, 1, true),
-        (1000, 1_000_000, true),
-        (1001, 5, false),
-        (1, 0, false),
-        (1, 1_000_001, false),
-    ];
-    for (intensity, period, lawful) in limits {
-        let mut flags = SupFlags::default();
-        flags.intensity = intensity;
-        flags.period = period;
-        let told = (intensity, period, check_flags(&flags).is_ok());
-        same(&rt, "lawful flags", told, (intensity, period, lawful));
-    }
-}
-
-#[test]
-fn transient_significant_child(rt: HostRuntime) -> Result<(), Fail> {
-    let spec = significant(b"s", Restart::Transient)?;
+fn transient_significant_child(rt: HostRuntime) {
+    let spec = significant(&rt, b"s", Restart::Transient);
     same(&rt, "not known", check_childspecs(&[spec], None), Ok(()));
     let never = Err(SpecFault::SignificantNever { index: 0 });
     same(&rt, "never", check_one(spec, AutoShutdown::Never), never);
     let any = check_one(spec, AutoShutdown::AnySignificant);
     same(&rt, "any", any, Ok(()));
-    Ok(())
+}
+
+// Of three children, of which the last has every fault, the second is told, for this fault.
+fn is_second(rt: &impl Abort, second: ChildSpec, fault: SpecFault) {
+    let first = worker(rt, b"a");
+    let last = all_wrong(rt);
+    let told = check_childspecs(&[first, second, last], Some(AutoShutdown::Never));
+    same(rt, "the first fault", told, Err(fault));
+}
+
+fn all_wrong(rt: &impl Abort) -> ChildSpec {
+    let mut spec = significant(rt, b"", Restart::Permanent);
+    spec.start = named(rt, b"no space");
+    spec.modules = Modules::Two(named(rt, b"a"), named(rt, b""));
+    spec
+}
+
+fn bad(index: usize, key: SpecKey) -> SpecFault {
+    SpecFault::BadSpec { index, key }
 }
 
 #[test]
-fn faults_in_their_order(rt: HostRuntime) -> Result<(), Fail> {
-    let lawful = child(b"a")?;
-    let mut all_wrong = significant(b"", Restart::Permanent)?;
-    all_wrong.start = named(b"no space")?;
-    all_wrong.modules = Modules::Two(lawful.start, named(b"")?);
-    let mut start_wrong = all_wrong;
-    start_wrong.id = lawful.id;
-    let mut modules_wrong = start_wrong;
-    modules_wrong.start = lawful.start;
-    let mut permanent = modules_wrong;
-    permanent.modules = Modules::Dynamic;
-    let mut never = permanent;
-    never.restart = Restart::Temporary;
-    let table = [
-        (
-            all_wrong,
-            SpecFault::BadSpec {
-                index: 1,
-                key: SpecKey::Id,
-            },
-        ),
-        (
-            start_wrong,
-            SpecFault::BadSpec {
-                index: 1,
-                key: SpecKey::Start,
-            },
-        ),
-        (
-            modules_wrong,
-            SpecFault::BadSpec {
-                index: 1,
-                key: SpecKey::Modules,
-            },
-        ),
-        (permanent, SpecFault::SignificantPermanent { index: 1 }),
-        (never, SpecFault::SignificantNever { index: 1 }),
-        (lawful, SpecFault::DuplicateId { index: 1 }),
-    ];
-    for (second, fault) in table {
-        let third = all_wrong;
-        let specs = [lawful, second, third];
-        let told = check_childspecs(&specs, Some(AutoShutdown::Never));
-        same(&rt, "the first fault", told, Err(fault));
-    }
-    Ok(())
+fn faults_in_their_order(rt: HostRuntime) {
+    let mut second = all_wrong(&rt);
+    is_second(&rt, second, bad(1, SpecKey::Id));
+    second.id = named(&rt, b"a");
+    is_second(&rt, second, bad(1, SpecKey::Start));
+    second.start = second.id;
+    is_second(&rt, second, bad(1, SpecKey::Modules));
+    second.modules = Modules::Dynamic;
+    let fault = SpecFault::SignificantPermanent { index: 1 };
+    is_second(&rt, second, fault);
+    second.restart = Restart::Temporary;
+    let fault = SpecFault::SignificantNever { index: 1 };
+    is_second(&rt, second, fault);
+    let fault = SpecFault::DuplicateId { index: 1 };
+    is_second(&rt, worker(&rt, b"a"), fault);
+}
+
+fn has_bad_modules(rt: &impl Abort, modules: Modules) {
+    let mut spec = worker(rt, b"a");
+    spec.modules = modules;
+    let told = check_childspecs(slice::from_ref(&spec), None);
+    same(rt, "bad modules", told, Err(bad(0, SpecKey::Modules)));
 }
 
 /// A tree file tests names as it reads them, so no transcript sees this test of each module's.
 #[test]
-fn names_of_modules_are_tested(rt: HostRuntime) -> Result<(), Fail> {
-    let [a, no] = [named(b"a")?, named(b"")?];
-    let lists = [
-        Modules::One(no),
-        Modules::Two(no, a),
-        Modules::Two(a, no),
-        Modules::Three(no, a, a),
-        Modules::Three(a, no, a),
-        Modules::Three(a, a, no),
-        Modules::Four(no, a, a, a),
-        Modules::Four(a, no, a, a),
-        Modules::Four(a, a, no, a),
-        Modules::Four(a, a, a, no),
-    ];
-    let fault = SpecFault::BadSpec {
-        index: 0,
-        key: SpecKey::Modules,
-    };
-    for modules in lists {
-        let mut spec = child(b"a")?;
-        spec.modules = modules;
-        let told = check_childspecs(slice::from_ref(&spec), None);
-        same(&rt, "bad modules", (modules, told), (modules, Err(fault)));
-    }
-    Ok(())
+fn names_of_modules_are_tested(rt: HostRuntime) {
+    let [a, no] = [named(&rt, b"a"), named(&rt, b"")];
+    has_bad_modules(&rt, Modules::One(no));
+    has_bad_modules(&rt, Modules::Two(no, a));
+    has_bad_modules(&rt, Modules::Two(a, no));
+    has_bad_modules(&rt, Modules::Three(no, a, a));
+    has_bad_modules(&rt, Modules::Three(a, no, a));
+    has_bad_modules(&rt, Modules::Three(a, a, no));
+    has_bad_modules(&rt, Modules::Four(no, a, a, a));
+    has_bad_modules(&rt, Modules::Four(a, no, a, a));
+    has_bad_modules(&rt, Modules::Four(a, a, no, a));
+    has_bad_modules(&rt, Modules::Four(a, a, a, no));
 }
 
+/// The texts of the other faults are in those of tree files.
 #[test]
-fn texts_and_codes_of_faults(rt: HostRuntime) -> Result<(), Fail> {
-    let table = [
-        (
-            SpecFault::BadFlag,
-            1,
-            "a flag is out of its limits: intensity 0 to 1000, period 1 to 1000000 seconds",
-        ),
-        (
-            SpecFault::BadSpec {
-                index: 7,
-                key: SpecKey::Start,
-            },
-            2,
-            "specification 7: the value of start is not a lawful name",
-        ),
-        (
-            SpecFault::DuplicateId { index: 2 },
-            3,
-            "specification 2: an earlier one has the same id",
-        ),
-        (
-            SpecFault::SignificantPermanent { index: 0 },
-            4,
-            "specification 0: a significant child may not be permanent",
-        ),
-        (
-            SpecFault::SignificantNever { index: 0 },
-            5,
-            "specification 0: a significant child needs an automatic shutdown",
-        ),
-        (
-            SpecFault::SimpleNeedsOne,
-            6,
-            "simple_one_for_one needs exactly one specification",
-        ),
-        (
-            SpecFault::TooManyChildren,
-            7,
-            "a supervisor has at most 256 children",
-        ),
-    ];
-    for (fault, code, text) in table {
-        same(&rt, "the code of the fault", fault.code(), code);
-        prints(&rt, rt.alloc(), &fault, text)?;
-    }
-    Ok(())
+fn texts_of_faults(rt: HostRuntime) -> Result<(), Fail> {
+    let text = "a flag is out of its limits: intensity 0 to 1000, period 1 to 1000000 seconds";
+    prints(&rt, rt.alloc(), &SpecFault::BadFlag, text)?;
+    let text = "specification 7: the value of start is not a lawful name";
+    prints(&rt, rt.alloc(), &bad(7, SpecKey::Start), text)?;
+    let text = "specification 0: the value of id is not a lawful name";
+    prints(&rt, rt.alloc(), &bad(0, SpecKey::Id), text)?;
+    let text = "specification 1: the value of modules is not a lawful name";
+    prints(&rt, rt.alloc(), &bad(1, SpecKey::Modules), text)
 }
 
-#[test]
-fn texts_of_keys(rt: HostRuntime) -> Result<(), Fail> {
-    for (key, text) in [
-        (SpecKey::Id, "id"),
-        (SpecKey::Start, "start"),
-        (SpecKey::Modules, "modules"),
-    ] {
-        prints(&rt, rt.alloc(), &key, text)?;
-    }
-    Ok(())
-}
-
-fn of_two(alloc: Global, ids: [&[u8]; 2]) -> Result<Vec<ChildSpec>, Fail> {
-    let mut specs = Vec::new(alloc);
-    for id in ids {
-        specs.push(child(id)?)?;
-    }
-    Ok(specs)
+// Two workers, of these ids.
+fn of_two(rt: &impl Abort, alloc: Global, ids: [&[u8]; 2]) -> Result<Vec<ChildSpec>, AllocError> {
+    Vec::from_slice(alloc, &[worker(rt, ids[0]), worker(rt, ids[1])])
 }
 
 #[test]
 fn lawful_supervisors(rt: HostRuntime) -> Result<(), Fail> {
-    let specs = of_two(rt.alloc(), [b"a", b"b"])?;
-    let supervisor = SupSpec::check(SupFlags::default(), specs)?;
-    same(&rt, "the flags", supervisor.flags(), SupFlags::default());
-    same(&rt, "the children", supervisor.specs().len(), 2);
-    let copy = supervisor.try_clone(rt.alloc())?;
-    same(&rt, "the copy's flags", copy.flags(), supervisor.flags());
-    same(&rt, "the copy's children", copy.specs(), supervisor.specs());
-    let (flags, specs) = supervisor.into_parts();
-    same(&rt, "the intensity", flags.intensity, 1);
-    let [a, b] = specs.as_slice() else {
-        return Err(Fail::from("two children"));
+    let specs = of_two(&rt, rt.alloc(), [b"a", b"b"])?;
+    let Ok(supervisor) = SupSpec::check(SupFlags::default(), specs) else {
+        panic!(&rt; "they are lawful");
     };
-    same(&rt, "the ids", (a.id, b.id), (named(b"a")?, named(b"b")?));
+    is_of_two(&rt, &supervisor);
+    let copy = supervisor.try_clone(rt.alloc());
+    has_parts(&rt, supervisor);
+    let copy = copy?;
+    is_of_two(&rt, &copy);
+    drop(copy);
+    Ok(())
+}
+
+fn is_of_two(rt: &impl Abort, supervisor: &SupSpec) {
+    same(rt, "the flags", supervisor.flags(), SupFlags::default());
+    let wanted = [worker(rt, b"a"), worker(rt, b"b")];
+    same(rt, "the children", supervisor.specs(), wanted.as_slice());
+}
+
+fn has_parts(rt: &impl Abort, supervisor: SupSpec) {
+    let (flags, specs) = supervisor.into_parts();
+    same(rt, "the intensity", flags.intensity, 1);
+    same(rt, "the children", specs.len(), 2);
+    drop(specs);
+}
+
+// Two children of one id under these flags are refused for this fault.
+fn is_unlawful(
+    rt: &impl Abort,
+    alloc: Global,
+    flags: SupFlags,
+    fault: SpecFault,
+) -> Result<(), AllocError> {
+    let specs = of_two(rt, alloc, [b"a", b"a"])?;
+    match SupSpec::check(flags, specs) {
+        Ok(supervisor) => {
+            drop(supervisor);
+            panic!(rt; "it is unlawful")
+        }
+        Err(why) => same(rt, "the fault", why, fault),
+    }
     Ok(())
 }
 
 #[test]
 fn unlawful_supervisors(rt: HostRuntime) -> Result<(), Fail> {
     let mut flags = SupFlags::default();
+    let twice = SpecFault::DuplicateId { index: 1 };
+    is_unlawful(&rt, rt.alloc(), flags, twice)?;
     flags.strategy = Strategy::SimpleOneForOne;
-    let specs = of_two(rt.alloc(), [b"a", b"a"])?;
-    assert!(rt; matches!(SupSpec::check(flags, specs), Err(SpecFault::SimpleNeedsOne)));
-    let specs = of_two(rt.alloc(), [b"a", b"a"])?;
-    assert!(rt;
-        matches!(
-            SupSpec::check(SupFlags::default(), specs),
-            Err(SpecFault::DuplicateId { index: 1 })
-        )
-    );
+    is_unlawful(&rt, rt.alloc(), flags, SpecFault::SimpleNeedsOne)?;
     flags.period = 0;
-    let specs = of_two(rt.alloc(), [b"a", b"a"])?;
-    assert!(rt; matches!(SupSpec::check(flags, specs), Err(SpecFault::BadFlag)));
+    is_unlawful(&rt, rt.alloc(), flags, SpecFault::BadFlag)?;
     Ok(())
 }
 

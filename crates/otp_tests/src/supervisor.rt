@@ -1,408 +1,121 @@
-//! Worked histories of a supervisor, from outside.
+//! What a supervisor tells of itself, from outside. Worked histories are calls of `.ci/calls`: the program shows their orders, their
+//! answers and why they end.
 
-use crate::driver::{
-    Driver, History, Line, Order, child, end_of, error, exit, expect, play, two_children, up,
-};
-use crate::fixtures::{named, same};
+use crate::checkpoints::is_count;
+use crate::driver::{Driver, Line, Order, end_of, exit, expect, one_child, two_children, up};
+use crate::fixtures::{child, error, named, prints, same};
 use otp_core::{Core, OpenFault, ReplyAnswer};
 use otp_needs::NeedsNumber;
-use otp_reason::{Name, Note, Reason, Text};
+use otp_reason::{Name, Note, Reason};
 use otp_rules::{
-    Call, CallFault, Cause, ChildProcess, CountsNow, Ending, Event, Item, Kind, Phase, Reply,
-    Waiting,
+    Call, CallFault, Cause, ChildProcess, Ending, Event, Item, Kind, Phase, Reply, Waiting,
 };
-use otp_spec::{AutoShutdown, ChildSpec, Restart, Shutdown, SpecFault, Strategy, SupFlags};
+use otp_spec::{ChildSpec, SpecFault, Strategy, SupFlags};
 use std::alloc::Global;
 use std::process::Abort;
 use std::test::Fail;
 
 #[test]
-fn restarts_above_the_intensity(rt: HostRuntime) -> Result<(), Fail> {
-    let [a, b, c] = [child(b"a")?, child(b"b")?, child(b"c")?];
-    let mut flags = SupFlags::default();
-    flags.intensity = 0;
-    let history = History {
-        name: "a child ends",
-        flags,
-        children: &[a, b, c],
-        lines: &[
-            up(1),
-            up(2),
-            up(3),
-            exit(2, error()?),
-            exit(3, Reason::Shutdown),
-            exit(1, Reason::Shutdown),
-        ],
-        orders: &[
-            Order::Start(Some(a.id), 1),
-            Order::Start(Some(b.id), 2),
-            Order::Start(Some(c.id), 3),
-            Order::Ready,
-            Order::Ask(Some(c.id), 3),
-            Order::Ask(Some(a.id), 1),
-            Order::End(Reason::Shutdown),
-        ],
-        ending: Ending::Intensity,
-        stamps: &[0],
-    };
-    play(&rt, rt.alloc(), &history)
-}
-
-#[test]
-fn significant_child_ends(rt: HostRuntime) -> Result<(), Fail> {
-    let [mut s, w] = [child(b"s")?, child(b"w")?];
-    s.restart = Restart::Transient;
-    s.significant = true;
-    let mut flags = SupFlags::default();
-    flags.auto_shutdown = AutoShutdown::AnySignificant;
-    let history = History {
-        name: "terminated, restarted, and then ended by itself",
-        flags,
-        children: &[s, w],
-        lines: &[
-            up(1),
-            up(2),
-            Line::Asked(Call::TerminateChild(s.id)),
-            exit(1, Reason::Shutdown),
-            Line::Asked(Call::RestartChild(s.id)),
-            up(3),
-            exit(3, Reason::Normal),
-            exit(2, Reason::Shutdown),
-        ],
-        orders: &[
-            Order::Start(Some(s.id), 1),
-            Order::Start(Some(w.id), 2),
-            Order::Ready,
-            Order::Ask(Some(s.id), 1),
-            Order::Reply(1),
-            Order::Start(Some(s.id), 3),
-            Order::Reply(2),
-            Order::Ask(Some(w.id), 2),
-            Order::End(Reason::Shutdown),
-        ],
-        ending: Ending::Significant(3),
-        stamps: &[],
-    };
-    play(&rt, rt.alloc(), &history)
-}
-
-#[test]
-fn killed_at_the_deadline(rt: HostRuntime) -> Result<(), Fail> {
-    let mut a = child(b"a")?;
-    a.shutdown = Shutdown::Milliseconds(100);
-    let history = History {
-        name: "asked at 500",
-        flags: SupFlags::default(),
-        children: &[a],
-        lines: &[
-            up(1),
-            Line::At(500),
-            Line::Stop,
-            Line::At(599),
-            Line::At(600),
-            exit(1, Reason::Killed),
-            exit(1, Reason::Killed),
-            Line::Asked(Call::WhichChildren),
-        ],
-        orders: &[
-            Order::Start(Some(a.id), 1),
-            Order::Ready,
-            Order::Ask(Some(a.id), 1),
-            Order::Kill(Some(a.id), 1),
-            Order::End(Reason::Shutdown),
-            Order::Reply(1),
-        ],
-        ending: Ending::Asked,
-        stamps: &[],
-    };
-    play(&rt, rt.alloc(), &history)
-}
-
-#[test]
-fn start_fails_at_the_opening(rt: HostRuntime) -> Result<(), Fail> {
-    let [a, b] = [child(b"a")?, child(b"b")?];
-    let why = Text::new(b"failed_to_start_child/b").ok_or("a text")?;
-    let history = History {
-        name: "the second of two",
-        flags: SupFlags::default(),
-        children: &[a, b],
-        lines: &[
-            up(1),
-            Line::Told(Note::Failed(2, error()?)),
-            exit(1, Reason::Shutdown),
-        ],
-        orders: &[
-            Order::Start(Some(a.id), 1),
-            Order::Start(Some(b.id), 2),
-            Order::Ask(Some(a.id), 1),
-            Order::End(Reason::ShutdownWith(why)),
-        ],
-        ending: Ending::InitFailed(b.id),
-        stamps: &[],
-    };
-    play(&rt, rt.alloc(), &history)
-}
-
-#[test]
-fn thousand_restarts_are_borne(rt: HostRuntime) -> Result<(), Fail> {
-    let a = child(b"a")?;
+fn thousand_restarts_are_borne(rt: HostRuntime) {
     let mut flags = SupFlags::default();
     flags.intensity = 1000;
     flags.period = 1_000_000;
-    let mut driver = Driver::open(&rt, rt.alloc(), flags, &[a])?;
-    let shown = thousand_restarts(&rt, &mut driver, a.id);
+    let mut driver = Driver::open(&rt, rt.alloc(), flags, &[child(&rt, b"a")]);
+    crashes_often(&rt, &mut driver);
+    same(&rt, "its end", driver.core.has_ended(), false);
+    driver.line(&rt, exit(1001, error()));
+    is_given_up(&rt, &driver.core);
     drop(driver);
-    shown
 }
 
-fn thousand_restarts(rt: &impl Abort, driver: &mut Driver, id: Name) -> Result<(), Fail> {
-    driver.line(rt, up(1))?;
-    driver.core.clear_effects();
+fn crashes_often(rt: &impl Abort, driver: &mut Driver) {
+    driver.line(rt, up(1));
     for number in 1..1001u64 {
-        is_restarted(rt, driver, id, number)?;
+        driver.line(rt, exit(number, error()));
+        driver.line(rt, up(number.saturating_add(1)));
     }
-    is_given_up(rt, driver)?;
-    let core = &driver.core;
+}
+
+// It has ended, with all its restarts.
+fn is_given_up(rt: &impl Abort, core: &Core) {
+    match end_of(core) {
+        Some(end) => has_all_times(rt, &end.cause),
+        None => panic!(rt; "an end"),
+    }
     same(rt, "the times kept", core.kept_restarts().len(), 1001);
     same(rt, "the restarts", core.count_restarts(), 1001);
     same(rt, "the events", core.history().len(), 2003);
-    Ok(())
 }
 
-// The child of this number crashes, and starts again under the next one.
-fn is_restarted(rt: &impl Abort, driver: &mut Driver, id: Name, number: u64) -> Result<(), Fail> {
-    let next = number.saturating_add(1);
-    driver.line(rt, exit(number, error()?))?;
-    driver.line(rt, up(next))?;
-    let restart = [Order::Start(Some(id), next)];
-    expect(rt, driver.core.effects(), "a restart", &restart);
-    driver.core.clear_effects();
-    Ok(())
-}
-
-// One crash more, and the supervisor ends.
-fn is_given_up(rt: &impl Abort, driver: &mut Driver) -> Result<(), Fail> {
-    driver.line(rt, exit(1001, error()?))?;
-    let orders = [Order::End(Reason::Shutdown)];
-    expect(rt, driver.core.effects(), "the end", &orders);
-    let end = end_of(&driver.core).ok_or("an end")?;
-    let Cause::Intensity { stamps, .. } = &end.cause else {
-        return Err(Fail::from("the intensity"));
-    };
-    let wanted = [0; 1001];
-    same(rt, "the times", stamps.as_slice(), wanted.as_slice());
-    Ok(())
-}
-
-#[test]
-fn dynamic_children(rt: HostRuntime) -> Result<(), Fail> {
-    let w = child(b"w")?;
-    let mut flags = SupFlags::default();
-    flags.strategy = Strategy::SimpleOneForOne;
-    let mut driver = Driver::open(&rt, rt.alloc(), flags, &[w])?;
-    let shown = come_and_go(&rt, &mut driver, w.id);
-    drop(driver);
-    shown
-}
-
-fn come_and_go(rt: &impl Abort, driver: &mut Driver, id: Name) -> Result<(), Fail> {
-    two_are_started(rt, driver, id)?;
-    driver.core.clear_effects();
-    one_is_terminated(rt, driver)
-}
-
-// Two start by calls; a call that names the child is refused.
-fn two_are_started(rt: &impl Abort, driver: &mut Driver, id: Name) -> Result<(), Fail> {
-    let lines = [
-        Line::Asked(Call::StartDynamic),
-        up(1),
-        Line::Asked(Call::StartDynamic),
-        up(2),
-        Line::Asked(Call::TerminateChild(id)),
-    ];
-    driver.lines(rt, &lines)?;
-    let core = &driver.core;
-    assert!(rt; matches!(core.reply(1), ReplyAnswer::Kept(Reply::OkProcess(1))));
-    let simple = CallFault::SimpleOneForOne;
-    assert!(rt; is_refused(core, 3, simple));
-    assert!(rt; matches!(core.reply(4), ReplyAnswer::NotYet));
-    let counts = CountsNow {
-        specs: 1,
-        active: 2,
-        supervisors: 0,
-        workers: 2,
-    };
-    same(rt, "the counts", core.counts(), counts);
-    Ok(())
-}
-
-// Whether the answer to this call is this fault.
-fn is_refused(core: &Core, call: u64, fault: CallFault) -> bool {
-    match core.reply(call) {
-        ReplyAnswer::Kept(Reply::Refused(why)) => *why == fault,
-        _ => false,
+fn has_all_times(rt: &impl Abort, cause: &Cause) {
+    match cause {
+        Cause::Intensity { flags, stamps } => {
+            same(rt, "the intensity", flags.intensity, 1000);
+            let wanted = [0; 1001];
+            same(rt, "the times", stamps.as_slice(), wanted.as_slice());
+        }
+        _ => panic!(rt; "the intensity"),
     }
 }
 
-// One is terminated and another is started; at the stop both that are left are asked.
-fn one_is_terminated(rt: &impl Abort, driver: &mut Driver) -> Result<(), Fail> {
-    let lines = [
-        Line::Asked(Call::TerminateProcess(1)),
-        exit(1, Reason::Shutdown),
-        Line::Asked(Call::StartDynamic),
-        up(3),
-        Line::Stop,
-        exit(3, Reason::Shutdown),
-        exit(2, Reason::Shutdown),
-    ];
-    driver.lines(rt, &lines)?;
-    let orders = [
-        Order::Ask(None, 1),
-        Order::Reply(4),
-        Order::Start(None, 3),
-        Order::Reply(5),
-        Order::Ask(None, 2),
-        Order::Ask(None, 3),
-        Order::End(Reason::Shutdown),
-    ];
-    expect(rt, driver.core.effects(), "dynamic children", &orders);
-    Ok(())
-}
-
+// Orders are moved out for whoever carries them out; answers are looked up by their calls.
 #[test]
-fn restart_is_tried_again(rt: HostRuntime) -> Result<(), Fail> {
-    let [a, b, c] = [child(b"a")?, child(b"b")?, child(b"c")?];
-    let mut flags = SupFlags::default();
-    flags.strategy = Strategy::RestForOne;
-    flags.intensity = 3;
-    let mut driver = Driver::open(&rt, rt.alloc(), flags, &[a, b, c])?;
-    let shown = third_is_tried_again(&rt, rt.alloc(), &mut driver, [a.id, b.id, c.id]);
+fn orders_are_moved_out(rt: HostRuntime) {
+    let mut driver = two_children(&rt, rt.alloc());
+    driver.both_up(&rt);
+    driver.line(&rt, Line::Asked(Call::WhichChildren));
+    driver.line(&rt, exit(2, error()));
+    moves_orders(&rt, rt.alloc(), &mut driver.core);
+    has_told_both(&rt, &driver.core);
     drop(driver);
-    shown
-}
-
-fn third_is_tried_again(
-    rt: &impl Abort,
-    alloc: Global,
-    driver: &mut Driver,
-    ids: [Name; 3],
-) -> Result<(), Fail> {
-    let [a, b, c] = ids;
-    driver.lines(rt, &[up(1), up(2), up(3)])?;
-    driver.core.clear_effects();
-    second_crashes(rt, driver)?;
-    let orders = [
-        Order::Ask(Some(c), 3),
-        Order::Start(Some(b), 4),
-        Order::Start(Some(c), 5),
-        Order::Start(Some(c), 6),
-    ];
-    gives_orders(rt, alloc, driver, &orders)?;
-    let wanted = [
-        (Some(a), ChildProcess::Number(1)),
-        (Some(b), ChildProcess::Number(4)),
-        (Some(c), ChildProcess::Restarting),
-    ];
-    tells_children(rt, driver, 1, &wanted)
-}
-
-// The second child crashes, and the first start of the third then fails.
-fn second_crashes(rt: &impl Abort, driver: &mut Driver) -> Result<(), Fail> {
-    let lines = [
-        exit(2, error()?),
-        exit(3, Reason::Shutdown),
-        up(4),
-        Line::Asked(Call::WhichChildren),
-        Line::Told(Note::Failed(5, error()?)),
-        up(6),
-    ];
-    driver.lines(rt, &lines)
 }
 
 // The orders but for the replies are moved out, and none is left.
-fn gives_orders(
-    rt: &impl Abort,
-    alloc: Global,
-    driver: &mut Driver,
-    orders: &[Order; 4],
-) -> Result<(), Fail> {
-    let mut list = Vec::with_capacity(alloc, 8)?;
-    let count = driver.core.count_orders();
-    assert!(rt; count == 4);
-    driver.core.move_orders(&mut list);
-    expect(rt, &list, "the orders but for the reply", orders);
-    assert!(rt; driver.core.effects().is_empty());
-    drop(list);
-    Ok(())
-}
-
-// The answer to this call tells these children.
-fn tells_children(
-    rt: &impl Abort,
-    driver: &Driver,
-    call: u64,
-    wanted: &[(Option<Name>, ChildProcess)],
-) -> Result<(), Fail> {
-    let ReplyAnswer::Kept(Reply::Which(children)) = driver.core.reply(call) else {
-        return Err(Fail::from("the children"));
+fn moves_orders(rt: &impl Abort, alloc: Global, core: &mut Core) {
+    let Ok(mut list) = Vec::with_capacity(alloc, 8) else {
+        panic!(rt; "there is memory");
     };
-    let lines = children.as_slice();
-    same(rt, "the number of children", lines.len(), wanted.len());
-    for (line, child) in lines.iter().zip(wanted) {
-        same(rt, "a child", (line.id, line.process), *child);
-    }
-    Ok(())
+    let count = core.count_orders();
+    assert!(rt; count == 4);
+    core.move_orders(&mut list);
+    let [a, b] = [named(rt, b"a"), named(rt, b"b")];
+    let orders = [
+        Order::Start(Some(a), 1),
+        Order::Start(Some(b), 2),
+        Order::Ready,
+        Order::Start(Some(b), 3),
+    ];
+    expect(rt, &list, "the orders but for the reply", &orders);
+    drop(list);
+    assert!(rt; core.effects().is_empty());
+}
+
+// The answer to the first call tells both children.
+fn has_told_both(rt: &impl Abort, core: &Core) {
+    let ReplyAnswer::Kept(Reply::Which(children)) = core.reply(1) else {
+        panic!(rt; "the children");
+    };
+    let [first, second] = children.as_slice() else {
+        panic!(rt; "two children");
+    };
+    let a = (Some(named(rt, b"a")), ChildProcess::Number(1));
+    same(rt, "the first", (first.id, first.process), a);
+    let b = (Some(named(rt, b"b")), ChildProcess::Number(2));
+    same(rt, "the second", (second.id, second.process), b);
 }
 
 #[test]
-fn children_are_told_again(rt: HostRuntime) -> Result<(), Fail> {
-    let a = child(b"a")?;
-    let mut driver = Driver::open(&rt, rt.alloc(), SupFlags::default(), &[a])?;
-    let shown = is_told_again(&rt, &mut driver, a.id);
-    drop(driver);
-    shown
-}
-
-fn is_told_again(rt: &impl Abort, driver: &mut Driver, id: Name) -> Result<(), Fail> {
-    let lines = [
-        up(1),
-        Line::Asked(Call::WhichChildren),
-        Line::Asked(Call::WhichChildren),
-        exit(1, error()?),
-        up(2),
-        Line::Asked(Call::WhichChildren),
-        Line::Asked(Call::CountChildren),
-        Line::Asked(Call::WhichChildren),
-    ];
-    driver.lines(rt, &lines)?;
-    for (call, number) in [(1u64, 1u64), (2, 1), (3, 2), (5, 2)] {
-        let wanted = [(Some(id), ChildProcess::Number(number))];
-        tells_children(rt, driver, call, &wanted)?;
-    }
-    Ok(())
-}
-
-#[test]
-fn little_memory_is_held_ahead(rt: HostRuntime) -> Result<(), Fail> {
-    let mut driver = two_children(&rt, rt.alloc())?;
-    let shown = answers_with_little(&rt, &mut driver);
-    drop(driver);
-    shown
-}
-
-fn answers_with_little(rt: &impl Abort, driver: &mut Driver) -> Result<(), Fail> {
-    driver.lines(rt, &[up(1), up(2)])?;
-    let calls = [
-        Line::Asked(Call::CountChildren),
-        Line::Asked(Call::WhichChildren),
-    ];
+fn little_memory_is_held_ahead(rt: HostRuntime) {
+    let mut driver = two_children(&rt, rt.alloc());
+    driver.both_up(&rt);
     for _ in 0..100 {
-        driver.lines(rt, &calls)?;
-        driver.prepare(rt)?;
-        driver.prepare(rt)?;
-        holds_little(rt, driver);
+        driver.line(&rt, Line::Asked(Call::CountChildren));
+        driver.line(&rt, Line::Asked(Call::WhichChildren));
+        driver.prepare(&rt);
+        driver.prepare(&rt);
+        holds_little(&rt, &driver);
     }
-    Ok(())
+    drop(driver);
 }
 
 // As much again as is kept, and what one event may need: two children, of which none waits.
@@ -415,106 +128,115 @@ fn holds_little(rt: &impl Abort, driver: &Driver) {
 }
 
 #[test]
-fn an_answer_is_found_by_its_call(rt: HostRuntime) -> Result<(), Fail> {
-    let mut driver = two_children(&rt, rt.alloc())?;
-    let shown = answers_by_number(&rt, &mut driver);
+fn an_answer_is_found_by_its_call(rt: HostRuntime) {
+    let mut driver = two_children(&rt, rt.alloc());
+    driver.both_up(&rt);
+    driver.take_call(&rt, 3, Call::CountChildren);
+    driver.take_call(&rt, 5, Call::StartDynamic);
+    driver.take_call(&rt, 9, Call::CountChildren);
+    has_refused(&rt, &driver.core);
+    driver.take_call(&rt, 5, Call::CountChildren);
+    driver.take_call(&rt, 1, Call::WhichChildren);
+    has_answered_again(&rt, &driver.core);
     drop(driver);
-    shown
 }
 
-fn answers_by_number(rt: &impl Abort, driver: &mut Driver) -> Result<(), Fail> {
-    driver.lines(rt, &[up(1), up(2)])?;
-    let count = Call::CountChildren;
-    let calls = [(3u64, count), (5, Call::StartDynamic), (9, count)];
-    driver.take_calls(rt, &calls)?;
-    assert!(rt; is_count(&driver.core, 3));
-    assert!(rt; is_refused(&driver.core, 5, CallFault::NotSimple));
-    assert!(rt; matches!(driver.core.reply(4), ReplyAnswer::NotYet));
-    let calls = [(5u64, count), (1, Call::WhichChildren)];
-    driver.take_calls(rt, &calls)?;
-    assert!(rt; is_count(&driver.core, 5));
-    let first = driver.core.reply(1);
-    assert!(rt; matches!(first, ReplyAnswer::Kept(Reply::Which(_))));
-    assert!(rt; matches!(driver.core.reply(10), ReplyAnswer::NotYet));
-    Ok(())
+fn has_refused(rt: &impl Abort, core: &Core) {
+    assert!(rt; is_count(core, 3));
+    let ReplyAnswer::Kept(Reply::Refused(why)) = core.reply(5) else {
+        panic!(rt; "a refusal");
+    };
+    same(rt, "why it is refused", *why, CallFault::NotSimple);
+    assert!(rt; matches!(core.reply(4), ReplyAnswer::NotYet));
 }
 
-pub(crate) fn is_count(core: &Core, call: u64) -> bool {
-    matches!(core.reply(call), ReplyAnswer::Kept(Reply::Count(_)))
+// The call that came last under a number is the one that is answered.
+fn has_answered_again(rt: &impl Abort, core: &Core) {
+    assert!(rt; is_count(core, 5));
+    assert!(rt; matches!(core.reply(1), ReplyAnswer::Kept(Reply::Which(_))));
+    assert!(rt; matches!(core.reply(10), ReplyAnswer::NotYet));
 }
 
-#[test]
-fn refused_openings(rt: HostRuntime) -> Result<(), Fail> {
-    let a = child(b"a")?;
-    let lawful = SupFlags::default();
-    let mut endless = lawful;
-    endless.period = 0;
-    let mut simple = lawful;
-    simple.strategy = Strategy::SimpleOneForOne;
-    let many = [a; 257];
-    let table: [(SupFlags, &[ChildSpec], SpecFault); 4] = [
-        (endless, &[a, a], SpecFault::BadFlag),
-        (simple, &[a, a], SpecFault::SimpleNeedsOne),
-        (lawful, &many, SpecFault::TooManyChildren),
-        (lawful, &[a, a], SpecFault::DuplicateId { index: 1 }),
-    ];
-    for (flags, specs, fault) in table {
-        let told = fault_of_opening(rt.alloc(), flags, specs);
-        same(&rt, "the fault", told, Some(fault));
-    }
-    Ok(())
-}
-
-fn fault_of_opening(alloc: Global, flags: SupFlags, specs: &[ChildSpec]) -> Option<SpecFault> {
+// A supervisor with these flags and children isn't opened, for this fault.
+fn is_refused(
+    rt: &impl Abort,
+    alloc: Global,
+    flags: SupFlags,
+    specs: &[ChildSpec],
+    fault: SpecFault,
+) {
     match Core::open(alloc, flags, specs) {
-        Err(OpenFault::Spec(why)) => Some(why),
-        Err(_) => None,
+        Err(OpenFault::Spec(why)) => same(rt, "the fault", why, fault),
+        Err(_) => panic!(rt; "there is memory"),
         Ok(core) => {
             drop(core);
-            None
+            panic!(rt; "it is refused")
         }
     }
 }
 
 #[test]
-fn numbers_that_are_drawn_beforehand(rt: HostRuntime) -> Result<(), Fail> {
-    let mut core = Core::open(rt.alloc(), SupFlags::default(), &[child(b"a")?])?;
-    let shown = takes_given_numbers(&rt, &mut core);
-    drop(core);
-    shown
-}
-
-fn takes_given_numbers(rt: &impl Abort, core: &mut Core) -> Result<(), Fail> {
-    let events = [(Kind::Opened(5), Some(7u64)), (Kind::Stopped, None)];
-    for (kind, number) in events {
-        core.prepare()?;
-        assert!(rt; core.is_prepared());
-        assert!(rt; !core.is_full());
-        let is_needed = core.needs_number(0, &kind);
-        // Two assertions that the proof of `step` rests on.
-        assert_eq!(rt; is_needed, number.is_some());
-        assert!(rt; number.is_none_or(|n| core.last_number() < n));
-        core.step(Event {
-            reading: 0,
-            number,
-            kind,
-        });
-        same(rt, "the last number", core.last_number(), 7);
-    }
-    Ok(())
+fn refused_openings(rt: HostRuntime) {
+    let a = child(&rt, b"a");
+    let mut flags = SupFlags::default();
+    let twice = SpecFault::DuplicateId { index: 1 };
+    is_refused(&rt, rt.alloc(), flags, &[a, a], twice);
+    let many = [a; 257];
+    is_refused(&rt, rt.alloc(), flags, &many, SpecFault::TooManyChildren);
+    flags.strategy = Strategy::SimpleOneForOne;
+    is_refused(&rt, rt.alloc(), flags, &[a, a], SpecFault::SimpleNeedsOne);
+    flags.period = 0;
+    is_refused(&rt, rt.alloc(), flags, &[a, a], SpecFault::BadFlag);
 }
 
 #[test]
-fn idle_supervisor_tells(rt: HostRuntime) -> Result<(), Fail> {
-    let mut driver = two_children(&rt, rt.alloc())?;
-    let shown = tells_when_idle(&rt, &mut driver);
+fn numbers_that_are_drawn_beforehand(rt: HostRuntime) {
+    let mut driver = one_child(&rt, rt.alloc());
+    takes(
+        &rt,
+        &mut driver.core,
+        Kind::Took(Item::Note(Note::Up(1))),
+        None,
+    );
+    let crash = Note::Exit(1, error());
+    takes(
+        &rt,
+        &mut driver.core,
+        Kind::Took(Item::Note(crash)),
+        Some(7),
+    );
+    takes(&rt, &mut driver.core, Kind::Stopped, None);
     drop(driver);
-    shown
 }
 
-fn tells_when_idle(rt: &impl Abort, driver: &mut Driver) -> Result<(), Fail> {
-    driver.lines(rt, &[up(1), up(2)])?;
-    let core = &driver.core;
+// It takes an event with a number that was drawn before, and that is its last number then.
+fn takes(rt: &impl Abort, core: &mut Core, kind: Kind, number: Option<u64>) {
+    let prepared = core.prepare();
+    assert!(rt; prepared.is_ok());
+    assert!(rt; core.is_prepared());
+    assert!(rt; !core.is_full());
+    let is_needed = core.needs_number(0, &kind);
+    // Two assertions that the proof of `step` rests on.
+    assert_eq!(rt; is_needed, number.is_some());
+    assert!(rt; number.is_none_or(|n| core.last_number() < n));
+    let last = number.unwrap_or(core.last_number());
+    core.step(Event {
+        reading: 0,
+        number,
+        kind,
+    });
+    same(rt, "the last number", core.last_number(), last);
+}
+
+#[test]
+fn idle_supervisor_tells(rt: HostRuntime) {
+    let mut driver = two_children(&rt, rt.alloc());
+    driver.both_up(&rt);
+    tells_when_idle(&rt, &driver.core);
+    drop(driver);
+}
+
+fn tells_when_idle(rt: &impl Abort, core: &Core) {
     same(rt, "the phase", core.phase(), Phase::Open(0));
     same(rt, "the next deadline", core.next_deadline(), None);
     same(rt, "what waits", core.first_waiting(), None);
@@ -522,59 +244,52 @@ fn tells_when_idle(rt: &impl Abort, driver: &mut Driver) -> Result<(), Fail> {
     let next = core.next_kind(0, true);
     same(rt, "the next event of a stop", next, Some(Kind::Stopped));
     same(rt, "the rows", core.rows().len(), 2);
-    Ok(())
 }
 
 #[test]
-fn stopping_supervisor_tells(rt: HostRuntime) -> Result<(), Fail> {
-    let mut driver = two_children(&rt, rt.alloc())?;
-    let shown = tells_when_stopping(&rt, &mut driver);
+fn stopping_supervisor_tells(rt: HostRuntime) {
+    let mut driver = two_children(&rt, rt.alloc());
+    driver.both_up(&rt);
+    let stop = Call::TerminateChild(named(&rt, b"a"));
+    driver.line(&rt, Line::Asked(stop));
+    driver.line(&rt, exit(2, error()));
+    tells_when_stopping(&rt, &driver.core);
     drop(driver);
-    shown
 }
 
-fn tells_when_stopping(rt: &impl Abort, driver: &mut Driver) -> Result<(), Fail> {
-    let end = Note::Exit(2, error()?);
-    let stop = Line::Asked(Call::TerminateChild(named(b"a")?));
-    driver.lines(rt, &[up(1), up(2), stop, Line::Told(end)])?;
-    let core = &driver.core;
+fn tells_when_stopping(rt: &impl Abort, core: &Core) {
     same(rt, "the next deadline", core.next_deadline(), Some(100));
     same(rt, "the event at 99", core.next_kind(99, true), None);
     let next = core.next_kind(100, true);
     same(rt, "the event at 100", next, Some(Kind::Ticked));
+    let end = Note::Exit(2, error());
     let waiting = Some(Waiting::Item(Item::Note(end)));
     same(rt, "what waits", core.first_waiting(), waiting);
-    Ok(())
 }
 
 #[test]
 fn ended_supervisor_tells(rt: HostRuntime) -> Result<(), Fail> {
-    let mut driver = two_children(&rt, rt.alloc())?;
-    let shown = tells_when_ended(&rt, &mut driver);
+    let mut driver = two_children(&rt, rt.alloc());
+    driver.both_up(&rt);
+    driver.line(&rt, Line::Asked(Call::WhichChildren));
+    driver.line(&rt, Line::Stop);
+    driver.line(&rt, exit(2, Reason::Shutdown));
+    driver.line(&rt, exit(1, Reason::Shutdown));
+    let shown = tells_when_ended(&rt, &driver.core);
     drop(driver);
     shown
 }
 
-fn tells_when_ended(rt: &impl Abort, driver: &mut Driver) -> Result<(), Fail> {
-    let lines = [
-        up(1),
-        up(2),
-        Line::Asked(Call::WhichChildren),
-        Line::Stop,
-        exit(2, Reason::Shutdown),
-        exit(1, Reason::Shutdown),
-    ];
-    driver.lines(rt, &lines)?;
-    let core = &driver.core;
+fn tells_when_ended(rt: &impl Abort, core: &Core) -> Result<(), Fail> {
     same(rt, "the children", count_told(core)?, 2);
     let ended = Phase::Ended(0, Ending::Asked);
     same(rt, "the phase", core.phase(), ended);
-    same(rt, "the ends", core.ends().len(), 1);
-    for (own, end) in core.ends() {
-        same(rt, "the number of the end", *own, 0);
-        let reason = end.try_clone()?.reason;
-        same(rt, "the reason of the end", reason, Reason::Shutdown);
-    }
+    let [(own, end)] = core.ends() else {
+        return Err(Fail::from("one end"));
+    };
+    same(rt, "the number of the end", *own, 0);
+    let reason = end.try_clone()?.reason;
+    same(rt, "the reason of the end", reason, Reason::Shutdown);
     Ok(())
 }
 
@@ -591,31 +306,43 @@ fn count_told(core: &Core) -> Result<usize, Fail> {
 
 // What a call has added belongs to one life of the supervisor: the next one begins with the specifications.
 #[test]
-fn added_child_is_gone_after_the_next_start(rt: HostRuntime) -> Result<(), Fail> {
+fn added_child_is_gone_after_the_next_start(rt: HostRuntime) {
     let mut flags = SupFlags::default();
     flags.intensity = 0;
-    let x = child(b"x")?;
-    let mut driver = Driver::open(&rt, rt.alloc(), flags, &[x])?;
-    let shown = forgets_the_added(&rt, &mut driver, x.id);
+    let mut driver = Driver::open(&rt, rt.alloc(), flags, &[child(&rt, b"x")]);
+    adds_a_child(&rt, &mut driver);
+    has_given_up(&rt, &driver.core);
+    driver.event(&rt, Kind::Opened(7));
+    has_one(&rt, &driver.core, named(&rt, b"x"));
     drop(driver);
-    shown
 }
 
-fn forgets_the_added(rt: &impl Abort, driver: &mut Driver, id: Name) -> Result<(), Fail> {
-    let lines = [
-        up(1),
-        Line::Asked(Call::StartChild(child(b"added")?)),
-        up(2),
-        exit(1, error()?),
-        exit(2, Reason::Shutdown),
-    ];
-    driver.lines(rt, &lines)?;
+fn adds_a_child(rt: &impl Abort, driver: &mut Driver) {
+    driver.line(rt, up(1));
+    driver.line(rt, Line::Asked(Call::StartChild(child(rt, b"added"))));
+    driver.line(rt, up(2));
+    driver.line(rt, exit(1, error()));
+    driver.line(rt, exit(2, Reason::Shutdown));
+}
+
+fn has_given_up(rt: &impl Abort, core: &Core) {
     let ended = Phase::Ended(0, Ending::Intensity);
-    same(rt, "the phase", driver.core.phase(), ended);
-    driver.event(rt, Kind::Opened(7))?;
-    let [row] = driver.core.rows() else {
-        return Err(Fail::from("one child"));
+    same(rt, "the phase", core.phase(), ended);
+}
+
+fn has_one(rt: &impl Abort, core: &Core, id: Name) {
+    let [row] = core.rows() else {
+        panic!(rt; "one child");
     };
     same(rt, "the row", row.id, Some(id));
-    Ok(())
+}
+
+/// Why a core is not opened, as whoever opens one may print it.
+#[test]
+fn texts_of_open_faults(rt: HostRuntime) -> Result<(), Fail> {
+    let fault = OpenFault::Spec(SpecFault::SimpleNeedsOne);
+    let text =
+        "the flags or the specifications are unlawful: simple_one_for_one needs exactly one specification";
+    prints(&rt, rt.alloc(), &fault, text)?;
+    prints(&rt, rt.alloc(), &OpenFault::OutOfMemory, "out of memory")
 }

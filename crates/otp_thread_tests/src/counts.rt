@@ -1,10 +1,12 @@
 ghost use Rattle.std.specs.Prelude.{◌≡◌, ◌≤◌};
+ghost use Rattle.otp_counts.specs.Counts.{fresh_pass};
+ghost use Rattle.otp_counts.specs.Words.{AreFew};
 
-use crate::fixtures::same;
+use crate::fixtures::{got, same};
 use otp_counts::{CountsPass, Publisher};
 use otp_rules::CountsNow;
+use std::alloc::Global;
 use std::process::Abort;
-use std::test::*;
 use std::thread;
 use std::thread::Threads;
 
@@ -29,36 +31,57 @@ fn reads(rt: &impl Abort, pass: &mut CountsPass, active: u64)
     same(rt, "the counts", pass.read(), with_active(active));
 }
 
+fn opened(rt: &impl Abort, alloc: Global, counts: CountsNow) -> Publisher
+    requires { AreFew counts }
+{
+    got(rt, "memory was refused", Publisher::open(alloc, counts))
+}
+
+fn pass_of(rt: &impl Abort, publisher: &mut Publisher) -> CountsPass
+    ensures same { publisher.new ≡ publisher.old }
+    ensures pass { result ≡ fresh_pass publisher.old.word }
+{
+    let Ok(pass) = publisher.pass() else {
+        panic!(rt; "memory was refused");
+    };
+    pass
+}
+
 #[test]
-fn a_pass_reads_the_last(rt: HostRuntime) -> Result<(), Fail> {
-    let mut publisher = Publisher::open(rt.alloc(), with_active(0))?;
-    let mut pass = publisher.pass()?;
+fn a_pass_reads_the_last(rt: HostRuntime) {
+    let mut publisher = opened(&rt, rt.alloc(), with_active(0));
+    let mut pass = pass_of(&rt, &mut publisher);
     reads(&rt, &mut pass, 0);
     publisher.publish(with_active(2));
     publisher.publish(with_active(1));
     reads(&rt, &mut pass, 1);
-    let mut other = pass.split()?;
+    let Ok(mut other) = pass.split() else {
+        panic!(&rt; "memory was refused");
+    };
     reads(&rt, &mut other, 1);
     // The pass's seat goes through the publisher's and back: it still reads afterwards.
     publisher.compare(&mut pass);
     publisher.publish(with_active(256));
     reads(&rt, &mut pass, 256);
     reads(&rt, &mut other, 256);
-    Ok(())
+    drop(pass);
+    drop(other);
+    drop(publisher);
 }
 
 #[test]
-fn each_count_has_its_place(rt: HostRuntime) -> Result<(), Fail> {
+fn each_count_has_its_place(rt: HostRuntime) {
     let counts = CountsNow {
         specs: 256,
         active: 1,
         supervisors: 255,
         workers: 256,
     };
-    let mut publisher = Publisher::open(rt.alloc(), counts)?;
-    let mut pass = publisher.pass()?;
+    let mut publisher = opened(&rt, rt.alloc(), counts);
+    let mut pass = pass_of(&rt, &mut publisher);
     same(&rt, "the counts", pass.read(), counts);
-    Ok(())
+    drop(pass);
+    drop(publisher);
 }
 
 // Publishes one process more, two hundred times.
@@ -81,27 +104,28 @@ fn read_all(mut pass: CountsPass) -> bool {
     is_in_order
 }
 
-fn on_three_threads<R: Threads>(
+fn on_three_threads<R: Threads + Abort>(
     rt: &R,
     mut publisher: Publisher,
-) -> Result<(Publisher, bool, bool), Fail> {
-    let one = publisher.pass()?;
-    let other = publisher.pass()?;
+) -> (Publisher, bool, bool) {
+    let one = pass_of(rt, &mut publisher);
+    let other = pass_of(rt, &mut publisher);
     let (publisher, (first, second)) = thread::join(
         rt,
         || publish_all(publisher),
         || thread::join(rt, || read_all(one), || read_all(other)),
     );
-    Ok((publisher, first, second))
+    (publisher, first, second)
 }
 
 #[test]
-fn others_read_while_one_publishes(rt: HostRuntime) -> Result<(), Fail> {
-    let publisher = Publisher::open(rt.alloc(), with_active(0))?;
-    let (mut publisher, first, second) = on_three_threads(&rt, publisher)?;
+fn others_read_while_one_publishes(rt: HostRuntime) {
+    let publisher = opened(&rt, rt.alloc(), with_active(0));
+    let (mut publisher, first, second) = on_three_threads(&rt, publisher);
     assert!(rt; first);
     assert!(rt; second);
-    let mut pass = publisher.pass()?;
+    let mut pass = pass_of(&rt, &mut publisher);
     reads(&rt, &mut pass, 200);
-    Ok(())
+    drop(pass);
+    drop(publisher);
 }

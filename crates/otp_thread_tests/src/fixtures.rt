@@ -1,4 +1,5 @@
 //! What several tests need.
+ghost use Rattle.std.specs.Prelude.{◌≡◌, Ok};
 
 use std::fmt::Debug;
 use std::process::Abort;
@@ -9,4 +10,14 @@ use std::process::Abort;
 /// Where what follows builds on the equation, `assert!` stands.
 pub(crate) fn same<T: PartialEq + Debug + Copy>(rt: &impl Abort, what: &str, value: T, wanted: T) {
     assert_eq!(rt; value, wanted, "{what}");
+}
+
+/// What a try gave. Where it failed the test stops, with these words: so no test has an exit beside what it holds.
+pub(crate) fn got<T, E>(rt: &impl Abort, what: &str, tried: Result<T, E>) -> T
+    ensures { tried ≡ Ok result }
+{
+    match tried {
+        Ok(value) => value,
+        Err(_) => panic!(rt; "{what}"),
+    }
 }

@@ -1,13 +1,12 @@
 // What no clause says: that calls succeed, that what a `take` finds is there, and that bodies come along.
 ghost use Rattle.std.specs.Prelude.{◌≡◌, ◌<◌};
 
-use crate::fixtures::same;
+use crate::fixtures::{got, same};
 use otp_inbox::{ALL_PARTS, COUNT_LIMIT, Inbox, InboxNaming, Mail, Sender, Taker, UnnamedInbox};
 use std::alloc::Global;
 use std::marker::Brand;
 use std::process::Abort;
 use std::sync::Wait;
-use std::test::*;
 use std::thread;
 use std::thread::Threads;
 
@@ -49,45 +48,49 @@ impl<B: Drop> Mail<Head> for Letter<B> {
 type Boxed = Letter<Box<dyn Job, Global>>;
 
 #[test]
-fn two_senders_and_a_taker(rt: HostRuntime) -> Result<(), Fail> {
-    let alloc = rt.alloc();
-    let mut first: Vec<Boxed> = Vec::new(alloc);
-    let mut second: Vec<Boxed> = Vec::new(alloc);
-    for number in 0..EACH {
-        first.push(Letter {
-            from: 0,
-            number,
-            body: Box::new(alloc, Echo { word: number })?,
-        })?;
-        second.push(Letter {
-            from: 1,
-            number,
-            body: Box::new(
-                alloc,
-                Echo {
-                    word: number + EACH,
-                },
-            )?,
-        })?;
-    }
-    let inbox = UnnamedInbox::<Head, Boxed>::open(alloc)?;
-    exchange::<Brand, _>(&rt, inbox, first, second, Vec::new(alloc))
+fn two_senders_and_a_taker(rt: HostRuntime) {
+    let first = letters_of(&rt, rt.alloc(), 0);
+    let second = letters_of(&rt, rt.alloc(), 1);
+    let inbox = UnnamedInbox::<Head, Boxed>::open(rt.alloc());
+    let inbox = got(&rt, "memory was refused", inbox);
+    exchange::<Brand, _>(&rt, inbox, first, second, Vec::new(rt.alloc()));
 }
 
-// Sends all letters. None where one was refused.
-fn send_all<N: InboxNaming, R: Wait>(
+// All letters of a sender. Each body gives a number that no other has.
+fn letters_of(rt: &impl Abort, alloc: Global, from: u64) -> Vec<Boxed> {
+    let mut letters = Vec::new(alloc);
+    for number in 0..EACH {
+        let word = from.saturating_mul(EACH).saturating_add(number);
+        let echo = Box::new(alloc, Echo { word });
+        let echo: Box<Echo, Global> = got(rt, "memory was refused", echo);
+        let body: Box<dyn Job, Global> = echo;
+        assert!(rt; letters.push(Letter { from, number, body }).is_ok());
+    }
+    letters
+}
+
+// Sends all letters.
+fn send_all<N: InboxNaming, R: Wait + Abort>(
     rt: &R,
     inbox: &Inbox<N, Head, Boxed>,
     mut sender: Sender<N, Head, Boxed>,
     letters: Vec<Boxed>,
-) -> Option<Sender<N, Head, Boxed>> {
+) -> Sender<N, Head, Boxed> {
     for letter in letters {
-        if sender.number() != inbox.number() || sender.parts() == 0 {
-            return None;
-        }
-        inbox.send(rt, &mut sender, letter).ok()?;
+        sends_one(rt, inbox, &mut sender, letter);
     }
-    Some(sender)
+    sender
+}
+
+fn sends_one<N: InboxNaming, R: Wait + Abort>(
+    rt: &R,
+    inbox: &Inbox<N, Head, Boxed>,
+    sender: &mut Sender<N, Head, Boxed>,
+    letter: Boxed,
+) {
+    assert!(rt; sender.number() == inbox.number());
+    assert!(rt; sender.parts() > 0);
+    assert!(rt; inbox.send(rt, sender, letter).is_ok());
 }
 
 // The letter is the next one of its sender, and its body is its own.
@@ -131,7 +134,7 @@ fn exchange<N: InboxNaming + Send + Sync, R: Threads + Wait + Abort + Sync>(
     first_letters: Vec<Boxed>,
     second_letters: Vec<Boxed>,
     left: Vec<Boxed>,
-) -> Result<(), Fail>
+)
     requires { inbox ≡ N.inbox 7 }
 {
     let (inbox, mut taker, mut first) = inbox.named::<N>(7);
@@ -150,11 +153,9 @@ fn exchange<N: InboxNaming + Send + Sync, R: Threads + Wait + Abort + Sync>(
         },
         move || take_some(rt, shared, taker),
     );
-    let (first, second) = senders;
-    let (taker, next) = took;
-    let first = first.ok_or("a letter was refused")?;
-    let second = second.ok_or("a letter was refused")?;
-    settle(rt, &inbox, first, second, taker, next, left)
+    let ((first, second), (taker, next)) = (senders, took);
+    settle(rt, &inbox, first, second, taker, next, left);
+    drop(inbox);
 }
 
 // Puts the senders together, and takes what is left.
@@ -166,7 +167,7 @@ fn settle<N: InboxNaming, R: Wait + Abort>(
     taker: Taker<N, Head, Boxed>,
     mut next: [u64; 2],
     mut left: Vec<Boxed>,
-) -> Result<(), Fail> {
+) {
     assert!(rt; first.number() == inbox.number());
     assert!(rt; second.number() == inbox.number());
     assert!(rt; taker.number() == inbox.number());
@@ -175,26 +176,25 @@ fn settle<N: InboxNaming, R: Wait + Abort>(
     assert!(rt; first.parts() == ALL_PARTS);
     assert!(rt; sent < COUNT_LIMIT);
     assert!(rt; taken <= sent);
-    left.reserve((sent - taken) as usize)?;
+    let Ok(()) = left.reserve((sent - taken) as usize) else {
+        panic!(rt; "memory was refused");
+    };
     inbox.drain_into(rt, taker, first, &mut left);
     same(rt, "how many are left", left.len() as u64, 2 * EACH - TAKEN);
     for letter in left {
         check(rt, &mut next, letter);
     }
     same(rt, "the next of each sender", next, [EACH; 2]);
-    Ok(())
 }
 
 #[test]
-fn refused_letter_comes_back(rt: HostRuntime) -> Result<(), Fail> {
-    let inbox = UnnamedInbox::<Head, Letter<()>>::open(rt.alloc())?;
-    refuse::<Brand, _>(&rt, inbox)
+fn refused_letter_comes_back(rt: HostRuntime) {
+    let inbox = UnnamedInbox::<Head, Letter<()>>::open(rt.alloc());
+    let inbox = got(&rt, "memory was refused", inbox);
+    refuse::<Brand, _>(&rt, inbox);
 }
 
-fn refuse<N: InboxNaming, R: Wait + Abort>(
-    rt: &R,
-    inbox: UnnamedInbox<Head, Letter<()>>,
-) -> Result<(), Fail>
+fn refuse<N: InboxNaming, R: Wait + Abort>(rt: &R, inbox: UnnamedInbox<Head, Letter<()>>)
     requires { inbox ≡ N.inbox 0 }
 {
     let (inbox, mut taker, mut sender) = inbox.named::<N>(0);
@@ -207,7 +207,9 @@ fn refuse<N: InboxNaming, R: Wait + Abort>(
     }
     assert!(rt; inbox.take(rt, &mut taker).is_none());
     same(rt, "how many were taken", taker.taken_count(), EACH);
-    Ok(())
+    drop(taker);
+    drop(sender);
+    drop(inbox);
 }
 
 // Sends letters alone, over several blocks of the queue. Under `rt try --test --fail-alloc N` a block is refused: the letter

@@ -1,16 +1,26 @@
 // Which calls a job gets in which turn.
 ghost use Rattle.std.specs.Prelude.{true};
 
-use crate::fixtures::same;
-use crate::probes::{AnyBody, AnyProcess, Calls, Pipe, Probe, worker_body};
+use crate::fixtures::{got, same};
+use crate::probes::{AnyBody, AnyProcess, Pipe, Probe, no_calls, worker_body};
 use otp_job::{After, Body, BoxedJob, Job, Process, ProcessPhase, TableNo, Told, Turn, one_turn};
 use otp_reason::{Note, Reason, Started};
 use otp_signals::Signal;
-use std::alloc::{AllocError, Global};
+use std::alloc::Global;
 use std::process::Abort;
-use std::sync::Arc;
-use std::sync::atomic::{AtomicU64, Ordering};
-use std::test::*;
+use std::sync::atomic::Ordering;
+
+// A process of this body, with the number 7, the slot 3 and the table 1.
+fn process_of(rt: &impl Abort, alloc: Global, body: AnyBody) -> AnyProcess {
+    got(rt, "memory was refused", Process::new(alloc, 7, 3, 1, body))
+}
+
+// It goes on under its number, in its slot, and of its table.
+fn goes_on(rt: &impl Abort, process: &AnyProcess) {
+    same(rt, "its number", process.number(), 7);
+    let place = (process.slot(), process.table());
+    same(rt, "its slot and table", place, (3, 1));
+}
 
 /// The notes of a process, turn by turn, and the body that came home.
 pub fn run<R: Abort>(
@@ -18,10 +28,9 @@ pub fn run<R: Abort>(
     alloc: Global,
     body: AnyBody,
     signals: &[Signal],
-) -> Result<(Option<Note>, Option<AnyBody>), AllocError> {
+) -> (Option<Note>, Option<AnyBody>) {
     let mut last = None;
-    let process: AnyProcess = Process::new(alloc, 7, 3, 1, body).map_err(|_| AllocError)?;
-    let mut going = Some(process);
+    let mut going = Some(process_of(rt, alloc, body));
     for signal in signals {
         let Some(process) = going else {
             panic!(rt; "a process that ended has no turn");
@@ -29,9 +38,7 @@ pub fn run<R: Abort>(
         assert!(rt; process.is_runnable());
         match one_turn(process, *signal) {
             After::Again(process) | After::Waits(process) => {
-                same(rt, "its number", process.number(), 7);
-                let place = (process.slot(), process.table());
-                same(rt, "its slot and table", place, (3, 1));
+                goes_on(rt, &process);
                 last = None;
                 going = Some(process);
             }
@@ -43,60 +50,66 @@ pub fn run<R: Abort>(
             }
             After::Done(end, spent) => {
                 same(rt, "the spent number", spent.into_number(), 7);
-                return Ok((Some(end.note), Some(end.body)));
+                return (Some(end.note), Some(end.body));
             }
         }
     }
-    Ok((last, None))
+    drop(going);
+    (last, None)
+}
+
+/// Plays a body, and compares its last note, and whether it came home.
+fn ends_so(
+    rt: &impl Abort,
+    alloc: Global,
+    body: AnyBody,
+    signals: &[Signal],
+    note: Option<Note>,
+    is_home: bool,
+) {
+    let (last, body) = run(rt, alloc, body, signals);
+    let came_home = body.is_some();
+    drop(body);
+    same(rt, "its note", last, note);
+    same(rt, "whether it came home", came_home, is_home);
 }
 
 #[test]
-fn first_turn_starts_and_a_later_kill_calls_nothing(rt: HostRuntime) -> Result<(), Fail> {
-    let alloc = rt.alloc();
-    let calls: Calls = Arc::new(alloc, AtomicU64::new(0))?;
-    let (note, body) = run(
-        &rt,
-        alloc,
-        worker_body(alloc, &calls, true, Started::Up)?,
-        &[Signal::Kill],
-    )?;
-    same(&rt, "the note of a start", note, Some(Note::Up(7)));
-    assert!(rt; body.is_none());
-    let (note, body) = run(
-        &rt,
-        alloc,
-        worker_body(alloc, &calls, true, Started::Up)?,
-        &[Signal::Kill, Signal::Kill],
-    )?;
+fn first_turn_starts_and_a_later_kill_calls_nothing(rt: HostRuntime) {
+    let calls = no_calls(&rt, rt.alloc());
+    let body = worker_body(&rt, rt.alloc(), &calls, true, Started::Up);
+    let up = Some(Note::Up(7));
+    ends_so(&rt, rt.alloc(), body, &[Signal::Kill], up, false);
+    let body = worker_body(&rt, rt.alloc(), &calls, true, Started::Up);
     let killed = Some(Note::Exit(7, Reason::Killed));
-    same(&rt, "the note of a kill", note, killed);
-    assert!(rt; body.is_some());
+    let signals = [Signal::Kill, Signal::Kill];
+    ends_so(&rt, rt.alloc(), body, &signals, killed, true);
     same(&rt, "the calls", calls.load(Ordering::SeqCst), 11);
-    Ok(())
+    drop(calls);
+}
+
+// A worker that is asked to shut down in each turn but the first; whether it traps says what comes of that.
+fn is_asked(rt: &impl Abort, alloc: Global, traps: bool, signals: &[Signal], end: Option<Note>) {
+    let calls = no_calls(rt, alloc);
+    let body = worker_body(rt, alloc, &calls, traps, Started::Up);
+    ends_so(rt, alloc, body, signals, end, !traps);
+    let called = calls.load(Ordering::SeqCst);
+    drop(calls);
+    let wanted = if traps { 1_322 } else { 1 };
+    same(rt, "its calls", called, wanted);
 }
 
 #[test]
-fn trapping_job_is_told_once(rt: HostRuntime) -> Result<(), Fail> {
-    let alloc = rt.alloc();
-    for (traps, wanted, end) in [
-        (true, 1_322, None),
-        (false, 1, Some(Note::Exit(7, Reason::Shutdown))),
-    ] {
-        let calls: Calls = Arc::new(alloc, AtomicU64::new(0))?;
-        let body = worker_body(alloc, &calls, traps, Started::Up)?;
-        let signals = [
-            Signal::None,
-            Signal::Shutdown,
-            Signal::Shutdown,
-            Signal::Shutdown,
-        ];
-        let turns = if traps { 4 } else { 2 };
-        let (note, body) = run(&rt, alloc, body, &signals[..turns])?;
-        same(&rt, "its note", note, end);
-        same(&rt, "whether it came home", body.is_some(), !traps);
-        same(&rt, "its calls", calls.load(Ordering::SeqCst), wanted);
-    }
-    Ok(())
+fn trapping_job_is_told_once(rt: HostRuntime) {
+    let signals = [
+        Signal::None,
+        Signal::Shutdown,
+        Signal::Shutdown,
+        Signal::Shutdown,
+    ];
+    is_asked(&rt, rt.alloc(), true, &signals, None);
+    let end = Some(Note::Exit(7, Reason::Shutdown));
+    is_asked(&rt, rt.alloc(), false, &signals[..2], end);
 }
 
 // Waits in each turn.
@@ -121,23 +134,34 @@ impl Job for Waiter {
 
 // A process that waits has news while it was not told of the shutdown, and whenever it is to be killed.
 #[test]
-fn a_process_that_waits_has_news_of_a_shutdown_once(rt: HostRuntime) -> Result<(), Fail> {
-    let job: BoxedJob = Box::new(rt.alloc(), Waiter)?;
-    let process = Process::new(rt.alloc(), 7, 3, 1, Body::Worker(job));
-    let mut process: AnyProcess = process.map_err(|_| AllocError)?;
-    for signal in [Signal::None, Signal::None, Signal::Shutdown] {
-        assert!(rt; process.is_runnable());
-        process = match one_turn(process, signal) {
-            After::Waits(process) | After::Begun(process, _) => process,
-            After::Again(_process) => return Err("it waits".into()),
-            After::Done(_end, spent) => {
-                let _ = spent.into_number();
-                return Err("it goes on".into());
-            }
-        };
-        has_news(&rt, &process, signal == Signal::None);
+fn a_process_that_waits_has_news_of_a_shutdown_once(rt: HostRuntime) {
+    let waiter: Box<Waiter, Global> = got(&rt, "memory", Box::new(rt.alloc(), Waiter));
+    let job: BoxedJob = waiter;
+    let process = process_of(&rt, rt.alloc(), Body::Worker(job));
+    let process = waits(&rt, process, Signal::None);
+    has_news(&rt, &process, true);
+    let process = waits(&rt, process, Signal::None);
+    has_news(&rt, &process, true);
+    let process = waits(&rt, process, Signal::Shutdown);
+    has_news(&rt, &process, false);
+    drop(process);
+}
+
+// It begins, or waits on, in a turn with this signal.
+fn waits(rt: &impl Abort, process: AnyProcess, signal: Signal) -> AnyProcess {
+    assert!(rt; process.is_runnable());
+    match one_turn(process, signal) {
+        After::Waits(process) | After::Begun(process, _) => process,
+        After::Again(process) => {
+            drop(process);
+            panic!(rt; "it waits")
+        }
+        After::Done(end, spent) => {
+            drop(end);
+            let _ = spent.into_number();
+            panic!(rt; "it goes on")
+        }
     }
-    Ok(())
 }
 
 // No news of nothing, always of a kill, and of a shutdown where that is wanted.
@@ -152,53 +176,52 @@ fn has_news(rt: &impl Abort, process: &AnyProcess, wanted: bool) {
     same(rt, "of a kill", process.has_news(Signal::Kill), true);
 }
 
-#[test]
-fn refused_start_brings_the_body_home(rt: HostRuntime) -> Result<(), Fail> {
-    let alloc = rt.alloc();
-    for (answer, note) in [
-        (Started::Ignore, Note::Ignored(7)),
-        (
-            Started::Fail(Reason::NoProc),
-            Note::Failed(7, Reason::NoProc),
-        ),
-    ] {
-        let calls: Calls = Arc::new(alloc, AtomicU64::new(0))?;
-        let (end, body) = run(
-            &rt,
-            alloc,
-            worker_body(alloc, &calls, false, answer)?,
-            &[Signal::None],
-        )?;
-        same(&rt, "its note", end, Some(note));
-        assert!(rt; body.is_some());
-    }
-    Ok(())
+// A worker that answers its start so tells this, and its body comes home.
+fn is_refused(rt: &impl Abort, alloc: Global, answer: Started, note: Note) {
+    let calls = no_calls(rt, alloc);
+    let body = worker_body(rt, alloc, &calls, false, answer);
+    ends_so(rt, alloc, body, &[Signal::None], Some(note), true);
+    drop(calls);
 }
 
 #[test]
-fn table_goes_home_before_its_process_retires(rt: HostRuntime) -> Result<(), Fail> {
+fn refused_start_brings_the_body_home(rt: HostRuntime) {
+    is_refused(&rt, rt.alloc(), Started::Ignore, Note::Ignored(7));
+    let why = Reason::NoProc;
+    is_refused(&rt, rt.alloc(), Started::Fail(why), Note::Failed(7, why));
+}
+
+#[test]
+fn table_goes_home_before_its_process_retires(rt: HostRuntime) {
     let body: Body<Probe, Pipe> = Body::Sup(TableNo::new(5));
-    let mut process = Process::new(rt.alloc(), 9, 0, 0, body).map_err(|_| AllocError)?;
+    let process = Process::new(rt.alloc(), 9, 0, 0, body);
+    let mut process = got(&rt, "memory was refused", process);
     same(&rt, "its table", process.nested_table(), Some(5));
     assert!(rt; !process.is_runnable());
-    let Some(table) = process.take_table() else {
-        panic!(&rt; "the table is there");
-    };
+    let table = take_table(&rt, &mut process);
     same(&rt, "the number of its table", table.number(), 5);
     assert!(rt; !process.has_body());
     process.put_table(table);
+    let mut process = keeps_its_table(&rt, process);
+    take_table(&rt, &mut process);
+    let spent = got(&rt, "its table is gone", process.retire());
+    same(&rt, "the spent number", spent.into_number(), 9);
+}
+
+// It can't retire while it has its table.
+fn keeps_its_table(rt: &impl Abort, process: Process<Probe, Pipe>) -> Process<Probe, Pipe> {
     match process.retire() {
         Ok(spent) => {
             let _ = spent.into_number();
-            panic!(&rt; "it has its table");
+            panic!(rt; "it has its table")
         }
-        Err(mut process) => {
-            assert!(rt; process.take_table().is_some());
-            match process.retire() {
-                Ok(spent) => same(&rt, "the spent number", spent.into_number(), 9),
-                Err(_) => panic!(&rt; "its table is gone"),
-            }
-        }
+        Err(process) => process,
     }
-    Ok(())
+}
+
+fn take_table(rt: &impl Abort, process: &mut Process<Probe, Pipe>) -> TableNo {
+    match process.take_table() {
+        Some(table) => table,
+        None => panic!(rt; "the table is there"),
+    }
 }

@@ -1,8 +1,10 @@
 // A job and a subsystem that note each call in an atomic word, and processes of them.
+use crate::fixtures::got;
 use otp_bridge::{BoxedSubsystem, Bridge, Subsystem};
 use otp_job::{Body, BoxedJob, Job, Process, Told, Turn};
 use otp_reason::{Reason, Started};
-use std::alloc::{AllocError, Global};
+use std::alloc::Global;
+use std::process::Abort;
 use std::sync::Arc;
 use std::sync::atomic::{AtomicU64, Ordering};
 
@@ -81,30 +83,41 @@ impl Subsystem for Pipe {
     }
 }
 
+/// No calls so far.
+pub fn no_calls(rt: &impl Abort, alloc: Global) -> Calls {
+    got(rt, "memory was refused", Arc::new(alloc, AtomicU64::new(0)))
+}
+
 pub fn worker_body(
+    rt: &impl Abort,
     alloc: Global,
     calls: &Calls,
     traps: bool,
     answer: Started,
-) -> Result<AnyBody, AllocError> {
-    let calls = Arc::try_clone(calls)?;
-    let job: BoxedJob = Box::new(
+) -> AnyBody {
+    let calls = got(rt, "memory was refused", Arc::try_clone(calls));
+    let probe = Box::new(
         alloc,
         Probe {
             traps,
             answer,
             calls,
         },
-    )?;
-    Ok(Body::Worker(job))
+    );
+    let probe: Box<Probe, Global> = got(rt, "memory was refused", probe);
+    let job: BoxedJob = probe;
+    Body::Worker(job)
 }
 
 pub fn bridge_body(
+    rt: &impl Abort,
     alloc: Global,
     calls: &Calls,
     ended: Option<Reason>,
-) -> Result<AnyBody, AllocError> {
-    let calls = Arc::try_clone(calls)?;
-    let subsystem: BoxedSubsystem = Box::new(alloc, Pipe { ended, calls })?;
-    Ok(Body::Bridge(Bridge::new(subsystem)))
+) -> AnyBody {
+    let calls = got(rt, "memory was refused", Arc::try_clone(calls));
+    let pipe = Box::new(alloc, Pipe { ended, calls });
+    let pipe: Box<Pipe, Global> = got(rt, "memory was refused", pipe);
+    let subsystem: BoxedSubsystem = pipe;
+    Body::Bridge(Bridge::new(subsystem))
 }

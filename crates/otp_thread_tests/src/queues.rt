@@ -1,9 +1,10 @@
 // Run queues on one thread and on two.
-ghost use Rattle.std.specs.Prelude.{◌≡◌, ◌<◌, ◌^◌, length};
+ghost use Rattle.std.specs.Prelude.{◌≡◌, ◌<◌, ◌≤◌, ◌^◌, length};
 ghost use Rattle.otp_run.specs.Lists.{AllAt};
+ghost use Rattle.otp_run.specs.Rule.{all_parts};
 ghost use Rattle.otp_run.specs.Schedulers.{out};
 
-use crate::fixtures::same;
+use crate::fixtures::{got, same};
 use otp_bridge::BoxedSubsystem;
 use otp_job::{Body, BoxedJob, Process, TableNo};
 use otp_run::{
@@ -12,11 +13,13 @@ use otp_run::{
 use std::alloc::Global;
 use std::marker::Brand;
 use std::process::Abort;
-use std::test::*;
 use std::thread;
 use std::thread::Threads;
 
 const MANY: u64 = 1_000;
+
+// What a test says that stops for want of memory.
+const MEMORY: &str = "there is memory";
 
 type AnyProcess = Process<BoxedJob, BoxedSubsystem>;
 
@@ -27,12 +30,7 @@ type AnyScheduler<N> = Scheduler<N, BoxedJob, BoxedSubsystem>;
 fn numbered<R: Abort>(rt: &R, alloc: Global, number: u64) -> AnyProcess {
     match Process::new(alloc, number, 0, 0, Body::Sup(TableNo::new(0))) {
         Ok(process) => process,
-        Err(body) => {
-            let Ok(process) = Process::new(alloc, number, 0, 0, body) else {
-                panic!(rt; "there is memory now");
-            };
-            process
-        }
+        Err(body) => got(rt, MEMORY, Process::new(alloc, number, 0, 0, body)),
     }
 }
 
@@ -70,10 +68,11 @@ fn put_all<N: RunNaming, R: Abort>(
 }
 
 // Takes until 100 tries in turn found nothing.
-fn take_all<N: RunNaming>(
+fn take_all<N: RunNaming, R: Abort>(
+    rt: &R,
     mut scheduler: AnyScheduler<N>,
     mut taken: Vec<AnyProcess>,
-) -> (AnyScheduler<N>, Vec<AnyProcess>, bool) {
+) -> (AnyScheduler<N>, Vec<AnyProcess>) {
     let mut nothing = 0;
     for _ in 0..100_000_000_u64 {
         if nothing >= 100 {
@@ -82,45 +81,80 @@ fn take_all<N: RunNaming>(
         match scheduler.next() {
             Some(process) => {
                 nothing = 0;
-                if taken.push(process).is_err() {
-                    return (scheduler, taken, false);
-                }
+                assert!(rt; taken.push(process).is_ok());
             }
             None => nothing += 1,
         }
     }
-    (scheduler, taken, true)
+    (scheduler, taken)
 }
 
 fn two_threads<N: RunNaming + Send, R: Threads + Abort + Sync>(
     rt: &R,
     alloc: Global,
     queue: RunQueue<BoxedJob, BoxedSubsystem>,
-) -> Result<(), Fail>
+)
     requires { AllAt (λ k id. id ≡ N.deque k) queue }
 {
-    let mut schedulers = queue.named::<N>(alloc)?;
-    let second = schedulers.pop().ok_or("two schedulers")?;
-    let mut first = schedulers.pop().ok_or("two schedulers")?;
+    let (mut first, second) = two_of(rt, got(rt, MEMORY, queue.named::<N>(alloc)));
     put_all(rt, alloc, &mut first, 0, MANY);
-    let (mine, others) = (
-        Vec::with_capacity(alloc, 2_000)?,
-        Vec::with_capacity(alloc, 2_000)?,
-    );
-    let (one, two) = thread::join(
+    let (mine, others) = (list(rt, alloc), list(rt, alloc));
+    let ((first, mine), (second, others)) = thread::join(
         rt,
-        move || take_all(first, mine),
-        move || take_all(second, others),
+        move || take_all(rt, first, mine),
+        move || take_all(rt, second, others),
     );
-    let (first, mine, all_kept) = one;
-    let (second, others, kept_too) = two;
-    assert!(rt; all_kept && kept_too);
-    let mut schedulers = Vec::new(alloc);
-    schedulers.push(first)?;
-    schedulers.push(second)?;
-    let Ok(total) = gather(alloc, schedulers) else {
-        panic!(rt; "all schedulers are back");
-    };
+    let schedulers = both(rt, alloc, first, second);
+    let total = gather_all(rt, alloc, schedulers);
+    are_all_seen(rt, alloc, total, mine, others);
+}
+
+// The last of these schedulers.
+fn last_of<N: RunNaming>(
+    rt: &impl Abort,
+    schedulers: &mut Vec<AnyScheduler<N>>,
+) -> AnyScheduler<N> {
+    match schedulers.pop() {
+        Some(scheduler) => scheduler,
+        None => panic!(rt; "a scheduler"),
+    }
+}
+
+// The two schedulers of a run queue, the first one first.
+fn two_of<N: RunNaming>(
+    rt: &impl Abort,
+    schedulers: Vec<AnyScheduler<N>>,
+) -> (AnyScheduler<N>, AnyScheduler<N>) {
+    let mut schedulers = schedulers;
+    let second = last_of(rt, &mut schedulers);
+    let first = last_of(rt, &mut schedulers);
+    drop(schedulers);
+    (first, second)
+}
+
+// All schedulers of a run queue of two.
+fn both<N: RunNaming>(
+    rt: &impl Abort,
+    alloc: Global,
+    first: AnyScheduler<N>,
+    second: AnyScheduler<N>,
+) -> Vec<AnyScheduler<N>> {
+    with_one_more(rt, with_one_more(rt, Vec::new(alloc), first), second)
+}
+
+// A list with room for all processes.
+fn list(rt: &impl Abort, alloc: Global) -> Vec<AnyProcess> {
+    got(rt, MEMORY, Vec::with_capacity(alloc, 2_000))
+}
+
+// Each process that was put was taken by one of the two threads, or is left.
+fn are_all_seen<R: Abort>(
+    rt: &R,
+    alloc: Global,
+    total: LiveTotal<BoxedJob, BoxedSubsystem>,
+    mine: Vec<AnyProcess>,
+    others: Vec<AnyProcess>,
+) {
     let LiveTotal {
         live,
         begun,
@@ -128,12 +162,11 @@ fn two_threads<N: RunNaming + Send, R: Threads + Abort + Sync>(
         left,
     } = total;
     same(rt, "the total", (live, begun, ended), (MANY, MANY, 0));
-    let mut seen = Vec::from_elem(alloc, false, MANY as usize)?;
-    for processes in [mine, others, left] {
-        see(rt, &mut seen, processes);
-    }
+    let mut seen = got(rt, MEMORY, Vec::from_elem(alloc, false, MANY as usize));
+    see(rt, &mut seen, mine);
+    see(rt, &mut seen, others);
+    see(rt, &mut seen, left);
     assert!(rt; seen.iter().all(|&once| once));
-    Ok(())
 }
 
 // Marks the numbers of processes, which nobody saw before.
@@ -147,10 +180,17 @@ fn see<R: Abort>(rt: &R, seen: &mut Vec<bool>, processes: Vec<AnyProcess>) {
 }
 
 #[test]
-fn two_threads_take_each_process_once(rt: HostRuntime) -> Result<(), Fail> {
-    let alloc = rt.alloc();
-    let queue = RunQueue::open(alloc, 2)?;
-    two_threads::<Brand, _>(&rt, alloc, queue)
+fn two_threads_take_each_process_once(rt: HostRuntime) {
+    let queue = opened(&rt, rt.alloc(), 2);
+    two_threads::<Brand, _>(&rt, rt.alloc(), queue);
+}
+
+// A run queue of so many schedulers.
+fn opened(rt: &impl Abort, alloc: Global, count: usize) -> RunQueue<BoxedJob, BoxedSubsystem>
+    requires some { 0 < count }
+    requires few { count ≤ all_parts }
+{
+    got(rt, MEMORY, RunQueue::open(alloc, count))
 }
 
 // The number of a process that was found.
@@ -163,10 +203,10 @@ fn order_of_thefts<N: RunNaming, R: Abort>(
     rt: &R,
     alloc: Global,
     queue: RunQueue<BoxedJob, BoxedSubsystem>,
-) -> Result<(), Fail>
+)
     requires { AllAt (λ k id. id ≡ N.deque k) queue }
 {
-    let mut schedulers = queue.named::<N>(alloc)?;
+    let mut schedulers = got(rt, MEMORY, queue.named::<N>(alloc));
     assert!(rt; schedulers.len() == 4);
     // Scheduler 2 takes its own first, then steals of 3, 0 and 1.
     for index in 0..schedulers.len() {
@@ -181,17 +221,17 @@ fn order_of_thefts<N: RunNaming, R: Abort>(
     }
     assert!(rt; schedulers[2].next().is_none());
     assert!(rt; is_all(schedulers.as_slice()));
-    Ok(())
+    drop(schedulers);
 }
 
 fn own_alone<N: RunNaming, R: Abort>(
     rt: &R,
     alloc: Global,
     queue: RunQueue<BoxedJob, BoxedSubsystem>,
-) -> Result<(), Fail>
+)
     requires { AllAt (λ k id. id ≡ N.deque k) queue }
 {
-    let mut schedulers = queue.named::<N>(alloc)?;
+    let mut schedulers = got(rt, MEMORY, queue.named::<N>(alloc));
     assert!(rt; schedulers.len() == 2);
     put_all(rt, alloc, &mut schedulers[0], 0, 2);
     assert!(rt; schedulers[1].next_own().is_none());
@@ -200,21 +240,19 @@ fn own_alone<N: RunNaming, R: Abort>(
         same(rt, "what was found", number_of(found), Some(wanted));
     }
     assert!(rt; schedulers[0].next_own().is_none());
-    Ok(())
+    drop(schedulers);
 }
 
 #[test]
-fn next_own_leaves_the_others_alone(rt: HostRuntime) -> Result<(), Fail> {
-    let alloc = rt.alloc();
-    let queue = RunQueue::open(alloc, 2)?;
-    own_alone::<Brand, _>(&rt, alloc, queue)
+fn next_own_leaves_the_others_alone(rt: HostRuntime) {
+    let queue = opened(&rt, rt.alloc(), 2);
+    own_alone::<Brand, _>(&rt, rt.alloc(), queue);
 }
 
 #[test]
-fn next_tries_the_others_in_rising_order(rt: HostRuntime) -> Result<(), Fail> {
-    let alloc = rt.alloc();
-    let queue = RunQueue::open(alloc, 4)?;
-    order_of_thefts::<Brand, _>(&rt, alloc, queue)
+fn next_tries_the_others_in_rising_order(rt: HostRuntime) {
+    let queue = opened(&rt, rt.alloc(), 4);
+    order_of_thefts::<Brand, _>(&rt, rt.alloc(), queue);
 }
 
 // Gives a process back. Under a refused growth it comes back whole, is still out, and can be given back again.
@@ -233,15 +271,11 @@ fn give_back<N: RunNaming, R: Abort>(rt: &R, scheduler: &mut AnyScheduler<N>, pr
 // Of `rt try --test --fail-alloc N`: 1 to 5 refuse the opening, which the test then tells. Then come the boxes of 300
 // processes, with the growths of the deque among them: in a `put`, and in a `give_back`, since one process is out while
 // the deque is full. The last refuse the memory of `gather`.
-fn grow<N: RunNaming, R: Abort>(
-    rt: &R,
-    alloc: Global,
-    queue: RunQueue<BoxedJob, BoxedSubsystem>,
-) -> Result<(), Fail>
+fn grow<N: RunNaming, R: Abort>(rt: &R, alloc: Global, queue: RunQueue<BoxedJob, BoxedSubsystem>)
     requires { AllAt (λ k id. id ≡ N.deque k) queue }
 {
-    let mut schedulers = queue.named::<N>(alloc)?;
-    let mut only = schedulers.pop().ok_or("one scheduler")?;
+    let mut schedulers = got(rt, MEMORY, queue.named::<N>(alloc));
+    let mut only = last_of(rt, &mut schedulers);
     for round in 0..150 {
         put_one(rt, alloc, &mut only, 2 * round);
         if let Some(process) = only.next() {
@@ -249,11 +283,27 @@ fn grow<N: RunNaming, R: Abort>(
             give_back(rt, &mut only, process);
         }
     }
-    schedulers.push(only)?;
+    let schedulers = with_one_more(rt, schedulers, only);
     let total = gather_all(rt, alloc, schedulers);
-    let found = (total.live, total.left.len());
-    same(rt, "what is live and left", found, (300, 300));
-    Ok(())
+    is_left(rt, total, 300);
+}
+
+// The schedulers, and one behind them.
+fn with_one_more<N: RunNaming>(
+    rt: &impl Abort,
+    schedulers: Vec<AnyScheduler<N>>,
+    last: AnyScheduler<N>,
+) -> Vec<AnyScheduler<N>> {
+    let mut schedulers = schedulers;
+    assert!(rt; schedulers.push(last).is_ok());
+    schedulers
+}
+
+// So many processes are live, and left in the deques.
+fn is_left<R: Abort>(rt: &R, total: LiveTotal<BoxedJob, BoxedSubsystem>, live: u64) {
+    let found = (total.live, total.left.len() as u64);
+    drop(total);
+    same(rt, "what is live and left", found, (live, live));
 }
 
 // Under a refused growth all schedulers come back, and the run queue can be taken apart again.
@@ -266,20 +316,16 @@ fn gather_all<N: RunNaming, R: Abort>(
     let back = match gather(alloc, schedulers) {
         Ok(total) => return total,
         Err(GatherFault::OutOfMemory(back)) => back,
-        Err(GatherFault::Missing(_)) => panic!(rt; "all schedulers are here"),
+        Err(_) => panic!(rt; "all schedulers are here"),
     };
     same(rt, "how many came back", back.len(), count);
-    let Ok(total) = gather(alloc, back) else {
-        panic!(rt; "there is memory now");
-    };
-    total
+    got(rt, MEMORY, gather(alloc, back))
 }
 
 #[test]
-fn nothing_is_lost_where_growth_is_refused(rt: HostRuntime) -> Result<(), Fail> {
-    let alloc = rt.alloc();
-    let queue = RunQueue::open(alloc, 1)?;
-    grow::<Brand, _>(&rt, alloc, queue)
+fn nothing_is_lost_where_growth_is_refused(rt: HostRuntime) {
+    let queue = opened(&rt, rt.alloc(), 1);
+    grow::<Brand, _>(&rt, rt.alloc(), queue);
 }
 
 // A process that was found ends, and a scheduler that is away is missed.
@@ -287,40 +333,46 @@ fn end_and_gather<N: RunNaming, R: Abort>(
     rt: &R,
     alloc: Global,
     queue: RunQueue<BoxedJob, BoxedSubsystem>,
-) -> Result<(), Fail>
+)
     requires { AllAt (λ k id. id ≡ N.deque k) queue }
 {
-    let mut schedulers = queue.named::<N>(alloc)?;
-    let away = schedulers.pop().ok_or("two schedulers")?;
-    let mut first = schedulers.pop().ok_or("two schedulers")?;
+    let (mut first, away) = two_of(rt, got(rt, MEMORY, queue.named::<N>(alloc)));
     put_all(rt, alloc, &mut first, 0, 2);
-    assert!(rt; first.share().ended < SHARE_LIMIT);
-    let Some(mut process) = first.next() else {
+    end_one(rt, &mut first);
+    let alone = with_one_more(rt, Vec::new(alloc), first);
+    let schedulers = with_one_more(rt, is_missed(rt, alloc, alone), away);
+    let total = gather_all(rt, alloc, schedulers);
+    is_left(rt, total, 1);
+}
+
+// One of its two processes is found, and ends.
+fn end_one<N: RunNaming, R: Abort>(rt: &R, scheduler: &mut AnyScheduler<N>) {
+    assert!(rt; scheduler.share().ended < SHARE_LIMIT);
+    let Some(mut process) = scheduler.next() else {
         panic!(rt; "two were put");
     };
     assert!(rt; process.take_table().is_some());
-    match process.retire() {
-        Ok(spent) => first.finish(spent),
-        Err(_) => panic!(rt; "its table is gone"),
-    }
+    scheduler.finish(got(rt, "its table is gone", process.retire()));
     let wanted = Share { begun: 2, ended: 1 };
-    same(rt, "the share", first.share(), wanted);
-    schedulers.push(first)?;
-    let mut schedulers = match gather(alloc, schedulers) {
+    same(rt, "the share", scheduler.share(), wanted);
+}
+
+// The run queue isn't taken apart with this scheduler alone, which comes back.
+fn is_missed<N: RunNaming, R: Abort>(
+    rt: &R,
+    alloc: Global,
+    alone: Vec<AnyScheduler<N>>,
+) -> Vec<AnyScheduler<N>> {
+    let back = match gather(alloc, alone) {
         Err(GatherFault::Missing(schedulers)) => schedulers,
         _ => panic!(rt; "one is away"),
     };
-    same(rt, "how many came back", schedulers.len(), 1);
-    schedulers.push(away)?;
-    let total = gather_all(rt, alloc, schedulers);
-    let found = (total.live, total.left.len());
-    same(rt, "what is live and left", found, (1, 1));
-    Ok(())
+    same(rt, "how many came back", back.len(), 1);
+    back
 }
 
 #[test]
-fn missing_scheduler_is_told_and_an_end_is_counted(rt: HostRuntime) -> Result<(), Fail> {
-    let alloc = rt.alloc();
-    let queue = RunQueue::open(alloc, 2)?;
-    end_and_gather::<Brand, _>(&rt, alloc, queue)
+fn missing_scheduler_is_told_and_an_end_is_counted(rt: HostRuntime) {
+    let queue = opened(&rt, rt.alloc(), 2);
+    end_and_gather::<Brand, _>(&rt, rt.alloc(), queue);
 }

@@ -1,9 +1,9 @@
 // Calls of a supervisor in a running tree, by a leader.
-ghost use Rattle.std.specs.Prelude.{◌≡◌, ◌<◌, ◌≤◌, false, length, IfOk};
+ghost use Rattle.std.specs.Prelude.{◌≡◌, ◌<◌, ◌≤◌, false, length};
 ghost use Rattle.otp_run.specs.Rule.{all_parts};
 
 use crate::drafts::{Draft, both};
-use crate::fixtures::{Still, closed, same};
+use crate::fixtures::{Counter, MEMORY, Still, closed, counter, got, same};
 use otp_bridge::BoxedSubsystem;
 use otp_job::{Body, Job, TableNo, Told, Turn};
 use otp_reason::{Name, Note, Reason, Started, Text};
@@ -15,16 +15,15 @@ use otp_tree::{
 };
 use std::alloc::{AllocError, Global};
 use std::process::Abort;
-use std::sync::atomic::{AtomicU64, Ordering};
+use std::sync::atomic::Ordering;
 use std::sync::{Arc, Wait};
-use std::test::*;
 use std::thread::Threads;
 
 // A worker that counts its starts, crashes where a crash is wanted, and works on else.
 #[derive(Drop)]
 struct Fragile {
-    wanted: Arc<AtomicU64>,
-    starts: Arc<AtomicU64>,
+    wanted: Counter,
+    starts: Counter,
 }
 
 impl Job for Fragile {
@@ -51,7 +50,7 @@ type Plan = TablePlan<Fragile, BoxedSubsystem>;
 
 type FragileBody = Body<Fragile, BoxedSubsystem>;
 
-fn make_worker(wanted: &Arc<AtomicU64>, starts: &Arc<AtomicU64>) -> Result<Fragile, AllocError> {
+fn make_worker(wanted: &Counter, starts: &Counter) -> Result<Fragile, AllocError> {
     Ok(Fragile {
         wanted: Arc::try_clone(wanted)?,
         starts: Arc::try_clone(starts)?,
@@ -59,24 +58,19 @@ fn make_worker(wanted: &Arc<AtomicU64>, starts: &Arc<AtomicU64>) -> Result<Fragi
 }
 
 // The root has the supervisor `sub`, which bears no restart and has the worker `x`.
-fn plans(alloc: Global, wanted: &Arc<AtomicU64>, starts: &Arc<AtomicU64>) -> Result<Vec<Plan>, Fail>
-    ensures { IfOk result (λ plans. length plans.items ≡ 2) }
+fn plans(rt: &impl Abort, alloc: Global, wanted: &Counter, starts: &Counter) -> Vec<Plan>
+    ensures { length result.items ≡ 2 }
 {
     let mut root = Draft::new(alloc);
-    let filled = root.add_supervisor(b"sub", 1);
-    let root = root.filled(filled, SupFlags::default())?;
-    both(alloc, root, plan_sub(alloc, wanted, starts))
-}
-
-fn plan_sub(alloc: Global, wanted: &Arc<AtomicU64>, starts: &Arc<AtomicU64>) -> Result<Plan, Fail> {
-    let worker = make_worker(wanted, starts)?;
+    root.add_supervisor(rt, b"sub", 1);
+    let root = root.plan(rt, SupFlags::default());
     let mut sub = Draft::new(alloc);
-    let filled = sub.add_worker(b"x", worker);
+    sub.add_worker(rt, b"x", got(rt, MEMORY, make_worker(wanted, starts)));
     let flags = SupFlags {
         intensity: 0,
         ..SupFlags::default()
     };
-    sub.filled(filled, flags)
+    both(rt, alloc, root, sub.plan(rt, flags))
 }
 
 // Turns of a round. Where hands wait for each other they may be spent on nothing, so the leader asks for another round until
@@ -105,9 +99,9 @@ enum Step {
 // before and after.
 #[derive(Drop)]
 struct Adder {
-    wanted: Arc<AtomicU64>,
+    wanted: Counter,
     // How many starts of workers there were.
-    starts: Arc<AtomicU64>,
+    starts: Counter,
     step: Step,
     // The call whose answer is still to come.
     unanswered: Option<CallId>,
@@ -298,17 +292,12 @@ fn check_told<R: Abort>(rt: &R, root: &TableReport) {
     assert!(rt; is_asked);
 }
 
-fn call_with<R: Threads + Wait + Abort + Sync>(
-    rt: &R,
-    alloc: Global,
-    hands: usize,
-) -> Result<(), Fail>
+fn call_with<R: Threads + Wait + Abort + Sync>(rt: &R, alloc: Global, hands: usize)
     requires some { 0 < hands }
     requires few { hands ≤ all_parts }
 {
-    let wanted = Arc::new(alloc, AtomicU64::new(0))?;
-    let starts = Arc::new(alloc, AtomicU64::new(0))?;
-    let plans = plans(alloc, &wanted, &starts)?;
+    let (wanted, starts) = (counter(rt, alloc), counter(rt, alloc));
+    let plans = plans(rt, alloc, &wanted, &starts);
     let leader = Adder {
         wanted,
         starts,
@@ -322,26 +311,24 @@ fn call_with<R: Threads + Wait + Abort + Sync>(
         unsent: 0,
         end: None,
     };
-    let Led { leader, report } = match lead(rt, alloc, plans, hands, &Still, ROUNDS, leader) {
-        Ok(led) => led,
-        Err(_why) => return Err("the tree was refused".into()),
-    };
+    let led = lead(rt, alloc, plans, hands, &Still, ROUNDS, leader);
+    let Led { leader, report } = got(rt, "the tree was refused", led);
     check(rt, &leader);
     drop(leader);
-    let report = closed(report)?;
-    let checked = check_report(rt, &report);
+    let report = closed(rt, report);
+    check_report(rt, &report);
     drop(report);
-    checked
 }
 
-fn check_report<R: Abort>(rt: &R, report: &Report<Fragile, BoxedSubsystem>) -> Result<(), Fail> {
-    let root = report.tables.first().ok_or("a root")?;
-    check_told(rt, root);
-    Ok(())
+fn check_report<R: Abort>(rt: &R, report: &Report<Fragile, BoxedSubsystem>) {
+    match report.tables.first() {
+        Some(root) => check_told(rt, root),
+        None => panic!(rt; "a root"),
+    }
 }
 
 #[test]
-fn a_child_that_a_call_added_is_gone_after_a_restart(rt: HostRuntime) -> Result<(), Fail> {
-    call_with(&rt, rt.alloc(), 1)?;
-    call_with(&rt, rt.alloc(), 2)
+fn a_child_that_a_call_added_is_gone_after_a_restart(rt: HostRuntime) {
+    call_with(&rt, rt.alloc(), 1);
+    call_with(&rt, rt.alloc(), 2);
 }

@@ -1,9 +1,9 @@
 // Trees of which a report is taken: a small one, and one of as many supervisors as there may be, each with as many children.
-ghost use Rattle.std.specs.Prelude.{◌≡◌, ◌<◌, ◌≤◌, false, length, IfOk};
+ghost use Rattle.std.specs.Prelude.{◌≡◌, ◌<◌, ◌≤◌, false, length};
 ghost use Rattle.otp_run.specs.Rule.{all_parts};
 
-use crate::drafts::Draft;
-use crate::fixtures::{Still, closed, ran, same};
+use crate::drafts::{Draft, one};
+use crate::fixtures::{MEMORY, Still, closed, got, ran, same};
 use otp_bridge::BoxedSubsystem;
 use otp_job::{Job, Told, Turn};
 use otp_reason::{Note, Reason, Started};
@@ -12,11 +12,10 @@ use otp_spec::{MAX_TABLES, SupFlags};
 use otp_tree::{
     CallEnd, CallRequest, Gate, Leader, Led, Report, Round, TablePlan, TableReport, lead, run_tree,
 };
-use std::alloc::{AllocError, Global};
+use std::alloc::Global;
 use std::process::Abort;
 use std::sync::Wait;
 use std::sync::atomic::{AtomicU64, Ordering};
-use std::test::*;
 use std::thread::Threads;
 
 // Works on until its supervisor ends it.
@@ -44,65 +43,43 @@ type Plan = TablePlan<Steady, BoxedSubsystem>;
 const DIGITS: [u8; 16] = *b"0123456789abcdef";
 
 // A supervisor of 256 children, of which the first are supervisors, so many.
-fn full_plan(alloc: Global, nested: usize) -> Result<Plan, Fail> {
+fn full_plan(rt: &impl Abort, alloc: Global, nested: usize) -> Plan {
     let mut draft = Draft::new(alloc);
-    let filled = fill(&mut draft, nested);
-    draft.filled(filled, SupFlags::default())
-}
-
-fn fill(draft: &mut Draft<Steady>, nested: usize) -> Result<(), Fail> {
-    for high in DIGITS {
-        for low in DIGITS {
+    for high in &DIGITS {
+        for low in &DIGITS {
             let table = draft.len().saturating_add(1);
             if table <= nested {
-                draft.add_supervisor(&[high, low], table)?;
+                draft.add_supervisor(rt, &[*high, *low], table);
             } else {
-                draft.add_worker(&[high, low], Steady)?;
+                draft.add_worker(rt, &[*high, *low], Steady);
             }
         }
     }
-    Ok(())
+    draft.plan(rt, SupFlags::default())
 }
 
 // As many supervisors as there may be, each with 256 children.
-fn full_plans(alloc: Global) -> Result<Vec<Plan>, Fail> {
+fn full_plans(rt: &impl Abort, alloc: Global) -> Vec<Plan> {
     let mut plans = Vec::new(alloc);
-    match add_plans(alloc, &mut plans) {
-        Ok(()) => Ok(plans),
-        Err(fault) => {
-            drop(plans);
-            Err(fault)
-        }
-    }
-}
-
-fn add_plans(alloc: Global, plans: &mut Vec<Plan>) -> Result<(), Fail> {
-    plans.push(full_plan(alloc, MAX_TABLES - 1)?)?;
+    got(rt, MEMORY, plans.push(full_plan(rt, alloc, MAX_TABLES - 1)));
     for _ in 1..MAX_TABLES {
-        plans.push(full_plan(alloc, 0)?)?;
+        got(rt, MEMORY, plans.push(full_plan(rt, alloc, 0)));
     }
-    Ok(())
+    plans
 }
 
 // So few turns of all hands together leave most children unstarted, and most of those that were started unended.
-fn close_full<R: Threads + Wait + Abort + Sync>(
-    rt: &R,
-    alloc: Global,
-    hands: usize,
-) -> Result<(), Fail>
+fn close_full<R: Threads + Wait + Abort + Sync>(rt: &R, alloc: Global, hands: usize)
     requires some { 0 < hands }
     requires few { hands ≤ all_parts }
 {
-    let plans = full_plans(alloc)?;
-    if plans.len() > 64 {
-        return Err("more supervisors than a tree may have".into());
-    }
+    let plans = full_plans(rt, alloc);
+    assert!(rt; plans.len() <= 64);
     let turns = 20_000 / hands as u64;
-    let report = ran(run_tree(rt, alloc, plans, hands, &Still, turns))?;
+    let report = ran(rt, run_tree(rt, alloc, plans, hands, &Still, turns));
     check_open(rt, &report);
-    let checked = check_numbers(rt, alloc, &report);
+    check_numbers(rt, alloc, &report);
     drop(report);
-    checked
 }
 
 fn check_open<R: Abort>(rt: &R, report: &Report<Steady, BoxedSubsystem>) {
@@ -186,64 +163,69 @@ fn ends_in(items: &[Item]) -> u64 {
 }
 
 // 1 is the root's number. Each of the next was given to one child of one supervisor, and no other number to any.
-fn check_numbers<R: Abort>(
-    rt: &R,
-    alloc: Global,
-    report: &Report<Steady, BoxedSubsystem>,
-) -> Result<(), Fail> {
-    let mut given = Vec::new(alloc);
-    for _ in 0..=report.begun {
-        given.push(false)?;
-    }
+fn check_numbers<R: Abort>(rt: &R, alloc: Global, report: &Report<Steady, BoxedSubsystem>) {
+    let count = report.begun.saturating_add(1) as usize;
+    let mut given = got(rt, MEMORY, Vec::from_elem(alloc, false, count));
     for table in report.tables.as_slice() {
-        let history = table.core.history();
-        for place in 0..history.len() {
-            if let Some(number) = history.get(place).number {
-                let mark = given.get_mut(number as usize).ok_or("a number in turn")?;
-                assert!(rt; number > 1 && !*mark);
-                *mark = true;
-            }
+        marks_all(rt, given.as_mut_slice(), table);
+    }
+}
+
+// Marks the numbers that a supervisor gave, which none has given before.
+fn marks_all<R: Abort>(rt: &R, given: &mut [bool], table: &TableReport) {
+    let history = table.core.history();
+    for place in 0..history.len() {
+        if let Some(number) = history.get(place).number {
+            marks_one(rt, given, number);
         }
     }
-    Ok(())
+}
+
+fn marks_one(rt: &impl Abort, given: &mut [bool], number: u64) {
+    assert!(rt; number > 1);
+    match given.get_mut(number as usize) {
+        Some(mark) => {
+            assert!(rt; !*mark);
+            *mark = true;
+        }
+        None => panic!(rt; "a number in turn"),
+    }
 }
 
 #[test]
-fn full_trees_are_closed(rt: HostRuntime) -> Result<(), Fail> {
-    close_full(&rt, rt.alloc(), 1)?;
-    close_full(&rt, rt.alloc(), 2)?;
-    close_full(&rt, rt.alloc(), 4)?;
-    close_full(&rt, rt.alloc(), 8)
+fn full_trees_are_closed(rt: HostRuntime) {
+    close_full(&rt, rt.alloc(), 1);
+    close_full(&rt, rt.alloc(), 2);
+    close_full(&rt, rt.alloc(), 4);
+    close_full(&rt, rt.alloc(), 8);
 }
 
 // Three steady workers under one supervisor.
-fn small_plans(alloc: Global) -> Result<Vec<Plan>, Fail>
-    ensures { IfOk result (λ plans. length plans.items ≤ 64) }
+fn small_plans(rt: &impl Abort, alloc: Global) -> Vec<Plan>
+    ensures { length result.items ≡ 1 }
 {
     let mut draft = Draft::new(alloc);
-    let filled = fill_small(&mut draft);
-    let plan = draft.filled(filled, SupFlags::default())?;
-    let Ok(mut plans) = Vec::with_capacity(alloc, 1) else {
-        drop(plan);
-        return Err(AllocError.into());
-    };
-    plans.push_reserved(plan);
-    Ok(plans)
+    draft.add_worker(rt, b"a", Steady);
+    draft.add_worker(rt, b"b", Steady);
+    draft.add_worker(rt, b"c", Steady);
+    one(rt, alloc, draft.plan(rt, SupFlags::default()))
 }
 
-fn fill_small(draft: &mut Draft<Steady>) -> Result<(), Fail> {
-    draft.add_worker(b"a", Steady)?;
-    draft.add_worker(b"b", Steady)?;
-    draft.add_worker(b"c", Steady)
+// The report of three steady workers that one hand serves, so many turns before the stop and as many after it.
+fn run_small<R: Threads + Wait + Abort + Sync>(
+    rt: &R,
+    alloc: Global,
+    turns: u64,
+) -> Report<Steady, BoxedSubsystem> {
+    let plans = small_plans(rt, alloc);
+    ran(rt, run_tree(rt, alloc, plans, 1, &Still, turns))
 }
 
 #[test]
-fn a_report_counts_starts_events_and_processes(rt: HostRuntime) -> Result<(), Fail> {
-    let plans = small_plans(rt.alloc())?;
-    let report = ran(run_tree(&rt, rt.alloc(), plans, 1, &Still, 1000))?;
+fn a_report_counts_starts_events_and_processes(rt: HostRuntime) {
+    let report = run_small(&rt, rt.alloc(), 1000);
     check_small(&rt, &report);
     drop(report);
-    Ok(())
 }
 
 // What the report tells of them: opened, three starts and three answers, and the stop with three ends.
@@ -268,31 +250,27 @@ fn check_small_root(rt: &impl Abort, table: &TableReport) {
 }
 
 // The supervisor's turn started the first worker, and the second turn was the worker's.
-fn has_answer_left<R: Abort>(rt: &R, report: &Report<Steady, BoxedSubsystem>) -> Result<(), Fail> {
-    let root = report.tables.first().ok_or("a supervisor")?;
+fn has_answer_left<R: Abort>(rt: &R, report: &Report<Steady, BoxedSubsystem>) {
     let up = [Item::Note(Note::Up(2))];
-    same(rt, "what it left", root.left.as_slice(), up.as_slice());
-    Ok(())
+    match report.tables.first() {
+        Some(root) => same(rt, "what it left", root.left.as_slice(), up.as_slice()),
+        None => panic!(rt; "a supervisor"),
+    }
 }
 
 #[test]
-fn trees_that_are_closed_early_tell_what_is_left(rt: HostRuntime) -> Result<(), Fail> {
+fn trees_that_are_closed_early_tell_what_is_left(rt: HostRuntime) {
+    let report = run_small(&rt, rt.alloc(), 1);
+    has_answer_left(&rt, &report);
+    drop(report);
     let mut left: u64 = 0;
     for turns in 1..20 {
-        let plans = small_plans(rt.alloc())?;
-        let report = ran(run_tree(&rt, rt.alloc(), plans, 1, &Still, turns))?;
+        let report = run_small(&rt, rt.alloc(), turns);
         check_accounts(&rt, &report);
         left = left.saturating_add(count_left(&report));
-        let checked = if turns == 1 {
-            has_answer_left(&rt, &report)
-        } else {
-            Ok(())
-        };
         drop(report);
-        checked?;
     }
     assert!(rt; left > 0);
-    Ok(())
 }
 
 // Serves until all children have started, calls the supervisor, and leaves without another turn.
@@ -324,27 +302,27 @@ impl Leader<Steady, BoxedSubsystem> for CallsLate {
 }
 
 // What the report of such a run tells.
-fn has_call_left<R: Abort>(rt: &R, report: &Report<Steady, BoxedSubsystem>) -> Result<(), Fail> {
-    let root = report.tables.first().ok_or("a supervisor")?;
-    let left = root.left.as_slice();
-    assert!(rt; matches!(left, [Item::Call(_, Call::WhichChildren)]));
+fn has_call_left<R: Abort>(rt: &R, report: &Report<Steady, BoxedSubsystem>) {
+    let left = match report.tables.first() {
+        Some(root) => matches!(root.left.as_slice(), [Item::Call(_, Call::WhichChildren)]),
+        None => false,
+    };
+    assert!(rt; left);
     let told = (report.last.len(), report.live);
     same(rt, "what is left and live", told, (0, 4));
-    Ok(())
 }
 
 #[test]
-fn a_call_that_nobody_took_is_left(rt: HostRuntime) -> Result<(), Fail> {
-    let plans = small_plans(rt.alloc())?;
+fn a_call_that_nobody_took_is_left(rt: HostRuntime) {
+    let plans = small_plans(&rt, rt.alloc());
     let leader = CallsLate { is_up: false };
-    let Ok(Led { leader, report }) = lead(&rt, rt.alloc(), plans, 2, &Still, 1000, leader) else {
-        return Err("the tree was refused".into());
-    };
+    let led = lead(&rt, rt.alloc(), plans, 2, &Still, 1000, leader);
+    let Led { leader, report } = got(&rt, "the tree was refused", led);
     assert!(rt; leader.is_up);
-    let report = closed(report)?;
-    let checked = has_call_left(&rt, &report);
+    drop(leader);
+    let report = closed(&rt, report);
+    has_call_left(&rt, &report);
     drop(report);
-    checked
 }
 
 // What a gate was told of a run: how often, the turns made and those in all as told last, the children that were up
@@ -387,11 +365,11 @@ fn listen<R: Threads + Wait + Abort + Sync>(
     alloc: Global,
     hands: usize,
     turns: u64,
-) -> Result<Listener, Fail>
+) -> Listener
     requires some { 0 < hands }
     requires few { hands ≤ all_parts }
 {
-    let plans = small_plans(alloc)?;
+    let plans = small_plans(rt, alloc);
     let listener = Listener {
         calls: AtomicU64::new(0),
         made: AtomicU64::new(0),
@@ -399,39 +377,34 @@ fn listen<R: Threads + Wait + Abort + Sync>(
         live: AtomicU64::new(0),
         idle: AtomicU64::new(0),
     };
-    let ran = run_tree(rt, alloc, plans, hands, &listener, turns);
-    assert!(rt; ran.is_ok());
-    Ok(listener)
+    let report = ran(rt, run_tree(rt, alloc, plans, hands, &listener, turns));
+    drop(report);
+    listener
 }
 
 #[test]
-fn a_gate_is_told_how_far_a_run_is(rt: HostRuntime) -> Result<(), Fail> {
-    let listener = listen(&rt, rt.alloc(), 2, 60_000)?;
+fn a_gate_is_told_how_far_a_run_is(rt: HostRuntime) {
+    let listener = listen(&rt, rt.alloc(), 2, 60_000);
     has_heard(&rt, &listener);
-    Ok(())
 }
 
 #[test]
-fn a_gate_is_told_of_no_idle_turn_while_workers_work(rt: HostRuntime) -> Result<(), Fail> {
-    let listener = listen(&rt, rt.alloc(), 1, 1_000)?;
-    same(
-        &rt,
-        "the idle turns",
-        listener.idle.load(Ordering::SeqCst),
-        0,
-    );
-    same(&rt, "the children", listener.live.load(Ordering::SeqCst), 3);
-    Ok(())
+fn a_gate_is_told_of_no_idle_turn_while_workers_work(rt: HostRuntime) {
+    let listener = listen(&rt, rt.alloc(), 1, 1_000);
+    let idle = listener.idle.load(Ordering::SeqCst);
+    same(&rt, "the idle turns", idle, 0);
+    let live = listener.live.load(Ordering::SeqCst);
+    same(&rt, "the children", live, 3);
 }
 
 // It was called four times, the last time at the end, and saw three children.
 fn has_heard(rt: &impl Abort, listener: &Listener) {
-    for (what, told, wanted) in [
-        ("the calls", &listener.calls, 4),
-        ("the turns that were made", &listener.made, 120_000),
-        ("the turns in all", &listener.of, 120_000),
-        ("the children", &listener.live, 3),
-    ] {
-        same(rt, what, told.load(Ordering::SeqCst), wanted);
-    }
+    is_told(rt, "the calls", &listener.calls, 4);
+    is_told(rt, "the turns that were made", &listener.made, 120_000);
+    is_told(rt, "the turns in all", &listener.of, 120_000);
+    is_told(rt, "the children", &listener.live, 3);
+}
+
+fn is_told(rt: &impl Abort, what: &str, told: &AtomicU64, wanted: u64) {
+    same(rt, what, told.load(Ordering::SeqCst), wanted);
 }

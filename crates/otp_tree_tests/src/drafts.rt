@@ -1,16 +1,25 @@
 //! What a supervisor of a test's tree is made of, child by child.
 //!
-//! A draft is filled where it is lent ([`Draft::filled`]), and plans are put together here, so that no test has an exit beside
-//! one of its own: the drop of a draft or a plan at an exit is walked by the prover, each time.
+//! Where a child isn't taken the test stops, so that it has no exit beside a draft or a plan: the drop of one at an exit is
+//! walked by the prover, each time.
 
-ghost use Rattle.std.specs.Prelude.{◌≡◌, length, IfOk};
+ghost use Rattle.std.specs.Prelude.{◌≡◌, length};
 
+use crate::fixtures::{MEMORY, got};
 use otp_bridge::BoxedSubsystem;
+use otp_job::Body;
 use otp_reason::Name;
-use otp_spec::SupFlags;
-use otp_tree::{TableDraft, TablePlan, Unplanned};
-use std::alloc::{AllocError, Global};
-use std::test::*;
+use otp_spec::{ChildSpec, Restart, SupFlags};
+use otp_tree::{TableDraft, TablePlan};
+use std::alloc::Global;
+use std::process::Abort;
+
+fn named(rt: &impl Abort, id: &[u8]) -> Name {
+    match Name::new(id) {
+        Some(id) => id,
+        None => panic!(rt; "a name"),
+    }
+}
 
 /// What a supervisor of a test's tree is made of, child by child.
 #[derive(Drop)]
@@ -30,69 +39,59 @@ impl<J: Drop> Draft<J> {
         self.children.len()
     }
 
-    pub fn add_worker(&mut self, id: &[u8], job: J) -> Result<(), Fail> {
-        let id = Name::new(id).ok_or("a name")?;
-        self.children.add_worker(id, job).map_err(|_| AllocError)?;
-        Ok(())
+    pub fn add_worker(&mut self, rt: &impl Abort, id: &[u8], job: J) {
+        let id = named(rt, id);
+        got(rt, MEMORY, self.children.add_worker(id, job));
+    }
+
+    /// Adds a worker that isn't started again.
+    pub fn add_temporary(&mut self, rt: &impl Abort, id: &[u8], job: J) {
+        let id = named(rt, id);
+        let mut spec = ChildSpec::new(id, id);
+        spec.restart = Restart::Temporary;
+        got(rt, MEMORY, self.children.add(spec, Body::Worker(job)));
     }
 
     /// Adds a child that is the supervisor of this number.
-    pub fn add_supervisor(&mut self, id: &[u8], table: usize) -> Result<(), Fail> {
-        let id = Name::new(id).ok_or("a name")?;
-        self.children.add_supervisor(id, table)?;
-        Ok(())
-    }
-
-    /// The plan of a supervisor with default flags.
-    pub fn plan(self) -> Result<TablePlan<J, BoxedSubsystem>, Fail> {
-        self.plan_with(SupFlags::default())
-    }
-
-    /// The plan of a supervisor with these flags, once the draft was filled.
-    pub fn filled(
-        self,
-        filled: Result<(), Fail>,
-        flags: SupFlags,
-    ) -> Result<TablePlan<J, BoxedSubsystem>, Fail> {
-        match filled {
-            Ok(()) => self.plan_with(flags),
-            Err(fault) => {
-                drop(self);
-                Err(fault)
-            }
-        }
+    pub fn add_supervisor(&mut self, rt: &impl Abort, id: &[u8], table: usize) {
+        let id = named(rt, id);
+        got(rt, MEMORY, self.children.add_supervisor(id, table));
     }
 
     /// The plan of a supervisor with these flags.
-    pub fn plan_with(self, flags: SupFlags) -> Result<TablePlan<J, BoxedSubsystem>, Fail> {
-        match self.children.plan(flags) {
-            Ok(plan) => Ok(plan),
-            Err(Unplanned { fault, draft: _ }) => Err(fault.into()),
-        }
+    pub fn plan(self, rt: &impl Abort, flags: SupFlags) -> TablePlan<J, BoxedSubsystem> {
+        got(rt, "a lawful plan", self.children.plan(flags))
     }
+}
+
+/// The plans of a tree of one supervisor.
+pub fn one<J: Drop>(
+    rt: &impl Abort,
+    alloc: Global,
+    root: TablePlan<J, BoxedSubsystem>,
+) -> Vec<TablePlan<J, BoxedSubsystem>>
+    ensures { length result.items ≡ 1 }
+{
+    let Ok(mut plans) = Vec::with_capacity(alloc, 1) else {
+        panic!(rt; "there is memory");
+    };
+    plans.push_reserved(root);
+    plans
 }
 
 /// The plans of a tree of two supervisors.
 pub fn both<J: Drop>(
+    rt: &impl Abort,
     alloc: Global,
     root: TablePlan<J, BoxedSubsystem>,
-    sub: Result<TablePlan<J, BoxedSubsystem>, Fail>,
-) -> Result<Vec<TablePlan<J, BoxedSubsystem>>, Fail>
-    ensures { IfOk result (λ plans. length plans.items ≡ 2) }
+    sub: TablePlan<J, BoxedSubsystem>,
+) -> Vec<TablePlan<J, BoxedSubsystem>>
+    ensures { length result.items ≡ 2 }
 {
-    let sub = match sub {
-        Ok(sub) => sub,
-        Err(fault) => {
-            drop(root);
-            return Err(fault);
-        }
-    };
     let Ok(mut plans) = Vec::with_capacity(alloc, 2) else {
-        drop(root);
-        drop(sub);
-        return Err(AllocError.into());
+        panic!(rt; "there is memory");
     };
     plans.push_reserved(root);
     plans.push_reserved(sub);
-    Ok(plans)
+    plans
 }

@@ -1,8 +1,8 @@
 // Trees that live longer than any history: more events than one holds, until a stop.
-ghost use Rattle.std.specs.Prelude.{◌≡◌, false, length, IfOk};
+ghost use Rattle.std.specs.Prelude.{◌≡◌, false, length};
 
 use crate::drafts::{Draft, both};
-use crate::fixtures::{closed, same};
+use crate::fixtures::{Counter, again, closed, counter, got, same};
 use otp_bridge::BoxedSubsystem;
 use otp_job::{Job, Told, Turn};
 use otp_reason::{Note, Reason, Started, Text};
@@ -11,14 +11,11 @@ use otp_spec::SupFlags;
 use otp_tree::{
     CallEnd, CallId, CallRequest, Gate, Leader, Led, Report, Round, TablePlan, TableReport, lead,
 };
-use std::alloc::{AllocError, Global};
+use std::alloc::Global;
 use std::process::Abort;
+use std::sync::Wait;
 use std::sync::atomic::{AtomicU64, Ordering};
-use std::sync::{Arc, Wait};
-use std::test::*;
 use std::thread::Threads;
-
-type Counter = Arc<AtomicU64>;
 
 // A worker that counts its starts. It works on for ever, or crashes in the first turn of each of its lives.
 #[derive(Drop)]
@@ -70,9 +67,9 @@ struct Storm {
 
 type Plan = TablePlan<Flame, BoxedSubsystem>;
 
-fn make_worker(starts: &Counter, crashes: bool) -> Result<Flame, AllocError> {
-    let starts = Arc::try_clone(starts)?;
-    Ok(Flame { starts, crashes })
+fn make_worker(rt: &impl Abort, starts: &Counter, crashes: bool) -> Flame {
+    let starts = again(rt, starts);
+    Flame { starts, crashes }
 }
 
 // The flags of a supervisor that bears so many restarts in a second.
@@ -85,25 +82,22 @@ fn flags_of(intensity: u64) -> SupFlags {
 }
 
 // The root has the worker `a`, which crashes where it is to start more than once, and the supervisor `sub` with the worker `b`.
-fn plans(alloc: Global, storm: Storm, starts: &Counter, nested: &Counter) -> Result<Vec<Plan>, Fail>
-    ensures { IfOk result (λ plans. length plans.items ≡ 2) }
+fn plans(
+    rt: &impl Abort,
+    alloc: Global,
+    storm: Storm,
+    starts: &Counter,
+    nested: &Counter,
+) -> Vec<Plan>
+    ensures { length result.items ≡ 2 }
 {
     let mut root = Draft::new(alloc);
-    let filled = fill_root(&mut root, starts, storm.root > 1);
-    let root = root.filled(filled, flags_of(1_000))?;
-    both(alloc, root, plan_sub(alloc, storm, nested))
-}
-
-fn fill_root(root: &mut Draft<Flame>, starts: &Counter, crashes: bool) -> Result<(), Fail> {
-    root.add_worker(b"a", make_worker(starts, crashes)?)?;
-    root.add_supervisor(b"sub", 1)
-}
-
-fn plan_sub(alloc: Global, storm: Storm, nested: &Counter) -> Result<Plan, Fail> {
-    let worker = make_worker(nested, true)?;
+    root.add_worker(rt, b"a", make_worker(rt, starts, storm.root > 1));
+    root.add_supervisor(rt, b"sub", 1);
+    let root = root.plan(rt, flags_of(1_000));
     let mut sub = Draft::new(alloc);
-    let filled = sub.add_worker(b"b", worker);
-    sub.filled(filled, flags_of(storm.intensity))
+    sub.add_worker(rt, b"b", make_worker(rt, nested, true));
+    both(rt, alloc, root, sub.plan(rt, flags_of(storm.intensity)))
 }
 
 // Turns of a round: enough for an answer, with one hand.
@@ -217,14 +211,9 @@ fn check<R: Abort>(rt: &R, report: &Report<Flame, BoxedSubsystem>, storm: Storm)
     assert!(rt; report.find_mismatch().is_none());
 }
 
-fn outlive<R: Threads + Wait + Abort + Sync>(
-    rt: &R,
-    alloc: Global,
-    storm: Storm,
-) -> Result<(), Fail> {
-    let starts: Counter = Arc::new(alloc, AtomicU64::new(0))?;
-    let nested: Counter = Arc::new(alloc, AtomicU64::new(0))?;
-    let plans = plans(alloc, storm, &starts, &nested)?;
+fn outlive<R: Threads + Wait + Abort + Sync>(rt: &R, alloc: Global, storm: Storm) {
+    let (starts, nested) = (counter(rt, alloc), counter(rt, alloc));
+    let plans = plans(rt, alloc, storm, &starts, &nested);
     let leader = Weather {
         storm,
         starts,
@@ -237,15 +226,13 @@ fn outlive<R: Threads + Wait + Abort + Sync>(
     let clock = Ticking {
         now: AtomicU64::new(0),
     };
-    let Ok(Led { leader, report }) = lead(rt, alloc, plans, 1, &clock, 1_000_000, leader) else {
-        return Err("the tree was refused".into());
-    };
+    let led = lead(rt, alloc, plans, 1, &clock, 1_000_000, leader);
+    let Led { leader, report } = got(rt, "the tree was refused", led);
     check_leader(rt, &leader);
     drop(leader);
-    let report = closed(report)?;
+    let report = closed(rt, report);
     check(rt, &report, storm);
     drop(report);
-    Ok(())
 }
 
 // The root answered its call before the storm, and that is gone where it made a checkpoint since; it ended as it was asked to.
@@ -258,22 +245,22 @@ fn check_leader(rt: &impl Abort, leader: &Weather) {
 
 // A worker of each supervisor crashes in each of its turns: two events for each restart.
 #[test]
-fn a_tree_outlives_its_histories(rt: HostRuntime) -> Result<(), Fail> {
+fn a_tree_outlives_its_histories(rt: HostRuntime) {
     let storm = Storm {
         root: 33_000,
         sub: 33_000,
         intensity: 1_000,
     };
-    outlive(&rt, rt.alloc(), storm)
+    outlive(&rt, rt.alloc(), storm);
 }
 
 // `sub` bears no restart, so that it ends with each crash: three events for each of its lives, two of them told the root.
 #[test]
-fn ends_that_a_checkpoint_dropped_are_no_mismatch(rt: HostRuntime) -> Result<(), Fail> {
+fn ends_that_a_checkpoint_dropped_are_no_mismatch(rt: HostRuntime) {
     let storm = Storm {
         root: 1,
         sub: 22_000,
         intensity: 0,
     };
-    outlive(&rt, rt.alloc(), storm)
+    outlive(&rt, rt.alloc(), storm);
 }

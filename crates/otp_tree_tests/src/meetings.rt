@@ -1,21 +1,18 @@
 // Two jobs that end well only where they run at once: several threads run them so, and one thread can't.
-ghost use Rattle.std.specs.Prelude.{◌≡◌, false, length, IfOk};
+ghost use Rattle.std.specs.Prelude.{◌≡◌, false, length};
 
-use crate::fixtures::{Still, ran, same};
+use crate::drafts::{Draft, one};
+use crate::fixtures::{Counter, Still, again, counter, ran, same};
 use otp_bridge::BoxedSubsystem;
-use otp_job::{Body, Job, Told, Turn};
-use otp_reason::{Name, Note, Reason, Started, Text};
+use otp_job::{Job, Told, Turn};
+use otp_reason::{Note, Reason, Started, Text};
 use otp_rules::{Item, Kind};
-use otp_spec::{ChildSpec, Restart, SupFlags, SupSpec};
+use otp_spec::SupFlags;
 use otp_tree::{Gate, Report, TablePlan, run_tree};
 use std::alloc::Global;
-use std::sync::Arc;
-use std::sync::atomic::{AtomicU64, Ordering};
-use std::test::*;
+use std::process::Abort;
+use std::sync::atomic::Ordering;
 use std::thread;
-
-// What two jobs see of each other.
-type Counter = Arc<AtomicU64>;
 
 // Works on until both have started. Then a turn holds until the other's has begun, or for so many looks.
 #[derive(Drop)]
@@ -67,32 +64,47 @@ impl Job for Meeting {
 
 type Plan = TablePlan<Meeting, BoxedSubsystem>;
 
-// One supervisor of two such jobs, which aren't started again, and the count of their starts.
-fn plans(alloc: Global, started: &Counter, looks: u64) -> Result<Vec<Plan>, Fail>
-    ensures { IfOk result (λ plans. length plans.items ≡ 1) }
-{
-    let alone = Text::new(b"alone").ok_or("a text")?;
-    let first: Counter = Arc::new(alloc, AtomicU64::new(0))?;
-    let second: Counter = Arc::new(alloc, AtomicU64::new(0))?;
-    let mut specs = Vec::new(alloc);
-    let mut bodies = Vec::new(alloc);
-    for (id, own, other) in [(b"a", &first, &second), (b"b", &second, &first)] {
-        let id = Name::new(id).ok_or("a name")?;
-        let mut spec = ChildSpec::new(id, id);
-        spec.restart = Restart::Temporary;
-        specs.push(spec)?;
-        bodies.push(Body::Worker(Meeting {
-            started: Arc::try_clone(started)?,
-            own: Arc::try_clone(own)?,
-            other: Arc::try_clone(other)?,
-            looks,
-            alone,
-        }))?;
+// Two jobs that look for each other, and the count of their starts.
+#[derive(Drop)]
+struct Pair {
+    started: Counter,
+    first: Counter,
+    second: Counter,
+    looks: u64,
+}
+
+fn make_pair(rt: &impl Abort, alloc: Global, started: &Counter, looks: u64) -> Pair {
+    Pair {
+        started: again(rt, started),
+        first: counter(rt, alloc),
+        second: counter(rt, alloc),
+        looks,
     }
-    let supervisor = SupSpec::check(SupFlags::default(), specs)?;
-    let mut plans = Vec::new(alloc);
-    plans.push(TablePlan { supervisor, bodies })?;
-    Ok(plans)
+}
+
+impl Pair {
+    // One of them, which has this count of turns, while the other has that.
+    fn job(&self, rt: &impl Abort, own: &Counter, other: &Counter) -> Meeting {
+        Meeting {
+            started: again(rt, &self.started),
+            own: again(rt, own),
+            other: again(rt, other),
+            looks: self.looks,
+            alone: Text::joined(b"alone", b""),
+        }
+    }
+}
+
+// One supervisor of two such jobs, which aren't started again, and the count of their starts.
+fn plans(rt: &impl Abort, alloc: Global, started: &Counter, looks: u64) -> Vec<Plan>
+    ensures { length result.items ≡ 1 }
+{
+    let pair = make_pair(rt, alloc, started, looks);
+    let mut draft = Draft::new(alloc);
+    draft.add_temporary(rt, b"a", pair.job(rt, &pair.first, &pair.second));
+    draft.add_temporary(rt, b"b", pair.job(rt, &pair.second, &pair.first));
+    drop(pair);
+    one(rt, alloc, draft.plan(rt, SupFlags::default()))
 }
 
 // The other hands make no turn before the first has started both jobs, or for so many looks.
@@ -136,23 +148,27 @@ fn ends_in(report: &Report<Meeting, BoxedSubsystem>) -> (u64, u64) {
 
 // There are three hands, so that one is idle where one of them has both jobs and another the supervisor: it steals a job.
 #[test]
-fn several_threads_run_two_jobs_at_once(rt: HostRuntime) -> Result<(), Fail> {
-    let started: Counter = Arc::new(rt.alloc(), AtomicU64::new(0))?;
-    let plans = plans(rt.alloc(), &started, 10_000_000)?;
+fn several_threads_run_two_jobs_at_once(rt: HostRuntime) {
+    let started = counter(&rt, rt.alloc());
+    let plans = plans(&rt, rt.alloc(), &started, 10_000_000);
     let doors = Doors { started };
-    let report = ran(run_tree(&rt, rt.alloc(), plans, 3, &doors, 20_000))?;
-    same(&rt, "the ends", ends_in(&report), (2, 0));
+    let report = run_tree(&rt, rt.alloc(), plans, 3, &doors, 20_000);
+    drop(doors);
+    end_so(&rt, ran(&rt, report), (2, 0));
+}
+
+// So many ended normally, and so many otherwise.
+fn end_so(rt: &impl Abort, report: Report<Meeting, BoxedSubsystem>, ends: (u64, u64)) {
+    same(rt, "the ends", ends_in(&report), ends);
     drop(report);
-    Ok(())
 }
 
 // The first holds in vain. The second sees that the first had its turn.
 #[test]
-fn one_thread_runs_one_job_at_a_time(rt: HostRuntime) -> Result<(), Fail> {
-    let started: Counter = Arc::new(rt.alloc(), AtomicU64::new(0))?;
-    let plans = plans(rt.alloc(), &started, 1000)?;
-    let report = ran(run_tree(&rt, rt.alloc(), plans, 1, &Still, 1000))?;
-    same(&rt, "the ends", ends_in(&report), (1, 1));
-    drop(report);
-    Ok(())
+fn one_thread_runs_one_job_at_a_time(rt: HostRuntime) {
+    let started = counter(&rt, rt.alloc());
+    let plans = plans(&rt, rt.alloc(), &started, 1000);
+    drop(started);
+    let report = run_tree(&rt, rt.alloc(), plans, 1, &Still, 1000);
+    end_so(&rt, ran(&rt, report), (1, 1));
 }

@@ -1,23 +1,20 @@
 // Supervisors that have nothing to do: they wait, and do what comes for them then.
-ghost use Rattle.std.specs.Prelude.{◌≡◌, ◌<◌, ◌≤◌, true, length, IfOk};
+ghost use Rattle.std.specs.Prelude.{◌≡◌, ◌<◌, ◌≤◌, true, length};
 ghost use Rattle.otp_run.specs.Rule.{all_parts};
 
 use crate::drafts::{Draft, both};
-use crate::fixtures::{closed, same};
+use crate::fixtures::{Counter, again, closed, counter, got, read, same};
 use otp_bridge::BoxedSubsystem;
 use otp_job::{Job, Told, Turn};
 use otp_reason::{Name, Note, Reason, Started, Text};
 use otp_rules::{Call, Reply};
 use otp_spec::SupFlags;
 use otp_tree::{CallEnd, CallId, CallRequest, Gate, Leader, Led, Report, Round, TablePlan, lead};
-use std::alloc::{AllocError, Global};
+use std::alloc::Global;
 use std::process::Abort;
+use std::sync::Wait;
 use std::sync::atomic::{AtomicU64, Ordering};
-use std::sync::{Arc, Wait};
-use std::test::*;
 use std::thread::Threads;
-
-type Counter = Arc<AtomicU64>;
 
 #[derive(Clone, Copy, Debug, PartialEq, Eq)]
 enum Kind {
@@ -80,34 +77,38 @@ impl Gate for Ticking {
 
 type Plan = TablePlan<Guest, BoxedSubsystem>;
 
-fn make_guest(kind: Kind, wanted: &Counter, starts: &Counter) -> Result<Guest, AllocError> {
-    Ok(Guest {
+fn make_guest(rt: &impl Abort, kind: Kind, wanted: &Counter, starts: &Counter) -> Guest {
+    Guest {
         kind,
-        wanted: Arc::try_clone(wanted)?,
-        starts: Arc::try_clone(starts)?,
-    })
+        wanted: again(rt, wanted),
+        starts: again(rt, starts),
+    }
 }
 
 // The root has a supervisor with a worker of each kind.
-fn plans(alloc: Global, wanted: &Counter, starts: &Counter) -> Result<Vec<Plan>, Fail>
-    ensures { IfOk result (λ plans. length plans.items ≡ 2) }
+fn plans(rt: &impl Abort, alloc: Global, wanted: &Counter, starts: &Counter) -> Vec<Plan>
+    ensures { length result.items ≡ 2 }
 {
     let mut root = Draft::new(alloc);
-    let filled = root.add_supervisor(b"sub", 1);
-    let root = root.filled(filled, SupFlags::default())?;
-    both(alloc, root, plan_sub(alloc, wanted, starts))
+    root.add_supervisor(rt, b"sub", 1);
+    let root = root.plan(rt, SupFlags::default());
+    both(rt, alloc, root, plan_sub(rt, alloc, wanted, starts))
 }
 
-fn plan_sub(alloc: Global, wanted: &Counter, starts: &Counter) -> Result<Plan, Fail> {
+fn plan_sub(rt: &impl Abort, alloc: Global, wanted: &Counter, starts: &Counter) -> Plan {
     let mut sub = Draft::new(alloc);
-    let filled = fill_sub(&mut sub, wanted, starts);
-    sub.filled(filled, SupFlags::default())
-}
-
-fn fill_sub(sub: &mut Draft<Guest>, wanted: &Counter, starts: &Counter) -> Result<(), Fail> {
-    sub.add_worker(b"meek", make_guest(Kind::Meek, wanted, starts)?)?;
-    sub.add_worker(b"stubborn", make_guest(Kind::Stubborn, wanted, starts)?)?;
-    sub.add_worker(b"fragile", make_guest(Kind::Fragile, wanted, starts)?)
+    sub.add_worker(rt, b"meek", make_guest(rt, Kind::Meek, wanted, starts));
+    sub.add_worker(
+        rt,
+        b"stubborn",
+        make_guest(rt, Kind::Stubborn, wanted, starts),
+    );
+    sub.add_worker(
+        rt,
+        b"fragile",
+        make_guest(rt, Kind::Fragile, wanted, starts),
+    );
+    sub.plan(rt, SupFlags::default())
 }
 
 // Turns of a round. Where hands wait for each other they may be spent on nothing, so the leader goes on until it sees what
@@ -258,17 +259,12 @@ fn check<R: Abort>(rt: &R, report: &Report<Guest, BoxedSubsystem>) {
     assert!(rt; report.find_mismatch().is_none());
 }
 
-fn disturb_with<R: Threads + Wait + Abort + Sync>(
-    rt: &R,
-    alloc: Global,
-    hands: usize,
-) -> Result<(), Fail>
+fn disturb_with<R: Threads + Wait + Abort + Sync>(rt: &R, alloc: Global, hands: usize)
     requires some { 0 < hands }
     requires few { hands ≤ all_parts }
 {
-    let wanted: Counter = Arc::new(alloc, AtomicU64::new(0))?;
-    let starts: Counter = Arc::new(alloc, AtomicU64::new(0))?;
-    let plans = plans(alloc, &wanted, &starts)?;
+    let (wanted, starts) = (counter(rt, alloc), counter(rt, alloc));
+    let plans = plans(rt, alloc, &wanted, &starts);
     let clock = Ticking {
         now: AtomicU64::new(0),
     };
@@ -282,25 +278,26 @@ fn disturb_with<R: Threads + Wait + Abort + Sync>(
         is_restarted: false,
         end: None,
     };
-    let Led { leader, report } = match lead(rt, alloc, plans, hands, &clock, ROUNDS, leader) {
-        Ok(led) => led,
-        Err(_why) => return Err(AllocError.into()),
-    };
-    assert!(rt; leader.is_terminated && leader.is_restarted);
-    let starts = leader.starts.load(Ordering::SeqCst);
-    same(rt, "the starts of workers", starts, 5);
-    let end = Note::Exit(1, Reason::Shutdown);
-    same(rt, "the root's end", leader.end, Some(end));
+    let led = lead(rt, alloc, plans, hands, &clock, ROUNDS, leader);
+    let Led { leader, report } = got(rt, "the tree was refused", led);
+    check_leader(rt, &leader);
     drop(leader);
-    let report = closed(report)?;
+    let report = closed(rt, report);
     check(rt, &report);
     drop(report);
-    Ok(())
+}
+
+fn check_leader(rt: &impl Abort, leader: &Disturber) {
+    assert!(rt; leader.is_terminated);
+    assert!(rt; leader.is_restarted);
+    same(rt, "the starts of workers", read(&leader.starts), 5);
+    let end = Note::Exit(1, Reason::Shutdown);
+    same(rt, "the root's end", leader.end, Some(end));
 }
 
 #[test]
-fn supervisors_that_wait_do_what_comes_for_them(rt: HostRuntime) -> Result<(), Fail> {
-    disturb_with(&rt, rt.alloc(), 1)?;
-    disturb_with(&rt, rt.alloc(), 2)?;
-    disturb_with(&rt, rt.alloc(), 4)
+fn supervisors_that_wait_do_what_comes_for_them(rt: HostRuntime) {
+    disturb_with(&rt, rt.alloc(), 1);
+    disturb_with(&rt, rt.alloc(), 2);
+    disturb_with(&rt, rt.alloc(), 4);
 }

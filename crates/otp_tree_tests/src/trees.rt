@@ -1,9 +1,9 @@
 // Trees of supervisors, served by one thread and by several.
-ghost use Rattle.std.specs.Prelude.{◌≡◌, ◌<◌, ◌≤◌, false, length, IfOk};
+ghost use Rattle.std.specs.Prelude.{◌≡◌, ◌<◌, ◌≤◌, false, length};
 ghost use Rattle.otp_run.specs.Rule.{all_parts};
 
 use crate::drafts::{Draft, both};
-use crate::fixtures::{Still, closed, ran, same};
+use crate::fixtures::{Counter, MEMORY, Still, again, closed, counter, got, ran, read, same};
 use otp_bridge::BoxedSubsystem;
 use otp_inbox::InboxNaming;
 use otp_job::{Body, Job, Told, Turn};
@@ -16,21 +16,17 @@ use otp_tree::{
     Client, CloseFault, Gate, Hand, Leader, Led, PlanNaming, Report, Round, Session, System,
     SystemFault, TablePlan, TableReport, Unclosed, lead, run_tree, with_system,
 };
-use std::alloc::{AllocError, Global};
+use std::alloc::Global;
 use std::process::Abort;
+use std::sync::Wait;
 use std::sync::atomic::{AtomicU64, Ordering};
-use std::sync::{Arc, Wait};
-use std::test::*;
 use std::thread;
 use std::thread::Threads;
-
-// Starts that were counted.
-type Starts = Arc<AtomicU64>;
 
 // A worker that counts its starts. It works on for ever, or crashes in the first turn of its life.
 #[derive(Drop)]
 struct Worker {
-    starts: Starts,
+    starts: Counter,
     crashes: Option<Text>,
 }
 
@@ -56,58 +52,54 @@ impl Job for Worker {
 
 type Plan = TablePlan<Worker, BoxedSubsystem>;
 
-fn make_worker(starts: &Starts, crashes: Option<Text>) -> Result<Worker, AllocError> {
-    Ok(Worker {
-        starts: Arc::try_clone(starts)?,
+fn make_worker(rt: &impl Abort, starts: &Counter, crashes: Option<Text>) -> Worker {
+    Worker {
+        starts: again(rt, starts),
         crashes,
-    })
+    }
 }
 
 // How many workers the tree has. One of them crashes.
 const WORKERS: u64 = 3;
 
 // The root has the worker `a` and the supervisor `sub`, which has the workers `b` and `c`; `c` crashes.
-fn plans(alloc: Global, starts: &Starts) -> Result<Vec<Plan>, Fail>
-    ensures { IfOk result (λ plans. length plans.items ≡ 2) }
+fn plans(rt: &impl Abort, alloc: Global, starts: &Counter) -> Vec<Plan>
+    ensures { length result.items ≡ 2 }
 {
-    let root = plan_root(alloc, starts)?;
-    both(alloc, root, plan_sub(alloc, starts))
+    both(
+        rt,
+        alloc,
+        plan_root(rt, alloc, starts),
+        plan_sub(rt, alloc, starts),
+    )
 }
 
-fn plan_root(alloc: Global, starts: &Starts) -> Result<Plan, Fail> {
+fn plan_root(rt: &impl Abort, alloc: Global, starts: &Counter) -> Plan {
     let mut root = Draft::new(alloc);
-    let filled = fill_root(&mut root, starts);
-    root.filled(filled, SupFlags::default())
+    root.add_worker(rt, b"a", make_worker(rt, starts, None));
+    root.add_supervisor(rt, b"sub", 1);
+    root.plan(rt, SupFlags::default())
 }
 
-fn fill_root(root: &mut Draft<Worker>, starts: &Starts) -> Result<(), Fail> {
-    root.add_worker(b"a", make_worker(starts, None)?)?;
-    root.add_supervisor(b"sub", 1)
-}
-
-fn plan_sub(alloc: Global, starts: &Starts) -> Result<Plan, Fail> {
+fn plan_sub(rt: &impl Abort, alloc: Global, starts: &Counter) -> Plan {
     let mut sub = Draft::new(alloc);
-    let filled = fill_sub(&mut sub, starts);
-    sub.filled(filled, SupFlags::default())
-}
-
-fn fill_sub(sub: &mut Draft<Worker>, starts: &Starts) -> Result<(), Fail> {
-    let crash = Text::new(b"crash").ok_or("a text")?;
-    sub.add_worker(b"b", make_worker(starts, None)?)?;
-    sub.add_worker(b"c", make_worker(starts, Some(crash))?)
+    let crash = Text::joined(b"crash", b"");
+    sub.add_worker(rt, b"b", make_worker(rt, starts, None));
+    sub.add_worker(rt, b"c", make_worker(rt, starts, Some(crash)));
+    sub.plan(rt, SupFlags::default())
 }
 
 // Serves until the tree is up and so many starts were made, then stops it, and leaves at the root's end.
 #[derive(Drop)]
 struct UpAndDown {
-    starts: Starts,
+    starts: Counter,
     wanted: u64,
     up: Option<Note>,
     end: Option<Note>,
 }
 
 impl UpAndDown {
-    fn new(starts: Starts, wanted: u64) -> UpAndDown {
+    fn new(starts: Counter, wanted: u64) -> UpAndDown {
         UpAndDown {
             starts,
             wanted,
@@ -153,29 +145,22 @@ impl Leader<Worker, BoxedSubsystem> for UpAndDown {
 }
 
 // The whole life of the tree, with this many hands, each in a thread of its own.
-fn live_with<R: Threads + Wait + Abort + Sync>(
-    rt: &R,
-    alloc: Global,
-    hands: usize,
-) -> Result<(), Fail>
+fn live_with<R: Threads + Wait + Abort + Sync>(rt: &R, alloc: Global, hands: usize)
     requires some { 0 < hands }
     requires few { hands ≤ all_parts }
 {
-    let starts: Starts = Arc::new(alloc, AtomicU64::new(0))?;
-    let plans = plans(alloc, &starts)?;
+    let starts = counter(rt, alloc);
+    let plans = plans(rt, alloc, &starts);
     let leader = UpAndDown::new(starts, WORKERS + 1);
-    let Led { leader, report } = match lead(rt, alloc, plans, hands, &Still, 10_000, leader) {
-        Ok(led) => led,
-        Err(_why) => return Err("the tree was refused".into()),
-    };
+    let led = lead(rt, alloc, plans, hands, &Still, 10_000, leader);
+    let Led { leader, report } = got(rt, "the tree was refused", led);
     leader.check(rt);
     drop(leader);
-    let report = closed(report)?;
+    let report = closed(rt, report);
     check_ended(rt, &report);
     let told = (report.heard, report.held, report.last.len());
     same(rt, "what was told", told, (1, 0, 0));
     drop(report);
-    Ok(())
 }
 
 // What the tree is once all of it has ended: two children of the root and two of `sub` were started, one of these once
@@ -209,17 +194,20 @@ fn check_ledger<R: Abort>(rt: &R, report: &Report<Worker, BoxedSubsystem>) {
 // The whole life of the tree in one call, long enough for its end, or so short that processes are left. How far several
 // hands come depends on how their threads run: one may use up its turns while another, which has a process out, doesn't
 // run. So the end is asked of one hand alone.
-fn run_with<R: Threads + Wait + Abort + Sync>(
-    rt: &R,
-    alloc: Global,
-    hands: usize,
-) -> Result<(), Fail>
+fn run_with<R: Threads + Wait + Abort + Sync>(rt: &R, alloc: Global, hands: usize)
     requires some { 0 < hands }
     requires few { hands ≤ all_parts }
 {
-    let starts: Starts = Arc::new(alloc, AtomicU64::new(0))?;
-    run_long(rt, alloc, hands, &starts)?;
-    run_short(rt, alloc, hands, &starts)
+    let report = run_for(rt, alloc, hands, 20_000);
+    check_ledger(rt, &report);
+    if hands == 1 {
+        check_ended(rt, &report);
+    }
+    drop(report);
+    let report = run_for(rt, alloc, hands, 1);
+    check_ledger(rt, &report);
+    assert!(rt; report.live > 0);
+    drop(report);
 }
 
 // So many turns of each hand before the stop, and as many after it.
@@ -227,66 +215,30 @@ fn run_for<R: Threads + Wait + Abort + Sync>(
     rt: &R,
     alloc: Global,
     hands: usize,
-    starts: &Starts,
     turns: u64,
-) -> Result<Report<Worker, BoxedSubsystem>, Fail>
+) -> Report<Worker, BoxedSubsystem>
     requires some { 0 < hands }
     requires few { hands ≤ all_parts }
 {
-    let plans = plans(alloc, starts)?;
-    ran(run_tree(rt, alloc, plans, hands, &Still, turns))
-}
-
-fn run_long<R: Threads + Wait + Abort + Sync>(
-    rt: &R,
-    alloc: Global,
-    hands: usize,
-    starts: &Starts,
-) -> Result<(), Fail>
-    requires some { 0 < hands }
-    requires few { hands ≤ all_parts }
-{
-    let report = run_for(rt, alloc, hands, starts, 20_000)?;
-    check_ledger(rt, &report);
-    if hands == 1 {
-        check_ended(rt, &report);
-    }
-    drop(report);
-    Ok(())
-}
-
-fn run_short<R: Threads + Wait + Abort + Sync>(
-    rt: &R,
-    alloc: Global,
-    hands: usize,
-    starts: &Starts,
-) -> Result<(), Fail>
-    requires some { 0 < hands }
-    requires few { hands ≤ all_parts }
-{
-    let report = run_for(rt, alloc, hands, starts, 1)?;
-    assert!(rt; report.live > 0);
-    let counted = report.ended.saturating_add(report.live);
-    same(rt, "the processes that began", report.begun, counted);
-    let left = report.processes.len() as u64;
-    same(rt, "the processes that are left", left, report.live);
-    drop(report);
-    Ok(())
+    let starts = counter(rt, alloc);
+    let plans = plans(rt, alloc, &starts);
+    drop(starts);
+    ran(rt, run_tree(rt, alloc, plans, hands, &Still, turns))
 }
 
 #[test]
-fn a_whole_tree_is_run_in_one_call(rt: HostRuntime) -> Result<(), Fail> {
-    run_with(&rt, rt.alloc(), 1)?;
-    run_with(&rt, rt.alloc(), 2)?;
-    run_with(&rt, rt.alloc(), 4)?;
-    run_with(&rt, rt.alloc(), 8)
+fn a_whole_tree_is_run_in_one_call(rt: HostRuntime) {
+    run_with(&rt, rt.alloc(), 1);
+    run_with(&rt, rt.alloc(), 2);
+    run_with(&rt, rt.alloc(), 4);
+    run_with(&rt, rt.alloc(), 8);
 }
 
 #[test]
-fn a_tree_is_served_by_one_hand_and_by_several(rt: HostRuntime) -> Result<(), Fail> {
-    live_with(&rt, rt.alloc(), 1)?;
-    live_with(&rt, rt.alloc(), 2)?;
-    live_with(&rt, rt.alloc(), 4)
+fn a_tree_is_served_by_one_hand_and_by_several(rt: HostRuntime) {
+    live_with(&rt, rt.alloc(), 1);
+    live_with(&rt, rt.alloc(), 2);
+    live_with(&rt, rt.alloc(), 4);
 }
 
 // Lets two hands wait for each other before the first turn of each. A wait has its end, so that one thread that served
@@ -335,36 +287,54 @@ impl Leader<Worker, BoxedSubsystem> for Once {
     }
 }
 
+// How many rounds the leader was asked for; its tree is let go.
+fn rounds_of(
+    led: Result<Led<Worker, BoxedSubsystem, Once>, SystemFault>,
+) -> Result<u64, SystemFault> {
+    match led {
+        Ok(Led { leader, report }) => {
+            drop(report);
+            Ok(leader.rounds)
+        }
+        Err(fault) => Err(fault),
+    }
+}
+
 #[test]
-fn each_hand_has_a_thread_of_its_own(rt: HostRuntime) -> Result<(), Fail> {
-    let starts: Starts = Arc::new(rt.alloc(), AtomicU64::new(0))?;
-    let plans = plans(rt.alloc(), &starts)?;
+fn each_hand_has_a_thread_of_its_own(rt: HostRuntime) {
+    let starts = counter(&rt, rt.alloc());
+    let plans = plans(&rt, rt.alloc(), &starts);
     let meeting = Meeting {
         first: AtomicU64::new(0),
         second: AtomicU64::new(0),
         met: AtomicU64::new(0),
     };
     let led = lead(&rt, rt.alloc(), plans, 2, &meeting, 10, Once { rounds: 0 });
-    let rounds = led.map(|led| led.leader.rounds);
-    same(&rt, "the rounds", rounds, Ok(2));
+    same(&rt, "the rounds", rounds_of(led), Ok(2));
     let met = meeting.met.load(Ordering::SeqCst);
     same(&rt, "the hands that met", met, 2);
-    Ok(())
+    drop(starts);
+}
+
+// The last supervisor loses the last of its bodies.
+fn lose_a_body(plans: &mut Vec<Plan>)
+    ensures { length plans.new.items ≡ length plans.old.items }
+{
+    if let Some(plan) = plans.last_mut() {
+        drop(plan.bodies.pop());
+    }
 }
 
 // The nested supervisor has two children and one body.
 #[test]
-fn a_refused_table_is_told_by_its_number(rt: HostRuntime) -> Result<(), Fail> {
-    let starts: Starts = Arc::new(rt.alloc(), AtomicU64::new(0))?;
-    let mut plans = plans(rt.alloc(), &starts)?;
-    if let Some(plan) = plans.last_mut() {
-        plan.bodies.pop();
-    }
+fn a_refused_table_is_told_by_its_number(rt: HostRuntime) {
+    let starts = counter(&rt, rt.alloc());
+    let mut plans = plans(&rt, rt.alloc(), &starts);
+    lose_a_body(&mut plans);
     let led = lead(&rt, rt.alloc(), plans, 2, &Still, 10, Once { rounds: 0 });
-    let rounds = led.map(|led| led.leader.rounds);
     let fault = SystemFault::NoBody { table: 1 };
-    same(&rt, "the fault", rounds, Err(fault));
-    Ok(())
+    same(&rt, "the fault", rounds_of(led), Err(fault));
+    drop(starts);
 }
 
 // Serves all hands from one thread, as the leader says.
@@ -384,11 +354,14 @@ impl<R: Wait + Abort> Session<R, Worker, BoxedSubsystem> for Alone {
         client: Client<N, Body<Worker, BoxedSubsystem>>,
     ) -> UpAndDown {
         let (mut hands, mut client) = (hands, client);
-        let mut leader = self.leader;
+        let Alone { mut leader } = self;
         let opened = (system.tables(), hands.len());
         same(rt, "the tables and hands", opened, (2, 2));
         assert!(rt; client.is_first());
         lead_alone(rt, &system, &mut hands, &mut client, &mut leader);
+        drop(hands);
+        drop(client);
+        drop(system);
         leader
     }
 }
@@ -416,26 +389,25 @@ fn lead_alone<N: WordsNaming + InboxNaming + PlanNaming + RunNaming, R: Wait + A
 }
 
 #[test]
-fn a_session_serves_all_hands_from_one_thread(rt: HostRuntime) -> Result<(), Fail> {
-    let starts: Starts = Arc::new(rt.alloc(), AtomicU64::new(0))?;
-    let plans = plans(rt.alloc(), &starts)?;
+fn a_session_serves_all_hands_from_one_thread(rt: HostRuntime) {
+    let starts = counter(&rt, rt.alloc());
+    let plans = plans(&rt, rt.alloc(), &starts);
     let leader = UpAndDown::new(starts, WORKERS + 1);
-    match with_system(&rt, rt.alloc(), plans, 2, Alone { leader }) {
-        Ok(leader) => leader.check(&rt),
-        Err(_) => return Err("the tree was refused".into()),
-    }
-    Ok(())
+    let served = with_system(&rt, rt.alloc(), plans, 2, Alone { leader });
+    let leader = got(&rt, "the tree was refused", served);
+    leader.check(&rt);
+    drop(leader);
 }
 
 // Ends the tree, closes it without one of its hands, and then with all of them.
 #[derive(Drop)]
 struct Closing {
-    alone: Alone,
+    leader: UpAndDown,
     alloc: Global,
 }
 
 impl<R: Wait + Abort> Session<R, Worker, BoxedSubsystem> for Closing {
-    type Output = Option<Report<Worker, BoxedSubsystem>>;
+    type Output = Report<Worker, BoxedSubsystem>;
 
     fn run<N: WordsNaming + InboxNaming + PlanNaming + RunNaming + Send + Sync>(
         self,
@@ -443,17 +415,27 @@ impl<R: Wait + Abort> Session<R, Worker, BoxedSubsystem> for Closing {
         system: System<N, Worker, BoxedSubsystem>,
         hands: Vec<Hand<N, Worker, BoxedSubsystem>>,
         client: Client<N, Body<Worker, BoxedSubsystem>>,
-    ) -> Option<Report<Worker, BoxedSubsystem>> {
+    ) -> Report<Worker, BoxedSubsystem> {
         let (mut hands, mut client) = (hands, client);
-        let mut leader = self.alone.leader;
+        let Closing { mut leader, alloc } = self;
         lead_alone(rt, &system, &mut hands, &mut client, &mut leader);
         leader.check(rt);
-        let away = hands.pop()?;
-        let mut back = close_without(rt, self.alloc, system, hands, client);
-        if back.hands.push(away).is_err() {
-            return None;
-        }
-        Some(close_with_all(rt, self.alloc, back))
+        drop(leader);
+        let away = last_of(rt, &mut hands);
+        let mut back = close_without(rt, alloc, system, hands, client);
+        got(rt, MEMORY, back.hands.push(away));
+        close_with_all(rt, alloc, back)
+    }
+}
+
+// The last of these hands.
+fn last_of<N: WordsNaming + InboxNaming + PlanNaming + RunNaming, R: Abort>(
+    rt: &R,
+    hands: &mut Vec<Hand<N, Worker, BoxedSubsystem>>,
+) -> Hand<N, Worker, BoxedSubsystem> {
+    match hands.pop() {
+        Some(hand) => hand,
+        None => panic!(rt; "a hand"),
     }
 }
 
@@ -481,53 +463,55 @@ fn close_with_all<N: WordsNaming + InboxNaming + PlanNaming + RunNaming, R: Wait
     alloc: Global,
     back: Unclosed<N, Worker, BoxedSubsystem>,
 ) -> Report<Worker, BoxedSubsystem> {
-    let Unclosed {
-        system,
-        hands,
-        client,
-    } = back;
-    let back = match system.close(rt, alloc, hands, client) {
+    let back = match close_once(rt, alloc, back) {
         Ok(report) => return report,
         Err(CloseFault::OutOfMemory(back)) => back,
         Err(_) => panic!(rt; "all hands are here"),
     };
+    got(rt, MEMORY, close_once(rt, alloc, back))
+}
+
+// Closes the tree that came back.
+fn close_once<N: WordsNaming + InboxNaming + PlanNaming + RunNaming, R: Wait>(
+    rt: &R,
+    alloc: Global,
+    back: Unclosed<N, Worker, BoxedSubsystem>,
+) -> Result<
+    Report<Worker, BoxedSubsystem>,
+    CloseFault<Worker, BoxedSubsystem, Unclosed<N, Worker, BoxedSubsystem>>,
+> {
     let Unclosed {
         system,
         hands,
         client,
     } = back;
-    match system.close(rt, alloc, hands, client) {
-        Ok(report) => report,
-        Err(_) => panic!(rt; "there is memory now"),
-    }
+    system.close(rt, alloc, hands, client)
 }
 
 // The whole life of the tree, closed first without one of its hands. False where memory was refused at its opening.
-fn close_whole<R: Wait + Abort>(rt: &R, alloc: Global) -> Result<bool, Fail> {
-    let starts: Starts = Arc::new(alloc, AtomicU64::new(0))?;
-    let plans = plans(alloc, &starts)?;
+fn close_whole<R: Wait + Abort>(rt: &R, alloc: Global) -> bool {
+    let starts = counter(rt, alloc);
+    let plans = plans(rt, alloc, &starts);
     let leader = UpAndDown::new(starts, WORKERS + 1);
-    let closing = Closing {
-        alone: Alone { leader },
-        alloc,
-    };
-    match with_system(rt, alloc, plans, 2, closing) {
-        Ok(Some(report)) => check_ended(rt, &report),
-        Err(SystemFault::OutOfMemory) => return Ok(false),
-        _ => return Err("memory was refused".into()),
+    match with_system(rt, alloc, plans, 2, Closing { leader, alloc }) {
+        Ok(report) => {
+            check_ended(rt, &report);
+            drop(report);
+            true
+        }
+        Err(SystemFault::OutOfMemory) => false,
+        Err(_) => panic!(rt; "the tree was refused"),
     }
-    Ok(true)
 }
 
 // Of `rt try --test --fail-alloc N` the least N refuse what the test makes for itself, which it then tells. Of the next each
 // refuses one growth of the opening, of a turn or of the close: the tree is opened again, or nothing is lost, and all comes to
 // the same end.
 #[test]
-fn a_tree_is_closed_with_all_its_hands(rt: HostRuntime) -> Result<(), Fail> {
-    if !close_whole(&rt, rt.alloc())? {
-        assert!(rt; close_whole(&rt, rt.alloc())?);
+fn a_tree_is_closed_with_all_its_hands(rt: HostRuntime) {
+    if !close_whole(&rt, rt.alloc()) {
+        assert!(rt; close_whole(&rt, rt.alloc()));
     }
-    Ok(())
 }
 
 // What a supervisor counts that has so many children, of whom so many have a process.
@@ -610,24 +594,27 @@ impl<R: Wait + Abort> Session<R, Worker, BoxedSubsystem> for Counting {
         rt: &R,
         system: System<N, Worker, BoxedSubsystem>,
         hands: Vec<Hand<N, Worker, BoxedSubsystem>>,
-        _client: Client<N, Body<Worker, BoxedSubsystem>>,
+        client: Client<N, Body<Worker, BoxedSubsystem>>,
     ) -> bool {
         let mut hands = hands;
-        let (Some(mut reading), Some(mut serving)) = (hands.pop(), hands.pop()) else {
-            return false;
-        };
+        let mut reading = last_of(rt, &mut hands);
+        let mut serving = last_of(rt, &mut hands);
         count_along(rt, &system, &mut serving, &mut reading);
+        drop(serving);
+        drop(reading);
+        drop(hands);
+        drop(client);
+        drop(system);
         true
     }
 }
 
 #[test]
-fn counts_are_read_while_the_tree_restarts(rt: HostRuntime) -> Result<(), Fail> {
-    let starts: Starts = Arc::new(rt.alloc(), AtomicU64::new(0))?;
-    let plans = plans(rt.alloc(), &starts)?;
+fn counts_are_read_while_the_tree_restarts(rt: HostRuntime) {
+    let starts = counter(&rt, rt.alloc());
+    let plans = plans(&rt, rt.alloc(), &starts);
     let counted = with_system(&rt, rt.alloc(), plans, 2, Counting);
     same(&rt, "that counts were read", counted, Ok(true));
-    let started = starts.load(Ordering::SeqCst);
-    same(&rt, "the starts of workers", started, WORKERS + 1);
-    Ok(())
+    same(&rt, "the starts of workers", read(&starts), WORKERS + 1);
+    drop(starts);
 }

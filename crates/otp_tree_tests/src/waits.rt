@@ -1,23 +1,19 @@
 // Jobs that wait until they are told something.
-ghost use Rattle.std.specs.Prelude.{◌≡◌, ◌<◌, ◌≤◌, true, length, IfOk};
+ghost use Rattle.std.specs.Prelude.{◌≡◌, ◌<◌, ◌≤◌, true, length};
 ghost use Rattle.otp_run.specs.Rule.{all_parts};
 
 use crate::drafts::{Draft, both};
-use crate::fixtures::{closed, same};
+use crate::fixtures::{Counter, again, closed, counter, got, read, same};
 use otp_bridge::BoxedSubsystem;
 use otp_job::{Job, Told, Turn};
 use otp_reason::{Note, Reason, Started};
 use otp_spec::SupFlags;
 use otp_tree::{Gate, Leader, Led, Report, Round, TablePlan, lead};
-use std::alloc::{AllocError, Global};
+use std::alloc::Global;
 use std::process::Abort;
+use std::sync::Wait;
 use std::sync::atomic::{AtomicU64, Ordering};
-use std::sync::{Arc, Wait};
-use std::test::*;
 use std::thread::Threads;
-
-// What several jobs count together.
-type Counter = Arc<AtomicU64>;
 
 // Waits until it is asked to shut down. It counts its starts, and its turns.
 #[derive(Drop)]
@@ -55,35 +51,27 @@ const LETTERS: [u8; 16] = *b"abcdefghijklmnop";
 const WORKERS: u64 = 64;
 
 // The root has one supervisor, which has all workers.
-fn plans(alloc: Global, starts: &Counter, turns: &Counter) -> Result<Vec<Plan>, Fail>
-    ensures { IfOk result (λ plans. length plans.items ≡ 2) }
+fn plans(rt: &impl Abort, alloc: Global, starts: &Counter, turns: &Counter) -> Vec<Plan>
+    ensures { length result.items ≡ 2 }
 {
     let mut root = Draft::new(alloc);
-    let filled = root.add_supervisor(b"sub", 1);
-    let root = root.filled(filled, SupFlags::default())?;
-    both(alloc, root, plan_sub(alloc, starts, turns))
+    root.add_supervisor(rt, b"sub", 1);
+    let root = root.plan(rt, SupFlags::default());
+    both(rt, alloc, root, plan_sub(rt, alloc, starts, turns))
 }
 
-fn plan_sub(alloc: Global, starts: &Counter, turns: &Counter) -> Result<Plan, Fail> {
+fn plan_sub(rt: &impl Abort, alloc: Global, starts: &Counter, turns: &Counter) -> Plan {
     let mut sub = Draft::new(alloc);
-    let filled = fill_sub(&mut sub, starts, turns);
-    sub.filled(filled, SupFlags::default())
-}
-
-fn fill_sub(sub: &mut Draft<Waiter>, starts: &Counter, turns: &Counter) -> Result<(), Fail> {
     for high in &LETTERS[..4] {
-        for low in LETTERS {
-            sub.add_worker(&[*high, low], make_waiter(starts, turns)?)?;
+        for low in &LETTERS {
+            let waiter = Waiter {
+                starts: again(rt, starts),
+                turns: again(rt, turns),
+            };
+            sub.add_worker(rt, &[*high, *low], waiter);
         }
     }
-    Ok(())
-}
-
-fn make_waiter(starts: &Counter, turns: &Counter) -> Result<Waiter, AllocError> {
-    Ok(Waiter {
-        starts: Arc::try_clone(starts)?,
-        turns: Arc::try_clone(turns)?,
-    })
+    sub.plan(rt, SupFlags::default())
 }
 
 // A clock that stands still. It counts the turns, and those in which no hand had anything to do.
@@ -203,46 +191,41 @@ fn check_turns<R: Abort>(rt: &R, gate: &Counting, hands: usize, rounds: u64) {
     assert!(rt; idle >= of_a_round.saturating_mul(9) && idle <= turns);
 }
 
-fn idle_with<R: Threads + Wait + Abort + Sync>(
-    rt: &R,
-    alloc: Global,
-    hands: usize,
-    stops: bool,
-) -> Result<(), Fail>
+fn idle_with<R: Threads + Wait + Abort + Sync>(rt: &R, alloc: Global, hands: usize, stops: bool)
     requires some { 0 < hands }
     requires few { hands ≤ all_parts }
 {
-    let starts: Counter = Arc::new(alloc, AtomicU64::new(0))?;
-    let turns: Counter = Arc::new(alloc, AtomicU64::new(0))?;
-    let plans = plans(alloc, &starts, &turns)?;
-    let leader = Idler::new(Arc::try_clone(&turns)?, stops);
+    let (starts, turns) = (counter(rt, alloc), counter(rt, alloc));
+    let plans = plans(rt, alloc, &starts, &turns);
+    let leader = Idler::new(again(rt, &turns), stops);
     let gate = Counting {
         turns: AtomicU64::new(0),
         idle: AtomicU64::new(0),
     };
-    let Led { leader, report } = match lead(rt, alloc, plans, hands, &gate, ROUNDS, leader) {
-        Ok(led) => led,
-        Err(_why) => return Err(AllocError.into()),
-    };
+    let led = lead(rt, alloc, plans, hands, &gate, ROUNDS, leader);
+    let Led { leader, report } = got(rt, "the tree was refused", led);
     check_turns(rt, &gate, hands, leader.rounds);
-    // Each worker had one turn, however long it waited, and one more when it was asked to shut down.
-    same(rt, "the starts", starts.load(Ordering::SeqCst), WORKERS);
     same(rt, "the turns while idle", leader.idle_turns, WORKERS);
-    let told = if stops { WORKERS } else { 0 };
-    let wanted = WORKERS.saturating_add(told);
-    same(rt, "the turns", turns.load(Ordering::SeqCst), wanted);
     drop(leader);
-    let report = closed(report)?;
+    check_workers(rt, read(&starts), read(&turns), stops);
+    drop(starts);
+    drop(turns);
+    let report = closed(rt, report);
     check(rt, &report, stops);
     drop(report);
-    Ok(())
+}
+
+// Each worker had one turn, however long it waited, and one more when it was asked to shut down.
+fn check_workers(rt: &impl Abort, starts: u64, turns: u64, stops: bool) {
+    same(rt, "the starts", starts, WORKERS);
+    let told = if stops { WORKERS } else { 0 };
+    same(rt, "the turns", turns, WORKERS.saturating_add(told));
 }
 
 #[test]
-fn jobs_that_wait_take_no_turns_until_they_are_told(rt: HostRuntime) -> Result<(), Fail> {
+fn jobs_that_wait_take_no_turns_until_they_are_told(rt: HostRuntime) {
     for stops in [false, true] {
-        idle_with(&rt, rt.alloc(), 1, stops)?;
-        idle_with(&rt, rt.alloc(), 2, stops)?;
+        idle_with(&rt, rt.alloc(), 1, stops);
+        idle_with(&rt, rt.alloc(), 2, stops);
     }
-    Ok(())
 }

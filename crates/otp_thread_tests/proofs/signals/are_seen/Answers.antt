@@ -1,6 +1,6 @@
 use Rattle.std.proofs.Common.{List, ℕ, sym, ◌∙◌, subst}
 use Rattle.std.specs.Prelude.{Contains}
-use Rattle.otp_thread_tests.proofs.signals.signals_in.Goals as goal
+use Rattle.otp_thread_tests.proofs.signals.are_seen.Goals as goal
 
 pub post_first-requires-2-clause-number : goal.post_first-requires-2-clause-number
 post_first-requires-2-clause-number g c =
