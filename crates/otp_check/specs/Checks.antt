@@ -1,10 +1,11 @@
 -- What is found in a file, and what its tree says (own).
-use Rattle.std.specs.Prelude.{◌≡◌, ◌⊎◌, ℕ, List, [], ◌∷◌, Ok, Err}
+use Rattle.std.specs.Prelude.{◌≡◌, ◌⊎◌, ℕ, List, [], ◌∷◌, ◌++◌, Some, None, Ok, Err}
 use Rattle.otp_file.specs.declared.fault.TreeFault.{TreeFault}
 use Rattle.otp_file.specs.declared.fault.TreeFault.TheVariants.{NotToml}
 use Rattle.otp_file.specs.Files.{Says, IsToml}
 use Rattle.otp_file.specs.Trees.{Tree}
 use Rattle.otp_check.specs.declared.finding.Finding.{Finding}
+use Rattle.otp_check.specs.declared.parts.Found.{Found}
 
 -- the first fault of the file's document, or that it is no document
 abbrev pub IsFirstFault : TreeFault → List ℕ → Type 0
@@ -19,3 +20,13 @@ Finds (first ∷ others) file = IsFirstFault first.fault file
 abbrev pub BeginsWith : TreeFault → List Finding → Type 0
 BeginsWith why [] = ⊥
 BeginsWith why (first ∷ others) = first.fault ≡ why
+
+-- one thing more is held: as the fault for which the tree is refused, which was not found before, or behind the others
+abbrev pub Puts : Finding → Found → Found → Type 0
+Puts one old new =
+    ((old.first ≡ None) × (new.first ≡ Some one) × (new.others.items ≡ old.others.items))
+    ⊎ ((new.first ≡ old.first) × (new.others.items ≡ old.others.items ++ one ∷ []))
+
+-- the same of one with this fault and this text
+abbrev pub Holds : TreeFault → List ℕ → Found → Found → Type 0
+Holds why text old new = (held : Finding) × (held.fault ≡ why) × (held.text.items ≡ text) × Puts held old new

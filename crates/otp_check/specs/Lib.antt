@@ -1,2 +1,4 @@
 pub mod Checks
 pub mod Texts
+pub mod Advice
+pub mod Places

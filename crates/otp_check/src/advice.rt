@@ -1,10 +1,16 @@
 //! What to do about a fault.
 
+ghost use Rattle.std.specs.Prelude.{◌≡◌};
+ghost use Rattle.otp_check.specs.Advice.{blamed_key, lacks_text, simple_text, unlawful_text};
+
 use otp_file::{ChildKey, FaultPlace, FlagKey, TreeFault};
 use otp_spec::SpecFault;
 
 /// What a child lacks.
-pub(crate) fn what_lacks(fault: &TreeFault) -> &'static str {
+#[tactic(auto, unfolding(crate::specs::Advice::lacks_text))]
+pub(crate) fn what_lacks(fault: &TreeFault) -> &'static str
+    ensures { result.now ≡ lacks_text fault.now }
+{
     match fault {
         TreeFault::MissingKey {
             key: ChildKey::Id,
@@ -19,7 +25,10 @@ pub(crate) fn what_lacks(fault: &TreeFault) -> &'static str {
 }
 
 /// Why a child's values don't go together, or all of them.
-pub(crate) fn what_unlawful(fault: &TreeFault) -> &'static str {
+#[tactic(auto, unfolding(crate::specs::Advice::unlawful_text))]
+pub(crate) fn what_unlawful(fault: &TreeFault) -> &'static str
+    ensures { result.now ≡ unlawful_text fault.now }
+{
     match fault {
         TreeFault::Unlawful(SpecFault::SignificantPermanent { .. }) =>
             "significant and permanent; a significant child is \"transient\" or \"temporary\"",
@@ -42,7 +51,10 @@ pub(crate) fn what_unlawful(fault: &TreeFault) -> &'static str {
 }
 
 /// Why one child is not the one of simple_one_for_one.
-pub(crate) fn what_simple(count: usize) -> &'static str {
+#[tactic(auto, unfolding(crate::specs::Advice::simple_text))]
+pub(crate) fn what_simple(count: usize) -> &'static str
+    ensures { result.now ≡ simple_text count }
+{
     if count == 1 {
         "under simple_one_for_one the one [[child]] has no tree; leave the tree out, or set another strategy"
     } else {
@@ -51,7 +63,10 @@ pub(crate) fn what_simple(count: usize) -> &'static str {
 }
 
 /// The key of its table on whose line a fault of a whole table is told.
-pub(crate) fn key_to_blame(fault: &TreeFault) -> &'static str {
+#[tactic(auto, unfolding(crate::specs::Advice::blamed_key))]
+pub(crate) fn key_to_blame(fault: &TreeFault) -> &'static str
+    ensures { result.now ≡ blamed_key fault.now }
+{
     match fault {
         TreeFault::Unlawful(
             SpecFault::SignificantPermanent { .. } | SpecFault::SignificantNever { .. },

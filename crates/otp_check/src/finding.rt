@@ -1,7 +1,7 @@
 //! A fault that was found, and the words for it.
 
-ghost use Rattle.std.specs.Prelude.{◌≡◌, ◌++◌, IfOk, OnOk};
-ghost use Rattle.otp_check.specs.Texts.{IsSaid, head_text};
+ghost use Rattle.std.specs.Prelude.{ℕ, List, ◌≡◌, ◌++◌, IfOk, OnOk};
+ghost use Rattle.otp_check.specs.Texts.{IsSaid, head_text, told};
 
 use crate::owner::{Owner, write_owner};
 use crate::shown::{write_shown, write_value};
@@ -33,7 +33,8 @@ pub struct Finding {
 impl Finding {
     /// The same, on this line.
     pub(crate) fn on_line(self, line: Option<u64>) -> Finding
-        ensures { result.fault ≡ self.fault }
+        ensures fault { result.fault ≡ self.fault }
+        ensures text { result.text.items ≡ self.text.items }
     {
         let Finding { fault, text, .. } = self;
         Finding { fault, line, text }
@@ -91,7 +92,8 @@ pub(crate) fn said_at(
     place: &[u8],
     rest: &[u8],
 ) -> Result<Finding, AllocError>
-    ensures { IfOk result (λ finding. finding.fault ≡ fault) }
+    ensures fault { IfOk result (λ finding. finding.fault ≡ fault) }
+    ensures text { IfOk result (λ finding. finding.text.items ≡ head_text fault ++ (place.now ++ rest.now)) }
 {
     let text = headed(alloc, &fault, place, rest)?;
     Ok(Finding {
@@ -108,7 +110,8 @@ fn said_of(
     owner: &Owner<'_>,
     rest: &[u8],
 ) -> Result<Finding, AllocError>
-    ensures { IfOk result (λ finding. finding.fault ≡ fault) }
+    ensures fault { IfOk result (λ finding. finding.fault ≡ fault) }
+    ensures text { IfOk result (λ finding. (place : List ℕ) × (finding.text.items ≡ head_text fault ++ (place ++ rest.now))) }
 {
     let mut place = Vec::new(alloc);
     write_owner(owner, &mut place)?;
@@ -121,7 +124,9 @@ fn write_between(
     text: &[u8],
     back: &[u8],
     out: &mut Vec<u8>,
-) -> Result<(), AllocError> {
+) -> Result<(), AllocError>
+    ensures { OnOk result (out.new.items ≡ out.old.items ++ (front.now ++ (text.now ++ back.now))) }
+{
     out.extend_from_slice(front)?;
     out.extend_from_slice(text)?;
     out.extend_from_slice(back)
@@ -134,7 +139,8 @@ pub(crate) fn of_table(
     owner: &Owner<'_>,
     what: &str,
 ) -> Result<Finding, AllocError>
-    ensures { IfOk result (λ finding. finding.fault ≡ fault) }
+    ensures fault { IfOk result (λ finding. finding.fault ≡ fault) }
+    ensures text { IfOk result (λ finding. (place : List ℕ) × (finding.text.items ≡ head_text fault ++ (place ++ told what.now))) }
 {
     let mut rest = Vec::new(alloc);
     write_between(b": ", what.as_bytes(), b"", &mut rest)?;

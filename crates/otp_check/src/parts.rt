@@ -1,5 +1,8 @@
 //! All parts of a document, one by one.
 
+ghost use Rattle.std.specs.Prelude.{◌≡◌, ◌+◌, ◌-◌, ◌^◌, ◌==◌, OnOk, min};
+ghost use Rattle.otp_check.specs.Checks.{Holds, Puts};
+
 use crate::advice::{key_to_blame, what_lacks, what_simple, what_unlawful};
 use crate::finding::{Finding, of_table, of_unknown, of_value};
 use crate::judging::{judge_child, judge_count, judge_flag, judge_key, judge_names, tree_of};
@@ -60,7 +63,9 @@ struct Scanning<'s> {
 
 impl Scanning<'_> {
     /// Whether the table that is looked at now has the fault for which the tree is refused.
-    fn is_refused_here(&self) -> bool {
+    fn is_refused_here(&self) -> bool
+        ensures { result ≡ (self.now.tables == min (self.now.why.table + 1) (2 ^ 64 - 1)) }
+    {
         self.tables == self.why.table.saturating_add(1)
     }
 
@@ -73,8 +78,16 @@ impl Scanning<'_> {
     }
 
     /// One thing more is found on this line, in the table that is looked at now.
-    fn add(&mut self, line: Option<u64>, finding: Finding) -> Result<(), AllocError> {
-        let finding = finding.on_line(line);
+    fn add(&mut self, line: Option<u64>, finding: Finding) -> Result<(), AllocError>
+        ensures { OnOk result (Holds finding.fault finding.text.items self.old.found self.new.found) }
+    {
+        self.hold(finding.on_line(line))
+    }
+
+    /// One thing more is held: for the first fault, if it is that for which the tree is refused, or behind the others.
+    fn hold(&mut self, finding: Finding) -> Result<(), AllocError>
+        ensures { OnOk result (Puts finding self.old.found self.new.found) }
+    {
         if self.is_refused_here() && self.found.first.is_none() && finding.fault == self.why.fault {
             self.found.first = Some(finding);
             return Ok(());

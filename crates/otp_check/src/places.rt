@@ -1,10 +1,16 @@
 //! The places of children in faults.
 
+ghost use Rattle.std.specs.Prelude.{◌≡◌};
+ghost use Rattle.otp_check.specs.Places.{moved_to, place_of};
+
 use otp_file::{FaultPlace, TreeFault};
 use otp_spec::SpecFault;
 
 /// The fault of the child at this place, which was judged alone.
-pub(crate) fn moved_to(fault: TreeFault, index: usize) -> TreeFault {
+#[tactic(auto, unfolding(crate::specs::Places::moved_to))]
+pub(crate) fn moved_to(fault: TreeFault, index: usize) -> TreeFault
+    ensures { result ≡ moved_to fault index }
+{
     match fault {
         TreeFault::UnknownKey(FaultPlace::Child(_)) => TreeFault::UnknownKey(FaultPlace::Child(
             index,
@@ -26,7 +32,10 @@ pub(crate) fn moved_to(fault: TreeFault, index: usize) -> TreeFault {
 }
 
 /// The place of the child of whose table this is a fault, whatever its siblings are.
-pub(crate) fn place_of(fault: &TreeFault) -> Option<usize> {
+#[tactic(auto, unfolding(crate::specs::Places::place_of))]
+pub(crate) fn place_of(fault: &TreeFault) -> Option<usize>
+    ensures { result ≡ place_of fault.now }
+{
     match fault {
         TreeFault::UnknownKey(FaultPlace::Child(index))
         | TreeFault::WrongKind(FaultPlace::Child(index) | FaultPlace::ChildKey(index, _))

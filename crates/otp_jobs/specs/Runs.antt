@@ -4,8 +4,13 @@ use Rattle.otp_core.specs.View.{state_of}
 use Rattle.otp_rules.specs.Needs.{numbers_of}
 use Rattle.otp_report.specs.Reports.{last_reason}
 use Rattle.otp_close.specs.Closes.{IsReportOf}
+use Rattle.otp_close.specs.declared.closing.CloseFault.TheVariants as close
+use Rattle.otp_open.specs.declared.opening.SystemFault.{SystemFault}
+use Rattle.otp_open.specs.declared.opening.SystemFault.TheVariants as unopened
 use Rattle.otp_report.specs.declared.report.TableReport.{TableReport}
 use Rattle.otp_tree.specs.declared.whole.CountedRun.{CountedRun}
+use Rattle.otp_tree.specs.declared.whole.RunFault.{RunFault}
+use Rattle.otp_tree.specs.declared.whole.RunFault.TheVariants as run
 use Rattle.otp_jobs.specs.declared.plan.PlanFault.{PlanFault}
 use Rattle.otp_jobs.specs.declared.plan.PlanFault.TheVariants as plan
 use Rattle.otp_jobs.specs.Reports.{counts_text, report_text}
@@ -33,6 +38,20 @@ run_fault plan.OutOfMemory = OutOfMemory
 run_fault plan.TooManyTables = TooManyTables
 run_fault (plan.UnknownStart name) = UnknownStart name
 run_fault plan.WrongBody = WrongBody
+
+-- and why, where it could not be opened
+abbrev pub unopened_fault : SystemFault → FileRunFault
+unopened_fault unopened.OutOfMemory = OutOfMemory
+unopened_fault (unopened.NoBody table) = NoBody
+
+-- or was run and has no report: it was not closed, or its report tells of a mismatch
+module _ {J S : Type 0} where
+  abbrev pub unrun_fault : RunFault J S → FileRunFault
+  unrun_fault (run.Open why) = unopened_fault why
+  unrun_fault (run.Close (close.OutOfMemory back)) = OutOfMemory
+  unrun_fault (run.Close (close.Missing back)) = Missing
+  unrun_fault (run.Close (close.Misplaced back found)) = Missing
+  unrun_fault (run.Close (close.Mismatch m report)) = Mismatch
 
 -- a fault of the starts that the tree names
 abbrev pub IsOfRun : FileRunFault → Type 0

@@ -4,6 +4,8 @@ ghost use Rattle.std.specs.List.{list_any};
 ghost use Rattle.otp_file.specs.Trees.{tables_of};
 ghost use Rattle.otp_spec.specs.declared.limits.TheConstants.{MAX_TABLES};
 ghost use Rattle.otp_spec.specs.declared.child.ChildSpec.{ChildSpec};
+ghost use Rattle.otp_jobs.specs.declared.plan.PlanFault.TheVariants.{TooManyTables};
+ghost use Rattle.otp_open.specs.Plans.{HaveBodies};
 ghost use Rattle.otp_jobs.specs.Plans.{IsOfPlan, bodies_from, first_size, first_unknown, has_misfit, is_nested, joined, other_sizes, plan_of, plans_from, seen, total, misfits, misfit_at, misfit_from, plan_fault, role_at, table_seen, unknown_at, unknown_from};
 
 use crate::flat::{FlatTable, flatten};
@@ -146,6 +148,7 @@ fn any_misfit(tables: &[FlatTable]) -> bool
 pub(crate) fn check(tables: &[FlatTable]) -> Result<(), PlanFault>
     ensures ok { OnOk result (plan_fault (map table_seen tables.now) ≡ None) }
     ensures err { IfErr result (λ fault. plan_fault (map table_seen tables.now) ≡ Some fault) }
+    ensures named { IfErr result IsOfPlan }
 {
     if let Some(name) = first_unknown(tables) {
         return Err(PlanFault::UnknownStart(name));
@@ -302,6 +305,10 @@ pub fn plan_tree(alloc: Global, tree: TreeSpec) -> Result<Vec<WorkedPlan>, PlanF
     ensures plans { IfOk result (λ plans. map seen plans.items ≡ plans_from 0 (tables_of tree)) }
     ensures runnable { OnOk result (plan_fault (tables_of tree) ≡ None) }
     ensures fault { IfErr result (λ fault. IsOfPlan fault → plan_fault (tables_of tree) ≡ Some fault) }
+    // Each supervisor has a body for each child that an opening makes.
+    ensures bodies { IfOk result (λ plans. HaveBodies plans.items) }
+    // It has too many supervisors only where it has more than there can be.
+    ensures too_many { IfErr result (λ fault. fault ≡ TooManyTables → MAX_TABLES < length (tables_of tree)) }
     ensures few { IfOk result (λ plans. length plans.items ≤ MAX_TABLES) }
     ensures count { IfOk result (λ plans. length plans.items ≡ length (tables_of tree)) }
 {

@@ -66,9 +66,10 @@ impl From<PlanFault> for FileRunFault {
 }
 
 impl From<SystemFault> for FileRunFault {
-    ghost use Rattle.otp_jobs.specs.Runs.{IsNotPlanned};
+    ghost use Rattle.std.specs.Prelude.{◌≡◌};
+    ghost use Rattle.otp_jobs.specs.Runs.{IsNotPlanned, unopened_fault};
 
-    ghost from_gives = { λ _ fault. IsNotPlanned fault };
+    ghost from_gives = { λ why fault. IsNotPlanned fault × (fault ≡ unopened_fault why) };
 
     fn from(why: SystemFault) -> FileRunFault {
         match why {
@@ -79,9 +80,10 @@ impl From<SystemFault> for FileRunFault {
 }
 
 impl From<RunFault<WorkedJob, Calm>> for FileRunFault {
-    ghost use Rattle.otp_jobs.specs.Runs.{IsNotPlanned};
+    ghost use Rattle.std.specs.Prelude.{◌≡◌};
+    ghost use Rattle.otp_jobs.specs.Runs.{IsNotPlanned, unrun_fault};
 
-    ghost from_gives = { λ _ fault. IsNotPlanned fault };
+    ghost from_gives = { λ why fault. IsNotPlanned fault × (fault ≡ unrun_fault why) };
 
     fn from(why: RunFault<WorkedJob, Calm>) -> FileRunFault {
         match why {

@@ -1,1 +1,4 @@
 pub mod Faults
+pub mod Spaced
+pub mod Said
+pub mod Times

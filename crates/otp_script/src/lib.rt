@@ -14,4 +14,4 @@ pub use fault::{ScriptFault, Word};
 pub use near::meant;
 pub use read::read_step;
 pub use step::{Action, Child, Expected, NextStart, Step, When};
-pub use words::{next_word, strip_return};
+pub use words::{is_text, next_word, strip_return};

@@ -1,9 +1,15 @@
 //! Lines of a script, as they are read.
 
+ghost use Rattle.std.specs.Prelude.{◌≡◌, ◌≤◌, ◌<◌, Err, IfOk, length};
+ghost use Rattle.otp_script.specs.Said.{call_said};
+ghost use Rattle.otp_script.specs.declared.fault.ScriptFault.TheVariants.{TooLong};
+ghost use Rattle.otp_script.specs.declared.read.TheConstants.{MOST_REPEATS};
+ghost use Rattle.otp_text.specs.declared.line.TheConstants.{LONGEST_LINE};
+
 use crate::fault::ScriptFault;
 use crate::step::{Action, Child, Expected, NextStart, Step, When};
 use crate::time::{next_time, read_time};
-use crate::words::{Spaced, end_of_path, next_word, strip_comment, strip_end};
+use crate::words::{Spaced, end_of_path, is_text, next_word, strip_comment, strip_end};
 use otp_reason::{Name, Reason, TEXT_SIZE, Text};
 use otp_rules::Call;
 use otp_spec::MAX_READING;
@@ -37,7 +43,11 @@ struct Meant<'a> {
 /// # Errors
 ///
 /// The first fault from the left.
-pub fn read_step(line: &[u8]) -> Result<Step<'_>, ScriptFault> {
+pub fn read_step(line: &[u8]) -> Result<Step<'_>, ScriptFault>
+    ensures long { LONGEST_LINE < length line.now → result ≡ Err TooLong }
+    ensures once { IfOk result (λ step. 0 < step.times) }
+    ensures often { IfOk result (λ step. step.times ≤ MOST_REPEATS) }
+{
     if line.len() > LONGEST_LINE {
         return Err(ScriptFault::TooLong);
     }
@@ -60,7 +70,10 @@ struct Timed<'a> {
 }
 
 /// It happens once at this time, and this is left of the line.
-fn once<'a>(when: When, rest: &'a [u8]) -> Timed<'a> {
+fn once<'a>(when: When, rest: &'a [u8]) -> Timed<'a>
+    ensures when { result.when ≡ when }
+    ensures times { result.times ≡ 1 }
+{
     Timed {
         when,
         times: 1,
@@ -69,7 +82,10 @@ fn once<'a>(when: When, rest: &'a [u8]) -> Timed<'a> {
 }
 
 /// When the line happens and how often, and what is left of it.
-fn read_when(line: &[u8]) -> Result<Timed<'_>, ScriptFault> {
+fn read_when(line: &[u8]) -> Result<Timed<'_>, ScriptFault>
+    ensures once { IfOk result (λ timed. 0 < timed.times) }
+    ensures often { IfOk result (λ timed. timed.times ≤ MOST_REPEATS) }
+{
     let Some((word, rest)) = next_word(line) else {
         return Ok(once(When::Now, line));
     };
@@ -88,7 +104,10 @@ fn read_when(line: &[u8]) -> Result<Timed<'_>, ScriptFault> {
 }
 
 /// `TIME N times`: it happens so often, each time so long after the time before.
-fn read_every(line: &[u8]) -> Result<Timed<'_>, ScriptFault> {
+fn read_every(line: &[u8]) -> Result<Timed<'_>, ScriptFault>
+    ensures once { IfOk result (λ timed. 0 < timed.times) }
+    ensures often { IfOk result (λ timed. timed.times ≤ MOST_REPEATS) }
+{
     let (time, rest) = next_time(line)?;
     let (times, rest) = read_times(rest)?;
     Ok(Timed {
@@ -99,7 +118,10 @@ fn read_every(line: &[u8]) -> Result<Timed<'_>, ScriptFault> {
 }
 
 /// `N times`, and what is left after it.
-fn read_times(line: &[u8]) -> Result<(u64, &[u8]), ScriptFault> {
+fn read_times(line: &[u8]) -> Result<(u64, &[u8]), ScriptFault>
+    ensures once { IfOk result (λ times. 0 < times.0) }
+    ensures often { IfOk result (λ times. times.0 ≤ MOST_REPEATS) }
+{
     let Some((number, rest)) = next_word(line) else {
         return Err(ScriptFault::BadTimes);
     };
@@ -202,16 +224,26 @@ fn read_call<'a>(word: &[u8], line: &'a [u8]) -> Result<Said<'a>, ScriptFault> {
         return Err(ScriptFault::BadCall);
     };
     end_of(rest)?;
-    let call = match word {
-        b"restart" => Call::RestartChild(name),
-        b"delete" => Call::DeleteChild(name),
-        b"terminate" => Call::TerminateChild(name),
-        _ => Call::GetChildspec(name),
-    };
     Ok(Said {
         path,
-        action: Action::Call(call),
+        action: Action::Call(call_said(word, name)),
     })
+}
+
+/// The call of the child with this id that a word says.
+#[tactic(auto, unfolding(crate::specs::Said::call_said))]
+fn call_said(word: &[u8], name: Name) -> Call
+    ensures { result ≡ call_said word.now name }
+{
+    if is_text(word, b"restart") {
+        Call::RestartChild(name)
+    } else if is_text(word, b"delete") {
+        Call::DeleteChild(name)
+    } else if is_text(word, b"terminate") {
+        Call::TerminateChild(name)
+    } else {
+        Call::GetChildspec(name)
+    }
 }
 
 /// A reason that may be left out, as the last word.

@@ -1,9 +1,11 @@
 //! Times as a script writes them: each form in which the program prints one.
 
-ghost use Rattle.std.specs.Prelude.{◌<◌, ◌≤◌, IfSome, length};
+ghost use Rattle.std.specs.Prelude.{◌≡◌, ◌<◌, ◌≤◌, IfOk, IfSome, Some, length, option_map};
+ghost use Rattle.otp_script.specs.Times.{digit_value, is_no_digit, milliseconds_in, most_of, scaled, thousandths_in, unit_of};
+ghost use Rattle.otp_text.specs.Words.{number_up_to};
 
 use crate::fault::ScriptFault;
-use crate::words::next_word;
+use crate::words::{is_text, next_word};
 use otp_spec::MAX_READING;
 use otp_text::read_number;
 
@@ -21,19 +23,28 @@ enum Unit {
 
 impl Unit {
     /// The unit of this word.
-    fn of_word(word: &[u8]) -> Option<Self> {
-        match word {
-            b"ms" => Some(Unit::Millisecond),
-            b"s" => Some(Unit::Second),
-            b"m" => Some(Unit::Minute),
-            b"h" => Some(Unit::Hour),
-            _ => None,
+    #[tactic(auto, unfolding(crate::specs::Times::unit_of))]
+    fn of_word(word: &[u8]) -> Option<Self>
+        ensures { result ≡ unit_of word.now }
+    {
+        if is_text(word, b"ms") {
+            Some(Unit::Millisecond)
+        } else if is_text(word, b"s") {
+            Some(Unit::Second)
+        } else if is_text(word, b"m") {
+            Some(Unit::Minute)
+        } else if is_text(word, b"h") {
+            Some(Unit::Hour)
+        } else {
+            None
         }
     }
 
     /// How many milliseconds it has.
+    #[tactic(auto, unfolding(crate::specs::Times::milliseconds_in))]
     fn milliseconds(self) -> u64
-        ensures { result ≤ 3600000 }
+        ensures value { result ≡ milliseconds_in self }
+        ensures limit { result ≤ 3600000 }
     {
         match self {
             Unit::Millisecond => 1,
@@ -44,7 +55,10 @@ impl Unit {
     }
 
     /// The greatest number of it.
-    fn most(self) -> u64 {
+    #[tactic(auto, unfolding(crate::specs::Times::most_of))]
+    fn most(self) -> u64
+        ensures { result ≡ most_of self }
+    {
         match self {
             Unit::Millisecond => MAX_READING,
             Unit::Second | Unit::Minute | Unit::Hour => MOST_UNITS,
@@ -79,9 +93,18 @@ fn place_of_point(number: &[u8]) -> Option<usize>
     number.iter().position(|byte| *byte == b'.')
 }
 
+/// Whether the byte is no digit.
+fn is_no_digit(byte: u8) -> bool
+    ensures { result ≡ is_no_digit byte }
+{
+    !byte.is_ascii_digit()
+}
+
 /// How much a digit says; nothing where it is none.
+#[tactic(auto, unfolding(crate::specs::Times::digit_value))]
 fn digit(byte: u8) -> u64
-    ensures { result ≤ 9 }
+    ensures value { result ≡ digit_value byte }
+    ensures limit { result ≤ 9 }
 {
     if byte.is_ascii_digit() {
         u64::from(byte - b'0')
@@ -91,10 +114,12 @@ fn digit(byte: u8) -> u64
 }
 
 /// The thousandths that one to three digits behind the point say.
+#[tactic(auto, unfolding(crate::specs::Times::thousandths_in, crate::specs::Times::thousandths_of))]
 fn thousandths(digits: &[u8]) -> Option<u64>
-    ensures { IfSome result (λ count. count ≤ 999) }
+    ensures value { result ≡ thousandths_in digits.now }
+    ensures limit { IfSome result (λ count. count ≤ 999) }
 {
-    if digits.iter().any(|byte| !byte.is_ascii_digit()) {
+    if digits.iter().any(|byte| is_no_digit(*byte)) {
         return None;
     }
     match digits {
@@ -106,7 +131,10 @@ fn thousandths(digits: &[u8]) -> Option<u64>
 }
 
 /// So many of this unit, in milliseconds.
-fn time_of(number: &[u8], unit: Unit) -> Result<u64, ScriptFault> {
+#[tactic(auto, unfolding(crate::specs::Times::scaled))]
+fn time_of(number: &[u8], unit: Unit) -> Result<u64, ScriptFault>
+    ensures { IfOk result (λ time. option_map (scaled unit) (number_up_to (most_of unit) number.now) ≡ Some time) }
+{
     match read_number(unit.most(), number) {
         Some(count) => Ok(count.saturating_mul(unit.milliseconds())),
         None => Err(fault_of_number(number)),

@@ -1,24 +1,38 @@
 //! Words of a line: what stands between spaces and tabs.
 
-ghost use Rattle.std.specs.Prelude.{◌<◌, ◌≤◌, IfSome, length};
+ghost use Rattle.std.specs.Prelude.{◌≡◌, ◌<◌, ◌≤◌, IfSome, length, not, option_map, position};
+ghost use Rattle.std.specs.Str.{bytes_eq};
+ghost use Rattle.otp_script.specs.Spaced.{is_space, word_in, word_to};
 
 use otp_text::LONGEST_LINE;
 
+/// Whether the word is this text.
+pub fn is_text(word: &[u8], text: &[u8]) -> bool
+    ensures { result ≡ bytes_eq word.now text.now }
+{
+    word == text
+}
+
 /// Whether the byte stands between words.
-fn is_space(byte: u8) -> bool {
+#[tactic(auto, unfolding(crate::specs::Spaced::is_space))]
+fn is_space(byte: u8) -> bool
+    ensures { result ≡ is_space byte }
+{
     matches!(byte, b' ' | b'\t' | b'\r')
 }
 
 /// The place of the first byte that stands between words.
 fn first_space(line: &[u8]) -> Option<usize>
-    ensures { IfSome result (λ place. place < length line.now) }
+    ensures place { result ≡ position is_space line.now }
+    ensures inside { IfSome result (λ place. place < length line.now) }
 {
     line.iter().position(|byte| is_space(*byte))
 }
 
 /// The place of the first byte of a word.
 fn first_letter(line: &[u8]) -> Option<usize>
-    ensures { IfSome result (λ place. place < length line.now) }
+    ensures place { result ≡ position (λ byte. not (is_space byte)) line.now }
+    ensures inside { IfSome result (λ place. place < length line.now) }
 {
     line.iter().position(|byte| !is_space(*byte))
 }
@@ -129,11 +143,21 @@ pub(crate) fn strip_end(line: &[u8]) -> &[u8] {
 }
 
 /// The first word, which has at least one byte, and what stands after it; `None` where there is none.
+#[tactic(auto, unfolding(crate::specs::Spaced::word_in, crate::specs::Spaced::word_from))]
 pub fn next_word(line: &[u8]) -> Option<(&[u8], &[u8])>
-    ensures { IfSome result (λ found. 0 < length found.0.now) }
+    ensures word { option_map (λ found. (found.0.now, found.1.now)) result ≡ word_in line.now }
+    ensures some { IfSome result (λ found. 0 < length found.0.now) }
 {
     let first = first_letter(line)?;
-    let line = &line[first..];
+    word_of(&line[first..])
+}
+
+/// The word that a line begins with, and what stands after it.
+#[tactic(auto, unfolding(crate::specs::Spaced::word_to))]
+fn word_of(line: &[u8]) -> Option<(&[u8], &[u8])>
+    ensures word { option_map (λ found. (found.0.now, found.1.now)) result ≡ word_to line.now (position is_space line.now) }
+    ensures some { 0 < length line.now → IfSome result (λ found. 0 < length found.0.now) }
+{
     match first_space(line) {
         None => Some((line, &[])),
         Some(0) => None,

@@ -3,7 +3,7 @@ ghost use Rattle.std.specs.Prelude.{◌≡◌, ◌<◌, ◌≤◌, ◌++◌, Som
 ghost use Rattle.std.specs.Option.{option_map};
 ghost use Rattle.otp_file.specs.Trees.{tables_of};
 ghost use Rattle.otp_jobs.specs.Plans.{plan_fault};
-ghost use Rattle.otp_jobs.specs.Runs.{IsNotPlanned, IsOfRun, line_of, run_fault};
+ghost use Rattle.otp_jobs.specs.Runs.{IsNotPlanned, IsOfRun, line_of, run_fault, unrun_fault};
 ghost use Rattle.otp_run.specs.Rule.{all_parts};
 ghost use Rattle.otp_serve.specs.Serves.{served_text};
 ghost use Rattle.otp_close.specs.Closes.{IsReportOf};
@@ -24,7 +24,8 @@ pub type PatientReport = Report<PatientJob, Calm>;
 
 /// Why a tree was not opened or not closed.
 fn fault_of(why: RunFault<PatientJob, Calm>) -> FileRunFault
-    ensures { IsNotPlanned result }
+    ensures kind { IsNotPlanned result }
+    ensures fault { result ≡ unrun_fault why }
 {
     match why {
         RunFault::Open(fault) => FileRunFault::from(fault),

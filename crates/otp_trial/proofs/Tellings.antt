@@ -8,9 +8,9 @@ use Rattle.otp_rules.specs.Run.{state_after}
 use Rattle.otp_rules.specs.State.{State}
 use Rattle.otp_rules.specs.Step.{step}
 use Rattle.otp_trial.specs.Played.{Begins, Happens, IsAt, Lead, Move, Seated, Tells, TellsFirst, move_text, seat_after, starts_of, state_in, story}
-use Rattle.otp_trial.specs.Starts.{started_by, starts_in}
-use Rattle.otp_trial.specs.Story.{event_text}
-use Rattle.otp_trial.specs.declared.starts.Started.{Started}
+use Rattle.otp_telling.specs.Starts.{started_by, starts_in}
+use Rattle.otp_telling.specs.Story.{event_text}
+use Rattle.otp_telling.specs.declared.starts.Started.{Started}
 
 -- the state after one event more
 pub pushed : (s : State) (es : List Event) (e : Event) → state_after s (es ++ e ∷ []) ≡ (step (state_after s es) e).state

@@ -1,11 +1,8 @@
 -- What a clock shows (own).
-use Rattle.std.specs.Prelude.{ℕ, ◌/◌, ◌*◌}
+use Rattle.std.specs.Prelude.{ℕ}
+use Rattle.otp_telling.specs.Strains.{second}
 use Rattle.otp_trial.specs.declared.clock.Clock.{Clock}
 use Rattle.otp_trial.specs.declared.clock.Clock.TheVariants.{Milliseconds, Seconds}
-
--- the second that has begun at this time, in milliseconds
-abbrev pub second : ℕ → ℕ
-second time = time / 1000 * 1000
 
 -- what a clock shows at a time in milliseconds: that, or the second that has begun
 unfoldable pub shown : Clock → ℕ → ℕ

@@ -3,7 +3,7 @@ use Rattle.std.specs.Prelude.{◌≡◌, true}
 use Rattle.otp_rules.specs.Run.{empty_state}
 use Rattle.otp_trial.specs.declared.seat.Seat.TheInside.{Inside}
 use Rattle.otp_trial.specs.Played.{Seated}
-use Rattle.otp_trial.specs.Starts.{started_by}
+use Rattle.otp_telling.specs.Starts.{started_by}
 
 abbrev pub seated_of : Inside → Seated
 seated_of s = record { path = s.path.items; tells = s.tells; base = s.core.base; history = s.core.history; strain = s.strain }

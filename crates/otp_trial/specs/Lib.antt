@@ -1,9 +1,7 @@
 pub mod Clocks
-pub mod Strains
-pub mod Starts
-pub mod Story
-pub mod World
 pub mod Played
+pub mod Steps
+pub mod Next
 pub mod Inside
 pub mod TrialInside
 pub mod Taken

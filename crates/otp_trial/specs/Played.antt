@@ -1,15 +1,10 @@
 -- A tree that is tried: its supervisors, each with its events so far, and how calls of a trial add to them (own).
-use Rattle.std.specs.Prelude.{◌≡◌, ℕ, ◌<◌, ◌+◌, ◌==◌, Bool, true, false, not, List, [], ◌∷◌, ◌++◌, Option, Some, None, count_by, if◌then◌else◌, is_some, length, option_map, position, slice_get, slice_index_or, slice_set}
+use Rattle.std.specs.Prelude.{◌≡◌, ℕ, ◌<◌, ◌+◌, ◌==◌, Bool, true, false, not, List, [], ◌∷◌, ◌++◌, Option, Some, None, count_by, if◌then◌else◌, is_some, length, position, slice_index_or, slice_set}
 use Rattle.std.specs.List.{flat_map, list_any}
-use Rattle.std.specs.Option.{option_eq}
-use Rattle.std.specs.Ordering.{on}
-use Rattle.std.specs.Str.{bytes_eq}
 use Rattle.otp_file.specs.Trees.{Table, Tree}
-use Rattle.otp_reason.specs.Names.{name_bytes}
 use Rattle.otp_reason.specs.declared.name.Name.{Name}
 use Rattle.otp_reason.specs.declared.note.Note.TheVariants as note
 use Rattle.otp_reason.specs.declared.reason.Reason.{Reason}
-use Rattle.otp_rules.specs.declared.call.Call.TheVariants as call
 use Rattle.otp_rules.specs.declared.event.Event.{Event}
 use Rattle.otp_rules.specs.declared.event.Item.TheVariants as item
 use Rattle.otp_rules.specs.declared.event.Kind.{Kind}
@@ -22,25 +17,23 @@ use Rattle.otp_rules.specs.Stops.{is_exit}
 use Rattle.otp_spec.specs.declared.child.ChildSpec.{ChildSpec}
 use Rattle.otp_spec.specs.declared.flags.SupFlags.{SupFlags}
 use Rattle.otp_spec.specs.Flags.{is_simple}
-use Rattle.otp_table.specs.declared.row.Row.{Row}
 use Rattle.otp_table.specs.declared.row.RowState.{RowState}
 use Rattle.otp_table.specs.declared.row.RowState.TheVariants.{Undefined, Starting, Up, Asked, Killed, Restarting}
-use Rattle.otp_table.specs.Rows.{has_id, has_process, row_has}
 use Rattle.otp_script.specs.declared.step.Action.{Action}
 use Rattle.otp_script.specs.declared.step.Action.TheVariants as action
 use Rattle.otp_script.specs.declared.step.Child.{Child}
-use Rattle.otp_script.specs.declared.step.Child.TheVariants as child
 use Rattle.otp_script.specs.declared.step.Expected.{Expected}
 use Rattle.otp_script.specs.declared.step.Expected.TheVariants as expected
-use Rattle.otp_trial.specs.declared.strain.Strain.{Strain}
-use Rattle.otp_trial.specs.Strains.{strained_by, unstrained}
-use Rattle.otp_trial.specs.declared.finding.Found.{Found}
-use Rattle.otp_trial.specs.declared.finding.Found.TheVariants as found
+use Rattle.otp_telling.specs.declared.strain.Strain.{Strain}
+use Rattle.otp_telling.specs.Strains.{strained_by, unstrained}
+use Rattle.otp_world.specs.Finding.{found_for, state_for}
+use Rattle.otp_world.specs.declared.finding.Found.{Found}
+use Rattle.otp_world.specs.declared.finding.Found.TheVariants as found
 use Rattle.otp_trial.specs.declared.trial.ActionEnd.{ActionEnd}
 use Rattle.otp_trial.specs.declared.trial.ActionEnd.TheVariants as taken
-use Rattle.otp_trial.specs.Starts.{started_by}
-use Rattle.otp_trial.specs.Story.{event_text}
-use Rattle.otp_trial.specs.declared.starts.Started.{Started}
+use Rattle.otp_telling.specs.Starts.{is_of_id, is_start_of, started_by}
+use Rattle.otp_telling.specs.Story.{event_text}
+use Rattle.otp_telling.specs.declared.starts.Started.{Started}
 
 -- a supervisor of the tree: what stands in front of the names of its children, as `sub/`, whether all its orders are told or
 -- its ends alone, its events since it was last started, and how it bore up over the whole run
@@ -121,37 +114,6 @@ story ms = flat_map move_text ms
 abbrev pub Tells : List Seated → List Seated → List ℕ → List ℕ → Type 0
 Tells old new before after = (ms : List Move) × Lead old ms new × (after ≡ before ++ story ms)
 
--- the process that a child with this state has
-unfoldable pub found_in_state : RowState → Found
-found_in_state Undefined = found.NoProcess
-found_in_state (Starting p _) = found.Process p
-found_in_state (Up p) = found.Process p
-found_in_state (Asked p _) = found.Process p
-found_in_state (Killed p) = found.Process p
-found_in_state (Restarting _) = found.NoProcess
-
-unfoldable pub found_in_row : Option Row → Found
-found_in_row None = found.NoChild
-found_in_row (Some row) = found_in_state row.state
-
-unfoldable pub found_at : List Row → Option ℕ → Found
-found_at rows None = found.NoChild
-found_at rows (Some place) = found_in_row (slice_get rows place)
-
--- the process of the child that a script means: the first with that id, or the one with that process number
-unfoldable pub found_for : Child → List Row → Found
-found_for (child.Named id) rows = found_at rows (position (has_id id) rows)
-found_for (child.Numbered p) rows = found_at rows (position (row_has (has_process p)) rows)
-
--- the child that a line names and that has to be there for it, by its id: that of a call, or one whose next start is planned
-unfoldable pub child_named : Action → Option Name
-child_named (action.Call (call.RestartChild id)) = Some id
-child_named (action.Call (call.DeleteChild id)) = Some id
-child_named (action.Call (call.GetChildspec id)) = Some id
-child_named (action.Call (call.TerminateChild id)) = Some id
-child_named (action.Start id _) = Some id
-child_named _ = None
-
 -- the first move is an event of this kind at this place
 abbrev pub Begins : ℕ → Kind → List Seated → List Seated → Type 0
 Begins place k old new = (seat : Seated) × (e : Event) × (ms : List Move)
@@ -202,27 +164,9 @@ unfoldable pub Stops : Bool → ℕ → List Seated → ActionEnd → List Seate
 Stops true place old answer new = (answer ≡ taken.Ended) × (new ≡ old)
 Stops false place old answer new = (answer ≡ taken.Done) × StopsFirst place old new
 
--- the state of the child that a script means
-unfoldable pub state_at : List Row → Option ℕ → Option RowState
-state_at rows None = None
-state_at rows (Some place) = option_map (λ row. row.state) (slice_get rows place)
-
-unfoldable pub state_for : Child → List Row → Option RowState
-state_for (child.Named id) rows = state_at rows (position (has_id id) rows)
-state_for (child.Numbered p) rows = state_at rows (position (row_has (has_process p)) rows)
-
--- a start of the child with this id
-unfoldable pub is_of_id : Name → Started → Bool
-is_of_id id started = option_eq (on name_bytes bytes_eq) started.id (Some id)
-
 -- how many starts of it its supervisor ordered since it was started itself
 abbrev pub starts_for : Name → Seated → ℕ
 starts_for id seat = count_by (is_of_id id) (starts_of seat)
-
--- a start of the child that a script means
-unfoldable pub is_start_of : Child → Started → Bool
-is_start_of (child.Named id) started = is_of_id id started
-is_start_of (child.Numbered p) started = started.process == p
 
 -- the child is there no more, but its supervisor has started it: what becomes of what is expected then, or of what nobody
 -- could mean

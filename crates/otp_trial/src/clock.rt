@@ -1,7 +1,9 @@
 //! By which clock restarts are counted.
 
-ghost use Rattle.std.specs.Prelude.{◌≡◌, ◌≤◌, ◌/◌, ◌*◌};
-ghost use Rattle.otp_trial.specs.Clocks.{second, shown};
+ghost use Rattle.std.specs.Prelude.{◌≡◌, ◌≤◌};
+ghost use Rattle.otp_trial.specs.Clocks.{shown};
+
+use otp_telling::strain::second;
 
 /// By which clock a trial is played.
 #[derive(Clone, Copy, Debug, PartialEq, Eq)]
@@ -10,14 +12,6 @@ pub enum Clock {
     Milliseconds,
     /// The clock shows whole seconds, as that does by which OTP up to today counts restarts.
     Seconds,
-}
-
-/// The second that has begun at this time, in milliseconds.
-pub(crate) fn second(time: u64) -> u64
-    ensures value { result ≡ second time }
-    ensures before { result ≤ time }
-{
-    time - time % 1000
 }
 
 impl Clock {

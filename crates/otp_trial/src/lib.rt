@@ -5,20 +5,15 @@
 #![tactic(auto)]
 
 pub mod clock;
-pub mod finding;
+mod next;
 mod planting;
 mod seat;
-pub mod starts;
-pub mod strain;
-pub mod telling;
-pub mod time;
+pub mod steps;
 pub mod trial;
-pub mod world;
 
 pub use clock::Clock;
+pub use otp_telling::{Started, Strain, starts, strain, telling, time};
+pub use otp_world::{Hang, Plan, finding, world};
 pub use planting::plant_seats;
 pub use seat::Seat;
-pub use starts::Started;
-pub use strain::Strain;
 pub use trial::{ActionEnd, Halt, Trial};
-pub use world::{Hang, Plan};

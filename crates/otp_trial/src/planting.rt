@@ -5,10 +5,10 @@ ghost use Rattle.otp_trial.specs.Played.{AddsTree, IsPlanted, fresh, unplayed};
 
 use crate::seat::Seat;
 use crate::trial::Halt;
-use crate::world::Home;
 use otp_file::{MAX_DEPTH, TreeSpec};
 use otp_reason::Name;
 use otp_spec::{ChildSpec, SupSpec};
+use otp_world::Home;
 use std::alloc::{AllocError, Global};
 
 /// The supervisors of a tree, a parent before its children, and whose child each of them is.

@@ -10,16 +10,17 @@ ghost use Rattle.otp_trial.specs.Taken.{taken_text};
 ghost use Rattle.otp_trial.specs.declared.trial.ActionEnd.TheVariants.{Done};
 
 use crate::clock::Clock;
-use crate::finding::{Found, found_for, is_known};
+use crate::next::{next_of_seats, place_of_process};
 use crate::planting::{fresh_seats, plant};
 use crate::seat::Seat;
-use crate::world::{Deed, Hang, Plan, What, World};
 use otp_core::CutFault;
 use otp_file::TreeSpec;
 use otp_reason::{Name, Note, Reason};
 use otp_rules::{Call, Item, Kind};
 use otp_script::{Action, Child, Expected, NextStart};
 use otp_text::Printer;
+use otp_world::finding::{Found, found_for, is_known};
+use otp_world::{Deed, Hang, Plan, What, World};
 use std::alloc::{AllocError, Global};
 use std::marker::Model;
 
@@ -234,12 +235,7 @@ impl Trial {
     pub fn place_of_process(&self, process: u64) -> usize
         ensures { result < length self.now }
     {
-        for place in 0..self.seats.len() {
-            if self.world.has_process(place) && has_child(&self.seats[place], process) {
-                return place;
-            }
-        }
-        0
+        place_of_process(&self.world, self.seats.as_slice(), process)
     }
 
     /// Whether each of the supervisors has a process. The root always has one.
@@ -333,29 +329,13 @@ impl Trial {
         self.happen(place, Kind::Opened(process), out)
     }
 
-    /// What a supervisor does next though nobody tells it anything: a deadline, a stop that is wanted, what waits.
-    fn next_of_seats(&self) -> Option<Deed> {
-        for place in 0..self.seats.len() {
-            if self.world.has_process(place) {
-                let is_stopping = self.world.is_stopping(place);
-                if let Some(kind) = self.seats[place].next_kind(self.now(), is_stopping) {
-                    return Some(Deed {
-                        place,
-                        what: What::Happen(kind),
-                    });
-                }
-            }
-        }
-        None
-    }
-
     /// What happens next by itself, if something does.
     fn next_deed(&mut self) -> Option<Deed>
         ensures { self.new ≡ self.old }
     {
         match self.world.next_deed() {
             Some(deed) => Some(deed),
-            None => self.next_of_seats(),
+            None => next_of_seats(&self.world, self.seats.as_slice(), self.now()),
         }
     }
 
@@ -621,11 +601,6 @@ impl Trial {
         self.play(place, Kind::Took(Item::Call(number, call)), out)?;
         Ok(ActionEnd::Done)
     }
-}
-
-/// Whether a child of this supervisor has a process of this number.
-fn has_child(seat: &Seat, process: u64) -> bool {
-    seat.rows().iter().any(|row| row.state.has_process(process))
 }
 
 /// The earlier of two times, where there are any.

@@ -1,5 +1,5 @@
 -- What is on the page and what is written, one after another.
-use Rattle.std.specs.Prelude.{◌≡◌, ℕ, Bool, true, false, List, [], ◌∷◌, ◌++◌, Option, Result, Ok, Err, OnOk, OnErr, refl}
+use Rattle.std.specs.Prelude.{◌≡◌, ℕ, Bool, true, List, [], ◌∷◌, ◌++◌, Option, Result, Ok, Err, OnOk, OnErr, refl}
 use Rattle.std.proofs.Common.{◌∙◌, ap, sym, subst, append_assoc, append-nil}
 use Rattle.std.proofs.KnownBytes.{Appends-nil, Appends-trans}
 use Rattle.std.specs.Io.KnownBytes.{Appends}
@@ -7,20 +7,17 @@ use Rattle.otp_file.specs.Trees.{Tree}
 use Rattle.otp_rules.specs.declared.event.Kind.TheVariants as kind
 use Rattle.otp_sim.specs.Devices.{AppendsPart}
 use Rattle.otp_timeline.specs.declared.moment.Moment.{Moment}
-use Rattle.otp_try.specs.Fit.{fit}
-use Rattle.otp_try.specs.Page.{Adds, IsStand, IsSummary, IsWhole, Piece, Remark, drawing, pieces_text, remark_text, stand_text, summary_text, whole_text}
+use Rattle.otp_try.specs.Page.{Adds, Piece, Remark, pieces_text, remark_text}
+use Rattle.otp_remarks.specs.Summaries.{IsSummary}
+use Rattle.otp_remarks.specs.Sketched.{drawing}
 use Rattle.otp_try.specs.Page.Remark.{Picture, Status, Summary}
 use Rattle.otp_try.specs.Pages.{AddsTo, Closing, Concluded, Ended, IsHalt, Played, Ran, StopsSo, SumsUp, Unopened, WritesOut, Wrote, WrotePart, end_of}
 use Rattle.otp_trial.specs.Played.{IsPlanted, Seated, TellsFirst}
-use Rattle.otp_try.specs.Prompt.{standings_text}
-use Rattle.otp_try.specs.Unused.{unused_text}
-use Rattle.otp_try.specs.Verdict.{run_verdict}
+use Rattle.otp_remarks.specs.Prompt.{standings_text}
 use Rattle.otp_try.specs.declared.early.EarlyEnd.{EarlyEnd}
 use Rattle.otp_try.specs.declared.early.EarlyEnd.TheVariants.{LineRefused, LineMissed, HistoryFull, InputFailed, OutputFailed, OutOfMemory}
 use Rattle.otp_try.specs.declared.play.TryEnd.{TryEnd}
 use Rattle.otp_try.specs.declared.play.TryEnd.TheVariants as try
-use Rattle.otp_trial.specs.declared.world.Hang.{Hang}
-use Rattle.otp_trial.specs.declared.world.Plan.{Plan}
 use Rattle.otp_try.proofs.Pieces.{adds-then, adds_nothing, adds_remark, adds_sheet, leads-append, text-append}
 
 -- ---- the page
@@ -43,41 +40,6 @@ pub status_remark : {T E : Type 0} (r : Result T E) (seats : List Seated) (x y :
 unfolding remark_text
 status_remark (Ok _) seats x y (now, others, put) = (Status now (true ∷ others), put)
 status_remark (Err _) seats x y put = tt
-
--- how the supervisors stand was written down
-pub some_stand : {T E : Type 0} (r : Result T E) (seats : List Seated) (now : ℕ) (others : List Bool) (plans : List Plan) (hanging : List Hang) (x y z : List ℕ)
-    → y ≡ x ++ standings_text now seats (true ∷ others) → OnOk r (z ≡ y ++ unused_text seats plans hanging)
-    → OnOk r ((stand : List ℕ) × IsStand seats stand × (z ≡ x ++ stand))
-unfolding stand_text
-some_stand (Ok _) seats now others plans hanging x y z first second =
-    let standings : List ℕ = standings_text now seats (true ∷ others) in
-    let unused : List ℕ = unused_text seats plans hanging in
-    (standings ++ unused, (now, others, plans, hanging, refl), second ∙ ap (λ (t : List ℕ). t ++ unused) first ∙ append_assoc x standings unused)
-some_stand (Err _) seats now others plans hanging x y z first second = tt
-
--- and then the verdict
-pub some_whole : {T E : Type 0} (r : Result T E) (seats : List Seated) (x y z : List ℕ) → ((stand : List ℕ) × IsStand seats stand × (y ≡ x ++ stand))
-    → OnOk r (z ≡ y ++ run_verdict seats) → OnOk r ((whole : List ℕ) × IsWhole seats whole × (z ≡ x ++ whole))
-unfolding whole_text
-some_whole (Ok _) seats x y z (stand, (now, others, plans, hanging, is), first) second =
-    let verdict : List ℕ = run_verdict seats in (
-      stand ++ verdict,
-      (false, now, others, plans, hanging, ap (λ (t : List ℕ). t ++ verdict) is),
-      second ∙ ap (λ (t : List ℕ). t ++ verdict) first ∙ append_assoc x stand verdict,
-    )
-some_whole (Err _) seats x y z first second = tt
-
--- or that alone
-pub some_quiet : {T E : Type 0} (r : Result T E) (seats : List Seated) (x z : List ℕ) → OnOk r (z ≡ x ++ run_verdict seats)
-    → OnOk r ((whole : List ℕ) × IsWhole seats whole × (z ≡ x ++ whole))
-unfolding whole_text
-some_quiet (Ok _) seats x z put = (run_verdict seats, (true, 0, [], [], [], refl), put)
-some_quiet (Err _) seats x z put = tt
-
--- and it is the summary in lines of at most 80 columns
-pub whole_fitted : (seats : List Seated) (whole lines : List ℕ) → IsWhole seats whole → lines ≡ fit [] whole → IsSummary seats lines
-unfolding summary_text
-whole_fitted seats whole lines (is_quiet, now, others, plans, hanging, is) fitted = (is_quiet, now, others, plans, hanging, fitted ∙ ap (λ (t : List ℕ). fit [] t) is)
 
 -- a text was put on the page, or nothing
 pub puts_remark : {T E : Type 0} (r : Result T E) (a b : List Seated) (x y text : List ℕ) (said : Remark) → b ≡ a → text ≡ remark_text said a

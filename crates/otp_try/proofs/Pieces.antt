@@ -1,7 +1,8 @@
 -- Pieces of a run that come one after another.
 use Rattle.std.specs.Prelude.{◌≡◌, ℕ, Bool, List, [], ◌∷◌, ◌++◌, map, refl, slice_set}
 use Rattle.std.proofs.Common.{◌∙◌, ap, sym, subst, append_assoc, append-nil}
-use Rattle.otp_try.specs.Page.{Adds, Leads, Moved, Piece, Remark, Said, Undone, heading_line, pieces_text, remark_text, shown, verdict_text}
+use Rattle.otp_try.specs.Page.{Adds, Leads, Moved, Piece, Remark, Said, Undone, pieces_text, remark_text, shown, verdict_text}
+use Rattle.otp_remarks.specs.Lines.{heading_line}
 use Rattle.otp_try.specs.Page.Remark.{Heading, Verdict}
 use Rattle.otp_trial.specs.Played.{Lead, Move, Seated, Tells, fresh, move_text, seat_after, story}
 use Rattle.otp_try.specs.declared.play.Writer.{Writer}

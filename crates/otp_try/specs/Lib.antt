@@ -1,10 +1,3 @@
-pub mod Fit
-pub mod Texts
-pub mod Sketched
-pub mod Standing
-pub mod Awaiting
-pub mod Prompt
-pub mod Unused
-pub mod Verdict
+pub mod Asked
 pub mod Page
 pub mod Pages

@@ -2,23 +2,21 @@
 -- them (own).
 use Rattle.std.specs.Prelude.{◌≡◌, ℕ, Bool, true, false, Option, List, [], ◌∷◌, ◌++◌, codes, map, slice_set}
 use Rattle.otp_timeline.specs.declared.moment.Moment.{Moment}
-use Rattle.otp_try.specs.Fit.{fit}
+use Rattle.otp_remarks.specs.Lines.{heading_line, known_text, unmet_text}
 use Rattle.otp_trial.specs.Played.{IsAt, Lead, Move, Seated, fresh, move_text, seat_after}
-use Rattle.otp_try.specs.Prompt.{prompt_text, standings_text}
-use Rattle.otp_try.specs.Sketched.{picture}
-use Rattle.otp_trial.specs.Story.{number_after}
+use Rattle.otp_remarks.specs.Prompt.{prompt_text, standings_text}
+use Rattle.otp_remarks.specs.Sketched.{drawing}
+use Rattle.otp_remarks.specs.Summaries.{summary_text}
 use Rattle.otp_script.specs.Faults.{fault_text}
 use Rattle.otp_trial.specs.Taken.{taken_text}
-use Rattle.otp_try.specs.Texts.{farewell_text, help_text, legend_text, welcome_text}
-use Rattle.otp_try.specs.Unused.{unused_text}
-use Rattle.otp_try.specs.Verdict.{run_verdict}
+use Rattle.otp_remarks.specs.Texts.{farewell_text, help_text, legend_text, welcome_text}
 use Rattle.otp_try.specs.declared.play.Writer.{Writer}
 use Rattle.otp_try.specs.declared.play.Writer.TheVariants as writer
 use Rattle.otp_script.specs.declared.fault.ScriptFault.{ScriptFault}
 use Rattle.otp_trial.specs.declared.trial.ActionEnd.{ActionEnd}
 use Rattle.otp_trial.specs.declared.trial.ActionEnd.TheVariants as taken
-use Rattle.otp_trial.specs.declared.world.Hang.{Hang}
-use Rattle.otp_trial.specs.declared.world.Plan.{Plan}
+use Rattle.otp_world.specs.declared.plans.Hang.{Hang}
+use Rattle.otp_world.specs.declared.plans.Plan.{Plan}
 
 -- what is told beside the orders
 pub data Remark : Type 0 where
@@ -33,7 +31,7 @@ pub data Remark : Type 0 where
   -- behind what a line did, if that is told: its number and text, whether it names nobody, and what became of it
   Verdict : Bool → Writer → ℕ → List ℕ → Bool → ActionEnd → Remark
   -- the prompt at this time; what happens next by itself, and whether events wait
-  Prompt : Writer → ℕ → Option ℕ → Bool → Remark
+  Prompt : ℕ → Option ℕ → Bool → Remark
   -- how the supervisors stand at this time, of which these have a process
   Status : ℕ → List Bool → Remark
   -- where the input ends: the end of the line of the prompt
@@ -43,28 +41,6 @@ pub data Remark : Type 0 where
   Summary : Bool → ℕ → List Bool → List Plan → List Hang → Remark
   -- how these supervisors stood at these moments
   Picture : Bool → List Seated → List Moment → Remark
-
--- the number of a line
-unfoldable pub line_number : ℕ → List ℕ
-line_number number = number_after (codes "line ") number
-
--- what stands above what a line does, if it has a heading
-unfoldable pub heading_line : Bool → ℕ → List ℕ → List ℕ
-heading_line false number line = []
-heading_line true number line = line_number number ++ codes ": " ++ line ++ codes "\n"
-
--- that a line names a child which isn't there
-unfoldable pub unknown_text : ℕ → List ℕ
-unknown_text number = line_number number ++ codes ": there is no such child; which lists the root's, PATH/ which those below\n"
-
--- of a line that was taken: whether it names a child which isn't there
-unfoldable pub known_text : ℕ → Bool → List ℕ
-known_text number true = unknown_text number
-known_text number false = []
-
--- that it isn't as a line expects
-unfoldable pub unmet_text : ℕ → List ℕ → List ℕ
-unmet_text number line = line_number number ++ codes ": it is not so: " ++ line ++ codes "\n"
 
 -- a sentence for a person; a script ends with it
 unfoldable pub reply_text : Writer → List ℕ → List ℕ
@@ -82,42 +58,9 @@ unfoldable pub shown : Bool → List ℕ → List ℕ
 shown false text = []
 shown true text = text
 
--- the picture of these moments, if there are some
-unfoldable pub drawing : Bool → List Seated → List Moment → List ℕ
-drawing is_coloured seats [] = []
-drawing is_coloured seats (moment ∷ moments) = picture is_coloured seats (moment ∷ moments)
-
 -- why a line can't be read
 unfoldable pub fault_line : ScriptFault → List ℕ
 fault_line why = fault_text why ++ codes "\n"
-
--- how the supervisors stand, what they await, and what was planned and never came
-unfoldable pub stand_text : ℕ → List Seated → List Bool → List Plan → List Hang → List ℕ
-stand_text now seats running plans hanging = standings_text now seats running ++ unused_text seats plans hanging
-
--- a text says so of these supervisors, of which the root has a process
-abbrev pub IsStand : List Seated → List ℕ → Type 0
-IsStand seats text =
-    (now : ℕ) × (others : List Bool) × (plans : List Plan) × (hanging : List Hang) × (text ≡ stand_text now seats (true ∷ others) plans hanging)
-
--- what is to be said at the end of a run: that, unless little is to be told, and the verdict
-unfoldable pub whole_text : Bool → ℕ → List Seated → List Bool → List Plan → List Hang → List ℕ
-whole_text true now seats running plans hanging = run_verdict seats
-whole_text false now seats running plans hanging = stand_text now seats running plans hanging ++ run_verdict seats
-
--- a text says so of these supervisors, of which the root has a process
-abbrev pub IsWhole : List Seated → List ℕ → Type 0
-IsWhole seats text =
-    (is_quiet : Bool) × (now : ℕ) × (others : List Bool) × (plans : List Plan) × (hanging : List Hang) × (text ≡ whole_text is_quiet now seats (true ∷ others) plans hanging)
-
--- what stands at the end of a run: the same in lines of at most 80 columns
-unfoldable pub summary_text : Bool → ℕ → List Seated → List Bool → List Plan → List Hang → List ℕ
-summary_text is_quiet now seats running plans hanging = fit [] (whole_text is_quiet now seats running plans hanging)
-
--- the same of a text
-abbrev pub IsSummary : List Seated → List ℕ → Type 0
-IsSummary seats text =
-    (is_quiet : Bool) × (now : ℕ) × (others : List Bool) × (plans : List Plan) × (hanging : List Hang) × (text ≡ summary_text is_quiet now seats (true ∷ others) plans hanging)
 
 -- what a remark says where the supervisors stand so
 unfoldable pub remark_text : Remark → List Seated → List ℕ
@@ -127,7 +70,7 @@ remark_text Legend seats = legend_text
 remark_text (Heading has_heading number line) seats = heading_line has_heading number line
 remark_text (Fault why) seats = fault_line why
 remark_text (Verdict is_told writer number line is_unknown taken) seats = shown is_told (verdict_text writer number line is_unknown taken)
-remark_text (Prompt writer now next waits) seats = prompt_text writer seats now next waits
+remark_text (Prompt now next waits) seats = prompt_text seats now next waits
 remark_text (Status now running) seats = standings_text now seats running
 remark_text Farewell seats = farewell_text
 remark_text (Summary is_quiet now running plans hanging) seats = summary_text is_quiet now seats running plans hanging

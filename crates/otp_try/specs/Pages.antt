@@ -4,7 +4,8 @@ use Rattle.std.specs.Io.KnownBytes.{Appends}
 use Rattle.otp_file.specs.Trees.{Tree}
 use Rattle.otp_rules.specs.declared.event.Kind.TheVariants as kind
 use Rattle.otp_sim.specs.Devices.{AppendsPart}
-use Rattle.otp_try.specs.Page.{Adds, IsSummary, Leads, Piece, pieces_text}
+use Rattle.otp_try.specs.Page.{Adds, Leads, Piece, pieces_text}
+use Rattle.otp_remarks.specs.Summaries.{IsSummary}
 use Rattle.otp_trial.specs.Played.{IsPlanted, Seated, TellsFirst}
 use Rattle.otp_try.specs.declared.early.EarlyEnd.{EarlyEnd}
 use Rattle.otp_try.specs.declared.early.EarlyEnd.TheVariants as early
@@ -12,8 +13,8 @@ use Rattle.otp_try.specs.declared.play.TryEnd.{TryEnd}
 use Rattle.otp_try.specs.declared.play.TryEnd.TheVariants.{Done, LineRefused, LineMissed, ExpectationFailed, HistoryFull, InputFailed, OutputFailed, OutOfMemory}
 use Rattle.otp_try.specs.declared.play.Writer.{Writer}
 use Rattle.otp_try.specs.declared.play.Writer.TheVariants as writer
-use Rattle.otp_try.specs.declared.sketch.Shows.{Shows}
-use Rattle.otp_try.specs.declared.sketch.Shows.TheVariants as shows
+use Rattle.otp_try.specs.declared.settings.Shows.{Shows}
+use Rattle.otp_try.specs.declared.settings.Shows.TheVariants as shows
 
 -- whole pieces were put on the page: all of what was done, or, where it went wrong, the pieces of a beginning of it
 abbrev pub AddsTo : {T E : Type 0} → Result T E → List Seated → List Seated → List ℕ → List ℕ → Type 0

@@ -4,22 +4,20 @@
 //! `specs/Page` says what a person or a script gets to see: the orders of the cores, and remarks between.
 #![tactic(auto)]
 
-mod awaited;
+mod asked;
+mod closing;
 mod early;
-mod fit;
-mod help;
+mod input;
 mod line;
+mod person;
 pub mod play;
-mod prompt;
 mod remark;
-mod sketch;
-mod state;
-mod unused;
-mod verdict;
+pub mod settings;
+mod taking;
 
 pub use otp_script::{
     Action, Child, Expected, NextStart, ScriptFault, Step, When, Word, read_step,
 };
 pub use otp_trial::{ActionEnd, Clock, Halt, Seat, Started, Strain, Trial, plant_seats};
 pub use play::{TryEnd, Writer, try_tree};
-pub use sketch::Shows;
+pub use settings::Shows;

@@ -10,11 +10,11 @@ use Rattle.otp_rules.specs.State.{State}
 use Rattle.otp_rules.specs.Step.{step}
 use Rattle.otp_spec.specs.declared.flags.SupFlags.{SupFlags}
 use Rattle.otp_trial.specs.Played.{Happens, Seated}
-use Rattle.otp_trial.specs.Starts.{started_by}
-use Rattle.otp_trial.specs.Strains.{strained, strained_by}
-use Rattle.otp_trial.specs.declared.strain.Strain.{Strain}
-use Rattle.otp_trial.specs.Story.{event_text, told_lines}
-use Rattle.otp_trial.specs.declared.starts.Started.{Started}
+use Rattle.otp_telling.specs.Starts.{started_by}
+use Rattle.otp_telling.specs.Strains.{strained, strained_by}
+use Rattle.otp_telling.specs.declared.strain.Strain.{Strain}
+use Rattle.otp_telling.specs.Story.{event_text, told_lines}
+use Rattle.otp_telling.specs.declared.starts.Started.{Started}
 use Rattle.otp_trial.proofs.Kept.{lines_same}
 use Rattle.otp_trial.proofs.Tellings.{pushed, started_after}
 use Rattle.otp_trial.proofs.seat.Seat.happen.Goals as goal

@@ -3,8 +3,10 @@ use Rattle.std.specs.List.{list_any}
 use Rattle.otp_script.specs.declared.step.Expected.{Expected}
 use Rattle.otp_table.specs.declared.row.Row.{Row}
 use Rattle.otp_table.specs.declared.row.RowState.{RowState}
-use Rattle.otp_trial.specs.Played.{end_of_ended, end_of_expected, end_of_up, is_start_of, starts_of, state_for, was_started}
-use Rattle.otp_trial.specs.declared.starts.Started.{Started}
+use Rattle.otp_trial.specs.Played.{end_of_ended, end_of_expected, end_of_up, starts_of, was_started}
+use Rattle.otp_telling.specs.Starts.{is_start_of}
+use Rattle.otp_world.specs.Finding.{state_for}
+use Rattle.otp_telling.specs.declared.starts.Started.{Started}
 use Rattle.otp_trial.proofs.seat.Seat.meets.Goals as goal
 
 pub returns-in-Up : goal.returns-in-Up

@@ -2,8 +2,7 @@ use Rattle.std.proofs.Common.{List, ap, refl}
 use Rattle.otp_try.specs.Page.{remark_text}
 use Rattle.otp_try.specs.Page.Remark.{Farewell, Fault, Help, Legend, Prompt, Welcome}
 use Rattle.otp_trial.specs.Played.{Seated}
-use Rattle.otp_try.specs.Prompt.{prompt_text}
-use Rattle.otp_try.specs.declared.play.Writer.TheVariants as writer
+use Rattle.otp_remarks.specs.Prompt.{prompt_text}
 use Rattle.otp_try.proofs.Pages.{some_remark, status_remark}
 use Rattle.otp_try.proofs.remark.Topic.write.Goals as goal
 
@@ -26,8 +25,8 @@ returns-in-Fault c = some_remark c.write_fault.result c.args.trial.now c.args.ou
 pub returns-in-Prompt : goal.returns-in-Prompt
 unfolding remark_text
 returns-in-Prompt c =
-    some_remark c.write_prompt.result c.args.trial.now c.args.out.now.items c.write_prompt.new.out.items (prompt_text writer.Person c.seats.result.now c.now.result c.next_time.result c.waits.result)
-    (Prompt writer.Person c.now.result c.next_time.result c.waits.result) (ap (λ (s : List Seated). prompt_text writer.Person s c.now.result c.next_time.result c.waits.result) c.seats.ensures) c.write_prompt.ensures
+    some_remark c.write_prompt.result c.args.trial.now c.args.out.now.items c.write_prompt.new.out.items (prompt_text c.seats.result.now c.now.result c.next_time.result c.waits.result)
+    (Prompt c.now.result c.next_time.result c.waits.result) (ap (λ (s : List Seated). prompt_text s c.now.result c.next_time.result c.waits.result) c.seats.ensures) c.write_prompt.ensures
 
 pub returns-in-Farewell : goal.returns-in-Farewell
 unfolding remark_text

@@ -1,0 +1,10 @@
+pub mod Fit
+pub mod Texts
+pub mod Sketched
+pub mod Standing
+pub mod Awaiting
+pub mod Prompt
+pub mod Unused
+pub mod Verdict
+pub mod Lines
+pub mod Summaries

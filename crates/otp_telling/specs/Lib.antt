@@ -1,0 +1,3 @@
+pub mod Strains
+pub mod Starts
+pub mod Story

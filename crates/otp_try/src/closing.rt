@@ -1,0 +1,108 @@
+//! The end of a run: how the supervisors stand, what was planned and never came, the verdict; or what was told before it went wrong.
+
+ghost use Rattle.std.specs.Prelude.{ℕ, List, Option};
+ghost use Rattle.otp_try.specs.Pages.{Ended, StopsSo, SumsUp, WritesOut, Wrote};
+ghost use Rattle.otp_trial.specs.Played.{Seated};
+
+use crate::early::EarlyEnd;
+use crate::play::{Play, TryEnd, Writer};
+use crate::settings::Settings;
+use otp_remarks::summary_of;
+use otp_remarks::unused::line_of_unknown;
+use otp_sim::{Input, Output, write_all};
+use otp_trial::ActionEnd;
+
+impl Play {
+    /// All lines of the input are played, and all that is told of them is written.
+    pub(crate) fn play<R: Input, W: Output>(
+        &mut self,
+        settings: Settings,
+        input: &mut R,
+        output: &mut W,
+    ) -> TryEnd
+        ensures { Ended result self.old.trial self.old.page.items (W.contents output.old) (W.contents output.new) }
+    {
+        match self.run(settings, input, output) {
+            Ok(()) => self.conclude(settings, output),
+            Err(end) => self.close_early(end, output),
+        }
+    }
+
+    /// The end of a run of which all lines were played: it is told how the supervisors stand, and what they await.
+    fn conclude<W: Output>(&mut self, settings: Settings, output: &mut W) -> TryEnd
+        ensures { (seats : List Seated) (page : List ℕ) (before : Option (List ℕ)) → Wrote seats self.old.trial page self.old.page.items before (W.contents output.old) → Ended result seats page before (W.contents output.new) }
+    {
+        match self.sum_up(settings) {
+            Ok(()) => self.write_out(output),
+            Err(end) => self.close_early(end, output),
+        }
+    }
+
+    /// The last of a run that was played to its end is written.
+    fn write_out<W: Output>(&self, output: &mut W) -> TryEnd
+        ensures { WritesOut result self.now.page.items (W.contents output.old) (W.contents output.new) }
+    {
+        match write_all(output, self.page.as_slice()) {
+            Ok(()) => match self.failed {
+                None => TryEnd::Done,
+                Some(line) => TryEnd::ExpectationFailed(line),
+            },
+            Err(_) => TryEnd::OutputFailed,
+        }
+    }
+
+    /// What stands behind the last line: the rest of the picture, if one is wanted, and how the supervisors stand.
+    fn sum_up(&mut self, settings: Settings) -> Result<(), EarlyEnd>
+        ensures { SumsUp result self.old.trial self.old.page.items self.new.page.items }
+    {
+        match self.draw() {
+            Ok(()) => self.put_summary(settings),
+            Err(end) => Err(end),
+        }
+    }
+
+    /// Puts on the page how the supervisors stand, what they await, and what the script planned and the run never came to.
+    fn put_summary(&mut self, settings: Settings) -> Result<(), EarlyEnd>
+        ensures { SumsUp result self.old.trial self.old.page.items self.new.page.items }
+    {
+        let Ok(text) = summary_of(self.alloc, &self.trial, settings.is_quiet) else {
+            return Err(EarlyEnd::OutOfMemory);
+        };
+        match self.put(text.as_slice()) {
+            Ok(()) => self.judge(settings),
+            Err(end) => Err(end),
+        }
+    }
+
+    /// Whether a line of the script could do nothing: it planned the start of a child that wasn't there, and none came.
+    fn judge(&self, settings: Settings) -> Result<(), EarlyEnd> {
+        match line_of_unknown(self.trial.planned()) {
+            Some(line) if settings.writer == Writer::Script => Err(EarlyEnd::LineMissed(
+                line,
+                ActionEnd::NoChild,
+            )),
+            _ => Ok(()),
+        }
+    }
+
+    /// The end of a run that ended early: where the writer failed, nothing more is written.
+    fn close_early<W: Output>(&mut self, end: EarlyEnd, output: &mut W) -> TryEnd
+        ensures { (seats : List Seated) (page : List ℕ) (before : Option (List ℕ)) → StopsSo end seats page self.old.page.items before (W.contents output.old) → Ended result seats page before (W.contents output.new) }
+    {
+        match end {
+            EarlyEnd::OutputFailed => TryEnd::OutputFailed,
+            end => self.write_last(end, output),
+        }
+    }
+
+    /// The end of a run that ended early: what is not drawn is drawn where there is memory, and all that is told is written.
+    fn write_last<W: Output>(&mut self, end: EarlyEnd, output: &mut W) -> TryEnd
+        ensures { (seats : List Seated) → Ended result seats self.old.page.items (W.contents output.old) (W.contents output.new) }
+    {
+        let _drawn = self.draw();
+        let Ok(()) = self.hand_out(output) else {
+            return TryEnd::OutputFailed;
+        };
+        end.told()
+    }
+}

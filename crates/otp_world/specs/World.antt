@@ -1,0 +1,115 @@
+-- The world of a run: what comes of each order that a supervisor gives (own).
+use Rattle.std.specs.Prelude.{◌≡◌, ℕ, ◌++◌, List, Option, Some, None, IsSomeAnd, position, slice_get}
+use Rattle.std.specs.List.{remove}
+use Rattle.otp_reason.specs.declared.name.Name.{Name}
+use Rattle.otp_reason.specs.declared.note.Note.TheVariants as note
+use Rattle.otp_reason.specs.declared.reason.Reason.{Reason}
+use Rattle.otp_reason.specs.declared.reason.Reason.TheVariants as reason
+use Rattle.otp_rules.specs.declared.event.Effect.{Effect}
+use Rattle.otp_rules.specs.declared.event.Effect.TheVariants as effect
+use Rattle.otp_script.specs.declared.step.NextStart.{NextStart}
+use Rattle.otp_world.specs.Deeds.{note_of_end, note_of_start, told_to}
+use Rattle.otp_world.specs.Homes.{ended_at, runs_as, stopping_at, up_at}
+use Rattle.otp_world.specs.Late.{delayed, forgotten}
+use Rattle.otp_world.specs.Plans.{delay_said, is_hung, plan_for, start_found, without_plan}
+use Rattle.otp_world.specs.declared.homes.Home.{Home}
+use Rattle.otp_world.specs.declared.late.Late.{Late}
+use Rattle.otp_world.specs.declared.plans.Hang.{Hang}
+use Rattle.otp_world.specs.declared.plans.Plan.{Plan}
+use Rattle.otp_world.specs.declared.world.Deed.{Deed}
+use Rattle.otp_world.specs.declared.world.What.TheVariants as what
+
+-- how the supervisors stand, what the script said beforehand and has not come, what comes late, what comes next, and the line
+-- that is played
+pub record Around : Type 0 where
+  pub homes : List Home
+  pub starts : List Plan
+  pub hanging : List Hang
+  pub late : List Late
+  pub deeds : List Deed
+  pub line : ℕ
+
+-- what comes of a start: the process tells how it went; or where the child is a supervisor with a table of its own and the
+-- script said nothing, that starts
+unfoldable pub deed_of_start : ℕ → ℕ → Option NextStart → Option ℕ → Deed
+deed_of_start place number None (Some below) = record { place = below; what = what.Start number }
+deed_of_start place number None None = told_to place (note_of_start None number)
+deed_of_start place number (Some start) below = told_to place (note_of_start (Some start) number)
+
+-- what comes of it that a process is to end: it does, for this reason; a supervisor ends by its own rules, and nothing comes at once
+unfoldable pub deed_of_stop : ℕ → ℕ → Reason → Option ℕ → Option Deed
+deed_of_stop place number why None = Some (told_to place (note.Exit number why))
+deed_of_stop place number why (Some below) = None
+
+-- it is wanted to shut down then
+unfoldable pub stopped_below : Option ℕ → List Home → List Home
+stopped_below None homes = homes
+stopped_below (Some below) homes = stopping_at below homes
+
+unfoldable pub ready_as : ℕ → Option ℕ → Option Deed
+ready_as parent None = None
+ready_as parent (Some number) = Some (told_to parent (note.Up number))
+
+-- what a supervisor tells its parent that has started its children; the root has none to tell
+unfoldable pub deed_of_ready : Option Home → Option Deed
+deed_of_ready None = None
+deed_of_ready (Some home) = ready_as home.parent home.process
+
+unfoldable pub end_as : Home → Reason → Option ℕ → Option Deed
+end_as home why None = None
+end_as home why (Some number) = Some (told_to home.parent (note_of_end home.is_up number why))
+
+-- what one tells that has ended
+unfoldable pub deed_of_end : Option Home → Reason → Option Deed
+deed_of_end None why = None
+deed_of_end (Some home) why = end_as home why home.process
+
+-- the process of this number, of a child of the supervisor at this place, is to end for this reason
+abbrev pub Stops : ℕ → ℕ → Reason → Around → Option Deed → Around → Type 0
+Stops place number why old deed new =
+    (deed ≡ deed_of_stop place number why (position (runs_as place number) old.homes))
+    × (new ≡ record old { homes = stopped_below (position (runs_as place number) old.homes) old.homes })
+
+-- a child is started: what the script said of it is used up
+abbrev pub Starts : ℕ → Option Name → ℕ → Around → Deed → Around → Type 0
+Starts place id number old deed new =
+    ((below : Option ℕ) × (deed ≡ deed_of_start place number (start_found old.starts (plan_for place id old.starts)) below))
+    × (new ≡ record old { starts = without_plan old.starts (plan_for place id old.starts) })
+
+-- a supervisor has started its children
+abbrev pub Readies : ℕ → Around → Option Deed → Around → Type 0
+Readies place old deed new = (deed ≡ deed_of_ready (slice_get old.homes place)) × (new ≡ record old { homes = up_at place old.homes })
+
+-- a supervisor has ended
+abbrev pub Ends : ℕ → Reason → Around → Option Deed → Around → Type 0
+Ends place why old deed new = (deed ≡ deed_of_end (slice_get old.homes place) why) × (new ≡ record old { homes = ended_at place old.homes })
+
+-- a process is asked to shut down of which the script said, at this place, that it ends later or never: that is used up
+abbrev pub PutsOff : ℕ → ℕ → ℕ → ℕ → Around → Around → Type 0
+PutsOff at now place number old new =
+    new ≡ record old { hanging = remove old.hanging at; late = old.late ++ delayed now place number (delay_said (slice_get old.hanging at)) }
+
+-- a process is asked to shut down, of which the script said that or nothing
+unfoldable pub AsksFor : Option ℕ → ℕ → ℕ → ℕ → Around → Option Deed → Around → Type 0
+AsksFor None now place number old deed new = Stops place number reason.Shutdown old deed new
+AsksFor (Some at) now place number old deed new = (deed ≡ None) × PutsOff at now place number old new
+
+abbrev pub Asks : ℕ → ℕ → Option Name → ℕ → Around → Option Deed → Around → Type 0
+Asks now place id number old deed new = AsksFor (position (is_hung place id number) old.hanging) now place number old deed new
+
+-- a process is killed: it ends, and does nothing later
+abbrev pub Kills : ℕ → ℕ → Around → Option Deed → Around → Type 0
+Kills place number old deed new = Stops place number reason.Killed (record old { late = forgotten number old.late }) deed new
+
+-- what comes of an order that the supervisor at this place gives now
+unfoldable pub Does : ℕ → ℕ → Effect → Around → Option Deed → Around → Type 0
+Does now place (effect.Start id number) old deed new = IsSomeAnd deed (λ told. Starts place id number old told new)
+Does now place (effect.Ask id number) old deed new = Asks now place id number old deed new
+Does now place (effect.Kill id number) old deed new = Kills place number old deed new
+Does now place (effect.Reply call) old deed new = (deed ≡ None) × (new ≡ old)
+Does now place effect.Ready old deed new = Readies place old deed new
+Does now place (effect.End end) old deed new = Ends place end.reason old deed new
+
+-- the process of this number is gone: of what is planned and what comes next nothing changes
+abbrev pub LosesSo : ℕ → Around → Around → Type 0
+LosesSo number old new = new ≡ record old { homes = new.homes; late = forgotten number old.late }

@@ -1,0 +1,16 @@
+//! The world that a script is played in: what processes do when they are started, asked to shut down or killed, how supervisors
+//! hear of one another, and which child a script means.
+//!
+//! `specs/World` says what comes of each order.
+#![tactic(auto)]
+
+pub mod finding;
+pub mod homes;
+pub mod late;
+pub mod plans;
+pub mod world;
+
+pub use finding::Found;
+pub use homes::Home;
+pub use plans::{Hang, Plan};
+pub use world::{Deed, What, World};
