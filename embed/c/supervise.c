@@ -24,7 +24,11 @@ static void carry_out(const otp_order *order) {
         char program[33] = {0};
         for (int i = 0; i < order->start.len; i++) program[i] = (char)order->start.bytes[i];
         pid_t pid = count < 256 ? fork() : -1;
-        if (pid == 0) { execlp(program, program, "60", (char *)NULL); _exit(127); }
+        if (pid == 0) {     /* with no signal blocked, as a program expects it */
+            sigset_t none;
+            sigemptyset(&none), sigprocmask(SIG_SETMASK, &none, NULL);
+            execlp(program, program, "60", (char *)NULL), _exit(127);
+        }
         if (pid > 0) live[count].number = order->number, live[count].supervisor = order->supervisor, live[count++].pid = pid;
         otp_note(&tree, order->supervisor, pid > 0 ? OTP_UP : OTP_FAILED, order->number, OTP_ERROR, (const uint8_t *)"fork", 4);
     }

@@ -2,7 +2,7 @@
 
 ghost use Rattle.std.specs.Prelude.{◌≡◌, None};
 ghost use Rattle.otp_c.specs.Handles.{IsKept, IsTold, OnTree};
-ghost use Rattle.otp_c.specs.Told.{AnswersCall, AnswersNote, CallSaid, Calls, NoteSaid, Notes, StartSaid, Stops, TakesCall, TakesNote, Ticks};
+ghost use Rattle.otp_c.specs.Told.{AnswersCall, AnswersNote, CallSaid, Calls, NoteSaid, Notes, StartSaid, Stops, Ticks};
 
 use crate::handle::Handle;
 use crate::spec::{named, spec_in};
@@ -51,20 +51,14 @@ fn note_in(kind: u32, number: u64, reason: u32, text: &[u8]) -> Result<Note, NoR
     }
 }
 
-fn note(session: &mut Session, place: usize, note: Note) -> u32
-    ensures { TakesNote place note result session.old session.new }
-{
-    match session.driver.note(place, note) {
-        Ok(()) => OTP_OK,
-        Err(fault) => status_of(fault),
-    }
-}
-
-fn answer_note(session: &mut Session, place: usize, said: Result<Note, NoReason>) -> u32
-    ensures { AnswersNote said place result session.old session.new }
+fn answer_note(session: &mut Session, place: usize, said: &Result<Note, NoReason>) -> u32
+    ensures { AnswersNote said.now place result session.old session.new }
 {
     match said {
-        Ok(said) => note(session, place, said),
+        Ok(said) => match session.driver.note(place, *said) {
+            Ok(()) => OTP_OK,
+            Err(fault) => status_of(fault),
+        },
         Err(NoReason::Kind) => OTP_BAD_KIND,
         Err(NoReason::Text) => OTP_BAD_TEXT,
     }
@@ -81,7 +75,7 @@ fn tell(
     ensures { Notes place kind number reason text.now result session.old session.new }
 {
     let said = note_in(kind, number, reason, text);
-    answer_note(session, place, said)
+    answer_note(session, place, &said)
 }
 
 /// A process outside tells its supervisor something.
@@ -107,13 +101,6 @@ pub extern "C" fn otp_note(
     status
 }
 
-fn stop(session: &mut Session) -> u32
-    ensures { Stops result session.old session.new }
-{
-    session.driver.stop();
-    OTP_OK
-}
-
 /// The root is wanted to shut down.
 #[unsafe(no_mangle)]
 pub extern "C" fn otp_stop(alloc: Global, tree: &mut Handle) -> u32
@@ -124,28 +111,22 @@ pub extern "C" fn otp_stop(alloc: Global, tree: &mut Handle) -> u32
     let Some(mut held) = tree.take(alloc) else {
         return OTP_CLOSED;
     };
-    let status = stop(&mut held);
+    held.driver.stop();
     *tree = Handle::of(held);
-    status
-}
-
-fn call(session: &mut Session, place: usize, call: Call, out: &mut u64) -> u32
-    ensures { TakesCall place call result out.old out.new session.old session.new }
-{
-    match session.driver.call(place, call) {
-        Ok(number) => {
-            *out = number;
-            OTP_OK
-        }
-        Err(fault) => status_of(fault),
-    }
+    OTP_OK
 }
 
 fn answer_call(session: &mut Session, place: usize, said: Result<Call, u32>, out: &mut u64) -> u32
     ensures { AnswersCall said place result out.old out.new session.old session.new }
 {
     match said {
-        Ok(said) => call(session, place, said, out),
+        Ok(said) => match session.driver.call(place, said) {
+            Ok(number) => {
+                *out = number;
+                OTP_OK
+            }
+            Err(fault) => status_of(fault),
+        },
         Err(status) => status,
     }
 }

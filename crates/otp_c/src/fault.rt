@@ -126,22 +126,16 @@ impl fmt::Write for Sentence {
     }
 }
 
-/// The sentence of a fault.
-fn sentence_of(why: &TableFault) -> Sentence {
-    let mut sentence = Sentence {
-        bytes: [0; FAULT_SIZE],
-        len: 0,
-    };
-    let _ = write!(sentence, "{why}");
-    sentence
-}
-
 /// The fault as plain numbers and bytes.
 pub fn fault_of(why: &TableFault) -> CFault
     ensures { ShowsFault why.now result }
 {
     let spot = spot_of(why.fault);
-    let sentence = sentence_of(why);
+    let mut sentence = Sentence {
+        bytes: [0; FAULT_SIZE],
+        len: 0,
+    };
+    let _ = write!(sentence, "{why}");
     let text = sentence.bytes;
     CFault {
         code: u32::from(why.fault.code()),

@@ -296,18 +296,6 @@ pub extern "C" fn otp_supervisors(alloc: Global, tree: &mut Handle, out: &mut u3
     OTP_OK
 }
 
-fn write_supervisor(
-    supervisor: &Supervisor,
-    link: &Link,
-    reading: u64,
-    out: &mut CSupervisor,
-) -> u32
-    ensures { SaysSupervisor (Some supervisor.now) (Some link.now) reading result out.old out.new }
-{
-    *out = supervisor_out(supervisor, link, reading);
-    OTP_OK
-}
-
 fn read_linked(
     supervisor: &Supervisor,
     link: Option<&Link>,
@@ -318,7 +306,10 @@ fn read_linked(
 {
     match link {
         None => OTP_NO_SUPERVISOR,
-        Some(link) => write_supervisor(supervisor, link, reading, out),
+        Some(link) => {
+            *out = supervisor_out(supervisor, link, reading);
+            OTP_OK
+        }
     }
 }
 

@@ -1,7 +1,6 @@
 //! How supervisors and children stand, as structs of C.
 
-ghost use Rattle.std.specs.Prelude.{◌≡◌, nat_le};
-ghost use Rattle.std.specs.List.{count_by};
+ghost use Rattle.std.specs.Prelude.{◌≡◌};
 ghost use Rattle.otp_c.specs.Stands.{ShowsChild, ShowsRow, ShowsSupervisor, deadline_in, last_cause, nested_number, number_in, recent};
 ghost use Rattle.otp_c.specs.Words.{child_state_number, phase_number};
 
@@ -47,18 +46,12 @@ fn id_of(child: &Option<ChildSpec>) -> CName
     }
 }
 
-/// How many of these times are no earlier than this one.
-fn count_since(times: &VecDeque<u64>, earliest: u64) -> u64
-    ensures { result ≡ count_by (nat_le earliest) times.now.items }
-{
-    times.iter().filter(|time| **time >= earliest).count() as u64
-}
-
 /// How many of a supervisor's restarts lie within the last `period` seconds.
 fn count_recent(times: &VecDeque<u64>, reading: u64, period: u64) -> u64
     ensures { result ≡ recent reading period times.now.items }
 {
-    count_since(times, reading.saturating_sub(period.saturating_mul(1000)))
+    let earliest = reading.saturating_sub(period.saturating_mul(1000));
+    times.iter().filter(|time| **time >= earliest).count() as u64
 }
 
 /// A supervisor with this link as it stands.

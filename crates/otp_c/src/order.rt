@@ -17,7 +17,6 @@ fn plain(supervisor: u32, kind: u32, number: u64) -> COrder
     ensures kind { result.kind ≡ kind }
     ensures supervisor { result.supervisor ≡ supervisor }
     ensures number { result.number ≡ number }
-    ensures deadline { result.has_deadline ≡ 0 }
 {
     COrder {
         number,
@@ -33,36 +32,38 @@ fn plain(supervisor: u32, kind: u32, number: u64) -> COrder
     }
 }
 
-/// An order of this kind for a process.
-fn of_task(supervisor: u32, kind: u32, task: &Task) -> COrder
+/// An order of this kind for a process, with a deadline where `has_deadline` is 1.
+fn of_task(supervisor: u32, kind: u32, task: &Task, has_deadline: u32, deadline: u64) -> COrder
     ensures kind { result.kind ≡ kind }
     ensures supervisor { result.supervisor ≡ supervisor }
     ensures task { ShowsTask task.now result }
-    ensures deadline { result.has_deadline ≡ 0 }
+    ensures has_deadline { result.has_deadline ≡ has_deadline }
+    ensures deadline { result.deadline ≡ deadline }
 {
     COrder {
+        number: task.number,
+        deadline,
+        kind,
+        supervisor,
+        has_deadline,
+        reason: 0,
+        cause: 0,
         id: some_name_out(&task.id),
         start: some_name_out(&task.start),
-        ..plain(supervisor, kind, task.number)
+        text: no_text(),
     }
 }
 
-fn with_deadline(order: COrder, deadline: Option<u64>) -> COrder
-    requires { order.has_deadline ≡ 0 }
+/// The order to ask a process to shut down.
+fn of_ask(supervisor: u32, task: &Task, deadline: Option<u64>) -> COrder
+    ensures kind { result.kind ≡ 2 }
+    ensures supervisor { result.supervisor ≡ supervisor }
+    ensures task { ShowsTask task.now result }
     ensures deadline { ShowsDeadline deadline result }
-    ensures kind { result.kind ≡ order.kind }
-    ensures supervisor { result.supervisor ≡ order.supervisor }
-    ensures number { result.number ≡ order.number }
-    ensures id { result.id ≡ order.id }
-    ensures start { result.start ≡ order.start }
 {
     match deadline {
-        None => order,
-        Some(deadline) => COrder {
-            has_deadline: 1,
-            deadline,
-            ..order
-        },
+        None => of_task(supervisor, 2, task, 0, 0),
+        Some(deadline) => of_task(supervisor, 2, task, 1, deadline),
     }
 }
 
@@ -100,9 +101,9 @@ pub fn order_out(order: &Order) -> COrder
 {
     let supervisor = order.supervisor.min(1_000_000) as u32;
     match &order.what {
-        What::Start(task) => of_task(supervisor, 1, task),
-        What::Ask(task, deadline) => with_deadline(of_task(supervisor, 2, task), *deadline),
-        What::Kill(task) => of_task(supervisor, 3, task),
+        What::Start(task) => of_task(supervisor, 1, task, 0, 0),
+        What::Ask(task, deadline) => of_ask(supervisor, task, *deadline),
+        What::Kill(task) => of_task(supervisor, 3, task, 0, 0),
         What::Reply(call) => plain(supervisor, 4, *call),
         What::Ready => plain(supervisor, 5, 0),
         What::End(reason, ending) => of_end(supervisor, reason, ending),

@@ -6,3 +6,4 @@ pub mod Plantings
 pub mod Linkings
 pub mod Steps
 pub mod Tellings
+pub mod Under

@@ -39,6 +39,10 @@ abbrev pub is_child_of : Row → Option ChildSpec → Bool
 is_child_of row None = false
 is_child_of row (Some spec) = has_id spec.id row && (on name_bytes bytes_eq row.spec.start spec.start && is_supervisor row)
 
+-- it is a child of this parent; the root is nobody's
+abbrev pub is_link_under : ℕ → Link → Bool
+is_link_under parent link = link.parent == parent && is_some link.child
+
 -- it is the child of its parent's row
 abbrev pub is_link_of : ℕ → Row → Link → Bool
 is_link_of parent row link = link.parent == parent && is_child_of row link.child

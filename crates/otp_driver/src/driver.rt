@@ -15,7 +15,7 @@ ghost use Rattle.otp_driver.specs.Turns.{Turns};
 
 use crate::fault::DriveFault;
 use crate::link::{Link, find_process, find_row};
-use crate::route::{Route, nested_of, route_of};
+use crate::route::{Route, nested_at, route_of};
 use crate::supervisor::Supervisor;
 use otp_reason::Note;
 use otp_rules::{Call, Ending, Item, Kind};
@@ -115,9 +115,9 @@ impl Driver {
     }
 
     /// Something happens now at the supervisor at this place.
-    pub(crate) fn happen(&mut self, place: usize, kind: Kind) -> Result<(), DriveFault>
+    pub(crate) fn happen(&mut self, place: usize, kind: &Kind) -> Result<(), DriveFault>
         requires { place < length self.old.members }
-        ensures ok { OnOk result (Occurs place kind self.old self.new) }
+        ensures ok { OnOk result (Occurs place kind.now self.old self.new) }
         ensures err { OnErr result (self.new ≡ self.old) }
         ensures why { IfErr result (λ why. Refuses place why self.old) }
     {
@@ -176,7 +176,7 @@ impl Driver {
         ensures why { IfErr result (λ why. Refuses below why self.old) }
     {
         let _ = &self.links;
-        self.happen(below, Kind::Opened(number))?;
+        self.happen(below, &Kind::Opened(number))?;
         self.begin(below, number);
         Ok(())
     }
@@ -204,24 +204,24 @@ impl Driver {
         ensures why { IfErr result (λ why. Refuses parent why self.old) }
     {
         let _ = &self.links;
-        self.happen(parent, Kind::Took(Item::Note(note)))?;
+        self.happen(parent, &Kind::Took(Item::Note(note)))?;
         self.tell(place, note, ended);
         Ok(())
     }
 
     /// An order that stays in the tree is done; an order for the outside is not.
-    fn carry_out(&mut self, place: usize, route: Route) -> Result<bool, DriveFault>
+    fn carry_out(&mut self, place: usize, route: &Route) -> Result<bool, DriveFault>
         requires place { place < length self.old.members }
-        requires within { IsWithin (length self.old.members) route }
-        ensures ok { IfOk result (λ done. Carried done route place self.old self.new) }
+        requires within { IsWithin (length self.old.members) route.now }
+        ensures ok { IfOk result (λ done. Carried done route.now place self.old self.new) }
         ensures err { OnErr result (self.new ≡ self.old) }
-        ensures why { IfErr result (λ why. RefusesRoute route why self.old) }
+        ensures why { IfErr result (λ why. RefusesRoute route.now why self.old) }
     {
         match route {
             Route::Outside => return Ok(false),
-            Route::Start(below, number) => self.start_below(place, below, number)?,
-            Route::Stop(below) => self.stop_below(place, below),
-            Route::Tell(parent, note, ended) => self.tell_parent(place, parent, note, ended)?,
+            Route::Start(below, number) => self.start_below(place, *below, *number)?,
+            Route::Stop(below) => self.stop_below(place, *below),
+            Route::Tell(parent, note, ended) => self.tell_parent(place, *parent, *note, *ended)?,
         }
         Ok(true)
     }
@@ -251,7 +251,7 @@ impl Driver {
         let Some(route) = self.next_route(place) else {
             return Err(DriveFault::NoSupervisor);
         };
-        let done = self.carry_out(place, route)?;
+        let done = self.carry_out(place, &route)?;
         if done {
             self.pass(place);
             Ok(Turn::Went)
@@ -297,7 +297,7 @@ impl Driver {
         match self.next_by_itself() {
             None => Ok(Turn::Idle),
             Some((place, kind)) => {
-                self.happen(place, kind)?;
+                self.happen(place, &kind)?;
                 Ok(Turn::Went)
             }
         }
@@ -375,8 +375,8 @@ impl Driver {
         if find_process(links, place, number).is_some() {
             return true;
         }
-        let row = self.supervisors[place].child(number);
-        nested_of(links, place, row).is_some()
+        let supervisor = &self.supervisors[place];
+        nested_at(links, place, supervisor, number).is_some()
     }
 
     /// A process outside tells its supervisor, at this place, that it is up, was ignored, has failed, or has ended.
@@ -399,7 +399,7 @@ impl Driver {
         if self.is_nested(place, process_of(&note)) {
             return Err(DriveFault::IsNested);
         }
-        self.happen(place, Kind::Took(Item::Note(note)))
+        self.happen(place, &Kind::Took(Item::Note(note)))
     }
 
     /// Somebody calls the supervisor at this place; the answer is the call's number. Its reply comes as an order of that
@@ -420,7 +420,7 @@ impl Driver {
             return Err(DriveFault::Spent);
         }
         let number = self.calls + 1;
-        self.happen(place, Kind::Took(Item::Call(number, call)))?;
+        self.happen(place, &Kind::Took(Item::Call(number, call)))?;
         self.calls = number;
         Ok(number)
     }

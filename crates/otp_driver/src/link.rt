@@ -1,7 +1,8 @@
 //! Whose child each supervisor of a tree is, and how it stands.
 
 ghost use Rattle.std.specs.Prelude.{◌≡◌, position};
-ghost use Rattle.otp_driver.specs.Links.{asked, begun, first_link, holds_process, is_link_of, note_of_end, runs, told};
+ghost use Rattle.std.specs.List.{list_any};
+ghost use Rattle.otp_driver.specs.Links.{asked, begun, first_link, holds_process, is_link_of, is_link_under, note_of_end, runs, told};
 
 use otp_reason::{Note, Reason};
 use otp_rules::Ending;
@@ -92,6 +93,13 @@ impl Link {
         place == 0 || self.process.is_some()
     }
 
+    /// Whether it is a child of this supervisor.
+    pub(crate) fn is_under(&self, parent: usize) -> bool
+        ensures { result ≡ is_link_under parent self.now }
+    {
+        self.parent == parent && self.child.is_some()
+    }
+
     /// Whether it is the child that this row of its parent has.
     pub(crate) fn is_of(&self, parent: usize, row: &Row) -> bool
         ensures { result ≡ is_link_of parent row.now self.now }
@@ -114,6 +122,13 @@ impl Link {
             Some(process) => self.parent == parent && process == number,
         }
     }
+}
+
+/// Whether a child of this supervisor is a supervisor of the tree.
+pub(crate) fn has_nested(links: &[Link], parent: usize) -> bool
+    ensures { result ≡ list_any (is_link_under parent) links.now }
+{
+    links.iter().any(|link| link.is_under(parent))
 }
 
 /// The supervisor that is the child which this row of its parent has.

@@ -1,6 +1,6 @@
 //! Orders as the outside sees them.
 
-ghost use Rattle.std.specs.Prelude.{◌≡◌, ℕ};
+ghost use Rattle.std.specs.Prelude.{◌≡◌, ℕ, option_map};
 ghost use Rattle.otp_driver.specs.Orders.{deadline_in, start_in, task_of, what_of};
 ghost use Rattle.otp_driver.specs.Members.{state_in};
 ghost use Rattle.otp_driver.specs.declared.order.What.TheVariants as what;
@@ -48,8 +48,8 @@ pub struct Order {
     pub what: What,
 }
 
-fn start_in(row: Option<Row>) -> Option<Name>
-    ensures { result ≡ start_in row }
+fn start_in(row: Option<&Row>) -> Option<Name>
+    ensures { result ≡ start_in (option_map (λ r. r.now) row.entry) }
 {
     match row {
         None => None,
@@ -57,8 +57,8 @@ fn start_in(row: Option<Row>) -> Option<Name>
     }
 }
 
-fn deadline_in(row: Option<Row>) -> Option<u64>
-    ensures { result ≡ deadline_in row }
+fn deadline_in(row: Option<&Row>) -> Option<u64>
+    ensures { result ≡ deadline_in (option_map (λ r. r.now) row.entry) }
 {
     let Some(row) = row else {
         return None;

@@ -113,7 +113,7 @@ impl Driver {
         if self.supervisors.is_empty() {
             return Err(DriveFault::NoSupervisor);
         }
-        self.happen(0, Kind::Opened(0))
+        self.happen(0, &Kind::Opened(0))
     }
 
     /// A tree whose root starts: its supervisors are those of the file's tables, by their numbers.

@@ -1,10 +1,10 @@
 //! What an order of a supervisor is in the tree: whom it reaches, and as what.
 
-ghost use Rattle.std.specs.Prelude.{◌≡◌, slice_get};
-ghost use Rattle.otp_driver.specs.Routes.{end_route, ending_in, nested_of, ready_route, route_of, start_route, stop_route};
+ghost use Rattle.std.specs.Prelude.{◌≡◌, option_map, slice_get};
+ghost use Rattle.otp_driver.specs.Routes.{end_route, ending_in, nested_of, ready_route, route_of, row_at, start_route, stop_route};
 ghost use Rattle.otp_driver.specs.Members.{state_in};
 
-use crate::link::{Link, find_process, find_row, note_of_end};
+use crate::link::{Link, find_process, find_row, has_nested, note_of_end};
 use crate::supervisor::Supervisor;
 use otp_reason::{Note, Reason};
 use otp_rules::{Cause, Effect, Ending};
@@ -32,12 +32,29 @@ pub(crate) fn link_at(links: &[Link], place: usize) -> Option<Link>
 
 /// The supervisor of the tree that is this child of the supervisor at a place.
 #[tactic(auto, unfolding(crate::specs::Routes::nested_of))]
-pub(crate) fn nested_of(links: &[Link], place: usize, row: Option<Row>) -> Option<usize>
-    ensures { result ≡ nested_of links.now place row }
+fn nested_of(links: &[Link], place: usize, row: Option<&Row>) -> Option<usize>
+    ensures { result ≡ nested_of links.now place (option_map (λ r. r.now) row.entry) }
 {
     match row {
         None => None,
-        Some(row) => find_row(links, place, &row),
+        Some(row) => find_row(links, place, row),
+    }
+}
+
+/// The supervisor of the tree that is the child with this process, of the supervisor at a place. Where no child is one, no
+/// row is looked for.
+pub(crate) fn nested_at(
+    links: &[Link],
+    place: usize,
+    supervisor: &Supervisor,
+    number: u64,
+) -> Option<usize>
+    ensures { result ≡ nested_of links.now place (row_at (state_in supervisor.now).rows number) }
+{
+    if has_nested(links, place) {
+        nested_of(links, place, supervisor.child(number))
+    } else {
+        None
     }
 }
 
@@ -113,8 +130,7 @@ pub(crate) fn route_of(
 {
     match order {
         Effect::Start(_, number) => {
-            let row = supervisor.child(*number);
-            start_route(nested_of(links, place, row), *number)
+            start_route(nested_at(links, place, supervisor, *number), *number)
         }
         Effect::Ask(_, number) => stop_route(find_process(links, place, *number)),
         Effect::Kill(_, number) => stop_route(find_process(links, place, *number)),

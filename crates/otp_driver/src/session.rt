@@ -77,13 +77,13 @@ impl Session {
     }
 
     /// The answer that an order tells of is kept from now on; any other order leaves the last one.
-    fn keep_answer(&mut self, order: Order) -> Result<(), DriveFault>
-        requires place { order.supervisor < length self.old.driver.members }
-        requires reply { TellsReply order self.old.driver }
-        ensures kept { OnOk result (KeepsOf order.what order.supervisor self.old.driver self.old.answer self.new.answer) }
+    fn keep_answer(&mut self, order: &Order) -> Result<(), DriveFault>
+        requires place { order.now.supervisor < length self.old.driver.members }
+        requires reply { TellsReply order.now self.old.driver }
+        ensures kept { OnOk result (KeepsOf order.now.what order.now.supervisor self.old.driver self.old.answer self.new.answer) }
         ensures driven { self.new.driver ≡ self.old.driver }
         ensures err { OnErr result (self.new ≡ self.old) }
-        ensures why { IfErr result (λ why. (why ≡ OutOfMemory) × ((call : ℕ) × (order.what ≡ what.Reply call))) }
+        ensures why { IfErr result (λ why. (why ≡ OutOfMemory) × ((call : ℕ) × (order.now.what ≡ what.Reply call))) }
     {
         if let What::Reply(call) = order.what {
             self.answer = copy_answer(&self.driver.supervisors()[order.supervisor], call)?;
@@ -105,7 +105,7 @@ impl Session {
         let Some(order) = self.order_at(place) else {
             return Err(DriveFault::NoSupervisor);
         };
-        self.keep_answer(order)?;
+        self.keep_answer(&order)?;
         self.driver.took(place);
         Ok(Some(order))
     }

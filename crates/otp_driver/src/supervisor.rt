@@ -47,11 +47,11 @@ impl Model for Supervisor {
 
 /// Something happens to a core, of which only the last events are kept while no order waits. The answer is the last process
 /// number then.
-fn happen(core: &mut Core, reading: u64, kind: Kind, last: u64) -> Result<u64, DriveFault>
+fn happen(core: &mut Core, reading: u64, kind: &Kind, last: u64) -> Result<u64, DriveFault>
     requires reading { reading ≤ MAX_READING }
     requires last { last < MAX_READING }
     requires numbers { (n : ℕ) → last < n → All (λ m. m < n) (numbers_of core.old.history) }
-    ensures ok { IfOk result (λ after. CoreHappens reading last kind core.old core.new after) }
+    ensures ok { IfOk result (λ after. CoreHappens reading last kind.now core.old core.new after) }
     ensures err { OnErr result (core.new ≡ record core.old { prepared = core.new.prepared }) }
     ensures why { IfErr result (λ why. (why ≡ OutOfMemory) ⊎ HasNoRoom core.old.base core.old.history core.old.effects why) }
     // What a cut drops is no answer that an order tells of.
@@ -61,7 +61,7 @@ fn happen(core: &mut Core, reading: u64, kind: Kind, last: u64) -> Result<u64, D
     laws::cuts_agree();
     laws::runs_are_joined();
     let mut numbers = Counter { last };
-    match core.happen(KEPT_EVENTS, reading, kind, &mut numbers) {
+    match core.happen(KEPT_EVENTS, reading, *kind, &mut numbers) {
         Ok(_) => Ok(numbers.last),
         Err(cause) => Err(fault_of(cause)),
     }
@@ -85,9 +85,9 @@ impl Supervisor {
     /// # Errors
     ///
     /// [`DriveFault::OutOfMemory`], [`DriveFault::OrdersWait`], [`DriveFault::Spent`].
-    pub(crate) fn happen(&mut self, reading: u64, kind: Kind, last: u64) -> Result<u64, DriveFault>
+    pub(crate) fn happen(&mut self, reading: u64, kind: &Kind, last: u64) -> Result<u64, DriveFault>
         requires { reading ≤ MAX_READING }
-        ensures ok { IfOk result (λ after. Happens reading last kind self.old self.new after) }
+        ensures ok { IfOk result (λ after. Happens reading last kind.now self.old self.new after) }
         ensures err { OnErr result (self.new ≡ self.old) }
         ensures why { IfErr result (λ why. IsRefused last self.old why) }
     {
@@ -141,12 +141,11 @@ impl Supervisor {
 
     /// The child that has this process. The core finds it by the number.
     #[tactic(auto, unfolding(crate::specs::Routes::row_at))]
-    pub fn child(&self, number: u64) -> Option<Row>
-        ensures { result ≡ row_at (state_in self.now).rows number }
+    pub fn child(&self, number: u64) -> Option<&Row>
+        ensures { option_map (λ r. r.now) result ≡ row_at (state_in self.now).rows number }
     {
         let place = self.core.find_process(number)?;
-        let row = self.core.rows().get(place)?;
-        Some(*row)
+        self.core.rows().get(place)
     }
 
     /// Whether it runs, and how it ended.

@@ -116,6 +116,10 @@ impl Text {
         text_of(&self.bytes, self.length)
     }
 
+    fn as_bytes(&self) -> &[u8] {
+        &self.bytes[..usize::from(self.length).min(self.bytes.len())]
+    }
+
     pub(crate) fn from_raw(raw: &RawText) -> Text {
         Text { length: raw.len, bytes: raw.bytes }
     }
@@ -181,15 +185,15 @@ impl Reason {
     }
 
     /// The number that stands for it, and its text.
-    pub(crate) fn as_raw(&self) -> (u32, &str) {
+    pub(crate) fn as_raw(&self) -> (u32, &[u8]) {
         match self {
-            Reason::Normal => (1, ""),
-            Reason::Shutdown => (2, ""),
-            Reason::ShutdownWith(text) => (3, text.as_str()),
-            Reason::Kill => (4, ""),
-            Reason::Killed => (5, ""),
-            Reason::NoProc => (6, ""),
-            Reason::Error(text) => (7, text.as_str()),
+            Reason::Normal => (1, b""),
+            Reason::Shutdown => (2, b""),
+            Reason::ShutdownWith(text) => (3, text.as_bytes()),
+            Reason::Kill => (4, b""),
+            Reason::Killed => (5, b""),
+            Reason::NoProc => (6, b""),
+            Reason::Error(text) => (7, text.as_bytes()),
         }
     }
 

@@ -53,8 +53,8 @@ impl Tree {
     /// [`Fault::Memory`], [`Fault::Full`], [`Fault::Spent`], [`Fault::NoSupervisor`], [`Fault::Nested`].
     pub fn note(&mut self, supervisor: u32, note: Note) -> Result<(), Fault> {
         let (kind, reason) = note.as_raw();
-        let (reason, text) = reason.map_or((0, ""), Reason::as_raw);
-        Fault::check(self.handle.note(supervisor, kind, note.number(), reason, text.as_bytes()))
+        let (reason, text): (u32, &[u8]) = reason.map_or((0, b""), Reason::as_raw);
+        Fault::check(self.handle.note(supervisor, kind, note.number(), reason, text))
     }
 
     /// The root is wanted to shut down, and with it the tree.

@@ -5,7 +5,7 @@ use Rattle.otp_driver.proofs.supervisor.happen.Goals as goal
 
 pub returns-in-Ok-clause-answered : goal.returns-in-Ok-clause-answered
 returns-in-Ok-clause-answered c =
-    let event : Event = record { reading = c.args.reading; number = c.in-Ok.field-0; kind = c.args.kind } in
+    let event : Event = record { reading = c.args.reading; number = c.in-Ok.field-0; kind = c.args.kind.now } in
     answered_on c.answers_are_told.ensures.told c.cuts_agree.ensures.runs c.cuts_agree.ensures.step c.runs_are_joined.ensures.lists c.runs_are_joined.ensures.one_more
     _ event c.args.core.now c.happen.new.self (c.in-Ok.ensures {u = tt}).happened
 
