@@ -2,18 +2,21 @@
 _otp() {
     local word=${COMP_WORDS[COMP_CWORD]} command=${COMP_WORDS[1]-} options=""
     if [ "$COMP_CWORD" = 1 ]; then
-        COMPREPLY=($(compgen -W "check limits run shutdown sim tree try help --help --version" -- "$word"))
+        COMPREPLY=($(compgen -W "check diff limits replay run shutdown sim suggest tree try help --help --version" -- "$word"))
         return
     fi
     case $command in
         check) options="--run --all --json --help" ;;
-        limits) options="--child --table --each --json --help" ;;
+        diff) options="--help" ;;
+        limits) options="--child --table --each --json --html --help" ;;
+        replay) options="--unmatched --timeline --quiet --clock --width --help" ;;
         run) options="--schedulers --turns --counts --tree --why --for --grace --log --json --help" ;;
         shutdown) options="--help" ;;
         sim) options="--help" ;;
-        tree) options="--help" ;;
-        try) options="--prompt --timeline --quiet --clock --width --help" ;;
-        help) COMPREPLY=($(compgen -W "check limits run shutdown sim tree try script" -- "$word")); return ;;
+        suggest) options="--child --every --help" ;;
+        tree) options="--html --help" ;;
+        try) options="--prompt --timeline --quiet --clock --width --json --html --help" ;;
+        help) COMPREPLY=($(compgen -W "check diff limits replay run shutdown sim suggest tree try script lines" -- "$word")); return ;;
     esac
     case $word in
         -*) COMPREPLY=($(compgen -W "$options" -- "$word")) ;;

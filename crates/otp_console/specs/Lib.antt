@@ -1,3 +1,4 @@
 pub mod Endings
+pub mod Used
 pub mod Runs
 pub mod Words

@@ -1,5 +1,5 @@
 -- What the program did to its input, its output and the standard error, by how it ended (own).
-use Rattle.std.specs.Prelude.{◌≡◌, ◌⊎◌, ◌||◌, ℕ, ◌<◌, Bool, true, false, List, [], ◌∷◌, ◌++◌, Option, Some, None, option_map, Ok}
+use Rattle.std.specs.Prelude.{◌≡◌, ◌⊎◌, ◌||◌, ℕ, ◌<◌, Bool, true, false, List, [], ◌∷◌, ◌++◌, Option, Ok}
 use Rattle.std.specs.Io.KnownBytes.{Appends}
 use Rattle.otp_file.specs.declared.fault.TreeFault.{TreeFault}
 use Rattle.otp_file.specs.Files.{Says}
@@ -9,25 +9,18 @@ use Rattle.otp_sim.specs.declared.engine.SimEnd.TheVariants as sim
 use Rattle.otp_sim.specs.Runs.{Devices, Writes}
 use Rattle.otp_sim.specs.Sim.{opened}
 use Rattle.otp_check.specs.Checks.{IsFirstFault}
-use Rattle.otp_try.specs.Pages.{Tries}
-use Rattle.otp_try.specs.declared.play.TryEnd.{TryEnd}
-use Rattle.otp_try.specs.declared.play.TryEnd.TheVariants as trial
 use Rattle.otp_jobs.specs.declared.plan.PlanFault.{PlanFault}
 use Rattle.otp_starts.specs.Unfit.{HasStarts, IsRunnable}
 use Rattle.otp_ending.specs.Devices.{HasTree, IsUnread, Written, writer_of}
-use Rattle.otp_questions.specs.Limited.{IsLimited}
-use Rattle.otp_questions.specs.Said.{IsDrawn}
-use Rattle.otp_questions.specs.Stopped.{IsStopped}
 use Rattle.otp_running.specs.Running.{IsTreeRun, IsTreeServed}
 use Rattle.otp_ending.specs.Statuses.{status_of}
 use Rattle.otp_ending.specs.Told.{IsSmall, IsUnreadEnd, Tells, TellsFirst, goes_on, worse}
 use Rattle.otp_ending.specs.declared.ending.Unwritten.{Unwritten}
 use Rattle.otp_ending.specs.declared.ending.ProgramEnd.{ProgramEnd}
-use Rattle.otp_ending.specs.declared.ending.ProgramEnd.TheVariants.{Done, WordsRefused, NoCommand, WordNotText, FileAsCommand, TreeNotRead, FileNotRead, TreeRefused, NoTree, UnknownStart, NotFound, WrongBody, CloseMismatch, CloseMissing, FaultsFound, LineRefused, ScriptRefused, ScriptMissed, HistoryFull, InputFailed, OutputFailed, OutOfMemory, ExpectationFailed, UnknownClock, NotATime, NeedsFor, CountsTurns, NotFinished}
+use Rattle.otp_ending.specs.declared.ending.ProgramEnd.TheVariants.{Done, WordsRefused, NoCommand, WordNotText, FileAsCommand, TreeNotRead, FileNotRead, TreeRefused, FaultsFound, LineRefused, HistoryFull, InputFailed, OutputFailed, OutOfMemory, UnknownClock, NotATime, NeedsFor, CountsTurns}
 use Rattle.otp_words.specs.declared.words.Command.{Command}
 use Rattle.otp_words.specs.declared.words.Command.TheVariants as command
-use Rattle.otp_words.specs.declared.words.Usage.{Usage}
-use Rattle.otp_words.specs.declared.words.Usage.TheVariants as usage
+use Rattle.otp_console.specs.Used.{Uses}
 
 -- the file says a tree, and its supervisor was played to this end
 abbrev pub Played : SimEnd → List ℕ → Devices → Devices → Type 0
@@ -36,33 +29,13 @@ Played end file old new = (tree : Tree) × (Says file (Ok tree) × Writes end (o
 -- want of memory may end it before anything is read, and says nothing of the file
 abbrev pub IsRun : ProgramEnd → List ℕ → Devices → Devices → Type 0
 IsRun Done file old new = Played sim.Done file old new
-IsRun WordsRefused file old new = ⊥
-IsRun NoCommand file old new = ⊥
-IsRun WordNotText file old new = ⊥
-IsRun UnknownClock file old new = ⊥
-IsRun NotATime file old new = ⊥
-IsRun NeedsFor file old new = ⊥
-IsRun CountsTurns file old new = ⊥
-IsRun FileAsCommand file old new = ⊥
-IsRun TreeNotRead file old new = ⊥
-IsRun FileNotRead file old new = ⊥
 IsRun (TreeRefused why) file old new = (new ≡ old) × IsFirstFault why file
-IsRun (NoTree why named) file old new = ⊥
-IsRun (UnknownStart name) file old new = ⊥
-IsRun (NotFound name) file old new = ⊥
-IsRun WrongBody file old new = ⊥
-IsRun CloseMismatch file old new = ⊥
-IsRun CloseMissing file old new = ⊥
-IsRun NotFinished file old new = ⊥
-IsRun FaultsFound file old new = ⊥
 IsRun (LineRefused line) file old new = Played (sim.LineRefused line) file old new
-IsRun (ScriptRefused line why) file old new = ⊥
-IsRun (ScriptMissed line why) file old new = ⊥
-IsRun (ExpectationFailed line) file old new = ⊥
 IsRun HistoryFull file old new = Played sim.HistoryFull file old new
 IsRun InputFailed file old new = Played sim.InputFailed file old new
 IsRun OutputFailed file old new = Played sim.OutputFailed file old new
 IsRun OutOfMemory file old new = (new ≡ old) ⊎ Played sim.Memory file old new
+IsRun _ file old new = ⊥
 
 -- the run of a file whose bytes are known to be so: it can't be read, or it was played
 abbrev pub Simulates : (List ℕ → Type 0) → ProgramEnd → Devices → Devices → Type 0
@@ -84,45 +57,6 @@ Answers FileAsCommand old new = new ≡ old
 Answers OutputFailed old new = IsUnread old new × (old.write_failures < new.write_failures)
 Answers OutOfMemory old new = new ≡ old
 Answers _ old new = ⊥
-
--- the file says a tree, and what was written is a run of its supervisors that ended so: all their orders, or their ends alone
-abbrev pub WasTried : TryEnd → List ℕ → Devices → Devices → Type 0
-WasTried end file old new =
-    (tree : Tree) × (Says file (Ok tree) × ((tells : Bool) × Tries end tree tells old.written new.written))
-
--- the tree of the file of this name was tried by the lines of a script; want of memory may end it before, and says nothing of
--- the file
-abbrev pub IsTrial : List ℕ → ProgramEnd → List ℕ → Devices → Devices → Type 0
-IsTrial name Done file old new = WasTried trial.Done file old new
-IsTrial name (NoTree why named) file old new = (new ≡ old) × ((named.now ≡ name) × IsFirstFault why file)
-IsTrial name (ScriptRefused line why) file old new = WasTried (trial.LineRefused line why) file old new
-IsTrial name (ScriptMissed line why) file old new = WasTried (trial.LineMissed line why) file old new
-IsTrial name (ExpectationFailed line) file old new = WasTried (trial.ExpectationFailed line) file old new
-IsTrial name HistoryFull file old new = WasTried trial.HistoryFull file old new
-IsTrial name InputFailed file old new = WasTried trial.InputFailed file old new
-IsTrial name OutputFailed file old new = WasTried trial.OutputFailed file old new
-IsTrial name OutOfMemory file old new = (new ≡ old) ⊎ WasTried trial.OutOfMemory file old new
-IsTrial name _ file old new = ⊥
-
--- the script is in another file, of which nothing of the input is read: that can't be read, or the tree was tried by it
-abbrev pub IsTrialOf : List ℕ → Option (List ℕ) → ProgramEnd → List ℕ → Devices → Devices → Type 0
-IsTrialOf name None ending file old new = IsTrial name ending file old new
-IsTrialOf name (Some script) ending file old new =
-    ((ending ≡ FileNotRead) × (new ≡ old)) ⊎ ((ending ≡ OutOfMemory) × (new ≡ old))
-    ⊎ (IsTrial name ending file old new × IsUnread old new)
-
--- the tree file of this name was used so
-abbrev pub IsUsed : List ℕ → Usage → ProgramEnd → List ℕ → Devices → Devices → Type 0
-IsUsed name (usage.Try script writer is_drawn is_quiet clock width) ending file old new = IsTrialOf name (option_map (λ script. script.now) script) ending file old new
-IsUsed name usage.Stop ending file old new = IsUnread old new × IsStopped name ending file (writer_of old) (writer_of new)
-IsUsed name usage.Draw ending file old new = IsUnread old new × IsDrawn name ending file (writer_of old) (writer_of new)
-IsUsed name (usage.Limit pick grain is_json) ending file old new = IsUnread old new × IsLimited is_json grain pick name ending file (writer_of old) (writer_of new)
-
--- the same of a file of which it is known what bytes it may hold: it can't be read, or it was used
-abbrev pub Uses : (List ℕ → List ℕ → Type 0) → List ℕ → Usage → ProgramEnd → Devices → Devices → Type 0
-Uses Holds name usage ending old new =
-    ((ending ≡ FileNotRead) × (new ≡ old)) ⊎ ((ending ≡ OutOfMemory) × (new ≡ old))
-    ⊎ ((file : List ℕ) × ((Holds name file × IsSmall file) × IsUsed name usage ending file old new))
 
 -- a text was written, and so it ends well; or the writer failed
 abbrev pub IsWritten : ProgramEnd → ProgramEnd → ℕ → ℕ → Type 0
@@ -182,15 +116,15 @@ ServesTree Holds is_json name ending old new =
     ⊎ ((file : List ℕ) × (Holds file × IsTreeServed is_json name ending file old new))
 
 -- what a command asks for was done
-abbrev pub Does : (List ℕ → List ℕ → Type 0) → Command → ProgramEnd → Devices → Devices → Type 0
-Does Holds (command.Sim file) ending old new = Simulates (Holds file.now) ending old new
-Does Holds (command.Check files checking) ending old new =
+abbrev pub Does : (List ℕ → List ℕ → Type 0) → (List ℕ → List ℕ → Type 0) → Command → ProgramEnd → Devices → Devices → Type 0
+Does Holds Keeps (command.Sim file) ending old new = Simulates (Holds file.now) ending old new
+Does Holds Keeps (command.Check files checking) ending old new =
     IsUnread old new × ChecksAll checking.has_starts (λ name. Holds name.now) files.items ending (writer_of old) (writer_of new)
-Does Holds (command.Run file settings shows) ending old new =
+Does Holds Keeps (command.Run file settings shows) ending old new =
     IsUnread old new × RunsTree (Holds file.now) shows.is_json file.now settings.counted ending (writer_of old) (writer_of new)
-Does Holds (command.Serve file settings serving shows) ending old new =
+Does Holds Keeps (command.Serve file settings serving shows) ending old new =
     IsUnread old new × ServesTree (Holds file.now) shows.is_json file.now ending (writer_of old) (writer_of new)
-Does Holds (command.Use file usage) ending old new = Uses Holds file.now usage ending old new
+Does Holds Keeps (command.Use file usage) ending old new = Uses Holds Keeps file.now usage ending old new
 
 -- a picture of the tree that is run is told besides, or why its supervisors ended, where the command asks for it
 abbrev pub draws : Command → Bool
@@ -199,23 +133,23 @@ draws (command.Serve file settings serving shows) = shows.is_drawn || shows.is_w
 draws _ = false
 
 -- what the words ask for was done, for some command, with a picture or without; or the words alone were answered
-abbrev pub Obeys : (List ℕ → List ℕ → Type 0) → Bool → ProgramEnd → Devices → Devices → Type 0
-Obeys Holds drawn ending old new =
-    ((command : Command) × ((draws command ≡ drawn) × Does Holds command ending old new)) ⊎ ((drawn ≡ false) × Answers ending old new)
+abbrev pub Obeys : (List ℕ → List ℕ → Type 0) → (List ℕ → List ℕ → Type 0) → Bool → ProgramEnd → Devices → Devices → Type 0
+Obeys Holds Keeps drawn ending old new =
+    ((command : Command) × ((draws command ≡ drawn) × Does Holds Keeps command ending old new)) ⊎ ((drawn ≡ false) × Answers ending old new)
 
 -- what was done, and what was told before the program ends
-pub record IsObeyed (Holds : List ℕ → List ℕ → Type 0) (ending : ProgramEnd) (old new : Devices)
+pub record IsObeyed (Holds Keeps : List ℕ → List ℕ → Type 0) (ending : ProgramEnd) (old new : Devices)
     (before now : Option (List ℕ)) (failures_before failures_now : ℕ) : Type 0 where
   pub drawn : Bool
-  pub done : Obeys Holds drawn ending old new
+  pub done : Obeys Holds Keeps drawn ending old new
   pub first : TellsFirst drawn ending before now failures_before failures_now
 
 -- a run of the program: how it ended, its status, what it did to its input and output, and what it told
-pub record IsProgramRun (Holds : List ℕ → List ℕ → Type 0) (status : ℕ) (old new : Devices)
+pub record IsProgramRun (Holds Keeps : List ℕ → List ℕ → Type 0) (status : ℕ) (old new : Devices)
     (before now : Option (List ℕ)) (failures_before failures_now : ℕ) : Type 0 where
   pub ending : ProgramEnd
   pub drawn : Bool
   pub why : Unwritten
   pub status_is : status ≡ status_of ending
-  pub done : Obeys Holds drawn ending old new
+  pub done : Obeys Holds Keeps drawn ending old new
   pub told : Tells drawn why ending before now failures_before failures_now

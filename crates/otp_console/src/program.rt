@@ -1,7 +1,7 @@
 //! The program but for the system under it: what it does for which words, and what it tells on which stream.
 
-ghost use Rattle.std.specs.Prelude.{ℕ, List, Option, ◌≡◌, ◌≤◌, ◌⊎◌, ◌||◌, IfErr, IfOk, OnOk, option_map, true, false};
-ghost use Rattle.otp_console.specs.Runs.{Answers, Checks, ChecksAll, Does, IsObeyed, IsProgramRun, IsTrial, IsTrialOf, IsUsed, RunsTree, ServesTree, Simulates, Uses, draws};
+ghost use Rattle.std.specs.Prelude.{ℕ, List, Option, ◌≡◌, ◌≤◌, ◌⊎◌, ◌||◌, false};
+ghost use Rattle.otp_console.specs.Runs.{Answers, Checks, ChecksAll, Does, IsObeyed, IsProgramRun, RunsTree, ServesTree, Simulates, draws};
 ghost use Rattle.otp_ending.specs.Told.{TellsFirst};
 ghost use Rattle.otp_ending.specs.declared.ending.ProgramEnd.TheVariants as end;
 ghost use Rattle.otp_console.specs.Words.{EndsFor};
@@ -9,19 +9,15 @@ ghost use Rattle.otp_words.specs.declared.words.WordsFault.TheVariants.{Clap};
 
 use crate::checking::{check_file, write_unread};
 use crate::console::console;
-use crate::trying::try_file;
+use crate::using::use_named;
 use clap::Error;
-use otp_ending::{
-    ProgramEnd, TreeFiles, Unread, read_file, read_run_file, read_small, read_tree_file, tell,
-};
+use otp_ending::{ProgramEnd, TreeFiles, Unread, read_run_file, read_small, tell};
 use otp_jobs::Settings;
 use otp_live::Watch;
-use otp_questions::{draw_file, limit_file, stop_file};
 use otp_running::{Pool, explain, run_file, serve_file};
-use otp_sim::{Counted, Failed, Input, Output, write_all};
+use otp_sim::{Failed, Input, Output, write_all};
 use otp_tree::Gate;
-use otp_try::{Clock, Shows, Writer};
-use otp_words::{Checking, Command, RunShows, Serving, Usage, WordsFault, read_words};
+use otp_words::{Checking, Command, RunShows, Serving, WordsFault, read_words};
 use std::alloc::Global;
 use std::sync::Wait;
 use std::thread::Threads;
@@ -48,7 +44,7 @@ where
     R: Input,
     W: Output,
     E: Output,
-    ensures { IsProgramRun (F.holds files.now) result
+    ensures { IsProgramRun (F.holds files.now) (F.keeps files.now) result
         (record { left = R.remaining input.old; written = W.contents output.old; read_failures = R.failures input.old; write_failures = W.failures output.old })
         (record { left = R.remaining input.new; written = W.contents output.new; read_failures = R.failures input.new; write_failures = W.failures output.new })
         (E.contents errors.old) (E.contents errors.new) (E.failures errors.old) (E.failures errors.new) }
@@ -75,7 +71,7 @@ where
     R: Input,
     W: Output,
     E: Output,
-    ensures obeyed { IsObeyed (F.holds files.now) result
+    ensures obeyed { IsObeyed (F.holds files.now) (F.keeps files.now) result
         (record { left = R.remaining input.old; written = W.contents output.old; read_failures = R.failures input.old; write_failures = W.failures output.old })
         (record { left = R.remaining input.new; written = W.contents output.new; read_failures = R.failures input.new; write_failures = W.failures output.new })
         (E.contents errors.old) (E.contents errors.new) (E.failures errors.old) (E.failures errors.new) }
@@ -109,7 +105,7 @@ where
     R: Input,
     W: Output,
     E: Output,
-    ensures done { Does (F.holds files.now) command.entry result
+    ensures done { Does (F.holds files.now) (F.keeps files.now) command.entry result
         (record { left = R.remaining input.old; written = W.contents output.old; read_failures = R.failures input.old; write_failures = W.failures output.old })
         (record { left = R.remaining input.new; written = W.contents output.new; read_failures = R.failures input.new; write_failures = W.failures output.new }) }
     ensures first { TellsFirst (draws command.entry) result (E.contents errors.old) (E.contents errors.new) (E.failures errors.old) (E.failures errors.new) }
@@ -222,156 +218,6 @@ where
         ),
         Err(ending) => ending,
     }
-}
-
-/// Uses the tree file of this name.
-fn use_named<'a, F: TreeFiles, R: Input, W: Output, E: Output>(
-    alloc: Global,
-    files: &F,
-    name: &'a str,
-    usage: Usage<'a>,
-    input: &mut R,
-    output: &mut W,
-    errors: &mut E,
-) -> ProgramEnd<'a>
-    ensures done { Uses (F.holds files.now) name.now usage.entry result
-        (record { left = R.remaining input.old; written = W.contents output.old; read_failures = R.failures input.old; write_failures = W.failures output.old })
-        (record { left = R.remaining input.new; written = W.contents output.new; read_failures = R.failures input.new; write_failures = W.failures output.new }) }
-    ensures first { TellsFirst false result (E.contents errors.old) (E.contents errors.new) (E.failures errors.old) (E.failures errors.new) }
-    ensures kept { E.failures errors.old ≤ E.failures errors.new }
-{
-    match read_tree_file(files, name, errors) {
-        Ok(file) => use_file(alloc, files, name, &file, usage, input, output, errors),
-        Err(ending) => ending,
-    }
-}
-
-/// Uses a tree file that was read.
-fn use_file<'a, F: TreeFiles, R: Input, W: Output, E: Output>(
-    alloc: Global,
-    files: &F,
-    name: &'a str,
-    file: &[u8],
-    usage: Usage<'a>,
-    input: &mut R,
-    output: &mut W,
-    errors: &mut E,
-) -> ProgramEnd<'a>
-    ensures done { IsUsed name.now usage.entry result file.now
-        (record { left = R.remaining input.old; written = W.contents output.old; read_failures = R.failures input.old; write_failures = W.failures output.old })
-        (record { left = R.remaining input.new; written = W.contents output.new; read_failures = R.failures input.new; write_failures = W.failures output.new }) }
-    ensures first { TellsFirst false result (E.contents errors.old) (E.contents errors.new) (E.failures errors.old) (E.failures errors.new) }
-    ensures kept { E.failures errors.old ≤ E.failures errors.new }
-{
-    match usage {
-        Usage::Try {
-            script,
-            writer,
-            is_drawn,
-            is_quiet,
-            clock,
-            width,
-        } => try_by(
-            alloc,
-            files,
-            name,
-            file,
-            script,
-            writer,
-            shows_of(files, is_drawn, is_quiet, width),
-            clock,
-            input,
-            output,
-            errors,
-        ),
-        Usage::Draw => draw_file(alloc, name, file, output),
-        Usage::Stop => stop_file(alloc, name, file, output),
-        Usage::Limit {
-            pick,
-            grain,
-            is_json,
-        } => limit_file(alloc, name, file, pick, grain, is_json, output),
-    }
-}
-
-/// Tries the tree of a file by the lines of a script, which is another file or the input.
-fn try_by<'a, F: TreeFiles, R: Input, W: Output, E: Output>(
-    alloc: Global,
-    files: &F,
-    name: &'a str,
-    file: &[u8],
-    script: Option<&'a str>,
-    writer: Writer,
-    shows: Shows,
-    clock: Clock,
-    input: &mut R,
-    output: &mut W,
-    errors: &mut E,
-) -> ProgramEnd<'a>
-    ensures done { IsTrialOf name.now (option_map (λ script. script.now) script.entry) result file.now
-        (record { left = R.remaining input.old; written = W.contents output.old; read_failures = R.failures input.old; write_failures = W.failures output.old })
-        (record { left = R.remaining input.new; written = W.contents output.new; read_failures = R.failures input.new; write_failures = W.failures output.new }) }
-    ensures first { TellsFirst false result (E.contents errors.old) (E.contents errors.new) (E.failures errors.old) (E.failures errors.new) }
-    ensures kept { E.failures errors.old ≤ E.failures errors.new }
-{
-    let Some(script) = script else {
-        return try_file(
-            alloc,
-            name,
-            file,
-            writer_at(files, writer),
-            shows,
-            clock,
-            input,
-            output,
-        );
-    };
-    match read_file(files, script, errors) {
-        Ok(lines) => try_lines(alloc, name, file, writer, shows, clock, &lines, output),
-        Err(ending) => ending,
-    }
-}
-
-/// Who writes the lines of the input: a person at a terminal does, whatever the words say.
-fn writer_at<F: TreeFiles>(files: &F, writer: Writer) -> Writer {
-    if files.is_terminal() {
-        Writer::Person
-    } else {
-        writer
-    }
-}
-
-/// What of a trial is written: a picture has colours where they may be.
-fn shows_of<F: TreeFiles>(files: &F, is_drawn: bool, is_quiet: bool, width: u32) -> Shows {
-    if is_drawn {
-        Shows::Timeline {
-            is_coloured: files.has_colours(),
-            width,
-        }
-    } else if is_quiet {
-        Shows::Ends
-    } else {
-        Shows::Orders
-    }
-}
-
-/// Tries the tree of a file by these lines.
-fn try_lines<'a, W: Output>(
-    alloc: Global,
-    name: &'a str,
-    file: &[u8],
-    writer: Writer,
-    shows: Shows,
-    clock: Clock,
-    lines: &[u8],
-    output: &mut W,
-) -> ProgramEnd<'a>
-    ensures { (left : Option (List ℕ)) (failures : ℕ) → IsTrial name.now result file.now
-        (record { left = left; written = W.contents output.old; read_failures = failures; write_failures = W.failures output.old })
-        (record { left = left; written = W.contents output.new; read_failures = failures; write_failures = W.failures output.new }) }
-{
-    let mut script = Counted::new(lines);
-    try_file(alloc, name, file, writer, shows, clock, &mut script, output)
 }
 
 /// Checks files, one after the other, as long as it can be written what is wrong in them.

@@ -7,12 +7,15 @@ use Rattle.otp_file.specs.Faults.{code_of}
 use Rattle.otp_file.specs.declared.fault.TreeFault.{TreeFault}
 use Rattle.otp_file.specs.declared.fault.TreeFault.TheVariants as fault
 use Rattle.otp_reason.specs.Names.{name_bytes}
+use Rattle.otp_replay.specs.Told as log
+use Rattle.otp_replay.specs.declared.reading.LogFault.{LogFault}
 use Rattle.otp_script.specs.Faults.{fault_text}
+use Rattle.otp_suggest.specs.Refused as gap
 use Rattle.otp_trial.specs.Taken.{taken_text}
 use Rattle.otp_ending.specs.declared.ending.Unwritten.{Unwritten}
 use Rattle.otp_ending.specs.declared.ending.Unwritten.TheVariants.{Closed, Since}
 use Rattle.otp_ending.specs.declared.ending.ProgramEnd.{ProgramEnd}
-use Rattle.otp_ending.specs.declared.ending.ProgramEnd.TheVariants.{Done, WordsRefused, NoCommand, WordNotText, FileAsCommand, TreeNotRead, FileNotRead, TreeRefused, NoTree, UnknownStart, NotFound, WrongBody, CloseMismatch, CloseMissing, FaultsFound, LineRefused, ScriptRefused, ScriptMissed, HistoryFull, InputFailed, OutputFailed, OutOfMemory, UnknownClock, NotATime, NeedsFor, CountsTurns, ExpectationFailed, NotFinished}
+use Rattle.otp_ending.specs.declared.ending.ProgramEnd.TheVariants.{Done, WordsRefused, NoCommand, WordNotText, FileAsCommand, TreeNotRead, FileNotRead, TreeRefused, NoTree, UnknownStart, NotFound, WrongBody, CloseMismatch, CloseMissing, FaultsFound, LineRefused, ScriptRefused, ScriptMissed, HistoryFull, InputFailed, OutputFailed, OutOfMemory, UnknownClock, NotATime, NeedsFor, CountsTurns, ExpectationFailed, NotFinished, NamesSupervisor, NotAGap, LogRefused, PageNotWritten}
 
 -- 0: done. 1: the tree, or a file. 2: the words. 3: the lines of the input. 4: the machine. 5: a line of a script. 6: what one
 -- expects. 7: a run that ran out of turns, or of time to stop
@@ -33,6 +36,9 @@ status_of (NoTree _ _) = 1
 status_of (UnknownStart _) = 1
 status_of WrongBody = 1
 status_of (NotFound _) = 2
+status_of (NamesSupervisor _) = 2
+status_of (NotAGap _ _) = 2
+status_of (LogRefused _ _) = 2
 status_of CloseMismatch = 4
 status_of CloseMissing = 4
 status_of NotFinished = 7
@@ -44,6 +50,7 @@ status_of (ExpectationFailed _) = 6
 status_of HistoryFull = 3
 status_of InputFailed = 3
 status_of OutputFailed = 4
+status_of (PageNotWritten _ _) = 4
 status_of OutOfMemory = 4
 
 -- a line of a script, and what is wrong with it
@@ -61,6 +68,26 @@ no_tree_text code name = codes "tree refused: E" ++ decimal code ++ codes "; otp
 -- a name that no child or supervisor has
 abbrev pub not_found_text : List ℕ → List ℕ
 not_found_text name = codes "error: no child is found by the name " ++ name ++ codes "\n"
+
+-- a supervisor's name where a worker's is wanted
+abbrev pub names_supervisor_text : List ℕ → List ℕ
+names_supervisor_text name = codes "error: " ++ gap.is_supervisor_text name
+
+-- a word that says no time between crashes, and why
+abbrev pub no_gap_text : List ℕ → List ℕ → List ℕ
+no_gap_text word why = (codes "error: " ++ word ++ codes " ") ++ why ++ codes "\n"
+
+-- the line of the log of this name that is refused, and why
+abbrev pub log_text : List ℕ → LogFault → List ℕ
+log_text name why = (codes "error: " ++ name ++ codes ": ") ++ log.fault_text why
+
+-- what is said of a file, and why
+abbrev pub said_text : List ℕ → List ℕ → List ℕ → List ℕ
+said_text name said why = (codes "error: " ++ name ++ said) ++ why ++ codes "\n"
+
+-- a page that can't be written, and why
+abbrev pub not_written_text : List ℕ → List ℕ → List ℕ
+not_written_text name why = said_text name (codes " can't be written: ") why
 
 -- the line on standard error, its end included: none where all went well, where it was told before why the words
 -- are refused, a file can't be read or a run isn't finished, or where faults were written to the output
@@ -80,6 +107,9 @@ sentence_of (TreeRefused why) = codes "tree refused: E" ++ decimal (code_of why)
 sentence_of (NoTree why name) = no_tree_text (code_of why) name.now
 sentence_of (UnknownStart name) = codes "unknown start " ++ name_bytes name ++ codes "\n"
 sentence_of (NotFound name) = not_found_text name.now
+sentence_of (NamesSupervisor name) = names_supervisor_text name.now
+sentence_of (NotAGap word why) = no_gap_text word.now (gap.fault_text why)
+sentence_of (LogRefused name why) = log_text name.now why
 sentence_of WrongBody = codes "tree refused: E19\n"
 sentence_of CloseMismatch = codes "close refused: E17\n"
 sentence_of CloseMissing = codes "close refused: E20\n"
@@ -92,6 +122,7 @@ sentence_of (ExpectationFailed line) = line_text line (codes "it is not so as th
 sentence_of HistoryFull = codes "history full\n"
 sentence_of InputFailed = codes "input not read\n"
 sentence_of OutputFailed = codes "output not written\n"
+sentence_of (PageNotWritten name why) = not_written_text name.now why.now
 sentence_of OutOfMemory = codes "out of memory\n"
 
 -- the same where it is known why the output last failed: that is told, and nothing where nobody reads it any more

@@ -1,9 +1,10 @@
 -- What is told before the program ends, and what is said of a file that is read (own).
 use Rattle.std.specs.Prelude.{◌≡◌, ◌⊎◌, ℕ, ◌<◌, ◌≤◌, length, Bool, true, false, List, [], ◌++◌, Option}
+use Rattle.std.specs.Borrow.{Bor}
 use Rattle.std.specs.Io.KnownBytes.{Appends}
 use Rattle.otp_ending.specs.Statuses.{sentence_since}
 use Rattle.otp_ending.specs.declared.ending.ProgramEnd.{ProgramEnd}
-use Rattle.otp_ending.specs.declared.ending.ProgramEnd.TheVariants.{Done, WordsRefused, TreeNotRead, FileNotRead, TreeRefused, UnknownStart, WrongBody, FaultsFound, OutputFailed, OutOfMemory, NotFinished}
+use Rattle.otp_ending.specs.declared.ending.ProgramEnd.TheVariants.{Done, WordsRefused, TreeNotRead, FileNotRead, TreeRefused, UnknownStart, WrongBody, FaultsFound, OutputFailed, OutOfMemory, NotFinished, LineRefused, PageNotWritten}
 use Rattle.otp_ending.specs.declared.ending.Unwritten.{Unwritten}
 use Rattle.otp_ending.specs.declared.files.TheConstants.{LARGEST_TREE}
 
@@ -12,7 +13,7 @@ abbrev pub IsTold : List ℕ → Option (List ℕ) → Option (List ℕ) → ℕ
 IsTold text before now failures_before failures_now = (failures_before < failures_now) ⊎ Appends before now text
 
 -- what is told before the program ends: why `clap` refuses the words, why a file can't be read, which command explains why a
--- tree is refused, which starts are unfit, what a run awaits that isn't finished, and where it is wanted a picture of a tree
+-- tree or a line is refused, which starts are unfit, what a run awaits that isn't finished, and where it is wanted a picture of a tree
 -- that was run, or why its supervisors ended
 abbrev pub is_told_first : Bool → ProgramEnd → Bool
 is_told_first drawn WordsRefused = true
@@ -21,6 +22,7 @@ is_told_first drawn (TreeRefused _) = true
 is_told_first drawn (UnknownStart _) = true
 is_told_first drawn WrongBody = true
 is_told_first drawn NotFinished = true
+is_told_first drawn (LineRefused _) = true
 is_told_first drawn Done = drawn
 is_told_first drawn _ = false
 
@@ -53,3 +55,7 @@ IsSmall file = length file ≤ LARGEST_TREE
 -- a tree that is to be run can't be read: of a file that isn't told why, of standard input it is
 abbrev pub IsUnreadEnd : ProgramEnd → Type 0
 IsUnreadEnd ending = (ending ≡ TreeNotRead) ⊎ ((ending ≡ FileNotRead) ⊎ (ending ≡ OutOfMemory))
+
+-- the page of this name can't be written
+abbrev pub IsUnkept : Bor (List ℕ) → ProgramEnd → Type 0
+IsUnkept name ending = ((why : Bor (List ℕ)) × (ending ≡ PageNotWritten name why)) ⊎ (ending ≡ OutOfMemory)

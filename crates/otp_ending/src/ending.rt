@@ -4,15 +4,17 @@ ghost use Rattle.std.specs.Prelude.{◌≡◌, ◌⊎◌, ◌≤◌, ◌<◌, �
 ghost use Rattle.std.specs.IoError.{error_kind};
 ghost use Rattle.std.specs.Io.KnownBytes.{Appends};
 ghost use Rattle.otp_ending.specs.Told.{IsTold, goes_on, worse};
-ghost use Rattle.otp_ending.specs.Statuses.{IsOfFile, ending_of_no_tree, ending_of_tree, line_text, no_tree_text, not_found_text, sentence_of, status_of, sentence_since};
+ghost use Rattle.otp_ending.specs.Statuses.{IsOfFile, ending_of_no_tree, ending_of_tree, line_text, log_text, names_supervisor_text, no_gap_text, no_tree_text, not_found_text, not_written_text, said_text, sentence_of, status_of, sentence_since};
 ghost use Rattle.otp_ending.specs.declared.ending.ProgramEnd.TheVariants.{OutOfMemory, TreeNotRead};
 
-use crate::files::write_three;
+use crate::files::{write_three, write_two};
 use itoa::Buffer;
 use otp_file::TreeFault;
 use otp_reason::Name;
+use otp_replay::LogFault;
 use otp_script::ScriptFault;
 use otp_sim::{Failed, Output, write_all};
+use otp_suggest::{GapFault, instead};
 use otp_trial::ActionEnd;
 use std::io;
 use std::io::ErrorKind;
@@ -50,6 +52,12 @@ pub enum ProgramEnd<'a> {
     UnknownStart(Name),
     /// No child or supervisor of the tree has this name, or the supervisor has no children.
     NotFound(&'a str),
+    /// The child with this name is a supervisor, where a worker's name is wanted.
+    NamesSupervisor(&'a str),
+    /// This word says no time between crashes.
+    NotAGap(&'a str, GapFault),
+    /// A line of the log of this name is refused, and nothing of it was played.
+    LogRefused(&'a str, LogFault),
     /// E19: a worker's job stands where a supervisor is wanted.
     WrongBody,
     /// E17: a tree that ran has a report that tells of a mismatch.
@@ -73,6 +81,8 @@ pub enum ProgramEnd<'a> {
     HistoryFull,
     InputFailed,
     OutputFailed,
+    /// The page of this name can't be written, and why.
+    PageNotWritten(&'a str, &'static str),
     OutOfMemory,
 }
 
@@ -90,9 +100,12 @@ impl<'a> ProgramEnd<'a> {
             ProgramEnd::WordsRefused | ProgramEnd::NoCommand | ProgramEnd::WordNotText => 2,
             ProgramEnd::FileAsCommand | ProgramEnd::NotFound(_) | ProgramEnd::UnknownClock => 2,
             ProgramEnd::NotATime | ProgramEnd::NeedsFor | ProgramEnd::CountsTurns => 2,
+            ProgramEnd::NamesSupervisor(_) | ProgramEnd::NotAGap(..) => 2,
+            ProgramEnd::LogRefused(..) => 2,
             ProgramEnd::LineRefused(_) | ProgramEnd::HistoryFull | ProgramEnd::InputFailed => 3,
             ProgramEnd::OutputFailed | ProgramEnd::OutOfMemory => 4,
             ProgramEnd::CloseMismatch | ProgramEnd::CloseMissing => 4,
+            ProgramEnd::PageNotWritten(..) => 4,
             ProgramEnd::ScriptRefused(..) | ProgramEnd::ScriptMissed(..) => 5,
             ProgramEnd::ExpectationFailed(_) => 6,
             ProgramEnd::NotFinished => 7,
@@ -232,6 +245,10 @@ fn write_sentence<E: Output>(errors: &mut E, ending: ProgramEnd<'_>) -> Result<(
             write_three(errors, b"unknown start ", name.as_bytes(), b"\n")
         }
         ProgramEnd::NotFound(name) => write_not_found(errors, name),
+        ProgramEnd::NamesSupervisor(name) => write_names_supervisor(errors, name),
+        ProgramEnd::NotAGap(word, fault) => write_no_gap(errors, word, fault.text()),
+        ProgramEnd::LogRefused(name, fault) => write_log_fault(errors, name, fault),
+        ProgramEnd::PageNotWritten(name, why) => write_not_written(errors, name, why),
         ProgramEnd::CloseMismatch => write_all(errors, b"close refused: E17\n"),
         ProgramEnd::CloseMissing => write_all(errors, b"close refused: E20\n"),
         ProgramEnd::WrongBody => write_all(errors, b"tree refused: E19\n"),
@@ -275,6 +292,66 @@ fn write_not_found<E: Output>(errors: &mut E, name: &str) -> Result<(), Failed>
         b"error: no child is found by the name ",
         name.as_bytes(),
         b"\n",
+    )
+}
+
+/// Writes that the child with this name is a supervisor, and whose name is wanted.
+#[tactic(auto, unfolding(otp_suggest::specs::Refused::is_supervisor_text))]
+fn write_names_supervisor<E: Output>(errors: &mut E, name: &str) -> Result<(), Failed>
+    ensures ok { OnOk result (Appends (E.contents errors.old) (E.contents errors.new) (names_supervisor_text name.now)) }
+    ensures kept { E.failures errors.old ≤ E.failures errors.new }
+    ensures failed { OnErr result (E.failures errors.old < E.failures errors.new) }
+{
+    write_three(errors, b"error: ", name.as_bytes(), instead().as_bytes())?;
+    write_two(errors, name.as_bytes(), b"/worker\n")
+}
+
+/// Writes that a word says no time between crashes, and why.
+fn write_no_gap<E: Output>(errors: &mut E, word: &str, why: &str) -> Result<(), Failed>
+    ensures ok { OnOk result (Appends (E.contents errors.old) (E.contents errors.new) (no_gap_text word.now why.now)) }
+    ensures kept { E.failures errors.old ≤ E.failures errors.new }
+    ensures failed { OnErr result (E.failures errors.old < E.failures errors.new) }
+{
+    write_three(errors, b"error: ", word.as_bytes(), b" ")?;
+    write_two(errors, why.as_bytes(), b"\n")
+}
+
+/// Writes which line of a log is refused, and why.
+fn write_log_fault<E: Output>(errors: &mut E, name: &str, fault: LogFault) -> Result<(), Failed>
+    ensures ok { OnOk result (Appends (E.contents errors.old) (E.contents errors.new) (log_text name.now fault)) }
+    ensures kept { E.failures errors.old ≤ E.failures errors.new }
+    ensures failed { OnErr result (E.failures errors.old < E.failures errors.new) }
+{
+    write_three(errors, b"error: ", name.as_bytes(), b": ")?;
+    write_numbered(errors, b"line ", fault.line(), fault.reason().as_bytes())
+}
+
+/// Writes what is said of a file, and why.
+fn write_said_of<E: Output>(
+    errors: &mut E,
+    name: &[u8],
+    said: &[u8],
+    why: &[u8],
+) -> Result<(), Failed>
+    ensures ok { OnOk result (Appends (E.contents errors.old) (E.contents errors.new) (said_text name.now said.now why.now)) }
+    ensures kept { E.failures errors.old ≤ E.failures errors.new }
+    ensures failed { OnErr result (E.failures errors.old < E.failures errors.new) }
+{
+    write_three(errors, b"error: ", name, said)?;
+    write_two(errors, why, b"\n")
+}
+
+/// Writes which page can't be written, and why.
+fn write_not_written<E: Output>(errors: &mut E, name: &str, why: &str) -> Result<(), Failed>
+    ensures ok { OnOk result (Appends (E.contents errors.old) (E.contents errors.new) (not_written_text name.now why.now)) }
+    ensures kept { E.failures errors.old ≤ E.failures errors.new }
+    ensures failed { OnErr result (E.failures errors.old < E.failures errors.new) }
+{
+    write_said_of(
+        errors,
+        name.as_bytes(),
+        b" can't be written: ",
+        why.as_bytes(),
     )
 }
 

@@ -1,8 +1,8 @@
-//! The files that the program reads.
+//! The files that the program reads, and the pages that it writes.
 
 ghost use Rattle.std.specs.Prelude.{ℕ, Bool, List, ◌≡◌, ◌≤◌, ◌<◌, ◌++◌, ◌⊎◌, IfErr, IfOk, OnOk, OnErr, codes, vec_len};
 ghost use Rattle.std.specs.Io.KnownBytes.{Appends};
-ghost use Rattle.otp_ending.specs.Told.{IsUnreadEnd, TellsFirst};
+ghost use Rattle.otp_ending.specs.Told.{IsUnkept, IsUnreadEnd, TellsFirst};
 ghost use Rattle.otp_ending.specs.Statuses.{not_read_text};
 ghost use Rattle.otp_ending.specs.declared.files.TheConstants.{LARGEST_TREE};
 ghost use Rattle.otp_ending.specs.declared.ending.ProgramEnd.TheVariants.{FileNotRead, OutOfMemory};
@@ -19,10 +19,16 @@ pub const LARGEST_TREE: usize = 1_048_576;
 /// Why a file that is larger is not parsed.
 const TOO_LARGE: &str = "it has more than 1048576 bytes, too many for a tree file";
 
-/// Where tree files are read from.
+/// Why more of standard input is not taken whole.
+const TOO_LONG: &str = "it has more than 1048576 bytes, which a file may have";
+
+/// Where tree files are read from, and pages are written to.
 pub trait TreeFiles {
     /// What a file of this name may hold.
     ghost holds: { Self → List ℕ → List ℕ → Type 0 };
+
+    /// What is known of a file of this name to which these bytes were written.
+    ghost keeps: { Self → List ℕ → List ℕ → Type 0 };
 
     /// The bytes of a file.
     fn read(&self, name: &str) -> io::Result<Vec<u8>>
@@ -36,8 +42,15 @@ pub trait TreeFiles {
     fn read_input(&self) -> io::Result<Vec<u8>>
         ensures { IfOk result (λ file. holds self.now (codes "-") file.items) };
 
+    /// Writes these bytes to the file of this name, and nothing of what it held stays.
+    fn write(&self, name: &str, bytes: &[u8]) -> io::Result<()>
+        ensures { OnOk result (keeps self.now name.now bytes.now) };
+
     /// Whether somebody writes the lines of standard input at a terminal.
     fn is_terminal(&self) -> bool;
+
+    /// Shows somebody at a terminal how far an answer is that takes long: so many of so many supervisors. Once all are it shows nothing.
+    fn saw(&self, made: usize, of: usize);
 
     /// Whether what is written to standard output may have colours.
     fn has_colours(&self) -> bool;
@@ -109,6 +122,78 @@ pub fn read_tree_file<'a, F: TreeFiles, E: Output>(
         Ok(file) => Ok(file),
         Err(Unread::OutOfMemory) => Err(ProgramEnd::OutOfMemory),
         Err(Unread::Since(why)) => Err(tell_not_read(errors, name, why)),
+    }
+}
+
+/// The bytes of a log, or of a script that is taken whole. Standard input, which is the file `-`, may be no longer than a tree file, since no more of it is taken; a
+/// file may have any length.
+///
+/// # Errors
+///
+/// Those of [`read_file`], and [`ProgramEnd::FileNotRead`] where standard input is longer, once that is told.
+pub fn read_log<'a, F: TreeFiles, E: Output>(
+    files: &F,
+    name: &'a str,
+    errors: &mut E,
+) -> Result<Vec<u8>, ProgramEnd<'a>>
+    ensures holds { IfOk result (λ log. F.holds files.now name.now log.items) }
+    ensures silent { OnOk result (errors.new ≡ errors.old) }
+    ensures ending { IfErr result (λ ending. (ending ≡ FileNotRead) ⊎ (ending ≡ OutOfMemory)) }
+    ensures first { IfErr result (λ ending. (drawn : Bool) → TellsFirst drawn ending (E.contents errors.old) (E.contents errors.new) (E.failures errors.old) (E.failures errors.new)) }
+    ensures kept { E.failures errors.old ≤ E.failures errors.new }
+{
+    let log = match read_named(files, name) {
+        Ok(log) => log,
+        Err(error) => return Err(tell_error(errors, name, &error)),
+    };
+    if name == "-" && log.len() > LARGEST_TREE {
+        drop(log);
+        return Err(tell_not_read(errors, name, TOO_LONG));
+    }
+    Ok(log)
+}
+
+/// Writes a page to the file of this name, anew.
+///
+/// # Errors
+///
+/// [`ProgramEnd::PageNotWritten`] with the reason, and [`ProgramEnd::OutOfMemory`].
+pub fn write_page<'a, F: TreeFiles>(
+    files: &F,
+    name: &'a str,
+    page: &[u8],
+) -> Result<(), ProgramEnd<'a>>
+    ensures kept { OnOk result (F.keeps files.now name.now page.now) }
+    ensures ending { IfErr result (IsUnkept name.entry) }
+{
+    match files.write(name, page) {
+        Ok(()) => Ok(()),
+        Err(error) => Err(end_unwritten(name, error.kind())),
+    }
+}
+
+/// The end where the page of this name can't be written, by the kind of the error.
+fn end_unwritten<'a>(name: &'a str, kind: ErrorKind) -> ProgramEnd<'a>
+    ensures { IsUnkept name.entry result }
+{
+    match kind {
+        ErrorKind::OutOfMemory => ProgramEnd::OutOfMemory,
+        kind => ProgramEnd::PageNotWritten(name, why_unwritten(kind)),
+    }
+}
+
+/// Why a page can't be written.
+fn why_unwritten(kind: ErrorKind) -> &'static str {
+    match kind {
+        ErrorKind::NotFound => "there is no such folder",
+        ErrorKind::NotADirectory => "a part of its path is no folder",
+        ErrorKind::IsADirectory => "it is a folder",
+        ErrorKind::PermissionDenied => "you may not write it",
+        ErrorKind::ReadOnlyFilesystem => "nothing may be written there",
+        ErrorKind::StorageFull | ErrorKind::QuotaExceeded | ErrorKind::FileTooLarge => {
+            "there is no room left"
+        }
+        _ => "writing it failed",
     }
 }
 
@@ -233,7 +318,7 @@ pub fn write_three<E: Output>(
 }
 
 /// Writes two texts.
-fn write_two<E: Output>(errors: &mut E, text: &[u8], back: &[u8]) -> Result<(), Failed>
+pub(crate) fn write_two<E: Output>(errors: &mut E, text: &[u8], back: &[u8]) -> Result<(), Failed>
     ensures ok { OnOk result (Appends (E.contents errors.old) (E.contents errors.new) (text.now ++ back.now)) }
     ensures kept { E.failures errors.old ≤ E.failures errors.new }
     ensures failed { OnErr result (E.failures errors.old < E.failures errors.new) }

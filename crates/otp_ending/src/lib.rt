@@ -1,5 +1,5 @@
-//! How the program ends: its exit status, what it tells of it on standard error, and the files that it reads, of which each may
-//! end it.
+//! How the program ends: its exit status, what it tells of it on standard error, the files that it reads, of which each may
+//! end it, and the pages that it writes.
 #![tactic(auto)]
 
 pub mod ending;
@@ -7,6 +7,6 @@ pub mod files;
 
 pub use ending::{ProgramEnd, Unwritten, tell, write_numbered};
 pub use files::{
-    LARGEST_TREE, TreeFiles, Unread, read_file, read_run_file, read_small, read_tree_file,
-    write_three,
+    LARGEST_TREE, TreeFiles, Unread, read_file, read_log, read_run_file, read_small,
+    read_tree_file, write_page, write_three,
 };

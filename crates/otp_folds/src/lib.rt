@@ -8,6 +8,7 @@
 mod alike;
 mod group;
 mod pick;
+mod progress;
 mod rank;
 mod rows;
 mod table;
@@ -17,7 +18,8 @@ mod words;
 pub use alike::{Grain, is_alike};
 pub use group::{Group, find_groups};
 pub use pick::Pick;
-pub use rows::{Row, find_rows};
+pub use progress::{Progress, Unseen};
+pub use rows::{Row, find_rows, find_rows_seen};
 pub use table::{SHOWN, put_title, write_clipped, write_root, write_table};
 pub use told::write_limits;
 pub use words::{write_burst, write_interval, write_left, write_right};

@@ -9,6 +9,7 @@ ghost use Rattle.otp_folds.specs.declared.rows.Row.{Row as RowIn};
 use crate::alike::Grain;
 use crate::group::{Group, find_groups};
 use crate::pick::Pick;
+use crate::progress::{Progress, Unseen, see};
 use crate::rank::put_in;
 use otp_file::TreeSpec;
 use otp_limits::{Cost, Fate, Listed, Path, find_cost, find_fall};
@@ -175,9 +176,27 @@ pub fn find_rows(
 ) -> Result<Vec<Row>, Halt>
     ensures { IfOk result (λ rows. AreRows grain pick.now tree.now rows.items) }
 {
+    find_rows_seen(alloc, grain, pick, tree, &Unseen)
+}
+
+/// The same, where somebody sees how far it is.
+///
+/// # Errors
+///
+/// Those of [`find_rows`].
+pub fn find_rows_seen<P: Progress>(
+    alloc: Global,
+    grain: Grain,
+    pick: &Pick<'_>,
+    tree: &TreeSpec,
+    progress: &P,
+) -> Result<Vec<Row>, Halt>
+    ensures { IfOk result (λ rows. AreRows grain pick.now tree.now rows.items) }
+{
     let seats = plant_seats(alloc, tree)?;
     let mut rows = Vec::new(alloc);
     for place in 0..seats.len() {
+        see(progress, place, seats.as_slice());
         put_seat(alloc, grain, pick, tree, place, &seats[place], &mut rows)?;
     }
     Ok(rows)

@@ -5,7 +5,8 @@ ghost use Rattle.otp_folds.specs.Told.{Tells, TellsRows, is_alone, is_none};
 
 use crate::alike::Grain;
 use crate::pick::Pick;
-use crate::rows::{Row, find_rows};
+use crate::progress::Progress;
+use crate::rows::{Row, find_rows_seen};
 use crate::table::write_table;
 use otp_file::TreeSpec;
 use otp_trial::Halt;
@@ -51,21 +52,23 @@ fn tell_rows(
 }
 
 /// Appends what the failure of those children of a tree costs that are asked for, the worst first, and says whether there are
-/// any: `false` where a child or a supervisor of a name is asked for and there is none, and then nothing is appended.
+/// any: `false` where a child or a supervisor of a name is asked for and there is none, and then nothing is appended. Somebody may
+/// see how far it is.
 ///
 /// # Errors
 ///
 /// Where memory is refused, or a supervisor has 2^62 events before the last crash of a run.
-pub fn write_limits(
+pub fn write_limits<P: Progress>(
     alloc: Global,
     tree: &TreeSpec,
     grain: Grain,
     pick: &Pick<'_>,
+    progress: &P,
     out: &mut Vec<u8>,
 ) -> Result<bool, Halt>
     ensures { IfOk result (λ found. Tells found grain pick.now tree.now out.old.items out.new.items) }
 {
-    let rows = find_rows(alloc, grain, pick, tree)?;
+    let rows = find_rows_seen(alloc, grain, pick, tree, progress)?;
     let told = tell_rows(alloc, tree, pick, rows.as_slice(), out);
     drop(rows);
     match told {

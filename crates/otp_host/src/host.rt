@@ -130,6 +130,8 @@ struct System<'a> {
 impl TreeFiles for System<'_> {
     ghost holds = { λ _ _ _. Unit {0} };
 
+    ghost keeps = { λ _ _ _. Unit {0} };
+
     fn read(&self, name: &str) -> io::Result<Vec<u8>> {
         fs::read(self.rt, name)
     }
@@ -142,8 +144,25 @@ impl TreeFiles for System<'_> {
         read_most(self.rt.alloc(), self.rt.stdin())
     }
 
+    fn write(&self, name: &str, bytes: &[u8]) -> io::Result<()> {
+        fs::write(self.rt, name, bytes)
+    }
+
     fn is_terminal(&self) -> bool {
         self.rt.stdin().is_terminal()
+    }
+
+    /// The line is written over itself, and taken away in the end, so that the answer stands alone.
+    fn saw(&self, made: usize, of: usize) {
+        if !self.rt.stderr().is_terminal() {
+            return;
+        }
+        // Where nothing can be shown the answer is found all the same.
+        let _shown = if made < of {
+            eprint!(self.rt; "\r{made} of {of} supervisors played\u{1b}[K")
+        } else {
+            eprint!(self.rt; "\r\u{1b}[K")
+        };
     }
 
     /// So it is at a terminal, unless the variable `NO_COLOR` is set and not empty, or `TERM` says that it has none.

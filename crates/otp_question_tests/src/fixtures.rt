@@ -1,10 +1,11 @@
 //! What several tests need.
 
+ghost use Rattle.std.specs.Prelude.{◌≡◌, Ok};
+
 use otp_file::{TreeSpec, read_tree};
 use std::alloc::Global;
 use std::fmt::Debug;
 use std::process::Abort;
-use std::test::Fail;
 
 /// Asserts that a value is the one that is wanted; `what` says in the message which assertion failed.
 ///
@@ -24,7 +25,17 @@ pub(crate) fn reads(rt: &impl Abort, text: &[u8], wanted: &str) {
     );
 }
 
+/// What a try gave. Where it failed the test stops, with these words: so no test has an exit beside what it holds.
+pub(crate) fn got<T, E>(rt: &impl Abort, what: &str, tried: Result<T, E>) -> T
+    ensures { tried ≡ Ok result }
+{
+    match tried {
+        Ok(value) => value,
+        Err(_) => panic!(rt; "{what}"),
+    }
+}
+
 /// The tree that a file says.
-pub(crate) fn tree_of(alloc: Global, file: &str) -> Result<TreeSpec, Fail> {
-    Ok(read_tree(alloc, file.as_bytes()).map_err(|_| "a tree")?)
+pub(crate) fn tree_of(rt: &impl Abort, alloc: Global, file: &str) -> TreeSpec {
+    got(rt, "a tree", read_tree(alloc, file.as_bytes()))
 }

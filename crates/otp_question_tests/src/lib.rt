@@ -1,14 +1,12 @@
-//! Tests of the crates that answer an operator's questions, each from outside: the longest stop, which flags would survive a crash,
-//! what differs in two trees, and what a tree would have done of which a log tells.
+//! Tests of the crates that answer an operator's questions, each from outside: the longest stop is as long as played, which script a
+//! log stands for, and the pages and the object that the program writes. What else is printed stands in the tables of `.ci/calls`.
 #![tactic(auto)]
 
 #[cfg(test)]
-mod differs;
-#[cfg(test)]
 mod fixtures;
+#[cfg(test)]
+mod pages;
 #[cfg(test)]
 mod replays;
 #[cfg(test)]
 mod stops;
-#[cfg(test)]
-mod suggests;

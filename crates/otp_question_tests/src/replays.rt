@@ -1,10 +1,7 @@
-//! Replays: the script that a log stands for, which logs are refused, and what is written.
+//! Replays: the script that a log stands for, and which logs are refused.
 
-use crate::fixtures::{reads, same, tree_of};
-use otp_replay::{LogFault, ReplayEnd, read_log, replay};
-use otp_sim::Counted;
-use otp_trial::{ActionEnd, Clock};
-use otp_try::{Shows, TryEnd};
+use crate::fixtures::{got, reads, same};
+use otp_replay::{LogFault, read_log};
 use std::alloc::Global;
 use std::process::Abort;
 use std::test::Fail;
@@ -84,18 +81,22 @@ const READ: [(&str, &str, &str, u64, u64); 10] = [
     ),
 ];
 
+/// Compares the script of a log, the lines of it that aren't played, and how many are and aren't.
+fn reads_so(rt: &impl Abort, alloc: Global, log: &str, texts: (&str, &str), counts: (u64, u64)) {
+    let log = got(rt, "there is memory", read_log(alloc, log.as_bytes()));
+    let log = got(rt, "a log", log);
+    reads(rt, log.script(), texts.0);
+    reads(rt, log.others(), texts.1);
+    let counted = (log.counts().played, log.counts().missed);
+    drop(log);
+    same(rt, "played and missed", counted, counts);
+}
+
 #[test]
-fn read(rt: HostRuntime) -> Result<(), Fail> {
+fn read(rt: HostRuntime) {
     for (log, script, others, played, missed) in READ {
-        let Ok(log) = read_log(rt.alloc(), log.as_bytes())? else {
-            return Err(Fail::from(log));
-        };
-        reads(&rt, log.script(), script);
-        reads(&rt, log.others(), others);
-        same(&rt, "played", log.counts().played, played);
-        same(&rt, "missed", log.counts().missed, missed);
+        reads_so(&rt, rt.alloc(), log, (script, others), (played, missed));
     }
-    Ok(())
 }
 
 /// Logs that are refused.
@@ -115,13 +116,18 @@ const REFUSED: [(&str, LogFault); 4] = [
     ),
 ];
 
+/// The fault of a log that is refused.
+fn is_refused(rt: &impl Abort, alloc: Global, log: &str, fault: LogFault) {
+    match got(rt, "there is memory", read_log(alloc, log.as_bytes())) {
+        Ok(_) => panic!(rt; "it is refused"),
+        Err(found) => same(rt, log, found, fault),
+    }
+}
+
 #[test]
 fn refused(rt: HostRuntime) -> Result<(), Fail> {
     for (log, fault) in REFUSED {
-        match read_log(rt.alloc(), log.as_bytes())? {
-            Ok(_) => return Err(Fail::from(log)),
-            Err(found) => same(&rt, log, found, fault),
-        }
+        is_refused(&rt, rt.alloc(), log, fault);
     }
     let mut said = Vec::new(rt.alloc());
     LogFault::GoesBack(7).write(&mut said)?;
@@ -132,71 +138,4 @@ fn refused(rt: HostRuntime) -> Result<(), Fail> {
         "line 7: its timestamp is earlier than that of the line before that is played\nline 8: seconds and instants as timestamps in one log count from different zeros\n",
     );
     Ok(())
-}
-
-const TREE: &str = "intensity = 1\nperiod = 10\n[[child]]\nid = \"db\"\nstart = \"db\"\n";
-
-/// Replays a log on a child `db`, with intensity 1 in 10 s; compares what is written, and how it ends.
-fn replays(
-    rt: &impl Abort,
-    alloc: Global,
-    log: &str,
-    is_listed: bool,
-    told: &str,
-    end: ReplayEnd,
-) -> Result<(), Fail> {
-    let tree = tree_of(alloc, TREE)?;
-    let mut output = Counted::new(Vec::new(alloc));
-    let (shows, clock) = (Shows::Ends, Clock::Milliseconds);
-    let ended = replay(
-        alloc,
-        tree,
-        log.as_bytes(),
-        shows,
-        clock,
-        is_listed,
-        &mut output,
-    );
-    let text = output.into_device();
-    reads(rt, text.as_slice(), told);
-    same(rt, "the end", ended, end);
-    Ok(())
-}
-
-/// What is written of logs.
-#[test]
-fn told(rt: HostRuntime) -> Result<(), Fail> {
-    let alloc = rt.alloc();
-    replays(
-        &rt,
-        alloc,
-        "12.0 crash db\nhm\n12.1 up db\n24.0 crash db\n",
-        false,
-        "verdict: the root survived, at most 1/1 restarts in 10 s\nlines played: 3, not matched: 1 (--unmatched shows them)\n",
-        ReplayEnd::Tried(TryEnd::Done),
-    )?;
-    replays(
-        &rt,
-        alloc,
-        "hm\n12.0 crash db\n12.5 crash db\n12.6 up db\n",
-        true,
-        "0.500 s  end shutdown: more than 1 restart within 10 s: at 0.000 s, 0.500 s\nline 4: it is not so: at 600 ms expect up db\nverdict: the root gave up at 0.500 s, at most 2/1 restarts in 10 s\nlines played: 3, not matched: 1\nline 1: hm\n",
-        ReplayEnd::Tried(TryEnd::ExpectationFailed(4)),
-    )?;
-    replays(
-        &rt,
-        alloc,
-        "1 crash db\n2 crash nobody\n",
-        true,
-        "",
-        ReplayEnd::Tried(TryEnd::LineMissed(2, ActionEnd::NoChild)),
-    )?;
-    replays(
-        &rt,
-        alloc,
-        "1 crash db\n0 crash db\n",
-        true,
-        "",
-        ReplayEnd::LogRefused(LogFault::GoesBack(2)),
-    )
 }

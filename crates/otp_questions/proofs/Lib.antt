@@ -1,0 +1,3 @@
+pub mod Replayed
+pub mod Tried
+pub mod Compared

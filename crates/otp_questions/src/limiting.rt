@@ -8,7 +8,7 @@ ghost use Rattle.otp_folds.specs.Told.{is_all};
 
 use otp_ending::ProgramEnd;
 use otp_file::{TreeSpec, read_tree};
-use otp_folds::{Grain, Pick, write_limits};
+use otp_folds::{Grain, Pick, Progress, write_limits};
 use otp_objects::write_limits_object;
 use otp_sim::{Failed, Output, write_all};
 use otp_trial::Halt;
@@ -16,13 +16,14 @@ use std::alloc::Global;
 
 /// Appends the limits of those children of a tree that are asked for, as a table or as an object, and says whether there are any.
 #[tactic(auto, unfolding(otp_folds::specs::Told::TellsRows, otp_objects::specs::Limits::TellsRows))]
-fn tell_limits(
+fn tell_limits<P: Progress>(
     alloc: Global,
     is_json: bool,
     name: &str,
     tree: &TreeSpec,
     grain: Grain,
     pick: &Pick<'_>,
+    progress: &P,
     out: &mut Vec<u8>,
 ) -> Result<bool, Halt>
     ensures told { IfOk result (λ found. TellsLimits is_json name.now found grain pick.now tree.now out.old.items out.new.items) }
@@ -31,18 +32,20 @@ fn tell_limits(
     if is_json {
         write_limits_object(alloc, name.as_bytes(), tree, grain, pick, out)
     } else {
-        write_limits(alloc, tree, grain, pick, out)
+        write_limits(alloc, tree, grain, pick, progress, out)
     }
 }
 
-/// Reads the tree of a file, plays crashes of those children that are asked for, and writes what they cost.
-pub fn limit_file<'a, W: Output>(
+/// Reads the tree of a file, plays crashes of those children that are asked for, and writes what they cost. How far it is may be
+/// seen, unless it is written as JSON.
+pub fn limit_file<'a, P: Progress, W: Output>(
     alloc: Global,
     name: &'a str,
     file: &[u8],
     pick: Pick<'a>,
     grain: Grain,
     is_json: bool,
+    progress: &P,
     output: &mut W,
 ) -> ProgramEnd<'a>
     ensures { IsLimited is_json grain pick.entry name.now result file.now
@@ -54,7 +57,10 @@ pub fn limit_file<'a, W: Output>(
         Err(fault) => return ProgramEnd::of_no_tree(fault, name),
     };
     let mut table = Vec::new(alloc);
-    let told = tell_limits(alloc, is_json, name, &tree, grain, &pick, &mut table);
+    let told = tell_limits(
+        alloc, is_json, name, &tree, grain, &pick, progress, &mut table,
+    );
+    progress.saw(0, 0);
     drop(tree);
     match told {
         Ok(true) => {}
@@ -69,7 +75,7 @@ pub fn limit_file<'a, W: Output>(
 
 /// The end where no child is found by a name.
 #[tactic(auto, unfolding(otp_folds::specs::Told::is_all))]
-fn not_found<'a>(pick: Pick<'a>) -> ProgramEnd<'a>
+pub(crate) fn not_found<'a>(pick: Pick<'a>) -> ProgramEnd<'a>
     requires { is_all pick ≡ false }
     ensures { (what : Bor (List ℕ)) × (IsNameOf pick.entry what × (result ≡ NotFound what)) }
 {

@@ -12,20 +12,19 @@ use Rattle.otp_replay.specs.declared.reading.LogFault.TheVariants.{GoesBack, Oth
 use Rattle.otp_replay.specs.declared.played.ReplayEnd.{ReplayEnd}
 use Rattle.otp_replay.specs.declared.played.ReplayEnd.TheVariants.{LogRefused, Tried}
 
--- which line has a fault
-unfoldable pub at_line_text : ℕ → List ℕ
-at_line_text line = codes "line " ++ decimal line
+-- the line that has the fault
+abbrev pub fault_line : LogFault → ℕ
+fault_line (GoesBack line) = line
+fault_line (OtherClock line) = line
 
-unfoldable pub goes_back_text : List ℕ
-goes_back_text = codes ": its timestamp is earlier than that of the line before that is played\n"
-
-unfoldable pub other_clock_text : List ℕ
-other_clock_text = codes ": seconds and instants as timestamps in one log count from different zeros\n"
+-- why it is refused, behind its number
+unfoldable pub reason_text : LogFault → List ℕ
+reason_text (GoesBack line) = codes ": its timestamp is earlier than that of the line before that is played\n"
+reason_text (OtherClock line) = codes ": seconds and instants as timestamps in one log count from different zeros\n"
 
 -- why a log is refused
-unfoldable pub fault_text : LogFault → List ℕ
-fault_text (GoesBack line) = at_line_text line ++ goes_back_text
-fault_text (OtherClock line) = at_line_text line ++ other_clock_text
+abbrev pub fault_text : LogFault → List ℕ
+fault_text why = codes "line " ++ decimal (fault_line why) ++ reason_text why
 
 -- how the lines are seen that aren't played
 unfoldable pub hint_text : Bool → ℕ → List ℕ

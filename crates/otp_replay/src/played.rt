@@ -3,7 +3,7 @@
 ghost use Rattle.std.specs.Prelude.{ℕ, List, ◌≡◌, ◌++◌, Ok, IfOk, OnOk};
 ghost use Rattle.otp_replay.specs.declared.played.ReplayEnd.TheVariants.{Tried};
 ghost use Rattle.otp_replay.specs.Logs.{log_in};
-ghost use Rattle.otp_replay.specs.Told.{Closes, PlaysLog, Replays, at_line_text, counts_text, fault_text, goes_back_text, hint_text, listed_if, other_clock_text, tail_text};
+ghost use Rattle.otp_replay.specs.Told.{Closes, PlaysLog, Replays, counts_text, fault_line, fault_text, hint_text, listed_if, reason_text, tail_text};
 ghost use Rattle.otp_try.specs.Pages.{tells_orders};
 ghost use Rattle.otp_try.specs.declared.play.Writer.TheVariants.{Script};
 
@@ -23,49 +23,38 @@ pub enum ReplayEnd {
     Tried(TryEnd),
 }
 
-/// Appends which line has a fault.
-#[tactic(auto, unfolding(crate::specs::Told::at_line_text))]
-fn write_at_line(line: u64, out: &mut Vec<u8>) -> Result<(), AllocError>
-    ensures { OnOk result (out.new.items ≡ out.old.items ++ at_line_text line) }
-{
-    out.extend_from_slice(b"line ")?;
-    write_number(line, out)
-}
-
-#[tactic(auto, unfolding(crate::specs::Told::goes_back_text))]
-fn write_goes_back(out: &mut Vec<u8>) -> Result<(), AllocError>
-    ensures { OnOk result (out.new.items ≡ out.old.items ++ goes_back_text) }
-{
-    out.extend_from_slice(
-        b": its timestamp is earlier than that of the line before that is played\n",
-    )
-}
-
-#[tactic(auto, unfolding(crate::specs::Told::other_clock_text))]
-fn write_other_clock(out: &mut Vec<u8>) -> Result<(), AllocError>
-    ensures { OnOk result (out.new.items ≡ out.old.items ++ other_clock_text) }
-{
-    out.extend_from_slice(
-        b": seconds and instants as timestamps in one log count from different zeros\n",
-    )
-}
-
 impl LogFault {
+    /// The number of the line, counted from 1.
+    pub fn line(self) -> u64
+        ensures { result ≡ fault_line self }
+    {
+        match self {
+            LogFault::GoesBack(line) | LogFault::OtherClock(line) => line,
+        }
+    }
+
+    /// Why the line is refused, behind its number.
+    #[tactic(auto, unfolding(crate::specs::Told::reason_text))]
+    pub fn reason(self) -> &'static str
+        ensures { result.now ≡ reason_text self }
+    {
+        match self {
+            LogFault::GoesBack(_) => {
+                ": its timestamp is earlier than that of the line before that is played\n"
+            }
+            LogFault::OtherClock(_) => {
+                ": seconds and instants as timestamps in one log count from different zeros\n"
+            }
+        }
+    }
+
     /// Appends why a log is refused: a line.
-    #[tactic(auto, unfolding(crate::specs::Told::fault_text))]
     pub fn write(self, out: &mut Vec<u8>) -> Result<(), AllocError>
         ensures { OnOk result (out.new.items ≡ out.old.items ++ fault_text self) }
     {
-        match self {
-            LogFault::GoesBack(line) => {
-                write_at_line(line, out)?;
-                write_goes_back(out)
-            }
-            LogFault::OtherClock(line) => {
-                write_at_line(line, out)?;
-                write_other_clock(out)
-            }
-        }
+        out.extend_from_slice(b"line ")?;
+        write_number(self.line(), out)?;
+        out.extend_from_slice(self.reason().as_bytes())
     }
 }
 

@@ -129,9 +129,15 @@ pub fn explain<E: Output>(errors: &mut E, name: &str, ending: ProgramEnd<'_>)
     ensures first { (drawn : Bool) → TellsFirst drawn ending.entry (E.contents errors.old) (E.contents errors.new) (E.failures errors.old) (E.failures errors.new) }
     ensures kept { E.failures errors.old ≤ E.failures errors.new }
 {
-    if let ProgramEnd::TreeRefused(_) = ending {
-        // Where nothing can be told, the ending alone says it.
-        let _told = write_three(errors, b"tip: otp check ", name.as_bytes(), b" tells why\n");
+    // Where nothing can be told, the ending alone says it.
+    match ending {
+        ProgramEnd::TreeRefused(_) => {
+            let _told = write_three(errors, b"tip: otp check ", name.as_bytes(), b" tells why\n");
+        }
+        ProgramEnd::LineRefused(_) => {
+            let _told = write_all(errors, b"tip: otp help lines says which lines there are\n");
+        }
+        _ => {}
     }
 }
 

@@ -1,4 +1,5 @@
 pub mod Edges
+pub mod Times
 pub mod Gaps
 pub mod Found
 pub mod Told

@@ -8,11 +8,13 @@ mod edge;
 mod found;
 mod gap;
 mod refused;
+mod time;
 mod told;
 
 pub use advice::{Advice, Suggestion, find_advice, find_suggestion};
 pub use dial::Dial;
 pub use edge::{Edge, find_edge};
 pub use gap::{GapFault, LONGEST_GAP, read_gap};
-pub use refused::Answer;
+pub use refused::{Answer, instead};
+pub use time::read_time;
 pub use told::{write_advice, write_suggestion};

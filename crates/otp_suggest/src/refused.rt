@@ -48,13 +48,12 @@ fn write_no_child(name: &[u8], out: &mut Vec<u8>) -> Result<(), AllocError>
     out.extend_from_slice(b"\n")
 }
 
+/// What is said of a supervisor whose name is given for a worker's, between that and the name of a child of its.
 #[tactic(auto, unfolding(crate::specs::Refused::instead_text))]
-fn write_instead(out: &mut Vec<u8>) -> Result<(), AllocError>
-    ensures { OnOk result (out.new.items ≡ out.old.items ++ instead_text) }
+pub fn instead() -> &'static str
+    ensures { result.now ≡ instead_text }
 {
-    out.extend_from_slice(
-        b" is a supervisor: it crashes where its children do, so name one of them, as ",
-    )
+    " is a supervisor: it crashes where its children do, so name one of them, as "
 }
 
 /// Appends that the child with this name is a supervisor.
@@ -63,7 +62,7 @@ fn write_is_supervisor(name: &[u8], out: &mut Vec<u8>) -> Result<(), AllocError>
     ensures { OnOk result (out.new.items ≡ out.old.items ++ is_supervisor_text name.now) }
 {
     out.extend_from_slice(name)?;
-    write_instead(out)?;
+    out.extend_from_slice(instead().as_bytes())?;
     out.extend_from_slice(name)?;
     out.extend_from_slice(b"/worker\n")
 }

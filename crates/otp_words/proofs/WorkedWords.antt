@@ -1,5 +1,5 @@
 -- What is found in some command lines, worked out by the definitions.
-use Rattle.std.proofs.Common.{◌≡◌, List, [], ◌∷◌, Option, None, Some, true, codes, option_map, refl}
+use Rattle.std.proofs.Common.{◌≡◌, List, [], ◌∷◌, Option, None, Some, true, false, codes, option_map, refl}
 use Rattle.clap.proofs.OnLiterals.{clap_on_literals}
 use Rattle.clap.specs.Words.{Text, first_of, one_of, subcommand_of, takes}
 use Rattle.otp_words.specs.Commands.{otp_app}
@@ -63,3 +63,19 @@ of_the_child = refl
 of_no_table : value_in (codes "table") one_child ≡ Some None
 unfolding clap_on_literals
 of_no_table = refl
+
+abbrev a_suggestion : List Text
+a_suggestion =
+    codes "otp" ∷ codes "suggest" ∷ codes "a.toml" ∷ codes "--child" ∷ codes "db" ∷ codes "--every=5s" ∷ []
+
+of_that_worker : value_in (codes "child") a_suggestion ≡ Some (Some (codes "db"))
+unfolding clap_on_literals
+of_that_worker = refl
+
+every_five_seconds : value_in (codes "every") a_suggestion ≡ Some (Some (codes "5s"))
+unfolding clap_on_literals
+every_five_seconds = refl
+
+a_worker_is_needed : takes otp_app (codes "otp" ∷ codes "suggest" ∷ codes "a.toml" ∷ codes "--every=5s" ∷ []) ≡ false
+unfolding clap_on_literals
+a_worker_is_needed = refl

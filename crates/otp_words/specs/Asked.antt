@@ -12,11 +12,14 @@ use Rattle.otp_trial.specs.declared.clock.Clock.TheVariants.{Milliseconds, Secon
 use Rattle.otp_try.specs.declared.play.Writer.{Writer}
 use Rattle.otp_try.specs.declared.play.Writer.TheVariants.{Script, Person}
 use Rattle.otp_jobs.specs.Runs.{SettingsView}
-use Rattle.otp_words.specs.Times.{time_in}
+use Rattle.otp_suggest.specs.Times.{time_in}
 use Rattle.otp_words.specs.declared.words.Command.{Command}
 use Rattle.otp_words.specs.declared.words.Command.TheVariants as command
+use Rattle.otp_words.specs.declared.words.Form.{Form}
+use Rattle.otp_words.specs.declared.words.Form.TheVariants as form
 use Rattle.otp_words.specs.declared.words.RunShows.{RunShows}
 use Rattle.otp_words.specs.declared.words.Serving.{Serving}
+use Rattle.otp_words.specs.declared.words.TrialShows.{TrialShows}
 use Rattle.otp_words.specs.declared.words.Usage.{Usage}
 use Rattle.otp_words.specs.declared.words.Usage.TheVariants as usage
 
@@ -77,17 +80,37 @@ clock_named (Some name) = clock_in name
 abbrev pub IsClockOf : List Row → Clock → Type 0
 IsClockOf rows clock = clock_named (first_of (codes "clock") rows) ≡ Some clock
 
+-- what of a trial is shown, and by which clock it is played
+abbrev pub AreTrialShowsOf : List Row → TrialShows → Type 0
+AreTrialShowsOf rows shows =
+    IsFlagOf rows (codes "timeline") shows.is_drawn × (IsFlagOf rows (codes "quiet") shows.is_quiet
+    × (IsClockOf rows shows.clock × IsNumberOf rows (codes "width") shows.width))
+
+-- in which form an answer is written: as a page where one is named, and else as an object where that is wanted
+abbrev pub IsForm : Option Text → Bool → Form → Type 0
+IsForm page is_json form.Text = (page ≡ None) × (is_json ≡ false)
+IsForm page is_json form.Object = (page ≡ None) × (is_json ≡ true)
+IsForm page is_json (form.Page name) = page ≡ Some name.now
+
+abbrev pub IsFormOf : List Row → Form → Type 0
+IsFormOf rows form = (is_json : Bool) × (IsFlagOf rows (codes "json") is_json × IsForm (first_of (codes "html") rows) is_json form)
+
 -- what a tree file is used for by the command of this name
 abbrev pub AsksUse : Text → List Row → Usage → Type 0
-AsksUse name rows (usage.Try script writer is_drawn is_quiet clock width) =
+AsksUse name rows (usage.Try script writer shows form) =
     (name ≡ codes "try") × ((option_map (λ name. name.now) script ≡ script_in (first_of (codes "SCRIPT") rows))
-    × (IsFlagOf rows (codes "prompt") (is_person writer) × (IsFlagOf rows (codes "timeline") is_drawn
-    × (IsFlagOf rows (codes "quiet") is_quiet × (IsClockOf rows clock × IsNumberOf rows (codes "width") width)))))
-AsksUse name rows usage.Draw = name ≡ codes "tree"
+    × (IsFlagOf rows (codes "prompt") (is_person writer) × (AreTrialShowsOf rows shows × IsFormOf rows form)))
+AsksUse name rows (usage.Draw page) = (name ≡ codes "tree") × (option_map (λ name. name.now) page ≡ first_of (codes "html") rows)
 AsksUse name rows usage.Stop = name ≡ codes "shutdown"
-AsksUse name rows (usage.Limit pick grain is_json) =
+AsksUse name rows (usage.Limit pick grain form) =
     (name ≡ codes "limits") × (IsPickOf (first_of (codes "child") rows) (first_of (codes "table") rows) pick
-    × (IsFlagOf rows (codes "each") (plays_each grain) × IsFlagOf rows (codes "json") is_json))
+    × (IsFlagOf rows (codes "each") (plays_each grain) × IsFormOf rows form))
+AsksUse name rows (usage.Suggest child every) =
+    (name ≡ codes "suggest") × ((first_of (codes "child") rows ≡ Some child.now) × (first_of (codes "every") rows ≡ Some every.now))
+AsksUse name rows (usage.Compare other) = (name ≡ codes "diff") × (first_of (codes "OTHER") rows ≡ Some other.now)
+AsksUse name rows (usage.Replay log is_listed shows) =
+    (name ≡ codes "replay") × ((first_of (codes "LOG") rows ≡ Some log.now)
+    × (IsFlagOf rows (codes "unmatched") is_listed × AreTrialShowsOf rows shows))
 
 -- how a tree is run
 abbrev pub AreSettingsOf : List Row → SettingsView → Type 0

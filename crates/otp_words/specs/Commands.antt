@@ -6,9 +6,12 @@ use Rattle.clap.specs.Words.{App, Rule, Text, new_app, new_rule, with_rule, with
 use Rattle.clap.specs.declared.builder.action.ArgAction.TheVariants.{SetTrue}
 use Rattle.clap.specs.declared.builder.value_parser.ValueParser.TheVariants as value
 
--- a file, which has to be named
+-- a file by this name, which has to be named
+abbrev pub place_rule : Text → Rule
+place_rule name = record (new_rule name) { required = true }
+
 abbrev pub file_rule : Rule
-file_rule = record (new_rule (codes "FILE")) { required = true }
+file_rule = place_rule (codes "FILE")
 
 -- files, of which at least one has to be named
 abbrev pub files_rule : Rule
@@ -25,6 +28,10 @@ flag_rule name = record (new_rule name) { long = Some name; action = Some SetTru
 -- a text with this long name, which may be given
 abbrev pub option_rule : Text → Rule
 option_rule name = record (new_rule name) { long = Some name; value_names = 1 }
+
+-- the same of one that has to be given
+abbrev pub needed_rule : Text → Rule
+needed_rule name = record (option_rule name) { required = true }
 
 -- a number from 1 to the most, which is this one where nothing is said
 abbrev pub number_rule : Text → ℕ → Text → Rule
@@ -57,14 +64,37 @@ run_app =
 abbrev pub played_app : App
 played_app = with_rule (with_rule (with_rule (file_app (codes "try")) script_rule) (flag_rule (codes "prompt"))) (flag_rule (codes "timeline"))
 
-abbrev pub try_app : App
-try_app =
+abbrev pub tried_app : App
+tried_app =
     with_rule (with_rule (with_rule played_app (flag_rule (codes "quiet"))) clock_rule) (number_rule (codes "width") 1000 (codes "80"))
 
+abbrev pub try_app : App
+try_app = with_rule (with_rule tried_app (flag_rule (codes "json"))) (option_rule (codes "html"))
+
+abbrev pub tree_app : App
+tree_app = with_rule (file_app (codes "tree")) (option_rule (codes "html"))
+
+abbrev pub picked_app : App
+picked_app =
+    with_rule (with_rule (with_rule (file_app (codes "limits")) (option_rule (codes "child"))) (option_rule (codes "table"))) (flag_rule (codes "each"))
+
 abbrev pub limits_app : App
-limits_app =
-    with_rule (with_rule (with_rule (with_rule (file_app (codes "limits")) (option_rule (codes "child"))) (option_rule (codes "table"))) (flag_rule (codes "each")))
-    (flag_rule (codes "json"))
+limits_app = with_rule (with_rule picked_app (flag_rule (codes "json"))) (option_rule (codes "html"))
+
+abbrev pub suggest_app : App
+suggest_app = with_rule (with_rule (file_app (codes "suggest")) (needed_rule (codes "child"))) (needed_rule (codes "every"))
+
+abbrev pub diff_app : App
+diff_app = with_rule (file_app (codes "diff")) (place_rule (codes "OTHER"))
+
+abbrev pub replayed_app : App
+replayed_app =
+    with_rule (with_rule (with_rule (file_app (codes "replay")) (place_rule (codes "LOG"))) (flag_rule (codes "unmatched")))
+    (flag_rule (codes "timeline"))
+
+abbrev pub replay_app : App
+replay_app =
+    with_rule (with_rule (with_rule replayed_app (flag_rule (codes "quiet"))) clock_rule) (number_rule (codes "width") 1000 (codes "80"))
 
 abbrev pub check_app : App
 check_app =
@@ -75,7 +105,12 @@ check_app =
 abbrev pub bare_app : App
 bare_app = record (new_app (codes "otp")) { top = record (new_shape (codes "otp")) { has_version = true } }
 
+-- the program with what draws, checks and runs trees
+abbrev pub first_app : App
+first_app =
+    with_subcommand (with_subcommand (with_subcommand (with_subcommand bare_app run_app.top) try_app.top) check_app.top) tree_app.top
+
 abbrev pub otp_app : App
 otp_app =
-    with_subcommand (with_subcommand (with_subcommand (with_subcommand (with_subcommand (with_subcommand (with_subcommand bare_app run_app.top) try_app.top)
-    check_app.top) (file_app (codes "tree")).top) limits_app.top) (file_app (codes "shutdown")).top) (file_app (codes "sim")).top
+    with_subcommand (with_subcommand (with_subcommand (with_subcommand (with_subcommand (with_subcommand first_app limits_app.top)
+    (file_app (codes "shutdown")).top) suggest_app.top) diff_app.top) replay_app.top) (file_app (codes "sim")).top

@@ -5,8 +5,14 @@
 #![tactic(auto)]
 
 mod commands;
-mod times;
+mod getters;
+mod help;
+mod questions;
+mod runs;
 mod topics;
+mod trials;
 mod words;
 
-pub use words::{Checking, Command, RunShows, Serving, Usage, WordsFault, read_words, words_of};
+pub use words::{
+    Checking, Command, Form, RunShows, Serving, TrialShows, Usage, WordsFault, read_words, words_of,
+};

@@ -1,4 +1,5 @@
-//! What is explained beside commands: `otp help script` says which lines a script may have.
+//! What is explained beside commands: `otp help script` says which lines a script may have, and `otp help lines` which lines `sim`
+//! takes.
 
 /// The lines of a script of `try`, as docs/FORMATS.md has them.
 pub(crate) const SCRIPT: &str = "\
@@ -40,7 +41,42 @@ Example:
   stop
 ";
 
+/// The lines that `sim` takes, as docs/FORMATS.md has them.
+pub(crate) const LINES: &str = "\
+Lines of standard input, for otp sim FILE < LINES:
+
+at N                   the clock's reading in milliseconds from now on
+up P                   the start of process P succeeded
+ignore P               it was answered ignore
+fail P REASON          it failed
+exit P REASON          process P ended
+stop                   the parent asks the supervisor to shut down
+start                  start_child under simple_one_for_one
+start ID START RESTART SIGNIFICANT SHUTDOWN TYPE
+                       start_child with this specification
+restart ID, delete ID, terminate ID, get ID
+                       calls by id; terminate #P under simple_one_for_one
+which, count           which_children, count_children
+
+Exactly one space stands between two words, and no other stands before or behind
+them; an empty line says nothing. Numbers have no zero in front: P is that of an
+order, as 1 of `start db #1`. A REASON is normal, shutdown, kill, killed, noproc,
+shutdown:TEXT or error:TEXT. A line has at most 512 bytes.
+
+Example:
+
+  up 1
+  at 500
+  exit 1 error:down
+  up 2
+  stop
+";
+
 /// The text of the topic that these words ask for.
 pub(crate) fn topic(word: &str) -> Option<&'static str> {
-    if word == "script" { Some(SCRIPT) } else { None }
+    match word {
+        "script" => Some(SCRIPT),
+        "lines" => Some(LINES),
+        _ => None,
+    }
 }

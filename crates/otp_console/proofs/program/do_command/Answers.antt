@@ -19,7 +19,7 @@ returns-in-Check-clause-done g c =
       read_failures = g.R.Input.failures c.args.input.now;
       write_failures = g.W.Output.failures c.check_all.new.output;
     } in
-    subst (λ (command : Command). Does (g.F.TreeFiles.holds c.args.files.now) command c.check_all.result old new) (sym c.in-Check.is) (
+    subst (λ (command : Command). Does (g.F.TreeFiles.holds c.args.files.now) (g.F.TreeFiles.keeps c.args.files.now) command c.check_all.result old new) (sym c.in-Check.is) (
       record { left = refl; failures = refl },
       subst (λ (names : List (Bor (List ℕ))). ChecksAll c.in-Check.checking.has_starts (λ (name : Bor (List ℕ)). g.F.TreeFiles.holds c.args.files.now name.now) names c.check_all.result
           (record { bytes = old.written; failures = old.write_failures }) (record { bytes = new.written; failures = new.write_failures }))

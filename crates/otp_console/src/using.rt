@@ -1,0 +1,336 @@
+//! What one tree file is used for: how a question about it, and the other files that it needs, come to an end of the program.
+
+ghost use Rattle.std.specs.Prelude.{ℕ, List, Option, ◌≡◌, ◌≤◌, option_map, false};
+ghost use Rattle.otp_console.specs.Used.{IsComparedWith, IsRead, IsReplayOf, IsRunPaged, IsTrialFor, IsTrialOf, IsUsed, Uses};
+ghost use Rattle.otp_ending.specs.Told.{TellsFirst};
+ghost use Rattle.otp_questions.specs.Limited.{IsLimited};
+ghost use Rattle.otp_questions.specs.Paged.{IsRunTold};
+ghost use Rattle.otp_questions.specs.Tried.{IsTrial};
+
+use crate::pages::{put_limits, put_run, put_tree};
+use otp_ending::{ProgramEnd, TreeFiles, read_file, read_log, read_tree_file};
+use otp_folds::{Grain, Pick, Progress, Unseen};
+use otp_questions::{
+    compare_files, draw_file, limit_file, replay_file, stop_file, suggest_file, tell_run, try_file,
+};
+use otp_sim::{Counted, Input, Output};
+use otp_try::{Clock, Shows, Writer};
+use otp_words::{Form, TrialShows, Usage};
+use std::alloc::Global;
+
+/// Uses the tree file of this name.
+pub(crate) fn use_named<'a, F: TreeFiles, R: Input, W: Output, E: Output>(
+    alloc: Global,
+    files: &F,
+    name: &'a str,
+    usage: Usage<'a>,
+    input: &mut R,
+    output: &mut W,
+    errors: &mut E,
+) -> ProgramEnd<'a>
+    ensures done { Uses (F.holds files.now) (F.keeps files.now) name.now usage.entry result
+        (record { left = R.remaining input.old; written = W.contents output.old; read_failures = R.failures input.old; write_failures = W.failures output.old })
+        (record { left = R.remaining input.new; written = W.contents output.new; read_failures = R.failures input.new; write_failures = W.failures output.new }) }
+    ensures first { TellsFirst false result (E.contents errors.old) (E.contents errors.new) (E.failures errors.old) (E.failures errors.new) }
+    ensures kept { E.failures errors.old ≤ E.failures errors.new }
+{
+    match read_tree_file(files, name, errors) {
+        Ok(file) => use_file(alloc, files, name, &file, usage, input, output, errors),
+        Err(ending) => ending,
+    }
+}
+
+/// Uses a tree file that was read.
+fn use_file<'a, F: TreeFiles, R: Input, W: Output, E: Output>(
+    alloc: Global,
+    files: &F,
+    name: &'a str,
+    file: &[u8],
+    usage: Usage<'a>,
+    input: &mut R,
+    output: &mut W,
+    errors: &mut E,
+) -> ProgramEnd<'a>
+    ensures done { IsUsed (F.holds files.now) (F.keeps files.now) name.now usage.entry result file.now
+        (record { left = R.remaining input.old; written = W.contents output.old; read_failures = R.failures input.old; write_failures = W.failures output.old })
+        (record { left = R.remaining input.new; written = W.contents output.new; read_failures = R.failures input.new; write_failures = W.failures output.new }) }
+    ensures first { TellsFirst false result (E.contents errors.old) (E.contents errors.new) (E.failures errors.old) (E.failures errors.new) }
+    ensures kept { E.failures errors.old ≤ E.failures errors.new }
+{
+    match usage {
+        Usage::Try {
+            script,
+            writer,
+            shows,
+            form,
+        } => try_as(
+            alloc, files, name, file, script, writer, shows, form, input, output, errors,
+        ),
+        Usage::Draw { page: None } => draw_file(alloc, name, file, output),
+        Usage::Draw { page: Some(page) } => put_tree(alloc, files, name, file, page),
+        Usage::Stop => stop_file(alloc, name, file, output),
+        Usage::Limit { pick, grain, form } => match form {
+            Form::Text => limit_seen(alloc, files, name, file, pick, grain, output),
+            Form::Object => limit_file(alloc, name, file, pick, grain, true, &Unseen, output),
+            Form::Page(page) => put_limits(alloc, files, name, file, pick, grain, page),
+        },
+        Usage::Suggest { child, every } => suggest_file(alloc, name, file, child, every, output),
+        Usage::Compare { other } => compare_with(alloc, files, name, file, other, output, errors),
+        Usage::Replay {
+            log,
+            is_listed,
+            shows,
+        } => replay_log(
+            alloc, files, name, file, log, is_listed, shows, output, errors,
+        ),
+    }
+}
+
+/// Somebody at a terminal sees how far an answer is.
+#[derive(Drop)]
+struct Seen<'a, F> {
+    files: &'a F,
+}
+
+impl<F: TreeFiles> Progress for Seen<'_, F> {
+    fn saw(&self, made: usize, of: usize) {
+        self.files.saw(made, of);
+    }
+}
+
+/// Writes what crashes of the children of a tree cost, and shows at a terminal how far that is.
+fn limit_seen<'a, F: TreeFiles, W: Output>(
+    alloc: Global,
+    files: &F,
+    name: &'a str,
+    file: &[u8],
+    pick: Pick<'a>,
+    grain: Grain,
+    output: &mut W,
+) -> ProgramEnd<'a>
+    ensures { IsLimited false grain pick.entry name.now result file.now
+        (record { bytes = W.contents output.old; failures = W.failures output.old })
+        (record { bytes = W.contents output.new; failures = W.failures output.new }) }
+{
+    let seen = Seen { files };
+    limit_file(alloc, name, file, pick, grain, false, &seen, output)
+}
+
+/// Tries the tree of a file by the lines of a script, and writes the run in this form.
+fn try_as<'a, F: TreeFiles, R: Input, W: Output, E: Output>(
+    alloc: Global,
+    files: &F,
+    name: &'a str,
+    file: &[u8],
+    script: Option<&'a str>,
+    writer: Writer,
+    shows: TrialShows,
+    form: Form<'a>,
+    input: &mut R,
+    output: &mut W,
+    errors: &mut E,
+) -> ProgramEnd<'a>
+    ensures done { IsTrialFor (F.keeps files.now) name.now (option_map (λ script. script.now) script.entry) form.entry result file.now
+        (record { left = R.remaining input.old; written = W.contents output.old; read_failures = R.failures input.old; write_failures = W.failures output.old })
+        (record { left = R.remaining input.new; written = W.contents output.new; read_failures = R.failures input.new; write_failures = W.failures output.new }) }
+    ensures first { TellsFirst false result (E.contents errors.old) (E.contents errors.new) (E.failures errors.old) (E.failures errors.new) }
+    ensures kept { E.failures errors.old ≤ E.failures errors.new }
+{
+    match form {
+        Form::Text => try_by(
+            alloc, files, name, file, script, writer, shows, input, output, errors,
+        ),
+        Form::Object => tell_whole(
+            alloc,
+            files,
+            name,
+            file,
+            script,
+            shows.clock,
+            output,
+            errors,
+        ),
+        Form::Page(page) => put_whole(alloc, files, name, file, script, shows.clock, page, errors),
+    }
+}
+
+/// Writes a run of the script of this name as an object.
+fn tell_whole<'a, F: TreeFiles, W: Output, E: Output>(
+    alloc: Global,
+    files: &F,
+    name: &'a str,
+    file: &[u8],
+    script: Option<&'a str>,
+    clock: Clock,
+    output: &mut W,
+    errors: &mut E,
+) -> ProgramEnd<'a>
+    ensures done { IsRead (λ ending. IsRunTold name.now ending file.now)
+        result
+        (record { bytes = W.contents output.old; failures = W.failures output.old })
+        (record { bytes = W.contents output.new; failures = W.failures output.new }) }
+    ensures first { TellsFirst false result (E.contents errors.old) (E.contents errors.new) (E.failures errors.old) (E.failures errors.new) }
+    ensures kept { E.failures errors.old ≤ E.failures errors.new }
+{
+    match read_log(files, script.unwrap_or("-"), errors) {
+        Ok(lines) => tell_run(alloc, name, file, &lines, clock, output),
+        Err(ending) => ending,
+    }
+}
+
+/// Writes a run of the script of this name as a page.
+fn put_whole<'a, F: TreeFiles, E: Output>(
+    alloc: Global,
+    files: &F,
+    name: &'a str,
+    file: &[u8],
+    script: Option<&'a str>,
+    clock: Clock,
+    page: &'a str,
+    errors: &mut E,
+) -> ProgramEnd<'a>
+    ensures done { IsRunPaged (F.keeps files.now) page.entry name.now file.now result }
+    ensures first { TellsFirst false result (E.contents errors.old) (E.contents errors.new) (E.failures errors.old) (E.failures errors.new) }
+    ensures kept { E.failures errors.old ≤ E.failures errors.new }
+{
+    match read_log(files, script.unwrap_or("-"), errors) {
+        Ok(lines) => put_run(alloc, files, name, file, &lines, clock, page),
+        Err(ending) => ending,
+    }
+}
+
+/// Tries the tree of a file by the lines of a script, which is another file or the input.
+fn try_by<'a, F: TreeFiles, R: Input, W: Output, E: Output>(
+    alloc: Global,
+    files: &F,
+    name: &'a str,
+    file: &[u8],
+    script: Option<&'a str>,
+    writer: Writer,
+    shows: TrialShows,
+    input: &mut R,
+    output: &mut W,
+    errors: &mut E,
+) -> ProgramEnd<'a>
+    ensures done { IsTrialOf name.now (option_map (λ script. script.now) script.entry) result file.now
+        (record { left = R.remaining input.old; written = W.contents output.old; read_failures = R.failures input.old; write_failures = W.failures output.old })
+        (record { left = R.remaining input.new; written = W.contents output.new; read_failures = R.failures input.new; write_failures = W.failures output.new }) }
+    ensures first { TellsFirst false result (E.contents errors.old) (E.contents errors.new) (E.failures errors.old) (E.failures errors.new) }
+    ensures kept { E.failures errors.old ≤ E.failures errors.new }
+{
+    let seen = shows_of(files, shows);
+    let Some(script) = script else {
+        return try_file(
+            alloc,
+            name,
+            file,
+            writer_at(files, writer),
+            seen,
+            shows.clock,
+            input,
+            output,
+        );
+    };
+    match read_file(files, script, errors) {
+        Ok(lines) => try_lines(alloc, name, file, writer, seen, shows.clock, &lines, output),
+        Err(ending) => ending,
+    }
+}
+
+/// Who writes the lines of the input: a person at a terminal does, whatever the words say.
+fn writer_at<F: TreeFiles>(files: &F, writer: Writer) -> Writer {
+    if files.is_terminal() {
+        Writer::Person
+    } else {
+        writer
+    }
+}
+
+/// What of a trial is written: a picture has colours where they may be.
+fn shows_of<F: TreeFiles>(files: &F, shows: TrialShows) -> Shows {
+    if shows.is_drawn {
+        Shows::Timeline {
+            is_coloured: files.has_colours(),
+            width: shows.width,
+        }
+    } else if shows.is_quiet {
+        Shows::Ends
+    } else {
+        Shows::Orders
+    }
+}
+
+/// Tries the tree of a file by these lines.
+fn try_lines<'a, W: Output>(
+    alloc: Global,
+    name: &'a str,
+    file: &[u8],
+    writer: Writer,
+    shows: Shows,
+    clock: Clock,
+    lines: &[u8],
+    output: &mut W,
+) -> ProgramEnd<'a>
+    ensures { (left : Option (List ℕ)) (failures : ℕ) → IsTrial name.now result file.now
+        (record { left = left; written = W.contents output.old; read_failures = failures; write_failures = W.failures output.old })
+        (record { left = left; written = W.contents output.new; read_failures = failures; write_failures = W.failures output.new }) }
+{
+    let mut script = Counted::new(lines);
+    try_file(alloc, name, file, writer, shows, clock, &mut script, output)
+}
+
+/// Says what differs between the tree of a file and that of another.
+fn compare_with<'a, F: TreeFiles, W: Output, E: Output>(
+    alloc: Global,
+    files: &F,
+    name: &'a str,
+    file: &[u8],
+    other: &'a str,
+    output: &mut W,
+    errors: &mut E,
+) -> ProgramEnd<'a>
+    ensures done { IsComparedWith (F.holds files.now other.now) name.now other.now result file.now
+        (record { bytes = W.contents output.old; failures = W.failures output.old })
+        (record { bytes = W.contents output.new; failures = W.failures output.new }) }
+    ensures first { TellsFirst false result (E.contents errors.old) (E.contents errors.new) (E.failures errors.old) (E.failures errors.new) }
+    ensures kept { E.failures errors.old ≤ E.failures errors.new }
+{
+    match read_tree_file(files, other, errors) {
+        Ok(other_file) => compare_files(alloc, name, file, other, &other_file, output),
+        Err(ending) => ending,
+    }
+}
+
+/// Plays what the log of this name tells on the tree of a file.
+fn replay_log<'a, F: TreeFiles, W: Output, E: Output>(
+    alloc: Global,
+    files: &F,
+    name: &'a str,
+    file: &[u8],
+    log: &'a str,
+    is_listed: bool,
+    shows: TrialShows,
+    output: &mut W,
+    errors: &mut E,
+) -> ProgramEnd<'a>
+    ensures done { IsReplayOf (F.holds files.now log.now) log.entry is_listed name.now result file.now
+        (record { bytes = W.contents output.old; failures = W.failures output.old })
+        (record { bytes = W.contents output.new; failures = W.failures output.new }) }
+    ensures first { TellsFirst false result (E.contents errors.old) (E.contents errors.new) (E.failures errors.old) (E.failures errors.new) }
+    ensures kept { E.failures errors.old ≤ E.failures errors.new }
+{
+    match read_log(files, log, errors) {
+        Ok(text) => replay_file(
+            alloc,
+            name,
+            file,
+            log,
+            &text,
+            shows_of(files, shows),
+            shows.clock,
+            is_listed,
+            output,
+        ),
+        Err(ending) => ending,
+    }
+}

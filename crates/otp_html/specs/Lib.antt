@@ -1,0 +1,3 @@
+pub mod Markup
+pub mod Style
+pub mod Frame

@@ -1,0 +1,83 @@
+//! The row of some children in the page of limits.
+
+ghost use Rattle.std.specs.Prelude.{◌≡◌, ◌++◌, OnOk};
+ghost use Rattle.std.specs.List.{flat_map};
+ghost use Rattle.otp_pages.specs.Costs.{affected_cells, alike_html, child_cell, row_html};
+
+use crate::fates::{put_burst, put_giver, put_intervals, put_root};
+use crate::names::{put_below, put_names};
+use otp_folds::Row;
+use otp_html::put_element;
+use otp_text::write_number;
+use std::alloc::AllocError;
+
+/// Appends for which children a row stands, if for more than one.
+#[tactic(auto, unfolding(crate::specs::Costs::alike_html))]
+fn put_alike(row: &Row, word: &mut Vec<u8>, out: &mut Vec<u8>) -> Result<(), AllocError>
+    ensures { OnOk result (out.new.items ≡ out.old.items ++ alike_html row.now) }
+{
+    let names = row.names.as_slice();
+    if names.len() <= 1 {
+        return Ok(());
+    }
+    out.extend_from_slice(b"<small>")?;
+    write_number(names.len() as u64, out)?;
+    out.extend_from_slice(b" alike: ")?;
+    put_names(row.path.as_bytes(), names, word, out)?;
+    out.extend_from_slice(b"</small>")
+}
+
+/// Appends the cell of the child, with which the row begins.
+#[tactic(auto, unfolding(crate::specs::Costs::child_cell))]
+fn put_child(row: &Row, word: &mut Vec<u8>, out: &mut Vec<u8>) -> Result<(), AllocError>
+    ensures { OnOk result (out.new.items ≡ out.old.items ++ child_cell row.now) }
+{
+    put_below(row.path.as_bytes(), &row.own.id, word)?;
+    put_element(
+        b"<tr><th scope=\"row\"><code>",
+        word.as_slice(),
+        b"</code>",
+        out,
+    )?;
+    put_alike(row, word, out)?;
+    out.extend_from_slice(b"</th>\n")
+}
+
+/// Appends the cells of what a crash stops and starts again.
+#[tactic(auto, unfolding(crate::specs::Costs::affected_cells))]
+fn put_affected(row: &Row, word: &mut Vec<u8>, out: &mut Vec<u8>) -> Result<(), AllocError>
+    ensures { OnOk result (out.new.items ≡ out.old.items ++ affected_cells row.now) }
+{
+    out.extend_from_slice(b"<td>")?;
+    put_names(row.path.as_bytes(), row.own.stops.as_slice(), word, out)?;
+    out.extend_from_slice(b"</td>\n<td>")?;
+    put_names(row.path.as_bytes(), row.own.starts.as_slice(), word, out)?;
+    out.extend_from_slice(b"</td>\n")
+}
+
+/// Appends a row.
+#[tactic(auto, unfolding(crate::specs::Costs::row_html))]
+fn put_row(row: &Row, word: &mut Vec<u8>, out: &mut Vec<u8>) -> Result<(), AllocError>
+    ensures { OnOk result (out.new.items ≡ out.old.items ++ row_html row.now) }
+{
+    put_child(row, word, out)?;
+    put_burst(row.own.burst, out)?;
+    put_intervals(row, out)?;
+    put_affected(row, word, out)?;
+    put_giver(row, out)?;
+    put_root(row, out)
+}
+
+/// Appends rows.
+pub(crate) fn put_rows(
+    rows: &[Row],
+    word: &mut Vec<u8>,
+    out: &mut Vec<u8>,
+) -> Result<(), AllocError>
+    ensures { OnOk result (out.new.items ≡ out.old.items ++ flat_map row_html rows.now) }
+{
+    for row in rows {
+        put_row(row, word, out)?;
+    }
+    Ok(())
+}

@@ -1,0 +1,20 @@
+-- What came of a replay of a log, by how it ended.
+use Rattle.std.proofs.Common.{ℕ, inr, Bool, List}
+use Rattle.std.specs.Borrow.{Bor}
+use Rattle.otp_try.specs.declared.play.TryEnd.{TryEnd}
+use Rattle.otp_try.specs.declared.play.TryEnd.TheVariants as trial
+use Rattle.otp_ending.specs.Devices.{Written}
+use Rattle.otp_questions.specs.Replayed.{IsReplay, WasReplayed}
+use Rattle.otp_questions.specs.Tried.{ending_of_try}
+
+-- it is one of the program's
+pub is_replay : (log : Bor (List ℕ)) (text : List ℕ) (is_listed : Bool) (name file : List ℕ) (old new : Written) (end : TryEnd)
+    → WasReplayed end file text is_listed old.bytes new.bytes → IsReplay log text is_listed name (ending_of_try end) file old new
+is_replay log text is_listed name file old new trial.Done was = was
+is_replay log text is_listed name file old new (trial.LineRefused line why) was = was
+is_replay log text is_listed name file old new (trial.LineMissed line why) was = was
+is_replay log text is_listed name file old new (trial.ExpectationFailed line) was = was
+is_replay log text is_listed name file old new trial.HistoryFull was = was
+is_replay log text is_listed name file old new trial.InputFailed was = was
+is_replay log text is_listed name file old new trial.OutputFailed was = was
+is_replay log text is_listed name file old new trial.OutOfMemory was = inr was

@@ -1,0 +1,22 @@
+use Rattle.std.proofs.Common.{◌≡◌, ◌++◌, ◌∙◌, ℕ, List, ap, inl, sym, subst}
+use Rattle.std.specs.Io.KnownBytes.{Appends}
+use Rattle.otp_ending.specs.declared.ending.ProgramEnd.{ProgramEnd}
+use Rattle.otp_tried.specs.Objects.{TellsRun}
+use Rattle.otp_questions.specs.Paged.{IsRunOf}
+use Rattle.otp_questions.proofs.playing.tell_run.Goals as goal
+
+pub returns-in-Ok-write_all : goal.returns-in-Ok-write_all
+returns-in-Ok-write_all g c =
+    let account = c.in-Ok.account in
+    let run : IsRunOf c.args.file.now account c.end_of_try-ending.result =
+    subst (λ (e : ProgramEnd). IsRunOf c.args.file.now account e) (sym c.end_of_try-ending.ensures) (c.in-Ok.ensures {u = tt}).run
+    in
+    let told = (c.in-Ok-told.ensures {u = tt}).told in
+    let text : List ℕ = told.0 in
+    let tells = subst (λ (name : List ℕ). TellsRun name account text) c.as_bytes.ensures.value told.1.0 in
+    let all = c.as_slice.ensures.value ∙ told.1.1 ∙ ap (λ (before : List ℕ). before ++ text) c.new-text.ensures.items in
+    let written =
+    subst (λ (bytes : List ℕ). Appends (g.W.Output.contents c.args.output.now) (g.W.Output.contents c.write_all.new.output) bytes) all
+    (c.in-Ok-write_all.ensures {u = tt}).ok
+    in
+    inl (text, ((account, (run, tells)), written))

@@ -1,0 +1,37 @@
+//! `replay`: what would a tree have done, had happened to it what a log tells?
+
+ghost use Rattle.otp_questions.specs.Replayed.{IsReplay};
+
+use crate::trying::end_of_try;
+use otp_ending::ProgramEnd;
+use otp_file::read_tree;
+use otp_replay::{ReplayEnd, replay};
+use otp_sim::Output;
+use otp_try::{Clock, Shows};
+use std::alloc::Global;
+
+/// Reads the tree of a file, and plays what a log tells on its supervisors.
+pub fn replay_file<'a, W: Output>(
+    alloc: Global,
+    name: &'a str,
+    file: &[u8],
+    log: &'a str,
+    text: &[u8],
+    shows: Shows,
+    clock: Clock,
+    is_listed: bool,
+    output: &mut W,
+) -> ProgramEnd<'a>
+    ensures { IsReplay log.entry text.now is_listed name.now result file.now
+        (record { bytes = W.contents output.old; failures = W.failures output.old })
+        (record { bytes = W.contents output.new; failures = W.failures output.new }) }
+{
+    let tree = match read_tree(alloc, file) {
+        Ok(tree) => tree,
+        Err(fault) => return ProgramEnd::of_no_tree(fault, name),
+    };
+    match replay(alloc, tree, text, shows, clock, is_listed, output) {
+        ReplayEnd::Tried(end) => end_of_try(end),
+        ReplayEnd::LogRefused(fault) => ProgramEnd::LogRefused(log, fault),
+    }
+}

@@ -1,0 +1,48 @@
+//! `try`: what would a tree do?
+
+ghost use Rattle.std.specs.Prelude.{◌≡◌};
+ghost use Rattle.otp_questions.specs.Tried.{IsTrial, ending_of_try};
+
+use otp_ending::ProgramEnd;
+use otp_file::read_tree;
+use otp_sim::{Input, Output};
+use otp_try::{Clock, Shows, TryEnd, Writer, try_tree};
+use std::alloc::Global;
+
+/// Reads the tree of a file, and plays the lines of a script on its supervisor.
+pub fn try_file<'a, R: Input, W: Output>(
+    alloc: Global,
+    name: &'a str,
+    file: &[u8],
+    writer: Writer,
+    shows: Shows,
+    clock: Clock,
+    script: &mut R,
+    output: &mut W,
+) -> ProgramEnd<'a>
+    ensures { IsTrial name.now result file.now
+        (record { left = R.remaining script.old; written = W.contents output.old; read_failures = R.failures script.old; write_failures = W.failures output.old })
+        (record { left = R.remaining script.new; written = W.contents output.new; read_failures = R.failures script.new; write_failures = W.failures output.new }) }
+{
+    let tree = match read_tree(alloc, file) {
+        Ok(tree) => tree,
+        Err(fault) => return ProgramEnd::of_no_tree(fault, name),
+    };
+    end_of_try(try_tree(alloc, tree, writer, shows, clock, script, output))
+}
+
+/// The end of a trial.
+pub(crate) fn end_of_try<'a>(end: TryEnd) -> ProgramEnd<'a>
+    ensures { result ≡ ending_of_try end }
+{
+    match end {
+        TryEnd::Done => ProgramEnd::Done,
+        TryEnd::LineRefused(line, fault) => ProgramEnd::ScriptRefused(line, fault),
+        TryEnd::LineMissed(line, taken) => ProgramEnd::ScriptMissed(line, taken),
+        TryEnd::ExpectationFailed(line) => ProgramEnd::ExpectationFailed(line),
+        TryEnd::HistoryFull => ProgramEnd::HistoryFull,
+        TryEnd::InputFailed => ProgramEnd::InputFailed,
+        TryEnd::OutputFailed => ProgramEnd::OutputFailed,
+        TryEnd::OutOfMemory => ProgramEnd::OutOfMemory,
+    }
+}

@@ -1,0 +1,4 @@
+pub mod Orders
+pub mod Objects
+pub mod Cells
+pub mod Timeline
