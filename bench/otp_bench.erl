@@ -5,13 +5,15 @@
 %%         counts (N calls of count_children over 256 children),
 %%         turns (N turns of 256 processes together, which only yield; HOW is process),
 %%         tree (supervisors of 256 children each, 63 under one, are started and stopped; N children),
-%%         storms (N restarts in all, by 63 supervisors at once, at intensity 50).
+%%         storms (N restarts in all, by 63 supervisors at once, at intensity 50),
+%%         sleeper, at_once (N messages to a process that waits, each after a pause or at once; until it notes that it has one),
+%%         idle (63 supervisors of N children each are started, "up" is printed, and all sleep until this program is ended).
 %%   HOW:  process (a supervisor process, which is sent messages), or callbacks (supervisor's
 %%         handle_info and handle_call, called in this process).
-%% Prints the microseconds that the work took. Reports of the logger are off.
+%% Prints the microseconds that the work took (of sleeper and at_once: from each message to the note of it). Reports of the logger are off.
 -module(otp_bench).
 -behaviour(supervisor).
--export([main/1, init/1, start_worker/1, start_nested/0]).
+-export([main/1, init/1, start_worker/1, start_nested/1]).
 
 %% The storm's supervisors live for so many restarts each: one more would end them.
 -define(INTENSITY, 1000).
@@ -19,18 +21,23 @@
 -define(PERIOD, 1000000).
 -define(CHILDREN, 256).
 -define(SUPERVISORS, 63).
+%% Milliseconds in which a process that waits falls asleep with its scheduler.
+-define(PAUSE, 1).
 
 main([Work, How, N]) ->
     ok = logger:set_primary_config(level, none),
     process_flag(trap_exit, true),
     Count = list_to_integer(N),
     Begin = erlang:monotonic_time(microsecond),
-    ok = work(list_to_atom(Work), list_to_atom(How), Count),
-    io:format("~b~n", [erlang:monotonic_time(microsecond) - Begin]),
+    Taken = case work(list_to_atom(Work), list_to_atom(How), Count) of
+        ok -> erlang:monotonic_time(microsecond) - Begin;
+        {taken, Nanoseconds} -> Nanoseconds div 1000
+    end,
+    io:format("~b~n", [Taken]),
     halt(0).
 
-init(root) ->
-    Nested = #{start => {?MODULE, start_nested, []}, type => supervisor},
+init({root, Children}) ->
+    Nested = #{start => {?MODULE, start_nested, [Children]}, type => supervisor},
     {ok, {#{}, [Nested#{id => Id} || Id <- lists:seq(1, ?SUPERVISORS)]}};
 init({Strategy, Children, Driver}) -> init({Strategy, ?INTENSITY, Children, Driver});
 init({Strategy, Intensity, Children, Driver}) ->
@@ -38,7 +45,7 @@ init({Strategy, Intensity, Children, Driver}) ->
     Start = {?MODULE, start_worker, [Driver]},
     {ok, {Flags, [#{id => Id, start => Start} || Id <- lists:seq(1, Children)]}}.
 
-start_nested() -> supervisor:start_link(?MODULE, {one_for_one, ?CHILDREN, none}).
+start_nested(Children) -> supervisor:start_link(?MODULE, {one_for_one, Children, none}).
 
 start_worker(none) ->
     {ok, spawn_link(fun() -> receive die -> exit(crash) end end)};
@@ -76,9 +83,15 @@ work(counts, callbacks, N) ->
     counts_callbacks(N, State);
 work(tree, process, N) when N < ?SUPERVISORS * ?CHILDREN -> ok;
 work(tree, process, N) ->
-    {ok, Sup} = supervisor:start_link(?MODULE, root),
+    {ok, Sup} = supervisor:start_link(?MODULE, {root, ?CHILDREN}),
     stop(Sup),
     work(tree, process, N - ?SUPERVISORS * ?CHILDREN);
+work(idle, process, N) ->
+    {ok, _} = supervisor:start_link(?MODULE, {root, N}),
+    io:format("up~n"),
+    receive never -> ok end;
+work(sleeper, process, N) -> wake_often(N, ?PAUSE);
+work(at_once, process, N) -> wake_often(N, 0);
 work(storms, process, N) ->
     Driver = self(),
     Storm = fun() ->
@@ -168,3 +181,25 @@ counts_callbacks(N, State) ->
 
 turns(0) -> ok;
 turns(N) -> erlang:yield(), turns(N - 1).
+
+wake_often(N, Pause) ->
+    Seen = atomics:new(1, []),
+    Pid = spawn_link(fun() -> woken(Seen) end),
+    {taken, wake_often(N, Pause, Pid, Seen, 0)}.
+
+wake_often(0, _, _, _, Taken) -> Taken;
+wake_often(N, Pause, Pid, Seen, Taken) ->
+    Pause =:= 0 orelse timer:sleep(Pause),
+    Begin = erlang:monotonic_time(nanosecond),
+    Pid ! N,
+    wait_until_seen(Seen, N),
+    wake_often(N - 1, Pause, Pid, Seen, Taken + erlang:monotonic_time(nanosecond) - Begin).
+
+%% Notes each message.
+woken(Seen) -> receive Number -> atomics:put(Seen, 1, Number), woken(Seen) end.
+
+wait_until_seen(Seen, Number) ->
+    case atomics:get(Seen, 1) of
+        Number -> ok;
+        _ -> erlang:yield(), wait_until_seen(Seen, Number)
+    end.

@@ -2,7 +2,8 @@
 // after the other, each a goroutine that says when it is up.
 // go build -o trees trees.go; trees full THREADS COUNT starts and stops trees of 63 supervisors with 256 workers each until so
 // many workers were started; trees storm THREADS COUNT has 63 supervisors with a worker each that crashes at once, and counts
-// restarts. It prints the nanoseconds that took.
+// restarts. It prints the nanoseconds that took. trees idle THREADS CHILDREN starts a tree of so many workers each, says "up", and
+// sleeps until it is ended.
 package main
 
 import (
@@ -37,8 +38,8 @@ func start() worker {
 }
 
 // Starts its workers in order, waits until it is asked to stop, and stops them in reverse order.
-func supervise(up *sync.WaitGroup, stop <-chan struct{}, ended *sync.WaitGroup) {
-	var workers [children]worker
+func supervise(children int, up *sync.WaitGroup, stop <-chan struct{}, ended *sync.WaitGroup) {
+	workers := make([]worker, children)
 	for place := range workers {
 		workers[place] = start()
 	}
@@ -58,12 +59,26 @@ func full(count int) {
 		up.Add(supervisors)
 		ended.Add(supervisors)
 		for sup := 0; sup < supervisors; sup++ {
-			go supervise(&up, stop, &ended)
+			go supervise(children, &up, stop, &ended)
 		}
 		up.Wait()
 		close(stop)
 		ended.Wait()
 	}
+}
+
+// A tree to which nothing happens.
+func idle(children int) {
+	stop := make(chan struct{})
+	var up, ended sync.WaitGroup
+	up.Add(supervisors)
+	ended.Add(supervisors)
+	for sup := 0; sup < supervisors; sup++ {
+		go supervise(children, &up, stop, &ended)
+	}
+	up.Wait()
+	fmt.Println("up")
+	time.Sleep(time.Hour)
 }
 
 // Restarts one worker, which crashes at once, so often.
@@ -89,7 +104,9 @@ func main() {
 	}
 	runtime.GOMAXPROCS(threads)
 	begin := time.Now()
-	if os.Args[1] == "full" {
+	if os.Args[1] == "idle" {
+		idle(count)
+	} else if os.Args[1] == "full" {
 		full(count)
 	} else {
 		var ended sync.WaitGroup
