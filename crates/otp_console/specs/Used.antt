@@ -1,5 +1,5 @@
 -- What was done with a tree file, by how the program ended (own).
-use Rattle.std.specs.Prelude.{◌≡◌, ◌⊎◌, ℕ, Bool, List, Option, Some, None, option_map}
+use Rattle.std.specs.Prelude.{◌≡◌, ◌⊎◌, ℕ, Bool, true, false, List, Option, Some, None, option_map}
 use Rattle.std.specs.Borrow.{Bor}
 use Rattle.otp_sim.specs.Runs.{Devices}
 use Rattle.otp_questions.specs.Compared.{IsCompared}
@@ -44,8 +44,8 @@ IsReplayOf Holds log is_listed name ending file old new =
 -- a page was made and written to the file of this name, of which it is known what it may then hold; or it can't be written, or
 -- there is none
 abbrev pub IsPaged : (List ℕ → List ℕ → Type 0) → Bor (List ℕ) → (ProgramEnd → List ℕ → Type 0) → (ProgramEnd → Type 0) → ProgramEnd → Type 0
-IsPaged Keeps page Says None ending =
-    ((html : List ℕ) × (Says ending html × Keeps page.now html)) ⊎ (IsUnkept page ending ⊎ None ending)
+IsPaged Keeps page Says IsUnmade ending =
+    ((html : List ℕ) × (Says ending html × Keeps page.now html)) ⊎ (IsUnkept page ending ⊎ IsUnmade ending)
 
 -- a script that is taken whole can't be read, or it was, and this was done
 abbrev pub IsRead : (ProgramEnd → Written → Written → Type 0) → ProgramEnd → Written → Written → Type 0

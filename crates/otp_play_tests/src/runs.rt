@@ -97,12 +97,12 @@ fn refused_memory_loses_nothing_earlier(rt: HostRuntime) {
     }
 }
 
-/// One line answers 200 calls that waited for it, each with 40 children.
+/// One line answers 300 calls that waited for it, each with 40 children.
 #[test]
 fn a_line_that_prints_much_is_written_in_pieces(rt: HostRuntime) -> Result<(), Fail> {
     let file = forty_children(rt.alloc())?;
     let supervisor = supervisor_of(&rt, rt.alloc(), file.as_str());
-    let lines = two_hundred_calls(rt.alloc());
+    let lines = three_hundred_calls(rt.alloc());
     let lines = got(&rt, "there is memory", lines);
     let mut reader = Counted::new(lines.as_bytes());
     let mut writer = Counted::new(Taking::new());
@@ -129,13 +129,13 @@ fn forty_children(alloc: Global) -> Result<String, AllocError> {
 }
 
 /// All start, one is terminated, and calls wait for its end.
-fn two_hundred_calls(alloc: Global) -> Result<String, AllocError> {
+fn three_hundred_calls(alloc: Global) -> Result<String, AllocError> {
     let mut lines = String::new(alloc);
     for number in 1..41u64 {
         lines.push_str(format!(in alloc; "up {number}\n")?.as_str())?;
     }
     lines.push_str("terminate child_1\n")?;
-    for _ in 0..200u64 {
+    for _ in 0..300u64 {
         lines.push_str("which\n")?;
     }
     lines.push_str("exit 1 shutdown\n")?;
