@@ -60,8 +60,8 @@ which, count           which_children, count_children
 
 Exactly one space stands between two words, and no other stands before or behind
 them; an empty line says nothing. Numbers have no zero in front: P is that of an
-order, as 1 of `start db #1`. A REASON is normal, shutdown, kill, killed, noproc,
-shutdown:TEXT or error:TEXT. A line has at most 512 bytes.
+order, as 1 of `start db #1`. A REASON is normal, shutdown, kill, killed,
+noproc, shutdown:TEXT or error:TEXT. A line has at most 512 bytes.
 
 Example:
 
