@@ -3,7 +3,7 @@
 // What a test asks again and again stands here as a call of its own, since each assertion is proved where it is written.
 ghost use Rattle.std.specs.Prelude.{◌≡◌, ◌≤◌, ◌<◌, ◌^◌};
 
-use crate::fixtures::seat_table;
+use crate::fixtures::{same, seat_table};
 use otp_inbox::{Inbox, InboxNaming, Sender, UnnamedInbox};
 use otp_reason::Note;
 use otp_rules::{Cause, Item};
@@ -16,7 +16,6 @@ use otp_sup::{
 use std::alloc::Global;
 use std::process::Abort;
 use std::sync::Wait;
-use std::test::*;
 
 // A body is a number here.
 pub(crate) type Post = Letter<u64>;
@@ -36,70 +35,47 @@ pub(crate) struct Alone<N: WordsNaming + InboxNaming + PlanNaming> {
 }
 
 // These bodies, each for the child specification at its place.
-fn hand_in_all(alloc: Global, own: &[u64]) -> Result<Bodies<u64>, Fail> {
+fn hand_in_all(rt: &impl Abort, alloc: Global, own: &[u64]) -> Bodies<u64> {
     let mut bodies = Bodies::new(alloc);
     for (place, body) in own.iter().enumerate() {
         if bodies.hand_in(place, *body).is_err() {
-            drop(bodies);
-            return Err("a body was refused".into());
+            panic!(rt; "a body was refused");
         }
     }
-    Ok(bodies)
+    bodies
 }
 
 // A table of these children, with these bodies for the specifications.
-pub(crate) fn make_table<N: WordsNaming + InboxNaming + PlanNaming>(
+pub(crate) fn make_table<N: WordsNaming + InboxNaming + PlanNaming, R: Abort>(
+    rt: &R,
     alloc: Global,
     words: OpenWords,
     inbox: UnnamedInbox<Item, Post>,
     supervisor: SupSpec,
     own: &[u64],
-) -> Result<Alone<N>, Fail>
+) -> Alone<N>
     requires words { words.words ≡ N.words }
     requires slots { words.slots ≡ 256 }
     requires inbox { inbox ≡ N.inbox 0 }
     requires plan { supervisor ≡ N.plan 0 }
 {
-    let bodies = match hand_in_all(alloc, own) {
-        Ok(bodies) => bodies,
-        Err(fail) => {
-            drop(words);
-            drop(inbox);
-            drop(supervisor);
-            return Err(fail);
-        }
-    };
+    let bodies = hand_in_all(rt, alloc, own);
     let (words, mut owner) = words.named::<N>();
     let Ok(seat) = words.split(&mut owner, 0..256, 1000) else {
-        drop(words);
-        drop(owner);
-        drop(inbox);
-        drop(supervisor);
-        drop(bodies);
-        return Err("no seat".into());
+        panic!(rt; "no seat");
     };
     let viewer = words.viewer(&mut owner);
-    let (inbox, taker, sender) = inbox.named::<N>(0);
-    let table = match seat_table(alloc, supervisor, bodies, seat, taker) {
-        Ok(table) => table,
-        Err(fail) => {
-            drop(words);
-            drop(owner);
-            drop(viewer);
-            drop(inbox);
-            drop(sender);
-            return Err(fail);
-        }
-    };
     drop(owner);
-    Ok(Alone {
+    let (inbox, taker, sender) = inbox.named::<N>(0);
+    let table = seat_table(rt, alloc, supervisor, bodies, seat, taker);
+    Alone {
         words,
         viewer,
         inbox,
         table,
         sender,
         port: MemoryPort::new(alloc),
-    })
+    }
 }
 
 impl<N: WordsNaming + InboxNaming + PlanNaming> Alone<N> {
@@ -130,8 +106,8 @@ impl<N: WordsNaming + InboxNaming + PlanNaming> Alone<N> {
         ensures sender { self.now.sender.inbox ≡ self.now.inbox }
         ensures parts { 0 < self.now.sender.parts }
     {
-        assert_eq!(rt; self.table.number(), self.inbox.number());
-        assert_eq!(rt; self.sender.number(), self.inbox.number());
+        assert!(rt; self.table.number() == self.inbox.number());
+        assert!(rt; self.sender.number() == self.inbox.number());
         assert!(rt; self.sender.parts() > 0);
     }
 
@@ -141,7 +117,7 @@ impl<N: WordsNaming + InboxNaming + PlanNaming> Alone<N> {
         let flushed = self
             .table
             .flush_one(&self.words, &self.inbox, &mut self.sender, port);
-        assert_eq!(rt; flushed, Flushed::Refused);
+        same(rt, "a refused order", flushed, Flushed::Refused);
     }
 
     // Sends orders one by one until none is left, and answers how many were sent.
@@ -155,7 +131,7 @@ impl<N: WordsNaming + InboxNaming + PlanNaming> Alone<N> {
             if flushed == Flushed::Empty {
                 return sent;
             }
-            assert_eq!(rt; flushed, Flushed::Sent);
+            same(rt, "an order", flushed, Flushed::Sent);
             sent = sent.saturating_add(1);
         }
         sent
@@ -186,7 +162,8 @@ impl<N: WordsNaming + InboxNaming + PlanNaming> Alone<N> {
     )
         requires { reading ≤ 2 ^ 62 }
     {
-        assert_eq!(rt; self.turn(rt, number, reading, told), answer);
+        let turned = self.turn(rt, number, reading, told);
+        same(rt, "a turn", turned, answer);
     }
 
     // A turn, in which it opens.
@@ -203,22 +180,26 @@ impl<N: WordsNaming + InboxNaming + PlanNaming> Alone<N> {
 
     // It sends its orders, and has as many.
     pub(crate) fn sends<R: Abort>(&mut self, rt: &R, orders: u64) {
-        assert_eq!(rt; self.flush(rt), orders);
+        let sent = self.flush(rt);
+        same(rt, "the orders", sent, orders);
     }
 
     // The process that was put last has this number, this slot and this body.
     pub(crate) fn puts<R: Abort>(&mut self, rt: &R, process: (u64, usize, u64)) {
-        assert_eq!(rt; self.put(), Some(process));
+        let put = self.put();
+        same(rt, "the process that was put", put, Some(process));
     }
 
     // The parent was told this note last.
     pub(crate) fn tells<R: Abort>(&mut self, rt: &R, note: Note) {
-        assert_eq!(rt; self.told(), Some(note));
+        let told = self.told();
+        same(rt, "the note that was told", told, Some(note));
     }
 
     // The child's process sees this signal.
     pub(crate) fn shows<R: Abort>(&mut self, rt: &R, number: u64, signal: Signal) {
-        assert_eq!(rt; self.signal(rt, number), signal);
+        let seen = self.signal(rt, number);
+        same(rt, "a signal", seen, signal);
     }
 
     // Whether the last note that the parent was told brings the end of a supervisor that was asked to stop.

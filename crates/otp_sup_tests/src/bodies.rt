@@ -1,11 +1,11 @@
 // Which body goes with which process, and which comes back: bodies are numbers here, so that each can be told from others.
 use crate::alone::OWN;
-use crate::fixtures::{child, of_one_child, second};
+use crate::fixtures::{child, of_one_child, second, supervisor_of};
 use crate::script::{Known, Step, plays};
 use otp_reason::Reason;
-use otp_spec::{ChildSpec, Restart, Strategy, SupFlags, SupSpec, copy_specs};
+use otp_spec::{Restart, Strategy, SupFlags, SupSpec};
 use std::alloc::Global;
-use std::test::*;
+use std::process::Abort;
 
 // Of two bodies that are at home together each goes to its own child: at the opening, and when both children are
 // restarted, the first as it was alone and the second as it was asked to end.
@@ -55,41 +55,39 @@ const GONE_CHILD: [Step; 14] = [
 ];
 
 #[test]
-fn each_child_has_its_own_body(rt: HostRuntime) -> Result<(), Fail> {
-    let supervisor = one_for_all(rt.alloc())?;
-    plays(&rt, rt.alloc(), supervisor, &[6, 7], &OWN_BODIES, 6)
+fn each_child_has_its_own_body(rt: HostRuntime) {
+    let supervisor = one_for_all(&rt, rt.alloc());
+    plays(&rt, rt.alloc(), supervisor, &[6, 7], &OWN_BODIES, 6);
 }
 
 #[test]
-fn failed_start_gives_its_body_back(rt: HostRuntime) -> Result<(), Fail> {
-    let supervisor = of_one_child(rt.alloc())?;
-    plays(&rt, rt.alloc(), supervisor, &[OWN], &FAILED_START, 4)
+fn failed_start_gives_its_body_back(rt: HostRuntime) {
+    let supervisor = of_one_child(&rt, rt.alloc());
+    plays(&rt, rt.alloc(), supervisor, &[OWN], &FAILED_START, 4);
 }
 
 #[test]
-fn gone_child_gives_its_body_back(rt: HostRuntime) -> Result<(), Fail> {
-    let supervisor = temporary_children(rt.alloc())?;
-    plays(&rt, rt.alloc(), supervisor, &[], &GONE_CHILD, 7)
+fn gone_child_gives_its_body_back(rt: HostRuntime) {
+    let supervisor = temporary_children(&rt, rt.alloc());
+    plays(&rt, rt.alloc(), supervisor, &[], &GONE_CHILD, 7);
 }
 
 // A supervisor of two children, which are restarted together.
-fn one_for_all(alloc: Global) -> Result<SupSpec, Fail> {
+fn one_for_all(rt: &impl Abort, alloc: Global) -> SupSpec {
     let flags = SupFlags {
         strategy: Strategy::OneForAll,
         ..SupFlags::default()
     };
-    Ok(SupSpec::check(flags, copy_specs(alloc, &[child()?, second()?])?)?)
+    supervisor_of(rt, alloc, flags, &[child(rt), second(rt)])
 }
 
 // A supervisor of dynamic children, which aren't restarted.
-fn temporary_children(alloc: Global) -> Result<SupSpec, Fail> {
+fn temporary_children(rt: &impl Abort, alloc: Global) -> SupSpec {
     let flags = SupFlags {
         strategy: Strategy::SimpleOneForOne,
         ..SupFlags::default()
     };
-    let spec = ChildSpec {
-        restart: Restart::Temporary,
-        ..child()?
-    };
-    Ok(SupSpec::check(flags, copy_specs(alloc, &[spec])?)?)
+    let mut spec = child(rt);
+    spec.restart = Restart::Temporary;
+    supervisor_of(rt, alloc, flags, &[spec])
 }

@@ -3,7 +3,7 @@ ghost use Rattle.std.specs.Prelude.{◌≡◌};
 
 use crate::alone::OWN;
 use crate::driven::{Driven, childless, make_childless};
-use crate::fixtures::{of_one_child, open_for};
+use crate::fixtures::{of_one_child, open_parts};
 use crate::script::{Known, Step, plays};
 use otp_inbox::{InboxNaming, UnnamedInbox};
 use otp_reason::{Note, Reason};
@@ -15,7 +15,6 @@ use std::alloc::Global;
 use std::marker::Brand;
 use std::process::Abort;
 use std::sync::Wait;
-use std::test::*;
 
 // No checkpoint is made while an order is to be sent. An answer before one is gone, one after it is kept. A restart
 // before it still counts: the next crash within the period is one too many.
@@ -61,21 +60,22 @@ const WAITS: [Step; 17] = [
 ];
 
 #[test]
-fn supervisor_goes_on_after_a_checkpoint(rt: HostRuntime) -> Result<(), Fail> {
-    let supervisor = of_one_child(rt.alloc())?;
-    plays(&rt, rt.alloc(), supervisor, &[OWN], &GOES_ON, 3)
+fn supervisor_goes_on_after_a_checkpoint(rt: HostRuntime) {
+    let supervisor = of_one_child(&rt, rt.alloc());
+    plays(&rt, rt.alloc(), supervisor, &[OWN], &GOES_ON, 3);
 }
 
 #[test]
-fn call_waits_over_a_checkpoint(rt: HostRuntime) -> Result<(), Fail> {
-    let supervisor = of_one_child(rt.alloc())?;
-    plays(&rt, rt.alloc(), supervisor, &[OWN], &WAITS, 2)
+fn call_waits_over_a_checkpoint(rt: HostRuntime) {
+    let supervisor = of_one_child(&rt, rt.alloc());
+    plays(&rt, rt.alloc(), supervisor, &[OWN], &WAITS, 2);
 }
 
 #[test]
-fn full_history_stops_nobody(rt: HostRuntime) -> Result<(), Fail> {
-    let (words, inbox, supervisor) = open_for(rt.alloc(), childless(rt.alloc())?)?;
-    full_in::<Brand, _>(&rt, rt.alloc(), words, inbox, supervisor)
+fn full_history_stops_nobody(rt: HostRuntime) {
+    let (words, inbox) = open_parts(&rt, rt.alloc());
+    let supervisor = childless(&rt, rt.alloc());
+    full_in::<Brand, _>(&rt, rt.alloc(), words, inbox, supervisor);
 }
 
 // A supervisor without children fills its history; it goes on, and can be stopped.
@@ -85,18 +85,17 @@ fn full_in<N: WordsNaming + InboxNaming + PlanNaming, R: Wait + Abort>(
     words: OpenWords,
     inbox: UnnamedInbox<Item, Letter<u64>>,
     supervisor: SupSpec,
-) -> Result<(), Fail>
+)
     requires words { words.words ≡ N.words }
     requires slots { words.slots ≡ 256 }
     requires inbox { inbox ≡ N.inbox 0 }
     requires plan { supervisor ≡ N.plan 0 }
 {
-    let mut one = make_childless::<N>(alloc, words, inbox, supervisor, 1)?;
+    let mut one = make_childless::<N, _>(rt, alloc, words, inbox, supervisor, 1);
     fills(rt, &mut one);
     goes_on(rt, &mut one);
     is_stopped(rt, &mut one);
     drop(one);
-    Ok(())
 }
 
 // It opens, and takes notes of no child until it stores as many events as there may be.

@@ -3,7 +3,7 @@
 // What a test asks again and again stands here as a call of its own, since each assertion is proved where it is written.
 ghost use Rattle.std.specs.Prelude.{◌≡◌, ◌≤◌, ◌^◌};
 
-use crate::fixtures::seat_table;
+use crate::fixtures::{same, seat_table, supervisor_of};
 use otp_inbox::{InboxNaming, Sender, UnnamedInbox};
 use otp_reason::{Note, Reason};
 use otp_rules::{Call, Cause, Item};
@@ -16,7 +16,6 @@ use otp_sup::{
 use std::alloc::Global;
 use std::process::Abort;
 use std::sync::Wait;
-use std::test::*;
 
 // What a child runs here: it can be told from others by its tag.
 pub(crate) trait Job: Send + Drop {
@@ -50,24 +49,24 @@ pub(crate) struct Driven<N: WordsNaming + InboxNaming + PlanNaming, B: Drop> {
 }
 
 // This body, for the first child specification.
-pub(crate) fn of_one_body<B: Drop>(alloc: Global, body: B) -> Result<Bodies<B>, Fail> {
+pub(crate) fn of_one_body<B: Drop>(rt: &impl Abort, alloc: Global, body: B) -> Bodies<B> {
     let mut bodies = Bodies::new(alloc);
     if bodies.hand_in(0, body).is_err() {
-        drop(bodies);
-        return Err("a body was refused".into());
+        panic!(rt; "a body was refused");
     }
-    Ok(bodies)
+    bodies
 }
 
 // A supervisor of these children, with these bodies for the specifications. Its client may send so many calls.
 pub(crate) fn make_driven<N: WordsNaming + InboxNaming + PlanNaming, B: Drop>(
+    rt: &impl Abort,
     alloc: Global,
     words: OpenWords,
     inbox: UnnamedInbox<Item, Letter<B>>,
     supervisor: SupSpec,
     bodies: Bodies<B>,
     calls: u64,
-) -> Result<Driven<N, B>, Fail>
+) -> Driven<N, B>
     requires words { words.words ≡ N.words }
     requires slots { words.slots ≡ 256 }
     requires inbox { inbox ≡ N.inbox 0 }
@@ -75,68 +74,56 @@ pub(crate) fn make_driven<N: WordsNaming + InboxNaming + PlanNaming, B: Drop>(
 {
     let (words, mut owner) = words.named::<N>();
     let Ok(seat) = words.split(&mut owner, 0..256, 1000) else {
-        drop(words);
-        drop(owner);
-        drop(inbox);
-        drop(supervisor);
-        drop(bodies);
-        return Err("no seat".into());
+        panic!(rt; "no seat");
     };
     let Ok(callers) = words.split(&mut owner, 0..0, calls) else {
-        drop(words);
-        drop(owner);
-        drop(seat);
-        drop(inbox);
-        drop(supervisor);
-        drop(bodies);
-        return Err("no numbers for calls".into());
+        panic!(rt; "no numbers for calls");
     };
     let viewer = words.viewer(&mut owner);
     drop(owner);
     let (inbox, taker, mut sender) = inbox.named::<N>(0);
-    let table = match seat_table(alloc, supervisor, bodies, seat, taker) {
-        Ok(table) => table,
-        Err(fail) => {
-            drop(words);
-            drop(callers);
-            drop(viewer);
-            drop(inbox);
-            drop(sender);
-            return Err(fail);
-        }
-    };
+    let table = seat_table(rt, alloc, supervisor, bodies, seat, taker);
     let own = inbox.split(&mut sender, 1);
     let client = Client::new(alloc, callers, sender);
     let sup = Sup::new(inbox, table);
-    Ok(Driven {
+    Driven {
         words,
         viewer,
         sup,
         sender: own,
         client,
         port: MemoryPort::new(alloc),
-    })
+    }
 }
 
 // A supervisor without children, with the default flags.
-pub(crate) fn childless(alloc: Global) -> Result<SupSpec, Fail> {
-    Ok(SupSpec::check(SupFlags::default(), Vec::new(alloc))?)
+pub(crate) fn childless(rt: &impl Abort, alloc: Global) -> SupSpec {
+    supervisor_of(rt, alloc, SupFlags::default(), &[])
 }
 
 // This supervisor without children. Its client may send so many calls.
-pub(crate) fn make_childless<N: WordsNaming + InboxNaming + PlanNaming>(
+pub(crate) fn make_childless<N: WordsNaming + InboxNaming + PlanNaming, R: Abort>(
+    rt: &R,
     alloc: Global,
     words: OpenWords,
     inbox: UnnamedInbox<Item, Letter<u64>>,
     supervisor: SupSpec,
     calls: u64,
-) -> Result<Driven<N, u64>, Fail>
+) -> Driven<N, u64>
     requires words { words.words ≡ N.words }
     requires slots { words.slots ≡ 256 }
     requires inbox { inbox ≡ N.inbox 0 }
     requires plan { supervisor ≡ N.plan 0 }
 {
-    make_driven(alloc, words, inbox, supervisor, Bodies::new(alloc), calls)
+    make_driven(
+        rt,
+        alloc,
+        words,
+        inbox,
+        supervisor,
+        Bodies::new(alloc),
+        calls,
+    )
 }
 
 impl<N: WordsNaming + InboxNaming + PlanNaming, B: Drop> Driven<N, B> {
@@ -155,7 +142,7 @@ impl<N: WordsNaming + InboxNaming + PlanNaming, B: Drop> Driven<N, B> {
         let turned = self.turn_once(rt, number, reading, told);
         if turned == Err(TurnFault::OutOfMemory) {
             let after = (self.port.processes.len(), self.port.notes.len());
-            assert_eq!(rt; after, before);
+            same(rt, "the port after a refusal", after, before);
             return self.turn_once(rt, number, reading, told);
         }
         turned
@@ -172,7 +159,8 @@ impl<N: WordsNaming + InboxNaming + PlanNaming, B: Drop> Driven<N, B> {
     )
         requires { reading ≤ 2 ^ 62 }
     {
-        assert_eq!(rt; self.turn(rt, number, reading, told), answer);
+        let turned = self.turn(rt, number, reading, told);
+        same(rt, "a turn", turned, answer);
     }
 
     // A turn, in which it opens.
@@ -191,7 +179,7 @@ impl<N: WordsNaming + InboxNaming + PlanNaming, B: Drop> Driven<N, B> {
     pub(crate) fn send_orders<R: Wait + Abort>(&mut self, rt: &R, number: u64, is_sent: bool) {
         if !is_sent {
             let turned = self.turn_once(rt, number, 0, Signal::None);
-            assert_eq!(rt; turned, Ok(TurnAnswer::Pending));
+            same(rt, "a pending order", turned, Ok(TurnAnswer::Pending));
         }
     }
 
@@ -200,7 +188,7 @@ impl<N: WordsNaming + InboxNaming + PlanNaming, B: Drop> Driven<N, B> {
         match self.call_once(rt, call, body) {
             Ok(number) => number,
             Err((cause, body)) => {
-                assert_eq!(rt; cause, SubmitCause::OutOfMemory);
+                same(rt, "a refused call", cause, SubmitCause::OutOfMemory);
                 let sent = self.call_once(rt, call, body);
                 assert!(rt; sent.is_ok());
                 sent.map_err(|_| ()).unwrap_or(0)
@@ -214,7 +202,7 @@ impl<N: WordsNaming + InboxNaming + PlanNaming, B: Drop> Driven<N, B> {
         call: Call,
         body: Option<B>,
     ) -> Result<u64, (SubmitCause, Option<B>)> {
-        assert_eq!(rt; self.client.number(), self.sup.inbox().number());
+        assert!(rt; self.client.number() == self.sup.inbox().number());
         let sent = self
             .client
             .submit(rt, &self.words, self.sup.inbox(), call, body);
@@ -230,7 +218,7 @@ impl<N: WordsNaming + InboxNaming + PlanNaming, B: Drop> Driven<N, B> {
     ) -> Result<TurnAnswer, TurnFault>
         requires { reading ≤ 2 ^ 62 }
     {
-        assert_eq!(rt; self.sender.number(), self.sup.inbox().number());
+        assert!(rt; self.sender.number() == self.sup.inbox().number());
         assert!(rt; self.sender.parts() > 0);
         self.sup.turn(
             rt,
@@ -251,7 +239,7 @@ impl<N: WordsNaming + InboxNaming + PlanNaming, B: Drop> Driven<N, B> {
     }
 
     fn send_once<R: Wait + Abort>(&mut self, rt: &R, letter: Letter<B>) -> Option<Letter<B>> {
-        assert_eq!(rt; self.sender.number(), self.sup.inbox().number());
+        assert!(rt; self.sender.number() == self.sup.inbox().number());
         assert!(rt; self.sender.parts() > 0);
         self.sup.inbox().send(rt, &mut self.sender, letter).err()
     }
@@ -277,7 +265,8 @@ impl<N: WordsNaming + InboxNaming + PlanNaming, B: Drop> Driven<N, B> {
 
     // The child's process sees this signal.
     pub(crate) fn shows<R: Abort>(&mut self, rt: &R, number: u64, signal: Signal) {
-        assert_eq!(rt; self.signal(rt, number), signal);
+        let seen = self.signal(rt, number);
+        same(rt, "a signal", seen, signal);
     }
 
     pub(crate) fn up<R: Wait + Abort>(&mut self, rt: &R, number: u64) {
@@ -318,7 +307,8 @@ pub(crate) fn puts<N: WordsNaming + InboxNaming + PlanNaming, R: Wait + Abort>(
     number: u64,
     process: (u64, usize, u64),
 ) {
-    assert_eq!(rt; launched(rt, one, number), Some(process));
+    let put = launched(rt, one, number);
+    same(rt, "the process that was put", put, Some(process));
 }
 
 // The note that the parent was told; the port has it no more.
@@ -341,5 +331,6 @@ pub(crate) fn tells<N: WordsNaming + InboxNaming + PlanNaming, R: Wait + Abort>(
     one: &mut Driven<N, Body>,
     note: Note,
 ) {
-    assert_eq!(rt; told(rt, one), Some(note));
+    let told = told(rt, one);
+    same(rt, "the note that was told", told, Some(note));
 }

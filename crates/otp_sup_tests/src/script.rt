@@ -5,7 +5,7 @@ ghost use Rattle.std.specs.Prelude.{◌≡◌, true};
 ghost use Rattle.otp_rules.specs.Homes.{is_start_call};
 
 use crate::alone::{Alone, Post, make_table};
-use crate::fixtures::{child, crash, open_for, second};
+use crate::fixtures::{child, crash, got, open_parts, same, second};
 use otp_core::ReplyAnswer;
 use otp_inbox::{InboxNaming, UnnamedInbox};
 use otp_reason::{Note, Reason};
@@ -17,7 +17,6 @@ use std::alloc::Global;
 use std::marker::Brand;
 use std::process::Abort;
 use std::sync::Wait;
-use std::test::*;
 
 // A step. Bodies are numbers, and each turn but that of `Turn` is at the reading 0, under the number 0.
 #[derive(Clone, Copy)]
@@ -122,14 +121,11 @@ fn starts<N: WordsNaming + InboxNaming + PlanNaming, R: Wait + Abort>(
     call: Call,
     body: u64,
     orders: u64,
-) -> Result<(), Fail>
+)
     requires { true ≡ is_start_call call }
 {
-    let Ok(letter) = Letter::call(alloc, number, call, Some(body)) else {
-        return Err("memory was refused".into());
-    };
-    takes(rt, one, letter, orders);
-    Ok(())
+    let letter = Letter::call(alloc, number, call, Some(body));
+    takes(rt, one, got(rt, "memory was refused", letter), orders);
 }
 
 fn counts<N: WordsNaming + InboxNaming + PlanNaming, R: Wait + Abort>(
@@ -137,12 +133,9 @@ fn counts<N: WordsNaming + InboxNaming + PlanNaming, R: Wait + Abort>(
     alloc: Global,
     one: &mut Alone<N>,
     number: u64,
-) -> Result<(), Fail> {
-    let Ok(letter) = Letter::call(alloc, number, Call::CountChildren, None) else {
-        return Err("memory was refused".into());
-    };
-    takes(rt, one, letter, 0);
-    Ok(())
+) {
+    let letter = Letter::call(alloc, number, Call::CountChildren, None);
+    takes(rt, one, got(rt, "memory was refused", letter), 0);
 }
 
 fn knows<N: WordsNaming + InboxNaming + PlanNaming, R: Abort>(
@@ -151,7 +144,8 @@ fn knows<N: WordsNaming + InboxNaming + PlanNaming, R: Abort>(
     call: u64,
     what: Known,
 ) {
-    assert_eq!(rt; known_of(one.table.reply(call)), what);
+    let known = known_of(one.table.reply(call));
+    same(rt, "what is known of an answer", known, what);
 }
 
 fn cuts<N: WordsNaming + InboxNaming + PlanNaming, R: Abort>(
@@ -159,7 +153,8 @@ fn cuts<N: WordsNaming + InboxNaming + PlanNaming, R: Abort>(
     one: &mut Alone<N>,
     answer: CutAnswer,
 ) {
-    assert_eq!(rt; one.table.cut(), Ok(answer));
+    let cut = one.table.cut().ok();
+    same(rt, "a checkpoint", cut, Some(answer));
 }
 
 fn gives_back<N: WordsNaming + InboxNaming + PlanNaming, R: Abort>(
@@ -168,11 +163,13 @@ fn gives_back<N: WordsNaming + InboxNaming + PlanNaming, R: Abort>(
     call: u64,
     body: Option<u64>,
 ) {
-    assert_eq!(rt; one.table.take_box(call), body);
+    let back = one.table.take_box(call);
+    same(rt, "the body of a call", back, body);
 }
 
 fn has_no_stray<N: WordsNaming + InboxNaming + PlanNaming, R: Abort>(rt: &R, one: &mut Alone<N>) {
-    assert_eq!(rt; one.table.take_stray(), None);
+    let stray = one.table.take_stray();
+    same(rt, "a stray body", stray, None);
 }
 
 fn tells_asked<N: WordsNaming + InboxNaming + PlanNaming, R: Abort>(rt: &R, one: &Alone<N>) {
@@ -189,13 +186,13 @@ fn does<N: WordsNaming + InboxNaming + PlanNaming, R: Wait + Abort>(
     alloc: Global,
     one: &mut Alone<N>,
     step: Step,
-) -> Result<(), Fail> {
+) {
     match step {
         Step::StartsFirst(call, body) => {
-            starts(rt, alloc, one, call, Call::StartChild(child()?), body, 0)
+            starts(rt, alloc, one, call, Call::StartChild(child(rt)), body, 0)
         }
         Step::StartsSecond(call, body) => {
-            starts(rt, alloc, one, call, Call::StartChild(second()?), body, 1)
+            starts(rt, alloc, one, call, Call::StartChild(second(rt)), body, 1)
         }
         Step::StartsDynamic(call, body) => {
             starts(rt, alloc, one, call, Call::StartDynamic, body, 1)
@@ -204,7 +201,6 @@ fn does<N: WordsNaming + InboxNaming + PlanNaming, R: Wait + Abort>(
         _ => {
             moves(rt, one, step);
             sees(rt, one, step);
-            Ok(())
         }
     }
 }
@@ -275,11 +271,10 @@ fn play<N: WordsNaming + InboxNaming + PlanNaming, R: Wait + Abort>(
     alloc: Global,
     one: &mut Alone<N>,
     steps: &[Step],
-) -> Result<(), Fail> {
+) {
     for step in steps {
-        does(rt, alloc, one, *step)?;
+        does(rt, alloc, one, *step);
     }
-    Ok(())
 }
 
 // As many events are stored at the end.
@@ -293,7 +288,7 @@ fn stores<N: WordsNaming + InboxNaming + PlanNaming, R: Abort>(
     drop(ends);
     let (core, owner) = office.into_parts();
     drop(owner);
-    assert_eq!(rt; core.history().len(), events);
+    same(rt, "the events", core.history().len(), events);
     drop(core);
 }
 
@@ -306,16 +301,15 @@ fn play_in<N: WordsNaming + InboxNaming + PlanNaming, R: Wait + Abort>(
     own: &[u64],
     steps: &[Step],
     events: usize,
-) -> Result<(), Fail>
+)
     requires words { words.words ≡ N.words }
     requires slots { words.slots ≡ 256 }
     requires inbox { inbox ≡ N.inbox 0 }
     requires plan { supervisor ≡ N.plan 0 }
 {
-    let mut one = make_table::<N>(alloc, words, inbox, supervisor, own)?;
-    let played = play(rt, alloc, &mut one, steps);
+    let mut one = make_table::<N, _>(rt, alloc, words, inbox, supervisor, own);
+    play(rt, alloc, &mut one, steps);
     stores(rt, one, events);
-    played
 }
 
 // Plays these steps on a new supervisor with these bodies for its specifications. In the end it stores as many events.
@@ -326,7 +320,7 @@ pub(crate) fn plays<R: Wait + Abort>(
     own: &[u64],
     steps: &[Step],
     events: usize,
-) -> Result<(), Fail> {
-    let (words, inbox, supervisor) = open_for(alloc, supervisor)?;
-    play_in::<Brand, _>(rt, alloc, words, inbox, supervisor, own, steps, events)
+) {
+    let (words, inbox) = open_parts(rt, alloc);
+    play_in::<Brand, _>(rt, alloc, words, inbox, supervisor, own, steps, events);
 }

@@ -4,7 +4,7 @@ ghost use Rattle.std.specs.Prelude.{◌≡◌};
 use crate::driven::{
     Body, Driven, Job, Post, Tagged, launched, make_driven, of_one_body, puts, tells,
 };
-use crate::fixtures::{child, crash, of_one_child, open_for, second};
+use crate::fixtures::{child, crash, got, of_one_child, open_parts, same, second};
 use otp_core::ReplyAnswer;
 use otp_inbox::{InboxNaming, UnnamedInbox};
 use otp_reason::{Note, Reason};
@@ -16,42 +16,35 @@ use std::alloc::Global;
 use std::marker::Brand;
 use std::process::Abort;
 use std::sync::Wait;
-use std::test::*;
 
 // A supervisor of the child `a`, with this body for it.
-fn make_one<N: WordsNaming + InboxNaming + PlanNaming>(
+fn make_one<N: WordsNaming + InboxNaming + PlanNaming, R: Abort>(
+    rt: &R,
     alloc: Global,
     words: OpenWords,
     inbox: UnnamedInbox<Item, Post>,
     supervisor: SupSpec,
     body: Body,
-) -> Result<Driven<N, Body>, Fail>
+) -> Driven<N, Body>
     requires words { words.words ≡ N.words }
     requires slots { words.slots ≡ 256 }
     requires inbox { inbox ≡ N.inbox 0 }
     requires plan { supervisor ≡ N.plan 0 }
 {
-    let bodies = match of_one_body(alloc, body) {
-        Ok(bodies) => bodies,
-        Err(fail) => {
-            drop(words);
-            drop(inbox);
-            drop(supervisor);
-            return Err(fail);
-        }
-    };
-    make_driven(alloc, words, inbox, supervisor, bodies, 100)
+    let bodies = of_one_body(rt, alloc, body);
+    make_driven(rt, alloc, words, inbox, supervisor, bodies, 100)
+}
+
+// What runs under this tag.
+fn tagged(rt: &impl Abort, alloc: Global, tag: u64) -> Box<Tagged, Global> {
+    got(rt, "a body was refused", Box::new(alloc, Tagged { tag }))
 }
 
 #[test]
-fn one_child(rt: HostRuntime) -> Result<(), Fail> {
-    let (words, inbox, supervisor) = open_for(rt.alloc(), of_one_child(rt.alloc())?)?;
-    let bodies: (Body, Body, Body) = (
-        Box::new(rt.alloc(), Tagged { tag: 6 })?,
-        Box::new(rt.alloc(), Tagged { tag: 7 })?,
-        Box::new(rt.alloc(), Tagged { tag: 8 })?,
-    );
-    one_child_in::<Brand, _>(&rt, rt.alloc(), words, inbox, supervisor, bodies)
+fn one_child(rt: HostRuntime) {
+    let (words, inbox) = open_parts(&rt, rt.alloc());
+    let supervisor = of_one_child(&rt, rt.alloc());
+    one_child_in::<Brand, _>(&rt, rt.alloc(), words, inbox, supervisor);
 }
 
 fn is_send<T: Send>(_: &T) {}
@@ -76,22 +69,22 @@ fn one_child_in<N: WordsNaming + InboxNaming + PlanNaming + Send + Sync, R: Wait
     words: OpenWords,
     inbox: UnnamedInbox<Item, Post>,
     supervisor: SupSpec,
-    bodies: (Body, Body, Body),
-) -> Result<(), Fail>
+)
     requires words { words.words ≡ N.words }
     requires slots { words.slots ≡ 256 }
     requires inbox { inbox ≡ N.inbox 0 }
     requires plan { supervisor ≡ N.plan 0 }
 {
-    let (own, second, third) = bodies;
-    let mut one = make_one::<N>(alloc, words, inbox, supervisor, own)?;
+    let own: Body = tagged(rt, alloc, 6);
+    let second: Body = tagged(rt, alloc, 7);
+    let third: Body = tagged(rt, alloc, 8);
+    let mut one = make_one::<N, _>(rt, alloc, words, inbox, supervisor, own);
     crosses_threads(&one);
     opens_under_its_number(rt, &mut one);
     crashes_once(rt, &mut one, second);
     is_stopped(rt, &mut one, third);
     opens_again(rt, &mut one);
     drop(one);
-    Ok(())
 }
 
 // It opens under its number, and its child starts; a turn under another number is refused.
@@ -158,14 +151,10 @@ fn opens_again<N: WordsNaming + InboxNaming + PlanNaming, R: Wait + Abort>(
 }
 
 #[test]
-fn bodies_come_back(rt: HostRuntime) -> Result<(), Fail> {
-    let (words, inbox, supervisor) = open_for(rt.alloc(), of_one_child(rt.alloc())?)?;
-    let bodies: (Body, Body, Body) = (
-        Box::new(rt.alloc(), Tagged { tag: 6 })?,
-        Box::new(rt.alloc(), Tagged { tag: 7 })?,
-        Box::new(rt.alloc(), Tagged { tag: 8 })?,
-    );
-    bodies_in::<Brand, _>(&rt, rt.alloc(), words, inbox, supervisor, bodies)
+fn bodies_come_back(rt: HostRuntime) {
+    let (words, inbox) = open_parts(&rt, rt.alloc());
+    let supervisor = of_one_child(&rt, rt.alloc());
+    bodies_in::<Brand, _>(&rt, rt.alloc(), words, inbox, supervisor);
 }
 
 // The body of a call that was refused, and one that came with a note of no process, can be had once.
@@ -175,34 +164,20 @@ fn bodies_in<N: WordsNaming + InboxNaming + PlanNaming, R: Wait + Abort>(
     words: OpenWords,
     inbox: UnnamedInbox<Item, Post>,
     supervisor: SupSpec,
-    bodies: (Body, Body, Body),
-) -> Result<(), Fail>
+)
     requires words { words.words ≡ N.words }
     requires slots { words.slots ≡ 256 }
     requires inbox { inbox ≡ N.inbox 0 }
     requires plan { supervisor ≡ N.plan 0 }
 {
-    let (own, second, third) = bodies;
-    let mut one = make_one::<N>(alloc, words, inbox, supervisor, own)?;
-    let shown = has_bodies(rt, alloc, &mut one, second, third);
+    let own: Body = tagged(rt, alloc, 6);
+    let refused: Body = tagged(rt, alloc, 7);
+    let stray: Body = tagged(rt, alloc, 8);
+    let mut one = make_one::<N, _>(rt, alloc, words, inbox, supervisor, own);
+    runs(rt, &mut one);
+    refuses_a_start(rt, alloc, &mut one, refused);
+    gets_a_stray(rt, &mut one, stray);
     drop(one);
-    shown
-}
-
-fn has_bodies<N: WordsNaming + InboxNaming + PlanNaming, R: Wait + Abort>(
-    rt: &R,
-    alloc: Global,
-    one: &mut Driven<N, Body>,
-    refused: Body,
-    stray: Body,
-) -> Result<(), Fail> {
-    runs(rt, one);
-    if let Err(fail) = refuses_a_start(rt, alloc, one, refused) {
-        drop(stray);
-        return Err(fail);
-    }
-    gets_a_stray(rt, one, stray);
-    Ok(())
 }
 
 // It opens, and its child runs.
@@ -221,23 +196,20 @@ fn refuses_a_start<N: WordsNaming + InboxNaming + PlanNaming, R: Wait + Abort>(
     alloc: Global,
     one: &mut Driven<N, Body>,
     body: Body,
-) -> Result<(), Fail> {
-    let Ok(letter) = Letter::call(alloc, 40, Call::StartChild(child()?), Some(body)) else {
-        return Err("memory was refused".into());
-    };
-    one.send(rt, letter);
+) {
+    let letter = Letter::call(alloc, 40, Call::StartChild(child(rt)), Some(body));
+    one.send(rt, got(rt, "memory was refused", letter));
     gives_back(rt, one, None);
     one.takes(rt, 0);
-    let reply = one.sup.reply(rt, 40)?;
-    assert!(rt;
-        matches!(
-            reply,
-            ReplyAnswer::Kept(Reply::Refused(CallFault::AlreadyStarted(1)))
-        )
+    let reply = got(rt, "memory was refused", one.sup.reply(rt, 40));
+    let runs = matches!(
+        &reply,
+        ReplyAnswer::Kept(Reply::Refused(CallFault::AlreadyStarted(1)))
     );
+    drop(reply);
+    assert!(rt; runs);
     gives_back(rt, one, Some(7));
     gives_back(rt, one, None);
-    Ok(())
 }
 
 // The tag of the body of the call 40 that can be had back now.
@@ -246,7 +218,8 @@ fn gives_back<N: WordsNaming + InboxNaming + PlanNaming, R: Wait + Abort>(
     one: &mut Driven<N, Body>,
     tag: Option<u64>,
 ) {
-    assert_eq!(rt; tag_of(one.sup.take_box(rt, 40)), tag);
+    let back = tag_of(one.sup.take_box(rt, 40));
+    same(rt, "the body of a call", back, tag);
 }
 
 // A note of no process brings a body, which is nobody's, and can be had once.
@@ -268,7 +241,8 @@ fn has_stray<N: WordsNaming + InboxNaming + PlanNaming, R: Wait + Abort>(
     one: &mut Driven<N, Body>,
     tag: Option<u64>,
 ) {
-    assert_eq!(rt; tag_of(one.sup.take_stray(rt)), tag);
+    let stray = tag_of(one.sup.take_stray(rt));
+    same(rt, "a stray body", stray, tag);
 }
 
 fn tag_of(body: Option<Body>) -> Option<u64> {
@@ -276,16 +250,10 @@ fn tag_of(body: Option<Body>) -> Option<u64> {
 }
 
 #[test]
-fn refused_growths(rt: HostRuntime) -> Result<(), Fail> {
-    let (words, inbox, supervisor) = open_for(rt.alloc(), of_one_child(rt.alloc())?)?;
-    let bodies: (Body, Body, Body, Body, Body) = (
-        Box::new(rt.alloc(), Tagged { tag: 6 })?,
-        Box::new(rt.alloc(), Tagged { tag: 7 })?,
-        Box::new(rt.alloc(), Tagged { tag: 8 })?,
-        Box::new(rt.alloc(), Tagged { tag: 9 })?,
-        Box::new(rt.alloc(), Tagged { tag: 10 })?,
-    );
-    growths_in::<Brand, _>(&rt, rt.alloc(), words, inbox, supervisor, bodies)
+fn refused_growths(rt: HostRuntime) {
+    let (words, inbox) = open_parts(&rt, rt.alloc());
+    let supervisor = of_one_child(&rt, rt.alloc());
+    growths_in::<Brand, _>(&rt, rt.alloc(), words, inbox, supervisor);
 }
 
 // A turn, a call and the sending of an order, to an end by the intensity: its note takes a copy of the end. Of `rt try --test --fail-alloc N` the least N refuse what is opened, which
@@ -297,32 +265,24 @@ fn growths_in<N: WordsNaming + InboxNaming + PlanNaming, R: Wait + Abort>(
     words: OpenWords,
     inbox: UnnamedInbox<Item, Post>,
     supervisor: SupSpec,
-    bodies: (Body, Body, Body, Body, Body),
-) -> Result<(), Fail>
+)
     requires words { words.words ≡ N.words }
     requires slots { words.slots ≡ 256 }
     requires inbox { inbox ≡ N.inbox 0 }
     requires plan { supervisor ≡ N.plan 0 }
 {
-    let (own, second, third, fourth, fifth) = bodies;
-    let mut one = make_one::<N>(alloc, words, inbox, supervisor, own)?;
+    // All bodies are there before it is opened.
+    let own: Body = tagged(rt, alloc, 6);
+    let second: Body = tagged(rt, alloc, 7);
+    let third: Body = tagged(rt, alloc, 8);
+    let fourth: Body = tagged(rt, alloc, 9);
+    let fifth: Body = tagged(rt, alloc, 10);
+    let mut one = make_one::<N, _>(rt, alloc, words, inbox, supervisor, own);
     opens(rt, &mut one);
-    let shown = grows(rt, &mut one, (second, third), (fourth, fifth));
+    let child = starts_another(rt, &mut one, second);
+    let again = restarts(rt, &mut one, child, third);
+    gives_up(rt, &mut one, again, child, (fourth, fifth));
     drop(one);
-    shown
-}
-
-// A second child, a restart of the first, and the crash that is one too many.
-fn grows<N: WordsNaming + InboxNaming + PlanNaming, R: Wait + Abort>(
-    rt: &R,
-    one: &mut Driven<N, Body>,
-    started: (Body, Body),
-    ended: (Body, Body),
-) -> Result<(), Fail> {
-    let child = starts_another(rt, one, started.0)?;
-    let again = restarts(rt, one, child, started.1);
-    gives_up(rt, one, again, child, ended);
-    Ok(())
 }
 
 // It opens, and its child starts.
@@ -342,15 +302,17 @@ fn starts_another<N: WordsNaming + InboxNaming + PlanNaming, R: Wait + Abort>(
     rt: &R,
     one: &mut Driven<N, Body>,
     body: Body,
-) -> Result<u64, Fail> {
-    let call = one.call(rt, Call::StartChild(second()?), Some(body));
+) -> u64 {
+    let call = one.call(rt, Call::StartChild(second(rt)), Some(body));
     one.takes(rt, 0);
     let child = puts_second(rt, one);
     one.up(rt, child);
     one.takes(rt, 0);
-    let reply = one.sup.reply(rt, call)?;
-    assert!(rt; matches!(reply, ReplyAnswer::Kept(Reply::OkProcess(number)) if number == child));
-    Ok(child)
+    let reply = got(rt, "memory was refused", one.sup.reply(rt, call));
+    let runs = matches!(&reply, ReplyAnswer::Kept(Reply::OkProcess(number)) if *number == child);
+    drop(reply);
+    assert!(rt; runs);
+    child
 }
 
 // The second child's process is put, with the call's body: its number.

@@ -5,7 +5,7 @@ ghost use Rattle.otp_bodies.specs.Letters.{Comes};
 ghost use Rattle.otp_bodies.specs.Ports.{launched, launched_all, told};
 
 use crate::alone::{Alone, OWN, Post, make_table};
-use crate::fixtures::{of_one_child, open_for};
+use crate::fixtures::{of_one_child, open_parts};
 use crate::script::{Known, Step, plays};
 use otp_inbox::{InboxNaming, UnnamedInbox};
 use otp_reason::{Note, Reason};
@@ -18,7 +18,6 @@ use std::alloc::Global;
 use std::marker::Brand;
 use std::process::Abort;
 use std::sync::Wait;
-use std::test::*;
 
 // Opened, restarted, stopped, killed and ended: after each turn its orders are sent, and counted.
 const BY_ORDERS: [Step; 32] = [
@@ -73,15 +72,15 @@ const REFUSED_START: [Step; 6] = [
 ];
 
 #[test]
-fn one_child_by_orders(rt: HostRuntime) -> Result<(), Fail> {
-    let supervisor = of_one_child(rt.alloc())?;
-    plays(&rt, rt.alloc(), supervisor, &[OWN], &BY_ORDERS, 7)
+fn one_child_by_orders(rt: HostRuntime) {
+    let supervisor = of_one_child(&rt, rt.alloc());
+    plays(&rt, rt.alloc(), supervisor, &[OWN], &BY_ORDERS, 7);
 }
 
 #[test]
-fn refused_start_call(rt: HostRuntime) -> Result<(), Fail> {
-    let supervisor = of_one_child(rt.alloc())?;
-    plays(&rt, rt.alloc(), supervisor, &[OWN], &REFUSED_START, 3)
+fn refused_start_call(rt: HostRuntime) {
+    let supervisor = of_one_child(&rt, rt.alloc());
+    plays(&rt, rt.alloc(), supervisor, &[OWN], &REFUSED_START, 3);
 }
 
 // A port that takes nothing.
@@ -130,9 +129,10 @@ impl Port<u64> for Shut {
 }
 
 #[test]
-fn refused_order(rt: HostRuntime) -> Result<(), Fail> {
-    let (words, inbox, supervisor) = open_for(rt.alloc(), of_one_child(rt.alloc())?)?;
-    refused_in::<Brand, _>(&rt, rt.alloc(), words, inbox, supervisor)
+fn refused_order(rt: HostRuntime) {
+    let (words, inbox) = open_parts(&rt, rt.alloc());
+    let supervisor = of_one_child(&rt, rt.alloc());
+    refused_in::<Brand, _>(&rt, rt.alloc(), words, inbox, supervisor);
 }
 
 // An order that the port refuses stays, and so does the body: nothing happens before it was sent.
@@ -142,13 +142,13 @@ fn refused_in<N: WordsNaming + InboxNaming + PlanNaming, R: Wait + Abort>(
     words: OpenWords,
     inbox: UnnamedInbox<Item, Post>,
     supervisor: SupSpec,
-) -> Result<(), Fail>
+)
     requires words { words.words ≡ N.words }
     requires slots { words.slots ≡ 256 }
     requires inbox { inbox ≡ N.inbox 0 }
     requires plan { supervisor ≡ N.plan 0 }
 {
-    let mut one = make_table::<N>(alloc, words, inbox, supervisor, &[OWN])?;
+    let mut one = make_table::<N, _>(rt, alloc, words, inbox, supervisor, &[OWN]);
     let mut shut = Shut {
         processes: Vec::new(alloc),
         notes: Vec::new(alloc),
@@ -158,7 +158,6 @@ fn refused_in<N: WordsNaming + InboxNaming + PlanNaming, R: Wait + Abort>(
     note_is_refused(rt, &mut one, &mut shut);
     drop(shut);
     drop(one);
-    Ok(())
 }
 
 // Its first start is refused twice, and then sent, with the body that was handed in.
