@@ -1,7 +1,6 @@
 // Which body goes with which process, and which comes back: bodies are numbers here, so that each can be told from others.
-use crate::alone::OWN;
-use crate::fixtures::{child, of_one_child, second, supervisor_of};
-use crate::script::{Known, Step, plays};
+use crate::fixtures::{OWN, child, of_one_child, second, supervisor_of};
+use crate::script::{Known, Sent, Step, plays};
 use otp_reason::Reason;
 use otp_spec::{Restart, Strategy, SupFlags, SupSpec};
 use std::alloc::Global;
@@ -12,24 +11,24 @@ use std::process::Abort;
 const OWN_BODIES: [Step; 9] = [
     Step::Opens(1),
     Step::Puts(1, 0, 6),
-    Step::Up(1, 1),
+    Step::Takes(Sent::Up(1), 1),
     Step::Puts(2, 1, 7),
-    Step::Up(2, 1),
-    Step::Crashes(1, 8, 1),
-    Step::Ends(2, Reason::Shutdown, 9, 1),
+    Step::Takes(Sent::Up(2), 1),
+    Step::Takes(Sent::Crash(1, 8), 1),
+    Step::Takes(Sent::Exit(2, Reason::Shutdown, 9), 1),
     Step::Puts(3, 0, 8),
-    Step::Up(3, 1),
+    Step::Takes(Sent::Up(3), 1),
 ];
 
 // The child of a start_child doesn't start: it is a child no more, and the body that came with that note is the call's.
 const FAILED_START: [Step; 10] = [
     Step::Opens(1),
     Step::Puts(1, 0, OWN),
-    Step::Up(1, 1),
-    Step::StartsSecond(40, 9),
+    Step::Takes(Sent::Up(1), 1),
+    Step::Takes(Sent::Second(40, 9), 1),
     Step::Puts(2, 1, 9),
     Step::GivesBack(40, None),
-    Step::Fails(2, 10),
+    Step::Takes(Sent::Failed(2, 10), 0),
     Step::Knows(40, Known::Refused),
     Step::GivesBack(40, Some(10)),
     Step::GivesBack(40, None),
@@ -39,19 +38,19 @@ const FAILED_START: [Step; 10] = [
 // its slot, has the body of its own call.
 const GONE_CHILD: [Step; 14] = [
     Step::Opens(1),
-    Step::StartsDynamic(40, 9),
+    Step::Takes(Sent::Dynamic(40, 9), 1),
     Step::Puts(1, 0, 9),
-    Step::Up(1, 0),
-    Step::StartsDynamic(41, 10),
+    Step::Takes(Sent::Up(1), 0),
+    Step::Takes(Sent::Dynamic(41, 10), 1),
     Step::Puts(2, 1, 10),
-    Step::Up(2, 0),
+    Step::Takes(Sent::Up(2), 0),
     Step::GivesBack(40, None),
-    Step::Ends(1, Reason::Normal, 11, 0),
-    Step::StartsDynamic(42, 12),
+    Step::Takes(Sent::Exit(1, Reason::Normal, 11), 0),
+    Step::Takes(Sent::Dynamic(42, 12), 1),
     Step::Puts(3, 0, 12),
     Step::GivesBack(40, Some(11)),
     Step::GivesBack(40, None),
-    Step::HasNoStray,
+    Step::HasStray(None),
 ];
 
 #[test]

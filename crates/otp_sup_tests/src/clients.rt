@@ -1,15 +1,15 @@
 // Calls that two clients send from threads of their own, while a third thread takes turns of the supervisor.
 ghost use Rattle.std.specs.Prelude.{◌≡◌};
 
-use crate::driven::{Driven, childless, make_childless};
-use crate::fixtures::{got, open_parts, same};
+use crate::driven::{Driven, make_driven};
+use crate::fixtures::{Post, childless, got, open_parts, same};
 use otp_core::{History, ReplyAnswer};
 use otp_inbox::{InboxNaming, Sender, UnnamedInbox};
 use otp_rules::{Call, CountsNow, Item, Kind, Reply};
 use otp_signals::{OpenWords, Signal, Words, WordsNaming};
 use otp_spec::SupSpec;
 use otp_sup::{
-    Client, Letter, MemoryPort, PlanNaming, SplitFault, SubmitCause, Sup, TurnAnswer, TurnFault,
+    Client, MemoryPort, PlanNaming, SplitFault, SubmitCause, Sup, TurnAnswer, TurnFault,
 };
 use std::alloc::Global;
 use std::marker::Brand;
@@ -20,8 +20,6 @@ use std::thread::Threads;
 
 // How many calls each client sends.
 const CALLS: u64 = 10_000;
-
-type Post = Letter<u64>;
 
 #[test]
 fn two_clients_and_a_hand(rt: HostRuntime) {
@@ -46,7 +44,8 @@ fn clients_in<
         sender,
         client,
         port,
-    } = make_childless::<N, _>(rt, alloc, words, inbox, supervisor, 2 * CALLS);
+        number: _,
+    } = make_driven::<N, _>(rt, alloc, words, inbox, supervisor, &[], 2 * CALLS);
     drop(viewer);
     let (first, second) = send_from_threads(rt, alloc, &words, &sup, client, sender, port);
     drop(words);
