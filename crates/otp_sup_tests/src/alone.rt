@@ -2,7 +2,7 @@
 ghost use Rattle.std.specs.Prelude.{◌≡◌, ◌≤◌, ◌<◌, ◌^◌};
 
 use crate::fixtures::{Post, hand_in_all, same, seat_table};
-use crate::script::{Known, Stand, Step, known_of};
+use crate::script::{Known, OwnSteps, Stand, Step, known_of};
 use crate::shut::Shut;
 use otp_inbox::{Inbox, InboxNaming, Sender, UnnamedInbox};
 use otp_reason::Note;
@@ -198,7 +198,9 @@ impl<N: WordsNaming + InboxNaming + PlanNaming> Stand for Alone<N> {
     fn has_empty_port(&self) -> bool {
         self.port.processes.is_empty() && self.port.notes.is_empty()
     }
+}
 
+impl<N: WordsNaming + InboxNaming + PlanNaming> OwnSteps for Alone<N> {
     fn acts<R: Wait + Abort>(&mut self, rt: &R, alloc: Global, step: Step) {
         match step {
             Step::IsRefused => self.is_refused(rt, alloc),

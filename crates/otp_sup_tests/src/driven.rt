@@ -5,7 +5,7 @@
 ghost use Rattle.std.specs.Prelude.{◌≡◌, ◌≤◌, ◌^◌};
 
 use crate::fixtures::{Post, got, hand_in_all, open_parts, same, seat_table, second};
-use crate::script::{Known, Sent, Stand, Step, known_of, play, takes};
+use crate::script::{Known, OwnSteps, Sent, Stand, Step, known_of, play, takes};
 use otp_core::ReplyAnswer;
 use otp_inbox::{InboxNaming, Sender, UnnamedInbox};
 use otp_reason::{Note, Reason};
@@ -235,7 +235,9 @@ impl<N: WordsNaming + InboxNaming + PlanNaming> Stand for Driven<N> {
     fn has_empty_port(&self) -> bool {
         self.port.processes.is_empty() && self.port.notes.is_empty()
     }
+}
 
+impl<N: WordsNaming + InboxNaming + PlanNaming> OwnSteps for Driven<N> {
     fn acts<R: Wait + Abort>(&mut self, rt: &R, alloc: Global, step: Step) {
         match step {
             Step::Fills => fills(rt, alloc, self),

@@ -143,8 +143,10 @@ pub(crate) trait Stand: Drop {
 
     // Whether the port has nothing that wasn't looked at.
     fn has_empty_port(&self) -> bool;
+}
 
-    // A step that not all have.
+// A stand with the steps that it alone has.
+pub(crate) trait OwnSteps: Stand {
     fn acts<R: Wait + Abort>(&mut self, rt: &R, alloc: Global, step: Step);
 }
 
@@ -197,7 +199,7 @@ pub(crate) fn takes<S: Stand, R: Wait + Abort>(
 }
 
 // What is done to it.
-fn does<S: Stand, R: Wait + Abort>(rt: &R, alloc: Global, one: &mut S, step: Step) {
+fn does<S: OwnSteps, R: Wait + Abort>(rt: &R, alloc: Global, one: &mut S, step: Step) {
     match step {
         Step::Turn(number, reading, told, wanted) => {
             let answer = one.turn(rt, number, reading.min(MAX_READING), told);
@@ -212,7 +214,7 @@ fn does<S: Stand, R: Wait + Abort>(rt: &R, alloc: Global, one: &mut S, step: Ste
 }
 
 // What is seen of it.
-fn sees<S: Stand, R: Wait + Abort>(rt: &R, alloc: Global, one: &mut S, step: Step) {
+fn sees<S: OwnSteps, R: Wait + Abort>(rt: &R, alloc: Global, one: &mut S, step: Step) {
     match step {
         Step::Knows(call, what) => same(rt, "of an answer", one.known(rt, call), what),
         Step::Puts(number, slot, body) => {
@@ -228,7 +230,7 @@ fn sees<S: Stand, R: Wait + Abort>(rt: &R, alloc: Global, one: &mut S, step: Ste
 }
 
 // All steps, one after the other.
-pub(crate) fn play<S: Stand, R: Wait + Abort>(rt: &R, alloc: Global, one: &mut S, steps: &[Step]) {
+pub(crate) fn play<S: OwnSteps, R: Wait + Abort>(rt: &R, alloc: Global, one: &mut S, steps: &[Step]) {
     for step in steps {
         does(rt, alloc, one, *step);
     }
