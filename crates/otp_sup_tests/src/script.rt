@@ -154,7 +154,11 @@ pub(crate) trait OwnSteps: Stand {
 fn start_call(rt: &impl Abort, alloc: Global, number: u64, call: Call, body: u64) -> Post
     requires { true ≡ is_start_call call }
 {
-    got(rt, "memory was refused", Letter::call(alloc, number, call, Some(body)))
+    got(
+        rt,
+        "memory was refused",
+        Letter::call(alloc, number, call, Some(body)),
+    )
 }
 
 fn count_call(rt: &impl Abort, alloc: Global, number: u64) -> Post {
@@ -230,7 +234,12 @@ fn sees<S: OwnSteps, R: Wait + Abort>(rt: &R, alloc: Global, one: &mut S, step: 
 }
 
 // All steps, one after the other.
-pub(crate) fn play<S: OwnSteps, R: Wait + Abort>(rt: &R, alloc: Global, one: &mut S, steps: &[Step]) {
+pub(crate) fn play<S: OwnSteps, R: Wait + Abort>(
+    rt: &R,
+    alloc: Global,
+    one: &mut S,
+    steps: &[Step],
+) {
     for step in steps {
         does(rt, alloc, one, *step);
     }
