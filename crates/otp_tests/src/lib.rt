@@ -20,8 +20,6 @@ mod fixtures;
 #[cfg(test)]
 mod history;
 #[cfg(test)]
-mod orders;
-#[cfg(test)]
 mod reason;
 #[cfg(test)]
 mod resumes;
