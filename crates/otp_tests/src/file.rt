@@ -3,6 +3,7 @@
 
 use crate::fixtures::{got, prints, same};
 use otp_file::{TreeFault, read_located};
+use otp_spec::SpecFault;
 use std::alloc::{AllocError, Global};
 use std::process::Abort;
 
@@ -30,13 +31,19 @@ fn tells(rt: &impl Abort, alloc: Global, file: &str, wanted: &str) {
 const OF_SUPERVISORS: [(&str, &str); 12] = [
     ("", READ),
     ("a =", "E10 table 0, the file is not TOML"),
-    ("period = 0\nchilds = []", "E11 table 0, supervisor: unknown key"),
+    (
+        "period = 0\nchilds = []",
+        "E11 table 0, supervisor: unknown key",
+    ),
     ("tree = {}", "E11 table 0, supervisor: unknown key"),
     (
         "intensity = -1\nstrategy = 1",
         "E13 table 0, supervisor, strategy: the value is of the wrong kind",
     ),
-    ("strategy = \"one\"", "E13 table 0, supervisor, strategy: the value is of the wrong kind"),
+    (
+        "strategy = \"one\"",
+        "E13 table 0, supervisor, strategy: the value is of the wrong kind",
+    ),
     (
         "intensity = 1001\nperiod = 0",
         "E1 table 0, supervisor, intensity: the number is out of its limits",
@@ -45,12 +52,18 @@ const OF_SUPERVISORS: [(&str, &str); 12] = [
         "period = 0\nauto_shutdown = true",
         "E1 table 0, supervisor, period: the number is out of its limits",
     ),
-    ("period = 1000001", "E1 table 0, supervisor, period: the number is out of its limits"),
+    (
+        "period = 1000001",
+        "E1 table 0, supervisor, period: the number is out of its limits",
+    ),
     (
         "auto_shutdown = \"some\"\nchild = 1",
         "E13 table 0, supervisor, auto_shutdown: the value is of the wrong kind",
     ),
-    ("child = 1", "E13 table 0, supervisor, child: the value is of the wrong kind"),
+    (
+        "child = 1",
+        "E13 table 0, supervisor, child: the value is of the wrong kind",
+    ),
     (
         "strategy = \"simple_one_for_one\"",
         "E6 table 0, simple_one_for_one needs exactly one specification",
@@ -59,7 +72,10 @@ const OF_SUPERVISORS: [(&str, &str); 12] = [
 
 /// Files whose supervisor has a second child, and the first fault of each.
 const OF_CHILDREN: [(&str, &str); 19] = [
-    ("child = [{ id = \"a\", start = \"a\" }, { id = \"b\", start = \"b\" }]", READ),
+    (
+        "child = [{ id = \"a\", start = \"a\" }, { id = \"b\", start = \"b\" }]",
+        READ,
+    ),
     (
         "child = [{ id = \"a\", start = \"a\" }, 1]",
         "E13 table 0, child 1: the value is of the wrong kind",
@@ -177,10 +193,31 @@ fn faults_of_files(rt: HostRuntime) {
     }
 }
 
-/// Want of memory says nothing of the file.
+/// Faults that no file above has, their codes and texts.
+const OTHERS: [(TreeFault, u8, &str); 4] = [
+    (TreeFault::OutOfMemory, 0, "out of memory"),
+    (
+        TreeFault::Unlawful(SpecFault::TooManyChildren),
+        7,
+        "a supervisor has at most 256 children",
+    ),
+    (
+        TreeFault::TooDeep,
+        14,
+        "supervisors are nested more than 16 deep",
+    ),
+    (
+        TreeFault::TooManyTables,
+        15,
+        "there are more than 64 supervisors",
+    ),
+];
+
+/// Want of memory says nothing of the file. The others are faults of large files, which the program reads.
 #[test]
-fn want_of_memory(rt: HostRuntime) {
-    let fault = TreeFault::OutOfMemory;
-    assert!(rt; fault.code() == 0);
-    prints(&rt, rt.alloc(), &fault, "out of memory");
+fn texts_of_other_faults(rt: HostRuntime) {
+    for (fault, code, text) in OTHERS {
+        assert!(rt; fault.code() == code);
+        prints(&rt, rt.alloc(), &fault, text);
+    }
 }
