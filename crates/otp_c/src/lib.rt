@@ -3,12 +3,12 @@
 //! The header says what a caller owes. Each export takes the tree out of its handle, does one thing, and puts it back.
 #![tactic(auto)]
 
-ghost use Rattle.std.specs.Prelude.{◌≡◌, None, Some, is_some, length, min, option_map, slice_get, true};
+ghost use Rattle.std.specs.Prelude.{◌≡◌, ◌<◌, None, Some, is_some, length, min, option_map, slice_get, true};
 ghost use Rattle.otp_driver.specs.Driven.{least_deadline};
 ghost use Rattle.otp_c.specs.AnswersShown.{Says, ShowsAnswer, ShowsLine, line_in, spec_in};
 ghost use Rattle.otp_c.specs.Handles.{IsKept, IsTold, OnTree, Reading};
 ghost use Rattle.otp_c.specs.Limits.{limit_of};
-ghost use Rattle.otp_c.specs.Nexts.{HandsOut};
+ghost use Rattle.otp_c.specs.Nexts.{HandsOut, WritesNext};
 ghost use Rattle.otp_c.specs.Opens.{OpensIn, Reads, SaysOpen};
 ghost use Rattle.otp_c.specs.Shown.{ShowsSpec};
 ghost use Rattle.otp_c.specs.Stands.{SaysChild, SaysRow, SaysSupervisor};
@@ -31,7 +31,7 @@ mod words;
 use crate::answer::{answer_out, line_out};
 use crate::fault::fault_of;
 use crate::look::{row_out, supervisor_out};
-use crate::order::order_out;
+use crate::order::write_order;
 use crate::spec::spec_out;
 use crate::status::{
     OTP_BAD_TREE, OTP_CLOSED, OTP_MEMORY, OTP_NO_SUPERVISOR, OTP_NONE, OTP_OK, OTP_OPEN, status_of,
@@ -112,12 +112,24 @@ pub extern "C" fn otp_close(alloc: Global, tree: &mut Handle)
     let _held = tree.take(alloc);
 }
 
+/// Writes the next order of the supervisor at this place.
+fn write_next(driver: &Driver, place: usize, out: &mut COrder)
+    requires { place < length driver.now.members }
+    ensures { WritesNext driver.now place out.new }
+{
+    let supervisor = &driver.supervisors()[place];
+    if let Some(order) = supervisor.order() {
+        write_order(place, supervisor, order, out);
+    }
+}
+
 fn next(session: &mut Session, out: &mut COrder) -> u32
     ensures { HandsOut result out.old out.new session.old session.new }
 {
-    match session.next() {
-        Ok(Some(order)) => {
-            *out = order_out(&order);
+    match session.ready() {
+        Ok(Some(place)) => {
+            write_next(&session.driver, place, out);
+            session.driver.took(place);
             OTP_OK
         }
         Ok(None) => OTP_NONE,

@@ -1,28 +1,31 @@
-//! An order as a struct of C.
+//! An order as a struct of C, written in its place.
 
-ghost use Rattle.std.specs.Prelude.{◌≡◌};
-ghost use Rattle.otp_c.specs.Orders.{ShowsDeadline, ShowsEnding, ShowsOrder, ShowsReasonText, ShowsTask};
+ghost use Rattle.std.specs.Prelude.{◌≡◌, min, option_map};
+ghost use Rattle.otp_driver.specs.Members.{state_in};
+ghost use Rattle.otp_driver.specs.Orders.{deadline_in, start_in, what_of};
+ghost use Rattle.otp_c.specs.Orders.{ShowsDeadline, ShowsEnding, ShowsReasonText, ShowsSome, ShowsWhat};
 ghost use Rattle.otp_c.specs.Words.{cause_number, reason_number};
 
-use crate::structs::COrder;
+use crate::structs::{CName, COrder};
 use crate::words::{
-    cause_number, name_out, no_name, no_text, reason_number, reason_text, some_name_out,
+    cause_number, name_out, no_name, no_text, reason_number, reason_text, write_name,
+    write_some_name,
 };
-use otp_driver::{Order, Task, What};
-use otp_reason::Reason;
-use otp_rules::Ending;
+use otp_driver::{Supervisor, ending_in};
+use otp_reason::{Name, Reason};
+use otp_rules::{Effect, Ending};
+use otp_table::{Row, RowState};
 
 /// An order of this kind with nothing beside its number.
-fn plain(supervisor: u32, kind: u32, number: u64) -> COrder
+fn plain(kind: u32, number: u64) -> COrder
     ensures kind { result.kind ≡ kind }
-    ensures supervisor { result.supervisor ≡ supervisor }
     ensures number { result.number ≡ number }
 {
     COrder {
         number,
         deadline: 0,
         kind,
-        supervisor,
+        supervisor: 0,
         has_deadline: 0,
         reason: 0,
         cause: 0,
@@ -32,45 +35,63 @@ fn plain(supervisor: u32, kind: u32, number: u64) -> COrder
     }
 }
 
-/// An order of this kind for a process, with a deadline where `has_deadline` is 1.
-fn of_task(supervisor: u32, kind: u32, task: &Task, has_deadline: u32, deadline: u64) -> COrder
-    ensures kind { result.kind ≡ kind }
-    ensures supervisor { result.supervisor ≡ supervisor }
-    ensures task { ShowsTask task.now result }
-    ensures has_deadline { result.has_deadline ≡ has_deadline }
-    ensures deadline { result.deadline ≡ deadline }
+/// Writes the start word of a child, if it is there.
+fn write_start(row: Option<&Row>, out: &mut CName)
+    ensures { ShowsSome (start_in (option_map (λ r. r.now) row.entry)) out.new }
 {
-    COrder {
-        number: task.number,
-        deadline,
-        kind,
-        supervisor,
-        has_deadline,
-        reason: 0,
-        cause: 0,
-        id: some_name_out(&task.id),
-        start: some_name_out(&task.start),
-        text: no_text(),
+    match row {
+        None => *out = no_name(),
+        Some(row) => write_name(&row.spec.start, out),
     }
 }
 
-/// The order to ask a process to shut down.
-fn of_ask(supervisor: u32, task: &Task, deadline: Option<u64>) -> COrder
-    ensures kind { result.kind ≡ 2 }
-    ensures supervisor { result.supervisor ≡ supervisor }
-    ensures task { ShowsTask task.now result }
-    ensures deadline { ShowsDeadline deadline result }
+/// Writes an order of this kind for a process without a deadline.
+fn write_task(kind: u32, number: u64, id: &Option<Name>, row: Option<&Row>, out: &mut COrder)
+    ensures kind { out.new.kind ≡ kind }
+    ensures number { out.new.number ≡ number }
+    ensures id { ShowsSome id.now out.new.id }
+    ensures start { ShowsSome (start_in (option_map (λ r. r.now) row.entry)) out.new.start }
+    ensures has_deadline { out.new.has_deadline ≡ 0 }
 {
-    match deadline {
-        None => of_task(supervisor, 2, task, 0, 0),
-        Some(deadline) => of_task(supervisor, 2, task, 1, deadline),
+    out.number = number;
+    out.deadline = 0;
+    out.kind = kind;
+    out.has_deadline = 0;
+    out.reason = 0;
+    out.cause = 0;
+    write_some_name(id, &mut out.id);
+    write_start(row, &mut out.start);
+    out.text = no_text();
+}
+
+/// Writes until when the process may take to shut down, if there is such a time.
+fn write_deadline(deadline: Option<u64>, out: &mut COrder)
+    requires { out.old.has_deadline ≡ 0 }
+    ensures deadline { ShowsDeadline deadline out.new }
+    ensures rest { out.new ≡ record out.old { deadline = out.new.deadline; has_deadline = out.new.has_deadline } }
+{
+    if let Some(deadline) = deadline {
+        out.deadline = deadline;
+        out.has_deadline = 1;
+    }
+}
+
+/// Until when the process of this child may take to shut down.
+fn deadline_in(row: Option<&Row>) -> Option<u64>
+    ensures { result ≡ deadline_in (option_map (λ r. r.now) row.entry) }
+{
+    let Some(row) = row else {
+        return None;
+    };
+    match row.state {
+        RowState::Asked(_, deadline) => deadline,
+        _ => None,
     }
 }
 
 /// The end of the root.
-fn of_end(supervisor: u32, reason: &Reason, ending: &Ending) -> COrder
+fn of_end(reason: &Reason, ending: &Ending) -> COrder
     ensures kind { result.kind ≡ 6 }
-    ensures supervisor { result.supervisor ≡ supervisor }
     ensures reason { result.reason ≡ reason_number reason.now }
     ensures text { ShowsReasonText reason.now result.text }
     ensures cause { result.cause ≡ cause_number ending.now }
@@ -80,7 +101,7 @@ fn of_end(supervisor: u32, reason: &Reason, ending: &Ending) -> COrder
         reason: reason_number(reason),
         cause: cause_number(ending),
         text: reason_text(reason),
-        ..plain(supervisor, 6, 0)
+        ..plain(6, 0)
     };
     match ending {
         Ending::Significant(number) => COrder {
@@ -95,17 +116,30 @@ fn of_end(supervisor: u32, reason: &Reason, ending: &Ending) -> COrder
     }
 }
 
-/// The order as plain numbers and bytes.
-pub fn order_out(order: &Order) -> COrder
-    ensures { ShowsOrder order.now result }
+/// Writes what an order of this supervisor says, each field once.
+#[tactic(auto, unfolding(otp_driver::specs::Orders::what_of))]
+fn write_what(supervisor: &Supervisor, order: &Effect, out: &mut COrder)
+    ensures { ShowsWhat (what_of (state_in supervisor.now).rows order.now) out.new }
 {
-    let supervisor = order.supervisor.min(1_000_000) as u32;
-    match &order.what {
-        What::Start(task) => of_task(supervisor, 1, task, 0, 0),
-        What::Ask(task, deadline) => of_ask(supervisor, task, *deadline),
-        What::Kill(task) => of_task(supervisor, 3, task, 0, 0),
-        What::Reply(call) => plain(supervisor, 4, *call),
-        What::Ready => plain(supervisor, 5, 0),
-        What::End(reason, ending) => of_end(supervisor, reason, ending),
+    match order {
+        Effect::Start(id, number) => write_task(1, *number, id, supervisor.child(*number), out),
+        Effect::Ask(id, number) => {
+            let row = supervisor.child(*number);
+            write_task(2, *number, id, row, out);
+            write_deadline(deadline_in(row), out);
+        }
+        Effect::Kill(id, number) => write_task(3, *number, id, supervisor.child(*number), out),
+        Effect::Reply(call) => *out = plain(4, *call),
+        Effect::Ready => *out = plain(5, 0),
+        Effect::End(end) => *out = of_end(&end.reason, &ending_in(&end.cause)),
     }
+}
+
+/// Writes this order of the supervisor of this number as plain numbers and bytes.
+pub fn write_order(place: usize, supervisor: &Supervisor, order: &Effect, out: &mut COrder)
+    ensures supervisor { out.new.supervisor ≡ min place 1000000 }
+    ensures what { ShowsWhat (what_of (state_in supervisor.now).rows order.now) out.new }
+{
+    write_what(supervisor, order, out);
+    out.supervisor = place.min(1_000_000) as u32;
 }

@@ -47,6 +47,30 @@ pub fn name_out(name: &Name) -> CName
     }
 }
 
+/// Writes the bytes of a name, of which there are 32 at the most, and zeros behind them.
+pub fn write_name(name: &Name, out: &mut CName)
+    ensures { ShowsName name.now out.new }
+{
+    let shown = name.as_bytes();
+    if shown.len() > 32 {
+        *out = no_name();
+        return;
+    }
+    out.len = shown.len() as u8;
+    out.bytes = [0; 32];
+    out.bytes[..shown.len()].copy_from_slice(shown);
+}
+
+/// Writes the bytes of a name, if there is one.
+pub fn write_some_name(name: &Option<Name>, out: &mut CName)
+    ensures { ShowsSome name.now out.new }
+{
+    match name {
+        None => *out = no_name(),
+        Some(name) => write_name(name, out),
+    }
+}
+
 /// The bytes of a name, if there is one.
 pub fn some_name_out(name: &Option<Name>) -> CName
     ensures { ShowsSome name.now result }

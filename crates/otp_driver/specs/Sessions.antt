@@ -24,16 +24,27 @@ pub record IsToldAt (place : ℕ) (order : Order) (t : Driven) : Type 0 where
   pub supervisor : order.supervisor ≡ place
   pub what_is : order.what ≡ what_of (state_in member).rows effect
 
--- an order that tells of an answer is the next one of its supervisor
-abbrev pub TellsReply : Order → Driven → Type 0
-TellsReply order t =
-    (m : Member) → IsAt t.members order.supervisor m → (call : ℕ) → order.what ≡ what.Reply call
-    → slice_get m.effects m.taken ≡ Some (effect.Reply call)
-
 -- where an order tells that a call was answered, the answer is kept from then on; else the last one stays
 abbrev pub KeepsOf : What → ℕ → Driven → Option Answered → Option Answered → Type 0
 KeepsOf (what.Reply call) place t old new = (m : Member) × IsAt t.members place m × IsAnswerTo call (state_in m).replies new
 KeepsOf _ place t old new = new ≡ old
+
+-- where the next order of the supervisor at this place, which is this one, tells that a call was answered, the answer is kept from
+-- then on; else the last one stays
+abbrev pub KeepsAt : Effect → ℕ → Driven → Option Answered → Option Answered → Type 0
+KeepsAt (effect.Reply call) place t old new = (m : Member) × IsAt t.members place m × IsAnswerTo call (state_in m).replies new
+KeepsAt _ place t old new = new ≡ old
+
+-- the next order of the supervisor at this place tells that this call was answered
+abbrev pub AnswersAt : Driven → ℕ → ℕ → Type 0
+AnswersAt t place call = (m : Member) → IsAt t.members place m → slice_get m.effects m.taken ≡ Some (effect.Reply call)
+
+-- the tree goes on by itself until an order for the outside is next at this place; it isn't taken by that
+pub record Readied (place : ℕ) (old new : Session) : Type 0 where
+  pub goes_on : GoesOn old.driver new.driver
+  pub effect : Effect
+  pub next : IsNext new.driver place effect Outside
+  pub keeps : KeepsAt effect place new.driver old.answer new.answer
 
 -- the tree goes on by itself until an order for the outside is next; that is told, and taken by that
 pub record Told (order : Order) (old new : Session) : Type 0 where
@@ -62,3 +73,9 @@ abbrev pub NextTold : Result (Option Order) DriveFault → Session → Session �
 NextTold (Ok (Some order)) old new = Told order old new
 NextTold (Ok None) old new = GoesOn old.driver new.driver × IsIdle new.driver × (new.answer ≡ old.answer)
 NextTold (Err why) old new = GoesOn old.driver new.driver × (new.answer ≡ old.answer) × RefusesNext why old.driver new.driver
+
+-- where an order is next, if there is one, since nothing is left to do; a refusal tells none
+abbrev pub IsReadied : Result (Option ℕ) DriveFault → Session → Session → Type 0
+IsReadied (Ok (Some place)) old new = Readied place old new
+IsReadied (Ok None) old new = GoesOn old.driver new.driver × IsIdle new.driver × (new.answer ≡ old.answer)
+IsReadied (Err why) old new = GoesOn old.driver new.driver × (new.answer ≡ old.answer) × RefusesNext why old.driver new.driver

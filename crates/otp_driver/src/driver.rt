@@ -1,6 +1,6 @@
 //! The tree.
 
-ghost use Rattle.std.specs.Prelude.{Err, true, false, ◌≡◌, ◌<◌, ◌≤◌, ◌+◌, OnOk, OnErr, None, IfErr, IfOk, IfSome, ℕ, IfNone, Some, length, position, slice_get, min, max};
+ghost use Rattle.std.specs.Prelude.{Err, IsTrue, true, false, ◌≡◌, ◌<◌, ◌≤◌, ◌+◌, OnOk, OnErr, None, IfErr, IfOk, IfSome, ℕ, IfNone, Some, length, position, slice_get, min, max};
 ghost use Rattle.otp_rules.specs.declared.event.Item.TheVariants as item;
 ghost use Rattle.otp_rules.specs.declared.event.Kind.TheVariants as kind;
 ghost use Rattle.otp_spec.specs.declared.limits.TheConstants.{MAX_READING};
@@ -15,7 +15,7 @@ ghost use Rattle.otp_driver.specs.Turns.{Turns};
 
 use crate::fault::DriveFault;
 use crate::link::{Link, find_process, find_row};
-use crate::route::{Route, nested_at, route_of};
+use crate::route::{Route, is_outside, nested_at, route_of};
 use crate::supervisor::Supervisor;
 use otp_reason::Note;
 use otp_rules::{Call, Ending, Item, Kind};
@@ -260,6 +260,18 @@ impl Driver {
         }
     }
 
+    /// Whether the next order of the supervisor at this place is for the outside, as that is seen without its route.
+    fn goes_outside(&self, place: usize) -> bool
+        requires { place < length self.now.members }
+        ensures { IsTrue result → IsOutside self.now place }
+    {
+        let supervisor = &self.supervisors[place];
+        match supervisor.order() {
+            None => false,
+            Some(order) => is_outside(self.links.as_slice(), place, supervisor, order),
+        }
+    }
+
     /// What the supervisor at this place does next by itself.
     #[tactic(auto, unfolding(crate::specs::Driven::comes_at))]
     fn comes_at(&self, place: usize) -> Option<Kind>
@@ -310,7 +322,13 @@ impl Driver {
         ensures why { IfErr result (λ why. RefusesStep why self.old) }
     {
         match find_order(self.supervisors.as_slice()) {
-            Some(place) => self.go_on_at(place),
+            Some(place) => {
+                if self.goes_outside(place) {
+                    Ok(Turn::Outside(place))
+                } else {
+                    self.go_on_at(place)
+                }
+            }
             None => self.go_on_idle(),
         }
     }

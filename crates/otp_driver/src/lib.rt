@@ -19,6 +19,6 @@ pub use fault::DriveFault;
 pub use limits::KEPT_EVENTS;
 pub use link::Link;
 pub use order::{Order, Task, What};
-pub use route::Route;
+pub use route::{Route, ending_in};
 pub use session::Session;
 pub use supervisor::Supervisor;

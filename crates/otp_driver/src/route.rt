@@ -1,6 +1,7 @@
 //! What an order of a supervisor is in the tree: whom it reaches, and as what.
 
-ghost use Rattle.std.specs.Prelude.{◌≡◌, option_map, slice_get};
+ghost use Rattle.std.specs.Prelude.{◌≡◌, IsTrue, option_map, slice_get};
+ghost use Rattle.otp_driver.specs.declared.route.Route.TheVariants.{Outside};
 ghost use Rattle.otp_driver.specs.Routes.{end_route, ending_in, nested_of, ready_route, route_of, row_at, start_route, stop_route};
 ghost use Rattle.otp_driver.specs.Members.{state_in};
 
@@ -90,7 +91,7 @@ fn ready_route(link: Option<Link>) -> Route
 }
 
 /// Why a supervisor ended, without what shows it.
-pub(crate) fn ending_in(cause: &Cause) -> Ending
+pub fn ending_in(cause: &Cause) -> Ending
     ensures { result ≡ ending_in cause.now }
 {
     match cause {
@@ -115,6 +116,27 @@ fn end_route(link: Option<Link>, reason: Reason, ending: Ending) -> Route
             note_of_end(link.is_up, number, reason),
             Some(ending),
         ),
+    }
+}
+
+/// Whether this order is for the outside, as that is seen without its route: by what it is, and whom it names. Where the
+/// answer is no, the route says.
+#[tactic(auto, unfolding(crate::specs::Routes::route_of))]
+pub(crate) fn is_outside(
+    links: &[Link],
+    place: usize,
+    supervisor: &Supervisor,
+    order: &Effect,
+) -> bool
+    ensures { IsTrue result → route_of links.now place (state_in supervisor.now).rows order.now ≡ Outside }
+{
+    match order {
+        Effect::Start(_, number) => nested_at(links, place, supervisor, *number).is_none(),
+        Effect::Ask(_, number) | Effect::Kill(_, number) => {
+            find_process(links, place, *number).is_none()
+        }
+        Effect::Reply(_) => true,
+        Effect::Ready | Effect::End(_) => false,
     }
 }
 

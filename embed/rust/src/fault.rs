@@ -27,6 +27,7 @@ pub enum Fault {
 
 impl Fault {
     /// What a status says; nothing is wrong with 0.
+    #[inline]
     pub(crate) fn check(status: u32) -> Result<(), Fault> {
         Err(match status {
             sys::OK => return Ok(()),

@@ -71,9 +71,16 @@ impl Name {
         RawName { len: self.length, bytes: self.bytes }
     }
 
+    /// The name of a length that isn't 0.
+    #[inline]
+    pub(crate) fn of_raw(raw: &RawName) -> Name {
+        Name { length: raw.len, bytes: raw.bytes }
+    }
+
     /// None where the length is 0.
+    #[inline]
     pub(crate) fn from_raw(raw: &RawName) -> Option<Name> {
-        (raw.len > 0).then_some(Name { length: raw.len, bytes: raw.bytes })
+        (raw.len > 0).then(|| Name::of_raw(raw))
     }
 }
 
@@ -116,6 +123,7 @@ impl Text {
         text_of(&self.bytes, self.length)
     }
 
+    #[inline]
     fn as_bytes(&self) -> &[u8] {
         &self.bytes[..usize::from(self.length).min(self.bytes.len())]
     }
@@ -185,6 +193,7 @@ impl Reason {
     }
 
     /// The number that stands for it, and its text.
+    #[inline]
     pub(crate) fn as_raw(&self) -> (u32, &[u8]) {
         match self {
             Reason::Normal => (1, b""),

@@ -19,6 +19,7 @@ pub enum Note {
 
 impl Note {
     /// The number of the process.
+    #[inline]
     pub fn number(&self) -> u64 {
         match self {
             Note::Up(number) | Note::Ignored(number) | Note::Failed(number, _) | Note::Exit(number, _) => *number,
@@ -32,6 +33,7 @@ impl Note {
     }
 
     /// The kind, and the reason if it has one.
+    #[inline]
     pub(crate) fn as_raw(&self) -> (u32, Option<&Reason>) {
         match self {
             Note::Up(_) => (1, None),

@@ -215,11 +215,13 @@ impl Handle {
         unsafe { otp_open(&raw mut self.0, text.as_ptr(), text.len(), fault) }
     }
 
+    #[inline]
     pub fn tick(&mut self, reading: u64) -> u32 {
         // SAFETY: see `Handle`.
         unsafe { otp_tick(&raw mut self.0, reading) }
     }
 
+    #[inline]
     pub fn note(&mut self, supervisor: u32, kind: u32, number: u64, reason: u32, text: &[u8]) -> u32 {
         // SAFETY: see `Handle`.
         unsafe { otp_note(&raw mut self.0, supervisor, kind, number, reason, text.as_ptr(), text.len()) }
@@ -240,6 +242,7 @@ impl Handle {
         unsafe { otp_call(&raw mut self.0, supervisor, kind, id, number, call) }
     }
 
+    #[inline]
     pub fn next(&mut self, order: &mut RawOrder) -> u32 {
         // SAFETY: see `Handle`.
         unsafe { otp_next(&raw mut self.0, order) }

@@ -21,6 +21,8 @@ const STRANGE: Fault = Fault::Unknown(u32::MAX);
 #[derive(Debug)]
 pub struct Tree {
     handle: Handle,
+    /// Where the library writes each order, so that none is cleared first.
+    order: RawOrder,
 }
 
 impl Tree {
@@ -32,7 +34,7 @@ impl Tree {
         let mut handle = Handle::empty();
         let mut fault = RawFault::zeroed();
         match handle.open(text.as_ref(), &mut fault) {
-            sys::OK => Ok(Tree { handle }),
+            sys::OK => Ok(Tree { handle, order: RawOrder::zeroed() }),
             sys::MEMORY => Err(OpenError::Memory),
             sys::BAD_TREE => Err(OpenError::Refused(TreeFault::from_raw(&fault))),
             status => Err(OpenError::Unknown(status)),
@@ -43,6 +45,7 @@ impl Tree {
     ///
     /// # Errors
     /// [`Fault::BadReading`] for one above 2^62.
+    #[inline]
     pub fn tick(&mut self, reading: u64) -> Result<(), Fault> {
         Fault::check(self.handle.tick(reading))
     }
@@ -51,6 +54,7 @@ impl Tree {
     ///
     /// # Errors
     /// [`Fault::Memory`], [`Fault::Full`], [`Fault::Spent`], [`Fault::NoSupervisor`], [`Fault::Nested`].
+    #[inline]
     pub fn note(&mut self, supervisor: u32, note: Note) -> Result<(), Fault> {
         let (kind, reason) = note.as_raw();
         let (reason, text): (u32, &[u8]) = reason.map_or((0, b""), Reason::as_raw);
@@ -151,6 +155,7 @@ impl Tree {
     ///
     /// What follows by itself from what was told (a deadline that has come, a retry, what waited, the start and the end of
     /// a nested supervisor) happens here. After an `Err` the same order comes again with the next call.
+    #[inline]
     pub fn orders(&mut self) -> Orders<'_> {
         Orders { tree: self }
     }
@@ -160,24 +165,26 @@ impl Tree {
     /// # Errors
     /// [`Fault::Memory`], [`Fault::Full`], [`Fault::Spent`].
     pub fn next_order(&mut self) -> Result<Option<Order>, Fault> {
-        let mut raw = RawOrder::zeroed();
-        match self.handle.next(&mut raw) {
+        match self.handle.next(&mut self.order) {
             sys::NONE => return Ok(None),
             status => Fault::check(status)?,
         }
-        let order = match raw.kind {
-            1 => process_of(&raw).map(Order::Start),
-            2 => process_of(&raw)
-                .map(|process| Order::Ask { process, deadline: (raw.has_deadline != 0).then_some(raw.deadline) }),
-            3 => process_of(&raw).map(Order::Kill),
+        let raw = &self.order;
+        Ok(Some(match raw.kind {
+            1 => Order::Start(process_of(raw)?),
+            2 => Order::Ask {
+                process: process_of(raw)?,
+                deadline: (raw.has_deadline != 0).then_some(raw.deadline),
+            },
+            3 => Order::Kill(process_of(raw)?),
             4 => {
-                self.answer().map(|answer| Order::Reply(Reply { supervisor: raw.supervisor, call: raw.number, answer }))
+                let (supervisor, call) = (raw.supervisor, raw.number);
+                Order::Reply(Reply { supervisor, call, answer: self.answer().ok_or(STRANGE)? })
             }
-            5 => Some(Order::Ready),
-            6 => end_of(&raw).map(Order::End),
-            _ => None,
-        };
-        order.map(Some).ok_or(STRANGE)
+            5 => Order::Ready,
+            6 => Order::End(end_of(raw).ok_or(STRANGE)?),
+            _ => return Err(STRANGE),
+        }))
     }
 
     /// The answer of the reply that was told last.
@@ -268,11 +275,14 @@ impl Tree {
     }
 }
 
-fn process_of(raw: &RawOrder) -> Option<Process> {
-    Some(Process {
+fn process_of(raw: &RawOrder) -> Result<Process, Fault> {
+    if raw.start.len == 0 {
+        return Err(STRANGE);
+    }
+    Ok(Process {
         supervisor: raw.supervisor,
         id: Name::from_raw(&raw.id),
-        start: Name::from_raw(&raw.start)?,
+        start: Name::of_raw(&raw.start),
         number: raw.number,
     })
 }
@@ -302,6 +312,7 @@ pub struct Orders<'a> {
 impl Iterator for Orders<'_> {
     type Item = Result<Order, Fault>;
 
+    #[inline]
     fn next(&mut self) -> Option<Self::Item> {
         self.tree.next_order().transpose()
     }
