@@ -1,11 +1,10 @@
 //! Calls, their answers, and children that are put in the place of others.
 
-use crate::fixtures::{Step, next, open, play, plays, same};
+use crate::fixtures::{Step, got, next, open, play, plays, same};
 use otp_driver::Session;
 use otp_rules::{CountsNow, Reply};
 use std::alloc::Global;
 use std::process::Abort;
-use std::test::Fail;
 
 const NESTED: &[u8] = b"[[child]]\nid = \"pool\"\nstart = \"pool\"\n[child.tree]\n\
 [[child.tree.child]]\nid = \"a\"\nstart = \"a\"\n";
@@ -32,14 +31,14 @@ const UP: [Step; 2] = [(0, "", "1 start a a #2;"), (1, "up 2", "0 ready;")];
 const TWO_CALLS: [Step; 2] = [(1, "count", "1 reply 1;"), (0, "count", "0 reply 2;")];
 
 /// Answers come under the numbers of their calls, which rise over the whole tree, and stay until the next one.
-fn answers(rt: &impl Abort, alloc: Global, session: &mut Session) -> Result<(), Fail> {
-    play(rt, alloc, session, &UP)?;
+fn answers(rt: &impl Abort, alloc: Global, session: &mut Session) {
+    play(rt, alloc, session, &UP);
     same(rt, "no answer yet", counts_in(session), None);
-    play(rt, alloc, session, &TWO_CALLS)?;
+    play(rt, alloc, session, &TWO_CALLS);
     has_counted(rt, session);
-    same(rt, "no order", next(session)?, None);
+    let more = got(rt, "no order can be had", next(session));
+    same(rt, "no order", more, None);
     has_counted(rt, session);
-    Ok(())
 }
 
 /// The answer that is kept is to the second call: the counts of the root.
@@ -55,11 +54,10 @@ fn has_counted(rt: &impl Abort, session: &Session) {
 }
 
 #[test]
-fn answers_are_kept_until_the_next(rt: HostRuntime) -> Result<(), Fail> {
-    let mut session = open(rt.alloc(), NESTED)?;
-    let done = answers(&rt, rt.alloc(), &mut session);
+fn answers_are_kept_until_the_next(rt: HostRuntime) {
+    let mut session = open(&rt, rt.alloc(), NESTED);
+    answers(&rt, rt.alloc(), &mut session);
     drop(session);
-    done
 }
 
 /// The pool is shut down by a call, and started by another: it gets a new number, and so does its child.
@@ -73,13 +71,12 @@ const RESTARTED: [Step; 6] = [
 ];
 
 #[test]
-fn a_nested_supervisor_is_terminated_and_restarted(rt: HostRuntime) -> Result<(), Fail> {
-    let mut session = open(rt.alloc(), NESTED)?;
-    let done = play(&rt, rt.alloc(), &mut session, &RESTARTED);
+fn a_nested_supervisor_is_terminated_and_restarted(rt: HostRuntime) {
+    let mut session = open(&rt, rt.alloc(), NESTED);
+    play(&rt, rt.alloc(), &mut session, &RESTARTED);
     let answer = process_in(&session);
     drop(session);
     same(&rt, "the pool's new number", answer, Some((2, 3)));
-    done
 }
 
 /// A worker of the same id in the pool's place is a process of the outside.
@@ -98,6 +95,6 @@ const REPLACED: [Step; 7] = [
 ];
 
 #[test]
-fn a_worker_in_a_supervisors_place_is_outside(rt: HostRuntime) -> Result<(), Fail> {
-    plays(&rt, rt.alloc(), NESTED, &REPLACED)
+fn a_worker_in_a_supervisors_place_is_outside(rt: HostRuntime) {
+    plays(&rt, rt.alloc(), NESTED, &REPLACED);
 }

@@ -1,7 +1,7 @@
 //! What the tests need: a session, what it is told as lines of `sim` have it, and its orders as text.
 
 use otp_driver::{DriveFault, Order, Session, Task, What};
-use otp_file::{TreeFault, read_tree};
+use otp_file::{TreeFault, TreeSpec, read_tree};
 use otp_reason::{Name, Reason};
 use otp_rules::Ending;
 use otp_text::{
@@ -10,11 +10,13 @@ use otp_text::{
 use std::alloc::{AllocError, Global};
 use std::fmt::Debug;
 use std::process::Abort;
-use std::test::Fail;
 
 /// A name that the test knows to be short enough.
-pub(crate) fn named(bytes: &[u8]) -> Result<Name, Fail> {
-    Ok(Name::new(bytes).ok_or("a name of at most 32 bytes")?)
+pub(crate) fn named(rt: &impl Abort, bytes: &[u8]) -> Name {
+    match Name::new(bytes) {
+        Some(name) => name,
+        None => panic!(rt; "a name of at most 32 bytes"),
+    }
 }
 
 /// Asserts that a value is the one that is wanted; `what` says in the message which assertion failed.
@@ -22,23 +24,40 @@ pub(crate) fn same<T: PartialEq + Debug + Copy>(rt: &impl Abort, what: &str, val
     assert_eq!(rt; value, wanted, "{what}");
 }
 
-/// The tree of a file, opened. Where memory is refused once, the next try finds it.
-pub(crate) fn open(alloc: Global, text: &[u8]) -> Result<Session, Fail> {
-    let tree = match read_tree(alloc, text) {
-        Err(TreeFault::OutOfMemory) => read_tree(alloc, text)?,
-        read => read?,
+/// What a try gave. Where it failed the test stops, with these words: so no test has an exit beside what it holds.
+pub(crate) fn got<T, E>(rt: &impl Abort, what: &str, tried: Result<T, E>) -> T {
+    match tried {
+        Ok(value) => value,
+        Err(_) => panic!(rt; "{what}"),
+    }
+}
+
+/// The tree of a file. Where memory is refused once, the next try finds it.
+fn tree_of(rt: &impl Abort, alloc: Global, text: &[u8]) -> TreeSpec {
+    let read = match read_tree(alloc, text) {
+        Err(TreeFault::OutOfMemory) => read_tree(alloc, text),
+        read => read,
     };
+    got(rt, "a tree", read)
+}
+
+/// The tree of a file, opened. Where memory is refused once, the next try finds it.
+pub(crate) fn open(rt: &impl Abort, alloc: Global, text: &[u8]) -> Session {
+    let tree = tree_of(rt, alloc, text);
     let opened = match Session::open(alloc, &tree) {
         Err(DriveFault::OutOfMemory) => Session::open(alloc, &tree),
         opened => opened,
     };
     drop(tree);
-    Ok(opened?)
+    got(rt, "a session", opened)
 }
 
 /// The line of a text.
-pub(crate) fn line_of(text: &str) -> Result<Line, Fail> {
-    Ok(read_line(text.as_bytes()).ok_or("a line")?)
+pub(crate) fn line_of(rt: &impl Abort, text: &str) -> Line {
+    match read_line(text.as_bytes()) {
+        Some(line) => line,
+        None => panic!(rt; "a line"),
+    }
 }
 
 fn tell_once(session: &mut Session, place: usize, line: Line) -> Result<(), DriveFault> {
@@ -108,10 +127,9 @@ fn write_end(reason: &Reason, ending: &Ending, out: &mut Vec<u8>) -> Result<(), 
     }
 }
 
-/// Appends an order, behind the number of its supervisor.
-fn write_order(order: &Order, out: &mut Vec<u8>) -> Result<(), AllocError> {
-    write_number(order.supervisor as u64, out)?;
-    match &order.what {
+/// Appends what is ordered.
+fn write_what(what: &What, out: &mut Vec<u8>) -> Result<(), AllocError> {
+    match what {
         What::Start(task) => write_task(b" start ", task, out),
         What::Ask(task, deadline) => {
             write_task(b" ask ", task, out)?;
@@ -127,56 +145,49 @@ fn write_order(order: &Order, out: &mut Vec<u8>) -> Result<(), AllocError> {
     }
 }
 
+/// Appends an order, behind the number of its supervisor.
+fn write_order(order: &Order, out: &mut Vec<u8>) -> Result<(), AllocError> {
+    write_number(order.supervisor as u64, out)?;
+    write_what(&order.what, out)?;
+    out.extend_from_slice(b";")
+}
+
 /// Takes all orders, of which there are a few at most, and appends them.
-fn write_orders(session: &mut Session, out: &mut Vec<u8>) -> Result<(), Fail> {
+fn write_orders(rt: &impl Abort, session: &mut Session, out: &mut Vec<u8>) {
     for _ in 0..10 {
-        let Some(order) = next(session)? else {
-            return Ok(());
+        let Some(order) = got(rt, "no order can be had", next(session)) else {
+            return;
         };
-        write_order(&order, out)?;
-        out.extend_from_slice(b";")?;
+        got(rt, "memory was refused", write_order(&order, out));
     }
-    Ok(())
 }
 
 /// The number of a supervisor, what it is told, and all orders that follow.
 pub(crate) type Step = (usize, &'static str, &'static str);
 
 /// A page that has room for all that is written on it.
-fn page(alloc: Global) -> Result<Vec<u8>, Fail> {
+fn page(rt: &impl Abort, alloc: Global) -> Vec<u8> {
     match Vec::with_capacity(alloc, 256) {
-        Ok(page) => Ok(page),
-        Err(_) => Ok(Vec::with_capacity(alloc, 256)?),
+        Ok(page) => page,
+        Err(_) => got(rt, "memory was refused", Vec::with_capacity(alloc, 256)),
     }
 }
 
 /// Plays lines, each with its orders.
-pub(crate) fn play(
-    rt: &impl Abort,
-    alloc: Global,
-    session: &mut Session,
-    steps: &[Step],
-) -> Result<(), Fail> {
-    let mut told = page(alloc)?;
+pub(crate) fn play(rt: &impl Abort, alloc: Global, session: &mut Session, steps: &[Step]) {
+    let mut told = page(rt, alloc);
     for step in steps {
         let (place, text, orders) = *step;
         told.clear();
-        tell(session, place, line_of(text)?)?;
-        write_orders(session, &mut told)?;
+        got(rt, text, tell(session, place, line_of(rt, text)));
+        write_orders(rt, session, &mut told);
         same(rt, text, told.as_slice(), orders.as_bytes());
     }
-    Ok(())
 }
 
 /// The same with the tree of a file, which is opened for that.
-pub(crate) fn plays(
-    rt: &impl Abort,
-    alloc: Global,
-    file: &[u8],
-    steps: &[Step],
-) -> Result<(), Fail> {
-    let mut session = open(alloc, file)?;
-    let done = play(rt, alloc, &mut session, steps);
+pub(crate) fn plays(rt: &impl Abort, alloc: Global, file: &[u8], steps: &[Step]) {
+    let mut session = open(rt, alloc, file);
+    play(rt, alloc, &mut session, steps);
     drop(session);
-    done
 }

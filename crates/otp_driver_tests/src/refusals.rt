@@ -1,12 +1,11 @@
 //! What is refused, and what stands then.
 
-use crate::fixtures::{Step, line_of, open, play, same, tell};
+use crate::fixtures::{Step, got, line_of, open, play, same, tell};
 use otp_driver::{DriveFault, Session};
 use otp_spec::MAX_READING;
 use otp_text::Line;
 use std::alloc::Global;
 use std::process::Abort;
-use std::test::Fail;
 
 const NESTED: &[u8] = b"[[child]]\nid = \"pool\"\nstart = \"pool\"\n[child.tree]\n\
 [[child.tree.child]]\nid = \"a\"\nstart = \"a\"\n";
@@ -40,25 +39,23 @@ const LATE: [Step; 3] = [
 ];
 
 /// Each refusal leaves all as it was: the same orders come as without it.
-fn each_refusal(rt: &impl Abort, alloc: Global, session: &mut Session) -> Result<(), Fail> {
-    play(rt, alloc, session, &[(0, "", "1 start a a #2;")])?;
+fn each_refusal(rt: &impl Abort, alloc: Global, session: &mut Session) {
+    play(rt, alloc, session, &[(0, "", "1 start a a #2;")]);
     for (place, text, fault) in REFUSED {
-        refuses(rt, session, place, line_of(text)?, fault);
+        refuses(rt, session, place, line_of(rt, text), fault);
     }
     for reading in [MAX_READING + 1, u64::MAX] {
         refuses(rt, session, 0, Line::At(reading), DriveFault::BadReading);
     }
-    play(rt, alloc, session, &LATE)?;
+    play(rt, alloc, session, &LATE);
     same(rt, "the clock", session.driver.reading(), MAX_READING);
-    Ok(())
 }
 
 #[test]
-fn each_refusal_leaves_all_as_it_was(rt: HostRuntime) -> Result<(), Fail> {
-    let mut session = open(rt.alloc(), NESTED)?;
-    let done = each_refusal(&rt, rt.alloc(), &mut session);
+fn each_refusal_leaves_all_as_it_was(rt: HostRuntime) {
+    let mut session = open(&rt, rt.alloc(), NESTED);
+    each_refusal(&rt, rt.alloc(), &mut session);
     drop(session);
-    done
 }
 
 /// As many events as a supervisor keeps while an order waits.
@@ -69,23 +66,24 @@ fn fill(session: &mut Session, line: Line) -> Result<(), DriveFault> {
     Ok(())
 }
 
+/// Once its orders were taken it goes on.
+const GOES_ON: [Step; 2] = [(0, "", "1 start a a #2;"), (1, "up 77", "")];
+
 /// Whose orders aren't taken, is told so at last; it goes on once they are.
-fn untaken(rt: &impl Abort, alloc: Global, session: &mut Session) -> Result<(), Fail> {
+fn untaken(rt: &impl Abort, alloc: Global, session: &mut Session) {
     // The order to start waits from the moment at which the pool is opened.
-    let place = session.driver.advance()?;
+    let place = got(rt, "no order can be had", session.driver.advance());
     same(rt, "the place of an order", place, Some(1));
-    let line = line_of("up 77")?;
+    let line = line_of(rt, "up 77");
     let full = Err(DriveFault::OrdersWait);
     same(rt, "too many events", fill(session, line), full);
     refuses(rt, session, 1, line, DriveFault::OrdersWait);
-    let steps: [Step; 2] = [(0, "", "1 start a a #2;"), (1, "up 77", "")];
-    play(rt, alloc, session, &steps)
+    play(rt, alloc, session, &GOES_ON);
 }
 
 #[test]
-fn orders_that_nobody_takes_are_waited_for(rt: HostRuntime) -> Result<(), Fail> {
-    let mut session = open(rt.alloc(), NESTED)?;
-    let done = untaken(&rt, rt.alloc(), &mut session);
+fn orders_that_nobody_takes_are_waited_for(rt: HostRuntime) {
+    let mut session = open(&rt, rt.alloc(), NESTED);
+    untaken(&rt, rt.alloc(), &mut session);
     drop(session);
-    done
 }

@@ -5,7 +5,6 @@ use otp_driver::{Driver, Session};
 use otp_reason::Name;
 use std::alloc::Global;
 use std::process::Abort;
-use std::test::Fail;
 
 /// A worker, and a pool of two that bears one restart in ten seconds.
 const SHOP: &[u8] = b"intensity = 1\nperiod = 10\n\
@@ -50,18 +49,17 @@ const STOPS: [Step; 6] = [
     (0, "exit 1 shutdown", "0 end shutdown, asked;"),
 ];
 
-fn a_pool(rt: &impl Abort, alloc: Global, session: &mut Session) -> Result<(), Fail> {
-    play(rt, alloc, session, &GIVES_UP)?;
+fn a_pool(rt: &impl Abort, alloc: Global, session: &mut Session) {
+    play(rt, alloc, session, &GIVES_UP);
     same(rt, "a deadline", session.driver.next_deadline(), None);
-    play(rt, alloc, session, &STOPS)
+    play(rt, alloc, session, &STOPS);
 }
 
 #[test]
-fn a_pool_gives_up_and_is_started_anew(rt: HostRuntime) -> Result<(), Fail> {
-    let mut session = open(rt.alloc(), SHOP)?;
-    let done = a_pool(&rt, rt.alloc(), &mut session);
+fn a_pool_gives_up_and_is_started_anew(rt: HostRuntime) {
+    let mut session = open(&rt, rt.alloc(), SHOP);
+    a_pool(&rt, rt.alloc(), &mut session);
     drop(session);
-    done
 }
 
 /// The supervisor below can't start: that is a failed start of its parent's child, and the root's end.
@@ -79,8 +77,8 @@ const FAILS: [Step; 6] = [
 ];
 
 #[test]
-fn a_failed_start_below_is_the_parents(rt: HostRuntime) -> Result<(), Fail> {
-    plays(&rt, rt.alloc(), SHOP, &FAILS)
+fn a_failed_start_below_is_the_parents(rt: HostRuntime) {
+    plays(&rt, rt.alloc(), SHOP, &FAILS);
 }
 
 /// The parent and the id of the supervisor of this number.
@@ -93,26 +91,23 @@ fn link_at(driver: &Driver, number: usize) -> Option<(usize, Option<Name>)> {
     Some((link.parent, id))
 }
 
-fn links_are(rt: &impl Abort, driver: &Driver) -> Result<(), Fail> {
-    let wanted: [(usize, Option<Name>); 5] = [
-        (0, None),
-        (0, Some(named(b"one")?)),
-        (1, Some(named(b"two")?)),
-        (1, Some(named(b"three")?)),
-        (0, Some(named(b"four")?)),
-    ];
+/// Each supervisor that is nested: its parent, and its id there.
+const NESTED: [(usize, &[u8]); 4] = [(0, b"one"), (1, b"two"), (1, b"three"), (0, b"four")];
+
+fn links_are(rt: &impl Abort, driver: &Driver) {
     same(rt, "how many there are", driver.links().len(), 5);
-    for (number, link) in wanted.iter().enumerate() {
-        let found = link_at(driver, number);
-        same(rt, "whose child it is", found, Some(*link));
+    same(rt, "of the root", link_at(driver, 0), Some((0, None)));
+    for (place, nested) in NESTED.iter().enumerate() {
+        let (parent, id) = *nested;
+        let wanted = Some((parent, Some(named(rt, id))));
+        let found = link_at(driver, place.saturating_add(1));
+        same(rt, "whose child it is", found, wanted);
     }
-    Ok(())
 }
 
 #[test]
-fn tables_know_their_parents(rt: HostRuntime) -> Result<(), Fail> {
-    let session = open(rt.alloc(), DEEP)?;
-    let done = links_are(&rt, &session.driver);
+fn tables_know_their_parents(rt: HostRuntime) {
+    let session = open(&rt, rt.alloc(), DEEP);
+    links_are(&rt, &session.driver);
     drop(session);
-    done
 }

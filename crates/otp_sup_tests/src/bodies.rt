@@ -1,35 +1,34 @@
 // Which body goes with which process, and which comes back: bodies are numbers here, so that each can be told from others.
-use crate::alone::OWN;
-use crate::fixtures::{child, of_one_child, second};
-use crate::script::{Known, Step, plays};
+use crate::fixtures::{OWN, child, of_one_child, second, supervisor_of};
+use crate::script::{Known, Sent, Step, plays};
 use otp_reason::Reason;
-use otp_spec::{ChildSpec, Restart, Strategy, SupFlags, SupSpec, copy_specs};
+use otp_spec::{Restart, Strategy, SupFlags, SupSpec};
 use std::alloc::Global;
-use std::test::*;
+use std::process::Abort;
 
 // Of two bodies that are at home together each goes to its own child: at the opening, and when both children are
 // restarted, the first as it was alone and the second as it was asked to end.
 const OWN_BODIES: [Step; 9] = [
     Step::Opens(1),
     Step::Puts(1, 0, 6),
-    Step::Up(1, 1),
+    Step::Takes(Sent::Up(1), 1),
     Step::Puts(2, 1, 7),
-    Step::Up(2, 1),
-    Step::Crashes(1, 8, 1),
-    Step::Ends(2, Reason::Shutdown, 9, 1),
+    Step::Takes(Sent::Up(2), 1),
+    Step::Takes(Sent::Crash(1, 8), 1),
+    Step::Takes(Sent::Exit(2, Reason::Shutdown, 9), 1),
     Step::Puts(3, 0, 8),
-    Step::Up(3, 1),
+    Step::Takes(Sent::Up(3), 1),
 ];
 
 // The child of a start_child doesn't start: it is a child no more, and the body that came with that note is the call's.
 const FAILED_START: [Step; 10] = [
     Step::Opens(1),
     Step::Puts(1, 0, OWN),
-    Step::Up(1, 1),
-    Step::StartsSecond(40, 9),
+    Step::Takes(Sent::Up(1), 1),
+    Step::Takes(Sent::Second(40, 9), 1),
     Step::Puts(2, 1, 9),
     Step::GivesBack(40, None),
-    Step::Fails(2, 10),
+    Step::Takes(Sent::Failed(2, 10), 0),
     Step::Knows(40, Known::Refused),
     Step::GivesBack(40, Some(10)),
     Step::GivesBack(40, None),
@@ -39,57 +38,55 @@ const FAILED_START: [Step; 10] = [
 // its slot, has the body of its own call.
 const GONE_CHILD: [Step; 14] = [
     Step::Opens(1),
-    Step::StartsDynamic(40, 9),
+    Step::Takes(Sent::Dynamic(40, 9), 1),
     Step::Puts(1, 0, 9),
-    Step::Up(1, 0),
-    Step::StartsDynamic(41, 10),
+    Step::Takes(Sent::Up(1), 0),
+    Step::Takes(Sent::Dynamic(41, 10), 1),
     Step::Puts(2, 1, 10),
-    Step::Up(2, 0),
+    Step::Takes(Sent::Up(2), 0),
     Step::GivesBack(40, None),
-    Step::Ends(1, Reason::Normal, 11, 0),
-    Step::StartsDynamic(42, 12),
+    Step::Takes(Sent::Exit(1, Reason::Normal, 11), 0),
+    Step::Takes(Sent::Dynamic(42, 12), 1),
     Step::Puts(3, 0, 12),
     Step::GivesBack(40, Some(11)),
     Step::GivesBack(40, None),
-    Step::HasNoStray,
+    Step::HasStray(None),
 ];
 
 #[test]
-fn each_child_has_its_own_body(rt: HostRuntime) -> Result<(), Fail> {
-    let supervisor = one_for_all(rt.alloc())?;
-    plays(&rt, rt.alloc(), supervisor, &[6, 7], &OWN_BODIES, 6)
+fn each_child_has_its_own_body(rt: HostRuntime) {
+    let supervisor = one_for_all(&rt, rt.alloc());
+    plays(&rt, rt.alloc(), supervisor, &[6, 7], &OWN_BODIES, 6);
 }
 
 #[test]
-fn failed_start_gives_its_body_back(rt: HostRuntime) -> Result<(), Fail> {
-    let supervisor = of_one_child(rt.alloc())?;
-    plays(&rt, rt.alloc(), supervisor, &[OWN], &FAILED_START, 4)
+fn failed_start_gives_its_body_back(rt: HostRuntime) {
+    let supervisor = of_one_child(&rt, rt.alloc());
+    plays(&rt, rt.alloc(), supervisor, &[OWN], &FAILED_START, 4);
 }
 
 #[test]
-fn gone_child_gives_its_body_back(rt: HostRuntime) -> Result<(), Fail> {
-    let supervisor = temporary_children(rt.alloc())?;
-    plays(&rt, rt.alloc(), supervisor, &[], &GONE_CHILD, 7)
+fn gone_child_gives_its_body_back(rt: HostRuntime) {
+    let supervisor = temporary_children(&rt, rt.alloc());
+    plays(&rt, rt.alloc(), supervisor, &[], &GONE_CHILD, 7);
 }
 
 // A supervisor of two children, which are restarted together.
-fn one_for_all(alloc: Global) -> Result<SupSpec, Fail> {
+fn one_for_all(rt: &impl Abort, alloc: Global) -> SupSpec {
     let flags = SupFlags {
         strategy: Strategy::OneForAll,
         ..SupFlags::default()
     };
-    Ok(SupSpec::check(flags, copy_specs(alloc, &[child()?, second()?])?)?)
+    supervisor_of(rt, alloc, flags, &[child(rt), second(rt)])
 }
 
 // A supervisor of dynamic children, which aren't restarted.
-fn temporary_children(alloc: Global) -> Result<SupSpec, Fail> {
+fn temporary_children(rt: &impl Abort, alloc: Global) -> SupSpec {
     let flags = SupFlags {
         strategy: Strategy::SimpleOneForOne,
         ..SupFlags::default()
     };
-    let spec = ChildSpec {
-        restart: Restart::Temporary,
-        ..child()?
-    };
-    Ok(SupSpec::check(flags, copy_specs(alloc, &[spec])?)?)
+    let mut spec = child(rt);
+    spec.restart = Restart::Temporary;
+    supervisor_of(rt, alloc, flags, &[spec])
 }

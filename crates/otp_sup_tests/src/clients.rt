@@ -1,45 +1,37 @@
 // Calls that two clients send from threads of their own, while a third thread takes turns of the supervisor.
 ghost use Rattle.std.specs.Prelude.{◌≡◌};
 
-use crate::driven::{Driven, childless, make_childless};
-use crate::fixtures::open_for;
+use crate::driven::{Driven, make_driven};
+use crate::fixtures::{Post, childless, got, open_parts, same};
 use otp_core::{History, ReplyAnswer};
 use otp_inbox::{InboxNaming, Sender, UnnamedInbox};
 use otp_rules::{Call, CountsNow, Item, Kind, Reply};
 use otp_signals::{OpenWords, Signal, Words, WordsNaming};
 use otp_spec::SupSpec;
 use otp_sup::{
-    Client, Letter, MemoryPort, PlanNaming, SplitFault, SubmitCause, Sup, TurnAnswer, TurnFault,
+    Client, MemoryPort, PlanNaming, SplitFault, SubmitCause, Sup, TurnAnswer, TurnFault,
 };
 use std::alloc::Global;
 use std::marker::Brand;
 use std::process::Abort;
 use std::sync::Wait;
-use std::test::*;
 use std::thread;
 use std::thread::Threads;
 
 // How many calls each client sends.
 const CALLS: u64 = 10_000;
 
-type Post = Letter<u64>;
-
 #[test]
-fn two_clients_and_a_hand(rt: HostRuntime) -> Result<(), Fail> {
-    let (words, inbox, supervisor) = open_for(rt.alloc(), childless(rt.alloc())?)?;
-    clients_in::<Brand, _>(&rt, rt.alloc(), words, inbox, supervisor)
+fn two_clients_and_a_hand(rt: HostRuntime) {
+    let (words, inbox) = open_parts(&rt, rt.alloc());
+    let supervisor = childless(&rt, rt.alloc());
+    clients_in::<Brand, _>(&rt, rt.alloc(), words, inbox, supervisor);
 }
 
 fn clients_in<
     N: WordsNaming + InboxNaming + PlanNaming + Send + Sync,
     R: Threads + Wait + Abort + Sync,
->(
-    rt: &R,
-    alloc: Global,
-    words: OpenWords,
-    inbox: UnnamedInbox<Item, Post>,
-    supervisor: SupSpec,
-) -> Result<(), Fail>
+>(rt: &R, alloc: Global, words: OpenWords, inbox: UnnamedInbox<Item, Post>, supervisor: SupSpec)
     requires words { words.words ≡ N.words }
     requires slots { words.slots ≡ 256 }
     requires inbox { inbox ≡ N.inbox 0 }
@@ -52,17 +44,14 @@ fn clients_in<
         sender,
         client,
         port,
-    } = make_childless::<N>(alloc, words, inbox, supervisor, 2 * CALLS)?;
+        number: _,
+    } = make_driven::<N, _>(rt, alloc, words, inbox, supervisor, &[], 2 * CALLS);
     drop(viewer);
-    let sent = send_from_threads(rt, alloc, &words, &sup, client, sender, port);
+    let (first, second) = send_from_threads(rt, alloc, &words, &sup, client, sender, port);
     drop(words);
-    match sent {
-        Ok((first, second)) => are_taken(rt, alloc, sup, first.as_slice(), second.as_slice()),
-        Err(fail) => {
-            drop(sup);
-            Err(fail)
-        }
-    }
+    answered(rt, &sup, first.as_slice());
+    answered(rt, &sup, second.as_slice());
+    are_taken(rt, alloc, sup, first.as_slice(), second.as_slice());
 }
 
 // It opens, and then two clients send while it is served: the numbers of the calls of each.
@@ -77,18 +66,10 @@ fn send_from_threads<
     mut first: Client<N, u64>,
     mut sender: Sender<N, Item, Post>,
     mut port: MemoryPort<u64>,
-) -> Result<(Vec<u64>, Vec<u64>), Fail> {
+) -> (Vec<u64>, Vec<u64>) {
     let opened = turn(rt, sup, words, &mut sender, &mut port);
-    assert_eq!(rt; opened, Ok(TurnAnswer::Opened));
-    let second = match split(rt, &mut first, words, sup) {
-        Ok(second) => second,
-        Err(fail) => {
-            drop(first);
-            drop(sender);
-            drop(port);
-            return Err(fail);
-        }
-    };
+    same(rt, "the first turn", opened, Ok(TurnAnswer::Opened));
+    let second = split(rt, &mut first, words, sup);
     let (sent, port) = thread::join(
         rt,
         move || thread::join(
@@ -100,50 +81,34 @@ fn send_from_threads<
     );
     assert!(rt; port.processes.is_empty());
     drop(port);
-    Ok((sent.0?, sent.1?))
+    sent
 }
 
-// Each of these calls was answered, and the history has each once, and no other event but the opening.
+// The history has each call once, and no other event but the opening.
 fn are_taken<N: WordsNaming + InboxNaming + PlanNaming, R: Wait + Abort>(
     rt: &R,
     alloc: Global,
     sup: Sup<N, u64>,
     first: &[u64],
     second: &[u64],
-) -> Result<(), Fail> {
-    if let Err(fail) = both_answered(rt, &sup, first, second) {
-        drop(sup);
-        return Err(fail);
-    }
+) {
     let parts = sup.unlock().into_parts();
-    let shown = are_in(rt, alloc, parts.core.history(), first, second);
+    are_in(rt, alloc, parts.core.history(), first, second);
     drop(parts);
-    shown
 }
 
-fn are_in<R: Abort>(
-    rt: &R,
-    alloc: Global,
-    history: &History,
-    first: &[u64],
-    second: &[u64],
-) -> Result<(), Fail> {
-    let mut taken = no_counts(alloc)?;
+fn are_in<R: Abort>(rt: &R, alloc: Global, history: &History, first: &[u64], second: &[u64]) {
+    let count = 2 * CALLS + 1;
+    let mut taken = got(
+        rt,
+        "memory was refused",
+        Vec::from_elem(alloc, 0u64, count as usize),
+    );
     assert!(rt; count_taken(history, taken.as_mut_slice()));
     assert!(rt; are_once(taken.as_slice(), first));
     assert!(rt; are_once(taken.as_slice(), second));
     drop(taken);
-    assert!(rt; history.len() as u64 == 2 * CALLS + 1);
-    Ok(())
-}
-
-// A count for each number that a call can have.
-fn no_counts(alloc: Global) -> Result<Vec<u64>, Fail> {
-    let mut counts = Vec::new(alloc);
-    for _ in 0..2 * CALLS + 1 {
-        counts.push(0)?;
-    }
-    Ok(counts)
+    assert!(rt; history.len() as u64 == count);
 }
 
 // Counts how often the history has each call, by the call's number. Behind its opening it has no other event.
@@ -173,15 +138,16 @@ fn split<N: WordsNaming + InboxNaming + PlanNaming, R: Wait + Abort>(
     first: &mut Client<N, u64>,
     words: &Words<N>,
     sup: &Sup<N, u64>,
-) -> Result<Client<N, u64>, Fail> {
-    assert_eq!(rt; first.number(), sup.inbox().number());
+) -> Client<N, u64> {
+    assert!(rt; first.number() == sup.inbox().number());
     let more = first.split(words, sup.inbox(), 2 * CALLS + 1);
-    assert_eq!(rt; more.err(), Some(SplitFault::Exhausted));
+    same(rt, "more numbers", more.err(), Some(SplitFault::Exhausted));
     let wrong = first.submit(rt, words, sup.inbox(), Call::CountChildren, Some(3));
     let why = wrong.err().map(|fault| (fault.cause, fault.body));
-    assert_eq!(rt; why, Some((SubmitCause::WrongBody, Some(3))));
+    let wanted = Some((SubmitCause::WrongBody, Some(3)));
+    same(rt, "a body that no call wants", why, wanted);
     let second = first.split(words, sup.inbox(), CALLS);
-    Ok(second.map_err(|_| "a client was refused")?)
+    got(rt, "a client was refused", second)
 }
 
 // Sends its calls, and answers their numbers. One more is refused, as no number is left.
@@ -191,29 +157,20 @@ fn send_all<N: WordsNaming + InboxNaming + PlanNaming, R: Wait + Abort>(
     sup: &Sup<N, u64>,
     words: &Words<N>,
     mut client: Client<N, u64>,
-) -> Result<Vec<u64>, &'static str> {
-    let sent = send_each(rt, alloc, sup, words, &mut client);
-    drop(client);
-    sent
-}
-
-fn send_each<N: WordsNaming + InboxNaming + PlanNaming, R: Wait + Abort>(
-    rt: &R,
-    alloc: Global,
-    sup: &Sup<N, u64>,
-    words: &Words<N>,
-    client: &mut Client<N, u64>,
-) -> Result<Vec<u64>, &'static str> {
-    let mut numbers = Vec::new(alloc);
+) -> Vec<u64> {
+    let mut numbers = got(rt, "no memory", Vec::with_capacity(alloc, CALLS as usize));
     for _ in 0..CALLS {
-        match send_one(rt, sup, words, client) {
-            Ok(number) => numbers.push(number).map_err(|_| "no memory")?,
-            Err(_) => return Err("a call was refused"),
-        }
+        let number = got(
+            rt,
+            "a call was refused",
+            send_one(rt, sup, words, &mut client),
+        );
+        assert!(rt; numbers.push(number).is_ok());
     }
-    let more = send_one(rt, sup, words, client);
-    assert_eq!(rt; more, Err(SubmitCause::Exhausted));
-    Ok(numbers)
+    let more = send_one(rt, sup, words, &mut client);
+    same(rt, "one call more", more, Err(SubmitCause::Exhausted));
+    drop(client);
+    numbers
 }
 
 fn send_one<N: WordsNaming + InboxNaming + PlanNaming, R: Wait + Abort>(
@@ -222,7 +179,7 @@ fn send_one<N: WordsNaming + InboxNaming + PlanNaming, R: Wait + Abort>(
     words: &Words<N>,
     client: &mut Client<N, u64>,
 ) -> Result<u64, SubmitCause> {
-    assert_eq!(rt; client.number(), sup.inbox().number());
+    assert!(rt; client.number() == sup.inbox().number());
     let sent = client.submit(rt, words, sup.inbox(), Call::CountChildren, None);
     sent.map_err(|fault| fault.cause)
 }
@@ -235,7 +192,7 @@ fn turn<N: WordsNaming + InboxNaming + PlanNaming, R: Wait + Abort>(
     sender: &mut Sender<N, Item, Post>,
     port: &mut MemoryPort<u64>,
 ) -> Result<TurnAnswer, TurnFault> {
-    assert_eq!(rt; sender.number(), sup.inbox().number());
+    assert!(rt; sender.number() == sup.inbox().number());
     assert!(rt; sender.parts() > 0);
     sup.turn(rt, words, sender, port, 0, 0, Signal::None)
 }
@@ -263,27 +220,17 @@ fn serve<N: WordsNaming + InboxNaming + PlanNaming, R: Wait + Abort>(
     port
 }
 
-fn both_answered<N: WordsNaming + InboxNaming + PlanNaming, R: Wait + Abort>(
-    rt: &R,
-    sup: &Sup<N, u64>,
-    first: &[u64],
-    second: &[u64],
-) -> Result<(), Fail> {
-    answered(rt, sup, first)?;
-    answered(rt, sup, second)
-}
-
 // Each call was taken once, and answered.
 fn answered<N: WordsNaming + InboxNaming + PlanNaming, R: Wait + Abort>(
     rt: &R,
     sup: &Sup<N, u64>,
     numbers: &[u64],
-) -> Result<(), Fail> {
-    assert_eq!(rt; numbers.len() as u64, CALLS);
+) {
+    same(rt, "the calls", numbers.len() as u64, CALLS);
     for number in numbers {
-        assert!(rt; is_count(sup.reply(rt, *number)?));
+        let reply = got(rt, "memory was refused", sup.reply(rt, *number));
+        assert!(rt; is_count(reply));
     }
-    Ok(())
 }
 
 // What count_children answers where there are no children.

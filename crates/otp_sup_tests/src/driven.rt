@@ -1,226 +1,80 @@
 // A supervisor under its lock, driven by hand over a port in memory.
 //
-// What a test asks again and again stands here as a call of its own, since each assertion is proved where it is written.
+// Under `rt try --test --fail-alloc N` memory is refused once: nothing has happened then, and the same with memory does what
+// it would have done.
 ghost use Rattle.std.specs.Prelude.{◌≡◌, ◌≤◌, ◌^◌};
 
-use crate::fixtures::seat_table;
+use crate::fixtures::{Post, got, hand_in_all, open_parts, same, seat_table, second};
+use crate::script::{Known, OwnSteps, Sent, Stand, Step, known_of, play, takes};
+use otp_core::ReplyAnswer;
 use otp_inbox::{InboxNaming, Sender, UnnamedInbox};
 use otp_reason::{Note, Reason};
 use otp_rules::{Call, Cause, Item};
 use otp_signals::{OpenWords, Signal, Viewer, Words, WordsNaming};
-use otp_spec::{SupFlags, SupSpec};
+use otp_spec::{MAX_EVENTS, SupSpec};
 use otp_sup::{
-    Bodies, Client, Letter, MemoryPort, NewProcess, PlanNaming, SubmitCause, Sup, ToldNote,
-    TurnAnswer, TurnFault,
+    Client, MemoryPort, NewProcess, PlanNaming, SubmitCause, Sup, ToldNote, TurnAnswer, TurnFault,
 };
 use std::alloc::Global;
+use std::marker::Brand;
 use std::process::Abort;
 use std::sync::Wait;
-use std::test::*;
-
-// What a child runs here: it can be told from others by its tag.
-pub(crate) trait Job: Send + Drop {
-    fn tag(&self) -> u64;
-}
-
-#[derive(Drop)]
-pub(crate) struct Tagged {
-    pub(crate) tag: u64,
-}
-
-impl Job for Tagged {
-    fn tag(&self) -> u64 {
-        self.tag
-    }
-}
-
-pub(crate) type Body = Box<dyn Job, Global>;
-
-pub(crate) type Post = Letter<Body>;
 
 // A supervisor, and what a test needs to drive it.
 #[derive(Drop)]
-pub(crate) struct Driven<N: WordsNaming + InboxNaming + PlanNaming, B: Drop> {
+pub(crate) struct Driven<N: WordsNaming + InboxNaming + PlanNaming> {
     pub(crate) words: Words<N>,
     pub(crate) viewer: Viewer<N>,
-    pub(crate) sup: Sup<N, B>,
-    pub(crate) sender: Sender<N, Item, Letter<B>>,
-    pub(crate) client: Client<N, B>,
-    pub(crate) port: MemoryPort<B>,
-}
-
-// This body, for the first child specification.
-pub(crate) fn of_one_body<B: Drop>(alloc: Global, body: B) -> Result<Bodies<B>, Fail> {
-    let mut bodies = Bodies::new(alloc);
-    if bodies.hand_in(0, body).is_err() {
-        drop(bodies);
-        return Err("a body was refused".into());
-    }
-    Ok(bodies)
+    pub(crate) sup: Sup<N, u64>,
+    pub(crate) sender: Sender<N, Item, Post>,
+    pub(crate) client: Client<N, u64>,
+    pub(crate) port: MemoryPort<u64>,
+    // The number under which it opened last.
+    pub(crate) number: u64,
 }
 
 // A supervisor of these children, with these bodies for the specifications. Its client may send so many calls.
-pub(crate) fn make_driven<N: WordsNaming + InboxNaming + PlanNaming, B: Drop>(
+pub(crate) fn make_driven<N: WordsNaming + InboxNaming + PlanNaming, R: Abort>(
+    rt: &R,
     alloc: Global,
     words: OpenWords,
-    inbox: UnnamedInbox<Item, Letter<B>>,
+    inbox: UnnamedInbox<Item, Post>,
     supervisor: SupSpec,
-    bodies: Bodies<B>,
+    own: &[u64],
     calls: u64,
-) -> Result<Driven<N, B>, Fail>
+) -> Driven<N>
     requires words { words.words ≡ N.words }
     requires slots { words.slots ≡ 256 }
     requires inbox { inbox ≡ N.inbox 0 }
     requires plan { supervisor ≡ N.plan 0 }
 {
+    let bodies = hand_in_all(rt, alloc, own);
     let (words, mut owner) = words.named::<N>();
     let Ok(seat) = words.split(&mut owner, 0..256, 1000) else {
-        drop(words);
-        drop(owner);
-        drop(inbox);
-        drop(supervisor);
-        drop(bodies);
-        return Err("no seat".into());
+        panic!(rt; "no seat");
     };
     let Ok(callers) = words.split(&mut owner, 0..0, calls) else {
-        drop(words);
-        drop(owner);
-        drop(seat);
-        drop(inbox);
-        drop(supervisor);
-        drop(bodies);
-        return Err("no numbers for calls".into());
+        panic!(rt; "no numbers for calls");
     };
     let viewer = words.viewer(&mut owner);
     drop(owner);
     let (inbox, taker, mut sender) = inbox.named::<N>(0);
-    let table = match seat_table(alloc, supervisor, bodies, seat, taker) {
-        Ok(table) => table,
-        Err(fail) => {
-            drop(words);
-            drop(callers);
-            drop(viewer);
-            drop(inbox);
-            drop(sender);
-            return Err(fail);
-        }
-    };
+    let table = seat_table(rt, alloc, supervisor, bodies, seat, taker);
     let own = inbox.split(&mut sender, 1);
     let client = Client::new(alloc, callers, sender);
     let sup = Sup::new(inbox, table);
-    Ok(Driven {
+    Driven {
         words,
         viewer,
         sup,
         sender: own,
         client,
         port: MemoryPort::new(alloc),
-    })
+        number: 0,
+    }
 }
 
-// A supervisor without children, with the default flags.
-pub(crate) fn childless(alloc: Global) -> Result<SupSpec, Fail> {
-    Ok(SupSpec::check(SupFlags::default(), Vec::new(alloc))?)
-}
-
-// This supervisor without children. Its client may send so many calls.
-pub(crate) fn make_childless<N: WordsNaming + InboxNaming + PlanNaming>(
-    alloc: Global,
-    words: OpenWords,
-    inbox: UnnamedInbox<Item, Letter<u64>>,
-    supervisor: SupSpec,
-    calls: u64,
-) -> Result<Driven<N, u64>, Fail>
-    requires words { words.words ≡ N.words }
-    requires slots { words.slots ≡ 256 }
-    requires inbox { inbox ≡ N.inbox 0 }
-    requires plan { supervisor ≡ N.plan 0 }
-{
-    make_driven(alloc, words, inbox, supervisor, Bodies::new(alloc), calls)
-}
-
-impl<N: WordsNaming + InboxNaming + PlanNaming, B: Drop> Driven<N, B> {
-    // A turn. Under `rt try --test --fail-alloc N` memory is refused once: nothing has happened then, and the same turn
-    // with memory does what it would have done.
-    fn turn<R: Wait + Abort>(
-        &mut self,
-        rt: &R,
-        number: u64,
-        reading: u64,
-        told: Signal,
-    ) -> Result<TurnAnswer, TurnFault>
-        requires { reading ≤ 2 ^ 62 }
-    {
-        let before = (self.port.processes.len(), self.port.notes.len());
-        let turned = self.turn_once(rt, number, reading, told);
-        if turned == Err(TurnFault::OutOfMemory) {
-            let after = (self.port.processes.len(), self.port.notes.len());
-            assert_eq!(rt; after, before);
-            return self.turn_once(rt, number, reading, told);
-        }
-        turned
-    }
-
-    // A turn under this number, with this answer.
-    pub(crate) fn turns<R: Wait + Abort>(
-        &mut self,
-        rt: &R,
-        number: u64,
-        reading: u64,
-        told: Signal,
-        answer: Result<TurnAnswer, TurnFault>,
-    )
-        requires { reading ≤ 2 ^ 62 }
-    {
-        assert_eq!(rt; self.turn(rt, number, reading, told), answer);
-    }
-
-    // A turn, in which it opens.
-    pub(crate) fn opens<R: Wait + Abort>(&mut self, rt: &R) {
-        self.turns(rt, 0, 0, Signal::None, Ok(TurnAnswer::Opened));
-    }
-
-    // A turn, which takes the item that was sent last.
-    pub(crate) fn takes<R: Wait + Abort>(&mut self, rt: &R, reading: u64)
-        requires { reading ≤ 2 ^ 62 }
-    {
-        self.turns(rt, 0, reading, Signal::None, Ok(TurnAnswer::Took));
-    }
-
-    // Where the port was refused memory, the order stayed: the next turn says so, and sends it.
-    pub(crate) fn send_orders<R: Wait + Abort>(&mut self, rt: &R, number: u64, is_sent: bool) {
-        if !is_sent {
-            let turned = self.turn_once(rt, number, 0, Signal::None);
-            assert_eq!(rt; turned, Ok(TurnAnswer::Pending));
-        }
-    }
-
-    // A call, with a body where it starts a child. Where memory is refused the body comes back, and it is sent again.
-    pub(crate) fn call<R: Wait + Abort>(&mut self, rt: &R, call: Call, body: Option<B>) -> u64 {
-        match self.call_once(rt, call, body) {
-            Ok(number) => number,
-            Err((cause, body)) => {
-                assert_eq!(rt; cause, SubmitCause::OutOfMemory);
-                let sent = self.call_once(rt, call, body);
-                assert!(rt; sent.is_ok());
-                sent.map_err(|_| ()).unwrap_or(0)
-            }
-        }
-    }
-
-    fn call_once<R: Wait + Abort>(
-        &mut self,
-        rt: &R,
-        call: Call,
-        body: Option<B>,
-    ) -> Result<u64, (SubmitCause, Option<B>)> {
-        assert_eq!(rt; self.client.number(), self.sup.inbox().number());
-        let sent = self
-            .client
-            .submit(rt, &self.words, self.sup.inbox(), call, body);
-        sent.map_err(|fault| (fault.cause, fault.body))
-    }
-
+impl<N: WordsNaming + InboxNaming + PlanNaming> Driven<N> {
     fn turn_once<R: Wait + Abort>(
         &mut self,
         rt: &R,
@@ -230,7 +84,7 @@ impl<N: WordsNaming + InboxNaming + PlanNaming, B: Drop> Driven<N, B> {
     ) -> Result<TurnAnswer, TurnFault>
         requires { reading ≤ 2 ^ 62 }
     {
-        assert_eq!(rt; self.sender.number(), self.sup.inbox().number());
+        assert!(rt; self.sender.number() == self.sup.inbox().number());
         assert!(rt; self.sender.parts() > 0);
         self.sup.turn(
             rt,
@@ -243,21 +97,54 @@ impl<N: WordsNaming + InboxNaming + PlanNaming, B: Drop> Driven<N, B> {
         )
     }
 
-    // Sends a letter. Where memory is refused it comes back, and is sent again.
-    pub(crate) fn send<R: Wait + Abort>(&mut self, rt: &R, letter: Letter<B>) {
-        if let Some(letter) = self.send_once(rt, letter) {
-            assert!(rt; self.send_once(rt, letter).is_none());
+    // What the port has.
+    fn in_port(&self) -> (usize, usize) {
+        (self.port.processes.len(), self.port.notes.len())
+    }
+
+    // Where the port was refused memory, the order stayed: the next turn says so, and sends it.
+    fn send_orders<R: Wait + Abort>(&mut self, rt: &R, is_sent: bool) {
+        if !is_sent {
+            let turned = self.turn_once(rt, self.number, 0, Signal::None);
+            same(rt, "a pending order", turned, Ok(TurnAnswer::Pending));
         }
     }
 
-    fn send_once<R: Wait + Abort>(&mut self, rt: &R, letter: Letter<B>) -> Option<Letter<B>> {
-        assert_eq!(rt; self.sender.number(), self.sup.inbox().number());
+    // Where memory is refused the letter comes back.
+    fn send_once<R: Wait + Abort>(&mut self, rt: &R, letter: Post) -> Option<Post> {
+        assert!(rt; self.sender.number() == self.sup.inbox().number());
         assert!(rt; self.sender.parts() > 0);
         self.sup.inbox().send(rt, &mut self.sender, letter).err()
     }
 
+    // A call that starts the child `b` with this body. Where memory is refused the body comes back.
+    fn call_once<R: Wait + Abort>(
+        &mut self,
+        rt: &R,
+        body: Option<u64>,
+    ) -> Result<u64, (SubmitCause, Option<u64>)> {
+        assert!(rt; self.client.number() == self.sup.inbox().number());
+        let call = Call::StartChild(second(rt));
+        let sent = self
+            .client
+            .submit(rt, &self.words, self.sup.inbox(), call, body);
+        sent.map_err(|fault| (fault.cause, fault.body))
+    }
+
+    // The call's number. Where memory is refused it is sent again, with the body that came back.
+    fn call<R: Wait + Abort>(&mut self, rt: &R, body: u64) -> u64 {
+        match self.call_once(rt, Some(body)) {
+            Ok(number) => number,
+            Err((cause, back)) => {
+                same(rt, "a refused call", cause, SubmitCause::OutOfMemory);
+                same(rt, "its body", back, Some(body));
+                got(rt, "a call was refused", self.call_once(rt, back))
+            }
+        }
+    }
+
     // Whether the last note that the parent was told brings the end of a supervisor by one restart too many.
-    pub(crate) fn has_told_intensity(&self) -> bool {
+    fn has_told_intensity(&self) -> bool {
         match self.port.notes.last() {
             Some(
                 ToldNote {
@@ -268,78 +155,195 @@ impl<N: WordsNaming + InboxNaming + PlanNaming, B: Drop> Driven<N, B> {
             _ => false,
         }
     }
+}
 
-    // What the child's process sees.
-    fn signal<R: Abort>(&mut self, rt: &R, number: u64) -> Signal {
+impl<N: WordsNaming + InboxNaming + PlanNaming> Stand for Driven<N> {
+    fn turn<R: Wait + Abort>(
+        &mut self,
+        rt: &R,
+        number: u64,
+        reading: u64,
+        told: Signal,
+    ) -> Result<TurnAnswer, TurnFault>
+        requires { reading ≤ 2 ^ 62 }
+    {
+        let before = self.in_port();
+        let mut turned = self.turn_once(rt, number, reading, told);
+        if turned == Err(TurnFault::OutOfMemory) {
+            same(rt, "the port after a refusal", self.in_port(), before);
+            turned = self.turn_once(rt, number, reading, told);
+        }
+        if turned == Ok(TurnAnswer::Opened) {
+            self.number = number;
+        }
+        turned
+    }
+
+    fn send<R: Wait + Abort>(&mut self, rt: &R, letter: Post) {
+        if let Some(letter) = self.send_once(rt, letter) {
+            assert!(rt; self.send_once(rt, letter).is_none());
+        }
+    }
+
+    // A turn under the lock has sent them.
+    fn flush<R: Abort>(&mut self, _rt: &R) -> u64 {
+        0
+    }
+
+    fn put<R: Wait + Abort>(&mut self, rt: &R) -> Option<(u64, usize, u64)> {
+        let is_put = !self.port.processes.is_empty();
+        self.send_orders(rt, is_put);
+        let NewProcess { number, slot, body } = self.port.processes.pop()?;
+        assert!(rt; self.port.processes.is_empty());
+        Some((number, slot, body?))
+    }
+
+    fn told<R: Wait + Abort>(&mut self, rt: &R) -> Option<Note> {
+        let is_told = !self.port.notes.is_empty();
+        self.send_orders(rt, is_told);
+        let told = self.port.notes.pop()?;
+        let note = told.note;
+        drop(told);
+        assert!(rt; self.port.notes.is_empty());
+        Some(note)
+    }
+
+    fn look<R: Abort>(&mut self, rt: &R, number: u64) -> Signal {
         assert!(rt; self.words.slots() > 0);
         self.words.look(&mut self.viewer, 0, number)
     }
 
-    // The child's process sees this signal.
-    pub(crate) fn shows<R: Abort>(&mut self, rt: &R, number: u64, signal: Signal) {
-        assert_eq!(rt; self.signal(rt, number), signal);
+    fn known<R: Wait + Abort>(&self, rt: &R, call: u64) -> Known {
+        let reply = got(rt, "memory was refused", self.sup.reply(rt, call));
+        let known = match &reply {
+            ReplyAnswer::Kept(reply) => known_of(ReplyAnswer::Kept(reply)),
+            ReplyAnswer::Gone => Known::Gone,
+            ReplyAnswer::NotYet => Known::NotYet,
+        };
+        drop(reply);
+        known
     }
 
-    pub(crate) fn up<R: Wait + Abort>(&mut self, rt: &R, number: u64) {
-        let letter = Letter::note(Note::Up(number), None);
-        self.send(rt, letter);
+    fn take_box<R: Wait + Abort>(&mut self, rt: &R, call: u64) -> Option<u64> {
+        self.sup.take_box(rt, call)
     }
 
-    pub(crate) fn exit<R: Wait + Abort>(&mut self, rt: &R, number: u64, reason: Reason, body: B) {
-        let letter = Letter::note(Note::Exit(number, reason), Some(body));
-        self.send(rt, letter);
+    fn take_stray<R: Wait + Abort>(&mut self, rt: &R) -> Option<u64> {
+        self.sup.take_stray(rt)
+    }
+
+    fn has_empty_port(&self) -> bool {
+        self.port.processes.is_empty() && self.port.notes.is_empty()
     }
 }
 
-// The number, the slot and the body's tag of the process that was put; the port has it no more.
-pub(crate) fn launched<N: WordsNaming + InboxNaming + PlanNaming, R: Wait + Abort>(
+impl<N: WordsNaming + InboxNaming + PlanNaming> OwnSteps for Driven<N> {
+    fn acts<R: Wait + Abort>(&mut self, rt: &R, alloc: Global, step: Step) {
+        match step {
+            Step::Fills => fills(rt, alloc, self),
+            Step::Grows => grows(rt, alloc, self),
+            _ => panic!(rt; "a supervisor under its lock has no such step"),
+        }
+    }
+}
+
+// Takes notes of no child until it stores as many events as there may be.
+fn fills<S: Stand, R: Wait + Abort>(rt: &R, alloc: Global, one: &mut S) {
+    for _ in 1..MAX_EVENTS {
+        takes(rt, alloc, one, Sent::Up(7), 0);
+    }
+}
+
+// A call starts a second child, the first one is restarted, and a second crash is one too many.
+fn grows<N: WordsNaming + InboxNaming + PlanNaming, R: Wait + Abort>(
     rt: &R,
-    one: &mut Driven<N, Body>,
-    number: u64,
-) -> Option<(u64, usize, u64)> {
-    let is_put = !one.port.processes.is_empty();
-    one.send_orders(rt, number, is_put);
-    let process = one.port.processes.pop()?;
-    assert!(rt; one.port.processes.is_empty());
-    let seen = seen_of(&process);
-    drop(process);
-    seen
-}
-
-fn seen_of(process: &NewProcess<Body>) -> Option<(u64, usize, u64)> {
-    let tag = process.body.as_ref()?.tag();
-    Some((process.number, process.slot, tag))
-}
-
-// The process that was put has this number, this slot and this body.
-pub(crate) fn puts<N: WordsNaming + InboxNaming + PlanNaming, R: Wait + Abort>(
-    rt: &R,
-    one: &mut Driven<N, Body>,
-    number: u64,
-    process: (u64, usize, u64),
+    alloc: Global,
+    one: &mut Driven<N>,
 ) {
-    assert_eq!(rt; launched(rt, one, number), Some(process));
+    let call = one.call(rt, 7);
+    let child = starts(rt, alloc, one, call);
+    let again = restarts(rt, alloc, one, child);
+    gives_up(rt, alloc, one, again, child);
+    assert!(rt; one.has_told_intensity());
 }
 
-// The note that the parent was told; the port has it no more.
-fn told<N: WordsNaming + InboxNaming + PlanNaming, R: Wait + Abort>(
+// The process that was put in this slot with this body runs: its number, which is above this one.
+fn runs<S: Stand, R: Wait + Abort>(
     rt: &R,
-    one: &mut Driven<N, Body>,
-) -> Option<Note> {
+    alloc: Global,
+    one: &mut S,
+    above: u64,
+    place: (usize, u64),
+) -> u64 {
+    let number = match one.put(rt) {
+        Some((number, slot, body)) => {
+            same(rt, "its slot and body", (slot, body), place);
+            number
+        }
+        None => 0,
+    };
+    assert!(rt; number > above);
+    takes(rt, alloc, one, Sent::Up(number), 0);
+    number
+}
+
+// The call starts a second child: the number of its process.
+fn starts<S: Stand, R: Wait + Abort>(rt: &R, alloc: Global, one: &mut S, call: u64) -> u64 {
+    let turned = one.turn(rt, 0, 0, Signal::None);
+    same(rt, "the call", turned, Ok(TurnAnswer::Took));
+    let child = runs(rt, alloc, one, 1, (1, 7));
+    let known = one.known(rt, call);
+    same(rt, "its answer", known, Known::Started(child));
+    child
+}
+
+// The first child is restarted: the number of its new process.
+fn restarts<S: Stand, R: Wait + Abort>(rt: &R, alloc: Global, one: &mut S, child: u64) -> u64 {
+    takes(rt, alloc, one, Sent::Crash(1, 8), 0);
+    runs(rt, alloc, one, child, (0, 8))
+}
+
+// A second crash is one too many: the other child is asked, and then its end is an order.
+fn gives_up<N: WordsNaming + InboxNaming + PlanNaming, R: Wait + Abort>(
+    rt: &R,
+    alloc: Global,
+    one: &mut Driven<N>,
+    again: u64,
+    child: u64,
+) {
+    takes(rt, alloc, one, Sent::Crash(again, 9), 0);
+    takes(rt, alloc, one, Sent::Exit(child, Reason::Shutdown, 10), 0);
     let is_told = !one.port.notes.is_empty();
-    one.send_orders(rt, 0, is_told);
-    let told = one.port.notes.pop()?;
-    let note = told.note;
-    drop(told);
-    assert!(rt; one.port.notes.is_empty());
-    Some(note)
+    one.send_orders(rt, is_told);
 }
 
-// The parent was told this note.
-pub(crate) fn tells<N: WordsNaming + InboxNaming + PlanNaming, R: Wait + Abort>(
+fn play_under_lock<N: WordsNaming + InboxNaming + PlanNaming, R: Wait + Abort>(
     rt: &R,
-    one: &mut Driven<N, Body>,
-    note: Note,
+    alloc: Global,
+    words: OpenWords,
+    inbox: UnnamedInbox<Item, Post>,
+    supervisor: SupSpec,
+    own: &[u64],
+    steps: &[Step],
+)
+    requires words { words.words ≡ N.words }
+    requires slots { words.slots ≡ 256 }
+    requires inbox { inbox ≡ N.inbox 0 }
+    requires plan { supervisor ≡ N.plan 0 }
+{
+    let mut one = make_driven::<N, _>(rt, alloc, words, inbox, supervisor, own, 100);
+    play(rt, alloc, &mut one, steps);
+    drop(one);
+}
+
+// Plays these steps on a new supervisor under its lock, with these bodies for its specifications.
+pub(crate) fn plays_under_lock<R: Wait + Abort>(
+    rt: &R,
+    alloc: Global,
+    supervisor: SupSpec,
+    own: &[u64],
+    steps: &[Step],
 ) {
-    assert_eq!(rt; told(rt, one), Some(note));
+    let (words, inbox) = open_parts(rt, alloc);
+    play_under_lock::<Brand, _>(rt, alloc, words, inbox, supervisor, own, steps);
 }

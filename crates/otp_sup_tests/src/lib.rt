@@ -19,6 +19,8 @@ mod fixtures;
 #[cfg(test)]
 mod script;
 #[cfg(test)]
+mod shut;
+#[cfg(test)]
 mod supervisors;
 #[cfg(test)]
 mod tables;

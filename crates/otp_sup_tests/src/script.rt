@@ -1,11 +1,12 @@
-// What is done to a table and what is seen of it, step by step: a test is a list of steps, and one player plays them all.
+// What is done to a supervisor and what is seen of it, step by step: a test is a list of steps, and one player plays them all,
+// on a table alone or on a supervisor under its lock.
 //
 // So what a step asks is proved once, and not for each test.
-ghost use Rattle.std.specs.Prelude.{◌≡◌, true};
+ghost use Rattle.std.specs.Prelude.{◌≡◌, ◌≤◌, ◌^◌, true};
 ghost use Rattle.otp_rules.specs.Homes.{is_start_call};
 
-use crate::alone::{Alone, Post, make_table};
-use crate::fixtures::{child, crash, open_for, second};
+use crate::alone::{Alone, make_table};
+use crate::fixtures::{Post, child, crash, got, open_parts, same, second};
 use otp_core::ReplyAnswer;
 use otp_inbox::{InboxNaming, UnnamedInbox};
 use otp_reason::{Note, Reason};
@@ -17,55 +18,65 @@ use std::alloc::Global;
 use std::marker::Brand;
 use std::process::Abort;
 use std::sync::Wait;
-use std::test::*;
 
 // A step. Bodies are numbers, and each turn but that of `Turn` is at the reading 0, under the number 0.
 #[derive(Clone, Copy)]
 pub(crate) enum Step {
     // A turn under this number, at this reading, with this signal of the parent, and its answer.
     Turn(u64, u64, Signal, Result<TurnAnswer, TurnFault>),
-    // It sends its orders, and has as many.
+    // It sends the orders that are left, which are as many. Under the lock a turn leaves none.
     Sends(u64),
-    // It opens, and sends as many orders.
+    // It opens, and as many orders are left.
     Opens(u64),
-    // That the process runs comes, and is not taken yet.
-    ComesUp(u64),
-    // That it was killed comes with its body, and is not taken yet.
-    ComesKilled(u64, u64),
-    // The process says that it runs: that is taken, and as many orders follow.
-    Up(u64, u64),
-    // The process crashes, its body comes with its note, and as many orders follow.
-    Crashes(u64, u64, u64),
-    // The process ends so, its body comes with its note, and as many orders follow.
-    Ends(u64, Reason, u64, u64),
-    // The process says that it failed, and gives back a body. No order follows.
-    Fails(u64, u64),
-    // The call of this number starts the child `a` with this body, which runs already.
-    StartsFirst(u64, u64),
-    // The call of this number starts the child `b` with this body: one order follows.
-    StartsSecond(u64, u64),
-    // The call of this number starts a dynamic child with this body: one order follows.
-    StartsDynamic(u64, u64),
-    // The call of this number asks how many children there are.
-    Counts(u64),
+    // This comes, and is not taken yet.
+    Comes(Sent),
+    // This comes and is taken, and as many orders are left.
+    Takes(Sent, u64),
     // This is known of the answer to the call.
     Knows(u64, Known),
-    // A checkpoint, and its answer.
-    Cuts(CutAnswer),
     // This process was put last: its number, its slot and its body.
     Puts(u64, usize, u64),
     // The parent was told this note last.
     Tells(Note),
-    // The last note to the parent brings the end of a supervisor that was asked to stop.
-    TellsAsked,
     // The process in slot 0 has this number, and sees this signal.
     Shows(u64, Signal),
     // The port has nothing that wasn't looked at.
     PortIsEmpty,
     // The body of this call that can be had back now.
     GivesBack(u64, Option<u64>),
-    // No body is nobody's.
-    HasNoStray,
+    // The body that is nobody's and can be had now.
+    HasStray(Option<u64>),
+    // Of a table alone: its first order is sent to a port that refuses it.
+    IsRefused,
+    // Of a table alone: a checkpoint, and its answer.
+    Cuts(CutAnswer),
+    // Of a table alone: the last note to the parent brings the end of a supervisor that was asked to stop.
+    TellsAsked,
+    // Under the lock: notes of no child are taken until as many events are stored as there may be.
+    Fills,
+    // Under the lock: a call starts a second child, the first one is restarted, and a second crash is one too many.
+    Grows,
+}
+
+// What is sent to it.
+#[derive(Clone, Copy)]
+pub(crate) enum Sent {
+    // The process runs.
+    Up(u64),
+    // The process crashes, and its body comes with its note.
+    Crash(u64, u64),
+    // The process ends so, and its body comes with its note.
+    Exit(u64, Reason, u64),
+    // The process says that it failed, and gives back a body.
+    Failed(u64, u64),
+    // The call of this number starts the child `a` with this body.
+    First(u64, u64),
+    // The call of this number starts the child `b` with this body.
+    Second(u64, u64),
+    // The call of this number starts a dynamic child with this body.
+    Dynamic(u64, u64),
+    // The call of this number asks how many children there are.
+    Count(u64),
 }
 
 // What is known of the answer to a call.
@@ -73,15 +84,17 @@ pub(crate) enum Step {
 pub(crate) enum Known {
     Counted,
     Runs(u64),
+    Started(u64),
     Refused,
     Other,
     Gone,
     NotYet,
 }
 
-fn known_of(reply: ReplyAnswer<&Reply>) -> Known {
+pub(crate) fn known_of(reply: ReplyAnswer<&Reply>) -> Known {
     match reply {
         ReplyAnswer::Kept(Reply::Count(_)) => Known::Counted,
+        ReplyAnswer::Kept(Reply::OkProcess(number)) => Known::Started(*number),
         ReplyAnswer::Kept(Reply::Refused(CallFault::AlreadyStarted(number))) => Known::Runs(
             *number,
         ),
@@ -92,194 +105,135 @@ fn known_of(reply: ReplyAnswer<&Reply>) -> Known {
     }
 }
 
-// A letter comes and is taken, and as many orders follow.
-fn takes<N: WordsNaming + InboxNaming + PlanNaming, R: Wait + Abort>(
-    rt: &R,
-    one: &mut Alone<N>,
-    letter: Post,
-    orders: u64,
-) {
-    one.send(rt, letter);
-    one.takes(rt, 0);
-    one.sends(rt, orders);
+// What a script is played on.
+pub(crate) trait Stand: Drop {
+    // A turn.
+    fn turn<R: Wait + Abort>(
+        &mut self,
+        rt: &R,
+        number: u64,
+        reading: u64,
+        told: Signal,
+    ) -> Result<TurnAnswer, TurnFault>
+        requires { reading ≤ 2 ^ 62 };
+
+    // Sends it a letter.
+    fn send<R: Wait + Abort>(&mut self, rt: &R, letter: Post);
+
+    // Sends the orders that are left, and answers how many there were.
+    fn flush<R: Abort>(&mut self, rt: &R) -> u64;
+
+    // The number, the slot and the body of the process that was put; the port has it no more.
+    fn put<R: Wait + Abort>(&mut self, rt: &R) -> Option<(u64, usize, u64)>;
+
+    // The note that the parent was told; the port has it no more.
+    fn told<R: Wait + Abort>(&mut self, rt: &R) -> Option<Note>;
+
+    // What the process of this number sees in slot 0.
+    fn look<R: Abort>(&mut self, rt: &R, number: u64) -> Signal;
+
+    // What is known of the answer to a call.
+    fn known<R: Wait + Abort>(&self, rt: &R, call: u64) -> Known;
+
+    // The body of a call.
+    fn take_box<R: Wait + Abort>(&mut self, rt: &R, call: u64) -> Option<u64>;
+
+    // A body that is nobody's.
+    fn take_stray<R: Wait + Abort>(&mut self, rt: &R) -> Option<u64>;
+
+    // Whether the port has nothing that wasn't looked at.
+    fn has_empty_port(&self) -> bool;
 }
 
-fn opens<N: WordsNaming + InboxNaming + PlanNaming, R: Wait + Abort>(
-    rt: &R,
-    one: &mut Alone<N>,
-    orders: u64,
-) {
-    one.opens(rt);
-    one.sends(rt, orders);
+// A stand with the steps that it alone has.
+pub(crate) trait OwnSteps: Stand {
+    fn acts<R: Wait + Abort>(&mut self, rt: &R, alloc: Global, step: Step);
 }
 
-// A call with a body comes and is taken, and as many orders follow.
-fn starts<N: WordsNaming + InboxNaming + PlanNaming, R: Wait + Abort>(
-    rt: &R,
-    alloc: Global,
-    one: &mut Alone<N>,
-    number: u64,
-    call: Call,
-    body: u64,
-    orders: u64,
-) -> Result<(), Fail>
+// The letter of a call with a body.
+fn start_call(rt: &impl Abort, alloc: Global, number: u64, call: Call, body: u64) -> Post
     requires { true ≡ is_start_call call }
 {
-    let Ok(letter) = Letter::call(alloc, number, call, Some(body)) else {
-        return Err("memory was refused".into());
-    };
-    takes(rt, one, letter, orders);
-    Ok(())
+    got(rt, "memory was refused", Letter::call(alloc, number, call, Some(body)))
 }
 
-fn counts<N: WordsNaming + InboxNaming + PlanNaming, R: Wait + Abort>(
-    rt: &R,
-    alloc: Global,
-    one: &mut Alone<N>,
-    number: u64,
-) -> Result<(), Fail> {
-    let Ok(letter) = Letter::call(alloc, number, Call::CountChildren, None) else {
-        return Err("memory was refused".into());
-    };
-    takes(rt, one, letter, 0);
-    Ok(())
+fn count_call(rt: &impl Abort, alloc: Global, number: u64) -> Post {
+    let letter = Letter::call(alloc, number, Call::CountChildren, None);
+    got(rt, "memory was refused", letter)
 }
 
-fn knows<N: WordsNaming + InboxNaming + PlanNaming, R: Abort>(
-    rt: &R,
-    one: &Alone<N>,
-    call: u64,
-    what: Known,
-) {
-    assert_eq!(rt; known_of(one.table.reply(call)), what);
-}
-
-fn cuts<N: WordsNaming + InboxNaming + PlanNaming, R: Abort>(
-    rt: &R,
-    one: &mut Alone<N>,
-    answer: CutAnswer,
-) {
-    assert_eq!(rt; one.table.cut(), Ok(answer));
-}
-
-fn gives_back<N: WordsNaming + InboxNaming + PlanNaming, R: Abort>(
-    rt: &R,
-    one: &mut Alone<N>,
-    call: u64,
-    body: Option<u64>,
-) {
-    assert_eq!(rt; one.table.take_box(call), body);
-}
-
-fn has_no_stray<N: WordsNaming + InboxNaming + PlanNaming, R: Abort>(rt: &R, one: &mut Alone<N>) {
-    assert_eq!(rt; one.table.take_stray(), None);
-}
-
-fn tells_asked<N: WordsNaming + InboxNaming + PlanNaming, R: Abort>(rt: &R, one: &Alone<N>) {
-    assert!(rt; one.has_told_asked());
-}
-
-fn has_empty_port<N: WordsNaming + InboxNaming + PlanNaming, R: Abort>(rt: &R, one: &Alone<N>) {
-    assert!(rt; one.has_empty_port());
-}
-
-// One step.
-fn does<N: WordsNaming + InboxNaming + PlanNaming, R: Wait + Abort>(
-    rt: &R,
-    alloc: Global,
-    one: &mut Alone<N>,
-    step: Step,
-) -> Result<(), Fail> {
-    match step {
-        Step::StartsFirst(call, body) => {
-            starts(rt, alloc, one, call, Call::StartChild(child()?), body, 0)
+fn letter_of(rt: &impl Abort, alloc: Global, sent: Sent) -> Post {
+    match sent {
+        Sent::Up(number) => Letter::note(Note::Up(number), None),
+        Sent::Crash(number, body) => Letter::note(Note::Exit(number, crash()), Some(body)),
+        Sent::Exit(number, reason, body) => Letter::note(Note::Exit(number, reason), Some(body)),
+        Sent::Failed(number, body) => Letter::note(Note::Failed(number, crash()), Some(body)),
+        Sent::First(number, body) => {
+            start_call(rt, alloc, number, Call::StartChild(child(rt)), body)
         }
-        Step::StartsSecond(call, body) => {
-            starts(rt, alloc, one, call, Call::StartChild(second()?), body, 1)
+        Sent::Second(number, body) => {
+            start_call(rt, alloc, number, Call::StartChild(second(rt)), body)
         }
-        Step::StartsDynamic(call, body) => {
-            starts(rt, alloc, one, call, Call::StartDynamic, body, 1)
-        }
-        Step::Counts(call) => counts(rt, alloc, one, call),
-        _ => {
-            moves(rt, one, step);
-            sees(rt, one, step);
-            Ok(())
-        }
+        Sent::Dynamic(number, body) => start_call(rt, alloc, number, Call::StartDynamic, body),
+        Sent::Count(number) => count_call(rt, alloc, number),
     }
 }
 
-// What is done to it without memory.
-fn moves<N: WordsNaming + InboxNaming + PlanNaming, R: Wait + Abort>(
+// A turn with this answer, after which as many orders are left.
+fn turns<S: Stand, R: Wait + Abort>(rt: &R, one: &mut S, wanted: TurnAnswer, orders: u64) {
+    let answer = one.turn(rt, 0, 0, Signal::None);
+    same(rt, "a turn", answer, Ok(wanted));
+    same(rt, "the orders", one.flush(rt), orders);
+}
+
+// This comes and is taken, and as many orders are left.
+pub(crate) fn takes<S: Stand, R: Wait + Abort>(
     rt: &R,
-    one: &mut Alone<N>,
-    step: Step,
+    alloc: Global,
+    one: &mut S,
+    sent: Sent,
+    orders: u64,
 ) {
+    one.send(rt, letter_of(rt, alloc, sent));
+    turns(rt, one, TurnAnswer::Took, orders);
+}
+
+// What is done to it.
+fn does<S: OwnSteps, R: Wait + Abort>(rt: &R, alloc: Global, one: &mut S, step: Step) {
     match step {
-        Step::Turn(number, reading, told, answer) => {
-            one.turns(rt, number, reading.min(MAX_READING), told, answer)
+        Step::Turn(number, reading, told, wanted) => {
+            let answer = one.turn(rt, number, reading.min(MAX_READING), told);
+            same(rt, "a turn", answer, wanted)
         }
-        Step::Sends(orders) => one.sends(rt, orders),
-        Step::Opens(orders) => opens(rt, one, orders),
-        Step::ComesUp(number) => one.send(rt, Letter::note(Note::Up(number), None)),
-        Step::ComesKilled(number, body) => one.send(
-            rt,
-            Letter::note(Note::Exit(number, Reason::Killed), Some(body)),
-        ),
-        Step::Up(number, orders) => takes(rt, one, Letter::note(Note::Up(number), None), orders),
-        Step::Crashes(number, body, orders) => takes(
-            rt,
-            one,
-            Letter::note(Note::Exit(number, crash()), Some(body)),
-            orders,
-        ),
-        Step::Ends(number, reason, body, orders) => takes(
-            rt,
-            one,
-            Letter::note(Note::Exit(number, reason), Some(body)),
-            orders,
-        ),
-        Step::Fails(number, body) => takes(
-            rt,
-            one,
-            Letter::note(Note::Failed(number, crash()), Some(body)),
-            0,
-        ),
-        Step::Cuts(answer) => cuts(rt, one, answer),
-        _ => {}
+        Step::Sends(orders) => same(rt, "the orders", one.flush(rt), orders),
+        Step::Opens(orders) => turns(rt, one, TurnAnswer::Opened, orders),
+        Step::Comes(sent) => one.send(rt, letter_of(rt, alloc, sent)),
+        Step::Takes(sent, orders) => takes(rt, alloc, one, sent, orders),
+        _ => sees(rt, alloc, one, step),
     }
 }
 
 // What is seen of it.
-fn sees<N: WordsNaming + InboxNaming + PlanNaming, R: Wait + Abort>(
-    rt: &R,
-    one: &mut Alone<N>,
-    step: Step,
-) {
+fn sees<S: OwnSteps, R: Wait + Abort>(rt: &R, alloc: Global, one: &mut S, step: Step) {
     match step {
-        Step::Knows(call, what) => knows(rt, one, call, what),
-        Step::Puts(number, slot, body) => one.puts(rt, (number, slot, body)),
-        Step::Tells(note) => one.tells(rt, note),
-        Step::TellsAsked => tells_asked(rt, one),
-        Step::Shows(number, signal) => one.shows(rt, number, signal),
-        Step::PortIsEmpty => has_empty_port(rt, one),
-        Step::GivesBack(call, body) => gives_back(rt, one, call, body),
-        Step::HasNoStray => has_no_stray(rt, one),
-        _ => {}
+        Step::Knows(call, what) => same(rt, "of an answer", one.known(rt, call), what),
+        Step::Puts(number, slot, body) => {
+            same(rt, "the process", one.put(rt), Some((number, slot, body)))
+        }
+        Step::Tells(note) => same(rt, "the note", one.told(rt), Some(note)),
+        Step::Shows(number, signal) => same(rt, "a signal", one.look(rt, number), signal),
+        Step::PortIsEmpty => assert!(rt; one.has_empty_port()),
+        Step::GivesBack(call, body) => same(rt, "a call's body", one.take_box(rt, call), body),
+        Step::HasStray(body) => same(rt, "a stray body", one.take_stray(rt), body),
+        _ => one.acts(rt, alloc, step),
     }
 }
 
 // All steps, one after the other.
-fn play<N: WordsNaming + InboxNaming + PlanNaming, R: Wait + Abort>(
-    rt: &R,
-    alloc: Global,
-    one: &mut Alone<N>,
-    steps: &[Step],
-) -> Result<(), Fail> {
+pub(crate) fn play<S: OwnSteps, R: Wait + Abort>(rt: &R, alloc: Global, one: &mut S, steps: &[Step]) {
     for step in steps {
-        does(rt, alloc, one, *step)?;
+        does(rt, alloc, one, *step);
     }
-    Ok(())
 }
 
 // As many events are stored at the end.
@@ -293,7 +247,7 @@ fn stores<N: WordsNaming + InboxNaming + PlanNaming, R: Abort>(
     drop(ends);
     let (core, owner) = office.into_parts();
     drop(owner);
-    assert_eq!(rt; core.history().len(), events);
+    same(rt, "the events", core.history().len(), events);
     drop(core);
 }
 
@@ -306,19 +260,19 @@ fn play_in<N: WordsNaming + InboxNaming + PlanNaming, R: Wait + Abort>(
     own: &[u64],
     steps: &[Step],
     events: usize,
-) -> Result<(), Fail>
+)
     requires words { words.words ≡ N.words }
     requires slots { words.slots ≡ 256 }
     requires inbox { inbox ≡ N.inbox 0 }
     requires plan { supervisor ≡ N.plan 0 }
 {
-    let mut one = make_table::<N>(alloc, words, inbox, supervisor, own)?;
-    let played = play(rt, alloc, &mut one, steps);
+    let mut one = make_table::<N, _>(rt, alloc, words, inbox, supervisor, own);
+    play(rt, alloc, &mut one, steps);
     stores(rt, one, events);
-    played
 }
 
-// Plays these steps on a new supervisor with these bodies for its specifications. In the end it stores as many events.
+// Plays these steps on the table of a new supervisor with these bodies for its specifications. In the end it stores as many
+// events.
 pub(crate) fn plays<R: Wait + Abort>(
     rt: &R,
     alloc: Global,
@@ -326,7 +280,7 @@ pub(crate) fn plays<R: Wait + Abort>(
     own: &[u64],
     steps: &[Step],
     events: usize,
-) -> Result<(), Fail> {
-    let (words, inbox, supervisor) = open_for(alloc, supervisor)?;
-    play_in::<Brand, _>(rt, alloc, words, inbox, supervisor, own, steps, events)
+) {
+    let (words, inbox) = open_parts(rt, alloc);
+    play_in::<Brand, _>(rt, alloc, words, inbox, supervisor, own, steps, events);
 }
