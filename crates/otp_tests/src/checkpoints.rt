@@ -16,7 +16,7 @@ const CUT_EARLY: [Step; 8] = [
     ("cut", ""),
     (
         "counts",
-        "events 4+0 starts 2 restarts 1 kept 1 numbers 2 2 dropped None rows 1 full false\n",
+        "events 4+0 starts 2 restarts 1 kept 1 numbers 2 2 dropped none rows 1\n",
     ),
     ("exit 2 error:x", "end shutdown\n"),
 ];
@@ -54,7 +54,7 @@ const DROPPED: [Step; 15] = [
     ("answer 10", "not yet\n"),
     (
         "counts",
-        "events 4+0 starts 2 restarts 0 kept 0 numbers 2 2 dropped Some(9) rows 2 full false\n",
+        "events 4+0 starts 2 restarts 0 kept 0 numbers 2 2 dropped 9 rows 2\n",
     ),
     ("call 3 terminate a", "ask a #1\n"),
     ("call 4 count", ""),
@@ -83,12 +83,12 @@ const ROOMS: [Step; 6] = [
     ("room 4", ""),
     (
         "counts",
-        "events 0+3 starts 2 restarts 0 kept 0 numbers 2 2 dropped None rows 2 full false\n",
+        "events 0+3 starts 2 restarts 0 kept 0 numbers 2 2 dropped none rows 2\n",
     ),
     ("room 3", ""),
     (
         "counts",
-        "events 3+0 starts 2 restarts 0 kept 0 numbers 2 2 dropped None rows 2 full false\n",
+        "events 3+0 starts 2 restarts 0 kept 0 numbers 2 2 dropped none rows 2\n",
     ),
 ];
 
@@ -104,17 +104,17 @@ const FILLED: [Step; 8] = [
     ("room 65536", ""),
     (
         "counts",
-        "events 0+512 starts 256 restarts 0 kept 0 numbers 256 256 dropped None rows 256 full false\n",
+        "events 0+512 starts 256 restarts 0 kept 0 numbers 256 256 dropped none rows 256\n",
     ),
     ("asks 1", ""),
     (
         "counts",
-        "events 0+513 starts 256 restarts 0 kept 0 numbers 256 256 dropped None rows 256 full true\n",
+        "events 0+513 starts 256 restarts 0 kept 0 numbers 256 256 dropped none rows 256 full\n",
     ),
     ("room 65536", ""),
     (
         "counts",
-        "events 513+0 starts 256 restarts 0 kept 0 numbers 256 256 dropped Some(256) rows 256 full false\n",
+        "events 513+0 starts 256 restarts 0 kept 0 numbers 256 256 dropped 256 rows 256\n",
     ),
 ];
 
@@ -148,7 +148,7 @@ const MOVED_EARLY: [Step; 8] = [
     ),
     (
         "counts",
-        "events 0+0 starts 0 restarts 1 kept 1 numbers 0 2 dropped None rows 1 full false\n",
+        "events 0+0 starts 0 restarts 1 kept 1 numbers 0 2 dropped none rows 1\n",
     ),
     ("exit 2 error:x", "end shutdown\n"),
 ];
@@ -191,7 +191,10 @@ const MOVED_AT_WORK: [Step; 13] = [
         "move on",
         "Counts { events: 7, starts: 2, restarts: 0, greatest_number: 2, greatest_call: Some(9) }\n",
     ),
-    ("state", "Open(0) works true waits Some(Item(Call(4, CountChildren))) until Some(100)\n"),
+    (
+        "state",
+        "Open(0) works true waits Some(Item(Call(4, CountChildren))) until Some(100)\n",
+    ),
     ("answer 3", "not yet\nopen\n"),
     ("answer 5", "not yet\nopen\n"),
     ("answer 9", "gone\n"),

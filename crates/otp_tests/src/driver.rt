@@ -7,11 +7,10 @@ use otp_file::read_tree;
 use otp_needs::NeedsNumber;
 use otp_reason::{Note, Reason, Text};
 use otp_rules::{Call, CountsNow, Effect, Item, Kind, Reply};
-use otp_text::{Line, Printer, read_line, read_number, write_reason};
+use otp_text::{Line, Printer, read_line, read_number, write_number, write_reason};
 use std::alloc::Global;
-use std::mem;
 use std::process::Abort;
-use std::str;
+use std::{mem, str};
 
 /// A step, and all that comes of it. Lines are those of `sim`, and their calls are numbered 1, 2, 3 in their order.
 ///
@@ -59,6 +58,11 @@ fn put(rt: &impl Abort, out: &mut Vec<u8>, text: &str) {
     got(rt, out.extend_from_slice(text.as_bytes()));
 }
 
+fn put_number(rt: &impl Abort, out: &mut Vec<u8>, word: &str, number: u64) {
+    put(rt, out, word);
+    got(rt, write_number(number, out));
+}
+
 // A text that was made is put, and let go.
 fn put_made(rt: &impl Abort, out: &mut Vec<u8>, text: String) {
     put(rt, out, text.as_str());
@@ -72,7 +76,13 @@ pub(crate) fn checkpoint(rt: &impl Abort, alloc: Global, core: &mut Core) -> Bas
 }
 
 // The line of an order; an answer is told as a copy of it, which is the same.
-fn print(rt: &impl Abort, alloc: Global, effect: &Effect, reply: Option<&Reply>, out: &mut Vec<u8>) {
+fn print(
+    rt: &impl Abort,
+    alloc: Global,
+    effect: &Effect,
+    reply: Option<&Reply>,
+    out: &mut Vec<u8>,
+) {
     let mut printer = Printer::new(alloc);
     got(rt, printer.print(effect, reply, out));
     drop(printer);
@@ -89,7 +99,10 @@ impl Driver {
     pub(crate) fn open(rt: &impl Abort, alloc: Global, tree: &str) -> Driver {
         let tree = got(rt, read_tree(alloc, tree.as_bytes()));
         let supervisor = tree.supervisor();
-        let core = got(rt, Core::open(alloc, supervisor.flags(), supervisor.specs()));
+        let core = got(
+            rt,
+            Core::open(alloc, supervisor.flags(), supervisor.specs()),
+        );
         drop(tree);
         let mut driver = Driver {
             core,
@@ -268,22 +281,21 @@ impl Driver {
         self.told = self.core.effects().len();
     }
 
-    fn put_counts(&self, rt: &impl Abort, alloc: Global, out: &mut Vec<u8>) {
+    fn put_counts(&self, rt: &impl Abort, out: &mut Vec<u8>) {
         let core = &self.core;
-        let text = format!(in alloc;
-            "events {}+{} starts {} restarts {} kept {} numbers {} {} dropped {:?} rows {} full {}\n",
-            core.events_cut(),
-            core.history().len(),
-            core.count_starts(),
-            core.count_restarts(),
-            core.kept_restarts().len(),
-            core.last_number(),
-            core.greatest_number(),
-            core.greatest_dropped_call(),
-            core.rows().len(),
-            core.is_full()
-        );
-        put_made(rt, out, got(rt, text));
+        put_number(rt, out, "events ", core.events_cut());
+        put_number(rt, out, "+", core.history().len() as u64);
+        put_number(rt, out, " starts ", core.count_starts());
+        put_number(rt, out, " restarts ", core.count_restarts());
+        put_number(rt, out, " kept ", core.kept_restarts().len() as u64);
+        put_number(rt, out, " numbers ", core.last_number());
+        put_number(rt, out, " ", core.greatest_number());
+        match core.greatest_dropped_call() {
+            Some(call) => put_number(rt, out, " dropped ", call),
+            None => put(rt, out, " dropped none"),
+        }
+        put_number(rt, out, " rows ", core.rows().len() as u64);
+        put(rt, out, if core.is_full() { " full\n" } else { "\n" });
     }
 
     fn put_state(&self, rt: &impl Abort, alloc: Global, out: &mut Vec<u8>) {
@@ -306,10 +318,11 @@ impl Driver {
     }
 
     // The ends, each with the number of its opening; told as copies of them.
-    fn put_ends(&self, rt: &impl Abort, alloc: Global, out: &mut Vec<u8>) {
+    fn put_ends(&self, rt: &impl Abort, out: &mut Vec<u8>) {
         for (own, end) in self.core.ends() {
             let copy = got(rt, end.try_clone());
-            put_made(rt, out, got(rt, format!(in alloc; "{own} ")));
+            put_number(rt, out, "", *own);
+            put(rt, out, " ");
             got(rt, write_reason(&copy.reason, out));
             drop(copy);
             put(rt, out, "\n");
@@ -340,9 +353,9 @@ impl Driver {
             "cut" => self.cut(rt),
             "move on" => self.move_on(rt, alloc, out),
             "move out" => self.move_out(rt, alloc, out),
-            "counts" => self.put_counts(rt, alloc, out),
+            "counts" => self.put_counts(rt, out),
             "state" => self.put_state(rt, alloc, out),
-            "ends" => self.put_ends(rt, alloc, out),
+            "ends" => self.put_ends(rt, out),
             _ => match step.strip_prefix("call ") {
                 Some(words) => self.take_call(rt, words),
                 None => self.does_often(rt, alloc, step, out),

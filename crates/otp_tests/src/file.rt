@@ -30,13 +30,19 @@ fn tells(rt: &impl Abort, alloc: Global, file: &str, wanted: &str) {
 const OF_SUPERVISORS: [(&str, &str); 12] = [
     ("", READ),
     ("a =", "E10 table 0, the file is not TOML"),
-    ("period = 0\nchilds = []", "E11 table 0, supervisor: unknown key"),
+    (
+        "period = 0\nchilds = []",
+        "E11 table 0, supervisor: unknown key",
+    ),
     ("tree = {}", "E11 table 0, supervisor: unknown key"),
     (
         "intensity = -1\nstrategy = 1",
         "E13 table 0, supervisor, strategy: the value is of the wrong kind",
     ),
-    ("strategy = \"one\"", "E13 table 0, supervisor, strategy: the value is of the wrong kind"),
+    (
+        "strategy = \"one\"",
+        "E13 table 0, supervisor, strategy: the value is of the wrong kind",
+    ),
     (
         "intensity = 1001\nperiod = 0",
         "E1 table 0, supervisor, intensity: the number is out of its limits",
@@ -45,12 +51,18 @@ const OF_SUPERVISORS: [(&str, &str); 12] = [
         "period = 0\nauto_shutdown = true",
         "E1 table 0, supervisor, period: the number is out of its limits",
     ),
-    ("period = 1000001", "E1 table 0, supervisor, period: the number is out of its limits"),
+    (
+        "period = 1000001",
+        "E1 table 0, supervisor, period: the number is out of its limits",
+    ),
     (
         "auto_shutdown = \"some\"\nchild = 1",
         "E13 table 0, supervisor, auto_shutdown: the value is of the wrong kind",
     ),
-    ("child = 1", "E13 table 0, supervisor, child: the value is of the wrong kind"),
+    (
+        "child = 1",
+        "E13 table 0, supervisor, child: the value is of the wrong kind",
+    ),
     (
         "strategy = \"simple_one_for_one\"",
         "E6 table 0, simple_one_for_one needs exactly one specification",
@@ -59,7 +71,10 @@ const OF_SUPERVISORS: [(&str, &str); 12] = [
 
 /// Files whose supervisor has a second child, and the first fault of each.
 const OF_CHILDREN: [(&str, &str); 19] = [
-    ("child = [{ id = \"a\", start = \"a\" }, { id = \"b\", start = \"b\" }]", READ),
+    (
+        "child = [{ id = \"a\", start = \"a\" }, { id = \"b\", start = \"b\" }]",
+        READ,
+    ),
     (
         "child = [{ id = \"a\", start = \"a\" }, 1]",
         "E13 table 0, child 1: the value is of the wrong kind",

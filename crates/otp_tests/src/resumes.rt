@@ -124,17 +124,52 @@ const COUNTS: Option<BaseFault> = Some(BaseFault::Counts);
 
 const OF_RESTARTS: [Told; 12] = [
     ("as it stands", Change::Nothing, None, None),
-    ("a restart before another", Change::Restart(900), RESTARTS, None),
+    (
+        "a restart before another",
+        Change::Restart(900),
+        RESTARTS,
+        None,
+    ),
     ("no restart", Change::NoRestarts, None, None),
     ("a restart", Change::Restart(800), None, None),
     ("one too many", Change::Restart(900), RESTARTS, None),
-    ("one too many at the end", Change::Phase(Phase::Ended(0, Ending::Intensity)), None, Some(OrderFault::Rows)),
-    ("a restart to come", Change::Last(899), RESTARTS, Some(OrderFault::Rows)),
-    ("a later event", Change::Last(10_000), None, Some(OrderFault::Rows)),
-    ("more than are kept", Change::Restart(9_000), RESTARTS, Some(OrderFault::Rows)),
-    ("an end without restarts", Change::NoRestarts, RESTARTS, Some(OrderFault::Rows)),
+    (
+        "one too many at the end",
+        Change::Phase(Phase::Ended(0, Ending::Intensity)),
+        None,
+        Some(OrderFault::Rows),
+    ),
+    (
+        "a restart to come",
+        Change::Last(899),
+        RESTARTS,
+        Some(OrderFault::Rows),
+    ),
+    (
+        "a later event",
+        Change::Last(10_000),
+        None,
+        Some(OrderFault::Rows),
+    ),
+    (
+        "more than are kept",
+        Change::Restart(9_000),
+        RESTARTS,
+        Some(OrderFault::Rows),
+    ),
+    (
+        "an end without restarts",
+        Change::NoRestarts,
+        RESTARTS,
+        Some(OrderFault::Rows),
+    ),
     ("it runs", Change::Phase(Phase::Open(0)), None, None),
-    ("it was stopped", Change::Phase(Phase::Ended(0, Ending::Asked)), None, Some(OrderFault::Rows)),
+    (
+        "it was stopped",
+        Change::Phase(Phase::Ended(0, Ending::Asked)),
+        None,
+        Some(OrderFault::Rows),
+    ),
 ];
 
 #[test]
@@ -145,9 +180,19 @@ fn refused_restarts(rt: HostRuntime) {
 const OF_NUMBERS: [Told; 6] = [
     ("a late event", Change::Last(MAX_READING + 1), LATE, None),
     ("the latest event", Change::Last(MAX_READING), None, None),
-    ("too many events", Change::Events((1 << 62) + 1), COUNTS, None),
+    (
+        "too many events",
+        Change::Events((1 << 62) + 1),
+        COUNTS,
+        None,
+    ),
     ("more starts than events", Change::Events(1), COUNTS, None),
-    ("a number to come", Change::Greatest(1), COUNTS, Some(OrderFault::Processes)),
+    (
+        "a number to come",
+        Change::Greatest(1),
+        COUNTS,
+        Some(OrderFault::Processes),
+    ),
     ("no number to come", Change::Greatest(2), COUNTS, None),
 ];
 
@@ -159,9 +204,24 @@ fn refused_numbers(rt: HostRuntime) {
 const PROCESSES: Option<OrderFault> = Some(OrderFault::Processes);
 
 const OF_CHILDREN: [Told; 4] = [
-    ("two children of one process", Change::Rows(1), None, PROCESSES),
-    ("as many as may be", Change::Rows(MAX_CHILDREN - 2), None, PROCESSES),
-    ("one child more", Change::Rows(1), Some(BaseFault::Rows), PROCESSES),
+    (
+        "two children of one process",
+        Change::Rows(1),
+        None,
+        PROCESSES,
+    ),
+    (
+        "as many as may be",
+        Change::Rows(MAX_CHILDREN - 2),
+        None,
+        PROCESSES,
+    ),
+    (
+        "one child more",
+        Change::Rows(1),
+        Some(BaseFault::Rows),
+        PROCESSES,
+    ),
     (
         "an id twice",
         Change::Spec,
@@ -179,12 +239,32 @@ const WORK: Option<OrderFault> = Some(OrderFault::Work);
 
 const OF_WORK: [Told; 8] = [
     ("a stop without work", Change::Stop(2), None, WORK),
-    ("an end", Change::Follows(Some(Sequel::End(Ending::Asked))), None, None),
+    (
+        "an end",
+        Change::Follows(Some(Sequel::End(Ending::Asked))),
+        None,
+        None,
+    ),
     ("a stop of nobody", Change::Stop(1), None, WORK),
-    ("an end that stops nobody", Change::NoStops, None, Some(OrderFault::Ending)),
+    (
+        "an end that stops nobody",
+        Change::NoStops,
+        None,
+        Some(OrderFault::Ending),
+    ),
     ("an end that starts a child", Change::Start, None, WORK),
-    ("a stop that starts a child", Change::Follows(Some(Sequel::Stopped(1))), None, Some(OrderFault::Stopping)),
-    ("a restart", Change::Follows(Some(Sequel::Nothing)), None, None),
+    (
+        "a stop that starts a child",
+        Change::Follows(Some(Sequel::Stopped(1))),
+        None,
+        Some(OrderFault::Stopping),
+    ),
+    (
+        "a restart",
+        Change::Follows(Some(Sequel::Nothing)),
+        None,
+        None,
+    ),
     ("a start without work", Change::Follows(None), None, WORK),
 ];
 

@@ -19,7 +19,7 @@ const RESTARTS: [Step; 5] = [
     ("exit 1001 error:x", "end shutdown\n"),
     (
         "counts",
-        "events 0+2003 starts 1001 restarts 1001 kept 1001 numbers 1001 1001 dropped None rows 0 full false\n",
+        "events 0+2003 starts 1001 restarts 1001 kept 1001 numbers 1001 1001 dropped none rows 0\n",
     ),
 ];
 
@@ -61,10 +61,7 @@ const MOVED_OUT: [Step; 6] = [
     ("up 2", "ready\n"),
     ("which", "reply 1 which a,#1,worker,a b,#2,worker,b\n"),
     ("exit 2 error:x", "start b #3\n"),
-    (
-        "move out",
-        "start a #1\nstart b #2\nready\nstart b #3\n",
-    ),
+    ("move out", "start a #1\nstart b #2\nready\nstart b #3\n"),
     ("answer 1", "reply 1 which a,#1,worker,a b,#2,worker,b\n"),
 ];
 
@@ -118,7 +115,10 @@ const ANSWERED: [Step; 12] = [
         "call 5 count",
         "reply 5 count specs 2 active 2 supervisors 0 workers 2\n",
     ),
-    ("call 1 which", "reply 1 which a,#1,worker,a b,#2,worker,b\n"),
+    (
+        "call 1 which",
+        "reply 1 which a,#1,worker,a b,#2,worker,b\n",
+    ),
     (
         "answer 5",
         "reply 5 count specs 2 active 2 supervisors 0 workers 2\n",
@@ -134,7 +134,12 @@ fn an_answer_is_found_by_its_call(rt: HostRuntime) {
 
 // A strategy, a period, how many children of one id, and why they aren't opened.
 const REFUSED: [(Strategy, u64, usize, SpecFault); 4] = [
-    (Strategy::OneForOne, 5, 2, SpecFault::DuplicateId { index: 1 }),
+    (
+        Strategy::OneForOne,
+        5,
+        2,
+        SpecFault::DuplicateId { index: 1 },
+    ),
     (Strategy::OneForOne, 5, 257, SpecFault::TooManyChildren),
     (Strategy::SimpleOneForOne, 5, 2, SpecFault::SimpleNeedsOne),
     (Strategy::SimpleOneForOne, 0, 2, SpecFault::BadFlag),
@@ -209,7 +214,7 @@ const IDLE: [Step; 4] = [
     ("next 0", "None Some(Stopped)\n"),
     (
         "counts",
-        "events 0+3 starts 2 restarts 0 kept 0 numbers 2 2 dropped None rows 2 full false\n",
+        "events 0+3 starts 2 restarts 0 kept 0 numbers 2 2 dropped none rows 2\n",
     ),
 ];
 
@@ -242,7 +247,10 @@ const ENDED: [Step; 8] = [
     ("exit 2 shutdown", "ask a #1\n"),
     ("exit 1 shutdown", "end shutdown\n"),
     ("answer 1", "reply 1 which a,#1,worker,a b,#2,worker,b\n"),
-    ("state", "Ended(0, Asked) works false waits None until None\n"),
+    (
+        "state",
+        "Ended(0, Asked) works false waits None until None\n",
+    ),
     ("ends", "0 shutdown\n"),
 ];
 
@@ -254,11 +262,17 @@ fn ended_supervisor_tells(rt: HostRuntime) {
 // What a call has added belongs to one life of the supervisor: the next one begins with the specifications.
 const ADDED: [Step; 9] = [
     ("up 1", "start x #1\nready\n"),
-    ("start added s permanent false 5000 worker", "start added #2\n"),
+    (
+        "start added s permanent false 5000 worker",
+        "start added #2\n",
+    ),
     ("up 2", "reply 1 ok #2\n"),
     ("exit 1 error:x", "ask added #2\n"),
     ("exit 2 shutdown", "end shutdown\n"),
-    ("state", "Ended(0, Intensity) works false waits None until None\n"),
+    (
+        "state",
+        "Ended(0, Intensity) works false waits None until None\n",
+    ),
     ("open 7", "start x #3\n"),
     ("up 3", "ready\n"),
     ("which", "reply 2 which x,#3,worker,x\n"),

@@ -85,7 +85,13 @@ fn single(rt: &impl Abort, alloc: Global, children: &[Child], shared: &Common) -
     one(rt, alloc, plan_of(rt, alloc, children, 1, shared))
 }
 
-fn storm(rt: &impl Abort, alloc: Global, of_root: bool, intensity: u64, shared: &Common) -> Vec<Plan> {
+fn storm(
+    rt: &impl Abort,
+    alloc: Global,
+    of_root: bool,
+    intensity: u64,
+    shared: &Common,
+) -> Vec<Plan> {
     let kind = if of_root {
         Kind::Crashes(false)
     } else {
@@ -219,7 +225,12 @@ pub(crate) fn check_ledger<R: Abort>(rt: &R, report: &Closed) {
 // The tree began so many processes, and all of them have ended.
 fn all_ended<R: Abort>(rt: &R, report: &Closed, begun: u64) {
     check_ledger(rt, report);
-    same(rt, "what began and is live", (report.begun, report.live), (begun, 0));
+    same(
+        rt,
+        "what began and is live",
+        (report.begun, report.live),
+        (begun, 0),
+    );
 }
 
 /// A supervisor that started and restarted so many children, and was asked to end.
@@ -439,7 +450,12 @@ fn supervisors_that_wait_do_what_comes_for_them(rt: HostRuntime) {
 const LEFT_WAITING: Life = Life {
     grove: Grove::Waiters,
     turns: 1_000,
-    steps: &[Step::Up, Step::Turns(WAITERS), Step::Rounds(11), Step::Count],
+    steps: &[
+        Step::Up,
+        Step::Turns(WAITERS),
+        Step::Rounds(11),
+        Step::Count,
+    ],
     seen: &[Seen::Up, Seen::Turns(WAITERS)],
     ..UP_AND_DOWN
 };
@@ -462,7 +478,12 @@ const STOPPED_WAITING: Life = Life {
 // told of those in which there was nothing to do: of all turns of ten rounds but the first.
 fn idles(rt: &impl Abort, lived: &Lived, hands: u64, turns: u64, live: u64) {
     let of_workers = (lived.shared.starts(), lived.shared.turns());
-    same(rt, "starts and turns of workers", of_workers, (WAITERS, turns));
+    same(
+        rt,
+        "starts and turns of workers",
+        of_workers,
+        (WAITERS, turns),
+    );
     let report = &lived.report;
     check_ledger(rt, report);
     let counted = (report.begun, report.live);
@@ -527,7 +548,12 @@ const ENDS_OFTEN: Life = Life {
 // A supervisor that has ended as it was asked to. It had more events than a history holds exactly where a checkpoint is wanted.
 fn has_lived(rt: &impl Abort, table: &TableReport, is_long: bool) {
     let told = (table.end(), table.core.events_cut() >= 65_536, table.unsent);
-    same(rt, "a supervisor", told, (Some(Reason::Shutdown), is_long, 0));
+    same(
+        rt,
+        "a supervisor",
+        told,
+        (Some(Reason::Shutdown), is_long, 0),
+    );
     assert!(rt; table.events() <= 65_536);
 }
 

@@ -141,10 +141,7 @@ fn close_once<N: WordsNaming + InboxNaming + PlanNaming + RunNaming, R: Wait>(
     rt: &R,
     alloc: Global,
     back: Unclosed<N, Worker, BoxedSubsystem>,
-) -> Result<
-    Closed,
-    CloseFault<Worker, BoxedSubsystem, Unclosed<N, Worker, BoxedSubsystem>>,
-> {
+) -> Result<Closed, CloseFault<Worker, BoxedSubsystem, Unclosed<N, Worker, BoxedSubsystem>>> {
     let Unclosed {
         system,
         hands,
