@@ -16,6 +16,9 @@ def calls(make):
     yield from greatest_intensity(sim)
     yield more_events_than_a_history_holds(sim)
     yield from most_children(sim)
+    yield from children_alike(sim)
+    yield from most_supervisors(sim)
+    yield from deepest_supervisor(sim)
     yield many_restarts_far_apart(sim)
     yield longest_printed_line(sim)
     yield long_file(sim)
@@ -54,6 +57,34 @@ def most_children(sim):
     shows = "".join(f"start c{number - 1} #{number}\n" for number in range(1, 257)) + "ready\nreply 1 error too_many_children\n"
     yield sim("most_children", with_children(256), lines, shows)
     yield sim("one_child_too_many", with_children(257), "up 1\n", "", TIP + "tree refused: E7\n", 1)
+
+
+def refused(sim, name, tree, code):
+    """A tree file that is refused for this fault."""
+    return sim(name, tree, "up 1\n", "", TIP + f"tree refused: {code}\n", 1)
+
+
+def children_alike(sim):
+    """That children have one id is told only where there aren't too many."""
+    for count, code in ((256, "E3"), (257, "E7")):
+        yield refused(sim, f"children_alike, {count}", TREE * count, code)
+
+
+def most_supervisors(sim):
+    """64 supervisors are read, and no more. The root has the others."""
+    for count in (63, 64):
+        tree = "".join(CHILD.format(f"c{place}", "a") + "tree = {}\n" for place in range(count))
+        name = f"most_supervisors, {count + 1}"
+        yield refused(sim, name, tree, "E15") if count > 63 else sim(name, tree, "up 1\n", "start c0 #1\nstart c1 #2\n")
+
+
+def deepest_supervisor(sim):
+    """Supervisors are read down to the 16th level, and no deeper."""
+    for depth in (16, 17):
+        paths = ["child" + ".tree.child" * level for level in range(depth - 1)]
+        tree = "".join(f'[[{path}]]\nid = "a"\nstart = "a"\n[{path}.tree]\n' for path in paths)
+        name = f"deepest_supervisor, {depth}"
+        yield refused(sim, name, tree, "E14") if depth > 16 else sim(name, tree, "up 1\n", "start a #1\nready\n")
 
 
 def many_restarts_far_apart(sim):

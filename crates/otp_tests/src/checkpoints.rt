@@ -1,161 +1,238 @@
-//! A supervisor's history that is cut: what is forgotten, and that nothing else changes.
+//! A supervisor's history that is cut, or that goes on from a checkpoint elsewhere: what is forgotten, and that nothing else changes.
 
-use crate::driver::{Driver, Line, Order, crashes_once, exit, expect, one_child, two_children, up};
-use crate::fixtures::{child, error, named, same};
-use otp_core::{Core, MAX_EVENTS, ReplyAnswer};
-use otp_reason::Reason;
-use otp_rules::{Call, Reply};
-use otp_spec::{ChildSpec, MAX_CHILDREN, SupFlags};
-use std::alloc::Global;
-use std::process::Abort;
+use crate::driver::{Driver, ONE, Step, TWO, plays};
+use crate::fixtures::got;
+use otp_spec::MAX_CHILDREN;
+use std::alloc::{AllocError, Global};
 
-// The orders so far were carried out, and the history is cut.
-fn cut(rt: &impl Abort, core: &mut Core) {
-    core.clear_effects();
-    let cut = core.cut();
-    assert!(rt; cut.is_ok());
-}
-
-pub(crate) fn is_gone(core: &Core, call: u64) -> bool {
-    matches!(core.reply(call), ReplyAnswer::Gone)
-}
-
-fn is_not_yet(core: &Core, call: u64) -> bool {
-    matches!(core.reply(call), ReplyAnswer::NotYet)
-}
-
-pub(crate) fn is_count(core: &Core, call: u64) -> bool {
-    matches!(core.reply(call), ReplyAnswer::Kept(Reply::Count(_)))
-}
-
-// A child that crashes at 1,000 ms, and again at this reading: a restart within 5 seconds of the first is one too many. Between
-// the two the history is cut.
-fn crashes_again(rt: &impl Abort, alloc: Global, at: u64, last: Order) {
-    let mut driver = one_child(rt, alloc);
-    crashes_once(rt, &mut driver, error(), at);
-    same(rt, "the orders so far", driver.core.effects().len(), 3);
-    cut(rt, &mut driver.core);
-    counts_all(rt, &driver.core);
-    driver.line(rt, exit(2, error()));
-    expect(rt, driver.core.effects(), "after the cut", &[last]);
-    drop(driver);
-}
-
-// Nothing is stored, and all is counted.
-fn counts_all(rt: &impl Abort, core: &Core) {
-    same(rt, "the events stored", core.history().len(), 0);
-    same(rt, "the events cut", core.events_cut(), 4);
-    same(rt, "the starts", core.count_starts(), 2);
-    same(rt, "the restarts", core.count_restarts(), 1);
-    same(rt, "the last number", core.last_number(), 2);
-    let dropped = core.greatest_dropped_call();
-    same(rt, "the answers dropped", dropped, None);
-    assert!(rt; core.can_cut());
-    assert!(rt; !core.is_spent());
-}
+// A child crashes at 1,000 ms, and again later: a restart within 5 seconds of the first is one too many. Between the two the
+// history is cut.
+const CUT_EARLY: [Step; 8] = [
+    ("up 1", "start a #1\nready\n"),
+    ("at 1000", ""),
+    ("exit 1 error:x", "start a #2\n"),
+    ("up 2", ""),
+    ("at 6000", ""),
+    ("cut", ""),
+    (
+        "counts",
+        "events 4+0 starts 2 restarts 1 kept 1 numbers 2 2 dropped none rows 1\n",
+    ),
+    ("exit 2 error:x", "end shutdown\n"),
+];
 
 #[test]
 fn cut_forgets_no_restart_that_counts(rt: HostRuntime) {
-    crashes_again(&rt, rt.alloc(), 6_000, Order::End(Reason::Shutdown));
+    plays(&rt, rt.alloc(), ONE, &CUT_EARLY);
 }
+
+const CUT_LATE: [Step; 7] = [
+    ("up 1", "start a #1\nready\n"),
+    ("at 1000", ""),
+    ("exit 1 error:x", "start a #2\n"),
+    ("up 2", ""),
+    ("at 6001", ""),
+    ("cut", ""),
+    ("exit 2 error:x", "start a #3\n"),
+];
 
 #[test]
 fn restart_grows_old_over_a_cut(rt: HostRuntime) {
-    let last = Order::Start(Some(named(&rt, b"a")), 3);
-    crashes_again(&rt, rt.alloc(), 6_001, last);
+    plays(&rt, rt.alloc(), ONE, &CUT_LATE);
 }
 
 // A call is not gone while it waits or is carried out, though the answer to a later one was dropped.
+const DROPPED: [Step; 15] = [
+    ("up 1", "start a #1\nstart b #2\n"),
+    ("up 2", "ready\n"),
+    (
+        "call 9 count",
+        "reply 9 count specs 2 active 2 supervisors 0 workers 2\n",
+    ),
+    ("cut", ""),
+    ("answer 9", "gone\n"),
+    ("answer 10", "not yet\n"),
+    (
+        "counts",
+        "events 4+0 starts 2 restarts 0 kept 0 numbers 2 2 dropped 9 rows 2\n",
+    ),
+    ("call 3 terminate a", "ask a #1\n"),
+    ("call 4 count", ""),
+    ("answer 3", "not yet\nopen\n"),
+    ("answer 4", "not yet\nopen\n"),
+    ("answer 5", "gone\n"),
+    (
+        "exit 1 shutdown",
+        "reply 3 ok\nreply 4 count specs 2 active 1 supervisors 0 workers 2\n",
+    ),
+    ("answer 3", "reply 3 ok\n"),
+    (
+        "answer 4",
+        "reply 4 count specs 2 active 1 supervisors 0 workers 2\n",
+    ),
+];
+
 #[test]
 fn cut_drops_answers(rt: HostRuntime) {
-    let mut driver = two_children(&rt, rt.alloc());
-    drops_an_answer(&rt, &mut driver);
-    answers_open_calls(&rt, &mut driver);
-    drop(driver);
+    plays(&rt, rt.alloc(), TWO, &DROPPED);
 }
 
-fn drops_an_answer(rt: &impl Abort, driver: &mut Driver) {
-    driver.both_up(rt);
-    driver.take_call(rt, 9, Call::CountChildren);
-    assert!(rt; is_count(&driver.core, 9));
-    cut(rt, &mut driver.core);
-    assert!(rt; is_gone(&driver.core, 9));
-    assert!(rt; is_not_yet(&driver.core, 10));
-    let greatest = driver.core.greatest_dropped_call();
-    same(rt, "the greatest", greatest, Some(9));
-}
-
-fn answers_open_calls(rt: &impl Abort, driver: &mut Driver) {
-    let stop = Call::TerminateChild(named(rt, b"a"));
-    driver.take_call(rt, 3, stop);
-    driver.take_call(rt, 4, Call::CountChildren);
-    is_open(rt, &driver.core, 3);
-    is_open(rt, &driver.core, 4);
-    assert!(rt; is_gone(&driver.core, 5));
-    driver.line(rt, exit(1, Reason::Shutdown));
-    let core = &driver.core;
-    assert!(rt; matches!(core.reply(3), ReplyAnswer::Kept(Reply::Ok)));
-    assert!(rt; is_count(core, 4));
-    assert!(rt; !core.is_open_call(4));
-}
-
-fn is_open(rt: &impl Abort, core: &Core, call: u64) {
-    assert!(rt; is_not_yet(core, call));
-    assert!(rt; core.is_open_call(call));
-}
+const ROOMS: [Step; 6] = [
+    ("up 1", "start a #1\nstart b #2\n"),
+    ("up 2", "ready\n"),
+    ("room 4", ""),
+    (
+        "counts",
+        "events 0+3 starts 2 restarts 0 kept 0 numbers 2 2 dropped none rows 2\n",
+    ),
+    ("room 3", ""),
+    (
+        "counts",
+        "events 3+0 starts 2 restarts 0 kept 0 numbers 2 2 dropped none rows 2\n",
+    ),
+];
 
 #[test]
 fn room_is_made_under_a_limit(rt: HostRuntime) {
-    let mut driver = two_children(&rt, rt.alloc());
-    driver.both_up(&rt);
-    makes_room(&rt, &mut driver.core, 4, 3);
-    makes_room(&rt, &mut driver.core, 3, 0);
-    same(&rt, "the events cut", driver.core.events_cut(), 3);
-    drop(driver);
-}
-
-// The orders so far were carried out, and room is made under this limit: so many events are stored then.
-fn makes_room(rt: &impl Abort, core: &mut Core, limit: usize, events: usize) {
-    core.clear_effects();
-    let made = core.make_room(limit);
-    assert!(rt; made.is_ok());
-    same(rt, "the events stored", core.history().len(), events);
+    plays(&rt, rt.alloc(), TWO, &ROOMS);
 }
 
 // As many children as there may be are told 256 times: then so many lines are kept as may be.
+const FILLED: [Step; 8] = [
+    ("ups 256", ""),
+    ("asks 255", ""),
+    ("room 65536", ""),
+    (
+        "counts",
+        "events 0+512 starts 256 restarts 0 kept 0 numbers 256 256 dropped none rows 256\n",
+    ),
+    ("asks 1", ""),
+    (
+        "counts",
+        "events 0+513 starts 256 restarts 0 kept 0 numbers 256 256 dropped none rows 256 full\n",
+    ),
+    ("room 65536", ""),
+    (
+        "counts",
+        "events 513+0 starts 256 restarts 0 kept 0 numbers 256 256 dropped 256 rows 256\n",
+    ),
+];
+
+// A tree file of as many children as there may be.
+fn crowd(alloc: Global) -> Result<String, AllocError> {
+    let mut file = String::new(alloc);
+    for number in 0..MAX_CHILDREN {
+        let child = format!(in alloc; "[[child]]\nid = \"c{number}\"\nstart = \"a\"\n")?;
+        file.push_str(child.as_str())?;
+    }
+    Ok(file)
+}
+
 #[test]
 fn lists_of_children_fill_a_core(rt: HostRuntime) {
-    let mut specs = [child(&rt, b"a"); MAX_CHILDREN];
-    name_children(&rt, &mut specs);
-    let mut driver = Driver::open(&rt, rt.alloc(), SupFlags::default(), &specs);
-    lists_fill(&rt, &mut driver);
-    room_is_made(&rt, &mut driver.core);
-    drop(driver);
+    let file = got(&rt, crowd(rt.alloc()));
+    plays(&rt, rt.alloc(), file.as_str(), &FILLED);
+    drop(file);
 }
 
-fn name_children(rt: &impl Abort, specs: &mut [ChildSpec]) {
-    let mut place = 0u8;
-    for spec in specs {
-        let first = b'a'.saturating_add(place / 16);
-        spec.id = named(rt, &[first, b'a'.saturating_add(place % 16)]);
-        place = place.wrapping_add(1);
-    }
+// The same as with a cut: of the checkpoint four events are counted, and none is stored.
+const MOVED_EARLY: [Step; 8] = [
+    ("up 1", "start a #1\nready\n"),
+    ("at 1000", ""),
+    ("exit 1 error:x", "start a #2\n"),
+    ("up 2", ""),
+    ("at 6000", ""),
+    (
+        "move on",
+        "Counts { events: 4, starts: 2, restarts: 1, greatest_number: 2, greatest_call: None }\n",
+    ),
+    (
+        "counts",
+        "events 0+0 starts 0 restarts 1 kept 1 numbers 0 2 dropped none rows 1\n",
+    ),
+    ("exit 2 error:x", "end shutdown\n"),
+];
+
+#[test]
+fn checkpoint_has_the_restarts_that_count(rt: HostRuntime) {
+    plays(&rt, rt.alloc(), ONE, &MOVED_EARLY);
 }
 
-fn lists_fill(rt: &impl Abort, driver: &mut Driver) {
-    for number in 1..=256u64 {
-        driver.line(rt, up(number));
-    }
-    for _ in 0..255 {
-        driver.line(rt, Line::Asked(Call::WhichChildren));
-    }
-    makes_room(rt, &mut driver.core, MAX_EVENTS, 512);
-    driver.line(rt, Line::Asked(Call::WhichChildren));
-    assert!(rt; driver.core.is_full());
+const MOVED_LATE: [Step; 7] = [
+    ("up 1", "start a #1\nready\n"),
+    ("at 1000", ""),
+    ("exit 1 error:x", "start a #2\n"),
+    ("up 2", ""),
+    ("at 6001", ""),
+    (
+        "move on",
+        "Counts { events: 4, starts: 2, restarts: 1, greatest_number: 2, greatest_call: None }\n",
+    ),
+    ("exit 2 error:x", "start a #3\n"),
+];
+
+#[test]
+fn numbers_go_on_above_those_before(rt: HostRuntime) {
+    plays(&rt, rt.alloc(), ONE, &MOVED_LATE);
 }
 
-fn room_is_made(rt: &impl Abort, core: &mut Core) {
-    makes_room(rt, core, MAX_EVENTS, 0);
-    assert!(rt; !core.is_full());
-    assert!(rt; is_gone(core, 256));
+// A child is stopped for a call, and two calls wait.
+const MOVED_AT_WORK: [Step; 13] = [
+    ("up 1", "start a #1\nstart b #2\n"),
+    ("up 2", "ready\n"),
+    (
+        "call 9 count",
+        "reply 9 count specs 2 active 2 supervisors 0 workers 2\n",
+    ),
+    ("call 3 terminate a", "ask a #1\n"),
+    ("call 4 count", ""),
+    ("call 5 count", ""),
+    (
+        "move on",
+        "Counts { events: 7, starts: 2, restarts: 0, greatest_number: 2, greatest_call: Some(9) }\n",
+    ),
+    (
+        "state",
+        "Open(0) works true waits Some(Item(Call(4, CountChildren))) until Some(100)\n",
+    ),
+    ("answer 3", "not yet\nopen\n"),
+    ("answer 5", "not yet\nopen\n"),
+    ("answer 9", "gone\n"),
+    ("answer 8", "gone\n"),
+    (
+        "exit 1 shutdown",
+        "reply 3 ok\n\
+reply 4 count specs 2 active 1 supervisors 0 workers 2\n\
+reply 5 count specs 2 active 1 supervisors 0 workers 2\n",
+    ),
+];
+
+#[test]
+fn open_work_and_what_waits_go_on(rt: HostRuntime) {
+    plays(&rt, rt.alloc(), TWO, &MOVED_AT_WORK);
+}
+
+// What a checkpoint of a checkpoint counts, it counts from the beginning.
+const MOVED_TWICE: [Step; 7] = [
+    ("up 1", "start a #1\nstart b #2\n"),
+    ("up 2", "ready\n"),
+    (
+        "call 1 count",
+        "reply 1 count specs 2 active 2 supervisors 0 workers 2\n",
+    ),
+    (
+        "move on",
+        "Counts { events: 4, starts: 2, restarts: 0, greatest_number: 2, greatest_call: Some(1) }\n",
+    ),
+    ("exit 2 error:x", "start b #3\n"),
+    ("up 3", ""),
+    (
+        "move on",
+        "Counts { events: 6, starts: 3, restarts: 1, greatest_number: 3, greatest_call: Some(1) }\n",
+    ),
+];
+
+#[test]
+fn counts_go_on(rt: HostRuntime) {
+    plays(&rt, rt.alloc(), TWO, &MOVED_TWICE);
 }

@@ -9,7 +9,6 @@ use otp_spec::ChildSpec;
 use std::alloc::Global;
 use std::fmt::{Debug, Display};
 use std::process::Abort;
-use std::test::Fail;
 
 /// What a try for memory gave.
 pub(crate) fn got<T, E>(rt: &impl Abort, tried: Result<T, E>) -> T
@@ -48,13 +47,8 @@ pub(crate) fn same<T: PartialEq + Debug + Copy>(rt: &impl Abort, what: &str, val
 }
 
 /// Asserts that a value is printed so.
-pub(crate) fn prints<T: Display>(
-    rt: &impl Abort,
-    alloc: Global,
-    value: &T,
-    text: &str,
-) -> Result<(), Fail> {
-    let printed = format!(in alloc; "{value}")?;
+pub(crate) fn prints<T: Display>(rt: &impl Abort, alloc: Global, value: &T, text: &str) {
+    let printed = got(rt, format!(in alloc; "{value}"));
     same(rt, "a printed text", printed.as_str(), text);
-    Ok(())
+    drop(printed);
 }

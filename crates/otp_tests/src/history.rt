@@ -1,9 +1,8 @@
-use crate::fixtures::{error, named, same};
+use crate::fixtures::{error, got, named, same};
 use otp_core::History;
 use otp_reason::{Note, Reason, Text};
 use otp_rules::{Call, Event, Item, Kind};
 use std::process::Abort;
-use std::test::Fail;
 
 fn plain(reading: u64, kind: Kind) -> Event {
     Event {
@@ -53,25 +52,23 @@ fn all_events(rt: &impl Abort) -> [Event; 17] {
 
 /// Each event is told as it was kept: terms and calls don't come into disorder.
 #[test]
-fn tells_what_it_keeps(rt: HostRuntime) -> Result<(), Fail> {
+fn tells_what_it_keeps(rt: HostRuntime) {
     let events = all_events(&rt);
     let mut history = History::new(rt.alloc());
-    same(&rt, "the events of a new history", history.len(), 0);
-    let shown = keeps(&rt, &mut history, &events);
+    assert!(rt; history.len() == 0);
+    keeps(&rt, &mut history, &events);
     drop(history);
-    shown
 }
 
-fn keeps(rt: &impl Abort, history: &mut History, events: &[Event]) -> Result<(), Fail> {
+fn keeps(rt: &impl Abort, history: &mut History, events: &[Event]) {
     for event in events {
-        history.reserve(1)?;
+        got(rt, history.reserve(1));
         assert!(rt; history.spare() >= 1);
         history.push(event.reading, event.number, &event.kind);
     }
-    same(rt, "the number of events", history.len(), events.len());
+    assert!(rt; history.len() == events.len());
     for (place, event) in events.iter().enumerate() {
         assert!(rt; place < history.len());
         same(rt, "an event", history.get(place), *event);
     }
-    Ok(())
 }

@@ -5,8 +5,8 @@
 //! supervisor and looks at files for people are in `otp_play_tests`, those of what threads share in `otp_thread_tests`,
 //! `otp_sup_tests` and `otp_tree_tests`. Event lines are read, and orders printed, by the calls of `.ci/calls`.
 //!
-//! A test is cut in short stages that borrow what they look at, and asserts by `fixtures::same`: the proof of a function grows
-//! faster than its length, by each `assert_eq!` and by each `?` beside a value that is let go there.
+//! A supervisor is driven by rows of texts: a step, and all that comes of it (`driver`). What else is tested stands in short stages that
+//! borrow what they look at, in rows, and asserts by `fixtures::same`.
 #![tactic(auto)]
 
 #[cfg(test)]
@@ -19,8 +19,6 @@ mod file;
 mod fixtures;
 #[cfg(test)]
 mod history;
-#[cfg(test)]
-mod orders;
 #[cfg(test)]
 mod reason;
 #[cfg(test)]

@@ -2,15 +2,14 @@ ghost use Rattle.std.specs.Prelude.{◌≡◌, [], ◌∷◌, Some};
 ghost use Rattle.otp_spec.specs.Faults.{answer_of};
 ghost use Rattle.otp_spec.specs.Lawful.{first_fault};
 
-use crate::fixtures::{named, prints, same};
+use crate::fixtures::{got, named, prints, same};
 use otp_spec::{
     AutoShutdown, ChildSpec, ChildType, Modules, Restart, Shutdown, SpecFault, SpecKey, Strategy,
     SupFlags, SupSpec, check_childspecs, check_flags,
 };
-use std::alloc::{AllocError, Global};
+use std::alloc::Global;
 use std::process::Abort;
 use std::slice;
-use std::test::Fail;
 
 // A caller that asks about one specification, as `start_child` does, can state what it is told.
 fn check_one(spec: ChildSpec, auto_shutdown: AutoShutdown) -> Result<(), SpecFault>
@@ -124,145 +123,110 @@ fn faults_in_their_order(rt: HostRuntime) {
     is_second(&rt, worker(&rt, b"a"), fault);
 }
 
-fn has_bad_modules(rt: &impl Abort, modules: Modules) {
-    let mut spec = worker(rt, b"a");
-    spec.modules = modules;
-    let told = check_childspecs(slice::from_ref(&spec), None);
-    same(rt, "bad modules", told, Err(bad(0, SpecKey::Modules)));
-}
-
 /// A tree file tests names as it reads them, so no transcript sees this test of each module's.
 #[test]
 fn names_of_modules_are_tested(rt: HostRuntime) {
     let [a, no] = [named(&rt, b"a"), named(&rt, b"")];
-    has_bad_modules(&rt, Modules::One(no));
-    has_bad_modules(&rt, Modules::Two(no, a));
-    has_bad_modules(&rt, Modules::Two(a, no));
-    has_bad_modules(&rt, Modules::Three(no, a, a));
-    has_bad_modules(&rt, Modules::Three(a, no, a));
-    has_bad_modules(&rt, Modules::Three(a, a, no));
-    has_bad_modules(&rt, Modules::Four(no, a, a, a));
-    has_bad_modules(&rt, Modules::Four(a, no, a, a));
-    has_bad_modules(&rt, Modules::Four(a, a, no, a));
-    has_bad_modules(&rt, Modules::Four(a, a, a, no));
+    let lists = [
+        Modules::One(no),
+        Modules::Two(no, a),
+        Modules::Two(a, no),
+        Modules::Three(no, a, a),
+        Modules::Three(a, no, a),
+        Modules::Three(a, a, no),
+        Modules::Four(no, a, a, a),
+        Modules::Four(a, no, a, a),
+        Modules::Four(a, a, no, a),
+        Modules::Four(a, a, a, no),
+    ];
+    let mut spec = worker(&rt, b"a");
+    for modules in lists {
+        spec.modules = modules;
+        let told = check_childspecs(slice::from_ref(&spec), None);
+        same(&rt, "bad modules", told, Err(bad(0, SpecKey::Modules)));
+    }
 }
 
 /// The texts of the other faults are in those of tree files.
 #[test]
-fn texts_of_faults(rt: HostRuntime) -> Result<(), Fail> {
-    let text = "a flag is out of its limits: intensity 0 to 1000, period 1 to 1000000 seconds";
-    prints(&rt, rt.alloc(), &SpecFault::BadFlag, text)?;
-    let text = "specification 7: the value of start is not a lawful name";
-    prints(&rt, rt.alloc(), &bad(7, SpecKey::Start), text)?;
-    let text = "specification 0: the value of id is not a lawful name";
-    prints(&rt, rt.alloc(), &bad(0, SpecKey::Id), text)?;
-    let text = "specification 1: the value of modules is not a lawful name";
-    prints(&rt, rt.alloc(), &bad(1, SpecKey::Modules), text)
+fn texts_of_faults(rt: HostRuntime) {
+    let texts = [
+        (
+            SpecFault::BadFlag,
+            "a flag is out of its limits: intensity 0 to 1000, period 1 to 1000000 seconds",
+        ),
+        (
+            bad(7, SpecKey::Start),
+            "specification 7: the value of start is not a lawful name",
+        ),
+        (
+            bad(0, SpecKey::Id),
+            "specification 0: the value of id is not a lawful name",
+        ),
+        (
+            bad(1, SpecKey::Modules),
+            "specification 1: the value of modules is not a lawful name",
+        ),
+    ];
+    for (fault, text) in texts {
+        prints(&rt, rt.alloc(), &fault, text);
+    }
 }
 
 // Two workers, of these ids.
-fn of_two(rt: &impl Abort, alloc: Global, ids: [&[u8]; 2]) -> Result<Vec<ChildSpec>, AllocError> {
-    Vec::from_slice(alloc, &[worker(rt, ids[0]), worker(rt, ids[1])])
+fn of_two(rt: &impl Abort, alloc: Global, ids: [&[u8]; 2]) -> Vec<ChildSpec> {
+    got(
+        rt,
+        Vec::from_slice(alloc, &[worker(rt, ids[0]), worker(rt, ids[1])]),
+    )
 }
 
 #[test]
-fn lawful_supervisors(rt: HostRuntime) -> Result<(), Fail> {
-    let specs = of_two(&rt, rt.alloc(), [b"a", b"b"])?;
-    let Ok(supervisor) = SupSpec::check(SupFlags::default(), specs) else {
-        panic!(&rt; "they are lawful");
-    };
-    is_of_two(&rt, &supervisor);
-    let copy = supervisor.try_clone(rt.alloc());
-    has_parts(&rt, supervisor);
-    let copy = copy?;
-    is_of_two(&rt, &copy);
-    drop(copy);
-    Ok(())
+fn lawful_supervisors(rt: HostRuntime) {
+    let specs = of_two(&rt, rt.alloc(), [b"a", b"b"]);
+    let supervisor = got(&rt, SupSpec::check(SupFlags::default(), specs));
+    let copy = got(&rt, supervisor.try_clone(rt.alloc()));
+    is_of_two(&rt, supervisor);
+    is_of_two(&rt, copy);
 }
 
-fn is_of_two(rt: &impl Abort, supervisor: &SupSpec) {
-    same(rt, "the flags", supervisor.flags(), SupFlags::default());
+// What it tells, and what it is taken apart into.
+fn is_of_two(rt: &impl Abort, supervisor: SupSpec) {
     let wanted = [worker(rt, b"a"), worker(rt, b"b")];
+    same(rt, "the flags", supervisor.flags(), SupFlags::default());
     same(rt, "the children", supervisor.specs(), wanted.as_slice());
-}
-
-fn has_parts(rt: &impl Abort, supervisor: SupSpec) {
     let (flags, specs) = supervisor.into_parts();
-    same(rt, "the intensity", flags.intensity, 1);
-    same(rt, "the children", specs.len(), 2);
+    same(rt, "its flags", flags, SupFlags::default());
+    same(rt, "its children", specs.as_slice(), wanted.as_slice());
     drop(specs);
 }
 
+// A strategy and a period, and why two children of one id are refused under them.
+const UNLAWFUL: [(Strategy, u64, SpecFault); 3] = [
+    (Strategy::OneForOne, 5, SpecFault::DuplicateId { index: 1 }),
+    (Strategy::SimpleOneForOne, 5, SpecFault::SimpleNeedsOne),
+    (Strategy::SimpleOneForOne, 0, SpecFault::BadFlag),
+];
+
+#[test]
+fn unlawful_supervisors(rt: HostRuntime) {
+    for (strategy, period, fault) in UNLAWFUL {
+        let flags = SupFlags {
+            strategy,
+            period,
+            ..SupFlags::default()
+        };
+        is_unlawful(&rt, rt.alloc(), flags, fault);
+    }
+}
+
 // Two children of one id under these flags are refused for this fault.
-fn is_unlawful(
-    rt: &impl Abort,
-    alloc: Global,
-    flags: SupFlags,
-    fault: SpecFault,
-) -> Result<(), AllocError> {
-    let specs = of_two(rt, alloc, [b"a", b"a"])?;
-    match SupSpec::check(flags, specs) {
+fn is_unlawful(rt: &impl Abort, alloc: Global, flags: SupFlags, fault: SpecFault) {
+    match SupSpec::check(flags, of_two(rt, alloc, [b"a", b"a"])) {
         Ok(supervisor) => {
             drop(supervisor);
             panic!(rt; "it is unlawful")
         }
         Err(why) => same(rt, "the fault", why, fault),
     }
-    Ok(())
-}
-
-#[test]
-fn unlawful_supervisors(rt: HostRuntime) -> Result<(), Fail> {
-    let mut flags = SupFlags::default();
-    let twice = SpecFault::DuplicateId { index: 1 };
-    is_unlawful(&rt, rt.alloc(), flags, twice)?;
-    flags.strategy = Strategy::SimpleOneForOne;
-    is_unlawful(&rt, rt.alloc(), flags, SpecFault::SimpleNeedsOne)?;
-    flags.period = 0;
-    is_unlawful(&rt, rt.alloc(), flags, SpecFault::BadFlag)?;
-    Ok(())
-}
-
-#[test]
-fn words_of_flags(rt: HostRuntime) {
-    let word = Strategy::RestForOne.word();
-    same(&rt, "a strategy's word", word, "rest_for_one");
-    let strategy = Strategy::of_word(b"one_for_all");
-    same(&rt, "a strategy", strategy, Some(Strategy::OneForAll));
-    same(&rt, "no strategy", Strategy::of_word(b"one"), None);
-    let word = AutoShutdown::AnySignificant.word();
-    same(&rt, "an automatic shutdown's word", word, "any_significant");
-    let shutdown = AutoShutdown::of_word(b"never");
-    same(&rt, "never", shutdown, Some(AutoShutdown::Never));
-}
-
-#[test]
-fn words_of_children(rt: HostRuntime) {
-    same(&rt, "transient", Restart::Transient.word(), "transient");
-    let restart = Restart::of_word(b"temporary");
-    same(&rt, "temporary", restart, Some(Restart::Temporary));
-    same(&rt, "no restart type", Restart::of_word(b"always"), None);
-    same(&rt, "worker", ChildType::Worker.word(), "worker");
-    let kind = ChildType::of_word(b"supervisor");
-    same(&rt, "supervisor", kind, Some(ChildType::Supervisor));
-}
-
-#[test]
-fn words_of_shutdown_and_modules(rt: HostRuntime) {
-    let shutdown = Shutdown::of_word(b"brutal_kill");
-    same(&rt, "brutal_kill", shutdown, Some(Shutdown::BrutalKill));
-    same(&rt, "no time to stop", Shutdown::of_word(b"5000"), None);
-    same(&rt, "infinity", Shutdown::Infinity.word(), Some("infinity"));
-    let modules = Modules::of_word(b"dynamic");
-    same(&rt, "dynamic", modules, Some(Modules::Dynamic));
-    same(&rt, "dynamic", Modules::Dynamic.word(), Some("dynamic"));
-    same(&rt, "no word", Modules::None.word(), None);
-}
-
-#[test]
-fn questions_to_flags_and_specifications(rt: HostRuntime) {
-    assert!(rt; Strategy::SimpleOneForOne.is_simple());
-    assert!(rt; !Strategy::OneForAll.is_simple());
-    assert!(rt; Restart::Permanent.is_permanent());
-    assert!(rt; !Restart::Temporary.is_permanent());
 }
