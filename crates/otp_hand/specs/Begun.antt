@@ -20,6 +20,6 @@ starts_credited senders = sum_by start_share senders
 abbrev pub HasCredited : SchedulerState → List (SenderState Item) → Type 0
 HasCredited s senders = s.begun ≡ root_at s.own.index + starts_credited senders
 
--- no process began meanwhile, and the scheduler has its place
+-- no process began meanwhile, and the scheduler has its place among as many
 abbrev pub NoneBegan : SchedulerState → SchedulerState → Type 0
-NoneBegan old new = (new.begun ≡ old.begun) × (new.own.index ≡ old.own.index)
+NoneBegan old new = (new.begun ≡ old.begun) × (new.own.index ≡ old.own.index) × (new.count ≡ old.count)

@@ -45,11 +45,11 @@ module _ {J S : Type 0} where
   abbrev pub HasEnded : SchedulerState → List (SenderState Item) → Option (Unsent J S) → Type 0
   HasEnded s senders unsent = s.ended ≡ ends_sent senders + ends_held unsent
 
-  -- what a new process that is put and a note that is taken don't change: the scheduler's place, by how much what it put and
+  -- what a new process that is put and a note that is taken don't change: the scheduler's place among so many, by how much what it put and
   -- what began differ, and by how much what ended and the end notes that are to be sent do
   abbrev pub beside_of : RunnerView J S → List ℕ
   beside_of r =
-      r.scheduler.own.index ∷ given_back r.scheduler ∷ (r.scheduler.begun - length (puts r.scheduler))
+      r.scheduler.own.index ∷ r.scheduler.count ∷ given_back r.scheduler ∷ (r.scheduler.begun - length (puts r.scheduler))
       ∷ (r.scheduler.ended - ends_held r.unsent) ∷ (ends_held r.unsent - r.scheduler.ended) ∷ []
 
 -- so many end notes were taken by whoever opened the tree, as it is counted

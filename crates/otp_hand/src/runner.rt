@@ -171,6 +171,7 @@ impl<N: WordsNaming + RunNaming, J: Drop, S: Drop> Runner<N, J, S> {
         ensures unsent { self.new.unsent ≡ self.old.unsent }
         ensures refusals { self.new.refusals ≡ self.old.refusals }
         ensures puts { self.new.scheduler.own ≡ self.old.scheduler.own }
+        ensures count { self.new.scheduler.count ≡ self.old.scheduler.count }
         ensures begun { self.new.scheduler.begun ≡ self.old.scheduler.begun }
         ensures ended { self.new.scheduler.ended ≡ self.old.scheduler.ended + ends_held result }
     {

@@ -6,6 +6,7 @@ ghost use Rattle.otp_hand.specs.Begun.{starts_credited};
 ghost use Rattle.otp_hand.specs.Ended.{end_of, end_share, ends_sent};
 ghost use Rattle.otp_hand.specs.Sendings.{sent_at, parts_at, with_sender};
 ghost use Rattle.otp_hand.specs.Seats.{Seated};
+ghost use Rattle.otp_hand.specs.Standings.{IsSplitAt, parts_in};
 ghost use Rattle.otp_rules.specs.declared.event.Item.{Item};
 ghost use Rattle.otp_rules.specs.declared.event.Item.TheVariants as item;
 ghost use Rattle.otp_rules.specs.Homes.{is_start_call};
@@ -68,6 +69,7 @@ impl<N: InboxNaming, B: Drop> Senders<N, B> {
         ensures len { length self.new ≡ length self.old }
         ensures starts { starts_credited self.new ≡ starts_credited self.old }
         ensures ends { OnOk result (ends_sent self.new ≡ ends_sent self.old + end_of letter.item) }
+        ensures parts { parts_in self.new ≡ parts_in self.old }
     {
         let place = inbox.number();
         inbox.send(rt, &mut self.list[place], letter)
@@ -93,6 +95,7 @@ impl<N: InboxNaming, B: Drop> Senders<N, B> {
         ensures beside { P.beside port.new ≡ P.beside port.old }
         // It sends nothing.
         ensures ends { ends_sent self.new ≡ ends_sent self.old }
+        ensures parts { parts_in self.new ≡ parts_in self.old }
     {
         let place = sup.inbox().number();
         let sender = &mut self.list[place];
@@ -126,6 +129,7 @@ impl<N: InboxNaming, B: Drop> Senders<N, B> {
         ensures refused { OnErr result (self.new ≡ self.old) }
         ensures starts { starts_credited self.new ≡ starts_credited self.old }
         ensures ends { ends_sent self.new ≡ ends_sent self.old }
+        ensures parts { parts_in self.new ≡ parts_in self.old }
     {
         let letter = match Letter::call(alloc, number, call, body) {
             Ok(letter) => letter,
@@ -192,6 +196,7 @@ impl<N: InboxNaming, B: Drop> Senders<N, B> {
         requires { 0 < parts }
         ensures new { IfSome result (λ s. s ≡ record { inbox = inbox.now; parts = parts; sent = []; joined = []; shares = no_shares }) }
         ensures len { length self.new ≡ length self.old }
+        ensures split { IfSome result (λ _. IsSplitAt inbox.now parts self.old self.new) }
         ensures starts { starts_credited self.new ≡ starts_credited self.old }
         ensures ends { ends_sent self.new ≡ ends_sent self.old }
     {
