@@ -9,10 +9,10 @@ use crate::fixtures::{of_one_child, open_for};
 use crate::script::{Known, Step, plays};
 use otp_inbox::{InboxNaming, UnnamedInbox};
 use otp_reason::{Note, Reason};
-use otp_rules::{Item, SupEnd};
+use otp_rules::SupEnd;
 use otp_signals::{OpenWords, Signal, WordsNaming};
 use otp_spec::SupSpec;
-use otp_sup::{Letter, NewProcess, PlanNaming, Port, ToldNote, TurnAnswer, TurnFault};
+use otp_sup::{Letter, Message, NewProcess, PlanNaming, Port, ToldNote, TurnAnswer, TurnFault};
 use otp_tally::Tally;
 use std::alloc::Global;
 use std::marker::Brand;
@@ -140,7 +140,7 @@ fn refused_in<N: WordsNaming + InboxNaming + PlanNaming, R: Wait + Abort>(
     rt: &R,
     alloc: Global,
     words: OpenWords,
-    inbox: UnnamedInbox<Item, Post>,
+    inbox: UnnamedInbox<Message, Post>,
     supervisor: SupSpec,
 ) -> Result<(), Fail>
     requires words { words.words ≡ N.words }
