@@ -41,10 +41,10 @@ items_chosen (false ∷ mask) (m ∷ ms) = items_chosen mask ms
 
 items_in_order : (xs ys : List Message) → InOrder xs ys → InOrder (items_in xs) (items_in ys)
 items_in_order xs ys order = (
-    order.0,
-    order.1 ∙ sym (length-map ys (λ (m : Message). m.item)),
-    items_chosen order.0 ys ∙ ap (λ (l : List Message). items_in l) order.2,
-  )
+  order.0,
+  order.1 ∙ sym (length-map ys (λ (m : Message). m.item)),
+  items_chosen order.0 ys ∙ ap (λ (l : List Message). items_in l) order.2,
+)
 
 each_by_items : (xss : List (List Message)) (ys : List Message) → EachInOrder xss ys → EachInOrder (map items_in xss) (items_in ys)
 each_by_items [] ys each = tt

@@ -159,7 +159,12 @@ impl<N: InboxNaming, B: Drop> Senders<N, B> {
     }
 
     /// The last sender, and those before it.
-    pub fn into_last(self) -> (Vec<Sender<N, Message, Letter<B>>>, Sender<N, Message, Letter<B>>)
+    pub fn into_last(
+        self,
+    ) -> (
+        Vec<Sender<N, Message, Letter<B>>>,
+        Sender<N, Message, Letter<B>>,
+    )
         requires { 0 < length self }
         ensures all { result.0.items ++ result.1 ∷ [] ≡ self }
         ensures seated { Seated (result.0.items ++ result.1 ∷ []) }
@@ -172,7 +177,11 @@ impl<N: InboxNaming, B: Drop> Senders<N, B> {
     }
 
     /// Takes in another sender to one of these supervisors.
-    pub fn join_at(&mut self, inbox: &Inbox<N, Message, Letter<B>>, other: Sender<N, Message, Letter<B>>)
+    pub fn join_at(
+        &mut self,
+        inbox: &Inbox<N, Message, Letter<B>>,
+        other: Sender<N, Message, Letter<B>>,
+    )
         requires reaches { inbox.now < length self.old }
         requires belongs { other.inbox ≡ inbox.now }
         ensures joined { (s : SenderState Message) → slice_get self.old inbox.now ≡ Some s → self.new ≡ slice_set self.old inbox.now (with_sender other s) }

@@ -37,14 +37,15 @@ one_other cut place (x ∷ es) e (m ∷ ms) none =
 one_more : (cut place : ℕ) (es : List Event) (e : Event) (ms : List Message) (m : Message) → is_some (item_of e.kind) ≡ true → length ms ≡ length (items_of es)
     → told_along cut place (es ++ e ∷ []) (ms ++ m ∷ []) ≡ told_along cut place es ms ++ told_at cut (place + length es) m
 one_more cut place [] e [] m took many =
+    let same : place ≡ place + 0 = omega arith in
     ap (λ (b : Bool). if b then told_at cut place m ++ [] else []) took
     ∙ append-nil (told_at cut place m)
-    ∙ ap (λ (k : ℕ). told_at cut k m) (omega arith)
+    ∙ ap (λ (k : ℕ). told_at cut k m) same
 one_more cut place [] e (n ∷ ms) m took many = absurd (omega (arith, many))
 one_more cut place (x ∷ es) e [] m took many = by (item_of x.kind) many
   where
     further : told_at cut (suc place + length es) m ≡ told_at cut (place + length (x ∷ es)) m
-    further = ap (λ (k : ℕ). told_at cut k m) (omega arith)
+    further = let same : suc place + length es ≡ place + suc (length es) = omega arith in ap (λ (k : ℕ). told_at cut k m) same
 
     by : (o : Option Item) → 0 ≡ length (cons_option o (items_of es))
         → (if is_some o then told_at cut place m ++ told_along cut (suc place) (es ++ e ∷ []) [] else told_along cut (suc place) (es ++ e ∷ []) (m ∷ [])) ≡ told_at cut (place + length (x ∷ es)) m
@@ -56,7 +57,7 @@ one_more cut place (x ∷ es) e [] m took many = by (item_of x.kind) many
 one_more cut place (x ∷ es) e (n ∷ ms) m took many = by (item_of x.kind) many
   where
     further : told_at cut (suc place + length es) m ≡ told_at cut (place + length (x ∷ es)) m
-    further = ap (λ (k : ℕ). told_at cut k m) (omega arith)
+    further = let same : suc place + length es ≡ place + suc (length es) = omega arith in ap (λ (k : ℕ). told_at cut k m) same
 
     by : (o : Option Item) → suc (length ms) ≡ length (cons_option o (items_of es))
         → (if is_some o then told_at cut place n ++ told_along cut (suc place) (es ++ e ∷ []) (ms ++ m ∷ []) else told_along cut (suc place) (es ++ e ∷ []) (n ∷ ms ++ m ∷ []))
@@ -78,7 +79,8 @@ all_cut cut place (e ∷ es) (m ∷ ms) few = by (item_of e.kind)
     by : (o : Option Item) → (if is_some o then told_at cut place m ++ told_along cut (suc place) es ms else told_along cut (suc place) es (m ∷ ms)) ≡ []
     by None = all_cut cut (suc place) es (m ∷ ms) (omega (arith, few))
     by (Some x) =
-        let before : nat_lt place cut ≡ true = grind (arith, nat_tests, few) in
+        let earlier : place < cut = omega (arith, few) in
+        let before : nat_lt place cut ≡ true = grind (arith, nat_tests, earlier) in
         ap (λ (b : Bool). (if b then [] else told_with (place - cut) m.item m.end) ++ told_along cut (suc place) es ms) before
         ∙ all_cut cut (suc place) es ms (omega (arith, few))
 

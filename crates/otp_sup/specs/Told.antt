@@ -13,7 +13,7 @@ abbrev pub told_at : ℕ → ℕ → Message → List ToldEnd
 told_at cut place m = if nat_lt place cut then [] else told_with (place - cut) m.item m.end
 
 -- the ends that these messages told, which the events from this place on took, one after the other
-pub told_along : ℕ → ℕ → List Event → List Message → List ToldEnd
+abbrev pub told_along : ℕ → ℕ → List Event → List Message → List ToldEnd
 told_along cut place [] messages = []
 told_along cut place (e ∷ events) [] = []
 told_along cut place (e ∷ events) (m ∷ messages) =

@@ -10,8 +10,8 @@ use otp_rules::Cause;
 use otp_signals::{OpenWords, Signal, Viewer, Words, WordsNaming};
 use otp_spec::SupSpec;
 use otp_sup::{
-    Bodies, Flushed, Letter, Message, MemoryPort, NewProcess, PlanNaming, Port, Table, ToldNote, TurnAnswer,
-    TurnFault,
+    Bodies, Flushed, Letter, MemoryPort, Message, NewProcess, PlanNaming, Port, Table, ToldNote,
+    TurnAnswer, TurnFault,
 };
 use std::alloc::Global;
 use std::process::Abort;

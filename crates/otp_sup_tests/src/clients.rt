@@ -9,7 +9,8 @@ use otp_rules::{Call, CountsNow, Item, Kind, Reply};
 use otp_signals::{OpenWords, Signal, Words, WordsNaming};
 use otp_spec::SupSpec;
 use otp_sup::{
-    Client, Letter, Message, MemoryPort, PlanNaming, SplitFault, SubmitCause, Sup, TurnAnswer, TurnFault,
+    Client, Letter, MemoryPort, Message, PlanNaming, SplitFault, SubmitCause, Sup, TurnAnswer,
+    TurnFault,
 };
 use std::alloc::Global;
 use std::marker::Brand;

@@ -10,8 +10,8 @@ use otp_rules::{Call, Cause};
 use otp_signals::{OpenWords, Signal, Viewer, Words, WordsNaming};
 use otp_spec::{SupFlags, SupSpec};
 use otp_sup::{
-    Bodies, Client, Letter, Message, MemoryPort, NewProcess, PlanNaming, SubmitCause, Sup, ToldNote,
-    TurnAnswer, TurnFault,
+    Bodies, Client, Letter, MemoryPort, Message, NewProcess, PlanNaming, SubmitCause, Sup,
+    ToldNote, TurnAnswer, TurnFault,
 };
 use std::alloc::Global;
 use std::process::Abort;

@@ -4,8 +4,8 @@ use otp_inbox::{Inbox, InboxNaming, Sender, Taker};
 use otp_job::{Body, BoxedJob};
 use otp_signals::WordsNaming;
 use otp_sup::{
-    Bodies, Client, Evidence, Letter, Message, MemoryPort, NewProcess, Office, PlanNaming, SubmitFault, Sup,
-    SupParts, Table, ToldEnd, ToldNote, Unlocked,
+    Bodies, Client, Evidence, Letter, MemoryPort, Message, NewProcess, Office, PlanNaming,
+    SubmitFault, Sup, SupParts, Table, ToldEnd, ToldNote, Unlocked,
 };
 
 type Boxed = Body<BoxedJob, BoxedSubsystem>;
