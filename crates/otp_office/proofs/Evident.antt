@@ -54,7 +54,7 @@ tells_own own end (cause.Intensity _ _) = refl
 tells_own own end (cause.Significant _) = refl
 tells_own own end cause.Asked = refl
 
-is_telling : Option Sending → Bool
+abbrev is_telling : Option Sending → Bool
 is_telling (Some (sending.Tell n)) = true
 is_telling _ = false
 
