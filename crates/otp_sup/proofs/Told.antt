@@ -33,6 +33,33 @@ one_other cut place (x ∷ es) e (m ∷ ms) none =
     ap (λ (l : List ToldEnd). if is_some (item_of x.kind) then told_at cut place m ++ l else told_along cut (suc place) (es ++ e ∷ []) (m ∷ ms)) (one_other cut (suc place) es e ms none)
     ∙ ap (λ (l : List ToldEnd). if is_some (item_of x.kind) then told_at cut place m ++ told_along cut (suc place) es ms else l) (one_other cut (suc place) es e (m ∷ ms) none)
 
+-- a place further on
+further : (cut place : ℕ) (es : List Event) (m : Message) → told_at cut (suc place + length es) m ≡ told_at cut (place + suc (length es)) m
+further cut place es m = let same : suc place + length es ≡ place + suc (length es) = omega arith in ap (λ (k : ℕ). told_at cut k m) same
+
+-- the first of several events took something or not, and the message that it took is the first
+first_of_more : (cut place : ℕ) (es : List Event) (e : Event) (n : Message) (ms : List Message) (m : Message) (o : Option Item) → suc (length ms) ≡ length (cons_option o (items_of es))
+    → (suc (length ms) ≡ length (items_of es) → told_along cut (suc place) (es ++ e ∷ []) (n ∷ ms ++ m ∷ []) ≡ told_along cut (suc place) es (n ∷ ms) ++ told_at cut (suc place + length es) m)
+    → (length ms ≡ length (items_of es) → told_along cut (suc place) (es ++ e ∷ []) (ms ++ m ∷ []) ≡ told_along cut (suc place) es ms ++ told_at cut (suc place + length es) m)
+    → (if is_some o then told_at cut place n ++ told_along cut (suc place) (es ++ e ∷ []) (ms ++ m ∷ []) else told_along cut (suc place) (es ++ e ∷ []) (n ∷ ms ++ m ∷ []))
+    ≡ (if is_some o then told_at cut place n ++ told_along cut (suc place) es ms else told_along cut (suc place) es (n ∷ ms)) ++ told_at cut (place + suc (length es)) m
+first_of_more cut place es e n ms m None many other took =
+    other many ∙ ap (λ (l : List ToldEnd). told_along cut (suc place) es (n ∷ ms) ++ l) (further cut place es m)
+first_of_more cut place es e n ms m (Some y) many other took =
+    ap (λ (l : List ToldEnd). told_at cut place n ++ l) (took (omega (arith, many)))
+    ∙ sym (append_assoc (told_at cut place n) (told_along cut (suc place) es ms) (told_at cut (suc place + length es) m))
+    ∙ ap (λ (l : List ToldEnd). (told_at cut place n ++ told_along cut (suc place) es ms) ++ l) (further cut place es m)
+
+-- the same where no message was taken before the last event
+first_of_none : (cut place : ℕ) (es : List Event) (e : Event) (m : Message) (o : Option Item) → 0 ≡ length (cons_option o (items_of es))
+    → (0 ≡ length (items_of es) → told_along cut (suc place) (es ++ e ∷ []) (m ∷ []) ≡ told_along cut (suc place) es [] ++ told_at cut (suc place + length es) m)
+    → (if is_some o then told_at cut place m ++ told_along cut (suc place) (es ++ e ∷ []) [] else told_along cut (suc place) (es ++ e ∷ []) (m ∷ [])) ≡ told_at cut (place + suc (length es)) m
+first_of_none cut place es e m None none other =
+    other none
+    ∙ ap (λ (l : List ToldEnd). l ++ told_at cut (suc place + length es) m) (none_told cut (suc place) es)
+    ∙ further cut place es m
+first_of_none cut place es e m (Some y) none other = absurd (omega (arith, none))
+
 -- one that takes an item tells the end that came with it
 one_more : (cut place : ℕ) (es : List Event) (e : Event) (ms : List Message) (m : Message) → is_some (item_of e.kind) ≡ true → length ms ≡ length (items_of es)
     → told_along cut place (es ++ e ∷ []) (ms ++ m ∷ []) ≡ told_along cut place es ms ++ told_at cut (place + length es) m
@@ -42,47 +69,24 @@ one_more cut place [] e [] m took many =
     ∙ append-nil (told_at cut place m)
     ∙ ap (λ (k : ℕ). told_at cut k m) same
 one_more cut place [] e (n ∷ ms) m took many = absurd (omega (arith, many))
-one_more cut place (x ∷ es) e [] m took many = by (item_of x.kind) many
-  where
-    further : told_at cut (suc place + length es) m ≡ told_at cut (place + length (x ∷ es)) m
-    further = let same : suc place + length es ≡ place + suc (length es) = omega arith in ap (λ (k : ℕ). told_at cut k m) same
+one_more cut place (x ∷ es) e [] m took many = first_of_none cut place es e m (item_of x.kind) many (λ none. one_more cut (suc place) es e [] m took none)
+one_more cut place (x ∷ es) e (n ∷ ms) m took many =
+    first_of_more cut place es e n ms m (item_of x.kind) many (λ as_many. one_more cut (suc place) es e (n ∷ ms) m took as_many) (λ as_many. one_more cut (suc place) es e ms m took as_many)
 
-    by : (o : Option Item) → 0 ≡ length (cons_option o (items_of es))
-        → (if is_some o then told_at cut place m ++ told_along cut (suc place) (es ++ e ∷ []) [] else told_along cut (suc place) (es ++ e ∷ []) (m ∷ [])) ≡ told_at cut (place + length (x ∷ es)) m
-    by None none =
-        one_more cut (suc place) es e [] m took none
-        ∙ ap (λ (l : List ToldEnd). l ++ told_at cut (suc place + length es) m) (none_told cut (suc place) es)
-        ∙ further
-    by (Some y) none = absurd (omega (arith, none))
-one_more cut place (x ∷ es) e (n ∷ ms) m took many = by (item_of x.kind) many
-  where
-    further : told_at cut (suc place + length es) m ≡ told_at cut (place + length (x ∷ es)) m
-    further = let same : suc place + length es ≡ place + suc (length es) = omega arith in ap (λ (k : ℕ). told_at cut k m) same
-
-    by : (o : Option Item) → suc (length ms) ≡ length (cons_option o (items_of es))
-        → (if is_some o then told_at cut place n ++ told_along cut (suc place) (es ++ e ∷ []) (ms ++ m ∷ []) else told_along cut (suc place) (es ++ e ∷ []) (n ∷ ms ++ m ∷ []))
-        ≡ (if is_some o then told_at cut place n ++ told_along cut (suc place) es ms else told_along cut (suc place) es (n ∷ ms)) ++ told_at cut (place + length (x ∷ es)) m
-    by None as_many =
-        one_more cut (suc place) es e (n ∷ ms) m took as_many
-        ∙ ap (λ (l : List ToldEnd). told_along cut (suc place) es (n ∷ ms) ++ l) further
-    by (Some y) as_many =
-        ap (λ (l : List ToldEnd). told_at cut place n ++ l) (one_more cut (suc place) es e ms m took (omega (arith, as_many)))
-        ∙ sym (append_assoc (told_at cut place n) (told_along cut (suc place) es ms) (told_at cut (suc place + length es) m))
-        ∙ ap (λ (l : List ToldEnd). (told_at cut place n ++ told_along cut (suc place) es ms) ++ l) further
+-- an event that was cut off
+first_cut : (cut place : ℕ) (es : List Event) (m : Message) (ms : List Message) (o : Option Item) → place < cut → told_along cut (suc place) es (m ∷ ms) ≡ [] → told_along cut (suc place) es ms ≡ []
+    → (if is_some o then told_at cut place m ++ told_along cut (suc place) es ms else told_along cut (suc place) es (m ∷ ms)) ≡ []
+first_cut cut place es m ms None earlier other took = other
+first_cut cut place es m ms (Some x) earlier other took =
+    let before : nat_lt place cut ≡ true = grind (arith, nat_tests, earlier) in
+    ap (λ (b : Bool). (if b then [] else told_with (place - cut) m.item m.end) ++ told_along cut (suc place) es ms) before ∙ took
 
 -- of events that were cut off no end is kept
 all_cut : (cut place : ℕ) (es : List Event) (ms : List Message) → place + length es ≤ cut → told_along cut place es ms ≡ []
 all_cut cut place [] ms few = refl
 all_cut cut place (e ∷ es) [] few = refl
-all_cut cut place (e ∷ es) (m ∷ ms) few = by (item_of e.kind)
-  where
-    by : (o : Option Item) → (if is_some o then told_at cut place m ++ told_along cut (suc place) es ms else told_along cut (suc place) es (m ∷ ms)) ≡ []
-    by None = all_cut cut (suc place) es (m ∷ ms) (omega (arith, few))
-    by (Some x) =
-        let earlier : place < cut = omega (arith, few) in
-        let before : nat_lt place cut ≡ true = grind (arith, nat_tests, earlier) in
-        ap (λ (b : Bool). (if b then [] else told_with (place - cut) m.item m.end) ++ told_along cut (suc place) es ms) before
-        ∙ all_cut cut (suc place) es ms (omega (arith, few))
+all_cut cut place (e ∷ es) (m ∷ ms) few =
+    first_cut cut place es m ms (item_of e.kind) (omega (arith, few)) (all_cut cut (suc place) es (m ∷ ms) (omega (arith, few))) (all_cut cut (suc place) es ms (omega (arith, few)))
 
 -- none is kept where all events were cut off
 pub told_cut : (core : View) (ms : List Message) → core.cut ≡ length core.history → ends_told_in core ms ≡ []

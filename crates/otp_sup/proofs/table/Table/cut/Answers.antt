@@ -7,8 +7,8 @@ use Rattle.otp_sup.specs.Facts.{IsTable}
 use Rattle.otp_sup.proofs.Told.{told_cut}
 use Rattle.otp_sup.proofs.table.Table.cut.Goals as goal
 
-pub invariant_of-self : goal.invariant_of-self
-invariant_of-self g c =
+pub invariant_of-self-2 : goal.invariant_of-self-2
+invariant_of-self-2 g c =
     let old : OfficeView = c.self.inside.office in
     let is : c.cut.new.self ≡ cut_office old = search rules in
     let none : c.clear.new.self.items ≡ [] = search rules in
