@@ -1,15 +1,15 @@
 -- What of a hand and of a client no turn and no call changes. (own)
 use Rattle.std.specs.Prelude.{◌≡◌, ◌≢◌, ℕ, ◌+◌, List, Option, Some, None, map}
 use Rattle.otp_inbox.specs.Tokens.{SenderState, TakerState}
-use Rattle.otp_rules.specs.declared.event.Item.{Item}
+use Rattle.otp_bodies.specs.declared.letter.Message.{Message}
 use Rattle.otp_hand.specs.Hands.{ClientView, HandView}
 use Rattle.otp_hand.specs.Sendings.{parts_at}
 
-abbrev pub part_of : SenderState Item → ℕ
+abbrev pub part_of : SenderState Message → ℕ
 part_of s = s.parts
 
 -- the parts of the right to send that each of these senders has
-abbrev pub parts_in : List (SenderState Item) → List ℕ
+abbrev pub parts_in : List (SenderState Message) → List ℕ
 parts_in senders = map part_of senders
 
 -- where a hand stands among so many, and its parts of the right to send to each supervisor
@@ -31,7 +31,7 @@ pub record Reach : Type 0 where
   pub waits : Option ℕ
   pub parts : List ℕ
 
-abbrev pub inbox_of : Option (TakerState Item) → Option ℕ
+abbrev pub inbox_of : Option (TakerState Message) → Option ℕ
 inbox_of None = None
 inbox_of (Some w) = Some w.inbox
 
@@ -39,10 +39,10 @@ abbrev pub reach_of : ClientView → Reach
 reach_of c = record { waits = inbox_of c.waiter; parts = parts_in c.senders }
 
 -- so many parts were split off the sender at this place, and no other lost any
-pub record IsSplitAt (place parts : ℕ) (old new : List (SenderState Item)) : Type 0 where
+pub record IsSplitAt (place parts : ℕ) (old new : List (SenderState Message)) : Type 0 where
   pub here : parts_at place new + parts ≡ parts_at place old
   pub others : (k : ℕ) → k ≢ place → parts_at k new ≡ parts_at k old
 
 -- what these senders have of the right to send was split off others
-abbrev pub AreSplit : List (SenderState Item) → List (SenderState Item) → List (SenderState Item) → Type 0
+abbrev pub AreSplit : List (SenderState Message) → List (SenderState Message) → List (SenderState Message) → Type 0
 AreSplit split old new = (k : ℕ) → parts_at k new + parts_at k split ≡ parts_at k old

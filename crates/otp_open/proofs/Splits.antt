@@ -4,28 +4,28 @@ use Rattle.std.specs.Prelude.{◌≢◌, ◌==◌, sum_by}
 use Rattle.std.proofs.lemmas.Bool.{eqb-false, eqb-true}
 use Rattle.std.proofs.lemmas.List.Sums.{sum_by_push}
 use Rattle.otp_inbox.specs.Tokens.{SenderState}
-use Rattle.otp_rules.specs.declared.event.Item.{Item}
+use Rattle.otp_bodies.specs.declared.letter.Message.{Message}
 use Rattle.otp_run.proofs.Places.{map-append}
 use Rattle.otp_hand.specs.Hands.{HandView, senders_of}
 use Rattle.otp_hand.specs.Sendings.{parts_at, parts_to}
 use Rattle.otp_hand.specs.Standings.{AreSplit, IsSplitAt}
 
-last_parts : (xs : List (SenderState Item)) (x : SenderState Item) → parts_at (length xs) (xs ++ x ∷ []) ≡ x.parts
+last_parts : (xs : List (SenderState Message)) (x : SenderState Message) → parts_at (length xs) (xs ++ x ∷ []) ≡ x.parts
 last_parts [] x = refl
 last_parts (y ∷ ys) x = last_parts ys x
 
-past_parts : (xs : List (SenderState Item)) → parts_at (length xs) xs ≡ 0
+past_parts : (xs : List (SenderState Message)) → parts_at (length xs) xs ≡ 0
 past_parts [] = refl
 past_parts (y ∷ ys) = past_parts ys
 
-other_parts : (xs : List (SenderState Item)) (x : SenderState Item) (k : ℕ) → k ≢ length xs → parts_at k (xs ++ x ∷ []) ≡ parts_at k xs
+other_parts : (xs : List (SenderState Message)) (x : SenderState Message) (k : ℕ) → k ≢ length xs → parts_at k (xs ++ x ∷ []) ≡ parts_at k xs
 other_parts [] x zero apart = absurd (apart refl)
 other_parts [] x (suc k) apart = refl
 other_parts (y ∷ ys) x zero apart = refl
 other_parts (y ∷ ys) x (suc k) apart = other_parts ys x k (λ e. apart (ap suc e))
 
 -- one more sender was split off
-pub split_more : (list : List (SenderState Item)) (x : SenderState Item) (first old new : List (SenderState Item)) → AreSplit list first old → IsSplitAt (length list) x.parts old new → AreSplit (list ++ x ∷ []) first new
+pub split_more : (list : List (SenderState Message)) (x : SenderState Message) (first old new : List (SenderState Message)) → AreSplit list first old → IsSplitAt (length list) x.parts old new → AreSplit (list ++ x ∷ []) first new
 split_more list x first old new so_far one k = by (k == length list) refl
   where
     at_end : parts_at (length list) new + parts_at (length list) (list ++ x ∷ []) ≡ parts_at (length list) first

@@ -7,7 +7,7 @@ use Rattle.otp_hand.proofs.Begun.{starts_push}
 use Rattle.otp_inbox.specs.Tokens.{first_sender}
 use Rattle.otp_run.proofs.Places.{push_at}
 use Rattle.otp_run.specs.Lists.{AllAt}
-use Rattle.otp_rules.specs.declared.event.Item.{Item}
+use Rattle.otp_bodies.specs.declared.letter.Message.{Message}
 use Rattle.otp_open.proofs.hands.seat.Goals as goal
 
 pub returns-clause-starts : goal.returns-clause-starts
@@ -27,7 +27,7 @@ returns-clause-ends g c =
     omega (arith, all, firsts, last)
 
 pub returns-clause-firsts : goal.returns-clause-firsts
-returns-clause-firsts g c = subst (AllAt (λ k s. s ≡ first_sender {P = Item} k)) (sym (c.in-Ok.ensures {u = tt})) (push_at (λ k s. s ≡ first_sender k) c.args.senders.items c.args.outer c.requires.seated c.requires.outer)
+returns-clause-firsts g c = subst (AllAt (λ k s. s ≡ first_sender {P = Message} k)) (sym (c.in-Ok.ensures {u = tt})) (push_at (λ k s. s ≡ first_sender k) c.args.senders.items c.args.outer c.requires.seated c.requires.outer)
 
 pub returns-clause-many : goal.returns-clause-many
 returns-clause-many g c = ap length (c.in-Ok.ensures {u = tt}) ∙ length-append c.args.senders.items (c.args.outer ∷ [])
