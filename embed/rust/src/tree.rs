@@ -172,10 +172,7 @@ impl Tree {
         let raw = &self.order;
         Ok(Some(match raw.kind {
             1 => Order::Start(process_of(raw)?),
-            2 => Order::Ask {
-                process: process_of(raw)?,
-                deadline: (raw.has_deadline != 0).then_some(raw.deadline),
-            },
+            2 => Order::Ask { process: process_of(raw)?, deadline: (raw.has_deadline != 0).then_some(raw.deadline) },
             3 => Order::Kill(process_of(raw)?),
             4 => {
                 let (supervisor, call) = (raw.supervisor, raw.number);
