@@ -14,26 +14,12 @@ const EACH: u64 = 100;
 
 const TAKEN: u64 = 150;
 
-trait Job: Send + Drop {
-    fn turn(&mut self) -> u64;
-}
-
+// Its body is a number that no other letter has.
 #[derive(Drop)]
-struct Echo {
-    word: u64,
-}
-
-impl Job for Echo {
-    fn turn(&mut self) -> u64 {
-        self.word
-    }
-}
-
-#[derive(Drop)]
-struct Letter<B> {
+struct Letter {
     from: u64,
     number: u64,
-    body: B,
+    body: u64,
 }
 
 struct Head {
@@ -41,29 +27,24 @@ struct Head {
     number: u64,
 }
 
-impl<B: Drop> Mail<Head> for Letter<B> {
+impl Mail<Head> for Letter {
     ghost plain = { λ l. record { from = l.from; number = l.number } };
 }
-
-type Boxed = Letter<Box<dyn Job, Global>>;
 
 #[test]
 fn two_senders_and_a_taker(rt: HostRuntime) {
     let first = letters_of(&rt, rt.alloc(), 0);
     let second = letters_of(&rt, rt.alloc(), 1);
-    let inbox = UnnamedInbox::<Head, Boxed>::open(rt.alloc());
+    let inbox = UnnamedInbox::<Head, Letter>::open(rt.alloc());
     let inbox = got(&rt, "memory was refused", inbox);
     exchange::<Brand, _>(&rt, inbox, first, second, Vec::new(rt.alloc()));
 }
 
-// All letters of a sender. Each body gives a number that no other has.
-fn letters_of(rt: &impl Abort, alloc: Global, from: u64) -> Vec<Boxed> {
+// All letters of a sender.
+fn letters_of(rt: &impl Abort, alloc: Global, from: u64) -> Vec<Letter> {
     let mut letters = Vec::new(alloc);
     for number in 0..EACH {
-        let word = from.saturating_mul(EACH).saturating_add(number);
-        let echo = Box::new(alloc, Echo { word });
-        let echo: Box<Echo, Global> = got(rt, "memory was refused", echo);
-        let body: Box<dyn Job, Global> = echo;
+        let body = from.saturating_mul(EACH).saturating_add(number);
         assert!(rt; letters.push(Letter { from, number, body }).is_ok());
     }
     letters
@@ -72,10 +53,10 @@ fn letters_of(rt: &impl Abort, alloc: Global, from: u64) -> Vec<Boxed> {
 // Sends all letters.
 fn send_all<N: InboxNaming, R: Wait + Abort>(
     rt: &R,
-    inbox: &Inbox<N, Head, Boxed>,
-    mut sender: Sender<N, Head, Boxed>,
-    letters: Vec<Boxed>,
-) -> Sender<N, Head, Boxed> {
+    inbox: &Inbox<N, Head, Letter>,
+    mut sender: Sender<N, Head, Letter>,
+    letters: Vec<Letter>,
+) -> Sender<N, Head, Letter> {
     for letter in letters {
         sends_one(rt, inbox, &mut sender, letter);
     }
@@ -84,9 +65,9 @@ fn send_all<N: InboxNaming, R: Wait + Abort>(
 
 fn sends_one<N: InboxNaming, R: Wait + Abort>(
     rt: &R,
-    inbox: &Inbox<N, Head, Boxed>,
-    sender: &mut Sender<N, Head, Boxed>,
-    letter: Boxed,
+    inbox: &Inbox<N, Head, Letter>,
+    sender: &mut Sender<N, Head, Letter>,
+    letter: Letter,
 ) {
     assert!(rt; sender.number() == inbox.number());
     assert!(rt; sender.parts() > 0);
@@ -94,26 +75,22 @@ fn sends_one<N: InboxNaming, R: Wait + Abort>(
 }
 
 // The letter is the next one of its sender, and its body is its own.
-fn check<R: Abort>(rt: &R, next: &mut [u64; 2], letter: Boxed) {
-    let Letter {
-        from,
-        number,
-        mut body,
-    } = letter;
+fn check<R: Abort>(rt: &R, next: &mut [u64; 2], letter: Letter) {
+    let Letter { from, number, body } = letter;
     assert!(rt; from < 2);
     let sender = from as usize;
     same(rt, "the next of its sender", number, next[sender]);
     assert!(rt; number < EACH);
-    same(rt, "its body", body.turn(), number + from * EACH);
+    same(rt, "its body", body, number + from * EACH);
     next[sender] = number + 1;
 }
 
 // Takes some letters as they come, and says which ones come next.
 fn take_some<N: InboxNaming, R: Wait + Abort>(
     rt: &R,
-    inbox: &Inbox<N, Head, Boxed>,
-    mut taker: Taker<N, Head, Boxed>,
-) -> (Taker<N, Head, Boxed>, [u64; 2]) {
+    inbox: &Inbox<N, Head, Letter>,
+    mut taker: Taker<N, Head, Letter>,
+) -> (Taker<N, Head, Letter>, [u64; 2]) {
     let mut next = [0; 2];
     for _ in rt.forever() {
         assert!(rt; taker.number() == inbox.number());
@@ -130,10 +107,10 @@ fn take_some<N: InboxNaming, R: Wait + Abort>(
 
 fn exchange<N: InboxNaming + Send + Sync, R: Threads + Wait + Abort + Sync>(
     rt: &R,
-    inbox: UnnamedInbox<Head, Boxed>,
-    first_letters: Vec<Boxed>,
-    second_letters: Vec<Boxed>,
-    left: Vec<Boxed>,
+    inbox: UnnamedInbox<Head, Letter>,
+    first_letters: Vec<Letter>,
+    second_letters: Vec<Letter>,
+    left: Vec<Letter>,
 )
     requires { inbox ≡ N.inbox 7 }
 {
@@ -161,12 +138,12 @@ fn exchange<N: InboxNaming + Send + Sync, R: Threads + Wait + Abort + Sync>(
 // Puts the senders together, and takes what is left.
 fn settle<N: InboxNaming, R: Wait + Abort>(
     rt: &R,
-    inbox: &Inbox<N, Head, Boxed>,
-    mut first: Sender<N, Head, Boxed>,
-    second: Sender<N, Head, Boxed>,
-    taker: Taker<N, Head, Boxed>,
+    inbox: &Inbox<N, Head, Letter>,
+    mut first: Sender<N, Head, Letter>,
+    second: Sender<N, Head, Letter>,
+    taker: Taker<N, Head, Letter>,
     mut next: [u64; 2],
-    mut left: Vec<Boxed>,
+    mut left: Vec<Letter>,
 ) {
     assert!(rt; first.number() == inbox.number());
     assert!(rt; second.number() == inbox.number());
@@ -189,12 +166,12 @@ fn settle<N: InboxNaming, R: Wait + Abort>(
 
 #[test]
 fn refused_letter_comes_back(rt: HostRuntime) {
-    let inbox = UnnamedInbox::<Head, Letter<()>>::open(rt.alloc());
+    let inbox = UnnamedInbox::<Head, Letter>::open(rt.alloc());
     let inbox = got(&rt, "memory was refused", inbox);
     refuse::<Brand, _>(&rt, inbox);
 }
 
-fn refuse<N: InboxNaming, R: Wait + Abort>(rt: &R, inbox: UnnamedInbox<Head, Letter<()>>)
+fn refuse<N: InboxNaming, R: Wait + Abort>(rt: &R, inbox: UnnamedInbox<Head, Letter>)
     requires { inbox ≡ N.inbox 0 }
 {
     let (inbox, mut taker, mut sender) = inbox.named::<N>(0);
@@ -216,8 +193,8 @@ fn refuse<N: InboxNaming, R: Wait + Abort>(rt: &R, inbox: UnnamedInbox<Head, Let
 // comes back as it was, nothing was sent, and it can be sent again.
 fn send_numbers<N: InboxNaming, R: Wait + Abort>(
     rt: &R,
-    inbox: &Inbox<N, Head, Letter<()>>,
-    sender: &mut Sender<N, Head, Letter<()>>,
+    inbox: &Inbox<N, Head, Letter>,
+    sender: &mut Sender<N, Head, Letter>,
 )
     requires belongs { sender.old.inbox ≡ inbox.now }
     requires may_send { 0 < sender.old.parts }
@@ -226,10 +203,15 @@ fn send_numbers<N: InboxNaming, R: Wait + Abort>(
         let letter = Letter {
             from: 0,
             number,
-            body: (),
+            body: number,
         };
         if let Err(letter) = inbox.send(rt, sender, letter) {
-            same(rt, "what came back", letter.number, number);
+            same(
+                rt,
+                "what came back",
+                (letter.number, letter.body),
+                (number, number),
+            );
             same(rt, "how many were sent", sender.sent_count(), number);
             assert!(rt; inbox.send(rt, sender, letter).is_ok());
         }

@@ -198,61 +198,115 @@ fn number_of(found: Option<AnyProcess>) -> Option<u64> {
     found.map(|process| process.number())
 }
 
-// Which processes come, in which order, and what is counted.
-fn order_of_thefts<N: RunNaming, R: Abort>(
+// What is done to a scheduler of a run queue, and seen of it.
+#[derive(Clone, Copy)]
+enum Act {
+    // It has its place among so many.
+    IsOf(usize),
+    // It gets a process of this number.
+    Put(u64),
+    // It finds this one, its own first.
+    Next(Option<u64>),
+    // It finds this one of its own.
+    Own(Option<u64>),
+}
+
+fn acts<N: RunNaming, R: Abort>(
+    rt: &R,
+    alloc: Global,
+    scheduler: &mut AnyScheduler<N>,
+    place: usize,
+    act: Act,
+) {
+    match act {
+        Act::IsOf(count) => {
+            let found = (scheduler.index(), scheduler.count());
+            same(rt, "its place", found, (place, count));
+        }
+        Act::Put(number) => put_one(rt, alloc, scheduler, number),
+        Act::Next(wanted) => {
+            let found = number_of(scheduler.next());
+            same(rt, "what was found", found, wanted);
+        }
+        Act::Own(wanted) => {
+            let found = number_of(scheduler.next_own());
+            same(rt, "what was found of its own", found, wanted);
+        }
+    }
+}
+
+// All is done to the schedulers at these places, one thing after the other. They are all of the run queue.
+fn acts_in<N: RunNaming, R: Abort>(
     rt: &R,
     alloc: Global,
     queue: RunQueue<BoxedJob, BoxedSubsystem>,
+    rows: &[(usize, Act)],
 )
     requires { AllAt (λ k id. id ≡ N.deque k) queue }
 {
     let mut schedulers = got(rt, MEMORY, queue.named::<N>(alloc));
-    assert!(rt; schedulers.len() == 4);
-    // Scheduler 2 takes its own first, then steals of 3, 0 and 1.
-    for index in 0..schedulers.len() {
-        let place = (schedulers[index].index(), schedulers[index].count());
-        same(rt, "its place", place, (index, 4));
-        let first = index as u64 * 10;
-        put_all(rt, alloc, &mut schedulers[index], first, first + 2);
+    for row in rows {
+        let (place, act) = *row;
+        assert!(rt; place < schedulers.len());
+        acts(rt, alloc, &mut schedulers[place], place, act);
     }
-    for wanted in [20, 21, 30, 31, 0, 1, 10, 11] {
-        let found = schedulers[2].next();
-        same(rt, "what was found", number_of(found), Some(wanted));
-    }
-    assert!(rt; schedulers[2].next().is_none());
     assert!(rt; is_all(schedulers.as_slice()));
     drop(schedulers);
 }
 
-fn own_alone<N: RunNaming, R: Abort>(
-    rt: &R,
-    alloc: Global,
-    queue: RunQueue<BoxedJob, BoxedSubsystem>,
-)
-    requires { AllAt (λ k id. id ≡ N.deque k) queue }
+// The same with a new run queue of so many schedulers.
+fn plays<R: Abort>(rt: &R, alloc: Global, count: usize, rows: &[(usize, Act)])
+    requires some { 0 < count }
+    requires few { count ≤ all_parts }
 {
-    let mut schedulers = got(rt, MEMORY, queue.named::<N>(alloc));
-    assert!(rt; schedulers.len() == 2);
-    put_all(rt, alloc, &mut schedulers[0], 0, 2);
-    assert!(rt; schedulers[1].next_own().is_none());
-    for wanted in [0, 1] {
-        let found = schedulers[0].next_own();
-        same(rt, "what was found", number_of(found), Some(wanted));
-    }
-    assert!(rt; schedulers[0].next_own().is_none());
-    drop(schedulers);
+    let queue = opened(rt, alloc, count);
+    acts_in::<Brand, _>(rt, alloc, queue, rows);
 }
+
+const OWN_ALONE: [(usize, Act); 8] = [
+    (0, Act::IsOf(2)),
+    (1, Act::IsOf(2)),
+    (0, Act::Put(0)),
+    (0, Act::Put(1)),
+    (1, Act::Own(None)),
+    (0, Act::Own(Some(0))),
+    (0, Act::Own(Some(1))),
+    (0, Act::Own(None)),
+];
+
+// Scheduler 2 takes its own first, then steals of 3, 0 and 1.
+const THEFTS: [(usize, Act); 21] = [
+    (0, Act::IsOf(4)),
+    (0, Act::Put(0)),
+    (0, Act::Put(1)),
+    (1, Act::IsOf(4)),
+    (1, Act::Put(10)),
+    (1, Act::Put(11)),
+    (2, Act::IsOf(4)),
+    (2, Act::Put(20)),
+    (2, Act::Put(21)),
+    (3, Act::IsOf(4)),
+    (3, Act::Put(30)),
+    (3, Act::Put(31)),
+    (2, Act::Next(Some(20))),
+    (2, Act::Next(Some(21))),
+    (2, Act::Next(Some(30))),
+    (2, Act::Next(Some(31))),
+    (2, Act::Next(Some(0))),
+    (2, Act::Next(Some(1))),
+    (2, Act::Next(Some(10))),
+    (2, Act::Next(Some(11))),
+    (2, Act::Next(None)),
+];
 
 #[test]
 fn next_own_leaves_the_others_alone(rt: HostRuntime) {
-    let queue = opened(&rt, rt.alloc(), 2);
-    own_alone::<Brand, _>(&rt, rt.alloc(), queue);
+    plays(&rt, rt.alloc(), 2, &OWN_ALONE);
 }
 
 #[test]
 fn next_tries_the_others_in_rising_order(rt: HostRuntime) {
-    let queue = opened(&rt, rt.alloc(), 4);
-    order_of_thefts::<Brand, _>(&rt, rt.alloc(), queue);
+    plays(&rt, rt.alloc(), 4, &THEFTS);
 }
 
 // Gives a process back. Under a refused growth it comes back whole, is still out, and can be given back again.
