@@ -98,7 +98,7 @@ fn room_is_made_under_a_limit(rt: HostRuntime) {
 }
 
 // As many children as there may be are told 256 times: then so many lines are kept as may be.
-const FILLED: [Step; 8] = [
+const FILLED: [Step; 9] = [
     ("ups 256", ""),
     ("asks 255", ""),
     ("room 65536", ""),
@@ -116,6 +116,7 @@ const FILLED: [Step; 8] = [
         "counts",
         "events 513+0 starts 256 restarts 0 kept 0 numbers 256 256 dropped 256 rows 256\n",
     ),
+    ("answer 256", "gone\n"),
 ];
 
 // A tree file of as many children as there may be.

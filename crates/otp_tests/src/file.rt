@@ -3,6 +3,7 @@
 
 use crate::fixtures::{got, prints, same};
 use otp_file::{TreeFault, read_located};
+use otp_spec::SpecFault;
 use std::alloc::{AllocError, Global};
 use std::process::Abort;
 
@@ -192,10 +193,31 @@ fn faults_of_files(rt: HostRuntime) {
     }
 }
 
-/// Want of memory says nothing of the file.
+/// Faults that no file above has, their codes and texts.
+const OTHERS: [(TreeFault, u8, &str); 4] = [
+    (TreeFault::OutOfMemory, 0, "out of memory"),
+    (
+        TreeFault::Unlawful(SpecFault::TooManyChildren),
+        7,
+        "a supervisor has at most 256 children",
+    ),
+    (
+        TreeFault::TooDeep,
+        14,
+        "supervisors are nested more than 16 deep",
+    ),
+    (
+        TreeFault::TooManyTables,
+        15,
+        "there are more than 64 supervisors",
+    ),
+];
+
+/// Want of memory says nothing of the file. The others are faults of large files, which the program reads.
 #[test]
-fn want_of_memory(rt: HostRuntime) {
-    let fault = TreeFault::OutOfMemory;
-    assert!(rt; fault.code() == 0);
-    prints(&rt, rt.alloc(), &fault, "out of memory");
+fn texts_of_other_faults(rt: HostRuntime) {
+    for (fault, code, text) in OTHERS {
+        assert!(rt; fault.code() == code);
+        prints(&rt, rt.alloc(), &fault, text);
+    }
 }
