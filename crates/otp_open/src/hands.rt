@@ -15,17 +15,16 @@ use otp_hand::places::keep;
 use otp_hand::{Around, Hand, Resting, Runner, Senders, Shared, Waiting};
 use otp_inbox::{InboxNaming, Sender};
 use otp_job::{Body, Process};
-use otp_rules::Item;
 use otp_run::{RunNaming, Scheduler};
 use otp_signals::{Viewer, WordsNaming};
-use otp_sup::{Letter, PlanNaming};
+use otp_sup::{Letter, Message, PlanNaming};
 use otp_tally::Tally;
 use std::alloc::{AllocError, Global};
 
 /// The first sender to each supervisor, and the one that sends to whoever opened the tree.
 pub fn seat<N: InboxNaming, B: Drop>(
-    mut senders: Vec<Sender<N, Item, Letter<B>>>,
-    outer: Sender<N, Item, Letter<B>>,
+    mut senders: Vec<Sender<N, Message, Letter<B>>>,
+    outer: Sender<N, Message, Letter<B>>,
 ) -> Result<Senders<N, B>, AllocError>
     requires seated { AllAt (λ k s. s ≡ first_sender k) senders.items }
     requires outer { outer ≡ first_sender (length senders.items) }

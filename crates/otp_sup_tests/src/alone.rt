@@ -6,12 +6,12 @@ ghost use Rattle.std.specs.Prelude.{◌≡◌, ◌≤◌, ◌<◌, ◌^◌};
 use crate::fixtures::seat_table;
 use otp_inbox::{Inbox, InboxNaming, Sender, UnnamedInbox};
 use otp_reason::Note;
-use otp_rules::{Cause, Item};
+use otp_rules::Cause;
 use otp_signals::{OpenWords, Signal, Viewer, Words, WordsNaming};
 use otp_spec::SupSpec;
 use otp_sup::{
-    Bodies, Flushed, Letter, MemoryPort, NewProcess, PlanNaming, Port, Table, ToldNote, TurnAnswer,
-    TurnFault,
+    Bodies, Flushed, Letter, MemoryPort, Message, NewProcess, PlanNaming, Port, Table, ToldNote,
+    TurnAnswer, TurnFault,
 };
 use std::alloc::Global;
 use std::process::Abort;
@@ -29,9 +29,9 @@ pub(crate) const OWN: u64 = 6;
 pub(crate) struct Alone<N: WordsNaming + InboxNaming + PlanNaming> {
     words: Words<N>,
     viewer: Viewer<N>,
-    inbox: Inbox<N, Item, Post>,
+    inbox: Inbox<N, Message, Post>,
     pub(crate) table: Table<N, u64>,
-    sender: Sender<N, Item, Post>,
+    sender: Sender<N, Message, Post>,
     port: MemoryPort<u64>,
 }
 
@@ -51,7 +51,7 @@ fn hand_in_all(alloc: Global, own: &[u64]) -> Result<Bodies<u64>, Fail> {
 pub(crate) fn make_table<N: WordsNaming + InboxNaming + PlanNaming>(
     alloc: Global,
     words: OpenWords,
-    inbox: UnnamedInbox<Item, Post>,
+    inbox: UnnamedInbox<Message, Post>,
     supervisor: SupSpec,
     own: &[u64],
 ) -> Result<Alone<N>, Fail>

@@ -7,10 +7,9 @@ use crate::fixtures::{of_one_child, open_for};
 use crate::script::{Known, Step, plays};
 use otp_inbox::{InboxNaming, UnnamedInbox};
 use otp_reason::{Note, Reason};
-use otp_rules::Item;
 use otp_signals::{OpenWords, Signal, WordsNaming};
 use otp_spec::{MAX_EVENTS, SupSpec};
-use otp_sup::{CutAnswer, Letter, PlanNaming, TurnAnswer};
+use otp_sup::{CutAnswer, Letter, Message, PlanNaming, TurnAnswer};
 use std::alloc::Global;
 use std::marker::Brand;
 use std::process::Abort;
@@ -83,7 +82,7 @@ fn full_in<N: WordsNaming + InboxNaming + PlanNaming, R: Wait + Abort>(
     rt: &R,
     alloc: Global,
     words: OpenWords,
-    inbox: UnnamedInbox<Item, Letter<u64>>,
+    inbox: UnnamedInbox<Message, Letter<u64>>,
     supervisor: SupSpec,
 ) -> Result<(), Fail>
     requires words { words.words ≡ N.words }

@@ -9,7 +9,8 @@ use otp_rules::{Call, CountsNow, Item, Kind, Reply};
 use otp_signals::{OpenWords, Signal, Words, WordsNaming};
 use otp_spec::SupSpec;
 use otp_sup::{
-    Client, Letter, MemoryPort, PlanNaming, SplitFault, SubmitCause, Sup, TurnAnswer, TurnFault,
+    Client, Letter, MemoryPort, Message, PlanNaming, SplitFault, SubmitCause, Sup, TurnAnswer,
+    TurnFault,
 };
 use std::alloc::Global;
 use std::marker::Brand;
@@ -37,7 +38,7 @@ fn clients_in<
     rt: &R,
     alloc: Global,
     words: OpenWords,
-    inbox: UnnamedInbox<Item, Post>,
+    inbox: UnnamedInbox<Message, Post>,
     supervisor: SupSpec,
 ) -> Result<(), Fail>
     requires words { words.words ≡ N.words }
@@ -75,7 +76,7 @@ fn send_from_threads<
     words: &Words<N>,
     sup: &Sup<N, u64>,
     mut first: Client<N, u64>,
-    mut sender: Sender<N, Item, Post>,
+    mut sender: Sender<N, Message, Post>,
     mut port: MemoryPort<u64>,
 ) -> Result<(Vec<u64>, Vec<u64>), Fail> {
     let opened = turn(rt, sup, words, &mut sender, &mut port);
@@ -232,7 +233,7 @@ fn turn<N: WordsNaming + InboxNaming + PlanNaming, R: Wait + Abort>(
     rt: &R,
     sup: &Sup<N, u64>,
     words: &Words<N>,
-    sender: &mut Sender<N, Item, Post>,
+    sender: &mut Sender<N, Message, Post>,
     port: &mut MemoryPort<u64>,
 ) -> Result<TurnAnswer, TurnFault> {
     assert_eq!(rt; sender.number(), sup.inbox().number());
@@ -245,7 +246,7 @@ fn serve<N: WordsNaming + InboxNaming + PlanNaming, R: Wait + Abort>(
     rt: &R,
     sup: &Sup<N, u64>,
     words: &Words<N>,
-    mut sender: Sender<N, Item, Post>,
+    mut sender: Sender<N, Message, Post>,
     mut port: MemoryPort<u64>,
 ) -> MemoryPort<u64> {
     let mut taken = 0u64;

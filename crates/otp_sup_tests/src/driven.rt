@@ -6,12 +6,12 @@ ghost use Rattle.std.specs.Prelude.{◌≡◌, ◌≤◌, ◌^◌};
 use crate::fixtures::seat_table;
 use otp_inbox::{InboxNaming, Sender, UnnamedInbox};
 use otp_reason::{Note, Reason};
-use otp_rules::{Call, Cause, Item};
+use otp_rules::{Call, Cause};
 use otp_signals::{OpenWords, Signal, Viewer, Words, WordsNaming};
 use otp_spec::{SupFlags, SupSpec};
 use otp_sup::{
-    Bodies, Client, Letter, MemoryPort, NewProcess, PlanNaming, SubmitCause, Sup, ToldNote,
-    TurnAnswer, TurnFault,
+    Bodies, Client, Letter, MemoryPort, Message, NewProcess, PlanNaming, SubmitCause, Sup,
+    ToldNote, TurnAnswer, TurnFault,
 };
 use std::alloc::Global;
 use std::process::Abort;
@@ -44,7 +44,7 @@ pub(crate) struct Driven<N: WordsNaming + InboxNaming + PlanNaming, B: Drop> {
     pub(crate) words: Words<N>,
     pub(crate) viewer: Viewer<N>,
     pub(crate) sup: Sup<N, B>,
-    pub(crate) sender: Sender<N, Item, Letter<B>>,
+    pub(crate) sender: Sender<N, Message, Letter<B>>,
     pub(crate) client: Client<N, B>,
     pub(crate) port: MemoryPort<B>,
 }
@@ -63,7 +63,7 @@ pub(crate) fn of_one_body<B: Drop>(alloc: Global, body: B) -> Result<Bodies<B>, 
 pub(crate) fn make_driven<N: WordsNaming + InboxNaming + PlanNaming, B: Drop>(
     alloc: Global,
     words: OpenWords,
-    inbox: UnnamedInbox<Item, Letter<B>>,
+    inbox: UnnamedInbox<Message, Letter<B>>,
     supervisor: SupSpec,
     bodies: Bodies<B>,
     calls: u64,
@@ -127,7 +127,7 @@ pub(crate) fn childless(alloc: Global) -> Result<SupSpec, Fail> {
 pub(crate) fn make_childless<N: WordsNaming + InboxNaming + PlanNaming>(
     alloc: Global,
     words: OpenWords,
-    inbox: UnnamedInbox<Item, Letter<u64>>,
+    inbox: UnnamedInbox<Message, Letter<u64>>,
     supervisor: SupSpec,
     calls: u64,
 ) -> Result<Driven<N, u64>, Fail>

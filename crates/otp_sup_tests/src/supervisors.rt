@@ -8,10 +8,10 @@ use crate::fixtures::{child, crash, of_one_child, open_for, second};
 use otp_core::ReplyAnswer;
 use otp_inbox::{InboxNaming, UnnamedInbox};
 use otp_reason::{Note, Reason};
-use otp_rules::{Call, CallFault, Item, Reply};
+use otp_rules::{Call, CallFault, Reply};
 use otp_signals::{OpenWords, Signal, WordsNaming};
 use otp_spec::SupSpec;
-use otp_sup::{Letter, PlanNaming, TurnAnswer, TurnFault};
+use otp_sup::{Letter, Message, PlanNaming, TurnAnswer, TurnFault};
 use std::alloc::Global;
 use std::marker::Brand;
 use std::process::Abort;
@@ -22,7 +22,7 @@ use std::test::*;
 fn make_one<N: WordsNaming + InboxNaming + PlanNaming>(
     alloc: Global,
     words: OpenWords,
-    inbox: UnnamedInbox<Item, Post>,
+    inbox: UnnamedInbox<Message, Post>,
     supervisor: SupSpec,
     body: Body,
 ) -> Result<Driven<N, Body>, Fail>
@@ -74,7 +74,7 @@ fn one_child_in<N: WordsNaming + InboxNaming + PlanNaming + Send + Sync, R: Wait
     rt: &R,
     alloc: Global,
     words: OpenWords,
-    inbox: UnnamedInbox<Item, Post>,
+    inbox: UnnamedInbox<Message, Post>,
     supervisor: SupSpec,
     bodies: (Body, Body, Body),
 ) -> Result<(), Fail>
@@ -173,7 +173,7 @@ fn bodies_in<N: WordsNaming + InboxNaming + PlanNaming, R: Wait + Abort>(
     rt: &R,
     alloc: Global,
     words: OpenWords,
-    inbox: UnnamedInbox<Item, Post>,
+    inbox: UnnamedInbox<Message, Post>,
     supervisor: SupSpec,
     bodies: (Body, Body, Body),
 ) -> Result<(), Fail>
@@ -295,7 +295,7 @@ fn growths_in<N: WordsNaming + InboxNaming + PlanNaming, R: Wait + Abort>(
     rt: &R,
     alloc: Global,
     words: OpenWords,
-    inbox: UnnamedInbox<Item, Post>,
+    inbox: UnnamedInbox<Message, Post>,
     supervisor: SupSpec,
     bodies: (Body, Body, Body, Body, Body),
 ) -> Result<(), Fail>

@@ -1,7 +1,7 @@
 // What lies under a supervisor's lock, without the lock: a turn at a time, and an order at a time, over a port in memory.
 ghost use Rattle.std.specs.Prelude.{◌≡◌, ◌<◌, ◌++◌, ◌∷◌, [], is_some, option_copied, IfErr, OnErr, OnOk};
 ghost use Rattle.otp_rules.specs.declared.event.Item.TheVariants as item;
-ghost use Rattle.otp_bodies.specs.Letters.{Comes};
+ghost use Rattle.otp_bodies.specs.Letters.{Comes, is_end_note};
 ghost use Rattle.otp_bodies.specs.Ports.{launched, launched_all, told};
 
 use crate::alone::{Alone, OWN, Post, make_table};
@@ -9,10 +9,10 @@ use crate::fixtures::{of_one_child, open_for};
 use crate::script::{Known, Step, plays};
 use otp_inbox::{InboxNaming, UnnamedInbox};
 use otp_reason::{Note, Reason};
-use otp_rules::{Item, SupEnd};
+use otp_rules::SupEnd;
 use otp_signals::{OpenWords, Signal, WordsNaming};
 use otp_spec::SupSpec;
-use otp_sup::{Letter, NewProcess, PlanNaming, Port, ToldNote, TurnAnswer, TurnFault};
+use otp_sup::{Letter, Message, NewProcess, PlanNaming, Port, ToldNote, TurnAnswer, TurnFault};
 use otp_tally::Tally;
 use std::alloc::Global;
 use std::marker::Brand;
@@ -116,7 +116,8 @@ impl Port<u64> for Shut {
     }
 
     fn send(&mut self, note: Note, end: Option<&SupEnd>) -> Result<(), Note>
-        requires { Comes (item.Note note) (option_copied end) }
+        requires comes { Comes (item.Note note) (option_copied end) }
+        requires whole { is_some (option_copied end) ≡ is_end_note note }
         ensures took { OnOk result (self.new.notes.items ≡ self.old.notes.items ++ told note (option_copied end.entry) ∷ []) }
         ensures kept { OnErr result (self.new.notes.items ≡ self.old.notes.items) }
         ensures refused { OnErr result (self.old.refusals.count < self.new.refusals.count) }
@@ -140,7 +141,7 @@ fn refused_in<N: WordsNaming + InboxNaming + PlanNaming, R: Wait + Abort>(
     rt: &R,
     alloc: Global,
     words: OpenWords,
-    inbox: UnnamedInbox<Item, Post>,
+    inbox: UnnamedInbox<Message, Post>,
     supervisor: SupSpec,
 ) -> Result<(), Fail>
     requires words { words.words ≡ N.words }
