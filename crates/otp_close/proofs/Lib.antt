@@ -7,3 +7,4 @@ pub mod Leavings
 pub mod Settlings
 pub mod Begun
 pub mod Ended
+pub mod Standings
