@@ -8,3 +8,4 @@ pub mod Settlings
 pub mod Begun
 pub mod Come
 pub mod Ended
+pub mod Standings

@@ -82,6 +82,13 @@ module _ {J S K : Type 0} where
   IsMissingOnly complete (fault.Misplaced k d) = ⊤
   IsMissingOnly complete (fault.Mismatch m report) = ⊤
 
+  -- no part is said to be missing
+  abbrev pub NoneMissing : CloseFault J S K → Type 0
+  NoneMissing (fault.OutOfMemory k) = ⊤
+  NoneMissing (fault.Missing k) = ⊥
+  NoneMissing (fault.Misplaced k d) = ⊤
+  NoneMissing (fault.Mismatch m report) = ⊤
+
   -- a mismatch is that of an event of the report
   abbrev pub IsMismatchOnly : CloseFault J S K → Type 0
   IsMismatchOnly (fault.OutOfMemory k) = ⊤

@@ -10,9 +10,10 @@ ghost use Rattle.otp_signals.specs.Lists.{AllIn, NoneInBoth};
 ghost use Rattle.otp_close.specs.Totals.{HasAllStarts, starts_of, unsent_of, HasAllEnds, HasHeard, ends_of};
 ghost use Rattle.otp_hand.specs.Begun.{starts_credited};
 ghost use Rattle.otp_hand.specs.Ended.{ends_sent, held_by};
-ghost use Rattle.otp_close.specs.Closes.{AreApart, HasBegun, HaveBegun, HasTold, IsComplete, IsIntact, IsMismatchOnly, IsMissingOnly, IsReached, IsRefusalOf, IsReportOf, all_senders, kept_in, report_in};
+ghost use Rattle.otp_close.specs.Closes.{AreApart, HasBegun, HasTold, HaveBegun, IsComplete, IsIntact, IsMismatchOnly, IsMissingOnly, IsReached, IsRefusalOf, IsReportOf, NoneMissing, all_senders, kept_in, report_in};
 ghost use Rattle.otp_bodies.specs.Messages.{items_in};
 ghost use Rattle.otp_close.specs.Leavings.{AreAccounted, AreInOrder, HasCome, HasUnsent, HaveCome, IsLast, IsLastInOrder, line_of, lists_at};
+ghost use Rattle.otp_hand.specs.Standings.{standings};
 ghost use Rattle.otp_hand.specs.Sendings.{sent_at};
 ghost use Rattle.otp_close.specs.Partings.{schedulers_of};
 ghost use Rattle.otp_close.specs.Settlings.{AreReady, IsLoose, IsReady, held_in, senders_in};
@@ -58,6 +59,7 @@ impl<J: Drop, S: Drop, K: Drop> CloseFault<J, S, K> {
     pub fn without_tree(self) -> CloseFault<J, S, ()>
         ensures report { report_in (Err result) ≡ report_in (Err self) }
         ensures mismatch { IsMismatchOnly self → IsMismatchOnly result }
+        ensures missing { NoneMissing self → NoneMissing result }
     {
         match self {
             CloseFault::OutOfMemory(_) => CloseFault::OutOfMemory(()),
@@ -168,9 +170,11 @@ pub fn finish<N: WordsNaming + InboxNaming + PlanNaming + RunNaming, J: Drop, S:
     ensures report { IfOk result (IsReportOf shared.tables) }
     ensures plans { IfSome (report_in result) (λ report. HaveBegun N.plan report.tables.items) }
     ensures mismatch { IfErr result IsMismatchOnly }
+    // Of a tree that is whole no part is said to be missing.
+    ensures missing { IsComplete shared hands.items client → IfErr result NoneMissing }
 {
     let mut hands = hands;
-    rouse_all(hands.as_mut_slice());
+    rouse_all(&mut hands);
     match close(rt, alloc, shared, hands, client) {
         Ok(report) => Ok(report),
         Err(fault) => Err(fault.without_tree()),
@@ -179,8 +183,10 @@ pub fn finish<N: WordsNaming + InboxNaming + PlanNaming + RunNaming, J: Drop, S:
 
 /// Gives the processes that wait back to the run queue.
 fn rouse_all<N: WordsNaming + InboxNaming + RunNaming, J: Drop, S: Drop>(
-    hands: &mut [Hand<N, J, S>],
-) {
+    hands: &mut Vec<Hand<N, J, S>>,
+)
+    ensures { standings hands.new.items ≡ standings hands.old.items }
+{
     for place in 0..hands.len() {
         hands[place].rouse();
     }

@@ -23,8 +23,8 @@ returns-then-parts_to-ne-ALL_PARTS g c =
     let reach = ap (λ v. length v.senders) c.client.view_is in (
       λ found. absurd (isnt_true found),
       λ all.
-        let whole = all place (omega (arith, reach, c.len-place-end.ensures, c.loop-place-test.true)) in
-        absurd (omega (arith, whole, c.parts_to.ensures, c.if-parts_to-ne-ALL_PARTS.true)),
+          let whole = all place (omega (arith, reach, c.len-place-end.ensures, c.loop-place-test.true)) in
+          absurd (omega (arith, whole, c.parts_to.ensures, c.if-parts_to-ne-ALL_PARTS.true)),
     )
 
 pub returns : goal.returns

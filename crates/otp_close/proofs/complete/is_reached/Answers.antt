@@ -23,8 +23,8 @@ returns-then-not-reach_as_far g c =
     let own = ap (λ v. length v.senders) c.client.view_is in (
       λ found. absurd (isnt_true found),
       λ r.
-        let far = hands_as_far c.args.tables c.len.result c.args.client.now c.args.hands.now (sym r.reach ∙ sym own ∙ sym c.len.ensures) r.as_far in
-        absurd (isnt_true (sym c.if-not-reach_as_far.true ∙ c.reach_as_far.ensures.1 far)),
+          let far = hands_as_far c.args.tables c.len.result c.args.client.now c.args.hands.now (sym r.reach ∙ sym own ∙ sym c.len.ensures) r.as_far in
+          absurd (isnt_true (sym c.if-not-reach_as_far.true ∙ c.reach_as_far.ensures.1 far)),
     )
 
 pub returns : goal.returns

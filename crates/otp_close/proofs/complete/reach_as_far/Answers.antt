@@ -26,6 +26,6 @@ returns-then-not-sends_to g c =
     let at = slice_get-get_or hands c.loop-place.place c.index-hands-place.result within ∙ ap (λ x. Some x) (sym c.index-hands-place.is) in (
       λ found. absurd (isnt_true found),
       λ all.
-        let so = subst (λ o. IfSome o (λ h. length (senders_of h) ≡ c.args.count)) at (all c.loop-place.place) in
-        absurd (isnt_true (sym c.if-not-sends_to.true ∙ c.sends_to.ensures.1 so)),
+          let so = subst (λ o. IfSome o (λ h. length (senders_of h) ≡ c.args.count)) at (all c.loop-place.place) in
+          absurd (isnt_true (sym c.if-not-sends_to.true ∙ c.sends_to.ensures.1 so)),
     )

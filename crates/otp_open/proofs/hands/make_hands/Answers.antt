@@ -58,10 +58,10 @@ loop-scheduler-preserved g c =
       left = omega (arith, fewer, shorter, left);
       opened = subst (AllAt (λ k h. h.scheduler ≡ opened_for root count k)) (sym kept) (push_at (λ k h. h.scheduler ≡ opened_for root count k) _ _ i.opened (made.scheduler ∙ first.is ∙ ap (opened_for root count) (add-zero _)));
       split = λ k.
-        let more = ap (λ l. parts_to k (map senders_of l)) kept ∙ hand_more k c.loop-scheduler.hands.items c.in_ok-hand.hand in
-        let off = made.split k in
-        let so_far = i.split k in
-        omega (arith, more, off, so_far);
+          let more = ap (λ l. parts_to k (map senders_of l)) kept ∙ hand_more k c.loop-scheduler.hands.items c.in_ok-hand.hand in
+          let off = made.split k in
+          let so_far = i.split k in
+          omega (arith, more, off, so_far);
       reach = subst (AllAt (λ _ h. length (senders_of h) ≡ length c.args.senders.now)) (sym kept) (push_at (λ _ h. length (senders_of h) ≡ length c.args.senders.now) _ _ i.reach (made.reach ∙ i.len));
       len = made.len ∙ i.len;
       same = made.same ∙ i.same;
