@@ -4,7 +4,7 @@ use Rattle.std.specs.Prelude.{MatchOption, slice_get, sum_by}
 use Rattle.std.proofs.lemmas.List.{length-map}
 use Rattle.std.proofs.lemmas.List.Sums.{sum_by-cons}
 use Rattle.otp_inbox.specs.Tokens.{SenderState, TakerState, all_parts}
-use Rattle.otp_rules.specs.declared.event.Item.{Item}
+use Rattle.otp_bodies.specs.declared.letter.Message.{Message}
 use Rattle.otp_run.proofs.Places.{map_at}
 use Rattle.otp_run.specs.Gathers.{IsAll}
 use Rattle.otp_run.specs.Lists.{AllAt}
@@ -26,26 +26,26 @@ at k [] = 0
 at zero (n ∷ ns) = n
 at (suc k) (n ∷ ns) = at k ns
 
-parts_are : (k : ℕ) (senders : List (SenderState Item)) → parts_at k senders ≡ at k (parts_in senders)
+parts_are : (k : ℕ) (senders : List (SenderState Message)) → parts_at k senders ≡ at k (parts_in senders)
 parts_are k [] = refl
 parts_are zero (s ∷ ss) = refl
 parts_are (suc k) (s ∷ ss) = parts_are k ss
 
 -- the same list of senders, as far as parts go
-same_parts : (k : ℕ) (one other : List (SenderState Item)) → parts_in one ≡ parts_in other → parts_at k one ≡ parts_at k other
+same_parts : (k : ℕ) (one other : List (SenderState Message)) → parts_in one ≡ parts_in other → parts_at k one ≡ parts_at k other
 same_parts k one other same = parts_are k one ∙ ap (at k) same ∙ sym (parts_are k other)
 
-same_reach : (one other : List (SenderState Item)) → parts_in one ≡ parts_in other → length one ≡ length other
+same_reach : (one other : List (SenderState Message)) → parts_in one ≡ parts_in other → length one ≡ length other
 same_reach one other same = sym (length-map one part_of) ∙ ap length same ∙ length-map other part_of
 
-same_waiter : (tables : ℕ) (one other : Option (TakerState Item)) → inbox_of other ≡ inbox_of one → MatchOption one ⊥ (λ w. w.inbox ≡ tables) → MatchOption other ⊥ (λ w. w.inbox ≡ tables)
+same_waiter : (tables : ℕ) (one other : Option (TakerState Message)) → inbox_of other ≡ inbox_of one → MatchOption one ⊥ (λ w. w.inbox ≡ tables) → MatchOption other ⊥ (λ w. w.inbox ≡ tables)
 same_waiter tables one other same is = back other (subst (λ o. MatchOption o ⊥ (λ n. n ≡ tables)) (sym same) (forth one is))
   where
-    forth : (o : Option (TakerState Item)) → MatchOption o ⊥ (λ w. w.inbox ≡ tables) → MatchOption (inbox_of o) ⊥ (λ n. n ≡ tables)
+    forth : (o : Option (TakerState Message)) → MatchOption o ⊥ (λ w. w.inbox ≡ tables) → MatchOption (inbox_of o) ⊥ (λ n. n ≡ tables)
     forth (Some w) is = is
     forth None is = is
 
-    back : (o : Option (TakerState Item)) → MatchOption (inbox_of o) ⊥ (λ n. n ≡ tables) → MatchOption o ⊥ (λ w. w.inbox ≡ tables)
+    back : (o : Option (TakerState Message)) → MatchOption (inbox_of o) ⊥ (λ n. n ≡ tables) → MatchOption o ⊥ (λ w. w.inbox ≡ tables)
     back (Some w) is = is
     back None is = is
 

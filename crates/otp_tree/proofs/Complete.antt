@@ -5,7 +5,7 @@ use Rattle.std.proofs.lemmas.List.{length-map}
 use Rattle.std.proofs.lemmas.List.Sums.{sum_by-cons}
 use Rattle.otp_inbox.specs.Tokens.{SenderState, TakerState, all_parts, first_sender}
 use Rattle.otp_job.specs.declared.process.Ticket.{Ticket}
-use Rattle.otp_rules.specs.declared.event.Item.{Item}
+use Rattle.otp_bodies.specs.declared.letter.Message.{Message}
 use Rattle.otp_run.proofs.Places.{each_at}
 use Rattle.otp_run.specs.Gathers.{IsAll}
 use Rattle.otp_run.specs.Lists.{AllAt}
@@ -26,10 +26,10 @@ opened_count root count zero = refl
 opened_count root count (suc k) = refl
 
 -- a first sender has all parts
-first_parts : (xs : List (SenderState Item)) → AllAt (λ k s. s ≡ first_sender k) xs → (k : ℕ) → k < length xs → parts_at k xs ≡ all_parts
-first_parts xs all = each xs (each_at (λ k s. s ≡ first_sender k) (λ _ s. s.parts ≡ all_parts) xs all (λ j x within is. ap (λ (s : SenderState Item). s.parts) is))
+first_parts : (xs : List (SenderState Message)) → AllAt (λ k s. s ≡ first_sender k) xs → (k : ℕ) → k < length xs → parts_at k xs ≡ all_parts
+first_parts xs all = each xs (each_at (λ k s. s ≡ first_sender k) (λ _ s. s.parts ≡ all_parts) xs all (λ j x within is. ap (λ (s : SenderState Message). s.parts) is))
   where
-    each : (ys : List (SenderState Item)) → AllAt (λ _ s. s.parts ≡ all_parts) ys → (k : ℕ) → k < length ys → parts_at k ys ≡ all_parts
+    each : (ys : List (SenderState Message)) → AllAt (λ _ s. s.parts ≡ all_parts) ys → (k : ℕ) → k < length ys → parts_at k ys ≡ all_parts
     each [] h k within = absurd (omega (arith, within))
     each (y ∷ ys) h zero within = h zero
     each (y ∷ ys) h (suc k) within = each ys (λ j. h (suc j)) k (omega (arith, within))
@@ -48,13 +48,13 @@ module _ {J S : Type 0} where
         subst (λ n. AllAt (of n) (schedulers_of hands)) (sym (long ∙ many)) (at_map scheduler_of (of count) hands each),
       )
 
-  pub opened_complete : (root : Ticket) (count tables : ℕ) (system : SystemView) (hands : List (HandView J S)) (client : ClientView) (firsts : List (SenderState Item)) (w : TakerState Item) → 0 < count → AreOpened root count hands
+  pub opened_complete : (root : Ticket) (count tables : ℕ) (system : SystemView) (hands : List (HandView J S)) (client : ClientView) (firsts : List (SenderState Message)) (w : TakerState Message) → 0 < count → AreOpened root count hands
       → system.tables ≡ tables → client.waiter ≡ Some w → w.inbox ≡ tables → length firsts ≡ tables + 1 → AllAt (λ k s. s ≡ first_sender k) firsts → length client.senders ≡ length firsts
       → ((k : ℕ) → parts_at k client.senders + parts_to k (map senders_of hands) ≡ parts_at k firsts) → AllAt (λ _ h. length (senders_of h) ≡ length firsts) hands → IsComplete system hands client
   opened_complete root count tables system hands client firsts w some opened own waiter inbox long are_first reach split far = (
     all_open root count hands some opened,
     record {
-      waits = subst (λ o. MatchOption o ⊥ (λ (v : TakerState Item). v.inbox ≡ system.tables)) (sym waiter) (inbox ∙ sym own);
+      waits = subst (λ o. MatchOption o ⊥ (λ (v : TakerState Message). v.inbox ≡ system.tables)) (sym waiter) (inbox ∙ sym own);
       reach = omega (arith, reach, long, own);
       whole = λ place within. sum_by-cons (parts_at place) client.senders (map senders_of hands) ∙ split place ∙ first_parts firsts are_first place (omega (arith, within, reach));
       as_far = reaches;
