@@ -21,7 +21,7 @@ module _ {A B : Type 0} (f : A → B) where
   at_map P (x ∷ xs) all (suc k) = at_map (λ j. P (suc j)) xs (λ j. all (suc j)) k
 
 -- the number at a place, and none where there is no place
-at : ℕ → List ℕ → ℕ
+abbrev at : ℕ → List ℕ → ℕ
 at k [] = 0
 at zero (n ∷ ns) = n
 at (suc k) (n ∷ ns) = at k ns
@@ -49,6 +49,9 @@ same_waiter tables one other same is = back other (subst (λ o. MatchOption o �
     back (Some w) is = is
     back None is = is
 
+abbrev parts_by : ℕ → Standing → ℕ
+parts_by k s = at k s.parts
+
 module _ {J S : Type 0} where
   same_many : (one other : List (HandView J S)) → standings one ≡ standings other → length one ≡ length other
   same_many one other same = sym (length-map one standing_of) ∙ ap length same ∙ length-map other standing_of
@@ -56,9 +59,6 @@ module _ {J S : Type 0} where
   -- what is known of each hand by its standing
   same_each : (P : ℕ → Standing → Type 0) (one other : List (HandView J S)) → standings one ≡ standings other → AllAt (λ k h. P k (standing_of h)) one → AllAt (λ k h. P k (standing_of h)) other
   same_each P one other same all = map_at standing_of P other (subst (AllAt P) same (at_map standing_of P one all))
-
-  parts_by : ℕ → Standing → ℕ
-  parts_by k s = at k s.parts
 
   parts_together : (k : ℕ) (hands : List (HandView J S)) → parts_to k (map senders_of hands) ≡ sum_by (parts_by k) (standings hands)
   parts_together k [] = refl
