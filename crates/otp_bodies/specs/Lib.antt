@@ -1,5 +1,6 @@
 pub mod Bodies
 pub mod Letters
+pub mod Messages
 pub mod Ends
 pub mod LetterInside
 pub mod Ports

@@ -27,6 +27,12 @@ pub(crate) enum Asked {
     GetChildspec(Name),
 }
 
+/// A letter without its body, as contracts see it on its way: what it says, and the end that it tells. No value of it is made.
+pub struct Message {
+    pub item: Item,
+    pub end: Option<Evidence>,
+}
+
 #[derive(Drop)]
 pub(crate) enum Content {
     Note(Note),
@@ -55,8 +61,10 @@ impl<B: Drop> Model for Letter<B> {
     ghost invariant = { λ l. (is_some l.body ≡ carries_body (item_of l.content)) × Comes (item_of l.content) l.end };
 }
 
-impl<B: Drop> Mail<Item> for Letter<B> {
-    ghost plain = { λ l. l.item };
+impl<B: Drop> Mail<Message> for Letter<B> {
+    ghost use Rattle.otp_bodies.specs.Messages.{message};
+
+    ghost plain = { λ l. message l.item l.end };
 }
 
 impl<B: Drop> Letter<B> {

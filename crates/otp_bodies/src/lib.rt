@@ -14,6 +14,6 @@ mod slots;
 pub mod told;
 
 pub use bodies::{Bodies, Kept, Origin, Place, count_opened};
-pub use letter::Letter;
+pub use letter::{Letter, Message};
 pub use port::{Flushed, Launched, MemoryPort, NewProcess, Port, ToldNote};
 pub use told::{Evidence, ToldEnd, evidence_of, keep_end, number_of};

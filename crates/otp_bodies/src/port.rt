@@ -1,7 +1,7 @@
 //! Where orders go.
 ghost use Rattle.std.specs.Prelude.{◌≡◌, ℕ, ◌<◌, List, [], ◌∷◌, ◌++◌, is_some, option_copied, OnOk, OnErr, IfErr};
 ghost use Rattle.otp_rules.specs.declared.event.Item.TheVariants as item;
-ghost use Rattle.otp_bodies.specs.Letters.{Comes};
+ghost use Rattle.otp_bodies.specs.Letters.{Comes, is_end_note};
 ghost use Rattle.otp_bodies.specs.Ports.{launched, launched_all, told};
 ghost use Rattle.otp_bodies.specs.declared.port.Launched.{Launched};
 ghost use Rattle.otp_bodies.specs.declared.port.ToldNote.{ToldNote};
@@ -71,10 +71,11 @@ pub trait Port<B: Drop> {
         ensures notes { notes self.new ≡ notes self.old }
         ensures beside { beside self.new ≡ beside self.old };
 
-    /// Takes a note to the parent: Up, once all children have started; or Exit or Failed, when the supervisor has ended, with
-    /// that end, of which the port keeps a copy. A refused note comes back.
+    /// Takes a note to the parent: Up, once all children have started; or Exit or Failed, when the supervisor has ended. With
+    /// those two comes that end, and with no other note one; the port keeps a copy of it. A refused note comes back.
     fn send(&mut self, note: Note, end: Option<&SupEnd>) -> Result<(), Note>
-        requires { Comes (item.Note note) (option_copied end) }
+        requires comes { Comes (item.Note note) (option_copied end) }
+        requires whole { is_some (option_copied end) ≡ is_end_note note }
         ensures took { OnOk result (notes self.new ≡ notes self.old ++ told note (option_copied end.entry) ∷ []) }
         ensures kept { OnErr result (notes self.new ≡ notes self.old) }
         ensures refused { OnErr result (refusals self.old < refusals self.new) }
@@ -137,7 +138,8 @@ impl<B: Drop> Port<B> for MemoryPort<B> {
     }
 
     fn send(&mut self, note: Note, end: Option<&SupEnd>) -> Result<(), Note>
-        requires { Comes (item.Note note) (option_copied end) }
+        requires comes { Comes (item.Note note) (option_copied end) }
+        requires whole { is_some (option_copied end) ≡ is_end_note note }
         ensures took { OnOk result (self.new.notes.items ≡ self.old.notes.items ++ told note (option_copied end.entry) ∷ []) }
         ensures kept { OnErr result (self.new.notes.items ≡ self.old.notes.items) }
         ensures refused { OnErr result (self.old.refusals.count < self.new.refusals.count) }

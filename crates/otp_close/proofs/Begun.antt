@@ -3,7 +3,7 @@ use Rattle.std.proofs.Common.{◌≡◌, ℕ, zero, suc, ◌+◌, ◌<◌, List,
 use Rattle.std.specs.Prelude.{sum_by}
 use Rattle.std.proofs.lemmas.List.Sums.{sum_by-append, sum_by-cons, sum_by_push}
 use Rattle.otp_inbox.specs.Tokens.{SenderState}
-use Rattle.otp_rules.specs.declared.event.Item.{Item}
+use Rattle.otp_bodies.specs.declared.letter.Message.{Message}
 use Rattle.otp_run.proofs.Places.{each_at, map-append, map_at}
 use Rattle.otp_run.specs.Gathers.{IsAll, begun_of}
 use Rattle.otp_run.specs.Lists.{AllAt}
@@ -18,7 +18,7 @@ use Rattle.otp_close.specs.Partings.{ArePaired}
 use Rattle.otp_close.specs.Settlings.{senders_in}
 
 -- the senders of one hand more
-pub hand_push : {N J S : Type 0} (f : List (SenderState Item) → ℕ) (rs : List (Rest N J S)) (r : Rest N J S) → sum_by f (map senders_in (rs ++ r ∷ [])) ≡ sum_by f (map senders_in rs) + f r.senders
+pub hand_push : {N J S : Type 0} (f : List (SenderState Message) → ℕ) (rs : List (Rest N J S)) (r : Rest N J S) → sum_by f (map senders_in (rs ++ r ∷ [])) ≡ sum_by f (map senders_in rs) + f r.senders
 hand_push f rs r = ap (sum_by f) (map-append senders_in rs (r ∷ [])) ∙ sum_by_push f (map senders_in rs) r.senders
 
 -- hands that reach as far as the client
@@ -31,10 +31,10 @@ module _ {N J S : Type 0} (count : ℕ) (r : Rest N J S) (rest : List (Rest N J 
   pub reaches_as_far : (before all : List (Rest N J S)) → before ++ r ∷ rest ≡ all → AllAt (λ _ others. length others ≡ count) (map senders_in all) → length r.senders ≡ count
   reaches_as_far before all is far = far_here before (subst (λ l. AllAt (λ _ others. length others ≡ count) (map senders_in l)) (sym is) far)
 
-pub as_far_as : (n m : ℕ) (lists : List (List (SenderState Item))) → n ≡ m → AllAt (λ _ senders. length senders ≡ n) lists → AllAt (λ _ senders. length senders ≡ m) lists
+pub as_far_as : (n m : ℕ) (lists : List (List (SenderState Message))) → n ≡ m → AllAt (λ _ senders. length senders ≡ n) lists → AllAt (λ _ senders. length senders ≡ m) lists
 as_far_as n m lists is far = subst (λ k. AllAt (λ _ senders. length senders ≡ k) lists) is far
 
-pub others_as_far : (n : ℕ) (first : List (SenderState Item)) (others : List (List (SenderState Item))) → AllAt (λ _ senders. length senders ≡ n) (first ∷ others) → AllAt (λ _ senders. length senders ≡ n) others
+pub others_as_far : (n : ℕ) (first : List (SenderState Message)) (others : List (List (SenderState Message))) → AllAt (λ _ senders. length senders ≡ n) (first ∷ others) → AllAt (λ _ senders. length senders ≡ n) others
 others_as_far n first others far = λ k. far (suc k)
 
 module _ {J S : Type 0} where
@@ -91,7 +91,7 @@ one_root (s ∷ ss) all =
         omega (arith, sum, one, rest)
 
 -- one more supervisor was taken apart
-pub apart_starts : (all next : List (SenderState Item)) (rest : List (SenderState Item)) (ts ts' : List TableReport) (t : TableReport) (x : SenderState Item) → ts' ≡ ts ++ t ∷ [] → rest ≡ x ∷ next → start_share x + unsent_of t ≡ starts_of t
+pub apart_starts : (all next : List (SenderState Message)) (rest : List (SenderState Message)) (ts ts' : List TableReport) (t : TableReport) (x : SenderState Message) → ts' ≡ ts ++ t ∷ [] → rest ≡ x ∷ next → start_share x + unsent_of t ≡ starts_of t
     → starts_credited all + sum_by unsent_of ts ≡ sum_by starts_of ts + starts_credited rest → starts_credited all + sum_by unsent_of ts' ≡ sum_by starts_of ts' + starts_credited next
 apart_starts all next rest ts ts' t x one its own so_far =
     let unsent = ap (sum_by unsent_of) one ∙ sum_by-append unsent_of ts (t ∷ []) in
@@ -102,9 +102,9 @@ apart_starts all next rest ts ts' t x one its own so_far =
     omega (arith, unsent, starts, unsent_one, starts_one, left, own, so_far)
 
 -- and all were
-pub none_left : (xs : List (SenderState Item)) (n : ℕ) (rest : List (SenderState Item)) → length xs ≡ n → drop n xs ≡ rest → starts_credited rest ≡ 0
+pub none_left : (xs : List (SenderState Message)) (n : ℕ) (rest : List (SenderState Message)) → length xs ≡ n → drop n xs ≡ rest → starts_credited rest ≡ 0
 none_left xs n rest many behind = sym (ap starts_credited behind) ∙ ap (λ k. starts_credited (drop k xs)) (sym many) ∙ past xs
   where
-    past : (ys : List (SenderState Item)) → starts_credited (drop (length ys) ys) ≡ 0
+    past : (ys : List (SenderState Message)) → starts_credited (drop (length ys) ys) ≡ 0
     past [] = refl
     past (y ∷ ys) = past ys

@@ -1,10 +1,12 @@
 -- End notes that senders sent, and processes that ended.
-use Rattle.std.proofs.Common.{◌≡◌, ℕ, suc, ◌+◌, ◌<◌, List, [], ◌∷◌, ◌++◌, get_or, length, map, set, refl, ap, ◌∙◌, arith}
+use Rattle.std.proofs.Common.{◌≡◌, ℕ, suc, ◌+◌, ◌<◌, List, [], ◌∷◌, ◌++◌, get_or, length, map, set, refl, sym, ap, ◌∙◌, arith}
 use Rattle.std.specs.Prelude.{sum_by, Result, Ok, Err, OnOk}
 use Rattle.std.proofs.lemmas.List.Sums.{sum_by-append, sum_by-cons, sum_by-set, sum_by_push}
 use Rattle.otp_inbox.specs.Lists.{AsOften, together}
-use Rattle.otp_inbox.specs.Tokens.{SenderState}
-use Rattle.otp_rules.specs.declared.event.Item.{Item}
+use Rattle.otp_inbox.specs.Tokens.{SenderState, all_sent}
+use Rattle.otp_bodies.specs.Messages.{items_in}
+use Rattle.otp_close.proofs.Come.{ends_said}
+use Rattle.otp_bodies.specs.declared.letter.Message.{Message}
 use Rattle.otp_run.specs.Gathers.{ended_of}
 use Rattle.otp_run.specs.Lists.{AllAt}
 use Rattle.otp_run.specs.Schedulers.{SchedulerState}
@@ -18,14 +20,14 @@ use Rattle.otp_close.specs.declared.parting.Rest.{Rest}
 use Rattle.otp_report.specs.declared.report.TableReport.{TableReport}
 
 -- what each of these senders sent is what the supervisor at its place took and left
-pub told_each : (ss : List (SenderState Item)) (ts : List TableReport) → length ss ≡ length ts → AllAt (λ k t. AsOften (sent_at k ss) (line_of t)) ts → ends_sent ss ≡ sum_by ends_of ts
+pub told_each : (ss : List (SenderState Message)) (ts : List TableReport) → length ss ≡ length ts → AllAt (λ k t. AsOften (items_in (sent_at k ss)) (line_of t)) ts → ends_sent ss ≡ sum_by ends_of ts
 told_each [] [] many often = refl
 told_each [] (t ∷ ts) many often = absurd (omega (arith, many))
 told_each (s ∷ ss) [] many often = absurd (omega (arith, many))
 told_each (s ∷ ss) (t ∷ ts) many often =
     let sent = sum_by-cons end_share s ss in
     let told = sum_by-cons ends_of t ts in
-    let same : end_share s ≡ ends_of t = often 0 end_of in
+    let same : end_share s ≡ ends_of t = sym (ends_said (all_sent s)) ∙ often 0 end_of in
     let rest = told_each ss ts (omega (arith, many)) (λ k. often (suc k)) in
     omega (arith, sent, told, same, rest)
 

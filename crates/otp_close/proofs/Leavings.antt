@@ -5,7 +5,7 @@ use Rattle.std.proofs.lemmas.List.Sums.{sum_by-cons, sum_by_push}
 use Rattle.std.proofs.lemmas.Option.{slice_get_past, slice_get_within}
 use Rattle.otp_inbox.specs.Lists.{together}
 use Rattle.otp_inbox.specs.Tokens.{SenderState, all_parts, all_sent, count_limit}
-use Rattle.otp_rules.specs.declared.event.Item.{Item}
+use Rattle.otp_bodies.specs.declared.letter.Message.{Message}
 use Rattle.otp_run.specs.Lists.{AllAt}
 use Rattle.otp_run.proofs.Places.{each_at, map-append, set_at}
 use Rattle.otp_hand.proofs.Sendings.{sent_joined, together-append}
@@ -33,23 +33,23 @@ module _ {A : Type 0} where
   push_other (y ∷ ys) x (suc k) apart = push_other ys x k (λ e. apart (ap suc e))
 
 -- nothing was joined yet
-pub joined_none : (old : List (SenderState Item)) → AllAt (λ k s. s.parts ≤ all_parts) old → AllAt (IsJoined old []) old
+pub joined_none : (old : List (SenderState Message)) → AllAt (λ k s. s.parts ≤ all_parts) old → AllAt (IsJoined old []) old
 joined_none old few = each_found (IsJoined old []) old (λ j s e.
     let bound : s.parts ≤ all_parts = found_at (λ k t. t.parts ≤ all_parts) old j s few e in
-    subst (λ (o : Option (SenderState Item)). MatchOption o ⊥ (λ (q : SenderState Item). (all_sent s ≡ all_sent q ++ sent_at j []) × (s.parts ≡ min (q.parts + parts_at j []) all_parts))) (sym e)
+    subst (λ (o : Option (SenderState Message)). MatchOption o ⊥ (λ (q : SenderState Message). (all_sent s ≡ all_sent q ++ sent_at j []) × (s.parts ≡ min (q.parts + parts_at j []) all_parts))) (sym e)
     (sym (append-nil (all_sent s)), omega (arith, bound)))
 
 -- elsewhere one more changes nothing
-joined_other : (old others : List (SenderState Item)) (x : SenderState Item) (j : ℕ) (z : SenderState Item) → ¬ (j ≡ length others) → IsJoined old others j z → IsJoined old (others ++ x ∷ []) j z
-joined_other old others x j z apart p = subst (λ (o : Option (SenderState Item)). MatchOption (slice_get old j) ⊥ (λ (q : SenderState Item). (all_sent z ≡ all_sent q ++ sent_in o) × (z.parts ≡ min (q.parts + parts_of o) all_parts))) (sym (push_other others x j apart)) p
+joined_other : (old others : List (SenderState Message)) (x : SenderState Message) (j : ℕ) (z : SenderState Message) → ¬ (j ≡ length others) → IsJoined old others j z → IsJoined old (others ++ x ∷ []) j z
+joined_other old others x j z apart p = subst (λ (o : Option (SenderState Message)). MatchOption (slice_get old j) ⊥ (λ (q : SenderState Message). (all_sent z ≡ all_sent q ++ sent_in o) × (z.parts ≡ min (q.parts + parts_of o) all_parts))) (sym (push_other others x j apart)) p
 
 -- one more is joined at its place
-pub joined_more : (old others now : List (SenderState Item)) (x s : SenderState Item) → slice_get now (length others) ≡ Some s → AllAt (IsJoined old others) now → AllAt (IsJoined old (others ++ x ∷ [])) (set now (length others) (with_sender x s))
+pub joined_more : (old others now : List (SenderState Message)) (x s : SenderState Message) → slice_get now (length others) ≡ Some s → AllAt (IsJoined old others) now → AllAt (IsJoined old (others ++ x ∷ [])) (set now (length others) (with_sender x s))
 joined_more old others now x s at all =
     let k = length others in
     let past : slice_get others k ≡ None = slice_get_past others k (omega arith) in
     let here : slice_get (others ++ x ∷ []) k ≡ Some x = push_here others x in
-    let mine : IsJoined old (others ++ x ∷ []) k (with_sender x s) = elim (slice_get old k) as (λ o. MatchOption o ⊥ (λ (q : SenderState Item). (all_sent s ≡ all_sent q ++ sent_at k others) × (s.parts ≡ min (q.parts + parts_at k others) all_parts)) → MatchOption o ⊥ (λ (q : SenderState Item). (all_sent (with_sender x s) ≡ all_sent q ++ sent_at k (others ++ x ∷ [])) × ((with_sender x s).parts ≡ min (q.parts + parts_at k (others ++ x ∷ [])) all_parts))) [
+    let mine : IsJoined old (others ++ x ∷ []) k (with_sender x s) = elim (slice_get old k) as (λ o. MatchOption o ⊥ (λ (q : SenderState Message). (all_sent s ≡ all_sent q ++ sent_at k others) × (s.parts ≡ min (q.parts + parts_at k others) all_parts)) → MatchOption o ⊥ (λ (q : SenderState Message). (all_sent (with_sender x s) ≡ all_sent q ++ sent_at k (others ++ x ∷ [])) × ((with_sender x s).parts ≡ min (q.parts + parts_at k (others ++ x ∷ [])) all_parts))) [
       | Some q ↦ (λ p.
           let parts : s.parts ≡ min (q.parts + 0) all_parts = p.1 ∙ ap (λ w. min (q.parts + parts_of w) all_parts) past in
           let sum : min (s.parts + x.parts) all_parts ≡ min (q.parts + x.parts) all_parts = omega (arith, parts) in (
@@ -61,14 +61,14 @@ joined_more old others now x s at all =
     set_at (IsJoined old others) (IsJoined old (others ++ x ∷ [])) now k (with_sender x s) all (λ j z apart p. joined_other old others x j z apart p) mine
 
 -- one for which there is no place is let go
-pub joined_past : (old others now : List (SenderState Item)) (x : SenderState Item) → length now ≤ length others → AllAt (IsJoined old others) now → AllAt (IsJoined old (others ++ x ∷ [])) now
+pub joined_past : (old others now : List (SenderState Message)) (x : SenderState Message) → length now ≤ length others → AllAt (IsJoined old others) now → AllAt (IsJoined old (others ++ x ∷ [])) now
 joined_past old others now x past all = each_at (IsJoined old others) (IsJoined old (others ++ x ∷ [])) now all (λ j z within p. joined_other old others x j z (λ e. absurd (omega (arith, e, within, past))) p)
 
-sent_to-push : (k : ℕ) (all : List (List (SenderState Item))) (x : List (SenderState Item)) → sent_to k (all ++ x ∷ []) ≡ sent_to k all ++ sent_at k x
+sent_to-push : (k : ℕ) (all : List (List (SenderState Message))) (x : List (SenderState Message)) → sent_to k (all ++ x ∷ []) ≡ sent_to k all ++ sent_at k x
 sent_to-push k all x = ap together (map-append (sent_at k) all (x ∷ [])) ∙ together-append (map (sent_at k) all) (sent_at k x ∷ []) ∙ ap (λ l. sent_to k all ++ l) (append-nil (sent_at k x))
 
 -- each has no more than all have
-pub few_parts : (senders : List (SenderState Item)) (rest : List (List (SenderState Item))) → ((place : ℕ) → place < length senders → parts_to place (senders ∷ rest) ≡ all_parts) → AllAt (λ k s. s.parts ≤ all_parts) senders
+pub few_parts : (senders : List (SenderState Message)) (rest : List (List (SenderState Message))) → ((place : ℕ) → place < length senders → parts_to place (senders ∷ rest) ≡ all_parts) → AllAt (λ k s. s.parts ≤ all_parts) senders
 few_parts senders rest whole = each_found (λ k s. s.parts ≤ all_parts) senders (λ j s e.
     let within = slice_get_within senders j s e in
     let sum = sum_by-cons (parts_at j) senders rest in
@@ -76,7 +76,7 @@ few_parts senders rest whole = each_found (λ k s. s.parts ≤ all_parts) sender
     omega (arith, whole j within, sum, mine))
 
 -- the first senders have what they have
-pub has_one : (senders : List (SenderState Item)) → AllAt (λ k s. s.parts ≤ all_parts) senders → AllAt (HasAll (senders ∷ [])) senders
+pub has_one : (senders : List (SenderState Message)) → AllAt (λ k s. s.parts ≤ all_parts) senders → AllAt (HasAll (senders ∷ [])) senders
 has_one senders few = each_found (HasAll (senders ∷ [])) senders (λ j s e.
     let bound : s.parts ≤ all_parts = found_at (λ k t. t.parts ≤ all_parts) senders j s few e in
     let sum : parts_to j (senders ∷ []) ≡ parts_at j senders + 0 = sum_by-cons (parts_at j) senders [] in
@@ -86,10 +86,10 @@ has_one senders few = each_found (HasAll (senders ∷ [])) senders (λ j s e.
     ))
 
 -- and what all have once others were joined
-pub has_more : (all : List (List (SenderState Item))) (old other new : List (SenderState Item)) → AllAt (HasAll all) old → AllAt (IsJoined old other) new → AllAt (HasAll (all ++ other ∷ [])) new
+pub has_more : (all : List (List (SenderState Message))) (old other new : List (SenderState Message)) → AllAt (HasAll all) old → AllAt (IsJoined old other) new → AllAt (HasAll (all ++ other ∷ [])) new
 has_more all old other new has joined = each_found (HasAll (all ++ other ∷ [])) new (λ j s e.
     let sum : parts_to j (all ++ other ∷ []) ≡ parts_to j all + parts_at j other = sum_by_push (parts_at j) all other in
-    (elim (slice_get old j) as (λ q. slice_get old j ≡ q → MatchOption q ⊥ (λ (o : SenderState Item). (all_sent s ≡ all_sent o ++ sent_at j other) × (s.parts ≡ min (o.parts + parts_at j other) all_parts)) → HasAll (all ++ other ∷ []) j s) [
+    (elim (slice_get old j) as (λ q. slice_get old j ≡ q → MatchOption q ⊥ (λ (o : SenderState Message). (all_sent s ≡ all_sent o ++ sent_at j other) × (s.parts ≡ min (o.parts + parts_at j other) all_parts)) → HasAll (all ++ other ∷ []) j s) [
       | Some o ↦ (λ at p.
           let h : HasAll all j o = found_at (HasAll all) old j o has at in (
             p.0 ∙ ap (λ l. l ++ sent_at j other) h.0 ∙ sym (sent_to-push j all other),
@@ -98,7 +98,7 @@ has_more all old other new has joined = each_found (HasAll (all ++ other ∷ [])
       | None ↦ (λ at p. absurd p)
     ]) refl (found_at (IsJoined old other) new j s joined e))
 
-pub has_whole : (all : List (List (SenderState Item))) (count : ℕ) (senders : List (SenderState Item)) → length senders ≡ count → ((place : ℕ) → place < count → parts_to place all ≡ all_parts) → AllAt (HasAll all) senders → AllAt (IsWhole all) senders
+pub has_whole : (all : List (List (SenderState Message))) (count : ℕ) (senders : List (SenderState Message)) → length senders ≡ count → ((place : ℕ) → place < count → parts_to place all ≡ all_parts) → AllAt (HasAll all) senders → AllAt (IsWhole all) senders
 has_whole all count senders many whole has = each_at (HasAll all) (IsWhole all) senders has (λ j s within h.
     let w = whole j (omega (arith, within, many)) in (
       h.0,

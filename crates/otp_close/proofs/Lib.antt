@@ -6,4 +6,6 @@ pub mod Refusals
 pub mod Leavings
 pub mod Settlings
 pub mod Begun
+pub mod Come
 pub mod Ended
+pub mod Standings

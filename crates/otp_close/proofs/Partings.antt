@@ -5,7 +5,7 @@ use Rattle.otp_run.specs.Schedulers.{SchedulerState}
 use Rattle.otp_close.specs.declared.parting.Rest.{Rest}
 use Rattle.otp_counts.specs.Counts.{Reading}
 use Rattle.otp_inbox.specs.Tokens.{SenderState}
-use Rattle.otp_rules.specs.declared.event.Item.{Item}
+use Rattle.otp_bodies.specs.declared.letter.Message.{Message}
 use Rattle.otp_hand.specs.Begun.{HasCredited}
 use Rattle.otp_hand.specs.Ended.{HasEnded}
 use Rattle.otp_hand.specs.Hands.{HandView, RunnerView, senders_of}
@@ -18,13 +18,13 @@ nothing_left (x ∷ xs) none = absurd (omega (arith, none))
 
 module _ {J S : Type 0} where
   -- a hand of what it runs processes with, its senders and its passes
-  abbrev pub of_runner : RunnerView J S → List (SenderState Item) → List Reading → HandView J S
+  abbrev pub of_runner : RunnerView J S → List (SenderState Message) → List Reading → HandView J S
   of_runner w senders passes = record { scheduler = w.scheduler; senders = senders; turning = w.turning; waiting = w.waiting; resting = w.resting; unsent = w.unsent; refusals = w.refusals; passes = passes }
 
-  pub credited_by : (v w : RunnerView J S) (senders : List (SenderState Item)) → v ≡ w → HasCredited w.scheduler senders → HasCredited v.scheduler senders
+  pub credited_by : (v w : RunnerView J S) (senders : List (SenderState Message)) → v ≡ w → HasCredited w.scheduler senders → HasCredited v.scheduler senders
   credited_by v w senders is credited = subst (λ (r : RunnerView J S). HasCredited r.scheduler senders) (sym is) credited
 
-  pub ended_by : (v w : RunnerView J S) (senders : List (SenderState Item)) → v ≡ w → HasEnded w.scheduler senders w.unsent → HasEnded v.scheduler senders v.unsent
+  pub ended_by : (v w : RunnerView J S) (senders : List (SenderState Message)) → v ≡ w → HasEnded w.scheduler senders w.unsent → HasEnded v.scheduler senders v.unsent
   ended_by v w senders is ended = subst (λ (r : RunnerView J S). HasEnded r.scheduler senders r.unsent) (sym is) ended
 
 module _ {N J S : Type 0} where

@@ -10,7 +10,7 @@ use Rattle.otp_close.specs.declared.closing.Refusal.{Refusal}
 use Rattle.otp_close.specs.declared.closing.Refusal.TheVariants as refusal
 use Rattle.otp_close.specs.declared.closing.Intact.{Intact}
 use Rattle.otp_report.specs.declared.report.Report.{Report}
-use Rattle.otp_close.specs.Closes.{IsIntact, IsMismatchOnly, IsMissingOnly, IsReached, IsRefusalOf, all_senders, kept_in, report_in}
+use Rattle.otp_close.specs.Closes.{IsIntact, IsMismatchOnly, IsMissingOnly, IsReached, IsRefusalOf, NoneMissing, all_senders, kept_in, report_in}
 use Rattle.otp_close.specs.Gathers.{IsHandsRefused}
 use Rattle.otp_hand.specs.Hands.{HandView, ClientView, SystemView}
 
@@ -94,6 +94,13 @@ module _ {N J S : Type 0} where
   unreached-missing complete shared hands client (fault.Mismatch m report) isnt refused = tt
 
 module _ {J S K : Type 0} where
+  -- of a tree that is whole no part is said to be missing
+  pub none_missing : (complete : Type 0) (r : CloseFault J S K) → complete → IsMissingOnly complete r → NoneMissing r
+  none_missing complete (fault.OutOfMemory k) whole only = tt
+  none_missing complete (fault.Missing k) whole only = only whole
+  none_missing complete (fault.Misplaced k d) whole only = tt
+  none_missing complete (fault.Mismatch m report) whole only = tt
+
   -- where there is a report no part is said to be missing
   pub reported-missing : (complete : Type 0) (r : Result (Report J S) (CloseFault J S K)) (report : Report J S) → report_in r ≡ Some report → IfErr r (IsMissingOnly complete)
   reported-missing complete (Ok x) report is = tt

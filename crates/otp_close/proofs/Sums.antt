@@ -3,7 +3,7 @@ use Rattle.std.proofs.Common.{◌≡◌, ℕ, ◌+◌, List, [], ◌∷◌, map,
 use Rattle.std.specs.Prelude.{sum_by}
 use Rattle.std.proofs.lemmas.List.Sums.{sum_by-cons}
 use Rattle.otp_inbox.specs.Tokens.{SenderState}
-use Rattle.otp_rules.specs.declared.event.Item.{Item}
+use Rattle.otp_bodies.specs.declared.letter.Message.{Message}
 use Rattle.otp_close.specs.Closes.{all_senders}
 use Rattle.otp_hand.specs.Hands.{HandView, ClientView, senders_of}
 use Rattle.otp_hand.specs.Sendings.{parts_at, parts_to}
@@ -12,7 +12,7 @@ module _ {J S : Type 0} where
   abbrev pub parts_by : ℕ → HandView J S → ℕ
   parts_by place hand = parts_at place hand.senders
 
-  by_hands : (f : List (SenderState Item) → ℕ) (hands : List (HandView J S)) → sum_by f (map senders_of hands) ≡ sum_by (λ h. f h.senders) hands
+  by_hands : (f : List (SenderState Message) → ℕ) (hands : List (HandView J S)) → sum_by f (map senders_of hands) ≡ sum_by (λ h. f h.senders) hands
   by_hands f [] = refl
   by_hands f (h ∷ hs) = sum_by-cons f h.senders (map senders_of hs) ∙ ap (λ n. f h.senders + n) (by_hands f hs) ∙ sym (sum_by-cons (λ g. f g.senders) h hs)
 

@@ -2,7 +2,7 @@
 use Rattle.otp_core.specs.View.{stored_of}
 use Rattle.std.specs.Prelude.{◌≡◌, ℕ, ◌+◌, ◌<◌, ◌≤◌, ⊤, List, ◌∷◌, Option, Some, None, Result, Ok, Err, MatchOption, All, AllPairs, length, map}
 use Rattle.otp_inbox.specs.Tokens.{SenderState, all_parts}
-use Rattle.otp_rules.specs.declared.event.Item.{Item}
+use Rattle.otp_bodies.specs.declared.letter.Message.{Message}
 use Rattle.otp_rules.specs.Needs.{numbers_of}
 use Rattle.otp_run.specs.Gathers.{IsAll}
 use Rattle.otp_run.specs.Lists.{AllAt}
@@ -26,12 +26,12 @@ use Rattle.otp_hand.specs.Sendings.{parts_to}
 use Rattle.otp_report.specs.Tellings.{AreSo, IsMismatch}
 
 -- the senders of the client and of each hand
-abbrev pub all_senders : {J S : Type 0} → ClientView → List (HandView J S) → List (List (SenderState Item))
+abbrev pub all_senders : {J S : Type 0} → ClientView → List (HandView J S) → List (List (SenderState Message))
 all_senders client hands = client.senders ∷ map senders_of hands
 
 -- the client is the one that a tree of so many supervisors was opened with, and all senders together have the whole right
 -- to send to each of them, and to whoever opened the tree
-pub record IsReached (tables : ℕ) (client : ClientView) (all : List (List (SenderState Item))) : Type 0 where
+pub record IsReached (tables : ℕ) (client : ClientView) (all : List (List (SenderState Message))) : Type 0 where
   pub waits : MatchOption client.waiter ⊥ (λ w. w.inbox ≡ tables)
   pub reach : length client.senders ≡ tables + 1
   pub whole : (place : ℕ) → place < length client.senders → parts_to place all ≡ all_parts
@@ -81,6 +81,13 @@ module _ {J S K : Type 0} where
   IsMissingOnly complete (fault.Missing k) = ¬ complete
   IsMissingOnly complete (fault.Misplaced k d) = ⊤
   IsMissingOnly complete (fault.Mismatch m report) = ⊤
+
+  -- no part is said to be missing
+  abbrev pub NoneMissing : CloseFault J S K → Type 0
+  NoneMissing (fault.OutOfMemory k) = ⊤
+  NoneMissing (fault.Missing k) = ⊥
+  NoneMissing (fault.Misplaced k d) = ⊤
+  NoneMissing (fault.Mismatch m report) = ⊤
 
   -- a mismatch is that of an event of the report
   abbrev pub IsMismatchOnly : CloseFault J S K → Type 0

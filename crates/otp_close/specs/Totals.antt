@@ -1,9 +1,9 @@
 -- What adds up in a report: starts, and ends. (own)
 use Rattle.std.specs.Prelude.{◌≡◌, ℕ, ◌+◌, Option, MatchOption, length, sum_by}
 use Rattle.otp_inbox.specs.Tokens.{TakerState}
-use Rattle.otp_rules.specs.declared.event.Item.{Item}
+use Rattle.otp_bodies.specs.declared.letter.Message.{Message}
 use Rattle.otp_rules.specs.Needs.{numbers_of}
-use Rattle.otp_hand.specs.Ended.{ends_in}
+use Rattle.otp_hand.specs.Ended.{ends_among, ends_in}
 use Rattle.otp_close.specs.Leavings.{line_of}
 use Rattle.otp_report.specs.declared.report.Report.{Report}
 use Rattle.otp_report.specs.declared.report.TableReport.{TableReport}
@@ -24,8 +24,8 @@ abbrev pub ends_of : TableReport → ℕ
 ends_of t = ends_in (line_of t)
 
 -- so many end notes were taken by whoever opened the tree
-abbrev pub HasHeard : Option (TakerState Item) → ℕ → Type 0
-HasHeard waiter heard = MatchOption waiter ⊥ (λ (w : TakerState Item). heard ≡ ends_in w.taken)
+abbrev pub HasHeard : Option (TakerState Message) → ℕ → Type 0
+HasHeard waiter heard = MatchOption waiter ⊥ (λ (w : TakerState Message). heard ≡ ends_among w.taken)
 
 -- as many processes ended as end notes are among what all supervisors took and left, and what whoever opened the tree took and
 -- left, and those that hands had still to send

@@ -10,8 +10,10 @@ ghost use Rattle.otp_signals.specs.Lists.{AllIn, NoneInBoth};
 ghost use Rattle.otp_close.specs.Totals.{HasAllStarts, starts_of, unsent_of, HasAllEnds, HasHeard, ends_of};
 ghost use Rattle.otp_hand.specs.Begun.{starts_credited};
 ghost use Rattle.otp_hand.specs.Ended.{ends_sent, held_by};
-ghost use Rattle.otp_close.specs.Closes.{AreApart, HasBegun, HaveBegun, HasTold, IsComplete, IsIntact, IsMismatchOnly, IsMissingOnly, IsReached, IsRefusalOf, IsReportOf, all_senders, kept_in, report_in};
-ghost use Rattle.otp_close.specs.Leavings.{AreAccounted, AreInOrder, HasUnsent, IsLast, IsLastInOrder, line_of, lists_at};
+ghost use Rattle.otp_close.specs.Closes.{AreApart, HasBegun, HasTold, HaveBegun, IsComplete, IsIntact, IsMismatchOnly, IsMissingOnly, IsReached, IsRefusalOf, IsReportOf, NoneMissing, all_senders, kept_in, report_in};
+ghost use Rattle.otp_bodies.specs.Messages.{items_in};
+ghost use Rattle.otp_close.specs.Leavings.{AreAccounted, AreInOrder, HasCome, HasUnsent, HaveCome, IsLast, IsLastInOrder, line_of, lists_at};
+ghost use Rattle.otp_hand.specs.Standings.{standings};
 ghost use Rattle.otp_hand.specs.Sendings.{sent_at};
 ghost use Rattle.otp_close.specs.Partings.{schedulers_of};
 ghost use Rattle.otp_close.specs.Settlings.{AreReady, IsLoose, IsReady, held_in, senders_in};
@@ -29,10 +31,9 @@ use otp_hand::{Client, Hand, Shared};
 use otp_inbox::{InboxNaming, Sender};
 use otp_job::Body;
 use otp_report::{Mismatch, Report, TableReport};
-use otp_rules::Item;
 use otp_run::{LiveTotal, RunNaming};
 use otp_signals::{Owner, Words, WordsNaming};
-use otp_sup::{Displaced, Letter, PlanNaming, SupParts, Unlocked};
+use otp_sup::{Displaced, Letter, Message, PlanNaming, SupParts, Unlocked};
 use std::alloc::Global;
 use std::sync::Wait;
 
@@ -58,6 +59,7 @@ impl<J: Drop, S: Drop, K: Drop> CloseFault<J, S, K> {
     pub fn without_tree(self) -> CloseFault<J, S, ()>
         ensures report { report_in (Err result) ≡ report_in (Err self) }
         ensures mismatch { IsMismatchOnly self → IsMismatchOnly result }
+        ensures missing { NoneMissing self → NoneMissing result }
     {
         match self {
             CloseFault::OutOfMemory(_) => CloseFault::OutOfMemory(()),
@@ -130,6 +132,8 @@ pub fn close<N: WordsNaming + InboxNaming + PlanNaming + RunNaming, J: Drop, S: 
     // The items of each supervisor's history and those left in its inbox are as often as all hands and the client sent
     // them to it; and so it is with those that the client took of the root's, and the last.
     ensures left { IfSome (report_in result) (λ report. AreAccounted (all_senders client hands.items) report.tables.items) }
+    // Each came with the end that it was sent with, and the ends that a history was told are those that came with what it took.
+    ensures come { IfSome (report_in result) (λ report. HaveCome (all_senders client hands.items) report.tables.items) }
     // Each sender's items stand there in the order in which it sent them.
     ensures order { IfSome (report_in result) (λ report. AreInOrder (all_senders client hands.items) report.tables.items) }
     ensures last_order { IfSome (report_in result) (λ report. IsLastInOrder shared.tables (all_senders client hands.items) client.waiter report.last.items) }
@@ -166,9 +170,11 @@ pub fn finish<N: WordsNaming + InboxNaming + PlanNaming + RunNaming, J: Drop, S:
     ensures report { IfOk result (IsReportOf shared.tables) }
     ensures plans { IfSome (report_in result) (λ report. HaveBegun N.plan report.tables.items) }
     ensures mismatch { IfErr result IsMismatchOnly }
+    // Of a tree that is whole no part is said to be missing.
+    ensures missing { IsComplete shared hands.items client → IfErr result NoneMissing }
 {
     let mut hands = hands;
-    rouse_all(hands.as_mut_slice());
+    rouse_all(&mut hands);
     match close(rt, alloc, shared, hands, client) {
         Ok(report) => Ok(report),
         Err(fault) => Err(fault.without_tree()),
@@ -177,8 +183,10 @@ pub fn finish<N: WordsNaming + InboxNaming + PlanNaming + RunNaming, J: Drop, S:
 
 /// Gives the processes that wait back to the run queue.
 fn rouse_all<N: WordsNaming + InboxNaming + RunNaming, J: Drop, S: Drop>(
-    hands: &mut [Hand<N, J, S>],
-) {
+    hands: &mut Vec<Hand<N, J, S>>,
+)
+    ensures { standings hands.new.items ≡ standings hands.old.items }
+{
     for place in 0..hands.len() {
         hands[place].rouse();
     }
@@ -202,6 +210,7 @@ fn report_of<N: WordsNaming + InboxNaming + PlanNaming, J: Drop, S: Drop, R: Wai
     ensures apart { AreApart result.tables.items }
     ensures left { AreAccounted (client.senders ∷ map senders_in gathered.rests.items) result.tables.items }
     ensures order { AreInOrder (client.senders ∷ map senders_in gathered.rests.items) result.tables.items }
+    ensures come { HaveCome (client.senders ∷ map senders_in gathered.rests.items) result.tables.items }
     ensures last_order { IsLastInOrder (length loose.sups.items) (client.senders ∷ map senders_in gathered.rests.items) client.waiter result.last.items }
     ensures last { IsLast (length loose.sups.items) (client.senders ∷ map senders_in gathered.rests.items) client.waiter result.last.items }
     ensures unsent { All HasUnsent result.tables.items }
@@ -262,7 +271,7 @@ fn take_all_apart<N: WordsNaming + InboxNaming + PlanNaming, B: Drop, R: Wait>(
     rt: &R,
     words: &Words<N>,
     sups: Vec<Unlocked<N, B>>,
-    senders: Vec<Sender<N, Item, Letter<B>>>,
+    senders: Vec<Sender<N, Message, Letter<B>>>,
     rooms: Vec<LeftRoom<B>>,
     mut owner: Owner<N>,
     mut tables: Vec<TableReport>,
@@ -276,8 +285,9 @@ fn take_all_apart<N: WordsNaming + InboxNaming + PlanNaming, B: Drop, R: Wait>(
     ensures begins { All HasBegun result.items }
     ensures shown { All HasTold result.items }
     ensures apart { AreApart result.items }
-    ensures left { AllAt (λ k t. AsOften (sent_at k senders.items) (line_of t)) result.items }
-    ensures order { AllAt (λ k t. EachInOrder (lists_at k senders.items) (line_of t)) result.items }
+    ensures left { AllAt (λ k t. AsOften (items_in (sent_at k senders.items)) (line_of t)) result.items }
+    ensures order { AllAt (λ k t. EachInOrder (map items_in (lists_at k senders.items)) (line_of t)) result.items }
+    ensures come { AllAt (λ k t. HasCome (sent_at k senders.items) t) result.items }
     ensures unsent { All HasUnsent result.items }
     ensures starts { starts_credited senders.items + sum_by unsent_of result.items ≡ sum_by starts_of result.items }
     ensures ends { ends_sent senders.items ≡ sum_by ends_of result.items }
@@ -299,7 +309,7 @@ fn take_apart<N: WordsNaming + InboxNaming + PlanNaming, B: Drop, R: Wait>(
     rt: &R,
     words: &Words<N>,
     sup: Unlocked<N, B>,
-    sender: Sender<N, Item, Letter<B>>,
+    sender: Sender<N, Message, Letter<B>>,
     room: LeftRoom<B>,
     owner: &mut Owner<N>,
 ) -> TableReport
@@ -307,8 +317,9 @@ fn take_apart<N: WordsNaming + InboxNaming + PlanNaming, B: Drop, R: Wait>(
     ensures plan { result.core.base ≡ never_opened (N.plan sup.inbox) }
     ensures begins { HasBegun result }
     ensures shown { HasTold result }
-    ensures left { AsOften (all_sent sender) (line_of result) }
-    ensures order { EachInOrder (sent_lists sender) (line_of result) }
+    ensures left { AsOften (items_in (all_sent sender)) (line_of result) }
+    ensures order { EachInOrder (map items_in (sent_lists sender)) (line_of result) }
+    ensures come { HasCome (all_sent sender) result }
     ensures unsent { HasUnsent result }
     ensures starts { sender.shares.starts + result.unsent ≡ starts_of result }
     ensures apart { NoneInBoth owner.old.drawn (numbers_of result.core.history) }

@@ -12,16 +12,15 @@ use otp_hand::Senders;
 use otp_hand::ending::count_held;
 use otp_inbox::{Inbox, InboxNaming};
 use otp_job::Body;
-use otp_rules::Item;
 use otp_signals::WordsNaming;
-use otp_sup::{Letter, PlanNaming, Unlocked};
+use otp_sup::{Letter, Message, PlanNaming, Unlocked};
 
 /// The inbox of the supervisor at this place, or of whoever opened the tree.
 fn inbox_at<'a, N: WordsNaming + InboxNaming + PlanNaming, B: Drop>(
     sups: &'a [Unlocked<N, B>],
-    outer: &'a Inbox<N, Item, Letter<B>>,
+    outer: &'a Inbox<N, Message, Letter<B>>,
     place: usize,
-) -> &'a Inbox<N, Item, Letter<B>>
+) -> &'a Inbox<N, Message, Letter<B>>
     requires { ArePlaced sups.now outer.now }
     ensures { place ≤ length sups.now → result.now ≡ place }
 {
@@ -34,7 +33,7 @@ fn inbox_at<'a, N: WordsNaming + InboxNaming + PlanNaming, B: Drop>(
 /// Joins a hand's senders to these, each to that of its supervisor.
 fn join_senders<N: WordsNaming + InboxNaming + PlanNaming, B: Drop>(
     sups: &[Unlocked<N, B>],
-    outer: &Inbox<N, Item, Letter<B>>,
+    outer: &Inbox<N, Message, Letter<B>>,
     senders: &mut Senders<N, B>,
     others: Senders<N, B>,
 )
@@ -66,7 +65,7 @@ pub(crate) struct Joined<N: WordsNaming + InboxNaming + PlanNaming, J: Drop, S: 
 /// Joins the senders of all hands to the client's, so that each knows all that was sent to its supervisor.
 pub(crate) fn join_all<N: WordsNaming + InboxNaming + PlanNaming, J: Drop, S: Drop>(
     sups: &[Unlocked<N, Body<J, S>>],
-    outer: &Inbox<N, Item, Letter<Body<J, S>>>,
+    outer: &Inbox<N, Message, Letter<Body<J, S>>>,
     mut senders: Senders<N, Body<J, S>>,
     rests: Vec<Rest<N, J, S>>,
 ) -> Joined<N, J, S>

@@ -12,10 +12,9 @@ use otp_hand::{Client, Hand, Shared};
 use otp_inbox::{Inbox, InboxNaming};
 use otp_job::Body;
 use otp_report::TableReport;
-use otp_rules::Item;
 use otp_run::RunNaming;
 use otp_signals::{Words, WordsNaming};
-use otp_sup::{Letter, PlanNaming, Sup, Unlocked};
+use otp_sup::{Letter, Message, PlanNaming, Sup, Unlocked};
 use std::alloc::{AllocError, Global};
 
 /// A tree whose supervisors are out of their locks, with all the memory that taking it apart needs, and that for putting
@@ -24,7 +23,7 @@ use std::alloc::{AllocError, Global};
 pub(crate) struct Loose<N: WordsNaming + InboxNaming + PlanNaming, J: Drop, S: Drop> {
     pub words: Words<N>,
     pub sups: Vec<Unlocked<N, Body<J, S>>>,
-    pub outer: Inbox<N, Item, Letter<Body<J, S>>>,
+    pub outer: Inbox<N, Message, Letter<Body<J, S>>>,
     pub rooms: Vec<LeftRoom<Body<J, S>>>,
     pub last: LeftRoom<Body<J, S>>,
     pub tables: Vec<TableReport>,
@@ -182,7 +181,7 @@ fn unlock_all<N: WordsNaming + InboxNaming + PlanNaming, B: Drop>(
 /// Puts all supervisors back under their locks.
 fn lock_all<N: WordsNaming + InboxNaming + PlanNaming, J: Drop, S: Drop>(
     words: Words<N>,
-    outer: Inbox<N, Item, Letter<Body<J, S>>>,
+    outer: Inbox<N, Message, Letter<Body<J, S>>>,
     sups: Vec<Unlocked<N, Body<J, S>>>,
     mut back: Vec<Sup<N, Body<J, S>>>,
 ) -> Shared<N, J, S>

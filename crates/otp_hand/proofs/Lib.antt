@@ -1,4 +1,5 @@
 pub mod EachRead
 pub mod Sendings
+pub mod Standings
 pub mod Begun
 pub mod Ended

@@ -7,6 +7,8 @@ use Rattle.otp_job.specs.declared.process.Ticket.{Ticket}
 use Rattle.otp_reason.specs.declared.note.Note.{Note}
 use Rattle.otp_rules.specs.declared.ending.SupEnd.{SupEnd}
 use Rattle.otp_rules.specs.declared.event.Item.{Item}
+use Rattle.otp_bodies.specs.declared.letter.Message.{Message}
+use Rattle.otp_bodies.specs.Messages.{message}
 use Rattle.otp_rules.specs.declared.event.Item.TheVariants as item
 use Rattle.otp_run.specs.Schedulers.{SchedulerState}
 use Rattle.otp_signals.specs.declared.view.Holding.{Holding}
@@ -18,7 +20,7 @@ use Rattle.otp_hand.specs.declared.resting.Rested.{Rested}
 
 pub record HandView (J S : Type 0) : Type 0 where
   pub scheduler : SchedulerState
-  pub senders : List (SenderState Item)
+  pub senders : List (SenderState Message)
   -- the process that it has out, whose turn it is
   pub turning : Option (ProcessState J S)
   -- those that it has out and that wait until they are told something
@@ -42,7 +44,7 @@ pub record RunnerView (J S : Type 0) : Type 0 where
   -- the words that its viewer loaded, each with its slot
   pub looks : List (ℕ × ℕ)
 
-abbrev pub senders_of : {J S : Type 0} → HandView J S → List (SenderState Item)
+abbrev pub senders_of : {J S : Type 0} → HandView J S → List (SenderState Message)
 senders_of h = h.senders
 
 abbrev pub one_if : Bool → ℕ
@@ -71,17 +73,21 @@ module _ {J S : Type 0} where
 -- what contracts see of a client
 pub record ClientView : Type 0 where
   pub owner : Holding
-  pub senders : List (SenderState Item)
+  pub senders : List (SenderState Message)
   -- the root's number, of the first client
   pub root : Option ℕ
   -- what the first client takes the root's notes by
-  pub waiter : Option (TakerState Item)
+  pub waiter : Option (TakerState Message)
 
 -- what contracts see of a tree: how many slots of signal words there are, and how many supervisors
 pub record SystemView : Type 0 where
   pub slots : ℕ
   pub tables : ℕ
 
--- a note of the root came, and nothing else of the client changed
+-- a note of the root came, with its end if it told that, and nothing else of the client changed
+pub record HeardBy (note : Note) (w : TakerState Message) (old new : ClientView) : Type 0 where
+  pub end : Option SupEnd
+  pub took : new ≡ record old { waiter = Some (record w { taken = w.taken ++ message (item.Note note) end ∷ [] }) }
+
 abbrev pub Heard : Note → ClientView → ClientView → Type 0
-Heard note old new = MatchOption old.waiter ⊥ (λ w. new ≡ record old { waiter = Some (record w { taken = w.taken ++ item.Note note ∷ [] }) })
+Heard note old new = MatchOption old.waiter ⊥ (λ w. HeardBy note w old new)

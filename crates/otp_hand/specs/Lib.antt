@@ -2,6 +2,7 @@ pub mod Seats
 pub mod Sendings
 pub mod Waitings
 pub mod Hands
+pub mod Standings
 pub mod Begun
 pub mod Ended
 pub mod Readings

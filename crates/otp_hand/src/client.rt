@@ -12,9 +12,9 @@ use crate::reading::read_each;
 use crate::senders::Senders;
 use otp_counts::CountsPass;
 use otp_inbox::{InboxNaming, Taker};
-use otp_rules::{CountsNow, Item};
+use otp_rules::CountsNow;
 use otp_signals::{Owner, Signal, Words, WordsNaming};
-use otp_sup::Letter;
+use otp_sup::{Letter, Message};
 use std::marker::Model;
 
 /// What a user of the tree needs: numbers for calls, a sender to each supervisor, and the first client's right to stop
@@ -26,7 +26,7 @@ pub struct Client<N: WordsNaming + InboxNaming, B: Drop> {
     /// The root's process number, which the first client drew.
     pub root: Option<u64>,
     /// What the first client takes the root's notes by.
-    pub waiter: Option<Taker<N, Item, Letter<B>>>,
+    pub waiter: Option<Taker<N, Message, Letter<B>>>,
     /// How many ends of the root it took by that.
     pub heard: u64,
 }
@@ -51,7 +51,7 @@ impl<N: WordsNaming + InboxNaming, B: Drop> Client<N, B> {
         owner: Owner<N>,
         senders: Senders<N, B>,
         root: u64,
-        waiter: Taker<N, Item, Letter<B>>,
+        waiter: Taker<N, Message, Letter<B>>,
     ) -> Self
         requires slot { Contains owner.slots 0 }
         requires drawn { Contains owner.drawn root }

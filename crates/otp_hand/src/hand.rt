@@ -2,6 +2,7 @@
 ghost use Rattle.std.specs.Prelude.{◌≡◌, ◌↔◌, ◌+◌, ◌<◌, ◌≤◌, None, Some, is_some, true, IfNone, IfSome, length};
 ghost use Rattle.otp_spec.specs.declared.limits.TheConstants.{MAX_READING};
 ghost use Rattle.otp_hand.specs.Readings.{HasRead};
+ghost use Rattle.otp_hand.specs.Standings.{standing_of};
 
 use crate::reading::read_at;
 use crate::runner::Runner;
@@ -50,6 +51,7 @@ impl<N: WordsNaming + InboxNaming + RunNaming, J: Drop, S: Drop> Hand<N, J, S> {
     pub fn rouse(&mut self)
         ensures unsent { self.new.unsent ≡ self.old.unsent }
         ensures passes { self.new.passes ≡ self.old.passes }
+        ensures standing { standing_of self.new ≡ standing_of self.old }
     {
         self.runner.rouse();
     }
@@ -63,6 +65,7 @@ impl<N: WordsNaming + InboxNaming + RunNaming, J: Drop, S: Drop> Hand<N, J, S> {
     pub fn try_others(&mut self)
         ensures unsent { self.new.unsent ≡ self.old.unsent }
         ensures passes { self.new.passes ≡ self.old.passes }
+        ensures standing { standing_of self.new ≡ standing_of self.old }
     {
         self.runner.around.is_to_try_others();
     }
@@ -72,6 +75,7 @@ impl<N: WordsNaming + InboxNaming + RunNaming, J: Drop, S: Drop> Hand<N, J, S> {
     pub fn may_find(&mut self, reading: u64) -> bool
         ensures unsent { self.new.unsent ≡ self.old.unsent }
         ensures passes { self.new.passes ≡ self.old.passes }
+        ensures standing { standing_of self.new ≡ standing_of self.old }
     {
         if self.runner.unsent.is_some() || self.runner.turning.is_some() {
             return true;
@@ -93,6 +97,7 @@ impl<N: WordsNaming + InboxNaming + RunNaming, J: Drop, S: Drop> Hand<N, J, S> {
     pub fn open_post(&mut self, post: &Arc<Post>) -> Result<(), AllocError>
         ensures unsent { self.new.unsent ≡ self.old.unsent }
         ensures passes { self.new.passes ≡ self.old.passes }
+        ensures standing { standing_of self.new ≡ standing_of self.old }
     {
         self.runner.around.open_post(post)
     }
@@ -111,7 +116,8 @@ impl<N: WordsNaming + InboxNaming + RunNaming, J: Drop, S: Drop> Hand<N, J, S> {
     where
         N: PlanNaming,
         requires { reading ≤ MAX_READING }
-        ensures { self.new.passes ≡ self.old.passes }
+        ensures passes { self.new.passes ≡ self.old.passes }
+        ensures standing { standing_of self.new ≡ standing_of self.old }
     {
         if sup.inbox().number() >= self.senders.len() {
             return Ok(TurnAnswer::Pending);

@@ -1,7 +1,7 @@
 //! What a hand runs processes with.
 ghost use Rattle.std.specs.Prelude.{◌≡◌, ◌+◌, ◌<◌, ◌++◌, ◌∷◌, [], None, Some, is_some, true, false, option_copied, OnErr, OnOk, IfErr, IfSome, MatchOption, length};
 ghost use Rattle.otp_bodies.specs.Ports.{launched, told};
-ghost use Rattle.otp_bodies.specs.Letters.{Comes, carries_body};
+ghost use Rattle.otp_bodies.specs.Letters.{Comes, carries_body, is_end_note};
 ghost use Rattle.otp_rules.specs.declared.event.Item.TheVariants as item;
 ghost use Rattle.otp_hand.specs.Begun.{NoneBegan};
 ghost use Rattle.otp_hand.specs.Ended.{NoneEnded, end_of, ends_held};
@@ -110,7 +110,8 @@ impl<N: WordsNaming + RunNaming, J: Drop, S: Drop> Port<Body<J, S>> for Runner<N
     }
 
     fn send(&mut self, note: Note, end: Option<&SupEnd>) -> Result<(), Note>
-        requires { Comes (item.Note note) (option_copied end) }
+        requires comes { Comes (item.Note note) (option_copied end) }
+        requires whole { is_some (option_copied end) ≡ is_end_note note }
         ensures took { OnOk result (notes_by self.new ≡ notes_by self.old ++ told note (option_copied end.entry) ∷ []) }
         ensures kept { OnErr result (notes_by self.new ≡ notes_by self.old) }
         ensures refused { OnErr result (self.old.refusals < self.new.refusals) }
@@ -163,14 +164,18 @@ impl<N: WordsNaming + RunNaming, J: Drop, S: Drop> Runner<N, J, S> {
     /// its end its number goes home, and its process ends. None, and nothing changes, where it has gone already, or where
     /// memory is refused.
     fn letter_of(&mut self, note: Note, end: Option<&SupEnd>) -> Option<Unsent<J, S>>
-        requires { Comes (item.Note note) (option_copied end) }
+        requires comes { Comes (item.Note note) (option_copied end) }
+        requires whole { is_some (option_copied end) ≡ is_end_note note }
         ensures item { IfSome result (λ u. u.letter.item ≡ item.Note note) }
         // It goes to the supervisor to which the process belongs.
         ensures table { IfSome result (λ u. u.table ≡ table_above self.old.turning) }
         ensures end { IfSome result (λ u. u.letter.end ≡ option_copied end.entry) }
+        // Where it brings the supervisor's number home it has its end, and else it has none.
+        ensures home { IfSome result (λ u. is_some u.letter.end ≡ is_some u.letter.body) }
         ensures unsent { self.new.unsent ≡ self.old.unsent }
         ensures refusals { self.new.refusals ≡ self.old.refusals }
         ensures puts { self.new.scheduler.own ≡ self.old.scheduler.own }
+        ensures count { self.new.scheduler.count ≡ self.old.scheduler.count }
         ensures begun { self.new.scheduler.begun ≡ self.old.scheduler.begun }
         ensures ended { self.new.scheduler.ended ≡ self.old.scheduler.ended + ends_held result }
     {

@@ -6,15 +6,17 @@ ghost use Rattle.otp_hand.specs.Begun.{starts_credited};
 ghost use Rattle.otp_hand.specs.Ended.{end_of, end_share, ends_sent};
 ghost use Rattle.otp_hand.specs.Sendings.{sent_at, parts_at, with_sender};
 ghost use Rattle.otp_hand.specs.Seats.{Seated};
-ghost use Rattle.otp_rules.specs.declared.event.Item.{Item};
+ghost use Rattle.otp_hand.specs.Standings.{IsSplitAt, parts_in};
 ghost use Rattle.otp_rules.specs.declared.event.Item.TheVariants as item;
 ghost use Rattle.otp_rules.specs.Homes.{is_start_call};
+ghost use Rattle.otp_bodies.specs.declared.letter.Message.{Message};
+ghost use Rattle.otp_bodies.specs.Messages.{message, plain_message};
 
 use crate::places::body_in;
 use otp_inbox::{Inbox, InboxNaming, Sender};
-use otp_rules::{Call, Item};
+use otp_rules::Call;
 use otp_signals::{Signal, Words, WordsNaming};
-use otp_sup::{Letter, PlanNaming, Port, Sup, TurnAnswer, TurnFault};
+use otp_sup::{Letter, Message, PlanNaming, Port, Sup, TurnAnswer, TurnFault};
 use std::alloc::Global;
 use std::marker::Model;
 use std::sync::Wait;
@@ -22,16 +24,16 @@ use std::sync::Wait;
 /// A sender to each supervisor, in the order of their numbers.
 #[derive(Drop)]
 pub struct Senders<N: InboxNaming, B: Drop> {
-    pub list: Vec<Sender<N, Item, Letter<B>>>,
+    pub list: Vec<Sender<N, Message, Letter<B>>>,
 }
 
 impl<N: InboxNaming, B: Drop> Model for Senders<N, B> {
     ghost use Rattle.std.specs.Prelude.{List};
     ghost use Rattle.otp_inbox.specs.Tokens.{SenderState};
-    ghost use Rattle.otp_rules.specs.declared.event.Item.{Item};
+    ghost use Rattle.otp_bodies.specs.declared.letter.Message.{Message};
     ghost use Rattle.otp_hand.specs.Seats.{Seated};
 
-    ghost Value = { List (SenderState Item) };
+    ghost Value = { List (SenderState Message) };
 
     ghost view = { λ s. s.list.items };
 
@@ -53,21 +55,22 @@ impl<N: InboxNaming, B: Drop> Senders<N, B> {
         self.list.is_empty()
     }
 
-    /// Sends a letter to a supervisor. A refused letter comes back, and nothing changes.
+    /// Sends a letter to a supervisor, with the end that it tells. A refused letter comes back, and nothing changes.
     pub fn send<R: Wait>(
         &mut self,
         rt: &R,
-        inbox: &Inbox<N, Item, Letter<B>>,
+        inbox: &Inbox<N, Message, Letter<B>>,
         letter: Letter<B>,
     ) -> Result<(), Letter<B>>
         requires { inbox.now < length self.old }
-        ensures sent { (s : SenderState Item) → slice_get self.old inbox.now ≡ Some s →
-            OnOk result (self.new ≡ slice_set self.old inbox.now (record s { sent = s.sent ++ letter.item ∷ [] })) }
+        ensures sent { (s : SenderState Message) → slice_get self.old inbox.now ≡ Some s →
+            OnOk result (self.new ≡ slice_set self.old inbox.now (record s { sent = s.sent ++ message letter.item letter.end ∷ [] })) }
         ensures back { IfErr result (λ back. back ≡ letter) }
         ensures refused { OnErr result (self.new ≡ self.old) }
         ensures len { length self.new ≡ length self.old }
         ensures starts { starts_credited self.new ≡ starts_credited self.old }
         ensures ends { OnOk result (ends_sent self.new ≡ ends_sent self.old + end_of letter.item) }
+        ensures parts { parts_in self.new ≡ parts_in self.old }
     {
         let place = inbox.number();
         inbox.send(rt, &mut self.list[place], letter)
@@ -93,6 +96,7 @@ impl<N: InboxNaming, B: Drop> Senders<N, B> {
         ensures beside { P.beside port.new ≡ P.beside port.old }
         // It sends nothing.
         ensures ends { ends_sent self.new ≡ ends_sent self.old }
+        ensures parts { parts_in self.new ≡ parts_in self.old }
     {
         let place = sup.inbox().number();
         let sender = &mut self.list[place];
@@ -100,7 +104,7 @@ impl<N: InboxNaming, B: Drop> Senders<N, B> {
     }
 
     /// Whether there is a letter in the inbox of a supervisor. A hint ([`Inbox::is_empty`]).
-    pub fn has_letter(&mut self, inbox: &Inbox<N, Item, Letter<B>>) -> bool
+    pub fn has_letter(&mut self, inbox: &Inbox<N, Message, Letter<B>>) -> bool
         requires { inbox.now < length self.old }
         ensures { self.new ≡ self.old }
     {
@@ -113,19 +117,20 @@ impl<N: InboxNaming, B: Drop> Senders<N, B> {
         &mut self,
         rt: &R,
         alloc: Global,
-        inbox: &Inbox<N, Item, Letter<B>>,
+        inbox: &Inbox<N, Message, Letter<B>>,
         number: u64,
         call: Call,
         body: Option<B>,
     ) -> Result<(), Option<B>>
         requires reaches { inbox.now < length self.old }
         requires body { is_some body ≡ is_start_call call }
-        ensures sent { (s : SenderState Item) → slice_get self.old inbox.now ≡ Some s →
-            OnOk result (self.new ≡ slice_set self.old inbox.now (record s { sent = s.sent ++ item.Call number call ∷ [] })) }
+        ensures sent { (s : SenderState Message) → slice_get self.old inbox.now ≡ Some s →
+            OnOk result (self.new ≡ slice_set self.old inbox.now (record s { sent = s.sent ++ plain_message (item.Call number call) ∷ [] })) }
         ensures back { IfErr result (λ back. back ≡ body) }
         ensures refused { OnErr result (self.new ≡ self.old) }
         ensures starts { starts_credited self.new ≡ starts_credited self.old }
         ensures ends { ends_sent self.new ≡ ends_sent self.old }
+        ensures parts { parts_in self.new ≡ parts_in self.old }
     {
         let letter = match Letter::call(alloc, number, call, body) {
             Ok(letter) => letter,
@@ -158,7 +163,12 @@ impl<N: InboxNaming, B: Drop> Senders<N, B> {
     }
 
     /// The last sender, and those before it.
-    pub fn into_last(self) -> (Vec<Sender<N, Item, Letter<B>>>, Sender<N, Item, Letter<B>>)
+    pub fn into_last(
+        self,
+    ) -> (
+        Vec<Sender<N, Message, Letter<B>>>,
+        Sender<N, Message, Letter<B>>,
+    )
         requires { 0 < length self }
         ensures all { result.0.items ++ result.1 ∷ [] ≡ self }
         ensures seated { Seated (result.0.items ++ result.1 ∷ []) }
@@ -171,10 +181,14 @@ impl<N: InboxNaming, B: Drop> Senders<N, B> {
     }
 
     /// Takes in another sender to one of these supervisors.
-    pub fn join_at(&mut self, inbox: &Inbox<N, Item, Letter<B>>, other: Sender<N, Item, Letter<B>>)
+    pub fn join_at(
+        &mut self,
+        inbox: &Inbox<N, Message, Letter<B>>,
+        other: Sender<N, Message, Letter<B>>,
+    )
         requires reaches { inbox.now < length self.old }
         requires belongs { other.inbox ≡ inbox.now }
-        ensures joined { (s : SenderState Item) → slice_get self.old inbox.now ≡ Some s → self.new ≡ slice_set self.old inbox.now (with_sender other s) }
+        ensures joined { (s : SenderState Message) → slice_get self.old inbox.now ≡ Some s → self.new ≡ slice_set self.old inbox.now (with_sender other s) }
         ensures len { length self.new ≡ length self.old }
         ensures starts { starts_credited self.new ≡ starts_credited self.old + other.shares.starts }
         ensures ends { ends_sent self.new ≡ ends_sent self.old + end_share other }
@@ -186,12 +200,13 @@ impl<N: InboxNaming, B: Drop> Senders<N, B> {
     /// A sender to one supervisor, with so many parts of the right to send. None where not more are there.
     pub fn split_at(
         &mut self,
-        inbox: &Inbox<N, Item, Letter<B>>,
+        inbox: &Inbox<N, Message, Letter<B>>,
         parts: u64,
-    ) -> Option<Sender<N, Item, Letter<B>>>
+    ) -> Option<Sender<N, Message, Letter<B>>>
         requires { 0 < parts }
         ensures new { IfSome result (λ s. s ≡ record { inbox = inbox.now; parts = parts; sent = []; joined = []; shares = no_shares }) }
         ensures len { length self.new ≡ length self.old }
+        ensures split { IfSome result (λ _. IsSplitAt inbox.now parts self.old self.new) }
         ensures starts { starts_credited self.new ≡ starts_credited self.old }
         ensures ends { ends_sent self.new ≡ ends_sent self.old }
     {

@@ -3,9 +3,8 @@ ghost use Rattle.std.specs.Prelude.{◌≡◌, ◌≤◌, length};
 
 use otp_inbox::{Inbox, InboxNaming};
 use otp_job::Body;
-use otp_rules::Item;
 use otp_signals::{Words, WordsNaming};
-use otp_sup::{Letter, PlanNaming, Sup};
+use otp_sup::{Letter, Message, PlanNaming, Sup};
 use std::marker::Model;
 
 /// The signal words and the supervisors of a tree, which all hands share, and the inbox of whoever opened it.
@@ -15,7 +14,7 @@ pub struct Shared<N: WordsNaming + InboxNaming + PlanNaming, J: Drop, S: Drop> {
     /// In the order of their numbers, the root first.
     pub sups: Vec<Sup<N, Body<J, S>>>,
     /// To which the root's notes go.
-    pub outer: Inbox<N, Item, Letter<Body<J, S>>>,
+    pub outer: Inbox<N, Message, Letter<Body<J, S>>>,
 }
 
 impl<N: WordsNaming + InboxNaming + PlanNaming, J: Drop, S: Drop> Model for Shared<N, J, S> {
@@ -39,7 +38,7 @@ impl<N: WordsNaming + InboxNaming + PlanNaming, J: Drop, S: Drop> Shared<N, J, S
     }
 
     /// The inbox of the supervisor with this number, or of whoever opened the tree.
-    pub fn inbox_of(&self, table: usize) -> &Inbox<N, Item, Letter<Body<J, S>>>
+    pub fn inbox_of(&self, table: usize) -> &Inbox<N, Message, Letter<Body<J, S>>>
         ensures { table ≤ self.now.tables → result.now ≡ table }
     {
         match self.sups.get(table) {

@@ -46,7 +46,7 @@ pub use answers::{
 pub use caller::{Answer, Caller};
 pub use clock::Stopwatch;
 pub use live::{close_callers, run, run_for, run_with_callers};
-pub use log::{LogLines, write_line};
+pub use log::{LogLines, write_line, write_line_at};
 pub use mailbox::Mailbox;
 pub use otp_wake::{Stop, Waker};
 pub use span::Span;

@@ -5,13 +5,14 @@ use std::alloc::{AllocError, Global};
 use std::io::Eprint;
 use std::str;
 
-/// Writes a line on standard error for each thing that happens, as soon as it does: the time in milliseconds, the number of the
-/// supervisor whose child it is, and what happened to which process. A line that memory is refused for, or that can't be written, is
-/// left out.
+/// Writes a line on standard error for each thing that happens, as soon as it does: the time in milliseconds, whose child it is, and
+/// what happened to which process. A supervisor is named by its path where that is known, else by its number. A line that memory is
+/// refused for, or that can't be written, is left out.
 ///
 /// ```text
-/// 0 table 0 up #2
-/// 1250 table 0 exit #2 error:crash
+/// 0 root: up #2
+/// 1250 pool/cache: exit #6 error:crash
+/// 1250 table 0: up #2
 /// ```
 #[derive(Drop)]
 pub struct LogLines<'a, E> {
@@ -24,11 +25,10 @@ impl<'a, E: Eprint> LogLines<'a, E> {
     pub fn to(errors: &'a E, alloc: Global) -> Self {
         LogLines { errors, alloc }
     }
-}
 
-impl<E: Eprint> Watch for LogLines<'_, E> {
-    fn saw(&self, seen: Seen) {
-        let Ok(line) = line_of(self.alloc, seen) else {
+    /// Writes a line, if there is one.
+    fn write(&self, line: Result<Vec<u8>, AllocError>) {
+        let Ok(line) = line else {
             return;
         };
         if let Ok(text) = str::from_utf8(line.as_slice()) {
@@ -37,18 +37,53 @@ impl<E: Eprint> Watch for LogLines<'_, E> {
     }
 }
 
-/// The line for it.
-fn line_of(alloc: Global, seen: Seen) -> Result<Vec<u8>, AllocError> {
+impl<E: Eprint> Watch for LogLines<'_, E> {
+    fn saw(&self, seen: Seen) {
+        self.write(line_of(self.alloc, &seen));
+    }
+
+    fn saw_at(&self, path: Option<&[u8]>, seen: Seen) {
+        self.write(line_at(self.alloc, path, &seen));
+    }
+}
+
+/// The line for it, with the supervisor's number.
+fn line_of(alloc: Global, seen: &Seen) -> Result<Vec<u8>, AllocError> {
     let mut line = Vec::new(alloc);
-    write_line(&seen, &mut line)?;
+    write_line(seen, &mut line)?;
     Ok(line)
 }
 
-/// Appends the line for it.
+/// The line for it, with the supervisor's path.
+fn line_at(alloc: Global, path: Option<&[u8]>, seen: &Seen) -> Result<Vec<u8>, AllocError> {
+    let mut line = Vec::new(alloc);
+    write_line_at(path, seen, &mut line)?;
+    Ok(line)
+}
+
+/// Appends the line for it, with the number of the supervisor.
 pub fn write_line(seen: &Seen, out: &mut Vec<u8>) -> Result<(), AllocError> {
     write_number(seen.at, out)?;
     out.extend_from_slice(b" table ")?;
     write_number(seen.table as u64, out)?;
+    out.push(b':')?;
+    write_happening(&seen.what, out)?;
+    out.push(b'\n')?;
+    Ok(())
+}
+
+/// Appends the line for it, with the path of the supervisor; with none where it is the root itself.
+pub fn write_line_at(
+    path: Option<&[u8]>,
+    seen: &Seen,
+    out: &mut Vec<u8>,
+) -> Result<(), AllocError> {
+    write_number(seen.at, out)?;
+    if let Some(path) = path {
+        out.push(b' ')?;
+        out.extend_from_slice(path)?;
+        out.push(b':')?;
+    }
     write_happening(&seen.what, out)?;
     out.push(b'\n')?;
     Ok(())

@@ -1,6 +1,7 @@
 -- Each end that an office tells is shown.
 use Rattle.std.proofs.Common.{◌≡◌, ℕ, List, [], ◌∷◌, ◌≤◌, Option, None, Some, not, refl, ap, sym, ◌∙◌, subst, arith, drop}
-use Rattle.std.specs.Prelude.{All}
+use Rattle.std.specs.Prelude.{All, Bool, true, false, is_some}
+use Rattle.std.proofs.lemmas.Bool.{false≢true}
 use Rattle.std.proofs.lemmas.List.Elements.{All-append, All-nil}
 use Rattle.std.proofs.lemmas.List.Sorted.{IsNonDecreasingBy-short}
 use Rattle.otp_reason.specs.declared.note.Note.{Note}
@@ -26,7 +27,8 @@ use Rattle.otp_office.specs.declared.orders.Sending.TheVariants as sending
 use Rattle.otp_office.specs.Offices.{IsOffice, OfficeView}
 use Rattle.otp_office.specs.Orders.{orders_along}
 use Rattle.otp_office.specs.Flushes.{IsFirst, end_note_by, first_end, sending_of}
-use Rattle.otp_bodies.specs.Letters.{Comes, Tells}
+use Rattle.otp_reason.specs.declared.reason.Reason.{Reason}
+use Rattle.otp_bodies.specs.Letters.{Comes, Tells, is_end_note}
 use Rattle.otp_office.proofs.Sends.{all_drop, all_filter}
 
 orders_evident : EndEvidence → (s : State) → IsShowing s → (events : List Event) → All IsEvident (orders_of s events)
@@ -52,6 +54,10 @@ tells_own own end (cause.Intensity _ _) = refl
 tells_own own end (cause.Significant _) = refl
 tells_own own end cause.Asked = refl
 
+abbrev is_telling : Option Sending → Bool
+is_telling (Some (sending.Tell n)) = true
+is_telling _ = false
+
 abbrev note_in : Note → Option Sending → Note
 note_in other (Some (sending.Tell n)) = n
 note_in other _ = other
@@ -66,6 +72,24 @@ order_comes own n effect.Ready is shown = tt
 order_comes own n (effect.End end) is shown =
     let T : Note → Type 0 = λ m. Tells m end in
     (subst T (ap (λ (o : Option Sending). note_in n o) is) (tells_own own end end.cause), shown)
+
+ends_whole : (own : ℕ) (reason : Reason) (c : Cause) → true ≡ is_end_note (end_note_by own reason c)
+ends_whole own reason (cause.InitFailed _) = refl
+ends_whole own reason (cause.Intensity _ _) = refl
+ends_whole own reason (cause.Significant _) = refl
+ends_whole own reason cause.Asked = refl
+
+order_whole : (own : ℕ) (n : Note) (x : Effect) → sending_of own x ≡ Some (sending.Tell n) → is_some (end_in x) ≡ is_end_note n
+order_whole own n (effect.Start _ p) is = absurd (false≢true (ap is_telling is))
+order_whole own n (effect.Ask _ p) is = absurd (false≢true (ap is_telling is))
+order_whole own n (effect.Kill _ p) is = absurd (false≢true (ap is_telling is))
+order_whole own n (effect.Reply _) is = absurd (false≢true (ap is_telling is))
+order_whole own n effect.Ready is = ap is_end_note (ap (λ (o : Option Sending). note_in n o) is)
+order_whole own n (effect.End end) is = ends_whole own end.reason end.cause ∙ ap is_end_note (ap (λ (o : Option Sending). note_in n o) is)
+
+-- an end comes exactly with the note of an end
+pub first_whole : (o : OfficeView) (n : Note) → IsFirst o (sending.Tell n) → is_some (first_end o.outbox) ≡ is_end_note n
+first_whole o n f = ap (λ (l : List Effect). is_some (first_end l)) f.outbox ∙ order_whole (own_number (state_of o.core).phase) n f.order f.sends
 
 -- what comes with the note that the first order tells
 pub first_comes : EndEvidence → (o : OfficeView) → IsOffice o → (n : Note) → IsFirst o (sending.Tell n) → Comes (item.Note n) (first_end o.outbox)

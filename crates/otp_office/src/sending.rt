@@ -6,7 +6,7 @@ ghost use Rattle.otp_spec.specs.declared.limits.TheConstants.{MAX_CHILDREN};
 ghost use Rattle.otp_core.specs.View.{state_of};
 ghost use Rattle.otp_office.specs.Flushes.{IsFirst, Posts, Posted, FlushesTo, first_end};
 ghost use Rattle.otp_bodies.specs.Ports.{carried};
-ghost use Rattle.otp_bodies.specs.Letters.{Comes, one_if};
+ghost use Rattle.otp_bodies.specs.Letters.{Comes, is_end_note, one_if};
 ghost use Rattle.otp_office.specs.declared.orders.Sending.TheVariants as sending;
 ghost use Rattle.otp_bodies.specs.declared.port.Flushed.TheVariants as flushed;
 ghost use Rattle.otp_office.specs.Rows.{slot_of};
@@ -37,6 +37,7 @@ impl<N: WordsNaming> Office<N> {
     fn first_end(&self) -> Option<&SupEnd>
         ensures end { option_copied result ≡ first_end self.now.outbox }
         ensures comes { (note : Note) → IsFirst self.now (sending.Tell note) → Comes (item.Note note) (first_end self.now.outbox) }
+        ensures whole { (note : Note) → IsFirst self.now (sending.Tell note) → is_some (first_end self.now.outbox) ≡ is_end_note note }
     {
         laws::end_evidence();
         let effects = self.core.effects();

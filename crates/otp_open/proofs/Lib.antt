@@ -1,4 +1,5 @@
 pub mod Fresh
 pub mod Firsts
+pub mod Splits
 pub mod Handed
 pub mod EachOpened

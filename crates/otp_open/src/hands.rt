@@ -1,11 +1,14 @@
 //! A hand is made for each scheduler, with a sender to each supervisor and a pass to the counts of each.
-ghost use Rattle.std.specs.Prelude.{◌≡◌, ◌+◌, ◌<◌, IfErr, IfOk, OnOk, IfSome, length};
+ghost use Rattle.std.specs.Prelude.{◌≡◌, ℕ, ◌+◌, ◌<◌, IfErr, IfOk, OnOk, IfSome, length, map};
 ghost use Rattle.otp_inbox.specs.Tokens.{first_sender};
 ghost use Rattle.otp_run.specs.Lists.{AllAt};
 ghost use Rattle.otp_open.specs.Opens.{AreOpened, HasRootOnly, IsIdle, IsOpened};
 ghost use Rattle.otp_open.specs.declared.opening.SystemFault.TheVariants.{OutOfMemory};
 ghost use Rattle.otp_hand.specs.Begun.{starts_credited};
 ghost use Rattle.otp_hand.specs.Ended.{ends_sent};
+ghost use Rattle.otp_hand.specs.Hands.{senders_of};
+ghost use Rattle.otp_hand.specs.Sendings.{parts_at, parts_to};
+ghost use Rattle.otp_hand.specs.Standings.{AreSplit};
 ghost use Rattle.otp_open.specs.Passes.{CanRead, IsFresh};
 
 use crate::opening::SystemFault;
@@ -15,22 +18,23 @@ use otp_hand::places::keep;
 use otp_hand::{Around, Hand, Resting, Runner, Senders, Shared, Waiting};
 use otp_inbox::{InboxNaming, Sender};
 use otp_job::{Body, Process};
-use otp_rules::Item;
 use otp_run::{RunNaming, Scheduler};
 use otp_signals::{Viewer, WordsNaming};
-use otp_sup::{Letter, PlanNaming};
+use otp_sup::{Letter, Message, PlanNaming};
 use otp_tally::Tally;
 use std::alloc::{AllocError, Global};
 
 /// The first sender to each supervisor, and the one that sends to whoever opened the tree.
 pub fn seat<N: InboxNaming, B: Drop>(
-    mut senders: Vec<Sender<N, Item, Letter<B>>>,
-    outer: Sender<N, Item, Letter<B>>,
+    mut senders: Vec<Sender<N, Message, Letter<B>>>,
+    outer: Sender<N, Message, Letter<B>>,
 ) -> Result<Senders<N, B>, AllocError>
     requires seated { AllAt (λ k s. s ≡ first_sender k) senders.items }
     requires outer { outer ≡ first_sender (length senders.items) }
     ensures starts { IfOk result (λ all. starts_credited all ≡ 0) }
     ensures ends { IfOk result (λ all. ends_sent all ≡ 0) }
+    ensures firsts { IfOk result (λ all. AllAt (λ k s. s ≡ first_sender k) all) }
+    ensures many { IfOk result (λ all. length all ≡ length senders.items + 1) }
 {
     let Ok(()) = keep(&mut senders, outer) else {
         drop(senders);
@@ -79,6 +83,9 @@ fn split_senders<N: WordsNaming + InboxNaming + PlanNaming, J: Drop, S: Drop>(
 ) -> Result<Option<Senders<N, Body<J, S>>>, AllocError>
     requires { 0 < parts }
     ensures len { length senders.new ≡ length senders.old }
+    // What the new ones have of the right to send was split off the others, to each of which there is a new one.
+    ensures split { IfOk result (λ split. IfSome split (λ s. AreSplit s senders.old senders.new)) }
+    ensures reach { IfOk result (λ split. IfSome split (λ s. length s ≡ length senders.old)) }
     // The new ones were credited with nothing and sent no end, and the others have what they had.
     ensures none { IfOk result (λ split. IfSome split (λ s. starts_credited s ≡ 0)) }
     ensures none_sent { IfOk result (λ split. IfSome split (λ s. ends_sent s ≡ 0)) }
@@ -118,6 +125,9 @@ fn make_hand<N: WordsNaming + InboxNaming + PlanNaming + RunNaming, J: Drop, S: 
     ensures fresh { IfOk result (λ hand. IsFresh passes.old.items hand) }
     ensures memory { IfErr result (λ why. why ≡ OutOfMemory) }
     ensures same { OnOk result (passes.new.items ≡ passes.old.items) }
+    ensures split { IfOk result (λ hand. AreSplit hand.senders senders.old senders.new) }
+    ensures reach { IfOk result (λ hand. length hand.senders ≡ length senders.old) }
+    ensures len { length senders.new ≡ length senders.old }
     ensures starts { starts_credited senders.new ≡ starts_credited senders.old }
     ensures ends { ends_sent senders.new ≡ ends_sent senders.old }
 {
@@ -165,6 +175,10 @@ pub fn make_hands<N: WordsNaming + InboxNaming + PlanNaming + RunNaming, J: Drop
     ensures hands { IfOk result (λ hands. CanRead (length passes.old.items) hands.items) }
     ensures memory { IfErr result (λ why. why ≡ OutOfMemory) }
     ensures same { OnOk result (passes.new.items ≡ passes.old.items) }
+    // What all hands have of the right to send was split off these senders, and each hand reaches as far as they do.
+    ensures split { IfOk result (λ hands. (k : ℕ) → parts_at k senders.new + parts_to k (map senders_of hands.items) ≡ parts_at k senders.old) }
+    ensures reach { IfOk result (λ hands. AllAt (λ _ h. length (senders_of h) ≡ length senders.old) hands.items) }
+    ensures len { length senders.new ≡ length senders.old }
     ensures starts { starts_credited senders.new ≡ starts_credited senders.old }
     ensures ends { ends_sent senders.new ≡ ends_sent senders.old }
 {

@@ -16,10 +16,9 @@ use otp_counts::{CountsPass, Publisher};
 use otp_hand::places::{keep, next_of};
 use otp_inbox::{InboxNaming, Sender, Taker, UnnamedInbox};
 use otp_job::Body;
-use otp_rules::Item;
 use otp_signals::{Owner, Words, WordsNaming};
 use otp_spec::{MAX_CHILDREN, SupSpec};
-use otp_sup::{Bodies, Letter, Office, PlanNaming, Sup, Table, count_opened};
+use otp_sup::{Bodies, Letter, Message, Office, PlanNaming, Sup, Table, count_opened};
 use std::alloc::{AllocError, Global};
 
 /// How many slots of signal words each supervisor has: one for each child that there can be.
@@ -52,7 +51,7 @@ impl From<AllocError> for SystemFault {
 pub fn open_inboxes<B: Drop>(
     alloc: Global,
     count: usize,
-) -> Result<Vec<UnnamedInbox<Item, Letter<B>>>, AllocError>
+) -> Result<Vec<UnnamedInbox<Message, Letter<B>>>, AllocError>
     ensures { IfOk result (λ inboxes. length inboxes.items ≡ count) }
 {
     let mut inboxes = Vec::new(alloc);
@@ -73,7 +72,7 @@ pub fn open_inboxes<B: Drop>(
 #[derive(Drop)]
 struct NamedOne<N: WordsNaming + InboxNaming + PlanNaming, J: Drop, S: Drop> {
     sup: Sup<N, Body<J, S>>,
-    sender: Sender<N, Item, Letter<Body<J, S>>>,
+    sender: Sender<N, Message, Letter<Body<J, S>>>,
     pass: CountsPass,
 }
 
@@ -82,7 +81,7 @@ fn open_one<N: WordsNaming + InboxNaming + PlanNaming, J: Drop, S: Drop>(
     alloc: Global,
     words: &Words<N>,
     owner: &mut Owner<N>,
-    inbox: UnnamedInbox<Item, Letter<Body<J, S>>>,
+    inbox: UnnamedInbox<Message, Letter<Body<J, S>>>,
     number: usize,
     plan: TablePlan<J, S>,
 ) -> Result<NamedOne<N, J, S>, SystemFault>
@@ -134,7 +133,7 @@ fn ready_bodies<B: Drop>(
 /// A supervisor that has its seat and its bodies.
 fn open_seated<N: WordsNaming + InboxNaming + PlanNaming, J: Drop, S: Drop>(
     alloc: Global,
-    inbox: UnnamedInbox<Item, Letter<Body<J, S>>>,
+    inbox: UnnamedInbox<Message, Letter<Body<J, S>>>,
     number: usize,
     supervisor: SupSpec,
     bodies: Bodies<Body<J, S>>,
@@ -162,7 +161,7 @@ fn open_seated<N: WordsNaming + InboxNaming + PlanNaming, J: Drop, S: Drop>(
 fn open_table<N: WordsNaming + InboxNaming + PlanNaming, B: Drop>(
     alloc: Global,
     office: Office<N>,
-    taker: Taker<N, Item, Letter<B>>,
+    taker: Taker<N, Message, Letter<B>>,
     bodies: Bodies<B>,
 ) -> Result<(Table<N, B>, CountsPass), AllocError>
     requires plan { office.core.base ≡ never_opened (N.plan taker.inbox) }
@@ -220,7 +219,7 @@ fn hand_in_all<B: Drop>(alloc: Global, bodies: Vec<B>) -> Result<Bodies<B>, Allo
 #[derive(Drop)]
 pub struct Named<N: WordsNaming + InboxNaming + PlanNaming, J: Drop, S: Drop> {
     pub sups: Vec<Sup<N, Body<J, S>>>,
-    pub senders: Vec<Sender<N, Item, Letter<Body<J, S>>>>,
+    pub senders: Vec<Sender<N, Message, Letter<Body<J, S>>>>,
     pub passes: Vec<CountsPass>,
 }
 
@@ -263,7 +262,7 @@ pub fn open_all<N: WordsNaming + InboxNaming + PlanNaming, J: Drop, S: Drop>(
     alloc: Global,
     words: &Words<N>,
     owner: &mut Owner<N>,
-    inboxes: Vec<UnnamedInbox<Item, Letter<Body<J, S>>>>,
+    inboxes: Vec<UnnamedInbox<Message, Letter<Body<J, S>>>>,
     plans: Vec<TablePlan<J, S>>,
 ) -> Result<Named<N, J, S>, SystemFault>
     requires named { AllAt (λ k id. id ≡ N.inbox k) inboxes.items }

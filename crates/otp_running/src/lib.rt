@@ -4,6 +4,7 @@
 pub mod running;
 pub mod serving;
 mod standing;
+mod watching;
 
 pub use running::{Pool, explain, run_file};
 pub use serving::serve_file;

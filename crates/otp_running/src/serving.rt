@@ -11,6 +11,7 @@ ghost use Rattle.otp_serve.specs.Serves.{served_text};
 ghost use Rattle.otp_close.specs.Closes.{IsReportOf};
 
 use crate::running::{Pool, ending_of_live, explain, refuse_run, remarks_on, say};
+use crate::watching::AtPaths;
 use otp_ending::ProgramEnd;
 use otp_file::{TreeSpec, read_tree};
 use otp_jobs::{FileRunFault, Settings};
@@ -18,6 +19,7 @@ use otp_live::{Span, Unwatched, Watch};
 use otp_outcome::Limit;
 use otp_serve::{PatientReport, serve_worked};
 use otp_sim::{Failed, Output, write_all};
+use otp_trial::plant_seats;
 use otp_words::{RunShows, Serving};
 use std::alloc::Global;
 use std::sync::Wait;
@@ -50,11 +52,20 @@ where
     ensures fault { IfErr result (λ why. IsOfRun why → option_map run_fault (plan_fault (tables_of tree)) ≡ Some why) }
 {
     let span = span_of(serving);
-    if serving.is_logged {
-        serve_worked(pool.rt, alloc, tree, settings, span, pool.watch, out)
-    } else {
-        serve_worked(pool.rt, alloc, tree, settings, span, &Unwatched, out)
+    if !serving.is_logged {
+        return serve_worked(pool.rt, alloc, tree, settings, span, &Unwatched, out);
     }
+    let Ok(seats) = plant_seats(alloc, &tree) else {
+        drop(tree);
+        return Err(FileRunFault::OutOfMemory);
+    };
+    let watch = AtPaths {
+        seats: seats.as_slice(),
+        watch: pool.watch,
+    };
+    let served = serve_worked(pool.rt, alloc, tree, settings, span, &watch, out);
+    drop(seats);
+    served
 }
 
 /// Reads the tree of a file, serves it with worked jobs for a time, and writes the report. What is told besides changes nothing of

@@ -11,5 +11,6 @@ pub mod Flushing
 pub mod Leaving
 pub mod OneBody
 pub mod Planned
+pub mod Told
 pub mod Turning
 pub mod Unsent

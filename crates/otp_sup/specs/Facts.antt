@@ -1,7 +1,7 @@
 -- What a table stands for, and what it keeps.
 use Rattle.std.specs.Prelude.{◌≡◌, ◌==◌, ⊤, Bool, ◌∷◌, ℕ, ◌+◌, ◌<◌, ◌≤◌, true, false, ◌||◌, List, [], length, All, Contains}
 use Rattle.std.specs.List.{list_any}
-use Rattle.otp_rules.specs.declared.event.Item.{Item}
+use Rattle.otp_bodies.specs.declared.letter.Message.{Message}
 use Rattle.otp_rules.specs.Counts.{counts_of}
 use Rattle.otp_rules.specs.Alive.{LivesIn}
 use Rattle.otp_rules.specs.Homes.{is_ended, is_home}
@@ -19,6 +19,8 @@ use Rattle.otp_bodies.specs.Bodies.{are_given, calls_waiting, count_away, count_
 use Rattle.otp_office.specs.Orders.{starts_in}
 use Rattle.otp_bodies.specs.declared.told.ToldEnd.{ToldEnd}
 use Rattle.otp_bodies.specs.Ends.{AreTold}
+use Rattle.otp_bodies.specs.Messages.{items_in}
+use Rattle.otp_sup.specs.Told.{ends_told_in}
 use Rattle.otp_office.specs.Events.{items_of}
 use Rattle.otp_office.specs.Offices.{KeepsOffice, OfficeView, starts_sent}
 use Rattle.otp_sup.specs.Plans.{never_opened}
@@ -26,7 +28,7 @@ use Rattle.otp_sup.specs.Plans.{never_opened}
 -- what contracts see of a table
 pub record TableView : Type 0 where
   pub office : OfficeView
-  pub taker : TakerState Item
+  pub taker : TakerState Message
   -- whose each of its bodies is, and where
   pub bodies : List Kept
   -- its counts as they were published
@@ -102,13 +104,15 @@ HaveOneBody o kept = (row : Row) → Contains (state_of o.core).rows row → Has
 pub record IsTable (plans : ℕ → Supervisor) (t : TableView) : Type 0 where
   -- its history begins with the supervisor of its plan, never opened
   pub plan : t.office.core.base ≡ never_opened (plans t.taker.inbox)
-  pub taken : t.taker.taken ≡ items_of t.office.core.history
+  pub taken : items_in t.taker.taken ≡ items_of t.office.core.history
   -- each start call that waits has its body with it, in their order
   pub calls : calls_waiting t.bodies ≡ starts_waiting (state_of t.office.core).waiting
   pub bodies : HasBodies t.office t.bodies
   -- what was published last is what it counts
   pub counts : EndsWith (counts_of (state_of t.office.core)) t.counts.published
   pub told : AreTold (stored_of t.office.core) t.ends_told
+  -- they are those that came with what it took since the last checkpoint, and no other
+  pub ends : t.ends_told ≡ ends_told_in t.office.core t.taker.taken
   -- it gave senders a share for each start that it sent
   pub starts : t.taker.given.starts ≡ length (starts_sent t.office)
   -- and one for each event, and for each time that it found its inbox empty
@@ -120,7 +124,7 @@ pub record KeepsRules (plans : ℕ → Supervisor) (t : TableView) : Type 0 wher
   pub plan : t.office.core.base ≡ never_opened (plans t.taker.inbox)
   pub office : KeepsOffice t.office
   -- the items taken from the inbox are those of the history, each once and in order
-  pub taken : t.taker.taken ≡ items_of t.office.core.history
+  pub taken : items_in t.taker.taken ≡ items_of t.office.core.history
   -- each start call that waits has its body with it, in their order
   pub calls : calls_waiting t.bodies ≡ starts_waiting (state_of t.office.core).waiting
   -- each body is where its child is: at home, with the start that is to be sent, or with the process
@@ -131,6 +135,8 @@ pub record KeepsRules (plans : ℕ → Supervisor) (t : TableView) : Type 0 wher
   pub counts : EndsWith (counts_of (state_of t.office.core)) t.counts.published
   -- the ends that it was told came with notes of its history: each is for the note's reason, and shown
   pub told : AreTold (stored_of t.office.core) t.ends_told
+  -- they are the ends that came with what it took from its inbox since the last checkpoint, and no other
+  pub ends : t.ends_told ≡ ends_told_in t.office.core t.taker.taken
   -- it gave senders a share for each start that it sent
   pub starts : t.taker.given.starts ≡ length (starts_sent t.office)
   -- and one for each event, and for each time that it found its inbox empty

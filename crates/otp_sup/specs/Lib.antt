@@ -4,4 +4,5 @@ pub mod Cuts
 pub mod Moves
 pub mod Plans
 pub mod Shares
+pub mod Told
 pub mod Turns

@@ -24,6 +24,7 @@ use Rattle.otp_office.specs.declared.turns.TurnAnswer.TheVariants as answer
 use Rattle.otp_office.specs.declared.turns.TurnFault.{TurnFault}
 use Rattle.otp_bodies.specs.Ends.{told_with}
 use Rattle.otp_bodies.specs.Letters.{Comes, carries_body, one_if}
+use Rattle.otp_bodies.specs.Messages.{message}
 use Rattle.otp_bodies.specs.declared.bodies.Kept.{Kept}
 use Rattle.otp_sup.specs.Moves.{bodies_after}
 use Rattle.otp_bodies.specs.Bodies.{bodies_in}
@@ -43,16 +44,17 @@ Published old new = new.counts ≡ after_publish (counts_of (state_of new.office
 -- what was asked of the inbox: the item that came is the event, or it was found empty
 pub record Took (reading : ℕ) (old new : TableView) : Type 0 where
   pub item : Item
+  -- the end that came with it, if one did
+  pub end : Option SupEnd
   pub happened : Happened reading (kind.Took item) old.office new.office
   -- it was taken, and then a turn was credited
-  pub taken : new.taker ≡ gave one_turn (record old.taker { taken = old.taker.taken ++ item ∷ [] })
+  pub taken : new.taker ≡ gave one_turn (record old.taker { taken = old.taker.taken ++ message item end ∷ [] })
   -- each body is where the event puts it
   pub bodies : new.bodies ≡ bodies_after (state_of old.office.core) (state_of new.office.core) (kind.Took item) old.bodies
   -- exactly the body that came with the item is more
   pub count : bodies_in new.bodies ≡ bodies_in old.bodies + one_if (carries_body item)
   pub counts : Published old new
-  -- the end that came with the item, if one did, is the last that was told
-  pub end : Option SupEnd
+  -- that end is the last that was told
   pub comes : Comes item end
   pub ends : new.ends_told ≡ old.ends_told ++ told_with (length (stored_of old.office.core)) item end
 

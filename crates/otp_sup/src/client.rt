@@ -6,9 +6,9 @@ ghost use Rattle.otp_sup.specs.Clients.{DrewOne, Submitted};
 ghost use Rattle.otp_sup.specs.declared.client.SplitFault.TheVariants as refused;
 ghost use Rattle.otp_sup.specs.declared.client.SubmitCause.TheVariants as cause;
 
-use otp_bodies::Letter;
+use otp_bodies::{Letter, Message};
 use otp_inbox::{Inbox, InboxNaming, Sender};
-use otp_rules::{Call, Item};
+use otp_rules::Call;
 use otp_signals::{Owner, Words, WordsNaming};
 use std::alloc::Global;
 use std::marker::{Model, PhantomData};
@@ -18,7 +18,7 @@ use std::sync::Wait;
 #[derive(Drop)]
 pub struct Client<N: WordsNaming + InboxNaming, B: Drop> {
     owner: Owner<N>,
-    sender: Sender<N, Item, Letter<B>>,
+    sender: Sender<N, Message, Letter<B>>,
     /// Where the memory of the specifications that it sends comes from.
     alloc: Global,
     of: PhantomData<N>,
@@ -64,7 +64,7 @@ pub struct SubmitFault<B> {
 
 impl<N: WordsNaming + InboxNaming, B: Drop> Client<N, B> {
     /// A client of this owner and sender.
-    pub fn new(alloc: Global, owner: Owner<N>, sender: Sender<N, Item, Letter<B>>) -> Self
+    pub fn new(alloc: Global, owner: Owner<N>, sender: Sender<N, Message, Letter<B>>) -> Self
         requires { 0 < sender.parts }
         ensures { result ≡ record { owner = owner; sender = sender } }
     {
@@ -92,7 +92,7 @@ impl<N: WordsNaming + InboxNaming, B: Drop> Client<N, B> {
         &mut self,
         rt: &R,
         words: &Words<N>,
-        inbox: &Inbox<N, Item, Letter<B>>,
+        inbox: &Inbox<N, Message, Letter<B>>,
         call: Call,
         body: Option<B>,
     ) -> Result<u64, SubmitFault<B>>
@@ -131,7 +131,7 @@ impl<N: WordsNaming + InboxNaming, B: Drop> Client<N, B> {
     pub fn split(
         &mut self,
         words: &Words<N>,
-        inbox: &Inbox<N, Item, Letter<B>>,
+        inbox: &Inbox<N, Message, Letter<B>>,
         quota: u64,
     ) -> Result<Client<N, B>, SplitFault>
         requires { inbox.now ≡ self.old.sender.inbox }

@@ -22,8 +22,8 @@ pub use client::{Client, SplitFault, SubmitCause, SubmitFault};
 pub use cut::CutAnswer;
 pub use naming::PlanNaming;
 pub use otp_bodies::{
-    Bodies, Evidence, Flushed, Kept, Launched, Letter, MemoryPort, NewProcess, Origin, Place, Port,
-    ToldEnd, ToldNote, count_opened, evidence_of,
+    Bodies, Evidence, Flushed, Kept, Launched, Letter, MemoryPort, Message, NewProcess, Origin,
+    Place, Port, ToldEnd, ToldNote, count_opened, evidence_of,
 };
 pub use otp_office::{Office, TurnAnswer, TurnFault};
 pub use sup::{Displaced, Sup, SupParts, Unlocked};

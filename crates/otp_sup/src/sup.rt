@@ -15,11 +15,11 @@ ghost use Rattle.otp_office.specs.declared.turns.TurnAnswer.TheVariants as answe
 
 use crate::naming::PlanNaming;
 use crate::table::Table;
-use otp_bodies::{Flushed, Letter, Port, ToldEnd};
+use otp_bodies::{Flushed, Letter, Message, Port, ToldEnd};
 use otp_core::{Core, ReplyAnswer};
 use otp_inbox::{Inbox, InboxNaming, Sender, Taker};
 use otp_office::{TurnAnswer, TurnFault};
-use otp_rules::{Item, Reply};
+use otp_rules::Reply;
 use otp_signals::{Owner, Signal, Words, WordsNaming};
 use std::alloc::AllocError;
 use std::marker::Model;
@@ -29,13 +29,13 @@ use std::sync::{Mutex, Wait};
 /// for the lock.
 #[derive(Drop)]
 pub struct Sup<N: WordsNaming + InboxNaming + PlanNaming, B: Drop> {
-    inbox: Inbox<N, Item, Letter<B>>,
+    inbox: Inbox<N, Message, Letter<B>>,
     table: Mutex<Table<N, B>>,
 }
 
 impl<N: WordsNaming + InboxNaming + PlanNaming, B: Drop> Sup<N, B> {
     /// Puts the table under a lock.
-    pub fn new(inbox: Inbox<N, Item, Letter<B>>, table: Table<N, B>) -> Self
+    pub fn new(inbox: Inbox<N, Message, Letter<B>>, table: Table<N, B>) -> Self
         requires { inbox ≡ table.taker.inbox }
         ensures { result.inbox ≡ inbox }
     {
@@ -46,7 +46,7 @@ impl<N: WordsNaming + InboxNaming + PlanNaming, B: Drop> Sup<N, B> {
     }
 
     /// Its inbox, to which clients and processes send.
-    pub fn inbox(&self) -> &Inbox<N, Item, Letter<B>>
+    pub fn inbox(&self) -> &Inbox<N, Message, Letter<B>>
         ensures { result.now ≡ self.now.inbox }
     {
         &self.inbox
@@ -69,7 +69,7 @@ impl<N: WordsNaming + InboxNaming + PlanNaming, B: Drop> Sup<N, B> {
         &self,
         rt: &R,
         words: &Words<N>,
-        sender: &mut Sender<N, Item, Letter<B>>,
+        sender: &mut Sender<N, Message, Letter<B>>,
         port: &mut P,
         number: u64,
         reading: u64,
@@ -191,7 +191,7 @@ impl Displaced {
 /// A supervisor that is out of its lock: its inbox, and its table as the last turn left it.
 #[derive(Drop)]
 pub struct Unlocked<N: WordsNaming + InboxNaming + PlanNaming, B: Drop> {
-    inbox: Inbox<N, Item, Letter<B>>,
+    inbox: Inbox<N, Message, Letter<B>>,
     table: Table<N, B>,
 }
 
@@ -206,20 +206,20 @@ impl<N: WordsNaming + InboxNaming + PlanNaming, B: Drop> Model for Unlocked<N, B
 /// What a supervisor is taken apart into.
 #[derive(Drop)]
 pub struct SupParts<N: WordsNaming + InboxNaming, B: Drop> {
-    pub inbox: Inbox<N, Item, Letter<B>>,
+    pub inbox: Inbox<N, Message, Letter<B>>,
     /// Its core, with its history since the last checkpoint.
     pub core: Core,
     /// The seat that drew its process numbers.
     pub owner: Owner<N>,
     /// The taker of its inbox.
-    pub taker: Taker<N, Item, Letter<B>>,
+    pub taker: Taker<N, Message, Letter<B>>,
     /// The ends of supervisors that it was told since the last checkpoint, in their order.
     pub ends_told: Vec<ToldEnd>,
 }
 
 impl<N: WordsNaming + InboxNaming + PlanNaming, B: Drop> Unlocked<N, B> {
     /// Its inbox.
-    pub fn inbox(&self) -> &Inbox<N, Item, Letter<B>>
+    pub fn inbox(&self) -> &Inbox<N, Message, Letter<B>>
         ensures { result.now ≡ self.now.inbox }
     {
         &self.inbox
@@ -315,8 +315,8 @@ fn was_sent(flushed: Flushed) -> bool
 fn flush_all<N: WordsNaming + InboxNaming + PlanNaming, B: Drop, P: Port<B>>(
     table: &mut Table<N, B>,
     words: &Words<N>,
-    inbox: &Inbox<N, Item, Letter<B>>,
-    sender: &mut Sender<N, Item, Letter<B>>,
+    inbox: &Inbox<N, Message, Letter<B>>,
+    sender: &mut Sender<N, Message, Letter<B>>,
     port: &mut P,
 )
     requires inbox { inbox.now ≡ table.old.taker.inbox }

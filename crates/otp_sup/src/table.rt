@@ -1,5 +1,6 @@
 //! What lies under a supervisor's lock.
 ghost use Rattle.otp_bodies.specs.Letters.{Comes, carries_body};
+ghost use Rattle.otp_bodies.specs.Messages.{message};
 ghost use Rattle.std.specs.Prelude.{◌≡◌, ◌++◌, ◌∷◌, ◌+◌, ◌≤◌, ◌<◌, [], true, false, is_some, length, min, IfErr, IfNone, IfOk, IfSome, MatchOption, None, OnOk, Some, vec_capacity};
 ghost use Rattle.otp_inbox.specs.Tokens.{count_limit, no_shares};
 ghost use Rattle.std.specs.List.{list_any};
@@ -25,7 +26,7 @@ ghost use Rattle.otp_sup.specs.Turns.{Turned};
 use crate::cut::CutAnswer;
 use crate::moves::{come_back, happen, leave};
 use crate::naming::PlanNaming;
-use otp_bodies::{Bodies, Evidence, Flushed, Letter, Port, ToldEnd, keep_end};
+use otp_bodies::{Bodies, Evidence, Flushed, Letter, Message, Port, ToldEnd, keep_end};
 use otp_core::{CutFault, ReplyAnswer};
 use otp_counts::{CountsPass, Publisher};
 use otp_inbox::{Inbox, InboxNaming, Sender, Taker};
@@ -41,7 +42,7 @@ use std::sync::Wait;
 #[derive(Drop)]
 pub struct Table<N: WordsNaming + InboxNaming + PlanNaming, B: Drop> {
     office: Office<N>,
-    taker: Taker<N, Item, Letter<B>>,
+    taker: Taker<N, Message, Letter<B>>,
     bodies: Bodies<B>,
     counts: Publisher,
     ends: Vec<ToldEnd>,
@@ -72,7 +73,7 @@ impl<N: WordsNaming + InboxNaming + PlanNaming, B: Drop> Table<N, B> {
     pub fn new(
         alloc: Global,
         office: Office<N>,
-        taker: Taker<N, Item, Letter<B>>,
+        taker: Taker<N, Message, Letter<B>>,
         mut bodies: Bodies<B>,
         counts: Publisher,
     ) -> Self
@@ -159,8 +160,8 @@ impl<N: WordsNaming + InboxNaming + PlanNaming, B: Drop> Table<N, B> {
         &mut self,
         rt: &R,
         words: &Words<N>,
-        inbox: &Inbox<N, Item, Letter<B>>,
-        sender: &mut Sender<N, Item, Letter<B>>,
+        inbox: &Inbox<N, Message, Letter<B>>,
+        sender: &mut Sender<N, Message, Letter<B>>,
         number: u64,
         reading: u64,
         told: Signal,
@@ -237,8 +238,8 @@ impl<N: WordsNaming + InboxNaming + PlanNaming, B: Drop> Table<N, B> {
     pub fn flush_one<P: Port<B>>(
         &mut self,
         words: &Words<N>,
-        inbox: &Inbox<N, Item, Letter<B>>,
-        sender: &mut Sender<N, Item, Letter<B>>,
+        inbox: &Inbox<N, Message, Letter<B>>,
+        sender: &mut Sender<N, Message, Letter<B>>,
         port: &mut P,
     ) -> Flushed
         requires inbox { inbox.now ≡ self.old.taker.inbox }
@@ -285,7 +286,7 @@ impl<N: WordsNaming + InboxNaming + PlanNaming, B: Drop> Table<N, B> {
 
     /// Takes it apart, at the end: its office, the taker of its inbox, and the ends that it was told. The bodies that it has
     /// are dropped.
-    pub fn into_parts(self) -> (Office<N>, Taker<N, Item, Letter<B>>, Vec<ToldEnd>)
+    pub fn into_parts(self) -> (Office<N>, Taker<N, Message, Letter<B>>, Vec<ToldEnd>)
         ensures office { result.0 ≡ self.office }
         ensures taker { result.1 ≡ self.taker }
         ensures ends { result.2.items ≡ self.ends_told }
@@ -392,11 +393,11 @@ fn make_ready<N: WordsNaming, B: Drop>(
 /// Takes the item at the front, with the body and the end that it brings.
 fn take_item<N: InboxNaming, B: Drop, R: Wait>(
     rt: &R,
-    inbox: &Inbox<N, Item, Letter<B>>,
-    taker: &mut Taker<N, Item, Letter<B>>,
+    inbox: &Inbox<N, Message, Letter<B>>,
+    taker: &mut Taker<N, Message, Letter<B>>,
 ) -> Option<(Item, Option<B>, Option<Evidence>)>
     requires { taker.old.inbox ≡ inbox.now }
-    ensures found { IfSome result (λ x. taker.new ≡ record taker.old { taken = taker.old.taken ++ x.0 ∷ [] }) }
+    ensures found { IfSome result (λ x. taker.new ≡ record taker.old { taken = taker.old.taken ++ message x.0 x.2 ∷ [] }) }
     ensures body { IfSome result (λ x. is_some x.1 ≡ carries_body x.0) }
     ensures end { IfSome result (λ x. Comes x.0 x.2) }
     ensures empty { IfNone result (taker.new ≡ record taker.old { empty_finds = taker.old.empty_finds + 1 }) }
@@ -407,9 +408,9 @@ fn take_item<N: InboxNaming, B: Drop, R: Wait>(
 
 /// Credits a start, where the order that was sent was to start the child of this slot.
 fn credit_start<N: InboxNaming, B: Drop>(
-    inbox: &Inbox<N, Item, Letter<B>>,
-    taker: &mut Taker<N, Item, Letter<B>>,
-    sender: &mut Sender<N, Item, Letter<B>>,
+    inbox: &Inbox<N, Message, Letter<B>>,
+    taker: &mut Taker<N, Message, Letter<B>>,
+    sender: &mut Sender<N, Message, Letter<B>>,
     flushed: Flushed,
     slot: Option<usize>,
 )

@@ -6,11 +6,12 @@ use crate::script::{Known, OwnSteps, Stand, Step, known_of};
 use crate::shut::Shut;
 use otp_inbox::{Inbox, InboxNaming, Sender, UnnamedInbox};
 use otp_reason::Note;
-use otp_rules::{Cause, Item};
+use otp_rules::Cause;
 use otp_signals::{OpenWords, Signal, Viewer, Words, WordsNaming};
 use otp_spec::SupSpec;
 use otp_sup::{
-    CutAnswer, Flushed, MemoryPort, NewProcess, PlanNaming, Table, ToldNote, TurnAnswer, TurnFault,
+    CutAnswer, Flushed, MemoryPort, Message, NewProcess, PlanNaming, Table, ToldNote, TurnAnswer,
+    TurnFault,
 };
 use std::alloc::Global;
 use std::process::Abort;
@@ -21,9 +22,9 @@ use std::sync::Wait;
 pub(crate) struct Alone<N: WordsNaming + InboxNaming + PlanNaming> {
     words: Words<N>,
     viewer: Viewer<N>,
-    inbox: Inbox<N, Item, Post>,
+    inbox: Inbox<N, Message, Post>,
     table: Table<N, u64>,
-    sender: Sender<N, Item, Post>,
+    sender: Sender<N, Message, Post>,
     port: MemoryPort<u64>,
 }
 
@@ -32,7 +33,7 @@ pub(crate) fn make_table<N: WordsNaming + InboxNaming + PlanNaming, R: Abort>(
     rt: &R,
     alloc: Global,
     words: OpenWords,
-    inbox: UnnamedInbox<Item, Post>,
+    inbox: UnnamedInbox<Message, Post>,
     supervisor: SupSpec,
     own: &[u64],
 ) -> Alone<N>

@@ -9,7 +9,7 @@ use otp_rules::{Call, CountsNow, Item, Kind, Reply};
 use otp_signals::{OpenWords, Signal, Words, WordsNaming};
 use otp_spec::SupSpec;
 use otp_sup::{
-    Client, MemoryPort, PlanNaming, SplitFault, SubmitCause, Sup, TurnAnswer, TurnFault,
+    Client, MemoryPort, Message, PlanNaming, SplitFault, SubmitCause, Sup, TurnAnswer, TurnFault,
 };
 use std::alloc::Global;
 use std::marker::Brand;
@@ -31,7 +31,7 @@ fn two_clients_and_a_hand(rt: HostRuntime) {
 fn clients_in<
     N: WordsNaming + InboxNaming + PlanNaming + Send + Sync,
     R: Threads + Wait + Abort + Sync,
->(rt: &R, alloc: Global, words: OpenWords, inbox: UnnamedInbox<Item, Post>, supervisor: SupSpec)
+>(rt: &R, alloc: Global, words: OpenWords, inbox: UnnamedInbox<Message, Post>, supervisor: SupSpec)
     requires words { words.words ≡ N.words }
     requires slots { words.slots ≡ 256 }
     requires inbox { inbox ≡ N.inbox 0 }
@@ -64,7 +64,7 @@ fn send_from_threads<
     words: &Words<N>,
     sup: &Sup<N, u64>,
     mut first: Client<N, u64>,
-    mut sender: Sender<N, Item, Post>,
+    mut sender: Sender<N, Message, Post>,
     mut port: MemoryPort<u64>,
 ) -> (Vec<u64>, Vec<u64>) {
     let opened = turn(rt, sup, words, &mut sender, &mut port);
@@ -189,7 +189,7 @@ fn turn<N: WordsNaming + InboxNaming + PlanNaming, R: Wait + Abort>(
     rt: &R,
     sup: &Sup<N, u64>,
     words: &Words<N>,
-    sender: &mut Sender<N, Item, Post>,
+    sender: &mut Sender<N, Message, Post>,
     port: &mut MemoryPort<u64>,
 ) -> Result<TurnAnswer, TurnFault> {
     assert!(rt; sender.number() == sup.inbox().number());
@@ -202,7 +202,7 @@ fn serve<N: WordsNaming + InboxNaming + PlanNaming, R: Wait + Abort>(
     rt: &R,
     sup: &Sup<N, u64>,
     words: &Words<N>,
-    mut sender: Sender<N, Item, Post>,
+    mut sender: Sender<N, Message, Post>,
     mut port: MemoryPort<u64>,
 ) -> MemoryPort<u64> {
     let mut taken = 0u64;

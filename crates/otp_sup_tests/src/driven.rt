@@ -9,11 +9,12 @@ use crate::script::{Known, OwnSteps, Sent, Stand, Step, known_of, play, takes};
 use otp_core::ReplyAnswer;
 use otp_inbox::{InboxNaming, Sender, UnnamedInbox};
 use otp_reason::{Note, Reason};
-use otp_rules::{Call, Cause, Item};
+use otp_rules::{Call, Cause};
 use otp_signals::{OpenWords, Signal, Viewer, Words, WordsNaming};
 use otp_spec::{MAX_EVENTS, SupSpec};
 use otp_sup::{
-    Client, MemoryPort, NewProcess, PlanNaming, SubmitCause, Sup, ToldNote, TurnAnswer, TurnFault,
+    Client, MemoryPort, Message, NewProcess, PlanNaming, SubmitCause, Sup, ToldNote, TurnAnswer,
+    TurnFault,
 };
 use std::alloc::Global;
 use std::marker::Brand;
@@ -26,7 +27,7 @@ pub(crate) struct Driven<N: WordsNaming + InboxNaming + PlanNaming> {
     pub(crate) words: Words<N>,
     pub(crate) viewer: Viewer<N>,
     pub(crate) sup: Sup<N, u64>,
-    pub(crate) sender: Sender<N, Item, Post>,
+    pub(crate) sender: Sender<N, Message, Post>,
     pub(crate) client: Client<N, u64>,
     pub(crate) port: MemoryPort<u64>,
     // The number under which it opened last.
@@ -38,7 +39,7 @@ pub(crate) fn make_driven<N: WordsNaming + InboxNaming + PlanNaming, R: Abort>(
     rt: &R,
     alloc: Global,
     words: OpenWords,
-    inbox: UnnamedInbox<Item, Post>,
+    inbox: UnnamedInbox<Message, Post>,
     supervisor: SupSpec,
     own: &[u64],
     calls: u64,
@@ -321,7 +322,7 @@ fn play_under_lock<N: WordsNaming + InboxNaming + PlanNaming, R: Wait + Abort>(
     rt: &R,
     alloc: Global,
     words: OpenWords,
-    inbox: UnnamedInbox<Item, Post>,
+    inbox: UnnamedInbox<Message, Post>,
     supervisor: SupSpec,
     own: &[u64],
     steps: &[Step],

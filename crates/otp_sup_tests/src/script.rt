@@ -10,10 +10,10 @@ use crate::fixtures::{Post, child, crash, got, open_parts, same, second};
 use otp_core::ReplyAnswer;
 use otp_inbox::{InboxNaming, UnnamedInbox};
 use otp_reason::{Note, Reason};
-use otp_rules::{Call, CallFault, Item, Reply};
+use otp_rules::{Call, CallFault, Reply};
 use otp_signals::{OpenWords, Signal, WordsNaming};
 use otp_spec::{MAX_READING, SupSpec};
-use otp_sup::{CutAnswer, Letter, PlanNaming, TurnAnswer, TurnFault};
+use otp_sup::{CutAnswer, Letter, Message, PlanNaming, TurnAnswer, TurnFault};
 use std::alloc::Global;
 use std::marker::Brand;
 use std::process::Abort;
@@ -264,7 +264,7 @@ fn play_in<N: WordsNaming + InboxNaming + PlanNaming, R: Wait + Abort>(
     rt: &R,
     alloc: Global,
     words: OpenWords,
-    inbox: UnnamedInbox<Item, Post>,
+    inbox: UnnamedInbox<Message, Post>,
     supervisor: SupSpec,
     own: &[u64],
     steps: &[Step],

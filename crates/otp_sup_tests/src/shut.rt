@@ -1,7 +1,7 @@
 // A port that takes nothing.
 ghost use Rattle.std.specs.Prelude.{◌≡◌, ◌<◌, ◌++◌, ◌∷◌, [], is_some, option_copied, IfErr, OnErr, OnOk};
 ghost use Rattle.otp_rules.specs.declared.event.Item.TheVariants as item;
-ghost use Rattle.otp_bodies.specs.Letters.{Comes};
+ghost use Rattle.otp_bodies.specs.Letters.{Comes, is_end_note};
 ghost use Rattle.otp_bodies.specs.Ports.{launched, launched_all, told};
 
 use otp_reason::Note;
@@ -52,7 +52,8 @@ impl Port<u64> for Shut {
     }
 
     fn send(&mut self, note: Note, end: Option<&SupEnd>) -> Result<(), Note>
-        requires { Comes (item.Note note) (option_copied end) }
+        requires comes { Comes (item.Note note) (option_copied end) }
+        requires whole { is_some (option_copied end) ≡ is_end_note note }
         ensures took { OnOk result (self.new.notes.items ≡ self.old.notes.items ++ told note (option_copied end.entry) ∷ []) }
         ensures kept { OnErr result (self.new.notes.items ≡ self.old.notes.items) }
         ensures refused { OnErr result (self.old.refusals.count < self.new.refusals.count) }

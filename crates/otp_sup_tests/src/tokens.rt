@@ -2,11 +2,10 @@
 use otp_bridge::BoxedSubsystem;
 use otp_inbox::{Inbox, InboxNaming, Sender, Taker};
 use otp_job::{Body, BoxedJob};
-use otp_rules::Item;
 use otp_signals::WordsNaming;
 use otp_sup::{
-    Bodies, Client, Evidence, Letter, MemoryPort, NewProcess, Office, PlanNaming, SubmitFault, Sup,
-    SupParts, Table, ToldEnd, ToldNote, Unlocked,
+    Bodies, Client, Evidence, Letter, MemoryPort, Message, NewProcess, Office, PlanNaming,
+    SubmitFault, Sup, SupParts, Table, ToldEnd, ToldNote, Unlocked,
 };
 
 type Boxed = Body<BoxedJob, BoxedSubsystem>;
@@ -16,9 +15,9 @@ fn is_send<T: Send>(_: &T) {}
 fn is_sync<T: Sync>(_: &T) {}
 
 pub fn inbox_crosses<N: InboxNaming + Send + Sync>(
-    inbox: &Inbox<N, Item, Letter<Boxed>>,
-    sender: &Sender<N, Item, Letter<Boxed>>,
-    taker: &Taker<N, Item, Letter<Boxed>>,
+    inbox: &Inbox<N, Message, Letter<Boxed>>,
+    sender: &Sender<N, Message, Letter<Boxed>>,
+    taker: &Taker<N, Message, Letter<Boxed>>,
 ) {
     is_send(inbox);
     is_sync(inbox);

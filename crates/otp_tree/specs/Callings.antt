@@ -5,7 +5,8 @@ use Rattle.otp_job.specs.declared.body.Body.{Body}
 use Rattle.otp_job.specs.declared.body.Body.TheVariants as body
 use Rattle.otp_rules.specs.declared.call.Call.{Call}
 use Rattle.otp_rules.specs.declared.call.Call.TheVariants as call
-use Rattle.otp_rules.specs.declared.event.Item.{Item}
+use Rattle.otp_bodies.specs.declared.letter.Message.{Message}
+use Rattle.otp_bodies.specs.Messages.{plain_message}
 use Rattle.otp_rules.specs.declared.event.Item.TheVariants as item
 use Rattle.otp_signals.specs.Holdings.{after_draw}
 use Rattle.otp_spec.specs.declared.child.ChildType.{ChildType}
@@ -43,7 +44,7 @@ module _ {J S : Type 0} where
 pub record Called (table number : ℕ) (x : Call) (old new : ClientView) : Type 0 where
   pub drawn : new.owner ≡ after_draw number old.owner
   pub there : table < length old.senders
-  pub sent : (s : SenderState Item) → slice_get old.senders table ≡ Some s → new.senders ≡ slice_set old.senders table (record s { sent = s.sent ++ item.Call number x ∷ [] })
+  pub sent : (s : SenderState Message) → slice_get old.senders table ≡ Some s → new.senders ≡ slice_set old.senders table (record s { sent = s.sent ++ plain_message (item.Call number x) ∷ [] })
   pub root : new.root ≡ old.root
   pub waiter : new.waiter ≡ old.waiter
 

@@ -12,10 +12,10 @@ use otp_core::ReplyAnswer;
 use otp_hand::Client;
 use otp_inbox::{Inbox, InboxNaming};
 use otp_job::Body;
-use otp_rules::{Call, Item, Reply};
+use otp_rules::{Call, Reply};
 use otp_signals::{Words, WordsNaming};
 use otp_spec::ChildType;
-use otp_sup::{Letter, PlanNaming};
+use otp_sup::{Letter, Message, PlanNaming};
 use std::alloc::{AllocError, Global};
 use std::sync::Wait;
 
@@ -119,7 +119,7 @@ fn send_call<N: WordsNaming + InboxNaming, B: Drop, R: Wait>(
     alloc: Global,
     client: &mut Client<N, B>,
     words: &Words<N>,
-    inbox: &Inbox<N, Item, Letter<B>>,
+    inbox: &Inbox<N, Message, Letter<B>>,
     call: Call,
     body: Option<B>,
 ) -> Result<u64, Uncalled<B>>

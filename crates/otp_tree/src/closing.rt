@@ -1,7 +1,7 @@
 //! A tree is closed, once all its hands and its client are back.
 ghost use Rattle.std.specs.Prelude.{◌≡◌, ◌+◌, All, IfErr, IfOk, IfSome, OnSome, length, map, sum_by};
 ghost use Rattle.otp_close.specs.Closes.{AreApart, HasBegun, HasTold, HaveBegun, IsComplete, IsMismatchOnly, IsMissingOnly, IsReportOf, all_senders, kept_in, report_in};
-ghost use Rattle.otp_close.specs.Leavings.{AreAccounted, AreInOrder, HasUnsent, IsLast, IsLastInOrder};
+ghost use Rattle.otp_close.specs.Leavings.{AreAccounted, AreInOrder, HasUnsent, HaveCome, IsLast, IsLastInOrder};
 ghost use Rattle.otp_close.specs.Partings.{schedulers_of};
 ghost use Rattle.otp_close.specs.Totals.{HasAllEnds, HasAllStarts, HasHeard};
 ghost use Rattle.otp_hand.specs.Ended.{held_by};
@@ -79,6 +79,9 @@ impl<N: WordsNaming + InboxNaming + PlanNaming, J: Drop, S: Drop> System<N, J, S
         // The items of each supervisor's history and those left in its inbox are as often as all hands and the client sent
         // them to it; and so it is with those that the client took of the root's, and the last.
         ensures left { IfSome (report_in result) (λ report. AreAccounted (all_senders client hands.items) report.tables.items) }
+        // Each came with the end that it was sent with, and the ends that a history was told are those that came with what it
+        // took.
+        ensures come { IfSome (report_in result) (λ report. HaveCome (all_senders client hands.items) report.tables.items) }
         // Each sender's items stand there in the order in which it sent them.
         ensures order { IfSome (report_in result) (λ report. AreInOrder (all_senders client hands.items) report.tables.items) }
         ensures last_order { IfSome (report_in result) (λ report. IsLastInOrder self.tables (all_senders client hands.items) client.waiter report.last.items) }

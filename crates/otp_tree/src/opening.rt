@@ -13,18 +13,17 @@ use otp_hand::{Client, Hand, Shared};
 use otp_inbox::{InboxNaming, UnnamedInbox};
 use otp_job::{Body, Process, TableNo};
 use otp_open::{Named, SLOTS, SystemFault, TablePlan, make_hands, open_all, open_inboxes, seat};
-use otp_rules::Item;
 use otp_run::{RunNaming, RunQueue};
 use otp_signals::{OpenWords, WordsNaming};
-use otp_sup::{Letter, PlanNaming};
+use otp_sup::{Letter, Message, PlanNaming};
 use std::alloc::{AllocError, Global};
 
 /// The parts of a tree, without a name.
 #[derive(Drop)]
 pub struct Parts<J: Drop, S: Drop> {
     pub(crate) words: OpenWords,
-    pub(crate) inboxes: Vec<UnnamedInbox<Item, Letter<Body<J, S>>>>,
-    pub(crate) outer: UnnamedInbox<Item, Letter<Body<J, S>>>,
+    pub(crate) inboxes: Vec<UnnamedInbox<Message, Letter<Body<J, S>>>>,
+    pub(crate) outer: UnnamedInbox<Message, Letter<Body<J, S>>>,
     pub(crate) queue: RunQueue<J, S>,
     pub(crate) plans: Vec<TablePlan<J, S>>,
 }

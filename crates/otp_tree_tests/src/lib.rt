@@ -1,25 +1,22 @@
 //! Tests of trees of supervisors that run on threads, from outside: opened, served, stopped and closed.
 //!
-//! They stand in a crate of their own, since a crate with tests is proved twice.
+//! They stand in a crate of their own, since a crate with tests is proved twice. One kind of worker, one clock and one leader serve all
+//! of them: what a worker does and what a leader does are told by data, so that their code is proved once.
 #![tactic(auto)]
 
 #[cfg(test)]
-mod calls;
-#[cfg(test)]
 mod closes;
-#[cfg(test)]
-mod drafts;
 #[cfg(test)]
 mod fixtures;
 #[cfg(test)]
-mod long_lives;
+mod gates;
 #[cfg(test)]
-mod meetings;
+mod guests;
 #[cfg(test)]
-mod rests;
+mod lives;
+#[cfg(test)]
+mod script;
+#[cfg(test)]
+mod sessions;
 #[cfg(test)]
 mod tokens;
-#[cfg(test)]
-mod trees;
-#[cfg(test)]
-mod waits;

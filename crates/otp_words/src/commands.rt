@@ -306,6 +306,26 @@ fn run_command<'a>(alloc: Global) -> Result<clap::Command<'a>, AllocError>
     with_arg(command, flag_arg(alloc, "json", OBJECT_HELP))
 }
 
+/// `shutdown FILE`.
+fn shutdown_command<'a>(alloc: Global) -> Result<clap::Command<'a>, AllocError>
+    ensures { IfOk result (λ c. app_of c ≡ file_app (codes "shutdown")) }
+{
+    file_command(
+        alloc,
+        "shutdown",
+        SHUTDOWN_ABOUT,
+        SHUTDOWN_EXAMPLE,
+        FILE_OR_INPUT,
+    )
+}
+
+/// `sim FILE`.
+fn sim_command<'a>(alloc: Global) -> Result<clap::Command<'a>, AllocError>
+    ensures { IfOk result (λ c. app_of c ≡ file_app (codes "sim")) }
+{
+    file_command(alloc, "sim", SIM_ABOUT, SIM_EXAMPLE, FILE_ALONE)
+}
+
 /// The program without its commands.
 fn bare_command<'a>(alloc: Global) -> clap::Command<'a>
     ensures { app_of result ≡ bare_app }
@@ -317,26 +337,56 @@ fn bare_command<'a>(alloc: Global) -> clap::Command<'a>
 }
 
 /// The program's command.
+///
+/// What is made so far is let go by name where a command more can't be made: `CONTRIBUTING.md` says why.
 pub(crate) fn otp_command<'a>(alloc: Global) -> Result<clap::Command<'a>, AllocError>
     ensures { IfOk result (λ c. app_of c ≡ otp_app) }
 {
-    let limits = limits_command(alloc)?;
-    let shutdown = file_command(
-        alloc,
-        "shutdown",
-        SHUTDOWN_ABOUT,
-        SHUTDOWN_EXAMPLE,
-        FILE_OR_INPUT,
-    )?;
-    let sim = file_command(alloc, "sim", SIM_ABOUT, SIM_EXAMPLE, FILE_ALONE)?;
-    let command = with_command(bare_command(alloc), run_command(alloc)?)?;
-    let command = with_command(command, try_command(alloc)?)?;
-    let command = with_command(command, check_command(alloc)?)?;
-    let command = with_command(command, tree_command(alloc)?)?;
+    let run = run_command(alloc)?;
+    let command = with_command(bare_command(alloc), run)?;
+    let Ok(tried) = try_command(alloc) else {
+        drop(command);
+        return Err(AllocError);
+    };
+    let command = with_command(command, tried)?;
+    let Ok(check) = check_command(alloc) else {
+        drop(command);
+        return Err(AllocError);
+    };
+    let command = with_command(command, check)?;
+    let Ok(tree) = tree_command(alloc) else {
+        drop(command);
+        return Err(AllocError);
+    };
+    let command = with_command(command, tree)?;
+    let Ok(limits) = limits_command(alloc) else {
+        drop(command);
+        return Err(AllocError);
+    };
     let command = with_command(command, limits)?;
+    let Ok(shutdown) = shutdown_command(alloc) else {
+        drop(command);
+        return Err(AllocError);
+    };
     let command = with_command(command, shutdown)?;
-    let command = with_command(command, suggest_command(alloc)?)?;
-    let command = with_command(command, diff_command(alloc)?)?;
-    let command = with_command(command, replay_command(alloc)?)?;
+    let Ok(suggest) = suggest_command(alloc) else {
+        drop(command);
+        return Err(AllocError);
+    };
+    let command = with_command(command, suggest)?;
+    let Ok(diff) = diff_command(alloc) else {
+        drop(command);
+        return Err(AllocError);
+    };
+    let command = with_command(command, diff)?;
+    let Ok(replay) = replay_command(alloc) else {
+        drop(command);
+        return Err(AllocError);
+    };
+    let command = with_command(command, replay)?;
+    let Ok(sim) = sim_command(alloc) else {
+        drop(command);
+        return Err(AllocError);
+    };
     with_command(command, sim)
 }

@@ -6,7 +6,7 @@ use Rattle.otp_run.specs.Rule.{ticket_of}
 use Rattle.otp_close.specs.Totals.{HasAllStarts, HasAllEnds, HasHeard}
 use Rattle.otp_hand.specs.Ended.{held_by}
 use Rattle.otp_close.specs.Closes.{AreApart, HasBegun, HasTold, HaveBegun, IsComplete, IsIntact, all_senders, kept_in}
-use Rattle.otp_close.specs.Leavings.{AreAccounted, AreInOrder, HasUnsent, IsLast, IsLastInOrder}
+use Rattle.otp_close.specs.Leavings.{AreAccounted, AreInOrder, HasUnsent, HaveCome, IsLast, IsLastInOrder}
 use Rattle.otp_close.specs.Partings.{schedulers_of}
 use Rattle.otp_close.proofs.Refusals.{refused-report, refused-mismatch, refused-back, refused-missing, reached-by, unreached-missing, reported-missing, reported-back}
 use Rattle.otp_close.proofs.closing.close.Goals as goal
@@ -34,6 +34,12 @@ returns-in-Ok-gather_hands-clause-order g c =
     let e = c.in-Ok-gather_hands.ensures {u = tt} in
     subst (λ o. IfSome o (λ report. AreInOrder (all_senders c.args.client c.args.hands.items) report.tables.items)) (sym c.judge.ensures.report)
     (subst (λ l. AreInOrder (c.args.client.senders ∷ l) c.report_of.result.tables.items) e.senders c.report_of.ensures.order)
+
+pub returns-in-Ok-gather_hands-clause-come : goal.returns-in-Ok-gather_hands-clause-come
+returns-in-Ok-gather_hands-clause-come g c =
+    let e = c.in-Ok-gather_hands.ensures {u = tt} in
+    subst (λ o. IfSome o (λ report. HaveCome (all_senders c.args.client c.args.hands.items) report.tables.items)) (sym c.judge.ensures.report)
+    (subst (λ l. HaveCome (c.args.client.senders ∷ l) c.report_of.result.tables.items) e.senders c.report_of.ensures.come)
 
 pub returns-in-Err-clause-complete : goal.returns-in-Err-clause-complete
 returns-in-Err-clause-complete g c = refused-report c.in-Err.field-0.cause c.in-Err.field-0.shared c.args.hands.items c.args.client c.refuse-in-Err.result (λ _. IsComplete c.args.shared c.args.hands.items c.args.client) c.refuse-in-Err.ensures
@@ -64,6 +70,9 @@ returns-in-Err-clause-apart g c = refused-report c.in-Err.field-0.cause c.in-Err
 
 pub returns-in-Err-clause-order : goal.returns-in-Err-clause-order
 returns-in-Err-clause-order g c = refused-report c.in-Err.field-0.cause c.in-Err.field-0.shared c.args.hands.items c.args.client c.refuse-in-Err.result (λ report. AreInOrder (all_senders c.args.client c.args.hands.items) report.tables.items) c.refuse-in-Err.ensures
+
+pub returns-in-Err-clause-come : goal.returns-in-Err-clause-come
+returns-in-Err-clause-come g c = refused-report c.in-Err.field-0.cause c.in-Err.field-0.shared c.args.hands.items c.args.client c.refuse-in-Err.result (λ report. HaveCome (all_senders c.args.client c.args.hands.items) report.tables.items) c.refuse-in-Err.ensures
 
 pub returns-in-Err-clause-last_order : goal.returns-in-Err-clause-last_order
 returns-in-Err-clause-last_order g c = refused-report c.in-Err.field-0.cause c.in-Err.field-0.shared c.args.hands.items c.args.client c.refuse-in-Err.result (λ report. IsLastInOrder c.args.shared.tables (all_senders c.args.client c.args.hands.items) c.args.client.waiter report.last.items) c.refuse-in-Err.ensures
@@ -117,6 +126,9 @@ returns-in-Err-gather_hands-clause-apart g c = refused-report c.in-Err-gather_ha
 
 pub returns-in-Err-gather_hands-clause-order : goal.returns-in-Err-gather_hands-clause-order
 returns-in-Err-gather_hands-clause-order g c = refused-report c.in-Err-gather_hands.field-0.cause c.lock.result c.in-Err-gather_hands.field-0.hands.items c.args.client c.refuse-in-Err-gather_hands.result (λ report. AreInOrder (all_senders c.args.client c.args.hands.items) report.tables.items) c.refuse-in-Err-gather_hands.ensures
+
+pub returns-in-Err-gather_hands-clause-come : goal.returns-in-Err-gather_hands-clause-come
+returns-in-Err-gather_hands-clause-come g c = refused-report c.in-Err-gather_hands.field-0.cause c.lock.result c.in-Err-gather_hands.field-0.hands.items c.args.client c.refuse-in-Err-gather_hands.result (λ report. HaveCome (all_senders c.args.client c.args.hands.items) report.tables.items) c.refuse-in-Err-gather_hands.ensures
 
 pub returns-in-Err-gather_hands-clause-last_order : goal.returns-in-Err-gather_hands-clause-last_order
 returns-in-Err-gather_hands-clause-last_order g c = refused-report c.in-Err-gather_hands.field-0.cause c.lock.result c.in-Err-gather_hands.field-0.hands.items c.args.client c.refuse-in-Err-gather_hands.result (λ report. IsLastInOrder c.args.shared.tables (all_senders c.args.client c.args.hands.items) c.args.client.waiter report.last.items) c.refuse-in-Err-gather_hands.ensures
@@ -187,6 +199,9 @@ returns-then-not-is_reached-clause-back g c = refused-back refusal.Missing c.arg
 
 pub returns-then-not-is_reached-clause-order : goal.returns-then-not-is_reached-clause-order
 returns-then-not-is_reached-clause-order g c = refused-report refusal.Missing c.args.shared c.args.hands.items c.args.client c.refuse.result (λ report. AreInOrder (all_senders c.args.client c.args.hands.items) report.tables.items) c.refuse.ensures
+
+pub returns-then-not-is_reached-clause-come : goal.returns-then-not-is_reached-clause-come
+returns-then-not-is_reached-clause-come g c = refused-report refusal.Missing c.args.shared c.args.hands.items c.args.client c.refuse.result (λ report. HaveCome (all_senders c.args.client c.args.hands.items) report.tables.items) c.refuse.ensures
 
 pub returns-then-not-is_reached-clause-last_order : goal.returns-then-not-is_reached-clause-last_order
 returns-then-not-is_reached-clause-last_order g c = refused-report refusal.Missing c.args.shared c.args.hands.items c.args.client c.refuse.result (λ report. IsLastInOrder c.args.shared.tables (all_senders c.args.client c.args.hands.items) c.args.client.waiter report.last.items) c.refuse.ensures

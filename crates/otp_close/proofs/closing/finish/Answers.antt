@@ -1,8 +1,10 @@
-use Rattle.std.proofs.Common.{◌+◌, ◌∙◌, ap, sym, subst, arith}
+use Rattle.std.proofs.Common.{◌+◌, ◌∙◌, ap, refl, sym, subst, arith}
 use Rattle.std.specs.Prelude.{IfSome}
 use Rattle.std.proofs.lemmas.List.{length-map}
 use Rattle.otp_run.specs.Rule.{ticket_of}
-use Rattle.otp_close.specs.Closes.{HaveBegun}
+use Rattle.otp_close.specs.Closes.{HaveBegun, IsComplete}
+use Rattle.otp_close.proofs.Refusals.{none_missing}
+use Rattle.otp_close.proofs.Standings.{complete_kept}
 use Rattle.otp_close.proofs.closing.finish.Goals as goal
 
 pub returns-in-Ok-clause-report : goal.returns-in-Ok-clause-report
@@ -28,3 +30,9 @@ returns-in-Ok-clause-report g c =
 pub returns-in-Err-clause-plans : goal.returns-in-Err-clause-plans
 returns-in-Err-clause-plans g c =
     subst (λ o. IfSome o (λ report. HaveBegun g.N.PlanNaming.plan report.tables.items)) (sym c.without_tree.ensures.report) (c.in-Err.ensures {u = tt}).plans
+
+pub returns-in-Err-clause-missing : goal.returns-in-Err-clause-missing
+returns-in-Err-clause-missing g c = λ whole.
+    let hands = c.rouse_all.new.hands.items in
+    let kept : IsComplete c.args.shared hands c.args.client = complete_kept c.args.shared c.args.hands.items hands c.args.client c.args.client c.rouse_all.ensures refl whole in
+    c.without_tree.ensures.missing (none_missing _ c.in-Err.fault kept (c.in-Err.ensures {u = tt}).missing)

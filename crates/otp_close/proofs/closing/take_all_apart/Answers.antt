@@ -1,11 +1,12 @@
-use Rattle.std.proofs.Common.{◌≡◌, drop, length, sym, ap, ◌∙◌, subst, arith}
+use Rattle.std.proofs.Common.{◌≡◌, drop, length, map, sym, ap, ◌∙◌, subst, arith}
 use Rattle.otp_inbox.specs.Lists.{AsOften, EachInOrder}
 use Rattle.otp_run.specs.Lists.{AllAt}
 use Rattle.otp_run.proofs.Places.{push_at}
 use Rattle.otp_report.specs.declared.report.TableReport.{TableReport}
 use Rattle.otp_sup.specs.Plans.{never_opened}
 use Rattle.otp_close.specs.Closes.{HasBegun, HasTold, HaveBegun}
-use Rattle.otp_close.specs.Leavings.{HasUnsent, line_of, lists_at, lists_in}
+use Rattle.otp_bodies.specs.Messages.{items_in}
+use Rattle.otp_close.specs.Leavings.{HasCome, HasUnsent, line_of, lists_at, lists_in}
 use Rattle.otp_hand.specs.Sendings.{sent_at, sent_in}
 use Rattle.otp_close.proofs.Apart.{all-more, length-more, seen-more, apart-more}
 use Rattle.otp_close.proofs.Settlings.{all_ready, more_next, next_at, next_behind, room_ready, sender_ready}
@@ -83,8 +84,9 @@ loop-sup-preserved g c =
       seen = seen-more _ _ _ old new one apart.kept apart.gained i.seen;
       unsent = all-more HasUnsent _ _ _ one i.unsent apart.unsent;
       starts = apart_starts c.args.senders.items _ _ _ _ _ _ one sender apart.starts i.starts;
-      done = subst (λ l. AllAt (λ k t. AsOften (sent_at k c.args.senders.items) (line_of t)) l) (sym one) (push_at (λ k t. AsOften (sent_at k c.args.senders.items) (line_of t)) _ _ i.done (subst (λ o. AsOften (sent_in o) (line_of c.take_apart.result)) (sym (next_at c.args.senders.items n _ _ _ i.senders sender)) apart.left));
-      order = subst (λ l. AllAt (λ k t. EachInOrder (lists_at k c.args.senders.items) (line_of t)) l) (sym one) (push_at (λ k t. EachInOrder (lists_at k c.args.senders.items) (line_of t)) _ _ i.order (subst (λ o. EachInOrder (lists_in o) (line_of c.take_apart.result)) (sym (next_at c.args.senders.items n _ _ _ i.senders sender)) apart.order));
+      done = subst (λ l. AllAt (λ k t. AsOften (items_in (sent_at k c.args.senders.items)) (line_of t)) l) (sym one) (push_at (λ k t. AsOften (items_in (sent_at k c.args.senders.items)) (line_of t)) _ _ i.done (subst (λ o. AsOften (items_in (sent_in o)) (line_of c.take_apart.result)) (sym (next_at c.args.senders.items n _ _ _ i.senders sender)) apart.left));
+      order = subst (λ l. AllAt (λ k t. EachInOrder (map items_in (lists_at k c.args.senders.items)) (line_of t)) l) (sym one) (push_at (λ k t. EachInOrder (map items_in (lists_at k c.args.senders.items)) (line_of t)) _ _ i.order (subst (λ o. EachInOrder (map items_in (lists_in o)) (line_of c.take_apart.result)) (sym (next_at c.args.senders.items n _ _ _ i.senders sender)) apart.order));
+      come = subst (λ l. AllAt (λ k t. HasCome (sent_at k c.args.senders.items) t) l) (sym one) (push_at (λ k t. HasCome (sent_at k c.args.senders.items) t) _ _ i.come (subst (λ o. HasCome (sent_in o) c.take_apart.result) (sym (next_at c.args.senders.items n _ _ _ i.senders sender)) apart.come));
       sups = ap (λ n. drop n c.args.sups.items) long ∙ next_behind c.args.sups.items n _ _ _ i.sups next;
       senders = ap (λ n. drop n c.args.senders.items) long ∙ next_behind c.args.senders.items n _ _ _ i.senders sender;
       rooms = ap (λ n. drop n c.args.rooms.items) long ∙ next_behind c.args.rooms.items n _ _ _ i.rooms room_of;

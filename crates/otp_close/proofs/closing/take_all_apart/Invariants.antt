@@ -1,11 +1,12 @@
-use Rattle.std.proofs.Common.{◌≡◌, ◌+◌, ◌≤◌, drop, length}
+use Rattle.std.proofs.Common.{◌≡◌, ◌+◌, ◌≤◌, drop, length, map}
 use Rattle.std.specs.Prelude.{All, sum_by, vec_capacity, vec_len}
 use Rattle.otp_inbox.specs.Lists.{AsOften, EachInOrder}
 use Rattle.otp_run.specs.Lists.{AllAt}
 use Rattle.otp_hand.specs.Begun.{starts_credited}
 use Rattle.otp_close.specs.Totals.{starts_of, unsent_of}
 use Rattle.otp_close.specs.Closes.{AreApart, HasBegun, HasTold, HaveBegun}
-use Rattle.otp_close.specs.Leavings.{HasUnsent, line_of, lists_at}
+use Rattle.otp_bodies.specs.Messages.{items_in}
+use Rattle.otp_close.specs.Leavings.{HasCome, HasUnsent, line_of, lists_at}
 use Rattle.otp_hand.specs.Sendings.{sent_at}
 use Rattle.otp_close.proofs.Apart.{Seen}
 use Rattle.otp_close.proofs.closing.take_all_apart.Given as goal
@@ -25,8 +26,9 @@ invariant-loop-sup g l =
       seen : All (Seen l.owner.drawn) l.tables.items;
       unsent : All HasUnsent l.tables.items;
       starts : starts_credited l.fn.senders.items + sum_by unsent_of l.tables.items ≡ sum_by starts_of l.tables.items + starts_credited l.senders.rest.items;
-      done : AllAt (λ k t. AsOften (sent_at k l.fn.senders.items) (line_of t)) l.tables.items;
-      order : AllAt (λ k t. EachInOrder (lists_at k l.fn.senders.items) (line_of t)) l.tables.items;
+      done : AllAt (λ k t. AsOften (items_in (sent_at k l.fn.senders.items)) (line_of t)) l.tables.items;
+      order : AllAt (λ k t. EachInOrder (map items_in (lists_at k l.fn.senders.items)) (line_of t)) l.tables.items;
+      come : AllAt (λ k t. HasCome (sent_at k l.fn.senders.items) t) l.tables.items;
       sups : drop (length l.tables.items) l.fn.sups.items ≡ l.sup-iterator.rest.items;
       senders : drop (length l.tables.items) l.fn.senders.items ≡ l.senders.rest.items;
       rooms : drop (length l.tables.items) l.fn.rooms.items ≡ l.rooms.rest.items;

@@ -1,4 +1,4 @@
-use Rattle.std.proofs.Common.{ℕ, ◌++◌, List, length, length-append, sym, ap, arith, ◌∙◌, subst}
+use Rattle.std.proofs.Common.{ℕ, ◌++◌, List, length, map, length-append, sym, ap, arith, ◌∙◌, subst}
 use Rattle.std.proofs.lemmas.List.Elements.{filter_map-append}
 use Rattle.otp_inbox.specs.declared.rule.Shares.{Shares}
 use Rattle.otp_inbox.specs.Lists.{EachInOrder}
@@ -10,6 +10,8 @@ use Rattle.otp_rules.specs.Needs.{numbers_of}
 use Rattle.otp_signals.specs.Lists.{AllIn, NoneInBoth}
 use Rattle.otp_core.specs.View.{View, stored_of}
 use Rattle.otp_bodies.specs.Ends.{AreTold}
+use Rattle.otp_bodies.specs.Messages.{items_in}
+use Rattle.otp_sup.specs.Told.{ends_told_in}
 use Rattle.otp_office.specs.Events.{items_of}
 use Rattle.otp_office.specs.Offices.{sent_of}
 use Rattle.otp_office.specs.Orders.{starts_in}
@@ -19,7 +21,7 @@ use Rattle.otp_close.proofs.closing.take_apart.Goals as goal
 pub returns-clause-left : goal.returns-clause-left
 returns-clause-left g c =
     let parts = c.into_parts-inbox.ensures in
-    let taken = ap (λ t. t.taken) parts.taker ∙ c.keeps_rules.ensures.taken ∙ ap (λ core. items_of core.history) (sym parts.core) in
+    let taken = ap (λ t. items_in t.taken) parts.taker ∙ c.keeps_rules.ensures.taken ∙ ap (λ core. items_of core.history) (sym parts.core) in
     λ weight. c.settle-left.ensures.left weight ∙ ap (λ l. sum_by weight (l ++ c.settle-left.result.items)) taken
 
 pub returns-clause-apart : goal.returns-clause-apart
@@ -60,5 +62,18 @@ returns-clause-plan g c =
 pub returns-clause-order : goal.returns-clause-order
 returns-clause-order g c =
     let parts = c.into_parts-inbox.ensures in
-    let taken = ap (λ t. t.taken) parts.taker ∙ c.keeps_rules.ensures.taken ∙ ap (λ core. items_of core.history) (sym parts.core) in
-    subst (λ l. EachInOrder (sent_lists c.args.sender) (l ++ c.settle-left.result.items)) taken c.settle-left.ensures.order
+    let taken = ap (λ t. items_in t.taken) parts.taker ∙ c.keeps_rules.ensures.taken ∙ ap (λ core. items_of core.history) (sym parts.core) in
+    subst (λ l. EachInOrder (map items_in (sent_lists c.args.sender)) (l ++ c.settle-left.result.items)) taken c.settle-left.ensures.order
+
+pub returns-clause-come : goal.returns-clause-come
+returns-clause-come g c =
+    let parts = c.into_parts-inbox.ensures in
+    let rules = c.keeps_rules.ensures in
+    record {
+      taken = c.into_parts-inbox.result.taker.taken;
+      items = ap (λ t. items_in t.taken) parts.taker ∙ rules.taken ∙ ap (λ core. items_of core.history) (sym parts.core);
+      told = parts.ends ∙ rules.ends
+          ∙ ap (λ core. ends_told_in core c.args.sup.table.taker.taken) (sym parts.core)
+          ∙ ap (λ t. ends_told_in c.into_parts-inbox.result.core t.taken) (sym parts.taker);
+      left = c.settle-left.ensures.messages;
+    }

@@ -1,9 +1,12 @@
 use Rattle.std.proofs.Common.{◌≡◌, suc, ◌+◌, ◌∷◌, [], Some, add-zero, ap, arith, length, length-append, map, refl, sym, ◌∙◌, subst}
 use Rattle.std.specs.Prelude.{IfSome, slice_get}
+use Rattle.otp_hand.specs.Hands.{senders_of}
+use Rattle.otp_hand.specs.Sendings.{parts_at, parts_to}
 use Rattle.otp_run.specs.Lists.{AllAt}
 use Rattle.otp_run.proofs.Places.{push_at}
 use Rattle.otp_open.specs.Opens.{IsOpened, opened_for}
 use Rattle.otp_open.specs.Passes.{IsFresh, renewed}
+use Rattle.otp_open.proofs.Splits.{hand_more}
 use Rattle.otp_open.proofs.hands.make_hands.Goals as goal
 
 pub loop-scheduler-init : goal.loop-scheduler-init
@@ -22,6 +25,9 @@ loop-scheduler-init g c =
       many = omega (arith, hands, rest, many);
       left = omega (arith, gives.1, rest, ok);
       opened = subst (AllAt (λ k h. h.scheduler ≡ opened_for root count k)) (sym c.new-hands.ensures.items) (λ k. tt);
+      split = λ k. ap (λ l. parts_at k c.args.senders.now + parts_to k (map senders_of l)) c.new-hands.ensures.items ∙ add-zero _;
+      reach = subst (AllAt (λ _ h. length (senders_of h) ≡ length c.args.senders.now)) (sym c.new-hands.ensures.items) (λ k. tt);
+      len = refl;
       same = refl;
       starts = refl;
       ends = refl;
@@ -51,6 +57,13 @@ loop-scheduler-preserved g c =
       many = omega (arith, longer, shorter, many);
       left = omega (arith, fewer, shorter, left);
       opened = subst (AllAt (λ k h. h.scheduler ≡ opened_for root count k)) (sym kept) (push_at (λ k h. h.scheduler ≡ opened_for root count k) _ _ i.opened (made.scheduler ∙ first.is ∙ ap (opened_for root count) (add-zero _)));
+      split = λ k.
+          let more = ap (λ l. parts_to k (map senders_of l)) kept ∙ hand_more k c.loop-scheduler.hands.items c.in_ok-hand.hand in
+          let off = made.split k in
+          let so_far = i.split k in
+          omega (arith, more, off, so_far);
+      reach = subst (AllAt (λ _ h. length (senders_of h) ≡ length c.args.senders.now)) (sym kept) (push_at (λ _ h. length (senders_of h) ≡ length c.args.senders.now) _ _ i.reach (made.reach ∙ i.len));
+      len = made.len ∙ i.len;
       same = made.same ∙ i.same;
       starts = made.starts ∙ i.starts;
       ends = made.ends ∙ i.ends;
@@ -75,6 +88,9 @@ returns g c =
       hands = record { passes = c.args.passes.now.items; many = refl; fresh = c.loop-scheduler.invariant.fresh };
       opened = record { many = omega (arith, none, left, many); each = c.loop-scheduler.invariant.opened };
       memory = tt;
+      split = c.loop-scheduler.invariant.split;
+      reach = c.loop-scheduler.invariant.reach;
+      len = c.loop-scheduler.invariant.len;
       same = c.loop-scheduler.invariant.same;
       starts = c.loop-scheduler.invariant.starts;
       ends = c.loop-scheduler.invariant.ends;

@@ -1,8 +1,10 @@
-use Rattle.std.proofs.Common.{◌≡◌, ◌+◌, length}
+use Rattle.std.proofs.Common.{◌≡◌, ℕ, ◌+◌, length, map}
 use Rattle.otp_run.specs.Lists.{AllAt}
 use Rattle.otp_open.specs.Opens.{IsOpened, opened_for}
 use Rattle.otp_hand.specs.Begun.{starts_credited}
 use Rattle.otp_hand.specs.Ended.{ends_sent}
+use Rattle.otp_hand.specs.Hands.{senders_of}
+use Rattle.otp_hand.specs.Sendings.{parts_at, parts_to}
 use Rattle.otp_open.specs.Passes.{IsFresh}
 use Rattle.otp_open.proofs.hands.make_hands.Given as goal
 
@@ -13,6 +15,9 @@ invariant-loop-scheduler g l =
       many : length l.hands.items + length l.scheduler-iterator.rest.items ≡ length l.fn.schedulers.items;
       left : l.scheduler-iterator.rest.len ≡ length l.scheduler-iterator.rest.items;
       opened : AllAt (λ k h. h.scheduler ≡ opened_for l.fn.root.ticket (length l.fn.schedulers.items) k) l.hands.items;
+      split : (k : ℕ) → parts_at k l.senders + parts_to k (map senders_of l.hands.items) ≡ parts_at k l.initial.senders;
+      reach : AllAt (λ _ h. length (senders_of h) ≡ length l.initial.senders) l.hands.items;
+      len : length l.senders ≡ length l.initial.senders;
       same : l.passes.items ≡ l.initial.passes.items;
       starts : starts_credited l.senders ≡ starts_credited l.initial.senders;
       ends : ends_sent l.senders ≡ ends_sent l.initial.senders;

@@ -4,7 +4,9 @@ use Rattle.otp_run.proofs.Places.{push_at}
 use Rattle.otp_hand.specs.Begun.{start_share, starts_credited}
 use Rattle.otp_hand.specs.Ended.{end_share, ends_sent}
 use Rattle.otp_hand.specs.Seats.{Seated}
+use Rattle.otp_hand.specs.Standings.{AreSplit, IsSplitAt}
 use Rattle.otp_hand.proofs.Begun.{starts_push}
+use Rattle.otp_open.proofs.Splits.{split_more}
 use Rattle.otp_open.proofs.hands.split_senders.Goals as goal
 
 pub loop-place-preserved : goal.loop-place-preserved
@@ -28,7 +30,9 @@ loop-place-preserved g c =
     let so_far = i.3 in
     let more_ends = ap ends_sent items ∙ sum_by_push end_share list x in
     let none_sent = ap end_share new in
-    let sent_so_far = i.5 in (
+    let sent_so_far = i.5 in
+    let off = (c.in-Some.ensures {u = tt}).split in
+    let split = subst (λ n. IsSplitAt (length list) n c.loop-place.senders c.split_at.new.self) (sym parts) (subst (λ n. IsSplitAt n c.args.parts c.loop-place.senders c.split_at.new.self) (sym inbox ∙ seat) off) in (
       subst Seated (sym items) (push_at (λ k s. (s.inbox ≡ k) × (0 < s.parts)) list x i.0 (seat, has)),
       omega (arith, longer, long),
       c.split_at.ensures.len ∙ i.2,
@@ -36,4 +40,5 @@ loop-place-preserved g c =
       c.split_at.ensures.starts ∙ i.4,
       omega (arith, more_ends, none_sent, sent_so_far),
       c.split_at.ensures.ends ∙ i.6,
+      subst (λ l. AreSplit l c.args.senders.now c.split_at.new.self) (sym items) (split_more list x c.args.senders.now c.loop-place.senders c.split_at.new.self i.7 split),
     )

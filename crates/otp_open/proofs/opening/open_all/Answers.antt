@@ -1,7 +1,7 @@
 use Rattle.std.proofs.Common.{◌≡◌, suc, ◌+◌, Some, length, arith, ap, sym, ◌∙◌, subst, add-zero, length-append}
 use Rattle.std.specs.Prelude.{slice_get}
 use Rattle.otp_inbox.specs.Tokens.{first_sender}
-use Rattle.otp_rules.specs.declared.event.Item.{Item}
+use Rattle.otp_bodies.specs.declared.letter.Message.{Message}
 use Rattle.otp_run.specs.Lists.{AllAt}
 use Rattle.otp_run.proofs.Places.{push_at}
 use Rattle.otp_open.specs.Plans.{HasBodies}
@@ -54,7 +54,7 @@ loop-number-preserved g c =
       many_passes = ap length kept.passes ∙ length-append _ _ ∙ ap (λ m. m + 1) i.many_passes;
       many_sups = ap length kept.sups ∙ length-append _ _ ∙ ap (λ m. m + 1) i.many_sups;
       placed = subst (AllAt (λ k sup. sup.inbox ≡ k)) (sym kept.sups) (push_at (λ k sup. sup.inbox ≡ k) _ _ i.placed (one.sup ∙ sym i.many_sups));
-      seated = subst (AllAt (λ k s. s ≡ first_sender {P = Item} k)) (sym kept.senders) (push_at (λ k s. s ≡ first_sender k) _ _ i.seated (one.sender ∙ ap first_sender (sym i.many)));
+      seated = subst (AllAt (λ k s. s ≡ first_sender {P = Message} k)) (sym kept.senders) (push_at (λ k s. s ≡ first_sender k) _ _ i.seated (one.sender ∙ ap first_sender (sym i.many)));
       root = one.lower 0 (omega arith) i.root;
       slots = λ slot le below. one.upper slot le (i.slots slot (omega (arith, le)) below);
       unposted = one.posts;

@@ -1,6 +1,6 @@
 use Rattle.std.proofs.Common.{ap, arith, sym, ◌∙◌}
 use Rattle.otp_inbox.specs.Tokens.{SenderState, TakerState}
-use Rattle.otp_rules.specs.declared.event.Item.{Item}
+use Rattle.otp_bodies.specs.declared.letter.Message.{Message}
 use Rattle.otp_sup.proofs.Credits.{credited_again, credited_only, started_again, started_one, taken_again, taken_only}
 use Rattle.otp_office.proofs.More.{flushes_last, flushes_less, flushes_more, last_sent, more_again}
 use Rattle.otp_office.proofs.Sent.{sent_again, sent_none}
@@ -12,9 +12,9 @@ loop-table-init g c =
       more = flushes_more c.flush_one-flushed.result _ _ _ _ _ _ c.flush_one-flushed.ensures.flushed;
       orders = sent_again c.flush_one-flushed.result _ _ _ _ _ _ _ _ (sent_none _ _) c.flush_one-flushed.ensures.flushed;
       taker = taken_only _ _ _ c.flush_one-flushed.ensures.taker;
-      given = started_one _ _ _ _ _ (ap (λ (t : TakerState Item). t.given) c.flush_one-flushed.ensures.taker) c.flush_one-flushed.ensures.put;
+      given = started_one _ _ _ _ _ (ap (λ (t : TakerState Message). t.given) c.flush_one-flushed.ensures.taker) c.flush_one-flushed.ensures.put;
       sender = credited_only _ _ _ c.flush_one-flushed.ensures.sender;
-      credited = started_one _ _ _ _ _ (ap (λ (s : SenderState Item). s.shares) c.flush_one-flushed.ensures.sender) c.flush_one-flushed.ensures.put;
+      credited = started_one _ _ _ _ _ (ap (λ (s : SenderState Message). s.shares) c.flush_one-flushed.ensures.sender) c.flush_one-flushed.ensures.put;
       beside = c.flush_one-flushed.ensures.beside;
       counts = c.flush_one-flushed.ensures.counts;
       ends = c.flush_one-flushed.ensures.ends;
@@ -29,9 +29,9 @@ loop-table-preserved g c =
       more = more_again _ _ _ _ _ _ c.loop-table.invariant.more (flushes_more c.flush_one-flushed-in-loop-table.result _ _ _ _ _ _ c.flush_one-flushed-in-loop-table.ensures.flushed);
       orders = sent_again c.flush_one-flushed-in-loop-table.result _ _ _ _ _ _ _ _ c.loop-table.invariant.orders c.flush_one-flushed-in-loop-table.ensures.flushed;
       taker = taken_again c.args.table.now.taker c.loop-table.table.taker c.flush_one-flushed-in-loop-table.new.self.taker c.loop-table.invariant.taker (taken_only _ _ _ c.flush_one-flushed-in-loop-table.ensures.taker);
-      given = started_again _ _ _ _ _ _ c.loop-table.invariant.given (started_one _ _ _ _ _ (ap (λ (t : TakerState Item). t.given) c.flush_one-flushed-in-loop-table.ensures.taker) c.flush_one-flushed-in-loop-table.ensures.put);
+      given = started_again _ _ _ _ _ _ c.loop-table.invariant.given (started_one _ _ _ _ _ (ap (λ (t : TakerState Message). t.given) c.flush_one-flushed-in-loop-table.ensures.taker) c.flush_one-flushed-in-loop-table.ensures.put);
       sender = credited_again c.args.sender.now c.loop-table.sender c.flush_one-flushed-in-loop-table.new.sender c.loop-table.invariant.sender (credited_only _ _ _ c.flush_one-flushed-in-loop-table.ensures.sender);
-      credited = started_again _ _ _ _ _ _ c.loop-table.invariant.credited (started_one _ _ _ _ _ (ap (λ (s : SenderState Item). s.shares) c.flush_one-flushed-in-loop-table.ensures.sender) c.flush_one-flushed-in-loop-table.ensures.put);
+      credited = started_again _ _ _ _ _ _ c.loop-table.invariant.credited (started_one _ _ _ _ _ (ap (λ (s : SenderState Message). s.shares) c.flush_one-flushed-in-loop-table.ensures.sender) c.flush_one-flushed-in-loop-table.ensures.put);
       beside = c.flush_one-flushed-in-loop-table.ensures.beside ∙ c.loop-table.invariant.beside;
       counts = c.flush_one-flushed-in-loop-table.ensures.counts ∙ c.loop-table.invariant.counts;
       ends = c.flush_one-flushed-in-loop-table.ensures.ends ∙ c.loop-table.invariant.ends;

@@ -5,7 +5,7 @@ use Rattle.otp_rules.specs.declared.event.Effect.{Effect}
 use Rattle.otp_office.specs.Offices.{IsOffice, OfficeView}
 use Rattle.otp_office.specs.Orders.{orders_in}
 use Rattle.otp_office.specs.Flushes.{first_end}
-use Rattle.otp_office.proofs.Evident.{first_comes}
+use Rattle.otp_office.proofs.Evident.{first_comes, first_whole}
 use Rattle.otp_office.proofs.office.Office.first_end.Goals as goal
 
 pub returns-clause-end : goal.returns-clause-end
@@ -16,3 +16,6 @@ returns-clause-end g c =
 
 pub returns-clause-comes : goal.returns-clause-comes
 returns-clause-comes g c = λ n f. first_comes c.end_evidence.ensures.from_any c.args.self.now (subst IsOffice c.self.view_is c.self.invariant) n f
+
+pub returns-clause-whole : goal.returns-clause-whole
+returns-clause-whole g c = λ n f. first_whole c.args.self.now n f

@@ -16,6 +16,7 @@ returns g c =
       each_body = one_body_each (state_of c.self.inside.office.core) (starts_in c.self.inside.office.outbox) c.self.inside.bodies.kept c.self.invariant.bodies;
       counts = c.self.invariant.counts;
       told = c.self.invariant.told;
+      ends = c.self.invariant.ends;
       starts = c.self.invariant.starts;
       turns = c.self.invariant.turns;
     })

@@ -19,6 +19,7 @@ invariant_of-self g c =
       bodies = subst Has (sym c.take_of_nobody.ensures.kept) (stray_bodies (state_of c.self.inside.office.core) (starts_in c.self.inside.office.outbox) c.self.inside.bodies.kept c.self.invariant.bodies);
       counts = c.self.invariant.counts;
       told = c.self.invariant.told;
+      ends = c.self.invariant.ends;
       starts = c.self.invariant.starts;
       turns = c.self.invariant.turns;
     }

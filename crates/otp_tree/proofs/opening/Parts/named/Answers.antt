@@ -1,6 +1,8 @@
 use Rattle.std.proofs.Common.{◌≡◌, ap, arith, length, sym, subst, ◌∙◌}
 use Rattle.std.specs.Prelude.{Contains, IfSome}
 use Rattle.otp_signals.specs.declared.view.Holding.{Holding}
+use Rattle.otp_inbox.specs.Tokens.{TakerState}
+use Rattle.otp_bodies.specs.declared.letter.Message.{Message}
 use Rattle.otp_open.proofs.Fresh.{all_idle}
 use Rattle.otp_open.specs.Opens.{AreOpened, IsIdle, root_ticket}
 use Rattle.otp_run.specs.Lists.{AllAt}
@@ -16,6 +18,15 @@ pub make_hands-requires : goal.make_hands-requires
 make_hands-requires g c =
     let opened = c.in_ok-schedulers.ensures {u = tt} in
     subst (λ n. AllAt (IsIdle n) c.in_ok-schedulers.schedulers.items) (sym opened.count) (all_idle _ _ opened.opened)
+
+pub first-client-requires-clause-slot : goal.first-client-requires-clause-slot
+first-client-requires-clause-slot g c = subst (λ (o : Holding). Contains o.slots 0) (sym (c.in-Ok.ensures {u = tt}).drawn) (c.in_ok-sups.ensures {u = tt}).root
+
+pub first-client-requires-clause-given : goal.first-client-requires-clause-given
+first-client-requires-clause-given g c = ap (λ (t : TakerState Message). t.given) c.named-outer.ensures.taker
+
+pub first-client-requires-clause-taken : goal.first-client-requires-clause-taken
+first-client-requires-clause-taken g c = ap (λ (t : TakerState Message). t.taken) c.named-outer.ensures.taker
 
 pub returns-clause-tables : goal.returns-clause-tables
 returns-clause-tables g c = (c.in_ok-sups.ensures {u = tt}).many

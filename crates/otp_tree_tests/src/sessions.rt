@@ -1,0 +1,283 @@
+//! Trees whose hands one thread serves, in a session: opened, counted, closed without one of the hands and then with all.
+
+use crate::fixtures::{MEMORY, got, same};
+use crate::gates::Still;
+use crate::guests::{Common, Worker, common};
+use crate::lives::{Closed, Grove, check_pair, plans_of};
+use otp_bridge::BoxedSubsystem;
+use otp_inbox::InboxNaming;
+use otp_job::Body;
+use otp_reason::{Note, Reason};
+use otp_rules::CountsNow;
+use otp_run::RunNaming;
+use otp_signals::WordsNaming;
+use otp_tree::{
+    Client, CloseFault, Hand, PlanNaming, Session, System, SystemFault, Unclosed, with_system,
+};
+use std::alloc::Global;
+use std::process::Abort;
+use std::sync::Wait;
+
+type Tree<N> = System<N, Worker, BoxedSubsystem>;
+
+type Serving<N> = Hand<N, Worker, BoxedSubsystem>;
+
+type Caller<N> = Client<N, Body<Worker, BoxedSubsystem>>;
+
+// How many starts of workers the tree has: three, of whom one crashes.
+const STARTS: u64 = 4;
+
+// Serves all hands until the root is up and all starts were made, and stops the tree then. How the root ended.
+fn serve_alone<N: WordsNaming + InboxNaming + PlanNaming + RunNaming, R: Wait + Abort>(
+    rt: &R,
+    system: &Tree<N>,
+    hands: &mut Vec<Serving<N>>,
+    client: &mut Caller<N>,
+    shared: &Common,
+) -> Option<Note> {
+    let mut is_up = false;
+    for _ in 0..10_000 {
+        match system.root_note(rt, client) {
+            Some(Note::Up(1)) => is_up = true,
+            Some(note) => return Some(note),
+            None => {}
+        }
+        if is_up && shared.starts() >= STARTS {
+            assert!(rt; system.stop(client));
+        }
+        for hand in hands.iter_mut() {
+            system.serve(rt, hand, &mut Still, 99);
+            system.turn(rt, hand, 0);
+        }
+    }
+    None
+}
+
+// The tree was up, each worker started once and the one that crashed once more, and it ended as it was asked to.
+fn lives_alone<N: WordsNaming + InboxNaming + PlanNaming + RunNaming, R: Wait + Abort>(
+    rt: &R,
+    system: &Tree<N>,
+    hands: &mut Vec<Serving<N>>,
+    client: &mut Caller<N>,
+    shared: &Common,
+) {
+    assert!(rt; system.tables() == 2 && hands.len() == 2 && client.is_first());
+    let end = serve_alone(rt, system, hands, client, shared);
+    same(rt, "its end", end, Some(Note::Exit(1, Reason::Shutdown)));
+    same(rt, "the starts of workers", shared.starts(), STARTS);
+}
+
+// Ends the tree, closes it without one of its hands, and then with all of them.
+#[derive(Drop)]
+struct Closing {
+    shared: Common,
+    alloc: Global,
+}
+
+impl<R: Wait + Abort> Session<R, Worker, BoxedSubsystem> for Closing {
+    type Output = Closed;
+
+    fn run<N: WordsNaming + InboxNaming + PlanNaming + RunNaming + Send + Sync>(
+        self,
+        rt: &R,
+        system: System<N, Worker, BoxedSubsystem>,
+        hands: Vec<Hand<N, Worker, BoxedSubsystem>>,
+        client: Client<N, Body<Worker, BoxedSubsystem>>,
+    ) -> Closed {
+        let (mut hands, mut client) = (hands, client);
+        let Closing { shared, alloc } = self;
+        lives_alone(rt, &system, &mut hands, &mut client, &shared);
+        drop(shared);
+        let away = last_of(rt, &mut hands);
+        let mut back = close_without(rt, alloc, system, hands, client);
+        got(rt, MEMORY, back.hands.push(away));
+        close_with_all(rt, alloc, back)
+    }
+}
+
+// The last of these hands.
+fn last_of<N: WordsNaming + InboxNaming + PlanNaming + RunNaming, R: Abort>(
+    rt: &R,
+    hands: &mut Vec<Serving<N>>,
+) -> Serving<N> {
+    match hands.pop() {
+        Some(hand) => hand,
+        None => panic!(rt; "a hand"),
+    }
+}
+
+// Closes the tree without one of its two hands: all that is there comes back.
+fn close_without<N: WordsNaming + InboxNaming + PlanNaming + RunNaming, R: Wait + Abort>(
+    rt: &R,
+    alloc: Global,
+    system: Tree<N>,
+    hands: Vec<Serving<N>>,
+    client: Caller<N>,
+) -> Unclosed<N, Worker, BoxedSubsystem> {
+    let back = match system.close(rt, alloc, hands, client) {
+        Err(CloseFault::Missing(back) | CloseFault::OutOfMemory(back)) => back,
+        _ => panic!(rt; "a hand is away"),
+    };
+    assert!(rt; back.system.tables() == 2 && back.hands.len() == 1 && back.client.is_first());
+    back
+}
+
+// Closes the tree. Under a refused growth all comes back, and the tree can be closed again.
+fn close_with_all<N: WordsNaming + InboxNaming + PlanNaming + RunNaming, R: Wait + Abort>(
+    rt: &R,
+    alloc: Global,
+    back: Unclosed<N, Worker, BoxedSubsystem>,
+) -> Closed {
+    let back = match close_once(rt, alloc, back) {
+        Ok(report) => return report,
+        Err(CloseFault::OutOfMemory(back)) => back,
+        Err(_) => panic!(rt; "all hands are here"),
+    };
+    got(rt, MEMORY, close_once(rt, alloc, back))
+}
+
+// Closes the tree that came back.
+fn close_once<N: WordsNaming + InboxNaming + PlanNaming + RunNaming, R: Wait>(
+    rt: &R,
+    alloc: Global,
+    back: Unclosed<N, Worker, BoxedSubsystem>,
+) -> Result<Closed, CloseFault<Worker, BoxedSubsystem, Unclosed<N, Worker, BoxedSubsystem>>> {
+    let Unclosed {
+        system,
+        hands,
+        client,
+    } = back;
+    system.close(rt, alloc, hands, client)
+}
+
+// The whole life of the tree, closed first without one of its hands. False where memory was refused at its opening.
+fn close_whole<R: Wait + Abort>(rt: &R, alloc: Global) -> bool {
+    let shared = common(rt, alloc);
+    let plans = plans_of(rt, alloc, Grove::Pair, &shared);
+    assert!(rt; plans.len() <= 64);
+    match with_system(rt, alloc, plans, 2, Closing { shared, alloc }) {
+        Ok(report) => {
+            check_pair(rt, &report);
+            drop(report);
+            true
+        }
+        Err(SystemFault::OutOfMemory) => false,
+        Err(_) => panic!(rt; "the tree was refused"),
+    }
+}
+
+// Of `rt try --test --fail-alloc N` the least N refuse what the test makes for itself, which it then tells. Of the next each
+// refuses one growth of the opening, of a turn or of the close: the tree is opened again, or nothing is lost, and all comes to
+// the same end.
+#[test]
+fn a_tree_is_closed_with_all_its_hands(rt: HostRuntime) {
+    if !close_whole(&rt, rt.alloc()) {
+        assert!(rt; close_whole(&rt, rt.alloc()));
+    }
+}
+
+// What a supervisor counts that has so many children, of whom so many have a process.
+fn counted(specs: u64, active: u64, supervisors: u64, workers: u64) -> Option<CountsNow> {
+    Some(CountsNow {
+        specs,
+        active,
+        supervisors,
+        workers,
+    })
+}
+
+// Whether a reading of the nested supervisor may come after one that had so many children: it is of two workers, of whom at
+// most two run, or of none before it was opened; and never of none again.
+fn may_follow(last: u64, now: CountsNow) -> bool {
+    let is_one = now.specs == now.workers && now.specs <= 2 && now.active <= now.specs;
+    is_one && last <= now.specs
+}
+
+// A hand reads these counts of a supervisor.
+fn reads<N: WordsNaming + InboxNaming + PlanNaming + RunNaming, R: Abort>(
+    rt: &R,
+    system: &Tree<N>,
+    hand: &mut Serving<N>,
+    table: usize,
+    wanted: Option<CountsNow>,
+) {
+    let told = (table, system.counts(hand, table));
+    same(rt, "the counts of a supervisor", told, (table, wanted));
+}
+
+// Serves by one hand, while another reads after each turn; and reads once all is up and `c` was restarted.
+fn count_along<N: WordsNaming + InboxNaming + PlanNaming + RunNaming, R: Wait + Abort>(
+    rt: &R,
+    system: &Tree<N>,
+    serving: &mut Serving<N>,
+    reading: &mut Serving<N>,
+) {
+    reads(rt, system, reading, 0, counted(0, 0, 0, 0));
+    reads(rt, system, reading, 1, counted(0, 0, 0, 0));
+    reads(rt, system, reading, 2, None);
+    // The root is opened, and starts its first child.
+    system.turn(rt, serving, 0);
+    reads(rt, system, reading, 0, counted(2, 0, 1, 1));
+    count_turns(rt, system, serving, reading);
+    reads(rt, system, reading, 0, counted(2, 2, 1, 1));
+    reads(rt, system, reading, 1, counted(2, 2, 0, 2));
+    reads(rt, system, serving, 1, counted(2, 2, 0, 2));
+}
+
+// Reads after each of many turns.
+fn count_turns<N: WordsNaming + InboxNaming + PlanNaming + RunNaming, R: Wait + Abort>(
+    rt: &R,
+    system: &Tree<N>,
+    serving: &mut Serving<N>,
+    reading: &mut Serving<N>,
+) {
+    let mut last = 0;
+    for _ in 0..1000 {
+        system.turn(rt, serving, 0);
+        match system.counts(reading, 1) {
+            Some(now) => {
+                assert!(rt; may_follow(last, now));
+                last = now.specs;
+            }
+            None => panic!(rt; "the counts of a supervisor"),
+        }
+    }
+}
+
+// Counts by two hands. The tree is let go as it runs.
+#[derive(Drop)]
+struct Counting;
+
+impl<R: Wait + Abort> Session<R, Worker, BoxedSubsystem> for Counting {
+    type Output = bool;
+
+    fn run<N: WordsNaming + InboxNaming + PlanNaming + RunNaming + Send + Sync>(
+        self,
+        rt: &R,
+        system: System<N, Worker, BoxedSubsystem>,
+        hands: Vec<Hand<N, Worker, BoxedSubsystem>>,
+        client: Client<N, Body<Worker, BoxedSubsystem>>,
+    ) -> bool {
+        let mut hands = hands;
+        let mut reading = last_of(rt, &mut hands);
+        let mut serving = last_of(rt, &mut hands);
+        count_along(rt, &system, &mut serving, &mut reading);
+        drop(serving);
+        drop(reading);
+        drop(hands);
+        drop(client);
+        drop(system);
+        true
+    }
+}
+
+#[test]
+fn counts_are_read_while_the_tree_restarts(rt: HostRuntime) {
+    let shared = common(&rt, rt.alloc());
+    let plans = plans_of(&rt, rt.alloc(), Grove::Pair, &shared);
+    assert!(rt; plans.len() <= 64);
+    let counted = with_system(&rt, rt.alloc(), plans, 2, Counting);
+    same(&rt, "that counts were read", counted, Ok(true));
+    same(&rt, "the starts of workers", shared.starts(), STARTS);
+    drop(shared);
+}
