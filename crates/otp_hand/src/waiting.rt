@@ -1,8 +1,9 @@
-//! Processes that wait until they are told something.
+//! Processes that wait: until they are told something, or for their next turn.
 ghost use Rattle.std.specs.Prelude.{◌≡◌, ◌<◌, ◌≤◌, ◌++◌, ◌∷◌, [], length, IfSome, MatchOption};
-ghost use Rattle.otp_hand.specs.Waitings.{IsTaken};
+ghost use Rattle.otp_hand.specs.Waitings.{IsPutInFront, IsTaken, IsTakenInFront};
 
 use crate::around::Around;
+use crate::aside::Aside;
 use otp_job::Process;
 use otp_signals::{Viewer, Words, WordsNaming};
 use std::alloc::Global;
@@ -21,10 +22,11 @@ const FEW: usize = 4;
 /// The next look is at all of them.
 const ALL: usize = usize::MAX;
 
-/// The processes of a hand that have nothing to do until their supervisors tell them something, or their jobs are woken. They take
-/// no turns; in each turn of the hand it is looked whether some of them were told something.
+/// The processes of a hand that wait. Most have nothing to do until their supervisors tell them something, or their jobs are woken;
+/// in each turn of the hand it is looked whether some of them were told something. The others stand aside until their next turn.
 #[derive(Drop)]
 pub struct Waiting<J: Drop, S: Drop> {
+    aside: Aside<J, S>,
     list: Vec<Process<J, S>>,
     // The place of the first that is looked at in the next turn, of those that are not the newest.
     next: usize,
@@ -33,12 +35,12 @@ pub struct Waiting<J: Drop, S: Drop> {
 }
 
 impl<J: Drop, S: Drop> Model for Waiting<J, S> {
-    ghost use Rattle.std.specs.Prelude.{List};
+    ghost use Rattle.std.specs.Prelude.{List, ◌++◌};
     ghost use Rattle.otp_job.specs.Processes.{ProcessState};
 
     ghost Value = { List (ProcessState J S) };
 
-    ghost view = { λ w. w.list.items };
+    ghost view = { λ w. w.aside ++ w.list.items };
 }
 
 impl<J: Drop, S: Drop> Waiting<J, S> {
@@ -47,6 +49,7 @@ impl<J: Drop, S: Drop> Waiting<J, S> {
         ensures { result ≡ [] }
     {
         Waiting {
+            aside: Aside::new(alloc),
             list: Vec::new(alloc),
             next: 0,
             alert: 0,
@@ -57,7 +60,7 @@ impl<J: Drop, S: Drop> Waiting<J, S> {
     pub fn len(&self) -> usize
         ensures { result ≡ length self.now }
     {
-        self.list.len()
+        self.aside.len() + self.list.len()
     }
 
     /// Lets a process wait. It comes back where memory is refused.
@@ -71,11 +74,33 @@ impl<J: Drop, S: Drop> Waiting<J, S> {
         None
     }
 
-    /// Takes out the one that began to wait last.
+    /// Takes out the one that began to wait last; once none is left of these, the one that was set aside last.
     pub fn pop(&mut self) -> Option<Process<J, S>>
         ensures { MatchOption result (self.new ≡ self.old) (λ process. self.old ≡ self.new ++ process ∷ []) }
     {
-        self.list.pop()
+        if let Some(process) = self.list.pop() {
+            return Some(process);
+        }
+        self.aside.pop()
+    }
+
+    /// Whether some stand aside.
+    pub fn has_aside(&self) -> bool {
+        self.aside.len() > 0
+    }
+
+    /// Sets a process aside. It comes back where memory is refused.
+    pub fn set_aside(&mut self, process: Process<J, S>) -> Option<Process<J, S>>
+        ensures { MatchOption result (IsPutInFront process self.old self.new) (λ back. (back ≡ process) × (self.new ≡ self.old)) }
+    {
+        self.aside.keep(process)
+    }
+
+    /// Takes out the next of those that stand aside.
+    pub fn take_aside(&mut self) -> Option<Process<J, S>>
+        ensures { MatchOption result (self.new ≡ self.old) (λ process. IsTakenInFront process self.old self.new) }
+    {
+        self.aside.take_next()
     }
 
     /// Notes that a supervisor may have told one of them something: it is looked at all of them in the next turns.
