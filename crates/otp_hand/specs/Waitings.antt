@@ -1,5 +1,5 @@
 -- Processes that wait. (own)
-use Rattle.std.specs.Prelude.{◌≡◌, ℕ, ◌+◌, ◌<◌, List, [], ◌∷◌, ◌++◌, length, slice_index_or}
+use Rattle.std.specs.Prelude.{◌≡◌, ℕ, ◌+◌, ◌<◌, List, ◌∷◌, ◌++◌, length, slice_index_or}
 use Rattle.std.specs.List.{swap_remove}
 
 -- one of those that waited was taken out, and the last took its place

@@ -1,5 +1,5 @@
 //! Processes that wait: until they are told something, or for their next turn.
-ghost use Rattle.std.specs.Prelude.{◌≡◌, ◌<◌, ◌≤◌, ◌++◌, ◌∷◌, [], length, IfSome, MatchOption};
+ghost use Rattle.std.specs.Prelude.{◌≡◌, ◌-◌, ◌^◌, ◌<◌, ◌≤◌, ◌++◌, ◌∷◌, [], length, min, IfSome, MatchOption};
 ghost use Rattle.otp_hand.specs.Waitings.{IsPutInFront, IsTaken, IsTakenInFront};
 
 use crate::around::Around;
@@ -28,7 +28,13 @@ const ALL: usize = usize::MAX;
 pub struct Waiting<J: Drop, S: Drop> {
     aside: Aside<J, S>,
     list: Vec<Process<J, S>>,
-    // The place of the first that is looked at in the next turn, of those that are not the newest.
+    looks: Looks,
+}
+
+/// Which of them are looked at in the next turn.
+#[derive(Drop)]
+struct Looks {
+    // The place of the first that is looked at, of those that are not the newest.
     next: usize,
     // In how many turns more the newest, and many of the others, are looked at; or `ALL`.
     alert: usize,
@@ -51,16 +57,15 @@ impl<J: Drop, S: Drop> Waiting<J, S> {
         Waiting {
             aside: Aside::new(alloc),
             list: Vec::new(alloc),
-            next: 0,
-            alert: 0,
+            looks: Looks { next: 0, alert: 0 },
         }
     }
 
-    /// How many wait.
+    /// How many wait, as far as a machine word counts.
     pub fn len(&self) -> usize
-        ensures { result ≡ length self.now }
+        ensures { result ≡ min (length self.now) (2 ^ 64 - 1) }
     {
-        self.aside.len() + self.list.len()
+        self.aside.len().saturating_add(self.list.len())
     }
 
     /// Lets a process wait. It comes back where memory is refused.
@@ -107,14 +112,14 @@ impl<J: Drop, S: Drop> Waiting<J, S> {
     pub fn notice(&mut self)
         ensures { self.new ≡ self.old }
     {
-        self.alert = self.list.len() / OTHERS + 1;
+        self.looks.alert = self.list.len() / OTHERS + 1;
     }
 
     /// Notes that the next look is to be at all of them.
     pub fn look_at_all(&mut self)
         ensures { self.new ≡ self.old }
     {
-        self.alert = ALL;
+        self.looks.alert = ALL;
     }
 
     /// Takes out one that was told something, if that is one of those that are looked at now.
@@ -126,21 +131,24 @@ impl<J: Drop, S: Drop> Waiting<J, S> {
     ) -> Option<Process<J, S>>
         ensures { MatchOption result (self.new ≡ self.old) (λ process. IsTaken process self.old self.new) }
     {
-        let place = self.find_told(words, viewer, around)?;
+        let waiting = self.list.as_slice();
+        let place = self.looks.find_told(words, viewer, around, waiting)?;
         Some(self.list.swap_remove(place))
     }
+}
 
+impl Looks {
     /// The place of one that was told something, if that is one of those that are looked at now.
-    fn find_told<N: WordsNaming>(
+    fn find_told<N: WordsNaming, J: Drop, S: Drop>(
         &mut self,
         words: &Words<N>,
         viewer: &mut Viewer<N>,
         around: &Around,
+        waiting: &[Process<J, S>],
     ) -> Option<usize>
-        ensures same { self.new ≡ self.old }
-        ensures place { IfSome result (λ place. place < length self.old) }
+        ensures { IfSome result (λ place. place < length waiting.now) }
     {
-        let len = self.list.len();
+        let len = waiting.len();
         let (newest, many) = match self.alert {
             0 => (len, FEW),
             ALL => (0, 0),
@@ -150,7 +158,6 @@ impl<J: Drop, S: Drop> Waiting<J, S> {
         let from = self.next.min(newest);
         let to = from.saturating_add(many).min(newest);
         self.next = if to < newest { to } else { 0 };
-        let waiting = self.list.as_slice();
         match find_told_last(words, viewer, around, waiting, newest, len) {
             Some(place) => Some(place),
             None => find_told(words, viewer, around, waiting, from, to),
