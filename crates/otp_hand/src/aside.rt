@@ -2,7 +2,10 @@
 ghost use Rattle.std.specs.Prelude.{◌≡◌, ◌++◌, ◌∷◌, [], length, MatchOption};
 ghost use Rattle.otp_hand.specs.Waitings.{IsTaken};
 
+use crate::around::Around;
+use crate::looks::Looks;
 use otp_job::Process;
+use otp_signals::{Viewer, Words, WordsNaming};
 use std::alloc::Global;
 use std::marker::Model;
 
@@ -13,6 +16,7 @@ pub struct Aside<J: Drop, S: Drop> {
     list: Vec<Process<J, S>>,
     // The place of the next. Before it stand those that this round has passed.
     next: usize,
+    looks: Looks,
 }
 
 impl<J: Drop, S: Drop> Model for Aside<J, S> {
@@ -32,6 +36,7 @@ impl<J: Drop, S: Drop> Aside<J, S> {
         Aside {
             list: Vec::new(alloc),
             next: 0,
+            looks: Looks::new(0),
         }
     }
 
@@ -71,6 +76,26 @@ impl<J: Drop, S: Drop> Aside<J, S> {
         }
         let place = if self.next < len { self.next } else { 0 };
         self.next = place + 1;
+        Some(self.list.swap_remove(place))
+    }
+    /// Notes that one of them may have been told something: then it doesn't wait for its round.
+    pub fn notice(&mut self)
+        ensures { self.new ≡ self.old }
+    {
+        self.looks.notice(self.list.len());
+    }
+
+    /// Takes out one that was told something, if that is one of those that are looked at now.
+    pub fn take_told<N: WordsNaming>(
+        &mut self,
+        words: &Words<N>,
+        viewer: &mut Viewer<N>,
+        around: &Around,
+    ) -> Option<Process<J, S>>
+        ensures { MatchOption result (self.new ≡ self.old) (λ process. IsTaken process self.old self.new) }
+    {
+        let standing = self.list.as_slice();
+        let place = self.looks.find_told(words, viewer, around, standing)?;
         Some(self.list.swap_remove(place))
     }
 }

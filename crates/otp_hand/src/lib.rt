@@ -17,6 +17,7 @@ pub mod aside;
 pub mod client;
 pub mod ending;
 pub mod hand;
+pub mod looks;
 pub mod places;
 pub mod reading;
 pub mod resting;

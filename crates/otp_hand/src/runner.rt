@@ -234,7 +234,7 @@ impl<N: WordsNaming + RunNaming, J: Drop, S: Drop> Runner<N, J, S> {
         put_into(&mut self.turning, Some(rested.process));
     }
 
-    /// Gives its turn to a job that waits and was told something, if it is one of those that are looked at now.
+    /// Gives its turn to a job that waits, or stands aside, and was told something, if it is one of those that are looked at now.
     pub fn wake_told(&mut self, words: &Words<N>)
         requires { self.old.turning ≡ None }
         ensures unsent { self.new.unsent ≡ self.old.unsent }
@@ -245,6 +245,12 @@ impl<N: WordsNaming + RunNaming, J: Drop, S: Drop> Runner<N, J, S> {
             .waiting
             .take_told(words, &mut self.viewer, &self.around);
         put_into(&mut self.turning, told);
+        if self.turning.is_none() {
+            let told = self
+                .waiting
+                .take_told_aside(words, &mut self.viewer, &self.around);
+            put_into(&mut self.turning, told);
+        }
     }
 
     /// Gives its turn to the next process, if there is one: of its own deque, of those that stand aside, or else of the other deques, but
