@@ -8,7 +8,8 @@ use Rattle.otp_tree.specs.declared.closing.Unclosed.{Unclosed}
 use Rattle.otp_tree.specs.declared.whole.RunFault.{RunFault}
 use Rattle.otp_tree.specs.declared.whole.RunFault.TheVariants as run
 
--- the tree, as it was
+-- the tree, as it was, as far as contracts see it: as many slots and supervisors, and hands and client with all that stands in their
+-- views. What lies under a lock is known by its type alone
 pub record IsAsItWas {N J S : Type 0} (system : SystemView) (hands : List (HandView J S)) (client : ClientView) (k : Unclosed N J S) : Type 0 where
   pub system_is : k.system ≡ system
   pub hands_are : k.hands.items ≡ hands

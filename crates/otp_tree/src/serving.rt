@@ -1,6 +1,7 @@
 //! How a hand serves a tree: a turn at a time.
 ghost use Rattle.std.specs.Prelude.{◌≤◌, ◌≡◌, IsTrue, None, Some};
 ghost use Rattle.otp_spec.specs.declared.limits.TheConstants.{MAX_READING};
+ghost use Rattle.otp_tree.specs.Servings.{SentOrKept};
 
 use crate::clock::Millis;
 use crate::listener::{Listener, Nobody};
@@ -145,6 +146,8 @@ impl<N: WordsNaming + InboxNaming + PlanNaming, J: Job, S: Subsystem> System<N, 
     where
         N: RunNaming,
         ensures sent { IsTrue result → hand.new.unsent ≡ None }
+        // It is the letter that the hand had kept, to the supervisor for which it was kept; a refused one stays as it is.
+        ensures letter { SentOrKept result self.now.tables hand.old.unsent hand.old hand.new }
         ensures passes { hand.new.passes ≡ hand.old.passes }
     {
         let Some(
