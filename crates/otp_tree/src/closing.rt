@@ -1,6 +1,6 @@
 //! A tree is closed, once all its hands and its client are back.
 ghost use Rattle.std.specs.Prelude.{◌≡◌, ◌+◌, All, IfErr, IfOk, IfSome, OnSome, length, map, sum_by};
-ghost use Rattle.otp_close.specs.Closes.{AreApart, HasBegun, HasTold, HaveBegun, IsComplete, IsMismatchOnly, IsMissingOnly, IsReportOf, all_senders, kept_in, report_in};
+ghost use Rattle.otp_close.specs.Closes.{AreApart, HasBegun, HasTold, HaveBegun, IsComplete, IsMismatchOnly, IsMissingOnly, IsReportOf, NoneMissing, all_senders, kept_in, report_in};
 ghost use Rattle.otp_close.specs.Leavings.{AreAccounted, AreInOrder, HasUnsent, HaveCome, IsLast, IsLastInOrder};
 ghost use Rattle.otp_close.specs.Partings.{schedulers_of};
 ghost use Rattle.otp_close.specs.Tables.{AreOfTables};
@@ -126,6 +126,8 @@ impl<N: WordsNaming + InboxNaming + PlanNaming, J: Drop, S: Drop> System<N, J, S
         ensures report { IfOk result (IsReportOf self.tables) }
         ensures plans { IfSome (report_in result) (λ report. HaveBegun N.plan report.tables.items) }
         ensures mismatch { IfErr result IsMismatchOnly }
+        // Of a tree that is whole no part is said to be missing.
+        ensures missing { IsComplete self hands.items client → IfErr result NoneMissing }
     {
         finish(rt, alloc, self.shared, hands, client)
     }
