@@ -1,3 +1,4 @@
+pub mod Asides
 pub mod EachRead
 pub mod Sendings
 pub mod Standings

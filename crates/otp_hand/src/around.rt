@@ -9,6 +9,13 @@ use std::sync::Arc;
 /// to do that tried in each turn would take the one process that has something to do from hand to hand, and its memory with it.
 const THEFT_PAUSE: u32 = 256;
 
+/// So many processes of a hand stand in its deque, where other hands find them. Those that want another turn stand aside meanwhile: so a
+/// new process, which goes into the deque, waits for a few turns and not for one of each.
+const ENOUGH: u32 = 4;
+
+/// After so many turns one comes back into the deque, though that has enough: new processes don't keep the others from their turns.
+const PATIENCE: u32 = 8;
+
 /// What a hand knows of what is around it: the time, its own deque and those of others, and how jobs are woken from outside.
 #[derive(Drop)]
 pub struct Around {
@@ -20,6 +27,8 @@ pub struct Around {
     theft_pause: u32,
     // How many processes its own deque has at most: what other hands took counts until it was found empty.
     stock: u32,
+    // How many turns ago the last came back of those that stand aside.
+    passed_by: u32,
 }
 
 impl Around {
@@ -30,6 +39,7 @@ impl Around {
             post: None,
             theft_pause: 0,
             stock: 0,
+            passed_by: 0,
         }
     }
 
@@ -50,6 +60,21 @@ impl Around {
         } else {
             0
         };
+    }
+
+    /// Whether its own deque has as many processes as are to stand there.
+    pub fn has_enough(&self) -> bool {
+        self.stock >= ENOUGH
+    }
+
+    /// Whether one of those that stand aside is to come back into the deque after this turn: there are few, or it is time.
+    pub fn is_to_come_back(&mut self) -> bool {
+        self.passed_by = self.passed_by.saturating_add(1);
+        if self.has_enough() && self.passed_by < PATIENCE {
+            return false;
+        }
+        self.passed_by = 0;
+        true
     }
 
     /// Whether it is to try the other deques too.

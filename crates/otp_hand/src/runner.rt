@@ -4,6 +4,7 @@ ghost use Rattle.otp_bodies.specs.Ports.{launched, told};
 ghost use Rattle.otp_bodies.specs.Letters.{Comes, carries_body, is_end_note};
 ghost use Rattle.otp_rules.specs.declared.event.Item.TheVariants as item;
 ghost use Rattle.otp_hand.specs.Begun.{NoneBegan};
+ghost use Rattle.otp_run.specs.Schedulers.{out};
 ghost use Rattle.otp_hand.specs.Ended.{NoneEnded, end_of, ends_held};
 ghost use Rattle.otp_hand.specs.Turns.{IsTold, Worked, WorkedAsTold, nested_by, table_above, table_nested};
 
@@ -233,7 +234,7 @@ impl<N: WordsNaming + RunNaming, J: Drop, S: Drop> Runner<N, J, S> {
         put_into(&mut self.turning, Some(rested.process));
     }
 
-    /// Gives its turn to a job that waits and was told something, if it is one of those that are looked at now.
+    /// Gives its turn to a job that waits, or stands aside, and was told something, if it is one of those that are looked at now.
     pub fn wake_told(&mut self, words: &Words<N>)
         requires { self.old.turning ≡ None }
         ensures unsent { self.new.unsent ≡ self.old.unsent }
@@ -244,16 +245,26 @@ impl<N: WordsNaming + RunNaming, J: Drop, S: Drop> Runner<N, J, S> {
             .waiting
             .take_told(words, &mut self.viewer, &self.around);
         put_into(&mut self.turning, told);
+        if self.turning.is_none() {
+            let told = self
+                .waiting
+                .take_told_aside(words, &mut self.viewer, &self.around);
+            put_into(&mut self.turning, told);
+        }
     }
 
-    /// Gives its turn to the next process of the run queue, if there is one: of its own deque, or else of the others, but for a while after
-    /// those had none.
+    /// Gives its turn to the next process, if there is one: of its own deque, of those that stand aside, or else of the other deques, but
+    /// for a while after those had none.
     pub fn take_next(&mut self)
         requires { self.old.turning ≡ None }
         ensures unsent { self.new.unsent ≡ self.old.unsent }
         ensures begun { NoneBegan self.old.scheduler self.new.scheduler }
         ensures ended { NoneEnded self.old.scheduler self.new.scheduler }
     {
+        if self.waiting.has_aside() {
+            self.take_own();
+            return;
+        }
         if self.around.tries_others() {
             let next = self.scheduler.next();
             put_into(&mut self.turning, next);
@@ -265,6 +276,23 @@ impl<N: WordsNaming + RunNaming, J: Drop, S: Drop> Runner<N, J, S> {
         put_into(&mut self.turning, next);
         let has_found = self.turning.is_some();
         note_own_search(&mut self.around, has_found);
+    }
+
+    /// Gives its turn to the first process of its own deque, or else to the next that stands aside.
+    fn take_own(&mut self)
+        requires { self.old.turning ≡ None }
+        ensures unsent { self.new.unsent ≡ self.old.unsent }
+        ensures begun { NoneBegan self.old.scheduler self.new.scheduler }
+        ensures ended { NoneEnded self.old.scheduler self.new.scheduler }
+    {
+        let next = self.scheduler.next_own();
+        put_into(&mut self.turning, next);
+        let has_found = self.turning.is_some();
+        self.around.tried_own(has_found);
+        if !has_found {
+            let aside = self.waiting.take_aside();
+            put_into(&mut self.turning, aside);
+        }
     }
 
     /// Lets the supervisor's process that it has out wait, until there is a letter or another signal than this one, or the reading
@@ -288,7 +316,8 @@ impl<N: WordsNaming + RunNaming, J: Drop, S: Drop> Runner<N, J, S> {
         }
     }
 
-    /// Puts the process that it has out back into its deque. Where it can't be put, it stays.
+    /// Puts the process that it has out back into its deque, or aside where that has enough of them; a supervisor's never stands
+    /// aside. Where it can't be put, it stays.
     pub fn hand_back(&mut self)
         ensures unsent { self.new.unsent ≡ self.old.unsent }
         ensures begun { NoneBegan self.old.scheduler self.new.scheduler }
@@ -297,9 +326,29 @@ impl<N: WordsNaming + RunNaming, J: Drop, S: Drop> Runner<N, J, S> {
         let Some(process) = self.turning.take() else {
             return;
         };
-        match self.scheduler.give_back(process) {
-            Ok(()) => self.around.gained(),
-            Err(process) => put_into(&mut self.turning, Some(process)),
+        let has_enough = self.waiting.has_aside() || self.around.has_enough();
+        if has_enough && process.nested_table().is_none() {
+            let back = self.waiting.set_aside(process);
+            put_into(&mut self.turning, back);
+            self.bring_back();
+            return;
+        }
+        let back = put_again(&mut self.scheduler, &mut self.around, process);
+        put_into(&mut self.turning, back);
+    }
+
+    /// Puts one of those that stand aside back into the deque, if one is to come back.
+    fn bring_back(&mut self)
+        ensures unsent { self.new.unsent ≡ self.old.unsent }
+        ensures begun { NoneBegan self.old.scheduler self.new.scheduler }
+        ensures ended { NoneEnded self.old.scheduler self.new.scheduler }
+    {
+        if self.turning.is_some() || !self.around.is_to_come_back() {
+            return;
+        }
+        if let Some(process) = self.waiting.take_aside() {
+            let back = put_again(&mut self.scheduler, &mut self.around, process);
+            put_into(&mut self.turning, back);
         }
     }
 
@@ -468,6 +517,26 @@ impl<N: WordsNaming + RunNaming, J: Job, S: Subsystem> Runner<N, J, S> {
                 put_into(&mut self.unsent, Some(unsent));
             }
         }
+    }
+}
+
+/// Puts a process that is out into the deque again. It comes back where it can't be put.
+fn put_again<N: RunNaming, J: Drop, S: Drop>(
+    scheduler: &mut Scheduler<N, J, S>,
+    around: &mut Around,
+    process: Process<J, S>,
+) -> Option<Process<J, S>>
+    requires { 0 < out scheduler.old }
+    ensures back { MatchOption result (out scheduler.new + 1 ≡ out scheduler.old) (λ back. (back ≡ process) × (scheduler.new ≡ scheduler.old)) }
+    ensures begun { NoneBegan scheduler.old scheduler.new }
+    ensures ended { NoneEnded scheduler.old scheduler.new }
+{
+    match scheduler.give_back(process) {
+        Ok(()) => {
+            around.gained();
+            None
+        }
+        Err(process) => Some(process),
     }
 }
 

@@ -1,0 +1,137 @@
+//! Which processes are looked at, whether they were told something.
+ghost use Rattle.std.specs.Prelude.{◌<◌, ◌≤◌, length, IfSome};
+
+use crate::around::Around;
+use otp_job::Process;
+use otp_signals::{Viewer, Words, WordsNaming};
+
+/// How many of those that began to wait last are looked at in a turn: a supervisor that stops its children begins with the
+/// one that was started last.
+const NEWEST: usize = 8;
+
+/// How many of the others are looked at in a turn, one after the other, after a supervisor may have told one of them something.
+const OTHERS: usize = 24;
+
+/// The next look is at all of them.
+const ALL: usize = usize::MAX;
+
+/// Which of some processes are looked at in the next turn.
+#[derive(Drop)]
+pub struct Looks {
+    // The place of the first that is looked at, of those that are not the newest.
+    next: usize,
+    // In how many turns more the newest, and many of the others, are looked at; or `ALL`.
+    alert: usize,
+    // How many are looked at in each other turn.
+    few: usize,
+}
+
+impl Looks {
+    /// So many are looked at in a turn while none may have been told something.
+    pub fn new(few: usize) -> Looks {
+        Looks {
+            next: 0,
+            alert: 0,
+            few,
+        }
+    }
+
+    /// Notes that one of so many may have been told something: it is looked at all of them in the next turns.
+    pub fn notice(&mut self, len: usize) {
+        self.alert = len / OTHERS + 1;
+    }
+
+    /// Notes that the next look is to be at all of them.
+    pub fn look_at_all(&mut self) {
+        self.alert = ALL;
+    }
+
+    /// The place of one that was told something, if that is one of those that are looked at now.
+    pub fn find_told<N: WordsNaming, J: Drop, S: Drop>(
+        &mut self,
+        words: &Words<N>,
+        viewer: &mut Viewer<N>,
+        around: &Around,
+        waiting: &[Process<J, S>],
+    ) -> Option<usize>
+        ensures { IfSome result (λ place. place < length waiting.now) }
+    {
+        let len = waiting.len();
+        let (newest, many) = match self.alert {
+            0 => (len, self.few),
+            ALL => (0, 0),
+            _ => (len.saturating_sub(NEWEST), OTHERS),
+        };
+        self.alert = fewer(self.alert);
+        let from = self.next.min(newest);
+        let to = from.saturating_add(many).min(newest);
+        self.next = if to < newest { to } else { 0 };
+        match find_told_last(words, viewer, around, waiting, newest, len) {
+            Some(place) => Some(place),
+            None => find_told(words, viewer, around, waiting, from, to),
+        }
+    }
+}
+
+/// How many looks are left after one.
+fn fewer(alert: usize) -> usize {
+    match alert {
+        ALL => 0,
+        looks => looks.saturating_sub(1),
+    }
+}
+
+/// The last of the processes at these places that was told something.
+fn find_told_last<N: WordsNaming, J: Drop, S: Drop>(
+    words: &Words<N>,
+    viewer: &mut Viewer<N>,
+    around: &Around,
+    waiting: &[Process<J, S>],
+    from: usize,
+    to: usize,
+) -> Option<usize>
+    requires { to ≤ length waiting.now }
+    ensures { IfSome result (λ place. place < length waiting.now) }
+{
+    for back in from..to {
+        let place = to - 1 - (back - from);
+        if is_told(words, viewer, around, &waiting[place]) {
+            return Some(place);
+        }
+    }
+    None
+}
+
+/// The first of the processes at these places that was told something.
+fn find_told<N: WordsNaming, J: Drop, S: Drop>(
+    words: &Words<N>,
+    viewer: &mut Viewer<N>,
+    around: &Around,
+    waiting: &[Process<J, S>],
+    from: usize,
+    to: usize,
+) -> Option<usize>
+    requires { to ≤ length waiting.now }
+    ensures { IfSome result (λ place. place < length waiting.now) }
+{
+    for place in from..to {
+        if is_told(words, viewer, around, &waiting[place]) {
+            return Some(place);
+        }
+    }
+    None
+}
+
+/// Whether a process that waits was told something, or its job was woken.
+fn is_told<N: WordsNaming, J: Drop, S: Drop>(
+    words: &Words<N>,
+    viewer: &mut Viewer<N>,
+    around: &Around,
+    process: &Process<J, S>,
+) -> bool {
+    let (slot, number) = (process.slot(), process.number());
+    if around.is_woken(slot) {
+        return true;
+    }
+    slot < words.slots() && process.has_news(words.look(viewer, slot, number))
+}
