@@ -27,6 +27,7 @@ def calls(make):
     yield bytes_that_are_no_text(make)
     yield from large_files(make)
     yield from check_at_limits(make)
+    yield starts_beside_busy_ones(make)
 
 
 def with_children(count):
@@ -104,6 +105,15 @@ def longest_printed_line(sim):
     children = "".join(f" {name},#{number},worker,{'+'.join([name] * 4)}" for number, name in enumerate(names, 1))
     assert len(children) > 44 * 1024
     return sim("longest_printed_line", tree, lines, shows + f"reply 1 which{children}\n")
+
+
+def starts_beside_busy_ones(make):
+    """256 children that want turn after turn are started by one thread in a few turns each: a new one doesn't wait for a turn of
+    each of the others, which would take 32,896 turns."""
+    tree = "".join(CHILD.format(f"c{index}", "steady") for index in range(256))
+    call = make("starts_beside_busy_ones", ["run", "tree", "--schedulers", "1", "--turns", "4000"], {"tree": tree.encode()})
+    call.how, call.shows = {"shows": "part"}, b"table 0 starts 256 restarts 0 end shutdown"
+    return call
 
 
 def long_file(sim):
