@@ -5,4 +5,4 @@ pub returns-clause-missing : goal.returns-clause-missing
 returns-clause-missing g c =
     let opened = c.in-Ok.opened in
     let whole = (c.in-Ok.ensures {u = tt}).complete c.requires.some in
-    c.finish-report.ensures.missing (complete_kept opened.system opened.hands.items c.loop.hands.items opened.client c.loop.client c.loop.invariant.0 c.loop.invariant.1 whole)
+    c.finish-report.ensures.missing (complete_kept opened.system opened.hands.items c.loop-test.hands.items opened.client c.loop-test.client c.loop-test.invariant.0 c.loop-test.invariant.1 whole)
