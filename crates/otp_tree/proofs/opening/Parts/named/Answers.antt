@@ -65,7 +65,7 @@ returns-clause-complete g c = λ some.
     let count = c.len-tables.ensures in
     let ok = c.args.self.inboxes.ok.0 in
     let same : c.len-tables.result ≡ tables = omega (arith, count, ok) in
-    opened_complete c.in-Ok-new.process.ticket (length c.in_ok-schedulers.schedulers.items) tables _ hands c.first-client.result c.in_ok-senders.senders c.named-outer.result.1 (omega (arith, some, schedulers)) made.opened
+    opened_complete c.in-Ok-new.process.ticket (length c.in_ok-schedulers.schedulers.items) tables (record { slots = c.named-words.result.0; tables = length c.in_ok-sups.sups.items }) hands c.first-client.result c.in_ok-senders.senders c.named-outer.result.1 (omega (arith, some, schedulers)) made.opened
     all.many
     (ap (λ (v : ClientView). v.waiter) client)
     (ap (λ (w : TakerState Message). w.inbox) c.named-outer.ensures.taker ∙ same)
