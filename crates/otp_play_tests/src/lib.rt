@@ -1,5 +1,5 @@
-//! Tests of the crates that play a supervisor or look at tree files for people, each from outside: limits, places in a text,
-//! readers and writers that fail, and runs of `sim` for which there is no memory.
+//! Tests of the crates that play a supervisor or look at tree files for people, each from outside: places in a text, readers and
+//! writers that fail, and runs of `sim` for which there is no memory.
 //!
 //! What the program prints stands in the tables of `.ci/calls`, which are played with the program that the gate has built. These
 //! tests stand apart from `otp_tests`, so that the gate proves both side by side.
@@ -9,8 +9,6 @@
 mod devices;
 #[cfg(test)]
 mod fixtures;
-#[cfg(test)]
-mod limits;
 #[cfg(test)]
 mod runs;
 #[cfg(test)]
