@@ -103,7 +103,7 @@ fn a_line_that_prints_much_is_written_in_pieces(rt: HostRuntime) -> Result<(), F
     let file = forty_children(rt.alloc())?;
     let supervisor = supervisor_of(&rt, rt.alloc(), file.as_str());
     let lines = three_hundred_calls(rt.alloc());
-    let lines = got(&rt, "there is memory", lines);
+    let lines = got(&rt, lines);
     let mut reader = Counted::new(lines.as_bytes());
     let mut writer = Counted::new(Taking::new());
     let end = sim(rt.alloc(), supervisor, &mut reader, &mut writer);
