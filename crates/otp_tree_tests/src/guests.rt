@@ -210,7 +210,8 @@ pub(crate) enum Child {
     Sup(&'static str, usize),
 }
 
-fn named(rt: &impl Abort, id: &[u8]) -> Name {
+/// A name that the test knows to be short enough.
+pub(crate) fn named(rt: &impl Abort, id: &[u8]) -> Name {
     match Name::new(id) {
         Some(id) => id,
         None => panic!(rt; "a name"),

@@ -1,8 +1,9 @@
 // The supervisors of a tree that runs are called from threads of their own.
 
-use crate::guests::{
-    Guest, Kind, MEMORY, Plan, Shared, flags, got, make_guest, may_run, named, same, tree,
-};
+use crate::fixtures::{MEMORY, got, same};
+use crate::guests::named;
+use crate::jobs::{Guest, Kind, Plan, Shared, flags, make_guest, tree};
+use crate::lives::may_run;
 use otp_bridge::BoxedSubsystem;
 use otp_job::Body;
 use otp_live::{

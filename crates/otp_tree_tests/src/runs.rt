@@ -1,5 +1,6 @@
 // Trees that run until they have ended by themselves, or were stopped.
-use crate::guests::{Kind, Outcome, Shared, flags, run_watched, same, tree, unwatched};
+use crate::fixtures::{is_told, same};
+use crate::jobs::{Kind, Outcome, Shared, flags, run_watched, tree, unwatched};
 use otp_live::{Happening, Seen, Watch};
 use std::alloc::Global;
 use std::process::Abort;
@@ -195,8 +196,4 @@ fn a_watch_is_told(rt: HostRuntime) {
     is_told(&rt, "the starts", &counting.started, 6);
     is_told(&rt, "the ends", &counting.exited, 6);
     is_told(&rt, "what was told of the root", &counting.of_root, 2);
-}
-
-fn is_told(rt: &impl Abort, what: &str, told: &AtomicU64, wanted: u64) {
-    same(rt, what, told.load(Ordering::SeqCst), wanted);
 }
