@@ -6,7 +6,6 @@ use otp_sim::driven::{Driven, Stop};
 use otp_sim::{Counted, PIECE, Player, SimEnd, serve, sim};
 use std::alloc::{AllocError, Global};
 use std::process::Abort;
-use std::test::Fail;
 
 /// A player that is refused memory once so many things happened: lines, and what follows them.
 #[derive(Drop)]
@@ -99,8 +98,8 @@ fn refused_memory_loses_nothing_earlier(rt: HostRuntime) {
 
 /// One line answers 300 calls that waited for it, each with 40 children.
 #[test]
-fn a_line_that_prints_much_is_written_in_pieces(rt: HostRuntime) -> Result<(), Fail> {
-    let file = forty_children(rt.alloc())?;
+fn a_line_that_prints_much_is_written_in_pieces(rt: HostRuntime) {
+    let file = got(&rt, forty_children(rt.alloc()));
     let supervisor = supervisor_of(&rt, rt.alloc(), file.as_str());
     let lines = three_hundred_calls(rt.alloc());
     let lines = got(&rt, lines);
@@ -109,7 +108,6 @@ fn a_line_that_prints_much_is_written_in_pieces(rt: HostRuntime) -> Result<(), F
     let end = sim(rt.alloc(), supervisor, &mut reader, &mut writer);
     same(&rt, "the end", end, SimEnd::Done);
     is_in_pieces(&rt, &writer.into_device());
-    Ok(())
 }
 
 /// More than three pieces were written, and at once not much more than one.
