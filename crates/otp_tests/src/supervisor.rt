@@ -197,7 +197,7 @@ fn takes(rt: &impl Abort, core: &mut Core, kind: Kind, number: Option<u64>) {
     assert!(rt; !core.is_full());
     let is_needed = core.needs_number(0, &kind);
     // Two assertions that the proof of `step` rests on.
-    assert!(rt; is_needed == number.is_some());
+    assert_eq!(rt; is_needed, number.is_some());
     assert!(rt; number.is_none_or(|n| core.last_number() < n));
     let last = number.unwrap_or(core.last_number());
     core.step(Event {
