@@ -54,6 +54,22 @@ pub(crate) fn prints<T: Display>(rt: &impl Abort, alloc: Global, value: &T, text
     drop(printed);
 }
 
+/// Appends a number, with what stands before it and behind it.
+pub(crate) fn write_numbered(
+    rt: &impl Abort,
+    text: &mut String,
+    before: &str,
+    number: u64,
+    behind: &str,
+) {
+    let made = got(
+        rt,
+        format!(in *text.allocator(); "{before}{number}{behind}"),
+    );
+    got(rt, text.push_str(made.as_str()));
+    drop(made);
+}
+
 /// Asserts that what is told of a text holds; the message has the text.
 pub(crate) fn holds_of(rt: &impl Abort, text: &[u8], holds: bool) {
     assert!(rt; holds, "{}", text.escape_ascii());

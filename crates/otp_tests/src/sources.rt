@@ -61,6 +61,15 @@ const TEXTS: [&str; 8] = [
     "1979-05-27 07:32:00",
 ];
 
+/// What stands before the number of a key, and behind it.
+const KEYS: [(&str, &str); 5] = [
+    ("\"k ", "\" = "),
+    ("'k]", "'="),
+    ("k", " . \"l\"= "),
+    ("shared.k", " = "),
+    ("k", " = "),
+];
+
 /// What stands between the values of an array.
 const BETWEEN: [&str; 5] = [",", ", ", ",\n  ", ", # ] , 1\n", "\n,\r\n"];
 
@@ -86,16 +95,13 @@ impl Draft {
 
     /// A key that no other has, in one of the forms that keys have.
     fn write_key(&mut self) -> Result<(), AllocError> {
-        let number = self.next;
-        self.next = self.next.saturating_add(1);
-        let text = match self.chance.below(5) {
-            0 => format!(in self.alloc; "\"k {number}\" = ")?,
-            1 => format!(in self.alloc; "'k]{number}'=")?,
-            2 => format!(in self.alloc; "k{number} . \"l\"= ")?,
-            3 => format!(in self.alloc; "shared.k{number} = ")?,
-            _ => format!(in self.alloc; "k{number} = ")?,
+        let place = self.chance.below(KEYS.len() as u64) as usize;
+        let Some((before, behind)) = KEYS.get(place) else {
+            return Ok(());
         };
-        self.write(text.as_str())
+        self.write(before)?;
+        self.write_number()?;
+        self.write(behind)
     }
 
     /// A number or a text.
