@@ -4,17 +4,16 @@
 // it would have done.
 ghost use Rattle.std.specs.Prelude.{◌≡◌, ◌≤◌, ◌^◌};
 
-use crate::fixtures::{Post, got, hand_in_all, open_parts, same, seat_table, second};
+use crate::fixtures::{Post, got, hand_in_all, has_told_end, open_parts, same, seat_table, second};
 use crate::script::{Known, OwnSteps, Sent, Stand, Step, known_of, play, takes};
 use otp_core::ReplyAnswer;
 use otp_inbox::{InboxNaming, Sender, UnnamedInbox};
 use otp_reason::{Note, Reason};
-use otp_rules::{Call, Cause};
+use otp_rules::Call;
 use otp_signals::{OpenWords, Signal, Viewer, Words, WordsNaming};
 use otp_spec::{MAX_EVENTS, SupSpec};
 use otp_sup::{
-    Client, MemoryPort, Message, NewProcess, PlanNaming, SubmitCause, Sup, ToldNote, TurnAnswer,
-    TurnFault,
+    Client, MemoryPort, Message, NewProcess, PlanNaming, SubmitCause, Sup, TurnAnswer, TurnFault,
 };
 use std::alloc::Global;
 use std::marker::Brand;
@@ -143,19 +142,6 @@ impl<N: WordsNaming + InboxNaming + PlanNaming> Driven<N> {
             }
         }
     }
-
-    // Whether the last note that the parent was told brings the end of a supervisor by one restart too many.
-    fn has_told_intensity(&self) -> bool {
-        match self.port.notes.last() {
-            Some(
-                ToldNote {
-                    note: _,
-                    end: Some(end),
-                },
-            ) => matches!(end.end().cause, Cause::Intensity { .. }),
-            _ => false,
-        }
-    }
 }
 
 impl<N: WordsNaming + InboxNaming + PlanNaming> Stand for Driven<N> {
@@ -225,12 +211,11 @@ impl<N: WordsNaming + InboxNaming + PlanNaming> Stand for Driven<N> {
         known
     }
 
-    fn take_box<R: Wait + Abort>(&mut self, rt: &R, call: u64) -> Option<u64> {
-        self.sup.take_box(rt, call)
-    }
-
-    fn take_stray<R: Wait + Abort>(&mut self, rt: &R) -> Option<u64> {
-        self.sup.take_stray(rt)
+    fn take_body<R: Wait + Abort>(&mut self, rt: &R, call: Option<u64>) -> Option<u64> {
+        match call {
+            Some(call) => self.sup.take_box(rt, call),
+            None => self.sup.take_stray(rt),
+        }
     }
 
     fn has_empty_port(&self) -> bool {
@@ -265,7 +250,7 @@ fn grows<N: WordsNaming + InboxNaming + PlanNaming, R: Wait + Abort>(
     let child = starts(rt, alloc, one, call);
     let again = restarts(rt, alloc, one, child);
     gives_up(rt, alloc, one, again, child);
-    assert!(rt; one.has_told_intensity());
+    assert!(rt; has_told_end(&one.port, false));
 }
 
 // The process that was put in this slot with this body runs: its number, which is above this one.

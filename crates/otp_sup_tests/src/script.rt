@@ -135,11 +135,8 @@ pub(crate) trait Stand: Drop {
     // What is known of the answer to a call.
     fn known<R: Wait + Abort>(&self, rt: &R, call: u64) -> Known;
 
-    // The body of a call.
-    fn take_box<R: Wait + Abort>(&mut self, rt: &R, call: u64) -> Option<u64>;
-
-    // A body that is nobody's.
-    fn take_stray<R: Wait + Abort>(&mut self, rt: &R) -> Option<u64>;
+    // The body of a call; or else one that is nobody's.
+    fn take_body<R: Wait + Abort>(&mut self, rt: &R, call: Option<u64>) -> Option<u64>;
 
     // Whether the port has nothing that wasn't looked at.
     fn has_empty_port(&self) -> bool;
@@ -227,8 +224,11 @@ fn sees<S: OwnSteps, R: Wait + Abort>(rt: &R, alloc: Global, one: &mut S, step: 
         Step::Tells(note) => same(rt, "the note", one.told(rt), Some(note)),
         Step::Shows(number, signal) => same(rt, "a signal", one.look(rt, number), signal),
         Step::PortIsEmpty => assert!(rt; one.has_empty_port()),
-        Step::GivesBack(call, body) => same(rt, "a call's body", one.take_box(rt, call), body),
-        Step::HasStray(body) => same(rt, "a stray body", one.take_stray(rt), body),
+        Step::GivesBack(call, body) => {
+            let taken = one.take_body(rt, Some(call));
+            same(rt, "a call's body", taken, body)
+        }
+        Step::HasStray(body) => same(rt, "a stray body", one.take_body(rt, None), body),
         _ => one.acts(rt, alloc, step),
     }
 }
