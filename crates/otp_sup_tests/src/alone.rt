@@ -2,7 +2,7 @@
 ghost use Rattle.std.specs.Prelude.{◌≡◌, ◌≤◌, ◌<◌, ◌^◌};
 
 use crate::fixtures::{Post, hand_in_all, has_told_end, same, seat_table};
-use crate::script::{Known, OwnSteps, Stand, Step, known_of};
+use crate::script::{Known, Stand, Step, known_of};
 use crate::shut::Shut;
 use otp_inbox::{Inbox, InboxNaming, Sender, UnnamedInbox};
 use otp_reason::Note;
@@ -175,9 +175,7 @@ impl<N: WordsNaming + InboxNaming + PlanNaming> Stand for Alone<N> {
     fn has_empty_port(&self) -> bool {
         self.port.processes.is_empty() && self.port.notes.is_empty()
     }
-}
 
-impl<N: WordsNaming + InboxNaming + PlanNaming> OwnSteps for Alone<N> {
     fn acts<R: Wait + Abort>(&mut self, rt: &R, alloc: Global, step: Step) {
         match step {
             Step::IsRefused => self.is_refused(rt, alloc),
@@ -188,5 +186,13 @@ impl<N: WordsNaming + InboxNaming + PlanNaming> OwnSteps for Alone<N> {
             Step::TellsAsked => assert!(rt; has_told_end(&self.port, true)),
             _ => panic!(rt; "a table has no such step"),
         }
+    }
+
+    fn call<R: Wait + Abort>(&mut self, rt: &R, _body: u64) -> u64 {
+        panic!(rt; "a table has no client")
+    }
+
+    fn has_given_up<R: Wait + Abort>(&mut self, rt: &R) -> bool {
+        panic!(rt; "a table is asked for each end")
     }
 }
