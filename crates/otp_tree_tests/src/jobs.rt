@@ -18,7 +18,7 @@ use std::thread::Threads;
 use std::time::Clock;
 
 /// What a job does.
-#[derive(Clone, Copy, Debug, PartialEq, Eq)]
+#[derive(Clone, Copy)]
 pub(crate) enum Kind {
     /// Waits until it is asked to shut down.
     Steady,
@@ -112,7 +112,7 @@ impl Job for Guest {
     }
 
     fn turn(&mut self, told: Told) -> Turn {
-        if told == Told::Shutdown && self.kind != Kind::Deaf {
+        if told == Told::Shutdown && !matches!(self.kind, Kind::Deaf) {
             return Turn::End(Reason::Shutdown);
         }
         match self.kind {
@@ -151,25 +151,25 @@ fn add(
 ) {
     let id = named(rt, name);
     let mut spec = ChildSpec::new(id, id);
-    if kind == Kind::Deaf {
+    if matches!(kind, Kind::Deaf) {
         spec.shutdown = Shutdown::Milliseconds(20);
     }
     let job = make_guest(rt, kind, shared);
     got(rt, MEMORY, draft.add(spec, Body::Worker(job)));
 }
 
-/// The plan of a supervisor of such jobs, and of the supervisors with these numbers before them.
+/// The plan of a supervisor of such jobs; of the root with supervisor 1 before them.
 fn make_plan(
     rt: &impl Abort,
     alloc: Global,
-    below: &[usize],
+    is_root: bool,
     kinds: &[Kind],
     shared: &Arc<Shared>,
     flags: SupFlags,
 ) -> Plan {
     let mut draft = TableDraft::new(alloc);
-    for table in below {
-        got(rt, MEMORY, draft.add_supervisor(named(rt, b"sub"), *table));
+    if is_root {
+        got(rt, MEMORY, draft.add_supervisor(named(rt, b"sub"), 1));
     }
     for (name, kind) in NAMES.iter().zip(kinds) {
         add(rt, &mut draft, name, *kind, shared);
@@ -188,8 +188,8 @@ pub(crate) fn tree(
 ) -> Vec<Plan>
     ensures { length result.items ≡ 2 }
 {
-    let root = make_plan(rt, alloc, &[1], kinds, shared, flags);
-    let sub = make_plan(rt, alloc, &[], below, shared, flags);
+    let root = make_plan(rt, alloc, true, kinds, shared, flags);
+    let sub = make_plan(rt, alloc, false, below, shared, flags);
     let Ok(mut plans) = Vec::with_capacity(alloc, 2) else {
         panic!(rt; "there is memory");
     };
@@ -199,7 +199,7 @@ pub(crate) fn tree(
 }
 
 /// What came of a tree.
-#[derive(Clone, Copy, Debug, PartialEq, Eq)]
+#[derive(Clone, Copy)]
 pub(crate) struct Outcome {
     /// How many processes are left.
     pub live: u64,

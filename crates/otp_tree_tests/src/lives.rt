@@ -23,7 +23,7 @@ pub(crate) type Closed = Report<Worker, BoxedSubsystem>;
 type LedSo = Result<Led<Worker, BoxedSubsystem, Script>, SystemFault>;
 
 /// Which tree it is.
-#[derive(Clone, Copy, Debug, PartialEq, Eq)]
+#[derive(Clone, Copy)]
 pub(crate) enum Grove {
     /// The root has the worker `a` and the supervisor `sub`, which has the workers `b` and `c`; `c` crashes once.
     Pair,
