@@ -1,5 +1,5 @@
 //! The workers of the tests' trees, and what they share.
-ghost use Rattle.std.specs.Prelude.{◌≡◌};
+ghost use Rattle.std.specs.Prelude.{◌≡◌, ◌≤◌, length};
 
 use crate::fixtures::{MEMORY, got};
 use otp_bridge::BoxedSubsystem;
@@ -128,7 +128,9 @@ pub(crate) fn make_worker(rt: &impl Abort, kind: Kind, shared: &Common) -> Worke
     }
 }
 
-fn failed(why: &[u8]) -> Turn {
+fn failed(why: &[u8]) -> Turn
+    requires { length why.now ≤ 64 }
+{
     Turn::End(Reason::Error(Text::joined(why, b"")))
 }
 

@@ -174,7 +174,10 @@ impl Script {
                 self.shared.want_crash();
                 Some(self.serve())
             }
-            Step::Ask(table, question) => Some(self.ask(table, question, self.turns)),
+            Step::Ask(table, question) => {
+                let turns = self.turns;
+                Some(self.ask(table, question, turns))
+            }
             Step::AskLate(table, question) => Some(self.ask(table, question, 0)),
             Step::AskAgain => Some(match self.answered {
                 Some(asked) => Round::Await(asked, 0),
