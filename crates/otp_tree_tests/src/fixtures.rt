@@ -4,6 +4,7 @@ ghost use Rattle.std.specs.Prelude.{◌≡◌, Ok};
 
 use std::fmt::Debug;
 use std::process::Abort;
+use std::sync::atomic::{AtomicU64, Ordering};
 
 /// Asserts that a value is the one that is wanted; `what` says in the message which assertion failed.
 ///
@@ -24,4 +25,9 @@ pub(crate) fn got<T, E>(rt: &impl Abort, what: &str, tried: Result<T, E>) -> T
         Ok(value) => value,
         Err(_) => panic!(rt; "{what}"),
     }
+}
+
+/// Asserts what a count of atomic words has come to.
+pub(crate) fn is_told(rt: &impl Abort, what: &str, told: &AtomicU64, wanted: u64) {
+    same(rt, what, told.load(Ordering::SeqCst), wanted);
 }
