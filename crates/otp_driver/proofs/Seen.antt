@@ -18,22 +18,25 @@ use Rattle.otp_table.specs.Rows.{has_process, row_has}
 use Rattle.otp_table.specs.declared.row.Row.{Row}
 use Rattle.otp_driver.specs.Routes.{row_at, row_in}
 
-one : (b : Bool) → b ≡ true → cond b 1 0 ≡ 1
-one b yes = ap (λ (x : Bool). cond x 1 0) yes
+abbrev bit : Bool → ℕ
+bit b = cond b 1 0
+
+one : (b : Bool) → b ≡ true → ◌≡◌ {A = ℕ} (bit b) 1
+one b is = ap bit is
 
 -- where one row at the most passes, none passes before one that does
 none_before : (test : Row → Bool) (rows : List Row) (k j : ℕ) (row : Row) → count_by test rows ≤ 1 → k < length rows → test (get_or rows k row) ≡ true → j < k
     → test (get_or rows j row) ≡ false
 none_before test rows k j row few inside passes before =
-    let f : Row → ℕ = λ x. cond (test x) 1 0 in
-    let here : cond (test (get_or rows k row)) 1 0 ≡ 1 = one (test (get_or rows k row)) passes in
+    let f : Row → ℕ = λ x. bit (test x) in
+    let here : ◌≡◌ {A = ℕ} (f (get_or rows k row)) 1 = one (test (get_or rows k row)) passes in
     let all : sum_by f (take k rows) + f (get_or rows k row) ≤ sum_by f rows = sum_by_more_le f rows k row inside in
     let short : length (take k rows) ≡ k = length-take-le k rows (omega (arith, inside)) in
     let part : f (get_or (take k rows) j row) ≤ sum_by f (take k rows) = get_or-le-sum_by f (take k rows) j row (omega (arith, before, short)) in
     let same : get_or (take k rows) j row ≡ get_or rows j row = get_or-take k rows j row before in
     let there : f (get_or (take k rows) j row) ≡ f (get_or rows j row) = ap f same in
-    false_from_ne_true (test (get_or rows j row)) (λ yes.
-    let it : cond (test (get_or rows j row)) 1 0 ≡ 1 = one (test (get_or rows j row)) yes in
+    false_from_ne_true (test (get_or rows j row)) (λ holds.
+    let it : ◌≡◌ {A = ℕ} (f (get_or rows j row)) 1 = one (test (get_or rows j row)) holds in
     absurd (omega (arith, few, here, all, part, there, it)))
 
 only_place : (test : Row → Bool) (rows : List Row) (k : ℕ) (row : Row) → count_by test rows ≤ 1 → slice_get rows k ≡ Some row → test row ≡ true → position test rows ≡ Some k

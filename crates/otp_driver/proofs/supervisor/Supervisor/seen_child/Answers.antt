@@ -13,7 +13,7 @@ pub returns-in-Some : goal.returns-in-Some
 returns-in-Some c =
     let core : View = c.self.inside.core in
     let row : Row = c.in-Some.row.now in
-    let next : ℕ = c.last_number-_last.result + 1 in
+    let next : ℕ = c.last_number-last.result + 1 in
     let lawful : IsLawfulHistory core.base core.history = search rules in
     let numbers : All (λ n. n < next) (numbers_of core.history) = search rules in
     let at : slice_get (state_of core).rows c.self.inside.seen ≡ Some row = search rules in
