@@ -15,6 +15,6 @@ pub loop-steps-preserved : goal.loop-steps-preserved
 loop-steps-preserved c =
     goes_then _ _ c.loop-steps.self c.match-find_order.self c.loop-steps.invariant
     (elim c.match-find_order.branch as (λ _. Step c.loop-steps.self c.match-find_order.self) [
-      in-Some+in_ok-go_on_at-in-Some+else-not-branch w ↦ let step : Step c.loop-steps.self w.go_on_at.new.self = search rules in search rules
+      | in-Some+in_ok-go_on_at-in-Some+else-not-branch w ↦ let step : Step c.loop-steps.self w.go_on_at.new.self = search rules in search rules
       | in-None+in_ok-go_on_idle-in-None+else-not-branch-2 w ↦ let step : Step c.loop-steps.self w.go_on_idle.new.self = search rules in search rules
     ])
