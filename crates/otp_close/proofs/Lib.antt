@@ -1,5 +1,4 @@
 pub mod Ordered
-pub mod Credited
 pub mod Partings
 pub mod Sums
 pub mod Apart

@@ -1,6 +1,5 @@
 pub mod Partings
 pub mod Leavings
-pub mod Tables
 pub mod Totals
 pub mod Gathers
 pub mod Settlings

