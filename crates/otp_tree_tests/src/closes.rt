@@ -1,7 +1,7 @@
 //! Trees that are run in one call, and their reports: small ones, and one of as many supervisors as there may be, each with as many
 //! children.
 
-use crate::fixtures::{MEMORY, got, is_told, same};
+use crate::fixtures::{MEMORY, got, same};
 use crate::gates::{Clock, Wait as Before};
 use crate::guests::{Kind, Plan, common, crowd};
 use crate::lives::{Closed, Grove, check_ledger, check_pair, plans_of, ran};
@@ -12,6 +12,7 @@ use otp_tree::TableReport;
 use std::alloc::Global;
 use std::process::Abort;
 use std::sync::Wait;
+use std::sync::atomic::{AtomicU64, Ordering};
 use std::thread::Threads;
 
 // A tree is run in one call, so many turns of each hand before the stop and as many after it. What its gate was told comes along.
@@ -236,6 +237,10 @@ fn trees_that_are_closed_early_tell_what_is_left(rt: HostRuntime) {
         drop(report);
     }
     assert!(rt; left > 0);
+}
+
+fn is_told(rt: &impl Abort, what: &str, told: &AtomicU64, wanted: u64) {
+    same(rt, what, told.load(Ordering::SeqCst), wanted);
 }
 
 // It was called four times, the last time at the end, and saw three children.

@@ -4,7 +4,6 @@ ghost use Rattle.std.specs.Prelude.{◌≡◌, Ok};
 
 use std::fmt::Debug;
 use std::process::Abort;
-use std::sync::atomic::{AtomicU64, Ordering};
 
 /// Asserts that a value is the one that is wanted; `what` says in the message which assertion failed.
 ///
@@ -25,9 +24,4 @@ pub(crate) fn got<T, E>(rt: &impl Abort, what: &str, tried: Result<T, E>) -> T
         Ok(value) => value,
         Err(_) => panic!(rt; "{what}"),
     }
-}
-
-/// Asserts what a count of atomic words has come to.
-pub(crate) fn is_told(rt: &impl Abort, what: &str, told: &AtomicU64, wanted: u64) {
-    same(rt, what, told.load(Ordering::SeqCst), wanted);
 }

@@ -16,7 +16,7 @@ impl Millis for Still {
 }
 
 /// What hands wait for before a turn.
-#[derive(Clone, Copy)]
+#[derive(Clone, Copy, Debug, PartialEq, Eq)]
 pub(crate) enum Wait {
     Nothing,
     /// Two hands wait for each other before the first turn of each. A wait has its end, so that one thread that served both hands,

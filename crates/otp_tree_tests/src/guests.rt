@@ -14,7 +14,7 @@ use std::sync::atomic::{AtomicU64, Ordering};
 use std::thread;
 
 /// What a worker does.
-#[derive(Clone, Copy)]
+#[derive(Clone, Copy, Debug, PartialEq, Eq)]
 pub(crate) enum Kind {
     /// Works on until its supervisor ends it.
     Steady,
@@ -212,8 +212,7 @@ pub(crate) enum Child {
     Sup(&'static str, usize),
 }
 
-/// A name that the test knows to be short enough.
-pub(crate) fn named(rt: &impl Abort, id: &[u8]) -> Name {
+fn named(rt: &impl Abort, id: &[u8]) -> Name {
     match Name::new(id) {
         Some(id) => id,
         None => panic!(rt; "a name"),

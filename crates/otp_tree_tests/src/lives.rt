@@ -23,7 +23,7 @@ pub(crate) type Closed = Report<Worker, BoxedSubsystem>;
 type LedSo = Result<Led<Worker, BoxedSubsystem, Script>, SystemFault>;
 
 /// Which tree it is.
-#[derive(Clone, Copy)]
+#[derive(Clone, Copy, Debug, PartialEq, Eq)]
 pub(crate) enum Grove {
     /// The root has the worker `a` and the supervisor `sub`, which has the workers `b` and `c`; `c` crashes once.
     Pair,
@@ -128,8 +128,8 @@ pub(crate) fn plans_of(rt: &impl Abort, alloc: Global, grove: Grove, shared: &Co
     }
 }
 
-/// A tree of so many supervisors can be served by so many hands. A thread that runs one beside others asks by itself.
-pub(crate) fn may_run<P>(rt: &impl Abort, plans: &[P], hands: usize)
+/// A tree of so many supervisors can be served by so many hands.
+pub(crate) fn may_run(rt: &impl Abort, plans: &[Plan], hands: usize)
     ensures tables { length plans.now ≤ MAX_TABLES }
     ensures some { 0 < hands }
     ensures few { hands ≤ all_parts }

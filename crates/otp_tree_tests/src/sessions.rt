@@ -27,8 +27,7 @@ type Caller<N> = Client<N, Body<Worker, BoxedSubsystem>>;
 // How many starts of workers the tree has: three, of whom one crashes.
 const STARTS: u64 = 4;
 
-// Serves the two hands of a new tree of two supervisors until the root is up and all starts were made, and stops the tree then. How
-// the root ended.
+// Serves all hands until the root is up and all starts were made, and stops the tree then. How the root ended.
 fn serve_alone<N: WordsNaming + InboxNaming + PlanNaming + RunNaming, R: Wait + Abort>(
     rt: &R,
     system: &Tree<N>,
@@ -36,7 +35,6 @@ fn serve_alone<N: WordsNaming + InboxNaming + PlanNaming + RunNaming, R: Wait + 
     client: &mut Caller<N>,
     shared: &Common,
 ) -> Option<Note> {
-    assert!(rt; system.tables() == 2 && hands.len() == 2 && client.is_first());
     let mut is_up = false;
     for _ in 0..10_000 {
         match system.root_note(rt, client) {
@@ -53,6 +51,20 @@ fn serve_alone<N: WordsNaming + InboxNaming + PlanNaming + RunNaming, R: Wait + 
         }
     }
     None
+}
+
+// The tree was up, each worker started once and the one that crashed once more, and it ended as it was asked to.
+fn lives_alone<N: WordsNaming + InboxNaming + PlanNaming + RunNaming, R: Wait + Abort>(
+    rt: &R,
+    system: &Tree<N>,
+    hands: &mut Vec<Serving<N>>,
+    client: &mut Caller<N>,
+    shared: &Common,
+) {
+    assert!(rt; system.tables() == 2 && hands.len() == 2 && client.is_first());
+    let end = serve_alone(rt, system, hands, client, shared);
+    same(rt, "its end", end, Some(Note::Exit(1, Reason::Shutdown)));
+    same(rt, "the starts of workers", shared.starts(), STARTS);
 }
 
 // Ends the tree, closes it without one of its hands, and then with all of them.
@@ -74,10 +86,7 @@ impl<R: Wait + Abort> Session<R, Worker, BoxedSubsystem> for Closing {
     ) -> Closed {
         let (mut hands, mut client) = (hands, client);
         let Closing { shared, alloc } = self;
-        // The tree was up, each worker started once and the one that crashed once more, and it ended as it was asked to.
-        let end = serve_alone(rt, &system, &mut hands, &mut client, &shared);
-        same(rt, "its end", end, Some(Note::Exit(1, Reason::Shutdown)));
-        same(rt, "the starts of workers", shared.starts(), STARTS);
+        lives_alone(rt, &system, &mut hands, &mut client, &shared);
         drop(shared);
         let away = last_of(rt, &mut hands);
         let mut back = close_without(rt, alloc, system, hands, client);

@@ -2,7 +2,6 @@
 use otp_bridge::BoxedSubsystem;
 use otp_inbox::InboxNaming;
 use otp_job::{Body, BoxedJob};
-use otp_live::{Stop, Waker};
 use otp_run::RunNaming;
 use otp_signals::WordsNaming;
 use otp_tree::{Client, Hand, PlanNaming, Report, System, TablePlan};
@@ -11,24 +10,25 @@ fn is_send<T: Send>(_: &T) {}
 
 fn is_sync<T: Sync>(_: &T) {}
 
-pub fn trees_cross<N: WordsNaming + InboxNaming + PlanNaming + RunNaming + Send + Sync>(
+pub fn system_is_shared<N: WordsNaming + InboxNaming + PlanNaming + Send + Sync>(
     system: &System<N, BoxedJob, BoxedSubsystem>,
     client: &Client<N, Body<BoxedJob, BoxedSubsystem>>,
-    hand: &Hand<N, BoxedJob, BoxedSubsystem>,
-    plan: &TablePlan<BoxedJob, BoxedSubsystem>,
-    report: &Report<BoxedJob, BoxedSubsystem>,
 ) {
     is_send(system);
     is_sync(system);
     is_send(client);
-    is_send(hand);
-    is_send(plan);
-    is_send(report);
 }
 
-pub fn flags_cross(stop: &Stop, waker: &Waker) {
-    is_send(stop);
-    is_sync(stop);
-    is_send(waker);
-    is_sync(waker);
+pub fn hand_is_carried<N: WordsNaming + InboxNaming + PlanNaming + RunNaming + Send + Sync>(
+    hand: &Hand<N, BoxedJob, BoxedSubsystem>,
+) {
+    is_send(hand);
+}
+
+pub fn what_stands_before_and_after_is_carried(
+    plan: &TablePlan<BoxedJob, BoxedSubsystem>,
+    report: &Report<BoxedJob, BoxedSubsystem>,
+) {
+    is_send(plan);
+    is_send(report);
 }

@@ -1,9 +1,7 @@
 // Jobs that wait are woken by other threads.
 ghost use Rattle.std.specs.Prelude.{◌≡◌, true, length};
 
-use crate::fixtures::{MEMORY, got, same};
-use crate::guests::named;
-use crate::jobs::{Kind, Shared, flags, tree, unwatched};
+use crate::guests::{Kind, MEMORY, Shared, flags, got, named, same, tree, unwatched};
 use otp_bridge::BoxedSubsystem;
 use otp_job::{Job, Place, Told, Turn};
 use otp_live::{Mailbox, Stop, Unwatched, run};

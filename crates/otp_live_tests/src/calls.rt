@@ -1,9 +1,8 @@
 // The supervisors of a tree that runs are called from threads of their own.
 
-use crate::fixtures::{MEMORY, got, same};
-use crate::guests::named;
-use crate::jobs::{Guest, Kind, Plan, Shared, flags, make_guest, tree};
-use crate::lives::may_run;
+use crate::guests::{
+    Guest, Kind, MEMORY, Plan, Shared, flags, got, make_guest, may_run, named, same, tree,
+};
 use otp_bridge::BoxedSubsystem;
 use otp_job::Body;
 use otp_live::{
@@ -45,44 +44,24 @@ where
 // Calls the root of a tree whose workers are a and b, behind a supervisor.
 fn call_all<R: Wait + Abort>(rt: &R, caller: &Calling, shared: &Arc<Shared>) {
     let (name, unknown) = (named(rt, b"a"), named(rt, b"unknown"));
-    call_child(rt, caller, name);
-    call_nobody(rt, caller, name, unknown);
+    assert!(rt;
+        caller.restart_child(rt, 0, name) == Err(CallError::Refused(RestartRefusal::Running))
+    );
+    assert!(rt; caller.terminate_child(rt, 0, name) == Ok(()));
+    assert!(rt; matches!(caller.restart_child(rt, 0, name), Ok(Some(_))));
+    assert!(rt;
+        caller.delete_child(rt, 0, name) == Err(CallError::Refused(DeleteRefusal::Running))
+    );
+    assert!(rt;
+        caller.terminate_child(rt, 1, unknown)
+            == Err(CallError::Refused(TerminateRefusal::NotFound))
+    );
+    assert!(rt;
+        caller.delete_child(rt, 7, name) == Err(CallError::Unsent(CallRefusal::NoSupervisor))
+    );
     start(rt, caller, shared, unknown);
     let counts = got(rt, "the counts", caller.count_children(rt, 0));
     same(rt, "the children", counts.active, 4);
-}
-
-// A child that runs can be terminated, and then restarted.
-fn call_child<R: Wait + Abort>(rt: &R, caller: &Calling, name: Name) {
-    let runs = Err(CallError::Refused(RestartRefusal::Running));
-    same(rt, "a restart", caller.restart_child(rt, 0, name), runs);
-    same(rt, "an end", caller.terminate_child(rt, 0, name), Ok(()));
-    let number = got(
-        rt,
-        "a restart is refused",
-        caller.restart_child(rt, 0, name),
-    );
-    assert!(rt; number.is_some());
-    let runs = Err(CallError::Refused(DeleteRefusal::Running));
-    same(rt, "a delete", caller.delete_child(rt, 0, name), runs);
-}
-
-// No child has this id, and no supervisor this number.
-fn call_nobody<R: Wait + Abort>(rt: &R, caller: &Calling, name: Name, unknown: Name) {
-    let nobody = Err(CallError::Refused(TerminateRefusal::NotFound));
-    same(
-        rt,
-        "nobody's end",
-        caller.terminate_child(rt, 1, unknown),
-        nobody,
-    );
-    let nobody = Err(CallError::Unsent(CallRefusal::NoSupervisor));
-    same(
-        rt,
-        "nobody's call",
-        caller.delete_child(rt, 7, name),
-        nobody,
-    );
 }
 
 // Starts a child more.

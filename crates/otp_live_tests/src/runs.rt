@@ -1,6 +1,5 @@
 // Trees that run until they have ended by themselves, or were stopped.
-use crate::fixtures::{is_told, same};
-use crate::jobs::{Kind, Outcome, Shared, flags, run_watched, tree, unwatched};
+use crate::guests::{Kind, Outcome, Shared, flags, run_watched, same, tree, unwatched};
 use otp_live::{Happening, Seen, Watch};
 use std::alloc::Global;
 use std::process::Abort;
@@ -9,6 +8,15 @@ use std::sync::{Arc, Wait};
 use std::thread;
 use std::thread::Threads;
 use std::time::Clock;
+
+// A tree of steady workers that is stopped before it runs: it is opened, and shut down.
+fn stop_before<R: Threads + Wait + Clock + Abort + Sync>(rt: &R, alloc: Global, hands: usize) {
+    let shared = Shared::new(rt, alloc);
+    shared.stop.raise();
+    let kinds = [Kind::Steady, Kind::Busy];
+    all_ended(rt, lives(rt, alloc, &kinds, &kinds, &shared, 1, hands));
+    drop(shared);
+}
 
 // Runs a tree of a root of such jobs, and of a supervisor of such others; so many restarts are allowed, and there are so many
 // threads.
@@ -31,55 +39,10 @@ fn all_ended(rt: &impl Abort, seen: Outcome) {
     same(rt, "the supervisors that have ended", seen.ended, 2);
 }
 
-// The jobs of a root, those of the supervisor below it, and how many restarts are allowed; whether the stop is raised before
-// the tree runs, and whether it is in the end.
-#[derive(Clone, Copy)]
-struct Case<'a> {
-    kinds: &'a [Kind],
-    below: &'a [Kind],
-    intensity: u64,
-    is_stopped: bool,
-    is_raised: bool,
-}
-
-// Such a tree ends, with so many threads.
-fn ends<R: Threads + Wait + Clock + Abort + Sync>(
-    rt: &R,
-    alloc: Global,
-    case: &Case<'_>,
-    hands: usize,
-) {
-    let shared = Shared::new(rt, alloc);
-    if case.is_stopped {
-        shared.stop.raise();
-    }
-    let seen = lives(
-        rt,
-        alloc,
-        case.kinds,
-        case.below,
-        &shared,
-        case.intensity,
-        hands,
-    );
-    let is_raised = shared.stop.is_raised();
-    drop(shared);
-    same(rt, "whether it was stopped", is_raised, case.is_raised);
-    all_ended(rt, seen);
-}
-
-// A tree of steady workers that is stopped before it runs: it is opened, and shut down.
 #[test]
 fn a_stop_raised_before_is_seen(rt: HostRuntime) {
-    let case = Case {
-        kinds: &[Kind::Steady, Kind::Busy],
-        below: &[Kind::Steady, Kind::Busy],
-        intensity: 1,
-        is_stopped: true,
-        is_raised: true,
-    };
-    ends(&rt, rt.alloc(), &case, 1);
-    ends(&rt, rt.alloc(), &case, 4);
+    stop_before(&rt, rt.alloc(), 1);
+    stop_before(&rt, rt.alloc(), 4);
 }
 
 // Waits until so many jobs were started, and raises the stop.
@@ -118,43 +81,39 @@ fn another_thread_stops_a_tree(rt: HostRuntime) {
 // A child that doesn't heed the shutdown is killed at its deadline, though every thread sleeps until then.
 #[test]
 fn a_deadline_wakes_a_tree(rt: HostRuntime) {
-    let case = Case {
-        kinds: &[Kind::Deaf, Kind::Stops(2)],
-        below: &[],
-        intensity: 1,
-        is_stopped: false,
-        is_raised: true,
-    };
-    ends(&rt, rt.alloc(), &case, 1);
-    ends(&rt, rt.alloc(), &case, 4);
+    for hands in [1, 4] {
+        let shared = Shared::new(&rt, rt.alloc());
+        let kinds = [Kind::Deaf, Kind::Stops(2)];
+        let seen = lives(&rt, rt.alloc(), &kinds, &[], &shared, 1, hands);
+        drop(shared);
+        all_ended(&rt, seen);
+    }
 }
 
 // A tree that gives up ends by itself.
 #[test]
 fn a_tree_ends_by_itself(rt: HostRuntime) {
-    let case = Case {
-        kinds: &[Kind::Steady],
-        below: &[Kind::Steady, Kind::Crashes(u64::MAX)],
-        intensity: 3,
-        is_stopped: false,
-        is_raised: false,
-    };
-    ends(&rt, rt.alloc(), &case, 1);
-    ends(&rt, rt.alloc(), &case, 4);
+    for hands in [1, 4] {
+        let shared = Shared::new(&rt, rt.alloc());
+        let kinds = [Kind::Steady, Kind::Crashes(u64::MAX)];
+        let root = [Kind::Steady];
+        let seen = lives(&rt, rt.alloc(), &root, &kinds, &shared, 3, hands);
+        assert!(rt; !shared.stop.is_raised());
+        drop(shared);
+        all_ended(&rt, seen);
+    }
 }
 
 // Crashes and restarts in one supervisor until its jobs were started 50 times; then a job of the other stops the tree.
 #[test]
 fn a_tree_restarts_until_it_is_stopped(rt: HostRuntime) {
-    let case = Case {
-        kinds: &[Kind::Busy],
-        below: &[Kind::Crashes(50), Kind::Stops(50)],
-        intensity: 1000,
-        is_stopped: false,
-        is_raised: true,
-    };
     for hands in [1, 2, 4, 8] {
-        ends(&rt, rt.alloc(), &case, hands);
+        let shared = Shared::new(&rt, rt.alloc());
+        let kinds = [Kind::Crashes(50), Kind::Stops(50)];
+        let root = [Kind::Busy];
+        let seen = lives(&rt, rt.alloc(), &root, &kinds, &shared, 1000, hands);
+        drop(shared);
+        all_ended(&rt, seen);
     }
 }
 
@@ -196,4 +155,8 @@ fn a_watch_is_told(rt: HostRuntime) {
     is_told(&rt, "the starts", &counting.started, 6);
     is_told(&rt, "the ends", &counting.exited, 6);
     is_told(&rt, "what was told of the root", &counting.of_root, 2);
+}
+
+fn is_told(rt: &impl Abort, what: &str, told: &AtomicU64, wanted: u64) {
+    same(rt, what, told.load(Ordering::SeqCst), wanted);
 }

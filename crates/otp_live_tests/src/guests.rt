@@ -1,16 +1,16 @@
-//! The jobs of trees that live until they have ended or are stopped, and those trees.
-ghost use Rattle.std.specs.Prelude.{◌≡◌, true, length};
+//! The jobs of the tests' trees, and the trees.
+ghost use Rattle.std.specs.Prelude.{◌≡◌, ◌<◌, ◌≤◌, true, length, Ok};
+ghost use Rattle.otp_run.specs.Rule.{all_parts};
+ghost use Rattle.otp_spec.specs.declared.limits.TheConstants.{MAX_TABLES};
 
-use crate::fixtures::{MEMORY, got};
-use crate::guests::named;
-use crate::lives::may_run;
 use otp_bridge::BoxedSubsystem;
 use otp_job::{Body, Job, Place, Told, Turn};
 use otp_live::{Stop, Unwatched, Waker, Watch, run};
-use otp_reason::{Reason, Started, Text};
-use otp_spec::{ChildSpec, Shutdown, SupFlags};
-use otp_tree::{Report, TableDraft, TablePlan};
+use otp_reason::{Name, Reason, Started, Text};
+use otp_spec::{ChildSpec, MAX_TABLES, Shutdown, SupFlags};
+use otp_tree::{MAX_HANDS, Report, TableDraft, TablePlan};
 use std::alloc::Global;
+use std::fmt::Debug;
 use std::process::Abort;
 use std::sync::atomic::{AtomicU64, Ordering};
 use std::sync::{Arc, OnceLock, Wait};
@@ -18,8 +18,8 @@ use std::thread::Threads;
 use std::time::Clock;
 
 /// What a job does.
-#[derive(Clone, Copy)]
-pub(crate) enum Kind {
+#[derive(Clone, Copy, Debug, PartialEq, Eq)]
+pub enum Kind {
     /// Waits until it is asked to shut down.
     Steady,
     /// Waits, and doesn't heed it: only a kill ends it.
@@ -36,7 +36,7 @@ pub(crate) enum Kind {
 
 /// What the jobs of a tree and its test share.
 #[derive(Drop)]
-pub(crate) struct Shared {
+pub struct Shared {
     pub starts: AtomicU64,
     pub given: AtomicU64,
     pub seen: AtomicU64,
@@ -45,7 +45,7 @@ pub(crate) struct Shared {
 }
 
 impl Shared {
-    pub(crate) fn new(rt: &impl Abort, alloc: Global) -> Arc<Shared> {
+    pub fn new(rt: &impl Abort, alloc: Global) -> Arc<Shared> {
         let shared = Shared {
             starts: AtomicU64::new(0),
             given: AtomicU64::new(0),
@@ -56,14 +56,14 @@ impl Shared {
         got(rt, MEMORY, Arc::new(alloc, shared))
     }
 
-    pub(crate) fn starts(&self) -> u64 {
+    pub fn starts(&self) -> u64 {
         self.starts.load(Ordering::SeqCst)
     }
 }
 
 /// A job of a test.
 #[derive(Drop)]
-pub(crate) struct Guest {
+pub struct Guest {
     kind: Kind,
     shared: Arc<Shared>,
     crash: Text,
@@ -112,7 +112,7 @@ impl Job for Guest {
     }
 
     fn turn(&mut self, told: Told) -> Turn {
-        if told == Told::Shutdown && !matches!(self.kind, Kind::Deaf) {
+        if told == Told::Shutdown && self.kind != Kind::Deaf {
             return Turn::End(Reason::Shutdown);
         }
         match self.kind {
@@ -128,14 +128,22 @@ impl Job for Guest {
     }
 }
 
-pub(crate) type Plan = TablePlan<Guest, BoxedSubsystem>;
+pub type Plan = TablePlan<Guest, BoxedSubsystem>;
 
 /// Such a job.
-pub(crate) fn make_guest(rt: &impl Abort, kind: Kind, shared: &Arc<Shared>) -> Guest {
+pub fn make_guest(rt: &impl Abort, kind: Kind, shared: &Arc<Shared>) -> Guest {
     Guest {
         kind,
         shared: got(rt, MEMORY, Arc::try_clone(shared)),
         crash: Text::joined(b"crash", b""),
+    }
+}
+
+/// A name that the test knows to be short enough.
+pub fn named(rt: &impl Abort, name: &[u8]) -> Name {
+    match Name::new(name) {
+        Some(name) => name,
+        None => panic!(rt; "a name"),
     }
 }
 
@@ -151,25 +159,25 @@ fn add(
 ) {
     let id = named(rt, name);
     let mut spec = ChildSpec::new(id, id);
-    if matches!(kind, Kind::Deaf) {
+    if kind == Kind::Deaf {
         spec.shutdown = Shutdown::Milliseconds(20);
     }
     let job = make_guest(rt, kind, shared);
     got(rt, MEMORY, draft.add(spec, Body::Worker(job)));
 }
 
-/// The plan of a supervisor of such jobs; of the root with supervisor 1 before them.
+/// The plan of a supervisor of such jobs, and of the supervisors with these numbers before them.
 fn make_plan(
     rt: &impl Abort,
     alloc: Global,
-    is_root: bool,
+    below: &[usize],
     kinds: &[Kind],
     shared: &Arc<Shared>,
     flags: SupFlags,
 ) -> Plan {
     let mut draft = TableDraft::new(alloc);
-    if is_root {
-        got(rt, MEMORY, draft.add_supervisor(named(rt, b"sub"), 1));
+    for table in below {
+        got(rt, MEMORY, draft.add_supervisor(named(rt, b"sub"), *table));
     }
     for (name, kind) in NAMES.iter().zip(kinds) {
         add(rt, &mut draft, name, *kind, shared);
@@ -178,7 +186,7 @@ fn make_plan(
 }
 
 /// A tree of a root of such jobs, and of a supervisor of such others before them.
-pub(crate) fn tree(
+pub fn tree(
     rt: &impl Abort,
     alloc: Global,
     kinds: &[Kind],
@@ -188,8 +196,8 @@ pub(crate) fn tree(
 ) -> Vec<Plan>
     ensures { length result.items ≡ 2 }
 {
-    let root = make_plan(rt, alloc, true, kinds, shared, flags);
-    let sub = make_plan(rt, alloc, false, below, shared, flags);
+    let root = make_plan(rt, alloc, &[1], kinds, shared, flags);
+    let sub = make_plan(rt, alloc, &[], below, shared, flags);
     let Ok(mut plans) = Vec::with_capacity(alloc, 2) else {
         panic!(rt; "there is memory");
     };
@@ -199,8 +207,8 @@ pub(crate) fn tree(
 }
 
 /// What came of a tree.
-#[derive(Clone, Copy)]
-pub(crate) struct Outcome {
+#[derive(Clone, Copy, Debug, PartialEq, Eq)]
+pub struct Outcome {
     /// How many processes are left.
     pub live: u64,
     /// How many began.
@@ -210,7 +218,7 @@ pub(crate) struct Outcome {
 }
 
 /// Flags by which so many restarts are allowed in so many seconds.
-pub(crate) fn flags(intensity: u64) -> SupFlags {
+pub fn flags(intensity: u64) -> SupFlags {
     SupFlags {
         intensity,
         ..SupFlags::default()
@@ -231,8 +239,19 @@ fn outcome_of(report: &Report<Guest, BoxedSubsystem>) -> Outcome {
     }
 }
 
+/// A tree of so many supervisors can be run with so many hands. A thread that runs one beside others asks by itself.
+pub fn may_run(rt: &impl Abort, plans: &[Plan], hands: usize)
+    ensures tables { length plans.now ≤ MAX_TABLES }
+    ensures some { 0 < hands }
+    ensures few { hands ≤ all_parts }
+{
+    assert!(rt; plans.len() <= MAX_TABLES);
+    assert!(rt; 0 < hands);
+    assert!(rt; hands <= MAX_HANDS);
+}
+
 /// Runs a tree until it has ended, and says what came of it.
-pub(crate) fn run_watched<R, W>(
+pub fn run_watched<R, W>(
     rt: &R,
     alloc: Global,
     plans: Vec<Plan>,
@@ -253,15 +272,27 @@ where
 }
 
 /// The same where nobody watches.
-pub(crate) fn unwatched<R>(
-    rt: &R,
-    alloc: Global,
-    plans: Vec<Plan>,
-    hands: usize,
-    stop: &Stop,
-) -> Outcome
+pub fn unwatched<R>(rt: &R, alloc: Global, plans: Vec<Plan>, hands: usize, stop: &Stop) -> Outcome
 where
     R: Threads + Wait + Clock + Abort + Sync,
 {
     run_watched(rt, alloc, plans, hands, stop, &Unwatched)
+}
+
+/// What a test says that stops for want of memory.
+pub const MEMORY: &str = "memory was refused";
+
+/// What a try gave. Where it failed the test stops, with these words: so no test has an exit beside what it holds.
+pub fn got<T, E>(rt: &impl Abort, what: &str, tried: Result<T, E>) -> T
+    ensures { tried ≡ Ok result }
+{
+    match tried {
+        Ok(value) => value,
+        Err(_) => panic!(rt; "{what}"),
+    }
+}
+
+/// Asserts that a value is the one that is wanted.
+pub fn same<T: PartialEq + Debug + Copy>(rt: &impl Abort, what: &str, value: T, wanted: T) {
+    assert_eq!(rt; value, wanted, "{what}");
 }
