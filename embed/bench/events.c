@@ -9,7 +9,11 @@ static char text[65536];
 
 static double measure(int children, uint64_t count) {
     strcpy(text, "intensity = 1000\nperiod = 1\n");
-    for (int i = 0; i < children; i++) sprintf(text + strlen(text), "[[child]]\nid = \"c%d\"\nstart = \"x\"\n", i);
+    /* Names of two letters, as the core's children have them (core/src/lib.rt.txt). */
+    for (int i = 0; i < children; i++) {
+        int high = 'a' + i / 16 % 16, low = 'a' + i % 16;
+        sprintf(text + strlen(text), "[[child]]\nid = \"%c%c\"\nstart = \"%c%c\"\n", high, low, high, low);
+    }
     otp_tree tree = OTP_TREE_INIT;
     otp_fault fault;
     otp_order order;

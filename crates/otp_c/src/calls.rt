@@ -34,7 +34,7 @@ pub extern "C" fn otp_tick(alloc: Global, tree: &mut Handle, reading: u64) -> u3
         return OTP_CLOSED;
     };
     let status = tick(&mut held, reading);
-    *tree = Handle::of(held);
+    tree.put(held);
     status
 }
 
@@ -45,8 +45,14 @@ fn note_in(kind: u32, number: u64, reason: u32, text: &[u8]) -> Result<Note, NoR
     match kind {
         1 => Ok(Note::Up(number)),
         2 => Ok(Note::Ignored(number)),
-        3 => Ok(Note::Failed(number, reason_in(reason, text)?)),
-        4 => Ok(Note::Exit(number, reason_in(reason, text)?)),
+        3 | 4 => {
+            let reason = reason_in(reason, text)?;
+            if kind == 4 {
+                Ok(Note::Exit(number, reason))
+            } else {
+                Ok(Note::Failed(number, reason))
+            }
+        }
         _ => Err(NoReason::Kind),
     }
 }
@@ -55,7 +61,7 @@ fn answer_note(session: &mut Session, place: usize, said: &Result<Note, NoReason
     ensures { AnswersNote said.now place result session.old session.new }
 {
     match said {
-        Ok(said) => match session.driver.note(place, *said) {
+        Ok(said) => match session.driver.note(place, said) {
             Ok(()) => OTP_OK,
             Err(fault) => status_of(fault),
         },
@@ -97,7 +103,7 @@ pub extern "C" fn otp_note(
         return OTP_CLOSED;
     };
     let status = tell(&mut held, supervisor as usize, kind, number, reason, text);
-    *tree = Handle::of(held);
+    tree.put(held);
     status
 }
 
@@ -112,7 +118,7 @@ pub extern "C" fn otp_stop(alloc: Global, tree: &mut Handle) -> u32
         return OTP_CLOSED;
     };
     held.driver.stop();
-    *tree = Handle::of(held);
+    tree.put(held);
     OTP_OK
 }
 
@@ -162,7 +168,7 @@ pub extern "C" fn otp_start_child(
         return OTP_CLOSED;
     };
     let status = start(&mut held, supervisor as usize, spec, out);
-    *tree = Handle::of(held);
+    tree.put(held);
     status
 }
 
@@ -217,6 +223,6 @@ pub extern "C" fn otp_call(
         return OTP_CLOSED;
     };
     let status = ask(&mut held, supervisor as usize, kind, id, number, out);
-    *tree = Handle::of(held);
+    tree.put(held);
     status
 }

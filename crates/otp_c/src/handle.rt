@@ -25,21 +25,24 @@ impl Handle {
         }
     }
 
+    /// Puts a tree back where none is.
+    pub fn put(&mut self, b: Box<Session>)
+        requires { self.old.room.held ≡ None }
+        ensures { self.new.room.held ≡ Some b.value }
+    {
+        self.room = Room::of_parts(Parts::of(b));
+        self.is_open = true;
+    }
+
     pub fn take(&mut self, alloc: Global) -> Option<Box<Session>>
         ensures held { option_map (λ b. b.value) result ≡ self.old.room.held }
         ensures empty { self.new.room.held ≡ None }
     {
-        let old = mem::replace(
-            self,
-            Handle {
-                is_open: false,
-                room: Room::empty(alloc),
-            },
-        );
-        if old.is_open {
-            Some(old.room.into_parts().into_box())
-        } else {
-            None
+        if !self.is_open {
+            return None;
         }
+        self.is_open = false;
+        let room = mem::replace(&mut self.room, Room::empty(alloc));
+        Some(room.into_parts().into_box())
     }
 }

@@ -76,7 +76,7 @@ fn open_in(alloc: Global, tree: &mut Handle, text: &[u8], fault: &mut CFault) ->
     match session_of(alloc, text) {
         Ok(session) => match Box::new(alloc, session) {
             Ok(held) => {
-                *tree = Handle::of(held);
+                tree.put(held);
                 OTP_OK
             }
             Err(_) => OTP_MEMORY,
@@ -98,7 +98,7 @@ pub extern "C" fn otp_open(alloc: Global, tree: &mut Handle, text: &[u8], fault:
     ensures opens { tree.old.room.held ≡ None → OpensIn text.now result tree.new.room.held fault.old fault.new }
 {
     if let Some(held) = tree.take(alloc) {
-        *tree = Handle::of(held);
+        tree.put(held);
         return OTP_OPEN;
     }
     open_in(alloc, tree, text, fault)
@@ -149,7 +149,7 @@ pub extern "C" fn otp_next(alloc: Global, tree: &mut Handle, order: &mut COrder)
         return OTP_CLOSED;
     };
     let status = next(&mut held, order);
-    *tree = Handle::of(held);
+    tree.put(held);
     status
 }
 
@@ -177,7 +177,7 @@ pub extern "C" fn otp_answer_of(alloc: Global, tree: &mut Handle, out: &mut CAns
         return OTP_CLOSED;
     };
     let status = read_answer(&held, out);
-    *tree = Handle::of(held);
+    tree.put(held);
     status
 }
 
@@ -224,7 +224,7 @@ pub extern "C" fn otp_answer_line(
         return OTP_CLOSED;
     };
     let status = read_line(&held, index as usize, out);
-    *tree = Handle::of(held);
+    tree.put(held);
     status
 }
 
@@ -265,7 +265,7 @@ pub extern "C" fn otp_answer_spec(alloc: Global, tree: &mut Handle, out: &mut CS
         return OTP_CLOSED;
     };
     let status = read_spec(&held, out);
-    *tree = Handle::of(held);
+    tree.put(held);
     status
 }
 
@@ -281,7 +281,7 @@ pub extern "C" fn otp_deadline(alloc: Global, tree: &mut Handle, out: &mut u64) 
         return OTP_CLOSED;
     };
     let next = held.driver.next_deadline();
-    *tree = Handle::of(held);
+    tree.put(held);
     match next {
         Some(reading) => {
             *out = reading;
@@ -303,7 +303,7 @@ pub extern "C" fn otp_supervisors(alloc: Global, tree: &mut Handle, out: &mut u3
         return OTP_CLOSED;
     };
     let count = held.driver.supervisors().len().min(MAX_TABLES);
-    *tree = Handle::of(held);
+    tree.put(held);
     *out = count as u32;
     OTP_OK
 }
@@ -356,7 +356,7 @@ pub extern "C" fn otp_look(
         return OTP_CLOSED;
     };
     let status = read_supervisor(&held, supervisor as usize, out);
-    *tree = Handle::of(held);
+    tree.put(held);
     status
 }
 
@@ -399,7 +399,7 @@ pub extern "C" fn otp_look_child(
         return OTP_CLOSED;
     };
     let status = read_child(&held, supervisor as usize, index as usize, out);
-    *tree = Handle::of(held);
+    tree.put(held);
     status
 }
 

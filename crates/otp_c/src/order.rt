@@ -3,6 +3,7 @@
 ghost use Rattle.std.specs.Prelude.{◌≡◌, min, option_map};
 ghost use Rattle.otp_driver.specs.Members.{state_in};
 ghost use Rattle.otp_driver.specs.Orders.{deadline_in, start_in, what_of};
+ghost use Rattle.otp_driver.specs.Routes.{ending_in};
 ghost use Rattle.otp_c.specs.Orders.{ShowsDeadline, ShowsEnding, ShowsReasonText, ShowsSome, ShowsWhat};
 ghost use Rattle.otp_c.specs.Words.{cause_number, reason_number};
 
@@ -13,7 +14,7 @@ use crate::words::{
 };
 use otp_driver::{Supervisor, ending_in};
 use otp_reason::{Name, Reason};
-use otp_rules::{Effect, Ending};
+use otp_rules::{Effect, Ending, SupEnd};
 use otp_table::{Row, RowState};
 
 /// An order of this kind with nothing beside its number.
@@ -116,6 +117,27 @@ fn of_end(reason: &Reason, ending: &Ending) -> COrder
     }
 }
 
+/// Writes an order of this kind with nothing beside its number.
+#[inline(never)]
+fn write_plain(kind: u32, number: u64, out: &mut COrder)
+    ensures kind { out.new.kind ≡ kind }
+    ensures number { out.new.number ≡ number }
+{
+    *out = plain(kind, number);
+}
+
+/// Writes the end of the root.
+#[inline(never)]
+fn write_end(end: &SupEnd, out: &mut COrder)
+    ensures kind { out.new.kind ≡ 6 }
+    ensures reason { out.new.reason ≡ reason_number end.now.reason }
+    ensures text { ShowsReasonText end.now.reason out.new.text }
+    ensures cause { out.new.cause ≡ cause_number (ending_in end.now.cause) }
+    ensures ending { ShowsEnding (ending_in end.now.cause) out.new }
+{
+    *out = of_end(&end.reason, &ending_in(&end.cause));
+}
+
 /// Writes what an order of this supervisor says, each field once.
 #[tactic(auto, unfolding(otp_driver::specs::Orders::what_of))]
 fn write_what(supervisor: &Supervisor, order: &Effect, out: &mut COrder)
@@ -129,9 +151,9 @@ fn write_what(supervisor: &Supervisor, order: &Effect, out: &mut COrder)
             write_deadline(deadline_in(row), out);
         }
         Effect::Kill(id, number) => write_task(3, *number, id, supervisor.child(*number), out),
-        Effect::Reply(call) => *out = plain(4, *call),
-        Effect::Ready => *out = plain(5, 0),
-        Effect::End(end) => *out = of_end(&end.reason, &ending_in(&end.cause)),
+        Effect::Reply(call) => write_plain(4, *call, out),
+        Effect::Ready => write_plain(5, 0, out),
+        Effect::End(end) => write_end(end, out),
     }
 }
 

@@ -152,12 +152,14 @@ pub fn reason_in(reason: u32, text: &[u8]) -> Result<Reason, NoReason>
         4 => Ok(Reason::Kill),
         5 => Ok(Reason::Killed),
         6 => Ok(Reason::NoProc),
-        3 => match Text::new(text) {
-            Some(text) => Ok(Reason::ShutdownWith(text)),
-            None => Err(NoReason::Text),
-        },
-        7 => match Text::new(text) {
-            Some(text) => Ok(Reason::Error(text)),
+        3 | 7 => match Text::new(text) {
+            Some(text) => {
+                if reason == 7 {
+                    Ok(Reason::Error(text))
+                } else {
+                    Ok(Reason::ShutdownWith(text))
+                }
+            }
             None => Err(NoReason::Text),
         },
         _ => Err(NoReason::Kind),

@@ -7,3 +7,4 @@ pub mod Linkings
 pub mod Steps
 pub mod Tellings
 pub mod Under
+pub mod Seen

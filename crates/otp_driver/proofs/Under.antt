@@ -1,14 +1,16 @@
 -- Where no child of a supervisor is a supervisor, no row is one.
 use Rattle.std.proofs.Common.{◌≡◌, ◌∙◌, ◌<◌, ◌==◌, ℕ, List, [], ◌∷◌, Option, None, Some, ap, arith, get_or, length, refl, suc, zero}
-use Rattle.std.specs.Prelude.{Bool, true, false, ◌&&◌, ◌||◌, cond, is_some, nat_lt, position}
+use Rattle.std.specs.Prelude.{Bool, true, false, ◌&&◌, ◌||◌, cond, is_some, nat_lt, position, slice_get}
 use Rattle.std.specs.List.{list_any, position_or_len}
 use Rattle.std.proofs.lemmas.Bool.{both_ways, le-ltb}
 use Rattle.std.proofs.lemmas.List.Sums.{position_or_len_is}
 use Rattle.otp_spec.specs.declared.child.ChildSpec.{ChildSpec}
 use Rattle.otp_table.specs.declared.row.Row.{Row}
 use Rattle.otp_driver.specs.declared.link.Link.{Link}
-use Rattle.otp_driver.specs.Links.{is_child_of, is_link_of, is_link_under}
-use Rattle.otp_driver.specs.Routes.{nested_of}
+use Rattle.otp_driver.specs.Links.{holds_process, is_child_of, is_link_near, is_link_of, is_link_under}
+use Rattle.otp_driver.specs.Driven.{Driven, is_nested, is_nested_of}
+use Rattle.otp_driver.specs.Members.{Member, state_in}
+use Rattle.otp_driver.specs.Routes.{nested_of, row_at}
 
 never : (b : Bool) → (b && false) ≡ false
 never true = refl
@@ -26,6 +28,10 @@ either : (a b : Bool) → (a || b) ≡ false → (a ≡ false) × (b ≡ false)
 either true b off = absurd (both_ways true off refl)
 either false b off = (refl, off)
 
+both_off : (a b : Bool) → a ≡ false → b ≡ false → (a || b) ≡ false
+both_off true b a_off b_off = a_off
+both_off false b a_off b_off = b_off
+
 none_of : (place : ℕ) (row : Row) (links : List Link) → list_any (is_link_under place) links ≡ false
     → (k : ℕ) (d : Link) → k < length links → is_link_of place row (get_or links k d) ≡ false
 none_of place row [] off k d inside = absurd (omega (arith, inside))
@@ -34,10 +40,30 @@ none_of place row (l ∷ ls) off zero d inside =
 none_of place row (l ∷ ls) off (suc k) d inside =
     none_of place row ls (either (is_link_under place l) (list_any (is_link_under place) ls) off).1 k d (omega (arith, inside))
 
+-- where none is a child of the supervisor, nor runs as the process, no child is a supervisor
+pub none_under : (place number : ℕ) (links : List Link) → list_any (is_link_near place number) links ≡ false → list_any (is_link_under place) links ≡ false
+none_under place number [] off = refl
+none_under place number (l ∷ ls) off =
+    let now : (is_link_near place number l ≡ false) × (list_any (is_link_near place number) ls ≡ false) = either (is_link_near place number l) (list_any (is_link_near place number) ls) off in
+    both_off (is_link_under place l) (list_any (is_link_under place) ls) (either (is_link_under place l) (holds_process place number l) now.0).0 (none_under place number ls now.1)
+
+-- and none runs as the process
+none_holds : (place number : ℕ) (links : List Link) → list_any (is_link_near place number) links ≡ false
+    → (k : ℕ) (d : Link) → k < length links → holds_process place number (get_or links k d) ≡ false
+none_holds place number [] off k d inside = absurd (omega (arith, inside))
+none_holds place number (l ∷ ls) off zero d inside =
+    (either (is_link_under place l) (holds_process place number l) (either (is_link_near place number l) (list_any (is_link_near place number) ls) off).0).1
+none_holds place number (l ∷ ls) off (suc k) d inside =
+    none_holds place number ls (either (is_link_near place number l) (list_any (is_link_near place number) ls) off).1 k d (omega (arith, inside))
+
 nowhere : (test : Link → Bool) (links : List Link) (d : Link) → ((k : ℕ) → k < length links → test (get_or links k d) ≡ false) → position test links ≡ None
 nowhere test links d fails =
     let none : position_or_len test links ≡ length links = position_or_len_is test links (length links) d (omega arith) fails (λ lt. absurd (omega (arith, lt))) in
     ap (λ (i : ℕ). cond (nat_lt i (length links)) (Some i) None) none ∙ ap (λ (b : Bool). cond b (Some (length links)) None) (le-ltb (length links) (length links) (omega arith))
+
+pub none_runs : (place number : ℕ) (links : List Link) → list_any (is_link_near place number) links ≡ false → position (holds_process place number) links ≡ None
+none_runs place number [] off = refl
+none_runs place number (l ∷ ls) off = nowhere (holds_process place number) (l ∷ ls) l (λ k. none_holds place number (l ∷ ls) off k l)
 
 no_row : (place : ℕ) (row : Row) (links : List Link) → list_any (is_link_under place) links ≡ false → position (is_link_of place row) links ≡ None
 no_row place row [] off = refl
@@ -47,3 +73,13 @@ pub none_nested : (place : ℕ) (row : Option Row) (links : List Link) → list_
 unfolding nested_of
 none_nested place None links off = refl
 none_nested place (Some row) links off = no_row place row links off
+
+none_near_of : (links : List Link) (place number : ℕ) (o : Option Member) → list_any (is_link_near place number) links ≡ false → is_nested_of links place number o ≡ false
+none_near_of links place number None off = refl
+none_near_of links place number (Some m) off =
+    both_off (is_some (position (holds_process place number) links)) (is_some (nested_of links place (row_at (state_in m).rows number)))
+    (ap is_some (none_runs place number links off)) (ap is_some (none_nested place (row_at (state_in m).rows number) links (none_under place number links off)))
+
+pub none_near : (t : Driven) (place number : ℕ) → list_any (is_link_near place number) t.links ≡ false → is_nested t place number ≡ false
+unfolding is_nested
+none_near t place number off = none_near_of t.links place number (slice_get t.members place) off

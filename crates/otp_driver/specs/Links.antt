@@ -55,6 +55,10 @@ is_process number (Some process) = process == number
 abbrev pub holds_process : ℕ → ℕ → Link → Bool
 holds_process parent number link = link.parent == parent && is_process number link.process
 
+-- one of both: a child of this parent, or what runs as this process
+abbrev pub is_link_near : ℕ → ℕ → Link → Bool
+is_link_near parent number link = is_link_under parent link || holds_process parent number link
+
 -- what it tells its parent when it ends: before it was up its start has failed (supervisor, start_link/2,3)
 abbrev pub note_of_end : Bool → ℕ → Reason → Note
 note_of_end true number reason = note.Exit number reason

@@ -1,11 +1,13 @@
--- What a tree did when it was to go on by itself.
-use Rattle.std.specs.Prelude.{◌≡◌}
-use Rattle.otp_driver.specs.declared.driver.Turn.{Turn}
-use Rattle.otp_driver.specs.declared.driver.Turn.TheVariants.{Outside, Went, Idle}
+-- What a tree did of what comes by itself.
+use Rattle.std.specs.Prelude.{◌≡◌, ℕ, Bool, true, false}
 use Rattle.otp_driver.specs.Driven.{Driven, IsIdle, IsOutside, Step}
 
--- one step; or none, since it stands still
-abbrev pub Turns : Turn → Driven → Driven → Type 0
-Turns (Outside place) old new = (new ≡ old) × IsOutside old place
-Turns Went old new = Step old new
-Turns Idle old new = (new ≡ old) × IsIdle old
+-- the next order of the supervisor at this place was done; or nothing, since it is for the outside
+abbrev pub Turns : Bool → ℕ → Driven → Driven → Type 0
+Turns true place old new = Step old new
+Turns false place old new = (new ≡ old) × IsOutside old place
+
+-- once all orders were taken a step was made; or none, since nothing is left to do
+abbrev pub Idles : Bool → Driven → Driven → Type 0
+Idles true old new = Step old new
+Idles false old new = (new ≡ old) × IsIdle old

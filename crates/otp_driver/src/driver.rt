@@ -1,24 +1,24 @@
 //! The tree.
 
-ghost use Rattle.std.specs.Prelude.{Err, IsTrue, true, false, ◌≡◌, ◌<◌, ◌≤◌, ◌+◌, OnOk, OnErr, None, IfErr, IfOk, IfSome, ℕ, IfNone, Some, length, position, slice_get, min, max};
+ghost use Rattle.std.specs.Prelude.{Err, IsTrue, true, false, ◌≡◌, ◌<◌, ◌≤◌, ◌+◌, OnOk, OnErr, None, IfErr, IfOk, IfSome, ℕ, IfNone, Some, is_some, length, position, slice_get, min, max};
 ghost use Rattle.otp_rules.specs.declared.event.Item.TheVariants as item;
 ghost use Rattle.otp_rules.specs.declared.event.Kind.TheVariants as kind;
 ghost use Rattle.otp_spec.specs.declared.limits.TheConstants.{MAX_READING};
-ghost use Rattle.otp_driver.specs.Driven.{AllTaken, Called, Carried, Does, GoesOn, IsAsked, IsAt, is_nested, IsNextBy, IsOutside, least_deadline, process_of, Occurs, Refuses, RefusesCall, RefusesMore, RefusesNote, RefusesRoute, RefusesStep, Relinks, Routed, Stands, Takes, comes_at, with_link};
+ghost use Rattle.otp_driver.specs.Driven.{AllTaken, Called, Carried, Does, GoesOn, IsAsked, IsAt, is_nested, IsNextBy, IsOutside, least_deadline, process_of, Occurs, Refuses, RefusesCall, RefusesMore, RefusesNote, RefusesRoute, RefusesStep, Relinks, Routed, Stands, Step, Takes, comes_at, with_link};
 ghost use Rattle.otp_rules.specs.Next.{earlier};
 ghost use Rattle.otp_driver.specs.declared.fault.DriveFault.TheVariants as fault;
 ghost use Rattle.otp_driver.specs.declared.route.Route.TheVariants as route;
 ghost use Rattle.otp_driver.specs.Links.{asked, begun, is_link_of, told};
 ghost use Rattle.otp_driver.specs.Members.{Member, has_order};
 ghost use Rattle.otp_driver.specs.Routes.{IsWithin};
-ghost use Rattle.otp_driver.specs.Turns.{Turns};
+ghost use Rattle.otp_driver.specs.Turns.{Idles, Turns};
 
 use crate::fault::DriveFault;
-use crate::link::{Link, find_process, find_row};
+use crate::link::{Link, find_process, find_row, may_be_nested};
 use crate::route::{Route, is_outside, nested_at, route_of};
 use crate::supervisor::Supervisor;
 use otp_reason::Note;
-use otp_rules::{Call, Ending, Item, Kind};
+use otp_rules::{Call, Effect, Ending, Item, Kind};
 use otp_spec::MAX_READING;
 use otp_table::Row;
 use std::alloc::Global;
@@ -36,7 +36,7 @@ use std::marker::Model;
 ///     }
 ///     wait(driver.next_deadline());
 ///     driver.tick(now)?;                                   // milliseconds
-///     driver.note(place, Note::Exit(number, reason))?;     // what a process tells, a call, or the stop
+///     driver.note(place, &Note::Exit(number, reason))?;    // what a process tells, a call, or the stop
 /// }
 /// ```
 ///
@@ -63,17 +63,6 @@ impl Model for Driver {
     ghost view = { driven_of };
 
     ghost invariant = { IsDriver };
-}
-
-/// What was done of what comes by itself.
-#[derive(Clone, Copy)]
-enum Turn {
-    /// Nothing: the next order of the supervisor at this place is for the outside.
-    Outside(usize),
-    /// A step.
-    Went,
-    /// Nothing, since nothing is left to do.
-    Idle,
 }
 
 /// The place of the first supervisor that has an order.
@@ -240,11 +229,12 @@ impl Driver {
         }
     }
 
-    /// The next order of the supervisor at this place is done, if it stays in the tree.
-    fn go_on_at(&mut self, place: usize) -> Result<Turn, DriveFault>
+    /// The next order of the supervisor at this place is done, if it stays in the tree; whether it was.
+    #[inline(never)]
+    fn do_next(&mut self, place: usize) -> Result<bool, DriveFault>
         requires place { place < length self.old.members }
         requires order { (m : Member) → IsAt self.old.members place m → has_order m ≡ true }
-        ensures ok { IfOk result (λ turn. Turns turn self.old self.new) }
+        ensures ok { IfOk result (λ went. Turns went place self.old self.new) }
         ensures err { OnErr result (self.new ≡ self.old) }
         ensures why { IfErr result (λ why. RefusesStep why self.old) }
     {
@@ -254,9 +244,9 @@ impl Driver {
         let done = self.carry_out(place, &route)?;
         if done {
             self.pass(place);
-            Ok(Turn::Went)
+            Ok(true)
         } else {
-            Ok(Turn::Outside(place))
+            Ok(false)
         }
     }
 
@@ -269,6 +259,36 @@ impl Driver {
         match supervisor.order() {
             None => false,
             Some(order) => is_outside(self.links.as_slice(), place, supervisor, order),
+        }
+    }
+
+    /// The child that the next order of the supervisor at this place names is looked for.
+    fn look_for_next(&mut self, place: usize)
+        requires { place < length self.old.members }
+        ensures { self.new ≡ self.old }
+    {
+        let number = match self.supervisors[place].order() {
+            Some(Effect::Start(_, number) | Effect::Ask(_, number) | Effect::Kill(_, number)) => {
+                *number
+            }
+            _ => return,
+        };
+        self.supervisors[place].look_for(number);
+    }
+
+    /// The same. Most orders are for the outside, as is seen without their routes; the child that such a one names is looked for.
+    fn go_on_at(&mut self, place: usize) -> Result<bool, DriveFault>
+        requires place { place < length self.old.members }
+        requires order { (m : Member) → IsAt self.old.members place m → has_order m ≡ true }
+        ensures ok { IfOk result (λ went. Turns went place self.old self.new) }
+        ensures err { OnErr result (self.new ≡ self.old) }
+        ensures why { IfErr result (λ why. RefusesStep why self.old) }
+    {
+        if self.goes_outside(place) {
+            self.look_for_next(place);
+            Ok(false)
+        } else {
+            self.do_next(place)
         }
     }
 
@@ -286,50 +306,64 @@ impl Driver {
         }
     }
 
-    /// What comes next by itself once all orders were taken: a deadline, a stop that is wanted, what waits.
-    fn next_by_itself(&self) -> Option<(usize, Kind)>
-        ensures some { IfSome result (λ next. (next.0 < length self.now.members) × (comes_at self.now next.0 ≡ Some next.1)) }
+    /// Whether the supervisor at this place does something next by itself.
+    #[tactic(auto, unfolding(crate::specs::Driven::comes_at))]
+    fn goes_on_at(&self, place: usize) -> bool
+        ensures { result ≡ is_some (comes_at self.now place) }
+    {
+        let Some(supervisor) = self.supervisors.get(place) else {
+            return false;
+        };
+        let Some(link) = self.links.get(place) else {
+            return false;
+        };
+        link.runs(place) && supervisor.has_next(self.reading, link.is_stopping)
+    }
+
+    /// The first supervisor that does something by itself once all orders were taken: a deadline, a stop that is wanted, what
+    /// waits.
+    fn find_by_itself(&self) -> Option<usize>
+        ensures some { IfSome result (λ place. (place < length self.now.members) × (is_some (comes_at self.now place) ≡ true)) }
         ensures none { IfNone result ((place : ℕ) → place < length self.now.members → comes_at self.now place ≡ None) }
     {
         for place in 0..self.supervisors.len() {
-            if let Some(kind) = self.comes_at(place) {
-                return Some((place, kind));
+            if self.goes_on_at(place) {
+                return Some(place);
             }
         }
         None
     }
 
-    /// What comes next by itself is done.
-    fn go_on_idle(&mut self) -> Result<Turn, DriveFault>
-        requires { AllTaken self.old }
-        ensures ok { IfOk result (λ turn. Turns turn self.old self.new) }
+    /// What the supervisor at this place does next by itself happens.
+    #[inline(never)]
+    fn happen_by_itself(&mut self, place: usize) -> Result<(), DriveFault>
+        requires taken { AllTaken self.old }
+        requires place { place < length self.old.members }
+        requires comes { is_some (comes_at self.old place) ≡ true }
+        ensures ok { OnOk result (Step self.old self.new) }
         ensures err { OnErr result (self.new ≡ self.old) }
         ensures why { IfErr result (λ why. RefusesStep why self.old) }
     {
-        match self.next_by_itself() {
-            None => Ok(Turn::Idle),
-            Some((place, kind)) => {
-                self.happen(place, &kind)?;
-                Ok(Turn::Went)
-            }
-        }
+        let Some(kind) = self.comes_at(place) else {
+            return Err(DriveFault::NoSupervisor);
+        };
+        self.happen(place, &kind)?;
+        Ok(())
     }
 
-    /// One step, if one comes by itself.
-    fn go_on(&mut self) -> Result<Turn, DriveFault>
-        ensures ok { IfOk result (λ turn. Turns turn self.old self.new) }
+    /// What comes next by itself happens, if anything does; whether it did.
+    fn go_on_idle(&mut self) -> Result<bool, DriveFault>
+        requires { AllTaken self.old }
+        ensures ok { IfOk result (λ went. Idles went self.old self.new) }
         ensures err { OnErr result (self.new ≡ self.old) }
         ensures why { IfErr result (λ why. RefusesStep why self.old) }
     {
-        match find_order(self.supervisors.as_slice()) {
+        match self.find_by_itself() {
+            None => Ok(false),
             Some(place) => {
-                if self.goes_outside(place) {
-                    Ok(Turn::Outside(place))
-                } else {
-                    self.go_on_at(place)
-                }
+                self.happen_by_itself(place)?;
+                Ok(true)
             }
-            None => self.go_on_idle(),
         }
     }
 
@@ -347,10 +381,17 @@ impl Driver {
         ensures why { IfErr result (λ why. RefusesMore why self.old self.new) }
     {
         for _steps in 0..u64::MAX {
-            match self.go_on()? {
-                Turn::Outside(place) => return Ok(Some(place)),
-                Turn::Idle => return Ok(None),
-                Turn::Went => {}
+            match find_order(self.supervisors.as_slice()) {
+                Some(place) => {
+                    if !self.go_on_at(place)? {
+                        return Ok(Some(place));
+                    }
+                }
+                None => {
+                    if !self.go_on_idle()? {
+                        return Ok(None);
+                    }
+                }
             }
         }
         Err(DriveFault::Spent)
@@ -385,7 +426,8 @@ impl Driver {
     /// Whether the process of this number, a child of the supervisor at this place, is a supervisor of the tree: it runs as
     /// one, or is to start as one.
     #[tactic(auto, unfolding(crate::specs::Driven::is_nested))]
-    fn is_nested(&self, place: usize, number: u64) -> bool
+    #[inline(never)]
+    fn finds_nested(&self, place: usize, number: u64) -> bool
         requires { place < length self.now.members }
         ensures { result ≡ is_nested self.now place number }
     {
@@ -397,27 +439,42 @@ impl Driver {
         nested_at(links, place, supervisor, number).is_some()
     }
 
+    /// The same, by one look where no child of the supervisor is one of the tree.
+    #[tactic(auto, unfolding(crate::specs::Driven::is_nested))]
+    fn is_nested(&self, place: usize, number: u64) -> bool
+        requires { place < length self.now.members }
+        ensures { result ≡ is_nested self.now place number }
+    {
+        if may_be_nested(self.links.as_slice(), place, number) {
+            self.finds_nested(place, number)
+        } else {
+            false
+        }
+    }
+
     /// A process outside tells its supervisor, at this place, that it is up, was ignored, has failed, or has ended.
     ///
     /// # Errors
     ///
     /// [`DriveFault::NoSupervisor`], [`DriveFault::IsNested`], [`DriveFault::OutOfMemory`], [`DriveFault::OrdersWait`],
     /// [`DriveFault::Spent`].
-    pub fn note(&mut self, place: usize, note: Note) -> Result<(), DriveFault>
-        ensures ok { OnOk result (Occurs place (kind.Took (item.Note note)) self.old self.new) }
-        ensures outside { OnOk result (is_nested self.old place (process_of note) ≡ false) }
-        ensures nested { place < length self.old.members → is_nested self.old place (process_of note) ≡ true → result ≡ Err fault.IsNested }
+    #[inline]
+    pub fn note(&mut self, place: usize, note: &Note) -> Result<(), DriveFault>
+        ensures ok { OnOk result (Occurs place (kind.Took (item.Note note.now)) self.old self.new) }
+        ensures outside { OnOk result (is_nested self.old place (process_of note.now) ≡ false) }
+        ensures nested { place < length self.old.members → is_nested self.old place (process_of note.now) ≡ true → result ≡ Err fault.IsNested }
         ensures missing { length self.old.members ≤ place → result ≡ Err fault.NoSupervisor }
         ensures err { OnErr result (self.new ≡ self.old) }
-        ensures why { IfErr result (λ why. RefusesNote place note why self.old) }
+        ensures why { IfErr result (λ why. RefusesNote place note.now why self.old) }
     {
+        let kind = Kind::Took(Item::Note(*note));
         if place >= self.supervisors.len() {
             return Err(DriveFault::NoSupervisor);
         }
-        if self.is_nested(place, process_of(&note)) {
+        if self.is_nested(place, process_of(note)) {
             return Err(DriveFault::IsNested);
         }
-        self.happen(place, &Kind::Took(Item::Note(note)))
+        self.happen(place, &kind)
     }
 
     /// Somebody calls the supervisor at this place; the answer is the call's number. Its reply comes as an order of that

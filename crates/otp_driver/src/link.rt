@@ -2,7 +2,7 @@
 
 ghost use Rattle.std.specs.Prelude.{◌≡◌, position};
 ghost use Rattle.std.specs.List.{list_any};
-ghost use Rattle.otp_driver.specs.Links.{asked, begun, first_link, holds_process, is_link_of, is_link_under, note_of_end, runs, told};
+ghost use Rattle.otp_driver.specs.Links.{asked, begun, first_link, holds_process, is_link_near, is_link_of, is_link_under, note_of_end, runs, told};
 
 use otp_reason::{Note, Reason};
 use otp_rules::Ending;
@@ -129,6 +129,15 @@ pub(crate) fn has_nested(links: &[Link], parent: usize) -> bool
     ensures { result ≡ list_any (is_link_under parent) links.now }
 {
     links.iter().any(|link| link.is_under(parent))
+}
+
+/// Whether a child of this supervisor is a supervisor of the tree, or one runs as the process of this number, a child of it.
+pub(crate) fn may_be_nested(links: &[Link], parent: usize, number: u64) -> bool
+    ensures { result ≡ list_any (is_link_near parent number) links.now }
+{
+    links
+        .iter()
+        .any(|link| link.is_under(parent) || link.holds(parent, number))
 }
 
 /// The supervisor that is the child which this row of its parent has.

@@ -89,6 +89,7 @@ impl Session {
     }
 
     /// The answer to this call, of which the next order at this place tells, is kept from now on.
+    #[inline(never)]
     fn keep_answer(&mut self, place: usize, call: u64) -> Result<(), DriveFault>
         requires place { place < length self.old.driver.members }
         requires answers { AnswersAt self.old.driver place call }

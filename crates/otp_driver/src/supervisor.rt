@@ -1,6 +1,9 @@
 //! A supervisor of the tree: its core, and how many of its orders were taken.
 
-ghost use Rattle.std.specs.Prelude.{◌≡◌, ℕ, All, ◌≤◌, ◌<◌, ◌^◌, ◌-◌, ◌⊎◌, [], false, true, IsTrue, Some, is_some, min, slice_get, length, nat_lt, option_map, IfErr, IfOk, OnOk, OnErr};
+ghost use Rattle.std.specs.Prelude.{◌≡◌, ℕ, All, ◌≤◌, ◌<◌, ◌^◌, ◌-◌, ◌⊎◌, [], false, true, IsTrue, Some, is_some, min, slice_get, length, nat_lt, option_map, IfErr, IfOk, IfSome, OnOk, OnErr};
+ghost use Rattle.otp_core.specs.Full.{is_full};
+ghost use Rattle.otp_core.specs.Happened.{HasNoRoom as CoreHasNoRoom, IsEventFault, cut_before};
+ghost use Rattle.otp_table.specs.Rows.{has_process};
 ghost use Rattle.otp_rules.specs.Counts.{counts_of};
 ghost use Rattle.otp_rules.specs.Ends.{last_stamps};
 ghost use Rattle.otp_rules.specs.Next.{next_deadline, next_kind};
@@ -16,7 +19,7 @@ ghost use Rattle.otp_rules.specs.declared.event.Effect.TheVariants as effect;
 
 use crate::fault::{DriveFault, fault_of};
 use crate::limits::KEPT_EVENTS;
-use otp_core::{Core, Counter, ReplyAnswer, laws};
+use otp_core::{Core, Counter, EventFault, ReplyAnswer, laws};
 use otp_rules::{CountsNow, Effect, Kind, Phase, Reply};
 use otp_spec::{MAX_READING, SupFlags, SupSpec};
 use otp_table::Row;
@@ -31,6 +34,8 @@ pub struct Supervisor {
     flags: SupFlags,
     core: Core,
     taken: usize,
+    /// The place of the child that was looked for last. Nothing that contracts see depends on it.
+    seen: usize,
 }
 
 impl Model for Supervisor {
@@ -45,8 +50,54 @@ impl Model for Supervisor {
     ghost invariant = { IsMember };
 }
 
+/// Takes the memory of a core's next event, and makes room for it.
+fn make_ready(core: &mut Core) -> Result<(), EventFault>
+    ensures core { core.new ≡ record core.old { cut = core.new.cut; prepared = core.new.prepared } }
+    ensures cut { OnOk result (core.new.cut ≡ cut_before KEPT_EVENTS core.old) }
+    ensures kept { OnErr result (core.new.cut ≡ core.old.cut) }
+    ensures prepared { OnOk result (core.new.prepared ≡ true) }
+    ensures room { OnOk result (is_full core.new ≡ false) }
+    ensures why { IfErr result (IsEventFault core.old) }
+{
+    core.prepare()?;
+    make_room_if_cleared(core)?;
+    Ok(())
+}
+
+/// Makes room where the effects were cleared. Where they weren't there must be room, since a cut drops the answers that they
+/// tell of.
+fn make_room_if_cleared(core: &mut Core) -> Result<(), EventFault>
+    ensures core { core.new ≡ record core.old { cut = core.new.cut } }
+    ensures cut { OnOk result (core.new.cut ≡ cut_before KEPT_EVENTS core.old) }
+    ensures err { OnErr result (core.new ≡ core.old) }
+    ensures room { OnOk result (is_full core.new ≡ false) }
+    ensures why { IfErr result (CoreHasNoRoom core.old) }
+{
+    if core.effects().is_empty() {
+        core.make_room(KEPT_EVENTS)?;
+        return Ok(());
+    }
+    if core.is_full() {
+        Err(EventFault::OrdersWait)
+    } else {
+        Ok(())
+    }
+}
+
+/// The row at this place, if it has this process.
+fn row_with(rows: &[Row], place: usize, number: u64) -> Option<&Row>
+    ensures { IfSome result (λ row. (slice_get rows.now place ≡ Some row.now) × (has_process number row.now.state ≡ true)) }
+{
+    let row = rows.get(place)?;
+    if row.state.has_process(number) {
+        Some(row)
+    } else {
+        None
+    }
+}
+
 /// Something happens to a core, of which only the last events are kept while no order waits. The answer is the last process
-/// number then.
+/// number then. It is [`Core::happen`] by its parts: so the event, which is large, is copied once.
 fn happen(core: &mut Core, reading: u64, kind: &Kind, last: u64) -> Result<u64, DriveFault>
     requires reading { reading ≤ MAX_READING }
     requires last { last < MAX_READING }
@@ -60,11 +111,12 @@ fn happen(core: &mut Core, reading: u64, kind: &Kind, last: u64) -> Result<u64, 
     laws::answers_are_told();
     laws::cuts_agree();
     laws::runs_are_joined();
-    let mut numbers = Counter { last };
-    match core.happen(KEPT_EVENTS, reading, *kind, &mut numbers) {
-        Ok(_) => Ok(numbers.last),
-        Err(cause) => Err(fault_of(cause)),
+    if let Err(cause) = make_ready(core) {
+        return Err(fault_of(cause));
     }
+    let mut numbers = Counter { last };
+    let _ = core.step_with(reading, *kind, &mut numbers);
+    Ok(numbers.last)
 }
 
 impl Supervisor {
@@ -76,6 +128,7 @@ impl Supervisor {
             flags: supervisor.flags(),
             core: Core::of(alloc, supervisor),
             taken: 0,
+            seen: 0,
         }
     }
 
@@ -139,13 +192,41 @@ impl Supervisor {
         self.core.rows()
     }
 
-    /// The child that has this process. The core finds it by the number.
+    /// The child that has this process. Where it isn't the one that was looked for last, the core finds it by the number.
     #[tactic(auto, unfolding(crate::specs::Routes::row_at))]
     pub fn child(&self, number: u64) -> Option<&Row>
         ensures { option_map (λ r. r.now) result ≡ row_at (state_in self.now).rows number }
     {
+        if let Some(row) = self.seen_child(number) {
+            return Some(row);
+        }
         let place = self.core.find_process(number)?;
         self.core.rows().get(place)
+    }
+
+    /// The child that was looked for last, if it has this process: no other has it.
+    fn seen_child(&self, number: u64) -> Option<&Row>
+        ensures { IfSome result (λ row. row_at (state_in self.now).rows number ≡ Some row.now) }
+    {
+        laws::processes_are_owned();
+        let _lawful = self.core.history();
+        let _last = self.core.last_number();
+        match row_with(self.core.rows(), self.seen, number) {
+            Some(row) => Some(row),
+            None => None,
+        }
+    }
+
+    /// Looks for the child that has this process, so that it is found at once from then on.
+    pub(crate) fn look_for(&mut self, number: u64)
+        ensures { self.new ≡ self.old }
+    {
+        if self.seen_child(number).is_some() {
+            return;
+        }
+        if let Some(place) = self.core.find_process(number) {
+            self.seen = place;
+        }
     }
 
     /// Whether it runs, and how it ended.
@@ -206,6 +287,26 @@ impl Supervisor {
         ensures { result ≡ next_kind (state_in self.now) reading is_stopping }
     {
         self.core.next_kind(reading, is_stopping)
+    }
+
+    /// Whether it does something next by itself at this reading of the clock.
+    #[tactic(auto, unfolding(otp_rules::specs::Next::next_kind, otp_rules::specs::Next::idle_kind))]
+    pub(crate) fn has_next(&self, reading: u64, is_stopping: bool) -> bool
+        ensures { result ≡ is_some (next_kind (state_in self.now) reading is_stopping) }
+    {
+        if self.core.is_due(reading) {
+            return true;
+        }
+        if self.core.has_open_work() {
+            return false;
+        }
+        if is_stopping && !self.core.has_ended() {
+            return true;
+        }
+        if self.core.has_waiting() {
+            return true;
+        }
+        false
     }
 
     /// The least deadline in milliseconds of the children that were told to shut down.

@@ -64,7 +64,7 @@ fn tell_once(session: &mut Session, place: usize, line: Line) -> Result<(), Driv
     match line {
         Line::Empty => Ok(()),
         Line::At(reading) => session.driver.tick(reading),
-        Line::Note(note) => session.driver.note(place, note),
+        Line::Note(note) => session.driver.note(place, &note),
         Line::Call(call) => match session.driver.call(place, call) {
             Ok(_) => Ok(()),
             Err(fault) => Err(fault),

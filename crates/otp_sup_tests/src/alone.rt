@@ -1,18 +1,14 @@
 // A supervisor's table without its lock, driven by hand: a turn at a time, and an order at a time, over a port in memory.
 ghost use Rattle.std.specs.Prelude.{◌≡◌, ◌≤◌, ◌<◌, ◌^◌};
 
-use crate::fixtures::{Post, hand_in_all, same, seat_table};
-use crate::script::{Known, OwnSteps, Stand, Step, known_of};
+use crate::fixtures::{Post, hand_in_all, has_told_end, same, seat_table};
+use crate::script::{Known, Stand, Step, known_of};
 use crate::shut::Shut;
 use otp_inbox::{Inbox, InboxNaming, Sender, UnnamedInbox};
 use otp_reason::Note;
-use otp_rules::Cause;
 use otp_signals::{OpenWords, Signal, Viewer, Words, WordsNaming};
 use otp_spec::SupSpec;
-use otp_sup::{
-    CutAnswer, Flushed, MemoryPort, Message, NewProcess, PlanNaming, Table, ToldNote, TurnAnswer,
-    TurnFault,
-};
+use otp_sup::{Flushed, MemoryPort, Message, NewProcess, PlanNaming, Table, TurnAnswer, TurnFault};
 use std::alloc::Global;
 use std::process::Abort;
 use std::sync::Wait;
@@ -89,25 +85,6 @@ impl<N: WordsNaming + InboxNaming + PlanNaming> Alone<N> {
         self.fits(rt);
         self.table
             .flush_one(&self.words, &self.inbox, &mut self.sender, &mut self.port)
-    }
-
-    // A checkpoint is answered so.
-    fn cuts<R: Abort>(&mut self, rt: &R, answer: CutAnswer) {
-        let cut = self.table.cut().ok();
-        same(rt, "a checkpoint", cut, Some(answer));
-    }
-
-    // Whether the last note that the parent was told brings the end of a supervisor that was asked to stop.
-    fn has_told_asked(&self) -> bool {
-        match self.port.notes.last() {
-            Some(
-                ToldNote {
-                    note: _,
-                    end: Some(end),
-                },
-            ) => matches!(end.end().cause, Cause::Asked),
-            _ => false,
-        }
     }
 
     // The table alone.
@@ -188,26 +165,34 @@ impl<N: WordsNaming + InboxNaming + PlanNaming> Stand for Alone<N> {
         known_of(self.table.reply(call))
     }
 
-    fn take_box<R: Wait + Abort>(&mut self, _rt: &R, call: u64) -> Option<u64> {
-        self.table.take_box(call)
-    }
-
-    fn take_stray<R: Wait + Abort>(&mut self, _rt: &R) -> Option<u64> {
-        self.table.take_stray()
+    fn take_body<R: Wait + Abort>(&mut self, _rt: &R, call: Option<u64>) -> Option<u64> {
+        match call {
+            Some(call) => self.table.take_box(call),
+            None => self.table.take_stray(),
+        }
     }
 
     fn has_empty_port(&self) -> bool {
         self.port.processes.is_empty() && self.port.notes.is_empty()
     }
-}
 
-impl<N: WordsNaming + InboxNaming + PlanNaming> OwnSteps for Alone<N> {
     fn acts<R: Wait + Abort>(&mut self, rt: &R, alloc: Global, step: Step) {
         match step {
             Step::IsRefused => self.is_refused(rt, alloc),
-            Step::Cuts(answer) => self.cuts(rt, answer),
-            Step::TellsAsked => assert!(rt; self.has_told_asked()),
+            Step::Cuts(answer) => {
+                let cut = self.table.cut().ok();
+                same(rt, "a checkpoint", cut, Some(answer))
+            }
+            Step::TellsAsked => assert!(rt; has_told_end(&self.port, true)),
             _ => panic!(rt; "a table has no such step"),
         }
+    }
+
+    fn call<R: Wait + Abort>(&mut self, rt: &R, _body: u64) -> u64 {
+        panic!(rt; "a table has no client")
+    }
+
+    fn has_given_up<R: Wait + Abort>(&mut self, rt: &R) -> bool {
+        panic!(rt; "a table is asked for each end")
     }
 }

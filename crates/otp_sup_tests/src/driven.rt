@@ -4,17 +4,16 @@
 // it would have done.
 ghost use Rattle.std.specs.Prelude.{◌≡◌, ◌≤◌, ◌^◌};
 
-use crate::fixtures::{Post, got, hand_in_all, open_parts, same, seat_table, second};
-use crate::script::{Known, OwnSteps, Sent, Stand, Step, known_of, play, takes};
+use crate::fixtures::{Post, got, hand_in_all, has_told_end, open_parts, same, seat_table, second};
+use crate::script::{Known, Stand, Step, known_of, play};
 use otp_core::ReplyAnswer;
 use otp_inbox::{InboxNaming, Sender, UnnamedInbox};
-use otp_reason::{Note, Reason};
-use otp_rules::{Call, Cause};
+use otp_reason::Note;
+use otp_rules::Call;
 use otp_signals::{OpenWords, Signal, Viewer, Words, WordsNaming};
-use otp_spec::{MAX_EVENTS, SupSpec};
+use otp_spec::SupSpec;
 use otp_sup::{
-    Client, MemoryPort, Message, NewProcess, PlanNaming, SubmitCause, Sup, ToldNote, TurnAnswer,
-    TurnFault,
+    Client, MemoryPort, Message, NewProcess, PlanNaming, SubmitCause, Sup, TurnAnswer, TurnFault,
 };
 use std::alloc::Global;
 use std::marker::Brand;
@@ -131,31 +130,6 @@ impl<N: WordsNaming + InboxNaming + PlanNaming> Driven<N> {
             .submit(rt, &self.words, self.sup.inbox(), call, body);
         sent.map_err(|fault| (fault.cause, fault.body))
     }
-
-    // The call's number. Where memory is refused it is sent again, with the body that came back.
-    fn call<R: Wait + Abort>(&mut self, rt: &R, body: u64) -> u64 {
-        match self.call_once(rt, Some(body)) {
-            Ok(number) => number,
-            Err((cause, back)) => {
-                same(rt, "a refused call", cause, SubmitCause::OutOfMemory);
-                same(rt, "its body", back, Some(body));
-                got(rt, "a call was refused", self.call_once(rt, back))
-            }
-        }
-    }
-
-    // Whether the last note that the parent was told brings the end of a supervisor by one restart too many.
-    fn has_told_intensity(&self) -> bool {
-        match self.port.notes.last() {
-            Some(
-                ToldNote {
-                    note: _,
-                    end: Some(end),
-                },
-            ) => matches!(end.end().cause, Cause::Intensity { .. }),
-            _ => false,
-        }
-    }
 }
 
 impl<N: WordsNaming + InboxNaming + PlanNaming> Stand for Driven<N> {
@@ -225,97 +199,38 @@ impl<N: WordsNaming + InboxNaming + PlanNaming> Stand for Driven<N> {
         known
     }
 
-    fn take_box<R: Wait + Abort>(&mut self, rt: &R, call: u64) -> Option<u64> {
-        self.sup.take_box(rt, call)
-    }
-
-    fn take_stray<R: Wait + Abort>(&mut self, rt: &R) -> Option<u64> {
-        self.sup.take_stray(rt)
+    fn take_body<R: Wait + Abort>(&mut self, rt: &R, call: Option<u64>) -> Option<u64> {
+        match call {
+            Some(call) => self.sup.take_box(rt, call),
+            None => self.sup.take_stray(rt),
+        }
     }
 
     fn has_empty_port(&self) -> bool {
         self.port.processes.is_empty() && self.port.notes.is_empty()
     }
-}
 
-impl<N: WordsNaming + InboxNaming + PlanNaming> OwnSteps for Driven<N> {
-    fn acts<R: Wait + Abort>(&mut self, rt: &R, alloc: Global, step: Step) {
-        match step {
-            Step::Fills => fills(rt, alloc, self),
-            Step::Grows => grows(rt, alloc, self),
-            _ => panic!(rt; "a supervisor under its lock has no such step"),
+    fn acts<R: Wait + Abort>(&mut self, rt: &R, _alloc: Global, _step: Step) {
+        panic!(rt; "a supervisor under its lock has no such step")
+    }
+
+    // Where memory is refused it is sent again, with the body that came back.
+    fn call<R: Wait + Abort>(&mut self, rt: &R, body: u64) -> u64 {
+        match self.call_once(rt, Some(body)) {
+            Ok(number) => number,
+            Err((cause, back)) => {
+                same(rt, "a refused call", cause, SubmitCause::OutOfMemory);
+                same(rt, "its body", back, Some(body));
+                got(rt, "a call was refused", self.call_once(rt, back))
+            }
         }
     }
-}
 
-// Takes notes of no child until it stores as many events as there may be.
-fn fills<S: Stand, R: Wait + Abort>(rt: &R, alloc: Global, one: &mut S) {
-    for _ in 1..MAX_EVENTS {
-        takes(rt, alloc, one, Sent::Up(7), 0);
+    fn has_given_up<R: Wait + Abort>(&mut self, rt: &R) -> bool {
+        let is_told = !self.port.notes.is_empty();
+        self.send_orders(rt, is_told);
+        has_told_end(&self.port, false)
     }
-}
-
-// A call starts a second child, the first one is restarted, and a second crash is one too many.
-fn grows<N: WordsNaming + InboxNaming + PlanNaming, R: Wait + Abort>(
-    rt: &R,
-    alloc: Global,
-    one: &mut Driven<N>,
-) {
-    let call = one.call(rt, 7);
-    let child = starts(rt, alloc, one, call);
-    let again = restarts(rt, alloc, one, child);
-    gives_up(rt, alloc, one, again, child);
-    assert!(rt; one.has_told_intensity());
-}
-
-// The process that was put in this slot with this body runs: its number, which is above this one.
-fn runs<S: Stand, R: Wait + Abort>(
-    rt: &R,
-    alloc: Global,
-    one: &mut S,
-    above: u64,
-    place: (usize, u64),
-) -> u64 {
-    let number = match one.put(rt) {
-        Some((number, slot, body)) => {
-            same(rt, "its slot and body", (slot, body), place);
-            number
-        }
-        None => 0,
-    };
-    assert!(rt; number > above);
-    takes(rt, alloc, one, Sent::Up(number), 0);
-    number
-}
-
-// The call starts a second child: the number of its process.
-fn starts<S: Stand, R: Wait + Abort>(rt: &R, alloc: Global, one: &mut S, call: u64) -> u64 {
-    let turned = one.turn(rt, 0, 0, Signal::None);
-    same(rt, "the call", turned, Ok(TurnAnswer::Took));
-    let child = runs(rt, alloc, one, 1, (1, 7));
-    let known = one.known(rt, call);
-    same(rt, "its answer", known, Known::Started(child));
-    child
-}
-
-// The first child is restarted: the number of its new process.
-fn restarts<S: Stand, R: Wait + Abort>(rt: &R, alloc: Global, one: &mut S, child: u64) -> u64 {
-    takes(rt, alloc, one, Sent::Crash(1, 8), 0);
-    runs(rt, alloc, one, child, (0, 8))
-}
-
-// A second crash is one too many: the other child is asked, and then its end is an order.
-fn gives_up<N: WordsNaming + InboxNaming + PlanNaming, R: Wait + Abort>(
-    rt: &R,
-    alloc: Global,
-    one: &mut Driven<N>,
-    again: u64,
-    child: u64,
-) {
-    takes(rt, alloc, one, Sent::Crash(again, 9), 0);
-    takes(rt, alloc, one, Sent::Exit(child, Reason::Shutdown, 10), 0);
-    let is_told = !one.port.notes.is_empty();
-    one.send_orders(rt, is_told);
 }
 
 fn play_under_lock<N: WordsNaming + InboxNaming + PlanNaming, R: Wait + Abort>(

@@ -12,7 +12,7 @@ use otp_inbox::{InboxNaming, UnnamedInbox};
 use otp_reason::{Note, Reason};
 use otp_rules::{Call, CallFault, Reply};
 use otp_signals::{OpenWords, Signal, WordsNaming};
-use otp_spec::{MAX_READING, SupSpec};
+use otp_spec::{MAX_EVENTS, MAX_READING, SupSpec};
 use otp_sup::{CutAnswer, Letter, Message, PlanNaming, TurnAnswer, TurnFault};
 use std::alloc::Global;
 use std::marker::Brand;
@@ -135,19 +135,20 @@ pub(crate) trait Stand: Drop {
     // What is known of the answer to a call.
     fn known<R: Wait + Abort>(&self, rt: &R, call: u64) -> Known;
 
-    // The body of a call.
-    fn take_box<R: Wait + Abort>(&mut self, rt: &R, call: u64) -> Option<u64>;
-
-    // A body that is nobody's.
-    fn take_stray<R: Wait + Abort>(&mut self, rt: &R) -> Option<u64>;
+    // The body of a call; or else one that is nobody's.
+    fn take_body<R: Wait + Abort>(&mut self, rt: &R, call: Option<u64>) -> Option<u64>;
 
     // Whether the port has nothing that wasn't looked at.
     fn has_empty_port(&self) -> bool;
-}
 
-// A stand with the steps that it alone has.
-pub(crate) trait OwnSteps: Stand {
+    // A step that this stand alone has.
     fn acts<R: Wait + Abort>(&mut self, rt: &R, alloc: Global, step: Step);
+
+    // Under the lock: a call that starts the child `b` with this body, and its number.
+    fn call<R: Wait + Abort>(&mut self, rt: &R, body: u64) -> u64;
+
+    // Under the lock: whether it has told its parent of an end by one restart too many, once its orders were sent.
+    fn has_given_up<R: Wait + Abort>(&mut self, rt: &R) -> bool;
 }
 
 // The letter of a call with a body.
@@ -191,19 +192,13 @@ fn turns<S: Stand, R: Wait + Abort>(rt: &R, one: &mut S, wanted: TurnAnswer, ord
 }
 
 // This comes and is taken, and as many orders are left.
-pub(crate) fn takes<S: Stand, R: Wait + Abort>(
-    rt: &R,
-    alloc: Global,
-    one: &mut S,
-    sent: Sent,
-    orders: u64,
-) {
+fn takes<S: Stand, R: Wait + Abort>(rt: &R, alloc: Global, one: &mut S, sent: Sent, orders: u64) {
     one.send(rt, letter_of(rt, alloc, sent));
     turns(rt, one, TurnAnswer::Took, orders);
 }
 
 // What is done to it.
-fn does<S: OwnSteps, R: Wait + Abort>(rt: &R, alloc: Global, one: &mut S, step: Step) {
+fn does<S: Stand, R: Wait + Abort>(rt: &R, alloc: Global, one: &mut S, step: Step) {
     match step {
         Step::Turn(number, reading, told, wanted) => {
             let answer = one.turn(rt, number, reading.min(MAX_READING), told);
@@ -218,7 +213,7 @@ fn does<S: OwnSteps, R: Wait + Abort>(rt: &R, alloc: Global, one: &mut S, step: 
 }
 
 // What is seen of it.
-fn sees<S: OwnSteps, R: Wait + Abort>(rt: &R, alloc: Global, one: &mut S, step: Step) {
+fn sees<S: Stand, R: Wait + Abort>(rt: &R, alloc: Global, one: &mut S, step: Step) {
     match step {
         Step::Knows(call, what) => same(rt, "of an answer", one.known(rt, call), what),
         Step::Puts(number, slot, body) => {
@@ -227,19 +222,73 @@ fn sees<S: OwnSteps, R: Wait + Abort>(rt: &R, alloc: Global, one: &mut S, step: 
         Step::Tells(note) => same(rt, "the note", one.told(rt), Some(note)),
         Step::Shows(number, signal) => same(rt, "a signal", one.look(rt, number), signal),
         Step::PortIsEmpty => assert!(rt; one.has_empty_port()),
-        Step::GivesBack(call, body) => same(rt, "a call's body", one.take_box(rt, call), body),
-        Step::HasStray(body) => same(rt, "a stray body", one.take_stray(rt), body),
+        Step::GivesBack(call, body) => {
+            let taken = one.take_body(rt, Some(call));
+            same(rt, "a call's body", taken, body)
+        }
+        Step::HasStray(body) => same(rt, "a stray body", one.take_body(rt, None), body),
+        Step::Fills => fills(rt, alloc, one),
+        Step::Grows => grows(rt, alloc, one),
         _ => one.acts(rt, alloc, step),
     }
 }
 
-// All steps, one after the other.
-pub(crate) fn play<S: OwnSteps, R: Wait + Abort>(
+// Takes notes of no child until it stores as many events as there may be.
+fn fills<S: Stand, R: Wait + Abort>(rt: &R, alloc: Global, one: &mut S) {
+    for _ in 1..MAX_EVENTS {
+        takes(rt, alloc, one, Sent::Up(7), 0);
+    }
+}
+
+// A call starts a second child, the first one is restarted, and a second crash is one too many: the other child is asked, and then
+// the end is an order.
+fn grows<S: Stand, R: Wait + Abort>(rt: &R, alloc: Global, one: &mut S) {
+    let call = one.call(rt, 7);
+    let child = starts(rt, alloc, one, call);
+    let again = restarts(rt, alloc, one, child);
+    takes(rt, alloc, one, Sent::Crash(again, 9), 0);
+    takes(rt, alloc, one, Sent::Exit(child, Reason::Shutdown, 10), 0);
+    assert!(rt; one.has_given_up(rt));
+}
+
+// The process that was put in this slot with this body runs: its number, which is above this one.
+fn runs<S: Stand, R: Wait + Abort>(
     rt: &R,
     alloc: Global,
     one: &mut S,
-    steps: &[Step],
-) {
+    above: u64,
+    place: (usize, u64),
+) -> u64 {
+    let number = match one.put(rt) {
+        Some((number, slot, body)) => {
+            same(rt, "its slot and body", (slot, body), place);
+            number
+        }
+        None => 0,
+    };
+    assert!(rt; number > above);
+    takes(rt, alloc, one, Sent::Up(number), 0);
+    number
+}
+
+// The call starts a second child: the number of its process.
+fn starts<S: Stand, R: Wait + Abort>(rt: &R, alloc: Global, one: &mut S, call: u64) -> u64 {
+    let turned = one.turn(rt, 0, 0, Signal::None);
+    same(rt, "the call", turned, Ok(TurnAnswer::Took));
+    let child = runs(rt, alloc, one, 1, (1, 7));
+    let known = one.known(rt, call);
+    same(rt, "its answer", known, Known::Started(child));
+    child
+}
+
+// The first child is restarted: the number of its new process.
+fn restarts<S: Stand, R: Wait + Abort>(rt: &R, alloc: Global, one: &mut S, child: u64) -> u64 {
+    takes(rt, alloc, one, Sent::Crash(1, 8), 0);
+    runs(rt, alloc, one, child, (0, 8))
+}
+
+// All steps, one after the other.
+pub(crate) fn play<S: Stand, R: Wait + Abort>(rt: &R, alloc: Global, one: &mut S, steps: &[Step]) {
     for step in steps {
         does(rt, alloc, one, *step);
     }

@@ -30,42 +30,33 @@ pub fn supervisor_crosses<N: WordsNaming + InboxNaming + PlanNaming + Send + Syn
     table: &Table<N, Boxed>,
     office: &Office<N>,
     client: &Client<N, Boxed>,
+    unlocked: &Unlocked<N, Boxed>,
+    parts: &SupParts<N, Boxed>,
 ) {
     is_send(sup);
     is_sync(sup);
     is_send(table);
     is_send(office);
     is_send(client);
-}
-
-// What a supervisor is taken apart into.
-pub fn parts_cross<N: WordsNaming + InboxNaming + PlanNaming + Send + Sync>(
-    unlocked: &Unlocked<N, Boxed>,
-    parts: &SupParts<N, Boxed>,
-) {
     is_send(unlocked);
     is_send(parts);
 }
 
 // What a port takes, and what a parent keeps of it.
-pub fn orders_are_send(
+pub fn orders_and_bodies_are_send(
     process: &NewProcess<Boxed>,
     note: &ToldNote,
     end: &ToldEnd,
     evidence: &Evidence,
-) {
-    is_send(process);
-    is_send(note);
-    is_send(end);
-    is_send(evidence);
-}
-
-pub fn bodies_are_send(
     letter: &Letter<Boxed>,
     bodies: &Bodies<Boxed>,
     port: &MemoryPort<Boxed>,
     fault: &SubmitFault<Boxed>,
 ) {
+    is_send(process);
+    is_send(note);
+    is_send(end);
+    is_send(evidence);
     is_send(letter);
     is_send(bodies);
     is_send(port);

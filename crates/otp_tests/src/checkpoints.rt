@@ -1,9 +1,10 @@
 //! A supervisor's history that is cut, or that goes on from a checkpoint elsewhere: what is forgotten, and that nothing else changes.
 
 use crate::driver::{Driver, ONE, Step, TWO, plays};
-use crate::fixtures::got;
+use crate::fixtures::write_numbered;
 use otp_spec::MAX_CHILDREN;
-use std::alloc::{AllocError, Global};
+use std::alloc::Global;
+use std::process::Abort;
 
 // A child crashes at 1,000 ms, and again later: a restart within 5 seconds of the first is one too many. Between the two the
 // history is cut.
@@ -120,18 +121,18 @@ const FILLED: [Step; 9] = [
 ];
 
 // A tree file of as many children as there may be.
-fn crowd(alloc: Global) -> Result<String, AllocError> {
+fn crowd(rt: &impl Abort, alloc: Global) -> String {
     let mut file = String::new(alloc);
-    for number in 0..MAX_CHILDREN {
-        let child = format!(in alloc; "[[child]]\nid = \"c{number}\"\nstart = \"a\"\n")?;
-        file.push_str(child.as_str())?;
+    for number in 0..MAX_CHILDREN as u64 {
+        let (before, behind) = ("[[child]]\nid = \"c", "\"\nstart = \"a\"\n");
+        write_numbered(rt, &mut file, before, number, behind);
     }
-    Ok(file)
+    file
 }
 
 #[test]
 fn lists_of_children_fill_a_core(rt: HostRuntime) {
-    let file = got(&rt, crowd(rt.alloc()));
+    let file = crowd(&rt, rt.alloc());
     plays(&rt, rt.alloc(), file.as_str(), &FILLED);
     drop(file);
 }

@@ -185,11 +185,14 @@ const OF_TREES: [(&str, &str); 8] = [
 
 #[test]
 fn faults_of_files(rt: HostRuntime) {
-    let tables: [&[(&str, &str)]; 3] = [&OF_SUPERVISORS, &OF_CHILDREN, &OF_TREES];
-    for table in tables {
-        for (file, wanted) in table {
-            tells(&rt, rt.alloc(), file, wanted);
-        }
+    all_tell(&rt, rt.alloc(), &OF_SUPERVISORS);
+    all_tell(&rt, rt.alloc(), &OF_CHILDREN);
+    all_tell(&rt, rt.alloc(), &OF_TREES);
+}
+
+fn all_tell(rt: &impl Abort, alloc: Global, table: &[(&str, &str)]) {
+    for (file, wanted) in table {
+        tells(rt, alloc, file, wanted);
     }
 }
 

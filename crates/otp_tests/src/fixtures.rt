@@ -4,8 +4,9 @@
 
 ghost use Rattle.std.specs.Prelude.{◌≡◌, Ok};
 
+use otp_file::read_tree;
 use otp_reason::{Name, Reason, Text};
-use otp_spec::ChildSpec;
+use otp_spec::{ChildSpec, SupSpec};
 use std::alloc::Global;
 use std::fmt::{Debug, Display};
 use std::process::Abort;
@@ -51,4 +52,34 @@ pub(crate) fn prints<T: Display>(rt: &impl Abort, alloc: Global, value: &T, text
     let printed = got(rt, format!(in alloc; "{value}"));
     same(rt, "a printed text", printed.as_str(), text);
     drop(printed);
+}
+
+/// Appends a number, with what stands before it and behind it.
+pub(crate) fn write_numbered(
+    rt: &impl Abort,
+    text: &mut String,
+    before: &str,
+    number: u64,
+    behind: &str,
+) {
+    let made = got(
+        rt,
+        format!(in *text.allocator(); "{before}{number}{behind}"),
+    );
+    got(rt, text.push_str(made.as_str()));
+    drop(made);
+}
+
+/// Asserts that what is told of a text holds; the message has the text.
+pub(crate) fn holds_of(rt: &impl Abort, text: &[u8], holds: bool) {
+    assert!(rt; holds, "{}", text.escape_ascii());
+}
+
+/// The supervisor of a tree file that has no tree below it.
+pub(crate) fn supervisor_of(rt: &impl Abort, alloc: Global, file: &str) -> SupSpec {
+    let tree = got(rt, read_tree(alloc, file.as_bytes()));
+    let (supervisor, nested, trees) = tree.into_parts();
+    drop(nested);
+    drop(trees);
+    supervisor
 }

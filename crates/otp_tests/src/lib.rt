@@ -1,9 +1,9 @@
-//! Tests of the crates that decide and read, each from outside: worked rows, limits, texts, and the happy path of
-//! each public call.
+//! Tests of the crates that decide, read and play, each from outside: worked rows, limits, texts, places in a text, readers and
+//! writers that fail, and the happy path of each public call.
 //!
-//! They stand in a crate of their own, one module for a crate, since a crate with tests is proved twice. Tests of what plays a
-//! supervisor and looks at files for people are in `otp_play_tests`, those of what threads share in `otp_thread_tests`,
-//! `otp_sup_tests` and `otp_tree_tests`. Event lines are read, and orders printed, by the calls of `.ci/calls`.
+//! They stand in a crate of their own, one module for a crate, since a crate with tests is proved twice. Tests of what threads
+//! share are in `otp_thread_tests`, `otp_sup_tests` and `otp_tree_tests`. Event lines are read, and orders printed, by the calls
+//! of `.ci/calls`, which are played with the program that the gate has built.
 //!
 //! A supervisor is driven by rows of texts: a step, and all that comes of it (`driver`). What else is tested stands in short stages that
 //! borrow what they look at, in rows, and asserts by `fixtures::same`.
@@ -11,6 +11,8 @@
 
 #[cfg(test)]
 mod checkpoints;
+#[cfg(test)]
+mod devices;
 #[cfg(test)]
 mod driver;
 #[cfg(test)]
@@ -25,6 +27,10 @@ mod reason;
 mod resumes;
 #[cfg(test)]
 mod rules;
+#[cfg(test)]
+mod runs;
+#[cfg(test)]
+mod sources;
 #[cfg(test)]
 mod spec;
 #[cfg(test)]

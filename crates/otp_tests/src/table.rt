@@ -1,4 +1,4 @@
-use crate::fixtures::{named, same};
+use crate::fixtures::{got, named, same};
 use otp_reason::Name;
 use otp_spec::{ChildSpec, SpecFault};
 use otp_table::{MAX_CHILDREN, Row, RowState, Rows, slot_of};
@@ -44,6 +44,48 @@ fn has_place(rt: &impl Abort, rows: &Rows, id: &Name, place: Option<usize>) {
     same(rt, "the place of an id", rows.find_id(id), place);
 }
 
+// How many rows there are, how much room, and which slot is free.
+fn has_sizes(rt: &impl Abort, rows: &Rows, wanted: (usize, usize, usize)) {
+    let sizes = (rows.len(), rows.room(), rows.free_slot());
+    same(rt, "rows, room and the free slot", sizes, wanted);
+}
+
+// What is done to a table, and seen of it.
+#[derive(Clone, Copy)]
+enum Act {
+    // Room is made for so many rows.
+    Reserve(usize),
+    // A row is put behind the others: its slot, its id, which is its start word too, and its state.
+    Put(usize, &'static [u8], RowState),
+    // The row with this id is taken out; it had this slot.
+    TakeOut(&'static [u8], usize),
+    Clear,
+    // The row with this id stands at this place.
+    Has(&'static [u8], Option<usize>),
+    // There are so many rows, so much room, and this slot is free.
+    Sizes(usize, usize, usize),
+}
+
+fn does(rt: &impl Abort, rows: &mut Rows, act: Act) {
+    match act {
+        Act::Reserve(count) => got(rt, rows.reserve(count)),
+        Act::Put(slot, id, state) => put(rt, rows, row(rt, slot, id, state)),
+        Act::TakeOut(id, slot) => {
+            let taken = take_out(rt, rows, &named(rt, id));
+            same(rt, "the slot of a row", taken, slot);
+        }
+        Act::Clear => rows.clear(),
+        Act::Has(id, place) => has_place(rt, rows, &named(rt, id), place),
+        Act::Sizes(count, room, slot) => has_sizes(rt, rows, (count, room, slot)),
+    }
+}
+
+fn acts(rt: &impl Abort, rows: &mut Rows, steps: &[Act]) {
+    for step in steps {
+        does(rt, rows, *step);
+    }
+}
+
 /// Three children, one in each of three states: searched, changed and removed.
 #[test]
 fn three_children(rt: HostRuntime) {
@@ -51,7 +93,7 @@ fn three_children(rt: HostRuntime) {
     are_three(&rt, &mut rows);
     are_found(&rt, &rows);
     are_calmed(&rt, &mut rows);
-    is_removed(&rt, &mut rows);
+    acts(&rt, &mut rows, &IS_REMOVED);
     drop(rows);
 }
 
@@ -66,8 +108,7 @@ fn are_three(rt: &impl Abort, rows: &mut Rows) {
     for row in &all {
         put(rt, rows, *row);
     }
-    let sizes = (rows.len(), rows.room(), rows.free_slot());
-    same(rt, "rows, room and the free slot", sizes, (3, 0, 3));
+    has_sizes(rt, rows, (3, 0, 3));
     same(rt, "all rows", rows.as_slice(), all.as_slice());
     assert!(rt; rows.len() == 3);
     same(rt, "the rows after the first", rows.after(0), &all[1..]);
@@ -107,14 +148,13 @@ fn are_calmed(rt: &impl Abort, rows: &mut Rows) {
 }
 
 // The second of the three is removed; the last is found where it stood.
-fn is_removed(rt: &impl Abort, rows: &mut Rows) {
-    let slot = take_out(rt, rows, &named(rt, b"b"));
-    same(rt, "the slot of the second", slot, 1);
-    has_place(rt, rows, &named(rt, b"c"), Some(1));
-    same(rt, "the free slot", rows.free_slot(), 1);
-    rows.clear();
-    assert!(rt; rows.is_empty());
-}
+const IS_REMOVED: [Act; 5] = [
+    Act::TakeOut(b"b", 1),
+    Act::Has(b"c", Some(1)),
+    Act::Sizes(2, 0, 1),
+    Act::Clear,
+    Act::Sizes(0, 0, 0),
+];
 
 // An id that no other place has.
 fn id_at(rt: &impl Abort, place: usize) -> Name {
@@ -142,7 +182,7 @@ fn children_by_id(rt: HostRuntime) {
     one_more_is_refused(&rt, &mut rows);
     take_out_half(&rt, &mut rows);
     find_half(&rt, &rows);
-    comes_back(&rt, &mut rows);
+    acts(&rt, &mut rows, &COMES_BACK);
     drop(rows);
 }
 
@@ -179,44 +219,71 @@ fn find_half(rt: &impl Abort, rows: &Rows) {
     }
 }
 
-fn comes_back(rt: &impl Abort, rows: &mut Rows) {
-    let reserved = rows.reserve(1);
-    assert!(rt; reserved.is_ok());
-    put_child(rt, rows, 0);
-    has_place(rt, rows, &id_at(rt, 0), Some(MAX_CHILDREN / 2));
-    rows.clear();
-    has_place(rt, rows, &id_at(rt, 1), None);
+// The first child of all is put behind them.
+const COMES_BACK: [Act; 5] = [
+    Act::Reserve(1),
+    Act::Put(0, b"aa", RowState::Up(0)),
+    Act::Has(b"aa", Some(MAX_CHILDREN / 2)),
+    Act::Clear,
+    Act::Has(b"ab", None),
+];
+
+// Two rows with one id, which no supervisor has: the first is found, and the other once that one is gone.
+const TWICE: [Act; 8] = [
+    Act::Reserve(3),
+    Act::Put(0, b"aa", RowState::Up(0)),
+    Act::Put(1, b"ab", RowState::Up(1)),
+    Act::Put(0, b"aa", RowState::Up(0)),
+    Act::Has(b"aa", Some(0)),
+    Act::TakeOut(b"aa", 0),
+    Act::Has(b"ab", Some(0)),
+    Act::Has(b"aa", Some(1)),
+];
+
+// Two ids of one fingerprint, which somebody searched for: each is found, by the walk then.
+const ONE_FINGERPRINT: [Act; 7] = [
+    Act::Reserve(2),
+    Act::Put(0, b"8yn0iYCKYHlIj4-BwPqk", RowState::Up(1)),
+    Act::Put(1, b"GReLUrM4wMqfg9yzV3KQ", RowState::Up(2)),
+    Act::Has(b"GReLUrM4wMqfg9yzV3KQ", Some(1)),
+    Act::TakeOut(b"8yn0iYCKYHlIj4-BwPqk", 0),
+    Act::Has(b"GReLUrM4wMqfg9yzV3KQ", Some(0)),
+    Act::Has(b"8yn0iYCKYHlIj4-BwPqk", None),
+];
+
+fn plays(rt: &impl Abort, alloc: Global, steps: &[Act]) {
+    let mut rows = Rows::new(alloc);
+    acts(rt, &mut rows, steps);
+    drop(rows);
 }
 
-/// Two rows with one id, which no supervisor has: the first is found, and the other once that one is gone.
 #[test]
 fn one_id_twice(rt: HostRuntime) {
-    let mut rows = with_room(&rt, rt.alloc(), 3);
-    put_child(&rt, &mut rows, 0);
-    put_child(&rt, &mut rows, 1);
-    put_child(&rt, &mut rows, 0);
-    let (a, b) = (id_at(&rt, 0), id_at(&rt, 1));
-    has_place(&rt, &rows, &a, Some(0));
-    take_out(&rt, &mut rows, &a);
-    has_place(&rt, &rows, &b, Some(0));
-    has_place(&rt, &rows, &a, Some(1));
-    drop(rows);
+    plays(&rt, rt.alloc(), &TWICE);
 }
 
-/// Two ids of one fingerprint, which somebody searched for: each is found, by the walk then.
 #[test]
 fn two_ids_of_one_fingerprint(rt: HostRuntime) {
-    let mut rows = with_room(&rt, rt.alloc(), 2);
-    let (a, b) = (b"8yn0iYCKYHlIj4-BwPqk", b"GReLUrM4wMqfg9yzV3KQ");
-    put(&rt, &mut rows, row(&rt, 0, a, RowState::Up(1)));
-    put(&rt, &mut rows, row(&rt, 1, b, RowState::Up(2)));
-    let (a, b) = (named(&rt, a), named(&rt, b));
-    has_place(&rt, &rows, &b, Some(1));
-    let slot = take_out(&rt, &mut rows, &a);
-    same(&rt, "the slot of the first", slot, 0);
-    has_place(&rt, &rows, &b, Some(0));
-    has_place(&rt, &rows, &a, None);
-    drop(rows);
+    plays(&rt, rt.alloc(), &ONE_FINGERPRINT);
+}
+
+// What a reader of a state sees: whether it is awaited, up, undefined or awaits a restart; whether it has the number 7, as a number,
+// as that of a process, and as that of a retry.
+fn seen_of(state: RowState) -> [bool; 7] {
+    [
+        state.is_awaited(),
+        state.is_up(),
+        state.is_undefined(),
+        state.is_restarting(),
+        state.has_number(7),
+        state.has_process(7),
+        state.awaits_retry(7),
+    ]
+}
+
+fn is_seen_so(rt: &impl Abort, state: RowState, wanted: [bool; 7]) {
+    let seen = seen_of(state);
+    same(rt, "a state", seen.as_slice(), wanted.as_slice());
 }
 
 /// What a reader of a row's state sees.
@@ -225,17 +292,15 @@ fn states(rt: HostRuntime) {
     let asked = RowState::Asked(7, Some(100));
     let numbers = (asked.number(), asked.up_number());
     same(&rt, "the numbers of one asked", numbers, (Some(7), None));
-    assert!(rt; asked.is_awaited());
-    assert!(rt; asked.has_number(7));
-    assert!(rt; asked.has_process(7));
-    assert!(rt; !asked.awaits_retry(7));
+    is_seen_so(&rt, asked, [true, false, false, false, true, true, false]);
     let restarting = RowState::Restarting(7);
-    assert!(rt; restarting.is_restarting());
-    assert!(rt; restarting.awaits_retry(7));
-    assert!(rt; !restarting.has_process(7));
-    assert!(rt; restarting.calmed().is_undefined());
+    let seen = [false, false, false, true, true, false, true];
+    is_seen_so(&rt, restarting, seen);
+    let seen = [false, false, true, false, false, false, false];
+    is_seen_so(&rt, restarting.calmed(), seen);
     let up = RowState::Up(7);
-    assert!(rt; up.is_up());
-    assert!(rt; up.calmed() == up);
+    let seen = [false, true, false, false, true, true, false];
+    is_seen_so(&rt, up, seen);
+    same(&rt, "one up that is calmed", up.calmed(), up);
     same(&rt, "the number of one up", up.up_number(), Some(7));
 }

@@ -142,7 +142,7 @@ fn settle<N: InboxNaming, R: Wait + Abort>(
     mut first: Sender<N, Head, Letter>,
     second: Sender<N, Head, Letter>,
     taker: Taker<N, Head, Letter>,
-    mut next: [u64; 2],
+    next: [u64; 2],
     mut left: Vec<Letter>,
 ) {
     assert!(rt; first.number() == inbox.number());
@@ -157,6 +157,11 @@ fn settle<N: InboxNaming, R: Wait + Abort>(
         panic!(rt; "memory was refused");
     };
     inbox.drain_into(rt, taker, first, &mut left);
+    are_the_rest(rt, left, next);
+}
+
+// These letters are all that weren't taken, of which these come next.
+fn are_the_rest<R: Abort>(rt: &R, left: Vec<Letter>, mut next: [u64; 2]) {
     same(rt, "how many are left", left.len() as u64, 2 * EACH - TAKEN);
     for letter in left {
         check(rt, &mut next, letter);

@@ -88,14 +88,21 @@ fn first_turn_starts_and_a_later_kill_calls_nothing(rt: HostRuntime) {
     drop(calls);
 }
 
-// A worker that is asked to shut down in each turn but the first; whether it traps says what comes of that.
-fn is_asked(rt: &impl Abort, alloc: Global, traps: bool, signals: &[Signal], end: Option<Note>) {
+// A worker that is asked to shut down in each turn but the first; whether it traps says what comes of that: its end, and the
+// calls that it gets.
+fn is_asked(
+    rt: &impl Abort,
+    alloc: Global,
+    traps: bool,
+    signals: &[Signal],
+    end: Option<Note>,
+    wanted: u64,
+) {
     let calls = no_calls(rt, alloc);
     let body = worker_body(rt, alloc, &calls, traps, Started::Up);
     ends_so(rt, alloc, body, signals, end, !traps);
     let called = calls.load(Ordering::SeqCst);
     drop(calls);
-    let wanted = if traps { 1_322 } else { 1 };
     same(rt, "its calls", called, wanted);
 }
 
@@ -107,9 +114,9 @@ fn trapping_job_is_told_once(rt: HostRuntime) {
         Signal::Shutdown,
         Signal::Shutdown,
     ];
-    is_asked(&rt, rt.alloc(), true, &signals, None);
+    is_asked(&rt, rt.alloc(), true, &signals, None, 1_322);
     let end = Some(Note::Exit(7, Reason::Shutdown));
-    is_asked(&rt, rt.alloc(), false, &signals[..2], end);
+    is_asked(&rt, rt.alloc(), false, &signals[..2], end, 1);
 }
 
 // Waits in each turn.

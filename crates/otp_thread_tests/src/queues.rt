@@ -47,9 +47,7 @@ fn put_one<N: RunNaming, R: Abort>(
     if let Err(process) = scheduler.put(numbered(rt, alloc, number)) {
         same(rt, "what came back", process.number(), number);
         same(rt, "the share", scheduler.share(), before);
-        if let Err(_) = scheduler.put(process) {
-            panic!(rt; "there is memory now");
-        }
+        got(rt, "there is memory now", scheduler.put(process));
     }
     let begun = scheduler.share().begun;
     same(rt, "how many began", begun, before.begun + 1);
@@ -81,7 +79,7 @@ fn take_all<N: RunNaming, R: Abort>(
         match scheduler.next() {
             Some(process) => {
                 nothing = 0;
-                assert!(rt; taken.push(process).is_ok());
+                got(rt, MEMORY, taken.push(process));
             }
             None => nothing += 1,
         }
@@ -98,12 +96,31 @@ fn two_threads<N: RunNaming + Send, R: Threads + Abort + Sync>(
 {
     let (mut first, second) = two_of(rt, got(rt, MEMORY, queue.named::<N>(alloc)));
     put_all(rt, alloc, &mut first, 0, MANY);
+    let (first, second) = take_in_two(rt, alloc, first, second);
+    are_all_taken(rt, alloc, first, second);
+}
+
+// A scheduler, and what was taken with it.
+type Took<N> = (AnyScheduler<N>, Vec<AnyProcess>);
+
+// Each of two threads takes with a scheduler of its own.
+fn take_in_two<N: RunNaming + Send, R: Threads + Abort + Sync>(
+    rt: &R,
+    alloc: Global,
+    first: AnyScheduler<N>,
+    second: AnyScheduler<N>,
+) -> (Took<N>, Took<N>) {
     let (mine, others) = (list(rt, alloc), list(rt, alloc));
-    let ((first, mine), (second, others)) = thread::join(
+    thread::join(
         rt,
         move || take_all(rt, first, mine),
         move || take_all(rt, second, others),
-    );
+    )
+}
+
+// The run queue is taken apart, and each process was seen.
+fn are_all_taken<N: RunNaming, R: Abort>(rt: &R, alloc: Global, first: Took<N>, second: Took<N>) {
+    let ((first, mine), (second, others)) = (first, second);
     let schedulers = both(rt, alloc, first, second);
     let total = gather_all(rt, alloc, schedulers);
     are_all_seen(rt, alloc, total, mine, others);
@@ -317,7 +334,7 @@ fn give_back<N: RunNaming, R: Abort>(rt: &R, scheduler: &mut AnyScheduler<N>, pr
     if let Err(process) = scheduler.give_back(process) {
         same(rt, "what came back", process.number(), number);
         same(rt, "the share", scheduler.share(), before);
-        assert!(rt; scheduler.give_back(process).is_ok());
+        got(rt, "there is memory now", scheduler.give_back(process));
     }
     same(rt, "the share at the end", scheduler.share(), before);
 }
@@ -349,7 +366,7 @@ fn with_one_more<N: RunNaming>(
     last: AnyScheduler<N>,
 ) -> Vec<AnyScheduler<N>> {
     let mut schedulers = schedulers;
-    assert!(rt; schedulers.push(last).is_ok());
+    got(rt, MEMORY, schedulers.push(last));
     schedulers
 }
 

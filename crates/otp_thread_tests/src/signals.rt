@@ -108,7 +108,7 @@ fn draw_thousand<N: WordsNaming, R: Abort>(
     let mut drawn = got(rt, MEMORY, Vec::with_capacity(alloc, 1000));
     for _ in 0..1000u64 {
         let number = got(rt, "a number", words.draw(&mut owner));
-        assert!(rt; drawn.push(number).is_ok());
+        got(rt, MEMORY, drawn.push(number));
     }
     (drawn, owner)
 }

@@ -9,56 +9,51 @@ fn is_send<T: Send>(_: &T) {}
 
 fn is_sync<T: Sync>(_: &T) {}
 
-pub fn process_is_send(process: &Process<BoxedJob, BoxedSubsystem>) {
+pub fn processes_cross(
+    process: &Process<BoxedJob, BoxedSubsystem>,
+    body: &Body<BoxedJob, BoxedSubsystem>,
+    bridge: &Bridge<BoxedSubsystem>,
+    after: &After<BoxedJob, BoxedSubsystem>,
+    note: &EndNote<BoxedJob, BoxedSubsystem>,
+) {
     is_send(process);
-}
-
-pub fn body_is_send(body: &Body<BoxedJob, BoxedSubsystem>) {
     is_send(body);
-}
-
-pub fn bridge_is_send(bridge: &Bridge<BoxedSubsystem>) {
     is_send(bridge);
-}
-
-pub fn after_is_send(after: &After<BoxedJob, BoxedSubsystem>) {
     is_send(after);
-}
-
-pub fn end_note_is_send(note: &EndNote<BoxedJob, BoxedSubsystem>) {
     is_send(note);
 }
 
-pub fn small_ones_are_send(spent: &Spent, table: &TableNo, ticket: &Ticket, share: &Share) {
+pub fn small_ones_cross(
+    spent: &Spent,
+    table: &TableNo,
+    ticket: &Ticket,
+    share: &Share,
+    publisher: &Publisher,
+    pass: &CountsPass,
+) {
     is_send(spent);
     is_send(table);
     is_send(ticket);
     is_send(share);
+    is_send(publisher);
+    is_send(pass);
     is_sync(table);
     is_sync(ticket);
 }
 
-pub fn scheduler_is_send<N: RunNaming + Send>(scheduler: &Scheduler<N, BoxedJob, BoxedSubsystem>) {
-    is_send(scheduler);
-}
-
-pub fn deques_are_send<N: RunNaming + Send>(
+pub fn queues_cross<N: RunNaming + Send>(
+    scheduler: &Scheduler<N, BoxedJob, BoxedSubsystem>,
     own: &OwnDeque<N, BoxedJob, BoxedSubsystem>,
     victim: &Victim<N, BoxedJob, BoxedSubsystem>,
+    queue: &RunQueue<BoxedJob, BoxedSubsystem>,
+    total: &LiveTotal<BoxedJob, BoxedSubsystem>,
+    fault: &GatherFault<N, BoxedJob, BoxedSubsystem>,
 ) {
+    is_send(scheduler);
     is_send(own);
     is_send(victim);
-}
-
-pub fn queue_is_send(queue: &RunQueue<BoxedJob, BoxedSubsystem>) {
     is_send(queue);
-}
-
-pub fn total_is_send(total: &LiveTotal<BoxedJob, BoxedSubsystem>) {
     is_send(total);
-}
-
-pub fn fault_is_send<N: RunNaming + Send>(fault: &GatherFault<N, BoxedJob, BoxedSubsystem>) {
     is_send(fault);
 }
 
@@ -71,9 +66,4 @@ pub fn words_cross<N: WordsNaming + Send + Sync>(
     is_sync(words);
     is_send(owner);
     is_send(viewer);
-}
-
-pub fn counts_are_send(publisher: &Publisher, pass: &CountsPass) {
-    is_send(publisher);
-    is_send(pass);
 }

@@ -1,34 +1,37 @@
 //! Restarts through this crate: of a tree of one child, and of one with 256. It prints the nanoseconds that one takes.
 //! usage: events [COUNT]
 
-use otp_embed::{Note, Order, Reason, Tree};
+use otp_embed::{Note, OrderRef, Reason, Tree};
 use std::fmt::Write;
 use std::time::Instant;
 
-/// Takes all orders; each start succeeds at once. The number of the last process that was started.
-fn serve(tree: &mut Tree, mut last: u64) -> Result<u64, otp_embed::Fault> {
-    while let Some(order) = tree.next_order()? {
-        if let Order::Start(process) = order {
-            last = process.number;
-            tree.note(0, Note::Up(last))?;
-        }
-    }
-    Ok(last)
-}
-
 fn measure(children: u64, count: u64) -> Result<f64, Box<dyn std::error::Error>> {
     let mut text = String::from("intensity = 1000\nperiod = 1\n");
-    for number in 0..children {
-        write!(text, "[[child]]\nid = \"c{number}\"\nstart = \"x\"\n")?;
+    // Names of two letters, as the core's children have them (bench/core/src/lib.rt.txt).
+    let letter = |number: u64| char::from(b'a' + (number % 16) as u8);
+    for place in 0..children {
+        let (high, low) = (letter(place / 16), letter(place));
+        write!(text, "[[child]]\nid = \"{high}{low}\"\nstart = \"{high}{low}\"\n")?;
     }
     let mut tree = Tree::open(text)?;
-    let mut last = serve(&mut tree, 0)?;
     let crash = Reason::error("x");
-    let begun = Instant::now();
-    for number in 1..=count {
-        tree.tick(number * 10)?;
-        tree.note(0, Note::Exit(last, crash))?;
-        last = serve(&mut tree, last)?;
+    let (mut last, mut begun) = (0, Instant::now());
+    // The first turn opens the tree, and isn't measured.
+    for number in 0..=count {
+        if number > 0 {
+            tree.tick(number * 10)?;
+            tree.note(0, Note::Exit(last, crash))?;
+        }
+        // Each start succeeds at once.
+        while let Some(order) = tree.next_order_ref()? {
+            if let OrderRef::Start(process) = order {
+                last = process.number();
+                tree.note(0, Note::Up(last))?;
+            }
+        }
+        if number == 0 {
+            begun = Instant::now();
+        }
     }
     Ok(begun.elapsed().as_nanos() as f64 / count as f64)
 }

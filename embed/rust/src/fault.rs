@@ -25,12 +25,20 @@ pub enum Fault {
     Unknown(u32),
 }
 
+/// What a struct counts as that has a number out of its list: library and crate don't belong together.
+pub(crate) const STRANGE: Fault = Fault::Unknown(u32::MAX);
+
 impl Fault {
     /// What a status says; nothing is wrong with 0.
     #[inline]
     pub(crate) fn check(status: u32) -> Result<(), Fault> {
-        Err(match status {
-            sys::OK => return Ok(()),
+        if status == sys::OK { Ok(()) } else { Err(Fault::of(status)) }
+    }
+
+    /// What a status says that isn't 0.
+    #[cold]
+    pub(crate) fn of(status: u32) -> Fault {
+        match status {
             sys::MEMORY => Fault::Memory,
             sys::FULL => Fault::Full,
             sys::SPENT => Fault::Spent,
@@ -38,7 +46,7 @@ impl Fault {
             sys::NO_SUPERVISOR => Fault::NoSupervisor,
             sys::NESTED => Fault::Nested,
             status => Fault::Unknown(status),
-        })
+        }
     }
 }
 

@@ -49,6 +49,6 @@ pub use call::{Answer, Call, ChildLine, ChildProcess, Counts, FromAnswer, Refusa
 pub use fault::{Fault, OpenError, TreeFault};
 pub use look::{Child, ChildState, EndCause, Limits, Phase, Supervisor};
 pub use name::{BadWord, Name, Reason, Text};
-pub use order::{Cause, End, Note, Order, Process};
+pub use order::{Cause, End, EndRef, Note, Order, OrderRef, Process, ProcessRef};
 pub use spec::{AutoShutdown, ChildSpec, Kind, Modules, Restart, Shutdown, Strategy};
-pub use tree::{Orders, Tree};
+pub use tree::{Orders, ReplyRef, Tree};

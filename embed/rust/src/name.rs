@@ -47,6 +47,13 @@ fn text_of(bytes: &[u8], length: u8) -> &str {
     std::str::from_utf8(&bytes[..end]).unwrap_or("")
 }
 
+impl RawName {
+    /// The name as text.
+    pub(crate) fn as_str(&self) -> &str {
+        text_of(&self.bytes, self.len)
+    }
+}
+
 impl Name {
     /// A name, if the text is one.
     ///

@@ -1,7 +1,10 @@
 //! What a tree is told, and what it orders.
 
 use crate::call::Reply;
+use crate::fault::{Fault, STRANGE};
 use crate::name::{Name, Reason};
+use crate::sys::RawOrder;
+use crate::tree::ReplyRef;
 use std::fmt;
 
 /// What a process tells the supervisor that ordered its start.
@@ -28,18 +31,13 @@ impl Note {
 
     /// The number that stands for its kind in `otp.h`.
     #[doc(hidden)]
-    pub fn kind_number(&self) -> u32 {
-        self.as_raw().0
-    }
-
-    /// The kind, and the reason if it has one.
     #[inline]
-    pub(crate) fn as_raw(&self) -> (u32, Option<&Reason>) {
+    pub fn kind_number(&self) -> u32 {
         match self {
-            Note::Up(_) => (1, None),
-            Note::Ignored(_) => (2, None),
-            Note::Failed(_, reason) => (3, Some(reason)),
-            Note::Exit(_, reason) => (4, Some(reason)),
+            Note::Up(_) => 1,
+            Note::Ignored(_) => 2,
+            Note::Failed(..) => 3,
+            Note::Exit(..) => 4,
         }
     }
 }
@@ -89,6 +87,118 @@ pub enum Order {
     Ready,
     /// The root has ended, and with it the tree.
     End(End),
+}
+
+/// An order of a tree, read where the library has written it. The next one takes its place.
+#[derive(Debug)]
+pub enum OrderRef<'a> {
+    /// As [`Order::Start`].
+    Start(ProcessRef<'a>),
+    /// As [`Order::Ask`].
+    Ask {
+        /// The process.
+        process: ProcessRef<'a>,
+        /// A reading of the clock.
+        deadline: Option<u64>,
+    },
+    /// As [`Order::Kill`].
+    Kill(ProcessRef<'a>),
+    /// As [`Order::Reply`].
+    Reply(ReplyRef<'a>),
+    /// As [`Order::Ready`].
+    Ready,
+    /// As [`Order::End`].
+    End(EndRef<'a>),
+}
+
+impl OrderRef<'_> {
+    /// The same with a copy of what it names.
+    ///
+    /// # Errors
+    /// [`Fault::Unknown`], where library and crate don't belong together.
+    #[inline]
+    pub fn into_order(self) -> Result<Order, Fault> {
+        match self {
+            OrderRef::Start(process) => Ok(Order::Start(process.to_process())),
+            OrderRef::Ask { process, deadline } => Ok(Order::Ask { process: process.to_process(), deadline }),
+            OrderRef::Kill(process) => Ok(Order::Kill(process.to_process())),
+            OrderRef::Reply(reply) => reply.into_reply().map(Order::Reply),
+            OrderRef::Ready => Ok(Order::Ready),
+            OrderRef::End(end) => end.to_end().map(Order::End).ok_or(STRANGE),
+        }
+    }
+}
+
+/// A process outside, as an order names it.
+#[derive(Clone, Copy, Debug)]
+pub struct ProcessRef<'a>(&'a RawOrder);
+
+impl<'a> ProcessRef<'a> {
+    /// None where the start word is empty.
+    #[inline]
+    pub(crate) fn of(raw: &'a RawOrder) -> Option<Self> {
+        (raw.start.len > 0).then_some(ProcessRef(raw))
+    }
+
+    /// The number of the supervisor whose order it is; the root's is 0.
+    #[inline]
+    pub fn supervisor(self) -> u32 {
+        self.0.supervisor
+    }
+
+    /// The number of the process, which no other process of the tree ever has.
+    #[inline]
+    pub fn number(self) -> u64 {
+        self.0.number
+    }
+
+    /// The child's id; a dynamic child has none.
+    pub fn id(self) -> Option<&'a str> {
+        (self.0.id.len > 0).then(|| self.0.id.as_str())
+    }
+
+    /// The child's start word, as the tree file has it.
+    pub fn start(self) -> &'a str {
+        self.0.start.as_str()
+    }
+
+    /// A copy of what it names.
+    #[inline]
+    pub fn to_process(self) -> Process {
+        let ProcessRef(raw) = self;
+        Process {
+            supervisor: raw.supervisor,
+            id: Name::from_raw(&raw.id),
+            start: Name::of_raw(&raw.start),
+            number: raw.number,
+        }
+    }
+}
+
+/// How the root has ended, as the order tells it.
+#[derive(Clone, Copy, Debug)]
+pub struct EndRef<'a>(&'a RawOrder);
+
+impl<'a> EndRef<'a> {
+    #[inline]
+    pub(crate) fn of(raw: &'a RawOrder) -> Self {
+        EndRef(raw)
+    }
+
+    /// A copy of it; none where library and crate don't belong together.
+    pub fn to_end(self) -> Option<End> {
+        let EndRef(raw) = self;
+        Some(End {
+            reason: Reason::from_raw(raw.reason, &raw.text)?,
+            cause: match raw.cause {
+                1 => Cause::Intensity,
+                2 => Cause::Significant(raw.number),
+                3 => Cause::Asked,
+                4 => Cause::InitFailed(Name::from_raw(&raw.id)),
+                _ => return None,
+            },
+        })
+    }
 }
 
 /// How a supervisor has ended.

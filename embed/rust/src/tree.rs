@@ -1,17 +1,14 @@
 //! The tree: what happened goes in, orders come out.
 
 use crate::call::{Answer, Call, ChildLine, Counts, RawKind, Reply, kind_of};
-use crate::fault::{Fault, OpenError, TreeFault};
+use crate::fault::{Fault, OpenError, STRANGE, TreeFault};
 use crate::look::{Child, Supervisor};
-use crate::name::{Name, Reason};
-use crate::order::{Cause, End, Note, Order, Process};
+use crate::name::Name;
+use crate::order::{EndRef, Note, Order, OrderRef, ProcessRef};
 use crate::spec::ChildSpec;
 use crate::sys::{
     self, Handle, Plain, RawAnswer, RawChild, RawFault, RawLine, RawName, RawOrder, RawSpec, RawSupervisor,
 };
-
-/// What a struct counts as that has a number out of its list: library and crate don't belong together.
-const STRANGE: Fault = Fault::Unknown(u32::MAX);
 
 /// A whole tree of supervisors, whose processes are the caller's.
 ///
@@ -56,9 +53,12 @@ impl Tree {
     /// [`Fault::Memory`], [`Fault::Full`], [`Fault::Spent`], [`Fault::NoSupervisor`], [`Fault::Nested`].
     #[inline]
     pub fn note(&mut self, supervisor: u32, note: Note) -> Result<(), Fault> {
-        let (kind, reason) = note.as_raw();
-        let (reason, text): (u32, &[u8]) = reason.map_or((0, b""), Reason::as_raw);
-        Fault::check(self.handle.note(supervisor, kind, note.number(), reason, text))
+        let (kind, number) = (note.kind_number(), note.number());
+        let (reason, text): (u32, &[u8]) = match &note {
+            Note::Up(_) | Note::Ignored(_) => (0, b""),
+            Note::Failed(_, reason) | Note::Exit(_, reason) => reason.as_raw(),
+        };
+        Fault::check(self.handle.note(supervisor, kind, number, reason, text))
     }
 
     /// The root is wanted to shut down, and with it the tree.
@@ -164,24 +164,42 @@ impl Tree {
     ///
     /// # Errors
     /// [`Fault::Memory`], [`Fault::Full`], [`Fault::Spent`].
+    #[inline]
     pub fn next_order(&mut self) -> Result<Option<Order>, Fault> {
-        match self.handle.next(&mut self.order) {
-            sys::NONE => return Ok(None),
-            status => Fault::check(status)?,
+        match self.next_order_ref()? {
+            Some(order) => order.into_order().map(Some),
+            None => Ok(None),
         }
-        let raw = &self.order;
-        Ok(Some(match raw.kind {
-            1 => Order::Start(process_of(raw)?),
-            2 => Order::Ask { process: process_of(raw)?, deadline: (raw.has_deadline != 0).then_some(raw.deadline) },
-            3 => Order::Kill(process_of(raw)?),
-            4 => {
-                let (supervisor, call) = (raw.supervisor, raw.number);
-                Order::Reply(Reply { supervisor, call, answer: self.answer().ok_or(STRANGE)? })
+    }
+
+    /// The next order, if there is one, read where the library has written it: nothing of it is copied.
+    ///
+    /// # Errors
+    /// [`Fault::Memory`], [`Fault::Full`], [`Fault::Spent`].
+    #[inline]
+    pub fn next_order_ref(&mut self) -> Result<Option<OrderRef<'_>>, Fault> {
+        match self.handle.next(&mut self.order) {
+            sys::OK => self.told_order().map(Some),
+            sys::NONE => Ok(None),
+            status => Err(Fault::of(status)),
+        }
+    }
+
+    /// The order that was told last.
+    #[inline]
+    fn told_order(&mut self) -> Result<OrderRef<'_>, Fault> {
+        Ok(match self.order.kind {
+            1 => OrderRef::Start(ProcessRef::of(&self.order).ok_or(STRANGE)?),
+            2 => {
+                let deadline = (self.order.has_deadline != 0).then_some(self.order.deadline);
+                OrderRef::Ask { process: ProcessRef::of(&self.order).ok_or(STRANGE)?, deadline }
             }
-            5 => Order::Ready,
-            6 => Order::End(end_of(raw).ok_or(STRANGE)?),
+            3 => OrderRef::Kill(ProcessRef::of(&self.order).ok_or(STRANGE)?),
+            4 => OrderRef::Reply(ReplyRef { tree: self }),
+            5 => OrderRef::Ready,
+            6 => OrderRef::End(EndRef::of(&self.order)),
             _ => return Err(STRANGE),
-        }))
+        })
     }
 
     /// The answer of the reply that was told last.
@@ -272,29 +290,31 @@ impl Tree {
     }
 }
 
-fn process_of(raw: &RawOrder) -> Result<Process, Fault> {
-    if raw.start.len == 0 {
-        return Err(STRANGE);
-    }
-    Ok(Process {
-        supervisor: raw.supervisor,
-        id: Name::from_raw(&raw.id),
-        start: Name::of_raw(&raw.start),
-        number: raw.number,
-    })
+/// A reply as it was told, whose answer is read where it is wanted.
+#[derive(Debug)]
+pub struct ReplyRef<'a> {
+    tree: &'a mut Tree,
 }
 
-fn end_of(raw: &RawOrder) -> Option<End> {
-    Some(End {
-        reason: Reason::from_raw(raw.reason, &raw.text)?,
-        cause: match raw.cause {
-            1 => Cause::Intensity,
-            2 => Cause::Significant(raw.number),
-            3 => Cause::Asked,
-            4 => Cause::InitFailed(Name::from_raw(&raw.id)),
-            _ => return None,
-        },
-    })
+impl ReplyRef<'_> {
+    /// The supervisor's number.
+    pub fn supervisor(&self) -> u32 {
+        self.tree.order.supervisor
+    }
+
+    /// The call's number.
+    pub fn call(&self) -> u64 {
+        self.tree.order.number
+    }
+
+    /// The reply with its answer.
+    ///
+    /// # Errors
+    /// [`Fault::Unknown`], where library and crate don't belong together.
+    pub fn into_reply(self) -> Result<Reply, Fault> {
+        let (supervisor, call) = (self.supervisor(), self.call());
+        Ok(Reply { supervisor, call, answer: self.tree.answer().ok_or(STRANGE)? })
+    }
 }
 
 /// The orders of a tree that were not taken yet.

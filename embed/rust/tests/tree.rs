@@ -1,8 +1,8 @@
 //! The crate from outside: what goes in, what comes out, and what is refused.
 
 use otp_embed::{
-    Call, Cause, ChildProcess, ChildSpec, ChildState, End, Fault, Limits, Name, Note, OpenError, Order, Phase, Reason,
-    Refusal, Reply, Strategy, Text, Tree,
+    Call, Cause, ChildProcess, ChildSpec, ChildState, End, Fault, Limits, Name, Note, OpenError, Order, OrderRef,
+    Phase, Process, Reason, Refusal, Reply, Strategy, Text, Tree,
 };
 
 const ONE: &str = "intensity = 1\nperiod = 5\n[[child]]\nid = \"a\"\nstart = \"run_a\"\nshutdown = 300\n";
@@ -69,6 +69,30 @@ fn a_child_is_restarted_once_and_then_its_supervisor_gives_up() {
     let last: Vec<Order> = tree.orders().map(Result::unwrap).collect();
     assert_eq!(last, [Order::End(End { reason: Reason::Shutdown, cause: Cause::Intensity })]);
     assert_eq!(tree.supervisor(0).unwrap().phase, Phase::Ended);
+}
+
+#[test]
+fn an_order_read_in_place_says_what_a_copy_says() {
+    let mut tree = Tree::open(ONE).unwrap();
+    let Some(OrderRef::Start(process)) = tree.next_order_ref().unwrap() else { panic!("no start") };
+    assert_eq!((process.supervisor(), process.id(), process.start(), process.number()), (0, Some("a"), "run_a", 1));
+    assert_eq!(process.to_process(), Process { supervisor: 0, id: Some(name("a")), start: name("run_a"), number: 1 });
+    tree.note(0, Note::Up(1)).unwrap();
+    assert!(matches!(tree.next_order_ref(), Ok(Some(OrderRef::Ready))));
+    assert!(matches!(tree.next_order_ref(), Ok(None)));
+    let call = tree.count_children(0).unwrap();
+    let Some(OrderRef::Reply(reply)) = tree.next_order_ref().unwrap() else { panic!("no reply") };
+    assert_eq!((reply.supervisor(), reply.call()), (0, call.number()));
+    assert_eq!(reply.into_reply().unwrap().answer_to(call).unwrap().unwrap().active, 1);
+    tree.stop();
+    let Some(OrderRef::Ask { process, deadline }) = tree.next_order_ref().unwrap() else { panic!("no ask") };
+    assert_eq!((process.number(), deadline), (1, Some(300)));
+    tree.tick(300).unwrap();
+    let Some(OrderRef::Kill(process)) = tree.next_order_ref().unwrap() else { panic!("no kill") };
+    assert_eq!(process.number(), 1);
+    tree.note(0, Note::Exit(1, Reason::Killed)).unwrap();
+    let Some(OrderRef::End(end)) = tree.next_order_ref().unwrap() else { panic!("no end") };
+    assert_eq!(end.to_end(), Some(End { reason: Reason::Shutdown, cause: Cause::Asked }));
 }
 
 #[test]

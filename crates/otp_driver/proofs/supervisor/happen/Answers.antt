@@ -1,13 +1,27 @@
+use Rattle.std.proofs.Common.{rules}
+use Rattle.otp_core.specs.Happened.{Happened}
 use Rattle.otp_rules.specs.declared.event.Event.{Event}
+use Rattle.otp_driver.specs.declared.limits.TheConstants.{KEPT_EVENTS}
 use Rattle.otp_driver.proofs.Answered.{answered_on}
 use Rattle.otp_driver.proofs.Kept.{refused_as}
 use Rattle.otp_driver.proofs.supervisor.happen.Goals as goal
 
-pub returns-in-Ok-clause-answered : goal.returns-in-Ok-clause-answered
-returns-in-Ok-clause-answered c =
-    let event : Event = record { reading = c.args.reading; number = c.in-Ok.field-0; kind = c.args.kind.now } in
+pub returns-clause-answered : goal.returns-clause-answered
+returns-clause-answered c =
+    let event : Event = record { reading = c.args.reading; number = c.step_with.result; kind = c.args.kind.now } in
+    let happened : Happened KEPT_EVENTS event c.args.core.now c.step_with.new.self =
+    record {
+      base = search rules;
+      earlier = search rules;
+      cut = search rules;
+      history = search rules;
+      stored = search rules;
+      effects = search rules;
+      prepared = search rules;
+      answers = search rules;
+    } in
     answered_on c.answers_are_told.ensures.told c.cuts_agree.ensures.runs c.cuts_agree.ensures.step c.runs_are_joined.ensures.lists c.runs_are_joined.ensures.one_more
-    _ event c.args.core.now c.happen.new.self (c.in-Ok.ensures {u = tt}).happened
+    KEPT_EVENTS event c.args.core.now c.step_with.new.self happened
 
 pub returns-in-Err-clause-why : goal.returns-in-Err-clause-why
 returns-in-Err-clause-why c =

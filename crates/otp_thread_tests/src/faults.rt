@@ -1,19 +1,13 @@
 // Each fault of a draft, with what comes back.
-use crate::shown::{Draft, MEMORY, got, same};
+use crate::fixtures::same;
+use crate::shown::{Draft, add, dynamic, empty, numbered, put};
 use otp_draft::{Child, DraftFault, Refused};
-use otp_spec::{ChildType, Restart, Shutdown, SpecFault, SpecKey, Strategy, SupFlags};
+use otp_spec::{ChildType, Restart, Shutdown, SpecFault, SpecKey, SupFlags};
 use std::alloc::Global;
 use std::process::Abort;
 
 // Thirty-three bytes, one more than an id may have.
 const LONG_ID: &str = "abcdefghijklmnopqrstuvwxyz0123456";
-
-fn simple() -> SupFlags {
-    SupFlags {
-        strategy: Strategy::SimpleOneForOne,
-        ..SupFlags::default()
-    }
-}
 
 // What of a child that runs a job came back: the fault, and the job.
 fn job_back(back: Result<(), Refused<u64>>) -> Option<(DraftFault, u64)> {
@@ -43,38 +37,22 @@ fn fault_of(back: Result<(), Refused<Child<u64, u64>>>) -> Option<DraftFault> {
     }
 }
 
-fn alone(alloc: Global) -> Draft {
-    Draft::new(alloc, SupFlags::default())
-}
-
-// A text that is made up.
-fn numbered(rt: &impl Abort, alloc: Global, letter: &str, number: u64) -> String {
-    got(rt, MEMORY, format!(in alloc; "{letter}{number}"))
-}
-
 // A supervisor of so many children.
 fn of_children(rt: &impl Abort, alloc: Global, count: u64) -> Draft {
-    let mut draft = alone(alloc);
+    let mut draft = empty(alloc);
     for number in 0..count {
         let id = numbered(rt, alloc, "c", number);
-        got(
-            rt,
-            "a child was refused",
-            draft.add_worker(id.as_str(), number),
-        );
+        add(rt, &mut draft, id.as_str(), number);
+        drop(id);
     }
     draft
 }
 
-fn put(rt: &impl Abort, above: &mut Draft, id: &str, below: Draft) {
-    got(rt, "a tree was refused", above.add_supervisor(id, below));
-}
-
 // So many levels of supervisors.
 fn of_levels(rt: &impl Abort, alloc: Global, levels: usize) -> Draft {
-    let mut draft = alone(alloc);
+    let mut draft = empty(alloc);
     for _ in 1..levels {
-        let mut above = alone(alloc);
+        let mut above = empty(alloc);
         put(rt, &mut above, "below", draft);
         draft = above;
     }
@@ -83,10 +61,11 @@ fn of_levels(rt: &impl Abort, alloc: Global, levels: usize) -> Draft {
 
 // A supervisor of so many others.
 fn of_supervisors(rt: &impl Abort, alloc: Global, count: u64) -> Draft {
-    let mut draft = alone(alloc);
+    let mut draft = empty(alloc);
     for number in 0..count {
         let id = numbered(rt, alloc, "s", number);
-        put(rt, &mut draft, id.as_str(), alone(alloc));
+        put(rt, &mut draft, id.as_str(), empty(alloc));
+        drop(id);
     }
     draft
 }
@@ -94,7 +73,7 @@ fn of_supervisors(rt: &impl Abort, alloc: Global, count: u64) -> Draft {
 // A supervisor of so many children, and of one more with this id.
 fn with_one_more(rt: &impl Abort, alloc: Global, count: u64, id: &str) -> Draft {
     let mut draft = of_children(rt, alloc, count);
-    got(rt, "a child was refused", draft.add_worker(id, 9));
+    add(rt, &mut draft, id, 9);
     draft
 }
 
@@ -112,17 +91,16 @@ fn a_job_that_was_not_added_comes_back(rt: HostRuntime) {
     let alloc = rt.alloc();
     let many = DraftFault::Spec(SpecFault::TooManyChildren);
     gives_job_back(&rt, of_children(&rt, alloc, 256), "one_more", many, 256);
-    let dynamic = Draft::new(alloc, simple());
-    gives_job_back(&rt, dynamic, "a", DraftFault::Dynamic, 0);
+    gives_job_back(&rt, dynamic(alloc), "a", DraftFault::Dynamic, 0);
     let id = DraftFault::Spec(SpecFault::BadSpec {
         index: 2,
         key: SpecKey::Id,
     });
     gives_job_back(&rt, of_children(&rt, alloc, 2), LONG_ID, id, 2);
-    let mut dynamic = Draft::new(alloc, simple());
-    let back = job_back(dynamic.add_bridge("a", 7));
-    let seen = (back, dynamic.len());
-    drop(dynamic);
+    let mut draft = dynamic(alloc);
+    let back = job_back(draft.add_bridge("a", 7));
+    let seen = (back, draft.len());
+    drop(draft);
     let wanted = (Some((DraftFault::Dynamic, 7)), 0);
     same(&rt, "a bridge", seen, wanted);
 }
@@ -145,8 +123,8 @@ fn root_gives_back(rt: &impl Abort, alloc: Global, root: &mut Draft) {
     gives_tree_back(rt, root, "deep", of_levels(rt, alloc, 16), deep);
     let twice = (DraftFault::Spec(SpecFault::DuplicateId { index: 1 }), 1, 2);
     gives_tree_back(rt, root, "twice", with_one_more(rt, alloc, 1, "c0"), twice);
-    let empty = (DraftFault::Spec(SpecFault::SimpleNeedsOne), 1, 0);
-    gives_tree_back(rt, root, "empty", Draft::new(alloc, simple()), empty);
+    let none = (DraftFault::Spec(SpecFault::SimpleNeedsOne), 1, 0);
+    gives_tree_back(rt, root, "empty", dynamic(alloc), none);
     same(rt, "the supervisors", root.tables(), 1);
 }
 
@@ -155,28 +133,28 @@ fn many_give_back(rt: &impl Abort, alloc: Global, many: &mut Draft) {
     let more = (DraftFault::TooManyTables, 2, 1);
     gives_tree_back(rt, many, "more", of_levels(rt, alloc, 2), more);
     same(rt, "the supervisors", many.tables(), 63);
-    put(rt, many, "last", alone(alloc));
+    put(rt, many, "last", empty(alloc));
     same(rt, "the supervisors then", many.tables(), 64);
 }
 
 // A supervisor of dynamic children has none below it.
-fn dynamic_gives_back(rt: &impl Abort, alloc: Global, dynamic: &mut Draft) {
+fn dynamic_gives_back(rt: &impl Abort, alloc: Global, root: &mut Draft) {
     let wanted = (DraftFault::Dynamic, 1, 3);
-    gives_tree_back(rt, dynamic, "a", of_children(rt, alloc, 3), wanted);
-    same(rt, "the supervisors", dynamic.tables(), 1);
+    gives_tree_back(rt, root, "a", of_children(rt, alloc, 3), wanted);
+    same(rt, "the supervisors", root.tables(), 1);
 }
 
 #[test]
 fn a_tree_that_was_not_put_below_another_comes_back(rt: HostRuntime) {
-    let mut root = alone(rt.alloc());
+    let mut root = empty(rt.alloc());
     root_gives_back(&rt, rt.alloc(), &mut root);
     drop(root);
     let mut many = of_supervisors(&rt, rt.alloc(), 62);
     many_give_back(&rt, rt.alloc(), &mut many);
     drop(many);
-    let mut dynamic = Draft::new(rt.alloc(), simple());
-    dynamic_gives_back(&rt, rt.alloc(), &mut dynamic);
-    drop(dynamic);
+    let mut none = dynamic(rt.alloc());
+    dynamic_gives_back(&rt, rt.alloc(), &mut none);
+    drop(none);
 }
 
 // A child isn't added, for this fault, or is added.
@@ -186,7 +164,7 @@ fn has_fault(rt: &impl Abort, root: &mut Draft, child: Child<u64, u64>, fault: O
 
 #[test]
 fn what_is_not_of_its_type_is_refused(rt: HostRuntime) {
-    let mut root = alone(rt.alloc());
+    let mut root = empty(rt.alloc());
     types_are_refused(&rt, rt.alloc(), &mut root);
     let counted = (root.len(), root.tables());
     drop(root);
@@ -197,14 +175,14 @@ fn types_are_refused(rt: &impl Abort, alloc: Global, root: &mut Draft) {
     let wrong = Some(DraftFault::WrongBody);
     let child = Child::worker("a", 1).kind(ChildType::Supervisor);
     has_fault(rt, root, child, wrong);
-    let child = Child::supervisor("b", alone(alloc)).kind(ChildType::Worker);
+    let child = Child::supervisor("b", empty(alloc)).kind(ChildType::Worker);
     has_fault(rt, root, child, wrong);
-    let child = Child::supervisor("c", alone(alloc)).shutdown(Shutdown::BrutalKill);
+    let child = Child::supervisor("c", empty(alloc)).shutdown(Shutdown::BrutalKill);
     has_fault(rt, root, child, Some(DraftFault::NestedNotInfinity));
     has_fault(rt, root, Child::template("d"), Some(DraftFault::NoBody));
     let child = Child::bridge("e", 1).kind(ChildType::Supervisor);
     has_fault(rt, root, child, None);
-    let child = Child::supervisor("f", alone(alloc)).restart(Restart::Temporary);
+    let child = Child::supervisor("f", empty(alloc)).restart(Restart::Temporary);
     has_fault(rt, root, child, None);
 }
 
@@ -231,7 +209,7 @@ fn a_root_without_lawful_flags_or_children_comes_back(rt: HostRuntime) {
     let flags = (DraftFault::Spec(SpecFault::BadFlag), 0);
     is_unfinished(&rt, alloc, Draft::new(alloc, no_period), flags);
     let one = (DraftFault::Spec(SpecFault::SimpleNeedsOne), 0);
-    is_unfinished(&rt, alloc, Draft::new(alloc, simple()), one);
+    is_unfinished(&rt, alloc, dynamic(alloc), one);
     let twice = (DraftFault::Spec(SpecFault::DuplicateId { index: 2 }), 3);
     is_unfinished(&rt, alloc, with_one_more(&rt, alloc, 2, "c0"), twice);
 }

@@ -1,7 +1,7 @@
 use Rattle.std.proofs.Common.{Bool, true, inl, rules, subst}
 use Rattle.otp_driver.specs.Driven.{Carried, Does}
 use Rattle.otp_driver.proofs.Within.{has_next}
-use Rattle.otp_driver.proofs.driver.Driver.go_on_at.Goals as goal
+use Rattle.otp_driver.proofs.driver.Driver.do_next.Goals as goal
 
 pub returns-then-done-clause-ok : goal.returns-then-done-clause-ok
 returns-then-done-clause-ok c =

@@ -1,39 +1,12 @@
 // A growth of memory that is refused changes nothing, and what was handed in comes back: the same call is made again.
-use crate::shown::{Draft, got, has_plans};
+use crate::drafts::deep;
+use crate::fixtures::got;
+use crate::shown::{Draft, add, empty, has_plans, put};
 use otp_draft::{DraftFault, Refused, TreePlan};
-use otp_spec::SupFlags;
 use std::alloc::Global;
 use std::process::Abort;
 
-// Adds a worker, once more where memory was refused.
-fn add(rt: &impl Abort, draft: &mut Draft, id: &str, job: u64) {
-    let added = match draft.add_worker(id, job) {
-        Err(
-            Refused {
-                fault: DraftFault::OutOfMemory,
-                given,
-            },
-        ) => draft.add_worker(id, given),
-        other => other,
-    };
-    got(rt, "a worker was refused", added);
-}
-
-// The same of a supervisor.
-fn put(rt: &impl Abort, draft: &mut Draft, id: &str, below: Draft) {
-    let added = match draft.add_supervisor(id, below) {
-        Err(
-            Refused {
-                fault: DraftFault::OutOfMemory,
-                given,
-            },
-        ) => draft.add_supervisor(id, given),
-        other => other,
-    };
-    got(rt, "a tree was refused", added);
-}
-
-// The same of the whole tree.
+// Finishes a tree, once more where memory was refused.
 fn finish(rt: &impl Abort, alloc: Global, draft: Draft) -> TreePlan<u64, u64> {
     let plan = match draft.finish(alloc) {
         Err(
@@ -45,16 +18,6 @@ fn finish(rt: &impl Abort, alloc: Global, draft: Draft) -> TreePlan<u64, u64> {
         other => other,
     };
     got(rt, "it was refused", plan)
-}
-
-fn empty(alloc: Global) -> Draft {
-    Draft::new(alloc, SupFlags::default())
-}
-
-fn deep(rt: &impl Abort, alloc: Global) -> Draft {
-    let mut deep = empty(alloc);
-    add(rt, &mut deep, "x", 3);
-    deep
 }
 
 fn pool(rt: &impl Abort, alloc: Global) -> Draft {

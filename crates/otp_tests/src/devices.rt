@@ -267,7 +267,7 @@ impl Write for Taking {
 
 /// Many lines.
 fn many_lines(rt: &impl Abort, alloc: Global) -> String {
-    let mut lines = got(rt, "there is memory", "up 1\nup 2\nup 3\n".to_string(alloc));
+    let mut lines = got(rt, "up 1\nup 2\nup 3\n".to_string(alloc));
     for _ in 0..20_000u64 {
         assert!(rt; lines.push_str("which\n\n\n\n\n\n").is_ok());
     }

@@ -1,7 +1,8 @@
 // Which plans come of a draft.
-use crate::shown::{Draft, got, has_plans, same};
+use crate::fixtures::{got, same};
+use crate::shown::{Draft, add, dynamic, empty, has_plans, put};
 use otp_draft::Child;
-use otp_spec::{ChildType, Restart, Shutdown, Strategy, SupFlags};
+use otp_spec::{ChildType, Restart, Shutdown};
 use std::alloc::Global;
 use std::process::Abort;
 
@@ -24,60 +25,40 @@ const FROM_THREE: &str = "\
 7: any
 ";
 
-fn simple() -> SupFlags {
-    SupFlags {
-        strategy: Strategy::SimpleOneForOne,
-        ..SupFlags::default()
-    }
-}
-
-// A draft with these flags, which are lawful.
-fn empty(alloc: Global) -> Draft {
-    Draft::new(alloc, SupFlags::default())
-}
-
-fn work(rt: &impl Abort, draft: &mut Draft, id: &str, job: u64) {
-    got(rt, "a worker was refused", draft.add_worker(id, job));
-}
-
-fn put(rt: &impl Abort, draft: &mut Draft, id: &str, below: Draft) {
-    got(rt, "a tree was refused", draft.add_supervisor(id, below));
-}
-
-fn deep(rt: &impl Abort, alloc: Global) -> Draft {
+pub(crate) fn deep(rt: &impl Abort, alloc: Global) -> Draft {
     let mut deep = empty(alloc);
-    work(rt, &mut deep, "x", 3);
+    add(rt, &mut deep, "x", 3);
     deep
 }
 
 fn east(rt: &impl Abort, alloc: Global) -> Draft {
     let mut east = empty(alloc);
-    work(rt, &mut east, "a", 2);
+    add(rt, &mut east, "a", 2);
     put(rt, &mut east, "deep", deep(rt, alloc));
-    work(rt, &mut east, "b", 4);
+    add(rt, &mut east, "b", 4);
     east
 }
 
 fn calls(rt: &impl Abort, alloc: Global) -> Draft {
-    let mut calls = Draft::new(alloc, simple());
+    let mut calls = dynamic(alloc);
     got(rt, "a template was refused", calls.add_template("any"));
     calls
 }
 
 fn west(rt: &impl Abort, alloc: Global) -> Draft {
     let mut west = empty(alloc);
-    work(rt, &mut west, "y", 5);
+    add(rt, &mut west, "y", 5);
     put(rt, &mut west, "calls", calls(rt, alloc));
     west
 }
 
-pub(crate) fn three_levels(rt: &impl Abort, alloc: Global) -> Draft {
+fn three_levels(rt: &impl Abort, alloc: Global) -> Draft {
     let mut root = empty(alloc);
-    work(rt, &mut root, "db", 1);
+    add(rt, &mut root, "db", 1);
     put(rt, &mut root, "east", east(rt, alloc));
     got(rt, "a bridge was refused", root.add_bridge("gate", 7));
     put(rt, &mut root, "west", west(rt, alloc));
-    work(rt, &mut root, "last", 9);
+    add(rt, &mut root, "last", 9);
     root
 }
 

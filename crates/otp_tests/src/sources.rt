@@ -61,6 +61,15 @@ const TEXTS: [&str; 8] = [
     "1979-05-27 07:32:00",
 ];
 
+/// What stands before the number of a key, and behind it.
+const KEYS: [(&str, &str); 5] = [
+    ("\"k ", "\" = "),
+    ("'k]", "'="),
+    ("k", " . \"l\"= "),
+    ("shared.k", " = "),
+    ("k", " = "),
+];
+
 /// What stands between the values of an array.
 const BETWEEN: [&str; 5] = [",", ", ", ",\n  ", ", # ] , 1\n", "\n,\r\n"];
 
@@ -86,16 +95,13 @@ impl Draft {
 
     /// A key that no other has, in one of the forms that keys have.
     fn write_key(&mut self) -> Result<(), AllocError> {
-        let number = self.next;
-        self.next = self.next.saturating_add(1);
-        let text = match self.chance.below(5) {
-            0 => format!(in self.alloc; "\"k {number}\" = ")?,
-            1 => format!(in self.alloc; "'k]{number}'=")?,
-            2 => format!(in self.alloc; "k{number} . \"l\"= ")?,
-            3 => format!(in self.alloc; "shared.k{number} = ")?,
-            _ => format!(in self.alloc; "k{number} = ")?,
+        let place = self.chance.below(KEYS.len() as u64) as usize;
+        let Some((before, behind)) = KEYS.get(place) else {
+            return Ok(());
         };
-        self.write(text.as_str())
+        self.write(before)?;
+        self.write_number()?;
+        self.write(behind)
     }
 
     /// A number or a text.
@@ -171,7 +177,7 @@ impl Draft {
 
 /// The line on which a number stands in a text.
 fn line_of(rt: &impl Abort, alloc: Global, text: &[u8], number: i64) -> Option<u64> {
-    let digits = got(rt, "there is memory", format!(in alloc; "{number}"));
+    let digits = got(rt, format!(in alloc; "{number}"));
     let length = digits.as_str().len();
     if length == 0 {
         return None;
@@ -223,9 +229,9 @@ fn push_all<'a>(
 
 /// Compares the lines of all numbers of a document, and says how many there are.
 fn compare(rt: &impl Abort, alloc: Global, text: &[u8], value: &Value) -> u64 {
-    let source = got(rt, "there is memory", Source::read(alloc, text));
+    let source = got(rt, Source::read(alloc, text));
     let mut left: Left<'_> = Vec::new(alloc);
-    got(rt, "there is memory", left.push((value, Some(Part::WHOLE))));
+    got(rt, left.push((value, Some(Part::WHOLE))));
     let mut numbers: u64 = 0;
     for _ in 0..100_000 {
         let Some((value, part)) = left.pop() else {
@@ -235,11 +241,7 @@ fn compare(rt: &impl Abort, alloc: Global, text: &[u8], value: &Value) -> u64 {
             numbers = numbers.saturating_add(1);
             is_found(rt, alloc, text, source.line(part), *number);
         }
-        got(
-            rt,
-            "there is memory",
-            push_all(&source, value, part, &mut left),
-        );
+        got(rt, push_all(&source, value, part, &mut left));
     }
     drop(left);
     drop(source);
@@ -256,7 +258,7 @@ fn make_draft(rt: &impl Abort, alloc: Global, seed: u64) -> Vec<u8> {
         },
         next: 10_000_000,
     };
-    got(rt, "there is memory", draft.fill(seed % 7 == 0));
+    got(rt, draft.fill(seed % 7 == 0));
     let Draft { text, .. } = draft;
     text
 }

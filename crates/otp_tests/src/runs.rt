@@ -1,12 +1,11 @@
 //! Runs of `sim` that are refused memory, and one that prints much at once.
 
 use crate::devices::{Slow, Taking};
-use crate::fixtures::{got, same, supervisor_of};
+use crate::fixtures::{got, same, supervisor_of, write_numbered};
 use otp_sim::driven::{Driven, Stop};
 use otp_sim::{Counted, PIECE, Player, SimEnd, serve, sim};
 use std::alloc::{AllocError, Global};
 use std::process::Abort;
-use std::test::Fail;
 
 /// A player that is refused memory once so many things happened: lines, and what follows them.
 #[derive(Drop)]
@@ -99,17 +98,15 @@ fn refused_memory_loses_nothing_earlier(rt: HostRuntime) {
 
 /// One line answers 300 calls that waited for it, each with 40 children.
 #[test]
-fn a_line_that_prints_much_is_written_in_pieces(rt: HostRuntime) -> Result<(), Fail> {
-    let file = forty_children(rt.alloc())?;
+fn a_line_that_prints_much_is_written_in_pieces(rt: HostRuntime) {
+    let file = forty_children(&rt, rt.alloc());
     let supervisor = supervisor_of(&rt, rt.alloc(), file.as_str());
-    let lines = three_hundred_calls(rt.alloc());
-    let lines = got(&rt, "there is memory", lines);
+    let lines = three_hundred_calls(&rt, rt.alloc());
     let mut reader = Counted::new(lines.as_bytes());
     let mut writer = Counted::new(Taking::new());
     let end = sim(rt.alloc(), supervisor, &mut reader, &mut writer);
     same(&rt, "the end", end, SimEnd::Done);
     is_in_pieces(&rt, &writer.into_device());
-    Ok(())
 }
 
 /// More than three pieces were written, and at once not much more than one.
@@ -119,25 +116,25 @@ fn is_in_pieces(rt: &impl Abort, taken: &Taking) {
 }
 
 /// The children `child_1`, `child_2` and so on.
-fn forty_children(alloc: Global) -> Result<String, AllocError> {
+fn forty_children(rt: &impl Abort, alloc: Global) -> String {
     let mut file = String::new(alloc);
     for number in 1..41u64 {
-        let child = format!(in alloc; "[[child]]\nid = \"child_{number}\"\nstart = \"a\"\n")?;
-        file.push_str(child.as_str())?;
+        let (before, behind) = ("[[child]]\nid = \"child_", "\"\nstart = \"a\"\n");
+        write_numbered(rt, &mut file, before, number, behind);
     }
-    Ok(file)
+    file
 }
 
 /// All start, one is terminated, and calls wait for its end.
-fn three_hundred_calls(alloc: Global) -> Result<String, AllocError> {
+fn three_hundred_calls(rt: &impl Abort, alloc: Global) -> String {
     let mut lines = String::new(alloc);
     for number in 1..41u64 {
-        lines.push_str(format!(in alloc; "up {number}\n")?.as_str())?;
+        write_numbered(rt, &mut lines, "up ", number, "\n");
     }
-    lines.push_str("terminate child_1\n")?;
+    got(rt, lines.push_str("terminate child_1\n"));
     for _ in 0..300u64 {
-        lines.push_str("which\n")?;
+        got(rt, lines.push_str("which\n"));
     }
-    lines.push_str("exit 1 shutdown\n")?;
-    Ok(lines)
+    got(rt, lines.push_str("exit 1 shutdown\n"));
+    lines
 }

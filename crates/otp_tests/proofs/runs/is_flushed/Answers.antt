@@ -2,7 +2,7 @@ use Rattle.std.proofs.Common.{◌≡◌, List, refl, ap, ◌∙◌}
 use Rattle.otp_spec.specs.declared.child.ChildSpec.{ChildSpec}
 use Rattle.otp_spec.specs.declared.flags.SupFlags.{SupFlags}
 use Rattle.otp_sim.specs.Sim.{Sim, happen, opened, stepped}
-use Rattle.otp_play_tests.proofs.runs.is_flushed.Goals as goal
+use Rattle.otp_tests.proofs.runs.is_flushed.Goals as goal
 
 -- the opening is no line
 opened_lines : (flags : SupFlags) (specs : List ChildSpec) → (opened flags specs).lines ≡ 0
