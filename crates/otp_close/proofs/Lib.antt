@@ -1,4 +1,5 @@
 pub mod Ordered
+pub mod Credited
 pub mod Partings
 pub mod Sums
 pub mod Apart

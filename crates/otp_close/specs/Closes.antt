@@ -120,10 +120,13 @@ module _ {J S : Type 0} where
     -- to be sent
     pub ends : HasAllEnds report
 
--- the tree, as it was
+-- the tree, as it was, as far as contracts see it
 pub record IsIntact {N J S : Type 0} (shared : SystemView) (hands : List (HandView J S)) (client : ClientView) (k : Intact N J S) : Type 0 where
+  -- it has as many slots of signal words, and as many supervisors; what lies under a lock is known by its type alone
   pub shared_is : k.shared ≡ shared
+  -- each hand has its scheduler, its senders, its processes, its letter and its passes; of what its viewer saw nothing is said
   pub hands_are : k.hands.items ≡ hands
+  -- it has its numbers and posts, its senders, the root's number, and what it took of the root's notes
   pub client_is : k.client ≡ client
 
 -- nothing was taken apart for this cause, and all comes back

@@ -2,14 +2,14 @@
 use Rattle.std.specs.Prelude.{◌≡◌, ℕ, ◌≤◌, List, [], ◌++◌, Option, Some, None, MatchOption, length, map, slice_get}
 use Rattle.otp_inbox.specs.Lists.{AsOften, EachInOrder, together}
 use Rattle.otp_inbox.specs.Tokens.{SenderState, TakerState, sent_lists}
-use Rattle.otp_rules.specs.declared.event.Effect.{Effect}
 use Rattle.otp_rules.specs.declared.event.Item.{Item}
 use Rattle.otp_bodies.specs.declared.letter.Message.{Message}
 use Rattle.otp_run.specs.Lists.{AllAt}
 use Rattle.otp_bodies.specs.Messages.{items_in}
 use Rattle.otp_office.specs.Events.{items_of}
 use Rattle.otp_sup.specs.Told.{ends_told_in}
-use Rattle.otp_office.specs.Orders.{orders_along, starts_in}
+use Rattle.otp_office.specs.Offices.{KeepsOffice, OfficeView}
+use Rattle.otp_office.specs.Orders.{starts_in}
 use Rattle.otp_hand.specs.Sendings.{sent_to}
 use Rattle.otp_report.specs.declared.report.TableReport.{TableReport}
 
@@ -63,11 +63,11 @@ AreInOrder all tables = AllAt (λ k (t : TableReport). EachInOrder (map items_in
 abbrev pub IsLastInOrder : ℕ → List (List (SenderState Message)) → Option (TakerState Message) → List Item → Type 0
 IsLastInOrder tables all waiter last = MatchOption waiter ⊥ (λ (w : TakerState Message). EachInOrder (map items_in (lists_to tables all)) (items_in w.taken ++ last))
 
--- so many starts were still to be sent: the orders of its history are those that it sent, and then those to be sent. An
--- event starts one child at most
+-- its office, as its last turn left it, kept the rules: the first orders of its history were sent, in their order, and the others
+-- were still to be sent. So many of those start a child; an event starts one at most
 pub record HasUnsent (t : TableReport) : Type 0 where
-  pub sent : List Effect
-  pub outbox : List Effect
-  pub orders : sent ++ outbox ≡ orders_along t.core
-  pub starts : t.unsent ≡ length (starts_in outbox)
+  pub office : OfficeView
+  pub keeps : KeepsOffice office
+  pub core : t.core ≡ office.core
+  pub starts : t.unsent ≡ length (starts_in office.outbox)
   pub few : t.unsent ≤ 1

@@ -1,5 +1,6 @@
 pub mod Partings
 pub mod Leavings
+pub mod Tables
 pub mod Totals
 pub mod Gathers
 pub mod Settlings

@@ -1,6 +1,6 @@
 -- How the inboxes of a tree are emptied. (own)
 use Rattle.std.specs.Prelude.{◌≡◌, ℕ, ◌+◌, ◌≤◌, List, [], ◌++◌, Option, MatchOption, IfSome, length, slice_get, min, vec_capacity}
-use Rattle.otp_inbox.specs.Tokens.{SenderState, TakerState, all_parts, all_sent, sent_lists}
+use Rattle.otp_inbox.specs.Tokens.{SenderState, TakerState, all_parts, all_sent, plus, sent_lists}
 use Rattle.otp_bodies.specs.declared.letter.Message.{Message}
 use Rattle.otp_run.specs.Lists.{AllAt}
 use Rattle.otp_sup.specs.Facts.{UnlockedView}
@@ -11,6 +11,7 @@ use Rattle.otp_hand.specs.Ended.{ends_held}
 use Rattle.otp_hand.specs.Hands.{ClientView}
 use Rattle.otp_hand.specs.Sendings.{parts_at, parts_to, sent_at, sent_to}
 use Rattle.otp_close.specs.Leavings.{lists_at, lists_to}
+use Rattle.otp_close.specs.Tables.{shares_at, shares_to}
 
 -- a sender has what the old one at its place has and what another one there has
 abbrev pub IsJoined : List (SenderState Message) → List (SenderState Message) → ℕ → SenderState Message → Type 0
@@ -19,6 +20,14 @@ IsJoined old other k s = MatchOption (slice_get old k) ⊥ (λ (o : SenderState 
 -- a sender knows the lists that the old one at its place knew, and those that another one there knows
 abbrev pub HasJoined : List (SenderState Message) → List (SenderState Message) → ℕ → SenderState Message → Type 0
 HasJoined old other k s = MatchOption (slice_get old k) ⊥ (λ (o : SenderState Message). sent_lists s ≡ sent_lists o ++ lists_at k other)
+
+-- a sender was credited with what the old one at its place was, and with what another one there was
+abbrev pub HasGained : List (SenderState Message) → List (SenderState Message) → ℕ → SenderState Message → Type 0
+HasGained old other k s = MatchOption (slice_get old k) ⊥ (λ (o : SenderState Message). s.shares ≡ plus o.shares (shares_at k other))
+
+-- a sender was credited with what all senders of its place were
+abbrev pub HasShares : List (List (SenderState Message)) → ℕ → SenderState Message → Type 0
+HasShares all k s = s.shares ≡ shares_to k all
 
 -- a sender knows the lists of all senders of its place
 abbrev pub HasLists : List (List (SenderState Message)) → ℕ → SenderState Message → Type 0

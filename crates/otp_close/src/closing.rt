@@ -13,6 +13,7 @@ ghost use Rattle.otp_hand.specs.Ended.{ends_sent, held_by};
 ghost use Rattle.otp_close.specs.Closes.{AreApart, HasBegun, HasTold, HaveBegun, IsComplete, IsIntact, IsMismatchOnly, IsMissingOnly, IsReached, IsRefusalOf, IsReportOf, NoneMissing, all_senders, kept_in, report_in};
 ghost use Rattle.otp_bodies.specs.Messages.{items_in};
 ghost use Rattle.otp_close.specs.Leavings.{AreAccounted, AreInOrder, HasCome, HasUnsent, HaveCome, IsLast, IsLastInOrder, line_of, lists_at};
+ghost use Rattle.otp_close.specs.Tables.{AreOfTables, IsOfTable, shares_at};
 ghost use Rattle.otp_hand.specs.Standings.{standings};
 ghost use Rattle.otp_hand.specs.Sendings.{sent_at};
 ghost use Rattle.otp_close.specs.Partings.{schedulers_of};
@@ -138,8 +139,11 @@ pub fn close<N: WordsNaming + InboxNaming + PlanNaming + RunNaming, J: Drop, S: 
     ensures order { IfSome (report_in result) (λ report. AreInOrder (all_senders client hands.items) report.tables.items) }
     ensures last_order { IfSome (report_in result) (λ report. IsLastInOrder shared.tables (all_senders client hands.items) client.waiter report.last.items) }
     ensures last { IfSome (report_in result) (λ report. IsLast shared.tables (all_senders client hands.items) client.waiter report.last.items) }
-    // Of the orders of each history all were sent, but those that were still to be sent; one start at most is there.
+    // The first orders of each history were sent, in their order, and the others were still to be sent; one start at most is there.
     ensures unsent { IfSome (report_in result) (λ report. All HasUnsent report.tables.items) }
+    // Each report is that of the supervisor with its place's inbox, which kept the rules. What it took and left is what was sent to
+    // it; and for each start that it sent, each event and each time that it found its inbox empty a sender was credited.
+    ensures tables { IfSome (report_in result) (λ report. AreOfTables N.plan (all_senders client hands.items) report.tables.items) }
     // Each end that a supervisor was told of another is one that the other's history gives.
     ensures told { IfOk result (λ report. AreSo report.tables.items) }
     ensures mismatch { IfErr result IsMismatchOnly }
@@ -214,6 +218,7 @@ fn report_of<N: WordsNaming + InboxNaming + PlanNaming, J: Drop, S: Drop, R: Wai
     ensures last_order { IsLastInOrder (length loose.sups.items) (client.senders ∷ map senders_in gathered.rests.items) client.waiter result.last.items }
     ensures last { IsLast (length loose.sups.items) (client.senders ∷ map senders_in gathered.rests.items) client.waiter result.last.items }
     ensures unsent { All HasUnsent result.tables.items }
+    ensures tables { AreOfTables N.plan (client.senders ∷ map senders_in gathered.rests.items) result.tables.items }
     ensures starts { HasAllStarts result }
     ensures ends { HasAllEnds result }
     ensures heard { HasHeard client.waiter result.heard }
@@ -289,6 +294,7 @@ fn take_all_apart<N: WordsNaming + InboxNaming + PlanNaming, B: Drop, R: Wait>(
     ensures order { AllAt (λ k t. EachInOrder (map items_in (lists_at k senders.items)) (line_of t)) result.items }
     ensures come { AllAt (λ k t. HasCome (sent_at k senders.items) t) result.items }
     ensures unsent { All HasUnsent result.items }
+    ensures tables { AllAt (λ k t. IsOfTable N.plan k (sent_at k senders.items) (shares_at k senders.items) t) result.items }
     ensures starts { starts_credited senders.items + sum_by unsent_of result.items ≡ sum_by starts_of result.items }
     ensures ends { ends_sent senders.items ≡ sum_by ends_of result.items }
     ensures count { length result.items ≡ length sups.items }
@@ -321,6 +327,7 @@ fn take_apart<N: WordsNaming + InboxNaming + PlanNaming, B: Drop, R: Wait>(
     ensures order { EachInOrder (map items_in (sent_lists sender)) (line_of result) }
     ensures come { HasCome (all_sent sender) result }
     ensures unsent { HasUnsent result }
+    ensures table { IsOfTable N.plan sup.inbox (all_sent sender) sender.shares result }
     ensures starts { sender.shares.starts + result.unsent ≡ starts_of result }
     ensures apart { NoneInBoth owner.old.drawn (numbers_of result.core.history) }
     ensures kept { AllIn owner.old.drawn owner.new.drawn }

@@ -5,7 +5,7 @@ ghost use Rattle.otp_run.specs.Lists.{AllAt};
 ghost use Rattle.otp_hand.specs.Begun.{starts_credited};
 ghost use Rattle.otp_hand.specs.Ended.{ends_sent};
 ghost use Rattle.otp_hand.specs.Sendings.{parts_to};
-ghost use Rattle.otp_close.specs.Settlings.{ArePlaced, HasJoined, HasLists, IsJoined, IsWhole, held_in, senders_in};
+ghost use Rattle.otp_close.specs.Settlings.{ArePlaced, HasGained, HasJoined, HasLists, HasShares, IsJoined, IsWhole, held_in, senders_in};
 
 use crate::parting::Rest;
 use otp_hand::Senders;
@@ -45,6 +45,7 @@ fn join_senders<N: WordsNaming + InboxNaming + PlanNaming, B: Drop>(
     ensures ends { ends_sent senders.new ≡ ends_sent senders.old + ends_sent others }
     ensures joined { AllAt (IsJoined senders.old others) senders.new }
     ensures lists { AllAt (HasJoined senders.old others) senders.new }
+    ensures shares { AllAt (HasGained senders.old others) senders.new }
     ensures len { length senders.new ≡ length senders.old }
 {
     for sender in others.list {
@@ -78,6 +79,7 @@ pub(crate) fn join_all<N: WordsNaming + InboxNaming + PlanNaming, J: Drop, S: Dr
     ensures held { result.held ≡ min (sum_by held_in rests.items) (2 ^ 64 - 1) }
     ensures whole { AllAt (IsWhole (senders ∷ map senders_in rests.items)) result.senders }
     ensures lists { AllAt (HasLists (senders ∷ map senders_in rests.items)) result.senders }
+    ensures shares { AllAt (HasShares (senders ∷ map senders_in rests.items)) result.senders }
     ensures len { length result.senders ≡ length senders }
 {
     let mut held: u64 = 0;

@@ -1,12 +1,13 @@
 //! Whoever calls the supervisors of a running tree from a thread of its own.
 
+use crate::locked::{Locked, ReachNaming};
 use otp_core::ReplyAnswer;
 use otp_inbox::InboxNaming;
 use otp_job::Body;
 use otp_rules::{Call, Reply};
 use otp_signals::WordsNaming;
 use otp_sup::PlanNaming;
-use otp_tree::{CallRefusal, Client, System, Uncalled};
+use otp_tree::{CallRefusal, System, Uncalled};
 use otp_wake::{Bells, Stop};
 use std::alloc::{AllocError, Global};
 use std::mem;
@@ -185,20 +186,21 @@ impl<J: Drop, S: Drop> Caller<J, S> {
     }
 
     /// Sends its call to the supervisor, and answers to which.
-    pub(crate) fn send<N, R>(
+    pub(crate) fn send<N, K, R>(
         &self,
         rt: &R,
         alloc: Global,
         system: &System<N, J, S>,
-        client: &Mutex<Client<N, Body<J, S>>>,
+        client: &Mutex<Locked<N, K, J, S>>,
     ) -> Option<usize>
     where
         N: WordsNaming + InboxNaming + PlanNaming,
+        K: ReachNaming,
         R: Wait,
     {
         let Wanted { table, call, body } = self.take_wanted(rt)?;
         let mut client = client.lock(rt);
-        let sent = system.submit(rt, alloc, &mut client, table, call, body);
+        let sent = client.submit(rt, alloc, system, table, call, body);
         drop(client);
         match sent {
             Ok(number) => {

@@ -32,6 +32,7 @@ pub mod calls;
 pub mod clock;
 mod crew;
 mod live;
+mod locked;
 pub mod log;
 pub mod mailbox;
 mod seat;

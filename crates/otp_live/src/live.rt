@@ -3,23 +3,25 @@ ghost use Rattle.std.specs.Prelude.{◌≡◌, ◌<◌, ◌≤◌, length, IfErr
 ghost use Rattle.otp_spec.specs.declared.limits.TheConstants.{MAX_READING, MAX_TABLES};
 ghost use Rattle.otp_run.specs.Rule.{all_parts};
 ghost use Rattle.otp_close.specs.Closes.{HaveBegun, IsReportOf};
-ghost use Rattle.otp_tree.specs.Closes.{IsRunMismatchOnly, IsRunOpenFault};
+ghost use Rattle.otp_hand.specs.Standings.{standing_of};
+ghost use Rattle.otp_tree.specs.Closes.{IsRunMismatchOnly, IsRunNoneMissing, IsRunOpenFault};
 ghost use Rattle.otp_open.specs.Plans.{HaveBodies, plans_of};
 
 use crate::caller::Caller;
 use crate::clock::Stopwatch;
 use crate::crew::Crew;
+use crate::locked::{Locked, ReachNaming};
 use crate::seat::Seat;
 use crate::served::serve_tree;
 use crate::span::{Span, sooner};
 use crate::watch::Watch;
 use otp_bridge::Subsystem;
 use otp_inbox::InboxNaming;
-use otp_job::{Body, Job};
+use otp_job::Job;
 use otp_run::RunNaming;
 use otp_signals::WordsNaming;
 use otp_sup::PlanNaming;
-use otp_tree::{Client, Hand, Report, RunFault, System, SystemFault, TablePlan};
+use otp_tree::{Hand, Report, RunFault, System, SystemFault, TablePlan};
 use otp_wake::{Post, Stop};
 use std::alloc::{AllocError, Global};
 use std::sync::{Arc, Mutex, Wait};
@@ -67,6 +69,8 @@ where
     // Each core began as the supervisor of the plan at its place in the list, never opened.
     ensures plans { IfOk result (λ report. HaveBegun (plans_of plans.items) report.tables.items) }
     ensures mismatch { IfErr result IsRunMismatchOnly }
+    // All parts of the tree are there when it is closed, since nobody else has one.
+    ensures missing { IfErr result IsRunNoneMissing }
     // Each plan has a body for each child that an opening makes, or that is why it isn't run, or memory was refused.
     ensures bodies { OnOk result (HaveBodies plans.items) }
     ensures opened { IfErr result (IsRunOpenFault plans.items) }
@@ -97,6 +101,8 @@ where
     // Each core began as the supervisor of the plan at its place in the list, never opened.
     ensures plans { IfOk result (λ report. HaveBegun (plans_of plans.items) report.tables.items) }
     ensures mismatch { IfErr result IsRunMismatchOnly }
+    // All parts of the tree are there when it is closed, since nobody else has one.
+    ensures missing { IfErr result IsRunNoneMissing }
     // Each plan has a body for each child that an opening makes, or that is why it isn't run, or memory was refused.
     ensures bodies { OnOk result (HaveBodies plans.items) }
     ensures opened { IfErr result (IsRunOpenFault plans.items) }
@@ -139,6 +145,8 @@ where
     // Each core began as the supervisor of the plan at its place in the list, never opened.
     ensures plans { IfOk result (λ report. HaveBegun (plans_of plans.items) report.tables.items) }
     ensures mismatch { IfErr result IsRunMismatchOnly }
+    // All parts of the tree are there when it is closed, since nobody else has one.
+    ensures missing { IfErr result IsRunNoneMissing }
     // Each plan has a body for each child that an opening makes, or that is why it isn't run, or memory was refused.
     ensures bodies { OnOk result (HaveBodies plans.items) }
     ensures opened { IfErr result (IsRunOpenFault plans.items) }
@@ -183,6 +191,8 @@ where
     // Each core began as the supervisor of the plan at its place in the list, never opened.
     ensures plans { IfOk result (λ report. HaveBegun (plans_of plans.items) report.tables.items) }
     ensures mismatch { IfErr result IsRunMismatchOnly }
+    // All parts of the tree are there when it is closed, since nobody else has one.
+    ensures missing { IfErr result IsRunNoneMissing }
     // Each plan has a body for each child that an opening makes, or that is why it isn't run, or memory was refused.
     ensures bodies { OnOk result (HaveBodies plans.items) }
     ensures opened { IfErr result (IsRunOpenFault plans.items) }
@@ -239,19 +249,22 @@ fn gather<'a, C: Clock, W: Watch, J: Drop, S: Drop>(
 }
 
 /// Serves by a hand until the root has ended, or the time of the run is over.
-pub(crate) fn serve<N, R, J, S, W>(
+pub(crate) fn serve<N, K, R, J, S, W>(
     rt: &R,
     seat: &Seat<'_, R, W, J, S>,
     system: &System<N, J, S>,
     hand: &mut Hand<N, J, S>,
-    client: &Mutex<Client<N, Body<J, S>>>,
+    client: &Mutex<Locked<N, K, J, S>>,
 )
 where
     N: WordsNaming + InboxNaming + PlanNaming + RunNaming,
+    K: ReachNaming,
     R: Wait + Clock,
     J: Job,
     S: Subsystem,
     W: Watch,
+    // The hand keeps its place among all hands, and its parts of the right to send.
+    ensures { standing_of hand.new ≡ standing_of hand.old }
 {
     let crew = seat.crew;
     // Where this is refused, which it isn't, jobs that ask for a waker at their start get none.
@@ -290,6 +303,7 @@ where
     J: Job,
     S: Subsystem,
     W: Watch,
+    ensures { standing_of hand.new ≡ standing_of hand.old }
 {
     let reading = seat.crew.clock.reading();
     for _ in 0..BATCH {
@@ -301,34 +315,36 @@ where
 }
 
 /// Asks the root to shut down, and wakes the hand in which it waits.
-fn ask<N, R, J, S, W>(
+fn ask<N, K, R, J, S, W>(
     rt: &R,
     seat: &Seat<'_, R, W, J, S>,
     system: &System<N, J, S>,
-    client: &Mutex<Client<N, Body<J, S>>>,
+    client: &Mutex<Locked<N, K, J, S>>,
 )
 where
     N: WordsNaming + InboxNaming + PlanNaming,
+    K: ReachNaming,
     R: Wait + Clock,
     J: Drop,
     S: Drop,
     W: Watch,
 {
     let mut guard = client.lock(rt);
-    system.stop(&mut guard);
+    guard.stop(system);
     drop(guard);
     seat.crew.wake_home(seat.hand, 0);
 }
 
 /// Sends the calls that are to be sent, and wakes the hands in which those wait that are called.
-fn send_calls<N, R, J, S, W>(
+fn send_calls<N, K, R, J, S, W>(
     rt: &R,
     seat: &Seat<'_, R, W, J, S>,
     system: &System<N, J, S>,
-    client: &Mutex<Client<N, Body<J, S>>>,
+    client: &Mutex<Locked<N, K, J, S>>,
 )
 where
     N: WordsNaming + InboxNaming + PlanNaming,
+    K: ReachNaming,
     R: Wait + Clock,
     J: Drop,
     S: Drop,
@@ -393,6 +409,7 @@ where
     J: Job,
     S: Subsystem,
     W: Watch,
+    ensures { standing_of hand.new ≡ standing_of hand.old }
 {
     let crew = seat.crew;
     let announced = crew.bells().announce(seat.hand);

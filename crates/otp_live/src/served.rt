@@ -4,12 +4,14 @@ ghost use Rattle.otp_spec.specs.declared.limits.TheConstants.{MAX_TABLES};
 ghost use Rattle.otp_run.specs.Lists.{AllAt};
 ghost use Rattle.otp_run.specs.Rule.{all_parts};
 ghost use Rattle.otp_close.specs.Closes.{HaveBegun, IsReportOf};
-ghost use Rattle.otp_tree.specs.Closes.{IsRunMismatchOnly, IsRunOpenFault};
+ghost use Rattle.otp_hand.specs.Standings.{reach_of, standing_of, standings};
+ghost use Rattle.otp_tree.specs.Closes.{IsRunMismatchOnly, IsRunNoneMissing, IsRunOpenFault};
 ghost use Rattle.otp_open.specs.Opens.{slots_of};
 ghost use Rattle.otp_open.specs.Plans.{HaveBodies, plans_of};
 
 use crate::crew::Crew;
 use crate::live::serve;
+use crate::locked::{Locked, ReachNaming};
 use crate::seat::Seat;
 use crate::watch::Watch;
 use otp_bridge::Subsystem;
@@ -45,6 +47,7 @@ where
     ensures report { IfOk result (IsReportOf (length plans.items)) }
     ensures plans { IfOk result (λ report. HaveBegun (plans_of plans.items) report.tables.items) }
     ensures mismatch { IfErr result IsRunMismatchOnly }
+    ensures missing { IfErr result IsRunNoneMissing }
     ensures bodies { OnOk result (HaveBodies plans.items) }
     ensures opened { IfErr result (IsRunOpenFault plans.items) }
 {
@@ -72,9 +75,11 @@ where
     requires deques { AllAt (λ k id. id ≡ N.deque k) parts.queue }
     requires slots { parts.words.slots ≡ slots_of (length parts.inboxes.items) }
     requires few { length parts.inboxes.items ≤ MAX_TABLES }
+    requires some { 0 < length parts.queue }
     ensures report { IfOk result (IsReportOf (length parts.inboxes.items)) }
     ensures plans { IfOk result (λ report. HaveBegun N.plan report.tables.items) }
     ensures mismatch { IfErr result IsRunMismatchOnly }
+    ensures missing { IfErr result IsRunNoneMissing }
     ensures bodies { OnOk result (HaveBodies parts.plans.items) }
     ensures opened { IfErr result (IsRunOpenFault parts.plans.items) }
 {
@@ -89,54 +94,102 @@ where
         passes,
     } = opened;
     drop(passes);
-    let client = serve_all(rt, crew, &system, hands.as_mut_slice(), client);
+    let client = serve_locked::<N, Brand, R, J, S, W>(rt, crew, &system, &mut hands, client);
     match system.finish(rt, alloc, hands, client) {
         Ok(report) => Ok(report),
         Err(fault) => Err(RunFault::Close(fault)),
     }
 }
 
-/// Serves by each hand, in a thread of its own. Where no thread can be made the hands serve one after the other, the first until the
-/// root has ended.
-fn serve_all<N, R, J, S, W>(
+/// Serves by each hand, in a thread of its own, and by the client, which lies under a lock meanwhile. Where no thread can be made the
+/// hands serve one after the other, the first until the root has ended.
+fn serve_locked<N, K, R, J, S, W>(
     rt: &R,
     crew: &Crew<'_, R, W, J, S>,
     system: &System<N, J, S>,
-    hands: &mut [Hand<N, J, S>],
+    hands: &mut Vec<Hand<N, J, S>>,
     client: Client<N, Body<J, S>>,
 ) -> Client<N, Body<J, S>>
 where
     N: WordsNaming + InboxNaming + PlanNaming + RunNaming + Send + Sync,
+    K: ReachNaming + Send + Sync,
     R: Threads + Wait + Clock + Sync,
     J: Job + Send,
     S: Subsystem + Send,
     W: Watch + Sync,
+    requires { reach_of client ≡ K.reach }
+    ensures client { reach_of result ≡ K.reach }
+    ensures hands { standings hands.new.items ≡ standings hands.old.items }
 {
-    let client = Mutex::new(client);
+    let client = Mutex::new(Locked::<N, K, J, S>::of(client));
+    serve_all(rt, crew, system, hands, &client);
+    client.into_inner().into_client()
+}
+
+/// Serves by a whole list of hands: of one that was lent as a slice in the midst of a function the prover knows nothing after.
+fn serve_all<N, K, R, J, S, W>(
+    rt: &R,
+    crew: &Crew<'_, R, W, J, S>,
+    system: &System<N, J, S>,
+    hands: &mut Vec<Hand<N, J, S>>,
+    client: &Mutex<Locked<N, K, J, S>>,
+)
+where
+    N: WordsNaming + InboxNaming + PlanNaming + RunNaming + Send + Sync,
+    K: ReachNaming + Send + Sync,
+    R: Threads + Wait + Clock + Sync,
+    J: Job + Send,
+    S: Subsystem + Send,
+    W: Watch + Sync,
+    ensures { standings hands.new.items ≡ standings hands.old.items }
+{
+    serve_each(rt, crew, system, hands, client);
+}
+
+/// Serves by each of these hands, in a thread of its own.
+fn serve_each<N, K, R, J, S, W>(
+    rt: &R,
+    crew: &Crew<'_, R, W, J, S>,
+    system: &System<N, J, S>,
+    hands: &mut [Hand<N, J, S>],
+    client: &Mutex<Locked<N, K, J, S>>,
+)
+where
+    N: WordsNaming + InboxNaming + PlanNaming + RunNaming + Send + Sync,
+    K: ReachNaming + Send + Sync,
+    R: Threads + Wait + Clock + Sync,
+    J: Job + Send,
+    S: Subsystem + Send,
+    W: Watch + Sync,
+    ensures { standings hands.new ≡ standings hands.old }
+{
     thread::for_each_mut(
         rt,
         hands,
         MAX_HANDS,
-        &|index, hand| serve_at(rt, crew, index, system, hand, &client),
+        &|index, hand|
+            ensures { standing_of hand.new ≡ standing_of hand.old }
+        { serve_at(rt, crew, index, system, hand, client) },
     );
-    client.into_inner()
 }
 
 /// Serves by the hand with this index.
-fn serve_at<N, R, J, S, W>(
+fn serve_at<N, K, R, J, S, W>(
     rt: &R,
     crew: &Crew<'_, R, W, J, S>,
     index: usize,
     system: &System<N, J, S>,
     hand: &mut Hand<N, J, S>,
-    client: &Mutex<Client<N, Body<J, S>>>,
+    client: &Mutex<Locked<N, K, J, S>>,
 )
 where
     N: WordsNaming + InboxNaming + PlanNaming + RunNaming,
+    K: ReachNaming,
     R: Wait + Clock,
     J: Job,
     S: Subsystem,
     W: Watch,
+    ensures { standing_of hand.new ≡ standing_of hand.old }
 {
     let seat = Seat::of(crew, index);
     serve(rt, &seat, system, hand, client);

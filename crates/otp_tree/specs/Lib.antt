@@ -1,3 +1,4 @@
 pub mod Closes
 pub mod Hearings
+pub mod Servings
 pub mod Callings

@@ -5,6 +5,7 @@ ghost use Rattle.otp_rules.specs.Homes.{is_start_call};
 ghost use Rattle.otp_core.specs.declared.reply.ReplyAnswer.TheVariants as answer;
 ghost use Rattle.otp_bodies.specs.Bodies.{is_left_of};
 ghost use Rattle.otp_sup.specs.Turns.{HadBody, HasReply};
+ghost use Rattle.otp_hand.specs.Standings.{reach_of};
 ghost use Rattle.otp_tree.specs.Callings.{Called, IsNotSent, IsUnsendable, fits_call, is_no_table, is_of_type};
 
 use crate::system::System;
@@ -61,6 +62,8 @@ impl<N: WordsNaming + InboxNaming + PlanNaming, J: Drop, S: Drop> System<N, J, S
         ensures there { OnOk result (table < self.now.tables) }
         ensures refused { IfErr result (λ fault. IsNotSent fault.cause self.now.tables table (fits_call call body) client.old client.new) }
         ensures back { IfErr result (λ fault. fault.body ≡ body) }
+        // The client sends to whom it did, by as many parts of the right to send.
+        ensures reach { reach_of client.new ≡ reach_of client.old }
     {
         if table >= self.shared.sups.len() || table >= client.senders.len() {
             return Err(not_called(CallRefusal::NoSupervisor, body));
@@ -128,6 +131,7 @@ fn send_call<N: WordsNaming + InboxNaming, B: Drop, R: Wait>(
     ensures sent { IfOk result (λ number. Called inbox.now number call client.old client.new) }
     ensures refused { IfErr result (λ fault. IsUnsendable fault.cause client.old client.new) }
     ensures back { IfErr result (λ fault. fault.body ≡ body) }
+    ensures reach { reach_of client.new ≡ reach_of client.old }
 {
     let Ok(number) = words.draw(&mut client.owner) else {
         return Err(not_called(CallRefusal::Exhausted, body));

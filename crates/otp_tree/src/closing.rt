@@ -1,8 +1,9 @@
 //! A tree is closed, once all its hands and its client are back.
 ghost use Rattle.std.specs.Prelude.{◌≡◌, ◌+◌, All, IfErr, IfOk, IfSome, OnSome, length, map, sum_by};
-ghost use Rattle.otp_close.specs.Closes.{AreApart, HasBegun, HasTold, HaveBegun, IsComplete, IsMismatchOnly, IsMissingOnly, IsReportOf, all_senders, kept_in, report_in};
+ghost use Rattle.otp_close.specs.Closes.{AreApart, HasBegun, HasTold, HaveBegun, IsComplete, IsMismatchOnly, IsMissingOnly, IsReportOf, NoneMissing, all_senders, kept_in, report_in};
 ghost use Rattle.otp_close.specs.Leavings.{AreAccounted, AreInOrder, HasUnsent, HaveCome, IsLast, IsLastInOrder};
 ghost use Rattle.otp_close.specs.Partings.{schedulers_of};
+ghost use Rattle.otp_close.specs.Tables.{AreOfTables};
 ghost use Rattle.otp_close.specs.Totals.{HasAllEnds, HasAllStarts, HasHeard};
 ghost use Rattle.otp_hand.specs.Ended.{held_by};
 ghost use Rattle.otp_report.specs.Tellings.{AreSo};
@@ -86,8 +87,12 @@ impl<N: WordsNaming + InboxNaming + PlanNaming, J: Drop, S: Drop> System<N, J, S
         ensures order { IfSome (report_in result) (λ report. AreInOrder (all_senders client hands.items) report.tables.items) }
         ensures last_order { IfSome (report_in result) (λ report. IsLastInOrder self.tables (all_senders client hands.items) client.waiter report.last.items) }
         ensures last { IfSome (report_in result) (λ report. IsLast self.tables (all_senders client hands.items) client.waiter report.last.items) }
-        // Of the orders of each history all were sent, but those that were still to be sent; one start at most is there.
+        // The first orders of each history were sent, in their order, and the others were still to be sent; one start at most is
+        // there.
         ensures unsent { IfSome (report_in result) (λ report. All HasUnsent report.tables.items) }
+        // Each report is that of the supervisor with its place's inbox, which kept the rules. What it took and left is what was
+        // sent to it; and for each start that it sent, each event and each time that it found its inbox empty a sender was credited.
+        ensures tables { IfSome (report_in result) (λ report. AreOfTables N.plan (all_senders client hands.items) report.tables.items) }
         // Each end that a supervisor was told of another is one that the other's history gives.
         ensures told { IfOk result (λ report. AreSo report.tables.items) }
         ensures mismatch { IfErr result IsMismatchOnly }
@@ -121,6 +126,8 @@ impl<N: WordsNaming + InboxNaming + PlanNaming, J: Drop, S: Drop> System<N, J, S
         ensures report { IfOk result (IsReportOf self.tables) }
         ensures plans { IfSome (report_in result) (λ report. HaveBegun N.plan report.tables.items) }
         ensures mismatch { IfErr result IsMismatchOnly }
+        // Of a tree that is whole no part is said to be missing.
+        ensures missing { IsComplete self hands.items client → IfErr result NoneMissing }
     {
         finish(rt, alloc, self.shared, hands, client)
     }

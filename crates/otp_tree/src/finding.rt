@@ -1,5 +1,6 @@
 //! Which process has a hand's next turn.
 ghost use Rattle.std.specs.Prelude.{◌≡◌, ◌<◌, ◌≤◌, length, is_some, true, IfSome, IsTrue};
+ghost use Rattle.otp_hand.specs.Standings.{standing_of};
 
 use crate::system::System;
 use otp_hand::{Hand, Rested, Senders, Shared, is_due};
@@ -23,6 +24,7 @@ impl<N: WordsNaming + InboxNaming + PlanNaming, J: Drop, S: Drop> System<N, J, S
         ensures found { IsTrue result → is_some hand.new.turning ≡ true }
         ensures unsent { hand.new.unsent ≡ hand.old.unsent }
         ensures passes { hand.new.passes ≡ hand.old.passes }
+        ensures standing { standing_of hand.new ≡ standing_of hand.old }
     {
         if hand.runner.turning.is_some() {
             return true;
@@ -46,6 +48,7 @@ impl<N: WordsNaming + InboxNaming + PlanNaming, J: Drop, S: Drop> System<N, J, S
         N: RunNaming,
         ensures unsent { hand.new.unsent ≡ hand.old.unsent }
         ensures passes { hand.new.passes ≡ hand.old.passes }
+        ensures standing { standing_of hand.new ≡ standing_of hand.old }
     {
         if hand.runner.turning.is_some() {
             return;
@@ -70,6 +73,7 @@ impl<N: WordsNaming + InboxNaming + PlanNaming, J: Drop, S: Drop> System<N, J, S
         N: RunNaming,
         ensures unsent { hand.new.unsent ≡ hand.old.unsent }
         ensures passes { hand.new.passes ≡ hand.old.passes }
+        ensures standing { standing_of hand.new ≡ standing_of hand.old }
     {
         if hand.runner.turning.is_some() {
             return;
@@ -100,6 +104,7 @@ impl<N: WordsNaming + InboxNaming + PlanNaming, J: Drop, S: Drop> System<N, J, S
         ensures turning { hand.new.turning ≡ hand.old.turning }
         ensures unsent { hand.new.unsent ≡ hand.old.unsent }
         ensures passes { hand.new.passes ≡ hand.old.passes }
+        ensures standing { standing_of hand.new ≡ standing_of hand.old }
     {
         find_due(
             &self.shared,

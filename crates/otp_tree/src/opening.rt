@@ -1,6 +1,9 @@
 //! A tree is opened: its parts without a name first, then the tree under a name.
 ghost use Rattle.std.specs.Prelude.{◌≡◌, ◌+◌, ◌*◌, ◌<◌, ◌≤◌, [], IfErr, IfOk, IfSome, OnOk, length, is_some, true};
 ghost use Rattle.otp_spec.specs.declared.limits.TheConstants.{MAX_TABLES};
+ghost use Rattle.otp_close.specs.Closes.{IsReached, all_senders};
+ghost use Rattle.otp_close.specs.Partings.{schedulers_of};
+ghost use Rattle.otp_run.specs.Gathers.{IsAll};
 ghost use Rattle.otp_run.specs.Lists.{AllAt};
 ghost use Rattle.otp_run.specs.Rule.{all_parts};
 ghost use Rattle.otp_open.specs.Opens.{AreOpened, root_ticket, slots_of};
@@ -108,6 +111,8 @@ impl<J: Drop, S: Drop> Parts<J, S> {
         // There are as many hands as were asked for, in the order of their schedulers, and the first has put the root's process: it
         // has the number for which the client stops it.
         ensures hands { IfOk result (λ o. IfSome o.client.root (λ number. AreOpened (root_ticket number (length self.inboxes.items)) (length self.queue) o.hands.items)) }
+        // All parts are there, so that it can be closed again.
+        ensures complete { IfOk result (λ o. 0 < length self.queue → IsAll (schedulers_of o.hands.items) × IsReached o.system.tables o.client (all_senders o.client o.hands.items)) }
         ensures own { IfOk result (λ o. length o.passes.items ≡ length self.inboxes.items) }
         // Nobody was asked to stop.
         ensures unasked { IfOk result (λ o. o.client.owner.posts ≡ []) }

@@ -1,5 +1,6 @@
 //! Hands serve a tree side by side, each in a thread of its own.
-ghost use Rattle.std.specs.Prelude.{◌≤◌};
+ghost use Rattle.std.specs.Prelude.{◌≡◌, ◌≤◌};
+ghost use Rattle.otp_hand.specs.Standings.{standing_of, standings};
 ghost use Rattle.otp_spec.specs.declared.limits.TheConstants.{MAX_READING};
 
 use crate::clock::Gate;
@@ -37,14 +38,37 @@ where
     S: Subsystem + Send,
     R: Threads + Wait + Sync,
     G: Gate + Sync,
+    // Each hand keeps its place among all hands, and its parts of the right to send.
+    ensures { standings hands.new ≡ standings hands.old }
 {
     let meeting = Meeting::of(hands.len());
     thread::for_each_mut(
         rt,
         hands,
         MAX_HANDS,
-        &|index, hand| serve_beside(rt, system, hand, index, gate, turns, &meeting),
+        &|index, hand|
+            ensures { standing_of hand.new ≡ standing_of hand.old }
+        { serve_beside(rt, system, hand, index, gate, turns, &meeting) },
     );
+}
+
+/// The same with a whole list of hands: of one that was lent as a slice in the midst of a function the prover knows nothing after.
+pub(crate) fn pool_all<N, J, S, R, G>(
+    rt: &R,
+    system: &System<N, J, S>,
+    hands: &mut Vec<Hand<N, J, S>>,
+    gate: &G,
+    turns: u64,
+)
+where
+    N: WordsNaming + InboxNaming + PlanNaming + RunNaming + Send + Sync,
+    J: Job + Send,
+    S: Subsystem + Send,
+    R: Threads + Wait + Sync,
+    G: Gate + Sync,
+    ensures { standings hands.new.items ≡ standings hands.old.items }
+{
+    pool_run(rt, system, hands, gate, turns);
 }
 
 /// Gives a hand so many turns beside others.
@@ -63,6 +87,7 @@ where
     S: Subsystem,
     R: Wait,
     G: Gate,
+    ensures { standing_of hand.new ≡ standing_of hand.old }
 {
     let mut vain = NEVER;
     for _ in 0..turns {
@@ -96,6 +121,7 @@ where
     S: Subsystem,
     R: Wait,
     requires { reading ≤ MAX_READING }
+    ensures { standing_of hand.new ≡ standing_of hand.old }
 {
     for _ in rt.forever() {
         let changes = meeting.changes();
@@ -128,6 +154,7 @@ where
     S: Subsystem,
     R: Wait,
     requires { reading ≤ MAX_READING }
+    ensures { standing_of hand.new ≡ standing_of hand.old }
 {
     system.look_at_all(hand, reading) && system.turn(rt, hand, reading)
 }

@@ -3,14 +3,15 @@ ghost use Rattle.std.specs.Prelude.{◌≡◌, ◌<◌, ◌≤◌, length, IfErr
 ghost use Rattle.otp_spec.specs.declared.limits.TheConstants.{MAX_TABLES};
 ghost use Rattle.otp_run.specs.Lists.{AllAt};
 ghost use Rattle.otp_run.specs.Rule.{all_parts};
-ghost use Rattle.otp_close.specs.Closes.{HaveBegun, IsMismatchOnly, IsReportOf, report_in};
+ghost use Rattle.otp_close.specs.Closes.{HaveBegun, IsMismatchOnly, IsReportOf, NoneMissing, report_in};
+ghost use Rattle.otp_hand.specs.Standings.{reach_of, standings};
 ghost use Rattle.otp_open.specs.Opens.{slots_of};
 ghost use Rattle.otp_open.specs.Plans.{HaveBodies, IsOpenFault, plans_of};
 
 use crate::calling::Uncalled;
 use crate::clock::Gate;
 use crate::opening::{Opened, Parts};
-use crate::pool::pool_run;
+use crate::pool::pool_all;
 use crate::system::System;
 use otp_bridge::Subsystem;
 use otp_close::CloseFault;
@@ -103,7 +104,7 @@ pub struct Led<J: Drop, S: Drop, L: Leader<J, S>> {
 }
 
 /// Opens a tree of 1 to 64 supervisors, the root first, for 1 to 8 hands, and serves it with each hand in a thread of its
-/// own ([`pool_run`]), round by round as the leader says: at most so many rounds. Then the tree is closed
+/// own ([`pool_run`](crate::pool_run)), round by round as the leader says: at most so many rounds. Then the tree is closed
 /// ([`System::close`]). The leader comes back, with the report.
 ///
 /// A round ends when each hand has made its turns. The gate is asked before each turn of a hand, in the hand's own thread, and
@@ -130,6 +131,8 @@ where
     // Each core began as the supervisor of the plan at its place in the list, never opened.
     ensures plans { IfOk result (λ led. IfSome (report_in led.report) (λ report. HaveBegun (plans_of plans.items) report.tables.items)) }
     ensures mismatch { IfOk result (λ led. IfErr led.report IsMismatchOnly) }
+    // All parts of the tree are there when it is closed, since nobody else has one.
+    ensures missing { IfOk result (λ led. IfErr led.report NoneMissing) }
     // Each plan has a body for each child that an opening makes, or that is why it isn't led, or memory was refused.
     ensures bodies { OnOk result (HaveBodies plans.items) }
     ensures fault { IfErr result (IsOpenFault plans.items) }
@@ -161,9 +164,11 @@ where
     requires deques { AllAt (λ k id. id ≡ N.deque k) parts.queue }
     requires slots { parts.words.slots ≡ slots_of (length parts.inboxes.items) }
     requires few { length parts.inboxes.items ≤ MAX_TABLES }
+    requires some { 0 < length parts.queue }
     ensures report { IfOk result (λ led. IfOk led.report (IsReportOf (length parts.inboxes.items))) }
     ensures plans { IfOk result (λ led. IfSome (report_in led.report) (λ report. HaveBegun N.plan report.tables.items)) }
     ensures mismatch { IfOk result (λ led. IfErr led.report IsMismatchOnly) }
+    ensures missing { IfOk result (λ led. IfErr led.report NoneMissing) }
     ensures bodies { OnOk result (HaveBodies parts.plans.items) }
     ensures fault { IfErr result (IsOpenFault parts.plans.items) }
 {
@@ -218,12 +223,14 @@ where
     S: Subsystem + Send,
     G: Gate + Sync,
     L: Leader<J, S>,
+    ensures hands { standings hands.new.items ≡ standings hands.old.items }
+    ensures client { reach_of client.new ≡ reach_of client.old }
 {
     match round {
-        Round::Serve(turns) => pool_run(rt, system, hands.as_mut_slice(), gate, turns),
+        Round::Serve(turns) => pool_all(rt, system, hands, gate, turns),
         Round::Stop(turns) => {
             system.stop(client);
-            pool_run(rt, system, hands.as_mut_slice(), gate, turns);
+            pool_all(rt, system, hands, gate, turns);
         }
         Round::Call(asking) => {
             let CallRequest {
@@ -234,14 +241,14 @@ where
             } = asking;
             match system.submit(rt, alloc, client, table, call, body) {
                 Ok(number) => {
-                    pool_run(rt, system, hands.as_mut_slice(), gate, turns);
+                    pool_all(rt, system, hands, gate, turns);
                     leader.hear(answer_to(rt, system, CallId { table, number }));
                 }
                 Err(fault) => leader.hear(CallEnd::Unsent(fault)),
             }
         }
         Round::Await(asked, turns) => {
-            pool_run(rt, system, hands.as_mut_slice(), gate, turns);
+            pool_all(rt, system, hands, gate, turns);
             leader.hear(answer_to(rt, system, asked));
         }
         Round::Leave => return false,

@@ -1,6 +1,8 @@
 //! How a hand serves a tree: a turn at a time.
 ghost use Rattle.std.specs.Prelude.{◌≤◌, ◌≡◌, IsTrue, None, Some};
 ghost use Rattle.otp_spec.specs.declared.limits.TheConstants.{MAX_READING};
+ghost use Rattle.otp_tree.specs.Servings.{SentOrKept};
+ghost use Rattle.otp_hand.specs.Standings.{standing_of};
 
 use crate::clock::Millis;
 use crate::listener::{Listener, Nobody};
@@ -32,7 +34,9 @@ impl<N: WordsNaming + InboxNaming + PlanNaming, J: Job, S: Subsystem> System<N, 
     where
         N: RunNaming,
         // It reads no counts.
-        ensures { hand.new.passes ≡ hand.old.passes }
+        ensures passes { hand.new.passes ≡ hand.old.passes }
+        // The hand keeps its place among all hands, and its parts of the right to send.
+        ensures standing { standing_of hand.new ≡ standing_of hand.old }
     {
         for _ in 0..turns {
             let reading = clock.now();
@@ -45,7 +49,8 @@ impl<N: WordsNaming + InboxNaming + PlanNaming, J: Job, S: Subsystem> System<N, 
     where
         N: RunNaming,
         requires { reading ≤ MAX_READING }
-        ensures { hand.new.passes ≡ hand.old.passes }
+        ensures passes { hand.new.passes ≡ hand.old.passes }
+        ensures standing { standing_of hand.new ≡ standing_of hand.old }
     {
         self.turn_heard(rt, hand, reading, &Nobody)
     }
@@ -61,7 +66,8 @@ impl<N: WordsNaming + InboxNaming + PlanNaming, J: Job, S: Subsystem> System<N, 
     where
         N: RunNaming,
         requires { reading ≤ MAX_READING }
-        ensures { hand.new.passes ≡ hand.old.passes }
+        ensures passes { hand.new.passes ≡ hand.old.passes }
+        ensures standing { standing_of hand.new ≡ standing_of hand.old }
     {
         if !self.send_unsent(rt, hand, listener) || !self.find(hand, reading) {
             return false;
@@ -91,7 +97,8 @@ impl<N: WordsNaming + InboxNaming + PlanNaming, J: Job, S: Subsystem> System<N, 
     pub fn look_at_all(&self, hand: &mut Hand<N, J, S>, reading: u64) -> bool
     where
         N: RunNaming,
-        ensures { hand.new.passes ≡ hand.old.passes }
+        ensures passes { hand.new.passes ≡ hand.old.passes }
+        ensures standing { standing_of hand.new ≡ standing_of hand.old }
     {
         if hand.runner.unsent.is_some() {
             return true;
@@ -116,7 +123,8 @@ impl<N: WordsNaming + InboxNaming + PlanNaming, J: Job, S: Subsystem> System<N, 
     where
         N: RunNaming,
         requires { reading ≤ MAX_READING }
-        ensures { hand.new.passes ≡ hand.old.passes }
+        ensures passes { hand.new.passes ≡ hand.old.passes }
+        ensures standing { standing_of hand.new ≡ standing_of hand.old }
     {
         let Some(sup) = self.shared.sups.get(table) else {
             return;
@@ -145,7 +153,10 @@ impl<N: WordsNaming + InboxNaming + PlanNaming, J: Job, S: Subsystem> System<N, 
     where
         N: RunNaming,
         ensures sent { IsTrue result → hand.new.unsent ≡ None }
+        // It is the letter that the hand had kept, to the supervisor for which it was kept; a refused one stays as it is.
+        ensures letter { SentOrKept result self.now.tables hand.old.unsent hand.old hand.new }
         ensures passes { hand.new.passes ≡ hand.old.passes }
+        ensures standing { standing_of hand.new ≡ standing_of hand.old }
     {
         let Some(
             Unsent {

@@ -5,6 +5,7 @@ ghost use Rattle.otp_signals.specs.Signals.{word_of};
 ghost use Rattle.otp_signals.specs.declared.signal.Signal.TheVariants.{Shutdown};
 ghost use Rattle.otp_hand.specs.Hands.{Heard};
 ghost use Rattle.otp_hand.specs.Readings.{HasRead};
+ghost use Rattle.otp_hand.specs.Standings.{reach_of};
 ghost use Rattle.otp_tree.specs.Hearings.{HeardNothing};
 
 use otp_hand::ending::count_end;
@@ -49,6 +50,7 @@ impl<N: WordsNaming + InboxNaming + PlanNaming, J: Drop, S: Drop> System<N, J, S
         // The shutdown was posted to the root's slot, for its number.
         ensures posted { IfSome client.old.root (λ number. client.new ≡ record client.old { owner = after_post 0 (word_of number Shutdown) client.old.owner }) }
         ensures same { IfNone client.old.root (client.new ≡ client.old) }
+        ensures reach { reach_of client.new ≡ reach_of client.old }
     {
         client.stop(&self.shared.words)
     }
@@ -62,6 +64,7 @@ impl<N: WordsNaming + InboxNaming + PlanNaming, J: Drop, S: Drop> System<N, J, S
         ensures owner { client.new.owner ≡ client.old.owner }
         ensures senders { client.new.senders ≡ client.old.senders }
         ensures root { client.new.root ≡ client.old.root }
+        ensures reach { reach_of client.new ≡ reach_of client.old }
     {
         let waiter = client.waiter.as_mut()?;
         if waiter.number() != self.shared.outer.number() {

@@ -4,13 +4,14 @@ ghost use Rattle.otp_spec.specs.declared.limits.TheConstants.{MAX_TABLES};
 ghost use Rattle.otp_run.specs.Lists.{AllAt};
 ghost use Rattle.otp_run.specs.Rule.{all_parts};
 ghost use Rattle.otp_close.specs.Closes.{HaveBegun, IsReportOf};
-ghost use Rattle.otp_tree.specs.Closes.{IsRunMismatchOnly, IsRunOpenFault};
+ghost use Rattle.otp_tree.specs.Closes.{IsRunMismatchOnly, IsRunNoneMissing, IsRunOpenFault};
+ghost use Rattle.otp_hand.specs.Standings.{reach_of, standings};
 ghost use Rattle.otp_open.specs.Opens.{slots_of};
 ghost use Rattle.otp_open.specs.Plans.{HaveBodies, plans_of};
 
 use crate::clock::Gate;
 use crate::opening::{Opened, Parts};
-use crate::pool::pool_run;
+use crate::pool::pool_all;
 use crate::system::System;
 use otp_bridge::Subsystem;
 use otp_close::CloseFault;
@@ -103,7 +104,7 @@ fn run_half<N, R, J, S, G>(
     rt: &R,
     alloc: Global,
     system: &System<N, J, S>,
-    hands: &mut [Hand<N, J, S>],
+    hands: &mut Vec<Hand<N, J, S>>,
     gate: &G,
     turns: u64,
     before: u64,
@@ -115,7 +116,8 @@ where
     J: Job + Send,
     S: Subsystem + Send,
     G: Gate + Sync,
-    ensures { length passes.new ≡ length passes.old }
+    ensures passes { length passes.new ≡ length passes.old }
+    ensures hands { standings hands.new.items ≡ standings hands.old.items }
 {
     let mut made: u64 = 0;
     for _ in 0..=turns / TOLD_TURNS {
@@ -123,7 +125,7 @@ where
         if next == 0 {
             return;
         }
-        pool_run(rt, system, hands, gate, next);
+        pool_all(rt, system, hands, gate, next);
         made = made.saturating_add(next);
         tell(
             alloc,
@@ -141,7 +143,7 @@ fn run_both<N, R, J, S, G>(
     rt: &R,
     alloc: Global,
     system: &System<N, J, S>,
-    hands: &mut [Hand<N, J, S>],
+    hands: &mut Vec<Hand<N, J, S>>,
     client: &mut Client<N, Body<J, S>>,
     gate: &G,
     turns: u64,
@@ -157,7 +159,9 @@ where
     requires unasked { client.old.owner.posts ≡ [] }
     requires none { counts.old.items ≡ [] }
     requires room { length passes.old ≤ vec_capacity counts.old }
-    ensures { length counts.new.items ≡ length passes.old }
+    ensures counts { length counts.new.items ≡ length passes.old }
+    ensures hands { standings hands.new.items ≡ standings hands.old.items }
+    ensures client { reach_of client.new ≡ reach_of client.old }
 {
     run_half(rt, alloc, system, hands, gate, turns, 0, passes);
     client.read_before_stop(passes, counts);
@@ -194,6 +198,8 @@ where
     // Each core began as the supervisor of the plan at its place in the list, never opened.
     ensures plans { IfOk result (λ run. HaveBegun (plans_of plans.items) run.report.tables.items) }
     ensures mismatch { IfErr result IsRunMismatchOnly }
+    // All parts of the tree are there when it is closed, since nobody else has one.
+    ensures missing { IfErr result IsRunNoneMissing }
     // Each plan has a body for each child that an opening makes, or that is why it isn't run, or memory was refused.
     ensures bodies { OnOk result (HaveBodies plans.items) }
     ensures opened { IfErr result (IsRunOpenFault plans.items) }
@@ -223,10 +229,12 @@ where
     requires deques { AllAt (λ k id. id ≡ N.deque k) parts.queue }
     requires slots { parts.words.slots ≡ slots_of (length parts.inboxes.items) }
     requires few { length parts.inboxes.items ≤ MAX_TABLES }
+    requires some { 0 < length parts.queue }
     ensures counts { IfOk result (λ run. length run.counts.items ≡ length parts.inboxes.items) }
     ensures report { IfOk result (λ run. IsReportOf (length parts.inboxes.items) run.report) }
     ensures plans { IfOk result (λ run. HaveBegun N.plan run.report.tables.items) }
     ensures mismatch { IfErr result IsRunMismatchOnly }
+    ensures missing { IfErr result IsRunNoneMissing }
     ensures bodies { OnOk result (HaveBodies parts.plans.items) }
     ensures opened { IfErr result (IsRunOpenFault parts.plans.items) }
 {
@@ -251,7 +259,7 @@ where
         rt,
         alloc,
         &system,
-        hands.as_mut_slice(),
+        &mut hands,
         &mut client,
         gate,
         turns,
@@ -288,6 +296,7 @@ where
     ensures report { IfOk result (IsReportOf (length plans.items)) }
     ensures plans { IfOk result (λ report. HaveBegun (plans_of plans.items) report.tables.items) }
     ensures mismatch { IfErr result IsRunMismatchOnly }
+    ensures missing { IfErr result IsRunNoneMissing }
     ensures bodies { OnOk result (HaveBodies plans.items) }
     ensures opened { IfErr result (IsRunOpenFault plans.items) }
 {

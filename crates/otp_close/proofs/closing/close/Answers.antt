@@ -8,6 +8,7 @@ use Rattle.otp_hand.specs.Ended.{held_by}
 use Rattle.otp_close.specs.Closes.{AreApart, HasBegun, HasTold, HaveBegun, IsComplete, IsIntact, all_senders, kept_in}
 use Rattle.otp_close.specs.Leavings.{AreAccounted, AreInOrder, HasUnsent, HaveCome, IsLast, IsLastInOrder}
 use Rattle.otp_close.specs.Partings.{schedulers_of}
+use Rattle.otp_close.specs.Tables.{AreOfTables}
 use Rattle.otp_close.proofs.Refusals.{refused-report, refused-mismatch, refused-back, refused-missing, reached-by, unreached-missing, reported-missing, reported-back}
 use Rattle.otp_close.proofs.closing.close.Goals as goal
 
@@ -250,3 +251,19 @@ returns-then-not-is_reached-clause-heard g c = refused-report refusal.Missing c.
 
 pub returns-then-not-is_reached-clause-held : goal.returns-then-not-is_reached-clause-held
 returns-then-not-is_reached-clause-held g c = refused-report refusal.Missing c.args.shared c.args.hands.items c.args.client c.refuse.result (λ report. report.held ≡ sum_by held_by c.args.hands.items) c.refuse.ensures
+
+pub returns-in-Ok-gather_hands-clause-tables : goal.returns-in-Ok-gather_hands-clause-tables
+returns-in-Ok-gather_hands-clause-tables g c =
+    let e = c.in-Ok-gather_hands.ensures {u = tt} in
+    let plans = g.N.PlanNaming.plan in
+    subst (λ o. IfSome o (λ report. AreOfTables plans (all_senders c.args.client c.args.hands.items) report.tables.items)) (sym c.judge.ensures.report)
+    (subst (λ l. AreOfTables plans (c.args.client.senders ∷ l) c.report_of.result.tables.items) e.senders c.report_of.ensures.tables)
+
+pub returns-in-Err-clause-tables : goal.returns-in-Err-clause-tables
+returns-in-Err-clause-tables g c = refused-report c.in-Err.field-0.cause c.in-Err.field-0.shared c.args.hands.items c.args.client c.refuse-in-Err.result (λ report. AreOfTables g.N.PlanNaming.plan (all_senders c.args.client c.args.hands.items) report.tables.items) c.refuse-in-Err.ensures
+
+pub returns-in-Err-gather_hands-clause-tables : goal.returns-in-Err-gather_hands-clause-tables
+returns-in-Err-gather_hands-clause-tables g c = refused-report c.in-Err-gather_hands.field-0.cause c.lock.result c.in-Err-gather_hands.field-0.hands.items c.args.client c.refuse-in-Err-gather_hands.result (λ report. AreOfTables g.N.PlanNaming.plan (all_senders c.args.client c.args.hands.items) report.tables.items) c.refuse-in-Err-gather_hands.ensures
+
+pub returns-then-not-is_reached-clause-tables : goal.returns-then-not-is_reached-clause-tables
+returns-then-not-is_reached-clause-tables g c = refused-report refusal.Missing c.args.shared c.args.hands.items c.args.client c.refuse.result (λ report. AreOfTables g.N.PlanNaming.plan (all_senders c.args.client c.args.hands.items) report.tables.items) c.refuse.ensures

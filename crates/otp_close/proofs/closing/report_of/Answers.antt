@@ -15,7 +15,9 @@ use Rattle.otp_hand.proofs.Begun.{starts_push}
 use Rattle.otp_run.specs.Lists.{AllAt}
 use Rattle.otp_run.proofs.Places.{each_at}
 use Rattle.otp_close.specs.Leavings.{HasCome, line_of, lists_at, lists_to}
-use Rattle.otp_close.specs.Settlings.{HasLists, IsRoom, IsWhole, senders_in}
+use Rattle.otp_close.specs.Settlings.{HasLists, HasShares, IsRoom, IsWhole, senders_in}
+use Rattle.otp_close.specs.Tables.{IsOfTable, shares_at, shares_to}
+use Rattle.otp_close.proofs.Credited.{shares_but_last}
 use Rattle.otp_close.proofs.Ordered.{lists_but_last, lists_of_last}
 use Rattle.otp_close.proofs.Settlings.{last_whole, others_ready, others_sent, others_whole}
 use Rattle.otp_close.proofs.closing.report_of.Goals as goal
@@ -191,3 +193,21 @@ returns-clause-last_order g c =
     let waits = sym (ap (λ v. v.waiter) c.client.view_is) ∙ c.in-Some.is in
     subst (λ o. MatchOption o ⊥ (λ w. EachInOrder (map items_in (lists_to tables all)) (items_in w.taken ++ c.settle-last.result.items))) (sym waits)
     (subst (λ ls. EachInOrder (map items_in ls) (items_in c.in-Some.waiter.taken ++ c.settle-last.result.items)) last c.settle-last.ensures.order)
+
+pub returns-clause-tables : goal.returns-clause-tables
+returns-clause-tables g c =
+    let rests = c.args.gathered.rests.items in
+    let all = c.args.client.senders ∷ map senders_in rests in
+    let list = c.into_last-senders.result.0.items in
+    let plans = g.N.PlanNaming.plan in
+    let shares = subst (λ v. AllAt (HasShares (v.senders ∷ map senders_in rests)) c.join_all-senders.result.senders) c.client.view_is c.join_all-senders.ensures.shares in
+    let whole = subst (λ v. AllAt (IsWhole (v.senders ∷ map senders_in rests)) c.join_all-senders.result.senders) c.client.view_is c.join_all-senders.ensures.whole in
+    let many = c.join_all-senders.ensures.len ∙ ap (λ v. length v.senders) c.client.view_is ∙ c.requires.reached.reach in
+    let l = c.into_last-senders.ensures in
+    let w = others_whole all c.args.loose.sups.items list _ c.join_all-senders.result.senders l.all whole many in
+    let size = w.1 in
+    let count = c.take_all_apart-tables.ensures.count in
+    each_at (λ k t. IsOfTable plans k (sent_at k list) (shares_at k list) t) (λ k t. IsOfTable plans k (sent_to k all) (shares_to k all) t) c.take_all_apart-tables.result.items c.take_all_apart-tables.ensures.tables
+    (λ j t within of.
+    subst (λ sent. IsOfTable plans j sent (shares_to j all) t) (others_sent all list j w.0 (omega (arith, within, size, count)))
+    (subst (λ credited. IsOfTable plans j (sent_at j list) credited t) (shares_but_last all list _ c.join_all-senders.result.senders j l.all shares (omega (arith, within, size, count))) of))

@@ -6,7 +6,9 @@ use Rattle.otp_report.specs.declared.report.TableReport.{TableReport}
 use Rattle.otp_sup.specs.Plans.{never_opened}
 use Rattle.otp_close.specs.Closes.{HasBegun, HasTold, HaveBegun}
 use Rattle.otp_bodies.specs.Messages.{items_in}
+use Rattle.otp_inbox.specs.Tokens.{all_sent}
 use Rattle.otp_close.specs.Leavings.{HasCome, HasUnsent, line_of, lists_at, lists_in}
+use Rattle.otp_close.specs.Tables.{IsOfTable, shares_at, shares_in}
 use Rattle.otp_hand.specs.Sendings.{sent_at, sent_in}
 use Rattle.otp_close.proofs.Apart.{all-more, length-more, seen-more, apart-more}
 use Rattle.otp_close.proofs.Settlings.{all_ready, more_next, next_at, next_behind, room_ready, sender_ready}
@@ -87,6 +89,9 @@ loop-sup-preserved g c =
       done = subst (λ l. AllAt (λ k t. AsOften (items_in (sent_at k c.args.senders.items)) (line_of t)) l) (sym one) (push_at (λ k t. AsOften (items_in (sent_at k c.args.senders.items)) (line_of t)) _ _ i.done (subst (λ o. AsOften (items_in (sent_in o)) (line_of c.take_apart.result)) (sym (next_at c.args.senders.items n _ _ _ i.senders sender)) apart.left));
       order = subst (λ l. AllAt (λ k t. EachInOrder (map items_in (lists_at k c.args.senders.items)) (line_of t)) l) (sym one) (push_at (λ k t. EachInOrder (map items_in (lists_at k c.args.senders.items)) (line_of t)) _ _ i.order (subst (λ o. EachInOrder (map items_in (lists_in o)) (line_of c.take_apart.result)) (sym (next_at c.args.senders.items n _ _ _ i.senders sender)) apart.order));
       come = subst (λ l. AllAt (λ k t. HasCome (sent_at k c.args.senders.items) t) l) (sym one) (push_at (λ k t. HasCome (sent_at k c.args.senders.items) t) _ _ i.come (subst (λ o. HasCome (sent_in o) c.take_apart.result) (sym (next_at c.args.senders.items n _ _ _ i.senders sender)) apart.come));
+      tables = subst (λ l. AllAt (λ k t. IsOfTable g.N.PlanNaming.plan k (sent_at k c.args.senders.items) (shares_at k c.args.senders.items) t) l) (sym one) (push_at (λ k t. IsOfTable g.N.PlanNaming.plan k (sent_at k c.args.senders.items) (shares_at k c.args.senders.items) t) _ _ i.tables
+          (subst (λ o. IsOfTable g.N.PlanNaming.plan n (sent_in o) (shares_in o) c.take_apart.result) (sym (next_at c.args.senders.items n _ _ _ i.senders sender))
+          (subst (λ m. IsOfTable g.N.PlanNaming.plan m (all_sent c.next_of-sender.result) c.next_of-sender.result.shares c.take_apart.result) own apart.table)));
       sups = ap (λ n. drop n c.args.sups.items) long ∙ next_behind c.args.sups.items n _ _ _ i.sups next;
       senders = ap (λ n. drop n c.args.senders.items) long ∙ next_behind c.args.senders.items n _ _ _ i.senders sender;
       rooms = ap (λ n. drop n c.args.rooms.items) long ∙ next_behind c.args.rooms.items n _ _ _ i.rooms room_of;

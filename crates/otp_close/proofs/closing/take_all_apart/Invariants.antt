@@ -7,6 +7,7 @@ use Rattle.otp_close.specs.Totals.{starts_of, unsent_of}
 use Rattle.otp_close.specs.Closes.{AreApart, HasBegun, HasTold, HaveBegun}
 use Rattle.otp_bodies.specs.Messages.{items_in}
 use Rattle.otp_close.specs.Leavings.{HasCome, HasUnsent, line_of, lists_at}
+use Rattle.otp_close.specs.Tables.{IsOfTable, shares_at}
 use Rattle.otp_hand.specs.Sendings.{sent_at}
 use Rattle.otp_close.proofs.Apart.{Seen}
 use Rattle.otp_close.proofs.closing.take_all_apart.Given as goal
@@ -29,6 +30,7 @@ invariant-loop-sup g l =
       done : AllAt (λ k t. AsOften (items_in (sent_at k l.fn.senders.items)) (line_of t)) l.tables.items;
       order : AllAt (λ k t. EachInOrder (map items_in (lists_at k l.fn.senders.items)) (line_of t)) l.tables.items;
       come : AllAt (λ k t. HasCome (sent_at k l.fn.senders.items) t) l.tables.items;
+      tables : AllAt (λ k t. IsOfTable g.N.PlanNaming.plan k (sent_at k l.fn.senders.items) (shares_at k l.fn.senders.items) t) l.tables.items;
       sups : drop (length l.tables.items) l.fn.sups.items ≡ l.sup-iterator.rest.items;
       senders : drop (length l.tables.items) l.fn.senders.items ≡ l.senders.rest.items;
       rooms : drop (length l.tables.items) l.fn.rooms.items ≡ l.rooms.rest.items;

@@ -2,7 +2,7 @@ use Rattle.std.proofs.Common.{ℕ, ◌++◌, List, length, map, length-append, s
 use Rattle.std.proofs.lemmas.List.Elements.{filter_map-append}
 use Rattle.otp_inbox.specs.declared.rule.Shares.{Shares}
 use Rattle.otp_inbox.specs.Lists.{EachInOrder}
-use Rattle.otp_inbox.specs.Tokens.{sent_lists}
+use Rattle.otp_inbox.specs.Tokens.{all_sent, sent_lists}
 use Rattle.otp_rules.specs.declared.event.Effect.{Effect}
 use Rattle.otp_office.specs.Orders.{started_by}
 use Rattle.std.specs.Prelude.{sum_by}
@@ -16,6 +16,7 @@ use Rattle.otp_office.specs.Events.{items_of}
 use Rattle.otp_office.specs.Offices.{sent_of}
 use Rattle.otp_office.specs.Orders.{starts_in}
 use Rattle.otp_sup.specs.Plans.{never_opened}
+use Rattle.otp_close.specs.Leavings.{IsLeft}
 use Rattle.otp_close.proofs.closing.take_apart.Goals as goal
 
 pub returns-clause-left : goal.returns-clause-left
@@ -76,4 +77,29 @@ returns-clause-come g c =
           ∙ ap (λ core. ends_told_in core c.args.sup.table.taker.taken) (sym parts.core)
           ∙ ap (λ t. ends_told_in c.into_parts-inbox.result.core t.taken) (sym parts.taker);
       left = c.settle-left.ensures.messages;
+    }
+
+pub returns-clause-unsent : goal.returns-clause-unsent
+returns-clause-unsent g c =
+    let unsent = c.unsent_starts-unsent.ensures in
+    record {
+      office = c.args.sup.table.office;
+      keeps = c.keeps_rules.ensures.office;
+      core = c.into_parts-inbox.ensures.core;
+      starts = unsent.value;
+      few = unsent.few;
+    }
+
+pub returns-clause-table : goal.returns-clause-table
+returns-clause-table g c =
+    let parts = c.into_parts-inbox.ensures in
+    record {
+      table = c.args.sup.table;
+      own = c.requires.takes;
+      rules = c.keeps_rules.ensures;
+      core = parts.core;
+      ends = parts.ends;
+      unsent = c.unsent_starts-unsent.ensures.value;
+      left = subst (λ taker. IsLeft (all_sent c.args.sender) taker.taken c.settle-left.result.items) parts.taker c.settle-left.ensures.messages;
+      given = c.settle-left.ensures.shares ∙ ap (λ t. t.given) parts.taker;
     }

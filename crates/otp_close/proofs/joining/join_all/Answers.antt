@@ -2,9 +2,10 @@ use Rattle.std.proofs.Common.{◌+◌, ◌-◌, ◌^◌, ◌≤◌, ◌∷◌, �
 use Rattle.otp_inbox.specs.Tokens.{all_parts}
 use Rattle.otp_run.specs.Lists.{AllAt}
 use Rattle.otp_run.proofs.Places.{each_at, map-append}
-use Rattle.otp_close.specs.Settlings.{HasAll, HasLists, held_in, senders_in}
+use Rattle.otp_close.specs.Settlings.{HasAll, HasLists, HasShares, held_in, senders_in}
 use Rattle.otp_close.proofs.Leavings.{few_parts, has_more, has_one, has_whole}
 use Rattle.otp_close.proofs.Ordered.{lists_all, lists_one}
+use Rattle.otp_close.proofs.Credited.{shares_all, shares_one}
 use Rattle.otp_close.proofs.Begun.{hand_push, reaches_as_far}
 use Rattle.otp_hand.specs.Begun.{starts_credited}
 use Rattle.otp_hand.specs.Ended.{ends_sent}
@@ -21,6 +22,7 @@ loop-rest-init g c =
     record {
       has = has_one c.args.senders (few_parts c.args.senders (map senders_in c.args.rests.items) c.requires.whole);
       lists = lists_one c.args.senders;
+      shares = shares_one c.args.senders;
       len = refl;
       starts = omega arith;
       ends = omega arith;
@@ -44,6 +46,7 @@ loop-rest-preserved g c =
     record {
       has = subst (λ l. AllAt (HasAll (c.args.senders ∷ l)) c.join_senders.new.senders) (sym (map-append senders_in before (r ∷ []))) (has_more (c.args.senders ∷ map senders_in before) c.loop-rest.senders r.senders c.join_senders.new.senders i.has c.join_senders.ensures.joined);
       lists = subst (λ l. AllAt (HasLists (c.args.senders ∷ l)) c.join_senders.new.senders) (sym (map-append senders_in before (r ∷ []))) (lists_all (c.args.senders ∷ map senders_in before) c.loop-rest.senders r.senders c.join_senders.new.senders i.lists c.join_senders.ensures.lists);
+      shares = subst (λ l. AllAt (HasShares (c.args.senders ∷ l)) c.join_senders.new.senders) (sym (map-append senders_in before (r ∷ []))) (shares_all (c.args.senders ∷ map senders_in before) c.loop-rest.senders r.senders c.join_senders.new.senders i.shares c.join_senders.ensures.shares);
       len = c.join_senders.ensures.len ∙ i.len;
       starts =
           let one = c.join_senders.ensures.starts in
@@ -119,3 +122,12 @@ returns-clause-lists g c =
     let before = c.loop-rest.yielded in
     let all = sym (append-nil before) ∙ ap (λ l. before ++ l) (sym (nothing_left c.loop-rest.rest-iterator.rest.items (omega arith))) ∙ i.all in
     subst (λ l. AllAt (HasLists (c.args.senders ∷ map senders_in l)) c.loop-rest.senders) all i.lists
+
+pub returns-clause-shares : goal.returns-clause-shares
+returns-clause-shares g c =
+    let i = c.loop-rest.invariant in
+    let none = (c.in-None.ensures {u = tt}).steps.0 in
+    let left = i.left in
+    let before = c.loop-rest.yielded in
+    let all = sym (append-nil before) ∙ ap (λ l. before ++ l) (sym (nothing_left c.loop-rest.rest-iterator.rest.items (omega arith))) ∙ i.all in
+    subst (λ l. AllAt (HasShares (c.args.senders ∷ map senders_in l)) c.loop-rest.senders) all i.shares

@@ -5,10 +5,11 @@ use Rattle.otp_hand.proofs.Begun.{starts_push}
 use Rattle.std.specs.Prelude.{slice_get}
 use Rattle.otp_run.specs.Lists.{AllAt}
 use Rattle.otp_hand.specs.Seats.{Seated}
-use Rattle.otp_close.specs.Settlings.{HasJoined, IsJoined}
+use Rattle.otp_close.specs.Settlings.{HasGained, HasJoined, IsJoined}
 use Rattle.otp_hand.specs.Sendings.{with_sender}
 use Rattle.otp_close.proofs.Leavings.{joined_more, joined_past}
 use Rattle.otp_close.proofs.Ordered.{lists_more, lists_past}
+use Rattle.otp_close.proofs.Credited.{shares_more, shares_past}
 use Rattle.otp_close.proofs.Settlings.{seat_of, some_at}
 use Rattle.otp_close.proofs.joining.join_senders.Goals as goal
 
@@ -33,6 +34,7 @@ loop-sender-preserved-then-place-len g c =
     record {
       joined = subst (λ l. AllAt (IsJoined old (before ++ x ∷ [])) l) (sym new) (joined_more old before now x s.0 s.1 i.joined);
       lists = subst (λ l. AllAt (HasJoined old (before ++ x ∷ [])) l) (sym new) (lists_more old before now x s.0 s.1 i.lists);
+      shares = subst (λ l. AllAt (HasGained old (before ++ x ∷ [])) l) (sym new) (shares_more old before now x s.0 s.1 i.shares);
       len = c.join_at.ensures.len ∙ i.len;
       starts =
           let one = c.join_at.ensures.starts in
@@ -69,6 +71,7 @@ loop-sender-preserved g c =
     record {
       joined = joined_past old before now x (omega arith) i.joined;
       lists = lists_past old before now x (omega arith) i.lists;
+      shares = shares_past old before now x (omega arith) i.shares;
       len = i.len;
       starts = absurd none;
       ends = absurd none;

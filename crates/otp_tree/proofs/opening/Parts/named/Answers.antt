@@ -1,12 +1,14 @@
-use Rattle.std.proofs.Common.{◌≡◌, ap, arith, length, sym, subst, ◌∙◌}
+use Rattle.std.proofs.Common.{◌≡◌, ◌+◌, ap, arith, length, map, sym, subst, ◌∙◌}
 use Rattle.std.specs.Prelude.{Contains, IfSome}
 use Rattle.otp_signals.specs.declared.view.Holding.{Holding}
-use Rattle.otp_inbox.specs.Tokens.{TakerState}
-use Rattle.otp_bodies.specs.declared.letter.Message.{Message}
 use Rattle.otp_open.proofs.Fresh.{all_idle}
 use Rattle.otp_open.specs.Opens.{AreOpened, IsIdle, root_ticket}
 use Rattle.otp_run.specs.Lists.{AllAt}
-use Rattle.otp_hand.specs.Hands.{ClientView}
+use Rattle.otp_hand.specs.Hands.{ClientView, senders_of}
+use Rattle.otp_hand.specs.Sendings.{parts_at, parts_to}
+use Rattle.otp_inbox.specs.Tokens.{TakerState}
+use Rattle.otp_bodies.specs.declared.letter.Message.{Message}
+use Rattle.otp_tree.proofs.Complete.{opened_complete}
 use Rattle.otp_tree.proofs.opening.Parts.named.Goals as goal
 
 pub open_all-requires-clause-slots : goal.open_all-requires-clause-slots
@@ -50,3 +52,25 @@ returns-clause-hands g c =
     let ticket = ap (λ p. p.ticket) (c.in-Ok-new.ensures {u = tt}).made ∙ ap (root_ticket c.in-Ok.root) same in
     subst (λ (v : ClientView). IfSome v.root (λ number. AreOpened (root_ticket number tables) (length queue) hands)) (sym c.first-client.ensures)
     (subst (λ t. AreOpened t (length queue) hands) ticket (subst (λ n. AreOpened c.in-Ok-new.process.ticket n hands) many opened))
+
+pub returns-clause-complete : goal.returns-clause-complete
+returns-clause-complete g c = λ some.
+    let made = c.in_ok-hands.ensures {u = tt} in
+    let hands = c.in_ok-hands.hands.items in
+    let seated = c.in_ok-senders.ensures {u = tt} in
+    let schedulers = (c.in_ok-schedulers.ensures {u = tt}).count in
+    let all = c.in_ok-sups.ensures {u = tt} in
+    let client = c.first-client.ensures in
+    let tables = length c.args.self.inboxes.items in
+    let count = c.len-tables.ensures in
+    let ok = c.args.self.inboxes.ok.0 in
+    let same : c.len-tables.result ≡ tables = omega (arith, count, ok) in
+    opened_complete c.in-Ok-new.process.ticket (length c.in_ok-schedulers.schedulers.items) tables _ hands c.first-client.result c.in_ok-senders.senders c.named-outer.result.1 (omega (arith, some, schedulers)) made.opened
+    (returns-clause-tables g c)
+    (ap (λ (v : ClientView). v.waiter) client)
+    (ap (λ (w : TakerState Message). w.inbox) c.named-outer.ensures.taker ∙ same)
+    (seated.many ∙ ap (λ n. n + 1) all.count)
+    seated.firsts
+    (ap (λ (v : ClientView). length v.senders) client ∙ made.len)
+    (λ k. ap (λ (v : ClientView). parts_at k v.senders + parts_to k (map senders_of hands)) client ∙ made.split k)
+    made.reach
