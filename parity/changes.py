@@ -2,7 +2,7 @@
 """How sharp the transcripts are: rules are changed one at a time, and each change has to fail a transcript.
 
     changes.py            builds a copy of the program with all changes in it, each behind a switch, without proofs,
-                          replays the transcripts once for each, and prints the table of docs/PARITY.md
+                          replays the transcripts once for each, and prints which of them fails first
     changes.py NUMBER..   these alone
     changes.py --look     only says whether each change still has its place in the code: a moment, and needs nothing
 
