@@ -27,7 +27,7 @@ pub mod shared;
 pub mod waiting;
 
 pub use around::{Around, is_due};
-pub use client::Client;
+pub use client::{Client, ROOT_NUMBER, ROOT_SLOT};
 pub use hand::Hand;
 pub use resting::{Rested, Resting};
 pub use runner::{Runner, Unsent};
