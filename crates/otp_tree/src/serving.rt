@@ -72,7 +72,6 @@ impl<N: WordsNaming + InboxNaming + PlanNaming, J: Job, S: Subsystem> System<N, 
         if !self.send_unsent(rt, hand, listener) || !self.find(hand, reading) {
             return false;
         }
-        hand.runner.note_reading(reading);
         let parent = hand.runner.parent();
         match hand.runner.nested() {
             Some((table, number)) => {
@@ -81,7 +80,7 @@ impl<N: WordsNaming + InboxNaming + PlanNaming, J: Job, S: Subsystem> System<N, 
             }
             None => {
                 let before = hand.runner.waiting.len();
-                hand.runner.work_as_told(&self.shared.words);
+                hand.runner.work_as_told(&self.shared.words, reading);
                 tell_of_wait(listener, parent, before, hand.runner.waiting.len());
             }
         }
@@ -130,7 +129,10 @@ impl<N: WordsNaming + InboxNaming + PlanNaming, J: Job, S: Subsystem> System<N, 
             return;
         };
         let begun = hand.runner.scheduler.share().begun;
-        let answer = hand.turn_nested(rt, &self.shared.words, sup, number, reading, told);
+        let words = &self.shared.words;
+        let answer = hand
+            .senders
+            .turn(rt, words, sup, &mut hand.runner, number, reading, told);
         if answer == Ok(TurnAnswer::Quiet) {
             let due = sup.next_deadline(rt);
             hand.runner.rest(table, told, due);
@@ -175,7 +177,7 @@ impl<N: WordsNaming + InboxNaming + PlanNaming, J: Job, S: Subsystem> System<N, 
         }
         match hand.senders.send(rt, inbox, letter) {
             Ok(()) => {
-                hand.runner.resting.call(table);
+                hand.runner.around.called = Some(table);
                 listener.sent(table, note);
                 true
             }
