@@ -20,11 +20,9 @@ pub const ENOUGH: u32 = 4;
 /// After so many turns one comes back into the deque, though that has enough: new processes don't keep the others from their turns.
 pub const PATIENCE: u32 = 8;
 
-/// What a hand knows of what is around it: whom it has called, its own deque and those of others, and how jobs are woken from outside.
+/// What a hand knows of what is around it: its own deque and those of others, and how jobs are woken from outside.
 #[derive(Drop)]
 pub struct Around {
-    /// The supervisor to which it has just sent a letter: the process of that has the hand's next turn, if it waits here.
-    pub called: Option<usize>,
     /// Where jobs that wait are woken. None where the tree is served by turns.
     pub post: Option<Arc<Post>>,
     // How many looks into its own deque come before it tries the others again.
@@ -49,7 +47,6 @@ impl Around {
         ensures { result ≡ record { stock = 0; passed_by = 0; pause = 0 } }
     {
         Around {
-            called: None,
             post: None,
             theft_pause: 0,
             stock: 0,

@@ -30,7 +30,7 @@ pub mod waiting;
 pub use around::{Around, is_due};
 pub use client::{Client, ROOT_NUMBER, ROOT_SLOT};
 pub use hand::Hand;
-pub use resting::{Rested, Resting, find_called};
+pub use resting::{Rested, Resting};
 pub use runner::{Runner, Unsent};
 pub use senders::Senders;
 pub use shared::Shared;

@@ -129,10 +129,7 @@ impl<N: WordsNaming + InboxNaming + PlanNaming, J: Job, S: Subsystem> System<N, 
             return;
         };
         let begun = hand.runner.scheduler.share().begun;
-        let words = &self.shared.words;
-        let answer = hand
-            .senders
-            .turn(rt, words, sup, &mut hand.runner, number, reading, told);
+        let answer = hand.turn_nested(rt, &self.shared.words, sup, number, reading, told);
         if answer == Ok(TurnAnswer::Quiet) {
             let due = sup.next_deadline(rt);
             hand.runner.rest(table, told, due);
@@ -177,7 +174,7 @@ impl<N: WordsNaming + InboxNaming + PlanNaming, J: Job, S: Subsystem> System<N, 
         }
         match hand.senders.send(rt, inbox, letter) {
             Ok(()) => {
-                hand.runner.around.called = Some(table);
+                hand.runner.resting.call(table);
                 listener.sent(table, note);
                 true
             }
