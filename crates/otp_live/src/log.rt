@@ -10,9 +10,9 @@ use std::str;
 /// refused for, or that can't be written, is left out.
 ///
 /// ```text
-/// 0 root: up #2
-/// 1250 pool/cache: exit #6 error:crash
-/// 1250 table 0: up #2
+/// 0 root: up #1
+/// 1250 pool/cache: exit #5 error:crash
+/// 1250 table 0: up #1
 /// ```
 #[derive(Drop)]
 pub struct LogLines<'a, E> {

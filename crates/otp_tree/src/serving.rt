@@ -72,7 +72,6 @@ impl<N: WordsNaming + InboxNaming + PlanNaming, J: Job, S: Subsystem> System<N, 
         if !self.send_unsent(rt, hand, listener) || !self.find(hand, reading) {
             return false;
         }
-        hand.runner.note_reading(reading);
         let parent = hand.runner.parent();
         match hand.runner.nested() {
             Some((table, number)) => {
@@ -81,7 +80,7 @@ impl<N: WordsNaming + InboxNaming + PlanNaming, J: Job, S: Subsystem> System<N, 
             }
             None => {
                 let before = hand.runner.waiting.len();
-                hand.runner.work_as_told(&self.shared.words);
+                hand.runner.work_as_told(&self.shared.words, reading);
                 tell_of_wait(listener, parent, before, hand.runner.waiting.len());
             }
         }
