@@ -1,5 +1,5 @@
 -- What an office keeps from event to event.
-use Rattle.std.proofs.Common.{◌≡◌, ℕ, zero, suc, ◌+◌, ◌≤◌, ◌++◌, List, [], ◌∷◌, Option, None, Some, not, append-nil, append_assoc, refl, ap, sym, ◌∙◌, subst, arith, length, take, drop, length-append, length-drop}
+use Rattle.std.proofs.Common.{◌≡◌, ℕ, ◌+◌, ◌≤◌, ◌++◌, List, [], ◌∷◌, Option, None, Some, not, append-nil, append_assoc, refl, ap, sym, ◌∙◌, subst, arith, length, take, drop, length-append, length-drop}
 use Rattle.std.specs.List.{Contains}
 use Rattle.std.proofs.lemmas.List.{take-append-le}
 use Rattle.std.proofs.lemmas.List.Elements.{filter-append, filter_map-append}

@@ -16,7 +16,6 @@ use Rattle.otp_signals.specs.declared.view.Holding.{Holding}
 use Rattle.otp_signals.specs.Lists.{EachBetween}
 use Rattle.otp_signals.specs.declared.signal.Signal.{Signal}
 use Rattle.otp_signals.specs.Signals.{word_of}
-use Rattle.otp_office.specs.declared.orders.Sending.{Sending}
 use Rattle.otp_office.specs.declared.orders.Sending.TheVariants as sending
 use Rattle.otp_office.specs.Offices.{HasPosted, IsOffice, OfficeView, sent_of, words_with_first}
 use Rattle.otp_office.specs.Orders.{orders_along, orders_in, word_ordered, word_posted}

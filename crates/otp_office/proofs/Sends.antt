@@ -1,5 +1,5 @@
 -- The orders that are sent, one by one.
-use Rattle.std.proofs.Common.{◌≡◌, ℕ, zero, suc, ◌+◌, ◌<◌, ◌≤◌, ◌++◌, List, [], ◌∷◌, Option, None, Some, Bool, true, false, cond, not, refl, ap, sym, ◌∙◌, subst, arith, rules, length, take, drop, get_or, add-one, length-drop, drop-cons}
+use Rattle.std.proofs.Common.{◌≡◌, ℕ, zero, suc, ◌+◌, ◌<◌, ◌≤◌, ◌++◌, List, [], ◌∷◌, Option, None, Some, Bool, true, false, cond, not, refl, ap, sym, ◌∙◌, subst, arith, rules, length, drop, get_or, add-one, length-drop, drop-cons}
 use Rattle.std.specs.Prelude.{slice_get, MatchOption}
 use Rattle.otp_rules.specs.declared.event.Effect.TheVariants as effect
 use Rattle.std.specs.List.{All, Contains, filter}

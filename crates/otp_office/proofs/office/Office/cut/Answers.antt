@@ -13,12 +13,13 @@ invariant_of-self g c =
     (c.in-Ok.ensures {u = tt}).ok ∙ ap (λ (w : View). record w { cut = length w.history }) c.clear_effects.ensures in
     let Is : View → Type 0 = λ w. IsOffice (record { core = w; owner = c.self.inside.owner; outbox = orders_in (drop 0 w.effects); sent = c.self.inside.sent.count; first_slot = c.self.inside.first_slot }) in
     let Next : List Effect → Type 0 = λ l. ArePosts (take c.self.inside.sent.count (orders_along v)) l (words_in c.self.inside.owner.posts) in
+    let empty : orders_in (drop c.self.inside.next v.effects) ≡ [] = ap (λ (o : OfficeView). o.outbox) c.self.view_is ∙ c.requires in
     subst Is (sym is) (record {
       begins = c.self.invariant.begins;
       numbers = c.self.invariant.numbers;
-      orders = sym (ap (λ (o : OfficeView). o.outbox) c.self.view_is ∙ c.requires) ∙ c.self.invariant.orders;
+      orders = sym empty ∙ c.self.invariant.orders;
       counted = c.self.invariant.counted;
-      posts = subst Next (ap (λ (o : OfficeView). o.outbox) c.self.view_is ∙ c.requires) c.self.invariant.posts;
+      posts = subst Next empty c.self.invariant.posts;
       slots = c.self.invariant.slots;
       fits = c.self.invariant.fits;
     })

@@ -1,4 +1,4 @@
-use Rattle.std.proofs.Common.{ℕ, ◌++◌, List, [], ◌∷◌, ap, sym, drop, inr, subst}
+use Rattle.std.proofs.Common.{sym, drop, inr, subst}
 use Rattle.otp_signals.specs.declared.view.Holding.{Holding}
 use Rattle.otp_office.specs.Offices.{OfficeView, IsOffice, words_with_first}
 use Rattle.otp_office.specs.Orders.{orders_in}
